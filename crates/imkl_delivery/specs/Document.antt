@@ -1,0 +1,68 @@
+-- A delivery's document: exactly the members of the format, each of its sort.
+use Rattle.std.specs.Prelude.{ℕ, List, [], ◌∷◌, Result, Ok, Err, Option, Some, None, ◌==◌, codes, if◌then◌else◌}
+use Rattle.serde_json.specs.Data.{Data, Items, no_items, item, Members}
+use Rattle.serde_json.specs.Events.{members_len}
+use Rattle.serde_json.specs.Find.{get, as_str, as_array, as_object}
+use Rattle.imkl_delivery.specs.declared.fault.DeliveryFault.{DeliveryFault}
+use Rattle.imkl_delivery.specs.declared.fault.DeliveryFault.TheVariants.{Shape}
+use Rattle.imkl_delivery.specs.Steps.{◌>>=◌, found}
+
+-- an object of the document: its id, the name of its class, and the members of its features
+pub record Written : Type 0 where
+  pub id : List ℕ
+  pub class : List ℕ
+  pub features : Members
+
+pub record Document : Type 0 where
+  pub model : List ℕ
+  pub objects : List Written
+
+abbrev pub items : Items → List Data
+items no_items = []
+items (item d ds) = d ∷ items ds
+
+-- an object of n members
+unfoldable pub record_at : ℕ → Data → Result Members DeliveryFault
+record_at n d = do
+  ms ← found (as_object d) Shape
+  if members_len ms == n then Ok ms else Err Shape
+
+abbrev pub text_at : List ℕ → Data → Result (List ℕ) DeliveryFault
+text_at name d = do
+  v ← found (get name d) Shape
+  found (as_str v) Shape
+
+abbrev pub members_at : List ℕ → Data → Result Members DeliveryFault
+members_at name d = do
+  v ← found (get name d) Shape
+  found (as_object v) Shape
+
+unfoldable pub list_at : List ℕ → Data → Result (List Data) DeliveryFault
+list_at name d = do
+  v ← found (get name d) Shape
+  ds ← found (as_array v) Shape
+  Ok (items ds)
+
+unfoldable pub object_at : Data → Result Written DeliveryFault
+object_at d = do
+  _ ← record_at 3 d
+  id ← text_at (codes "id") d
+  class ← text_at (codes "class") d
+  features ← members_at (codes "features") d
+  Ok (record { id = id; class = class; features = features })
+
+-- each of a list
+unfoldable pub each : {X A : Type 0} → (X → Result A DeliveryFault) → List X → Result (List A) DeliveryFault
+each f [] = Ok []
+each f (d ∷ ds) = do
+  x ← f d
+  xs ← each f ds
+  Ok (x ∷ xs)
+
+unfoldable pub document_at : Data → Result Document DeliveryFault
+document_at d = do
+  _ ← record_at 2 d
+  model ← text_at (codes "model") d
+  ds ← list_at (codes "objects") d
+  objects ← each object_at ds
+  Ok (record { model = model; objects = objects })

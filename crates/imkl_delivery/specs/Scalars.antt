@@ -1,0 +1,52 @@
+-- The values that a member writes.
+use Rattle.std.specs.Prelude.{ℕ, List, [], ◌∷◌, Bool, true, false, Option, Some, None, option_map, option_and_then}
+use Rattle.std.specs.Str.{chars}
+use Rattle.serde_json.specs.Data.{Data, null, boolean, number, string, array, object}
+use Rattle.serde_json.specs.Find.{as_bool, as_number, as_i64, as_str}
+use Rattle.imkl_model.specs.declared.feature.ElementType.{ElementType}
+use Rattle.imkl_model.specs.declared.feature.ElementType.TheVariants as element
+use Rattle.imkl_model.specs.ClassModel.{Model, literal_number}
+use Rattle.imkl_population.specs.declared.scalar.Scalar.{Scalar}
+use Rattle.imkl_population.specs.declared.scalar.Scalar.TheVariants as scalar
+use Rattle.imkl_delivery.specs.Document.{items}
+
+-- null is nothing, a list its elements, anything else a list of one
+abbrev pub listed : Data → List Data
+listed null = []
+listed (boolean b) = boolean b ∷ []
+listed (number n) = number n ∷ []
+listed (string s) = string s ∷ []
+listed (array ds) = items ds
+listed (object ms) = object ms ∷ []
+
+-- no member, or null
+abbrev pub is_absent : Option Data → Bool
+is_absent None = true
+is_absent (Some null) = true
+is_absent (Some (boolean b)) = false
+is_absent (Some (number n)) = false
+is_absent (Some (string s)) = false
+is_absent (Some (array ds)) = false
+is_absent (Some (object ms)) = false
+
+abbrev pub value_list : Option Data → List Data
+value_list None = []
+value_list (Some d) = listed d
+
+-- a value of an attribute: true or false, a whole number of 64 bits, a text, or the name of a literal
+abbrev pub scalar_at : Model → ElementType → Data → Option Scalar
+scalar_at m element.Boolean d = option_map scalar.Bool (as_bool d)
+scalar_at m element.Integer d = option_map scalar.Int (option_and_then as_i64 (as_number d))
+scalar_at m element.String d = option_map (λ s. scalar.Text (chars s)) (as_str d)
+scalar_at m (element.Enumeration e) d = option_map (scalar.Literal e) (option_and_then (literal_number m e) (as_str d))
+scalar_at m (element.Class c) d = None
+
+-- all of them, or none
+abbrev pub with_first : {A : Type 0} → Option A → Option (List A) → Option (List A)
+with_first None xs = None
+with_first (Some x) None = None
+with_first (Some x) (Some xs) = Some (x ∷ xs)
+
+abbrev pub all_of : {X A : Type 0} → (X → Option A) → List X → Option (List A)
+all_of f [] = Some []
+all_of f (d ∷ ds) = with_first (f d) (all_of f ds)

@@ -1,0 +1,86 @@
+//! Why a delivery was refused.
+
+ghost use Rattle.std.specs.Prelude.{◌≡◌};
+ghost use Rattle.imkl_delivery.specs.declared.fault.DeliveryFault.TheVariants.{OutOfMemory};
+ghost use Rattle.imkl_delivery.specs.FaultNumber.{fault_number};
+
+use imkl_population::PopulationFault;
+use std::alloc::{AllocError, AllocFailed};
+use thiserror::Error;
+
+/// The first fault of a delivery. Objects are named by their places in the document, from 0.
+#[derive(Clone, Copy, Debug, PartialEq, Eq, Error)]
+pub enum DeliveryFault {
+    /// The bytes are no JSON text.
+    #[error("not JSON")]
+    NotJson,
+    /// The JSON text isn't that of a delivery: a member is missing or more than asked, or a value is of another sort.
+    #[error("not the shape of a delivery")]
+    Shape,
+    /// The delivery names another class model.
+    #[error("for another class model")]
+    OtherModel,
+    /// An object's class isn't in the class model.
+    #[error("object {object}: an unknown class")]
+    UnknownClass {
+        /// The object's place.
+        object: usize,
+    },
+    /// An object has a member that is no feature of its class.
+    #[error("object {object}: an unknown feature")]
+    UnknownFeature {
+        /// The object's place.
+        object: usize,
+    },
+    /// An object names a target that isn't in the document.
+    #[error("object {object}: an unknown target")]
+    UnknownTarget {
+        /// The object's place.
+        object: usize,
+    },
+    /// An object can't be in a population as it is written.
+    #[error("object {object}: {fault}")]
+    Population {
+        /// The object's place.
+        object: usize,
+        /// What is wrong with it; never want of memory.
+        fault: PopulationFault,
+    },
+    /// There is no memory for the population.
+    #[error("out of memory")]
+    OutOfMemory,
+}
+
+impl DeliveryFault {
+    /// The fault's number in the documentation, 1 to 8.
+    pub fn number(&self) -> u8
+        ensures { result ≡ fault_number self.now }
+    {
+        match self {
+            DeliveryFault::NotJson => 1,
+            DeliveryFault::Shape => 2,
+            DeliveryFault::OtherModel => 3,
+            DeliveryFault::UnknownClass { .. } => 4,
+            DeliveryFault::UnknownFeature { .. } => 5,
+            DeliveryFault::UnknownTarget { .. } => 6,
+            DeliveryFault::Population { .. } => 7,
+            DeliveryFault::OutOfMemory => 8,
+        }
+    }
+}
+
+impl From<AllocError> for DeliveryFault {
+    ghost from_gives = { λ _ e. e ≡ OutOfMemory };
+
+    fn from(_e: AllocError) -> DeliveryFault {
+        DeliveryFault::OutOfMemory
+    }
+}
+
+impl<T: Drop> From<AllocFailed<T>> for DeliveryFault {
+    ghost from_gives = { λ _ e. e ≡ OutOfMemory };
+
+    fn from(_e: AllocFailed<T>) -> DeliveryFault {
+        DeliveryFault::OutOfMemory
+    }
+}

@@ -1,0 +1,13 @@
+//! Deliveries: JSON documents of objects, loaded into populations of a class model.
+#![tactic(auto)]
+
+mod document;
+mod fault;
+mod features;
+mod loading;
+mod scalars;
+
+pub use document::{Document, Entry};
+pub use fault::DeliveryFault;
+pub use loading::load;
+pub use scalars::Targets;

@@ -1,0 +1,111 @@
+//! From JSON values to values of attributes and ids of targets.
+
+ghost use Rattle.std.specs.Prelude.{◌≡◌, ◌<◌, ℕ, length, map, Option, option_map, IfOk};
+ghost use Rattle.serde_json.specs.View.{view};
+ghost use Rattle.imkl_model.specs.ClassModel.{literal_number};
+ghost use Rattle.imkl_delivery.specs.Scalars.{listed, scalar_at, all_of};
+
+use imkl_model::{ClassModel, ElementType, EnumNo, FeatureInfo};
+use imkl_population::{ObjectNo, PopulationBuilder, Scalar, ScalarText};
+use serde_json::Value;
+use std::alloc::{AllocError, Global};
+use std::slice;
+
+/// What the values at a source end come to.
+#[derive(Drop)]
+pub enum Targets {
+    /// Some value is no text.
+    NotTexts,
+    /// Some text is the id of no object.
+    Unknown,
+    /// The objects.
+    Found(Vec<ObjectNo>),
+}
+
+#[tactic(auto, using(crate::proofs::Trees::trees))]
+/// The values that a member writes: null is none, a list its elements, anything else one.
+pub(crate) fn listed(value: &Value) -> &[Value]
+    ensures { map view result.now ≡ listed (view value.now) }
+{
+    match value {
+        Value::Null => &[],
+        Value::Array(values) => values.as_slice(),
+        _ => slice::from_ref(value),
+    }
+}
+
+fn literal_of(model: &ClassModel, enumeration: EnumNo, value: &Value) -> Option<Scalar>
+    requires { enumeration < length model.now.enumerations }
+    ensures { result ≡ scalar_at model.now (ElementType.Enumeration enumeration) (view value.now) }
+{
+    let literal = model.literal(enumeration, value.as_str()?)?;
+    Some(Scalar::Literal(enumeration, literal))
+}
+
+fn text_of(alloc: Global, model: &ClassModel, value: &Value) -> Result<Option<Scalar>, AllocError>
+    ensures { IfOk result (λ s. s ≡ scalar_at model.now ElementType.String (view value.now)) }
+{
+    let Some(text) = value.as_str() else {
+        return Ok(None);
+    };
+    let text = ScalarText::new(String::from_str(alloc, text)?);
+    Ok(Some(Scalar::Text(text)))
+}
+
+/// A value of an attribute of this type, if it is one.
+pub(crate) fn scalar_of(
+    alloc: Global,
+    model: &ClassModel,
+    element: ElementType,
+    value: &Value,
+) -> Result<Option<Scalar>, AllocError>
+    requires { (e : ℕ) → element ≡ ElementType.Enumeration e → e < length model.now.enumerations }
+    ensures { IfOk result (λ s. s ≡ scalar_at model.now element (view value.now)) }
+{
+    match element {
+        ElementType::Boolean => Ok(value.as_bool().map(Scalar::Bool)),
+        ElementType::Integer => Ok(value.as_i64().map(Scalar::Int)),
+        ElementType::String => text_of(alloc, model, value),
+        ElementType::Enumeration(enumeration) => Ok(literal_of(model, enumeration, value)),
+        ElementType::Class(_) => Ok(None),
+    }
+}
+
+/// The values of an attribute, if all are of its type.
+pub(crate) fn scalars_of(
+    alloc: Global,
+    model: &ClassModel,
+    info: &FeatureInfo,
+    values: &[Value],
+) -> Result<Option<Vec<Scalar>>, AllocError>
+    requires { (e : ℕ) → info.now.element ≡ ElementType.Enumeration e → e < length model.now.enumerations }
+    ensures { IfOk result (λ r. option_map (λ v. v.items) r ≡ all_of (scalar_at model.now info.now.element) (map view values.now)) }
+{
+    let mut scalars = Vec::with_capacity(alloc, values.len())?;
+    'values: for value in values {
+        match scalar_of(alloc, model, info.element, value)? {
+            Some(scalar) => scalars.push(scalar)?,
+            None => return Ok(None),
+        }
+    }
+    Ok(Some(scalars))
+}
+
+/// The objects that have these ids: none where a value is no text, and then where an id is no object's.
+pub(crate) fn targets_of(
+    alloc: Global,
+    builder: &PopulationBuilder<'_>,
+    values: &[Value],
+) -> Result<Targets, AllocError> {
+    if !values.iter().all(Value::is_string) {
+        return Ok(Targets::NotTexts);
+    }
+    let mut targets = Vec::with_capacity(alloc, values.len())?;
+    'values: for value in values {
+        match builder.object(value.as_str().unwrap_or("")) {
+            Some(object) => targets.push(object)?,
+            None => return Ok(Targets::Unknown),
+        }
+    }
+    Ok(Targets::Found(targets))
+}

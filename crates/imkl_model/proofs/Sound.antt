@@ -1,0 +1,287 @@
+-- A class model that was numbered and checked keeps what a class model keeps.
+use Rattle.std.proofs.Common.{◌≡◌, ℕ, zero, suc, ◌+◌, ◌<◌, ◌≤◌, ◌&&◌, not, Bool, true, false, List, [], ◌∷◌, length, get_or, map, eqb, leb, Option, Some, Ok, All, IfSome, refl, sym, ap, ◌∙◌, subst, arith, inl, inr, nat_le, nat_lt, if◌then◌else◌}
+use Rattle.std.specs.List.{list_all, list_any}
+use Rattle.std.proofs.lemmas.Bool.{false≢true}
+use Rattle.std.proofs.lemmas.Bool.Decides.{eqb_tells, leb_tells}
+use Rattle.std.proofs.lemmas.List.{length-map, get_or-map}
+use Rattle.std.proofs.lemmas.List.Sums.{AllPass-from_list_all}
+use Rattle.imkl_model.specs.declared.entry.Class.{Class}
+use Rattle.imkl_model.specs.declared.entry.Enumeration.{Enumeration}
+use Rattle.imkl_model.specs.declared.feature.ElementType.TheVariants as element
+use Rattle.imkl_model.specs.declared.feature.CollectionKind.TheVariants as kind
+use Rattle.imkl_model.specs.declared.feature.Role.{Role}
+use Rattle.imkl_model.specs.declared.feature.Role.TheVariants as role
+use Rattle.imkl_model.specs.declared.written.Written.{Written}
+use Rattle.imkl_model.specs.declared.written.WrittenEnumeration.{WrittenEnumeration}
+use Rattle.imkl_model.specs.declared.written.WrittenFeature.{WrittenFeature}
+use Rattle.imkl_model.specs.Words.{repeats, qualified}
+use Rattle.imkl_model.specs.Reading.{◌>>=◌, each}
+use Rattle.imkl_model.specs.Checks as checks
+use Rattle.imkl_model.specs.WrittenFeatures.{written_features}
+use Rattle.imkl_model.specs.Scopes.{scope_of}
+use Rattle.imkl_model.specs.Numbering.{number_in, element_type, collection_kind, kind_of, is_one, feature_of, class_of, enumeration_of, numbered}
+use Rattle.imkl_model.specs.Chains as chains
+use Rattle.imkl_model.specs.ClassModel.{Model, supers, class_names, enumeration_names, names_of_enumerations, feature_at, no_feature, has_clash, belongs, is_named}
+use Rattle.imkl_model.specs.WellFormed.{IsClassModel, ArePaired, IsFeature, is_end, is_unique}
+use Rattle.imkl_model.specs.Drafts.{IsNumbered}
+use Rattle.imkl_model.proofs.Steps.{okay, ok_is, both_steps, each_length, each_at, AllOf, all_at, all_mapped}
+use Rattle.imkl_model.proofs.Parts.{differs, classes_differ, enumerations_differ, number_is, class_names_kept, supers_within, enumeration_names_kept}
+use Rattle.imkl_model.proofs.FeatureParts.{IsFrom, feature_is, attribute_is, source_is, opposite_is, class_within, enumeration_within}
+use Rattle.imkl_model.proofs.Ends.{no_written, at, PairAt, paired, IsUniqueEnd, all_unique, IsSmall, all_small}
+use Rattle.imkl_model.proofs.Repeated.{one_place, or_none}
+use Rattle.imkl_model.proofs.Warshall.{in_range, conforms-decides}
+use Rattle.imkl_model.proofs.ClashLaws.{clash_found, joined, unequal}
+use Rattle.std.proofs.lemmas.Slice.Eq.{bytes_eq-Decides}
+
+and_both : (a b : Bool) → (a && b) ≡ true → (a ≡ true) × (b ≡ true)
+and_both true b e = (refl, e)
+and_both false b e = absurd (false≢true e)
+
+le_of : (a b : ℕ) → leb a b ≡ true → a ≤ b
+le_of a b e = elim (leb_tells a b) [ inl h ↦ h.1 | inr h ↦ absurd (false≢true (sym h.0 ∙ e)) ]
+
+-- ---- the parts of a class model that was numbered
+
+pub record Made (w : Written) (m : Model) : Type 0 where
+  pub classes : each (class_of (scope_of w)) w.classes ≡ Ok m.classes
+  pub features : each (feature_of (scope_of w)) (written_features w) ≡ Ok m.features
+  pub enumerations : m.enumerations ≡ map enumeration_of w.enumerations
+
+pub made_of : (w : Written) (m : Model) → numbered w ≡ Ok m → Made w m
+unfolding numbered
+made_of w m e =
+    let p = both_steps (each (class_of (scope_of w)) w.classes) (λ classes. each (feature_of (scope_of w)) (written_features w) >>= λ features. Ok (record { name = w.name; enumerations = map enumeration_of w.enumerations; classes = classes; features = features; associations = checks.association_names w })) m e in
+    let q = both_steps (each (feature_of (scope_of w)) (written_features w)) (λ features. Ok (record { name = w.name; enumerations = map enumeration_of w.enumerations; classes = p.0; features = features; associations = checks.association_names w })) m p.2 in
+    let built : Model = record { name = w.name; enumerations = map enumeration_of w.enumerations; classes = p.0; features = q.0; associations = checks.association_names w } in
+    let same : built ≡ m = ok_is built m q.2 in
+    record {
+      classes = p.1 ∙ ap (λ (x : Model). okay x.classes) same;
+      features = q.1 ∙ ap (λ (x : Model). okay x.features) same;
+      enumerations = ap (λ (x : Model). x.enumerations) (sym same);
+    }
+
+-- ---- counts
+
+pub record IsFew (w : Written) : Type 0 where
+  pub classes : length w.classes ≤ 4096
+  pub enumerations : length w.enumerations ≤ 4096
+  pub literals : list_all (λ e. nat_le (length e.literals) 4096) w.enumerations ≡ true
+  pub features : length (written_features w) ≤ 65535
+
+few : (w : Written) → checks.is_within_limits w ≡ true → IsFew w
+unfolding checks.is_within_limits
+few w e =
+    let a = nat_le (length w.classes) 4096 in
+    let b = nat_le (length w.enumerations) 4096 in
+    let l = list_all (λ (e : WrittenEnumeration). nat_le (length e.literals) 4096) w.enumerations in
+    let p = and_both (a && b && l) (nat_le (length (written_features w)) 65535) e in
+    let q = and_both (a && b) l p.0 in
+    let r = and_both a b q.0 in
+    record {
+      classes = le_of (length w.classes) 4096 r.0;
+      enumerations = le_of (length w.enumerations) 4096 r.1;
+      literals = q.1;
+      features = le_of (length (written_features w)) 65535 p.1;
+    }
+
+-- each enumeration's literals
+of_each : (p : WrittenEnumeration → Bool) (es : List WrittenEnumeration) → list_all p es ≡ true → AllOf (λ e. p e ≡ true) es
+of_each p [] h = tt
+of_each p (e ∷ es) h = let g = and_both (p e) (list_all p es) h in (g.0, of_each p es g.1)
+
+of_none : (p : WrittenEnumeration → Bool) (es : List WrittenEnumeration) → list_any p es ≡ false → AllOf (λ e. p e ≡ false) es
+of_none p [] h = tt
+of_none p (e ∷ es) h = let g = or_none (p e) (list_any p es) h in (g.0, of_none p es g.1)
+
+along : {X : Type 0} (P : X → Type 0) (xs ys : List X) → ys ≡ xs → AllOf P xs → All P ys
+along {X} P xs ys e h = subst (λ (zs : List X). All P zs) (sym e) (all_at P xs h)
+
+module _ (w : Written) (m : Model) (limits : checks.is_within_limits w ≡ true) (distinct : checks.repeats_name w ≡ false) (parts : Made w m) where
+  class_count : length m.classes ≡ length w.classes
+  class_count = each_length (class_of (scope_of w)) w.classes m.classes parts.classes
+
+  feature_count : length m.features ≡ length (written_features w)
+  feature_count = each_length (feature_of (scope_of w)) (written_features w) m.features parts.features
+
+  enumeration_count : length m.enumerations ≡ length w.enumerations
+  enumeration_count = ap (λ (l : List Enumeration). length l) parts.enumerations ∙ length-map w.enumerations enumeration_of
+
+  scope_classes : length (scope_of w).classes ≡ length m.classes
+  scope_classes = length-map w.classes (λ c. c.name) ∙ sym class_count
+
+  scope_enumerations : length (scope_of w).enumerations ≡ length m.enumerations
+  scope_enumerations = length-map w.enumerations (λ e. e.name) ∙ sym enumeration_count
+
+  from : (f : ℕ) → IsFeature m f → IsFrom (scope_of w) (at (written_features w) f) (feature_at m f)
+  from f lt = feature_is (scope_of w) (at (written_features w) f) (feature_at m f) (each_at (feature_of (scope_of w)) (written_features w) m.features f no_written no_feature parts.features (subst (λ (n : ℕ). f < n) feature_count lt))
+
+  within : (f : ℕ) → IsFeature m f → f < length (written_features w)
+  within f lt = subst (λ (n : ℕ). f < n) feature_count lt
+
+  pub owned : (f : ℕ) → IsFeature m f → (feature_at m f).owner < length m.classes
+  owned f lt = subst (λ (n : ℕ). (feature_at m f).owner < n) scope_classes (number_is (scope_of w).classes (at (written_features w) f).owner (feature_at m f).owner (from f lt).owner).0
+
+  names_kept : class_names m ≡ checks.class_names w
+  names_kept = class_names_kept (scope_of w) w.classes m.classes parts.classes
+
+  enumerations_kept : enumeration_names m ≡ checks.enumeration_names w
+  enumerations_kept = ap names_of_enumerations parts.enumerations ∙ enumeration_names_kept w.enumerations
+
+  -- ---- ends
+
+  unique_end : (d : WrittenFeature) → d.unique ≡ true → is_unique (collection_kind d) ≡ true
+  unique_end d e = kinds (is_one d.upper) d.ordered d.unique e
+    where
+      kinds : (one ordered unique : Bool) → unique ≡ true → is_unique (if one then kind.Set else kind_of ordered unique) ≡ true
+      kinds true o u h = refl
+      kinds false true true h = refl
+      kinds false false true h = refl
+      kinds false o false h = absurd (false≢true h)
+
+  pub unique_ends : (f : ℕ) → IsFeature m f → is_end (feature_at m f).role ≡ true → is_unique (feature_at m f).kind ≡ true
+  unique_ends f lt e =
+      let d = at (written_features w) f in
+      let u = all_at IsUniqueEnd (written_features w) (all_unique w) f no_written (within f lt) in
+      ap is_unique (from f lt).kind ∙ unique_end d (u (ap is_end (sym (from f lt).role) ∙ e))
+
+  pub single_values : (f : ℕ) → IsFeature m f → (feature_at m f).upper ≡ Some 1 → (feature_at m f).kind ≡ kind.Set
+  single_values f lt e =
+      let d = at (written_features w) f in
+      let one : is_one d.upper ≡ true = ap is_one (sym (from f lt).upper ∙ e) in
+      (from f lt).kind ∙ rw one refl
+
+  named_class : (name : List ℕ) (a b : ℕ) → number_in (scope_of w).classes name ≡ Ok a → number_in (scope_of w).classes name ≡ Ok b → a ≡ b
+  named_class name a b e f = ok_is a b (sym e ∙ f)
+
+  pair : (f : ℕ) → PairAt (written_features w) 0 f → ArePaired m f (suc f)
+  pair f p =
+      let lt_g : IsFeature m (suc f) = subst (λ (n : ℕ). suc f < n) (sym feature_count) p.within in
+      let lt_f : IsFeature m f = omega (arith, lt_g) in
+      let a = from f lt_f in
+      let b = from (suc f) lt_g in
+      let d = at (written_features w) f in
+      let e = at (written_features w) (suc f) in
+      let here = source_is (scope_of w) (suc (0 + f)) d.element (feature_at m f).element (subst (λ (r : Role). element_type (scope_of w) r d.element ≡ okay (feature_at m f).element) p.source a.element) in
+      let there = opposite_is (scope_of w) (0 + f) e.element (feature_at m (suc f)).element (subst (λ (r : Role). element_type (scope_of w) r e.element ≡ okay (feature_at m (suc f)).element) p.opposite b.element) in
+      record {
+        next = refl;
+        within = lt_g;
+        source_role = a.role ∙ p.source ∙ ap (λ (k : ℕ). role.SourceEnd (suc k)) (omega arith);
+        opposite_role = b.role ∙ p.opposite ∙ ap (λ (k : ℕ). role.OppositeEnd k) (omega arith);
+        source_element = here.2 ∙ ap (λ (k : ℕ). element.Class k) (named_class e.owner here.0 (feature_at m (suc f)).owner (subst (λ (n : List ℕ). number_in (scope_of w).classes n ≡ okay here.0) p.there here.1) b.owner);
+        opposite_element = there.2 ∙ ap (λ (k : ℕ). element.Class k) (named_class d.owner there.0 (feature_at m f).owner (subst (λ (n : List ℕ). number_in (scope_of w).classes n ≡ okay there.0) p.back there.1) a.owner);
+      }
+
+  pub sources : (f g : ℕ) → IsFeature m f → (feature_at m f).role ≡ role.SourceEnd g → ArePaired m f g
+  sources f g lt e =
+      let p = (paired w).sources f g (within f lt) (sym (from f lt).role ∙ e) in
+      let a = pair f p in
+      let same : suc f ≡ g = source_number (suc f) g (sym a.source_role ∙ e) in
+      subst (ArePaired m f) same a
+    where
+      source_number : (x y : ℕ) → role.SourceEnd x ≡ role.SourceEnd y → x ≡ y
+      source_number x y h = cc
+
+  pub opposites : (f g : ℕ) → IsFeature m f → (feature_at m f).role ≡ role.OppositeEnd g → ArePaired m g f
+  opposites f g lt e =
+      let p = (paired w).opposites f g (within f lt) (sym (from f lt).role ∙ e) in
+      let a = pair p.0 p.2 in
+      let here : ArePaired m p.0 f = subst (ArePaired m p.0) (sym p.1) a in
+      let same : p.0 ≡ g = opposite_number p.0 g (sym here.opposite_role ∙ e) in
+      subst (λ (k : ℕ). ArePaired m k f) same here
+    where
+      opposite_number : (x y : ℕ) → role.OppositeEnd x ≡ role.OppositeEnd y → x ≡ y
+      opposite_number x y h = cc
+
+  -- ---- features of a class
+
+  class_known : (c f : ℕ) → IsFeature m f → belongs m c f ≡ true → c < length m.classes
+  class_known c f lt e = chained c (feature_at m f).owner (owned f lt) ((conforms-decides (supers m) c (feature_at m f).owner).0 e)
+    where
+      chained : (x y : ℕ) → y < length m.classes → chains.Conforms (supers m) x y → x < length m.classes
+      chained x y l (zero, h) = subst (λ (n : ℕ). n < length m.classes) (sym h) l
+      chained x y l (suc n, h) = subst (λ (k : ℕ). x < k) (length-map m.classes (λ (k : Class). k.supers)) (in_range (supers m) x h.0 h.1)
+
+  label : (f : ℕ) → IsFeature m f → get_or (checks.feature_names (written_features w)) f [] ≡ qualified (at (written_features w) f).owner (at (written_features w) f).name
+  label f lt = get_or-map (λ (d : WrittenFeature). qualified d.owner d.name) (written_features w) f no_written [] (within f lt)
+
+  owner_name : (f : ℕ) → (lt : IsFeature m f) → (at (written_features w) f).owner ≡ get_or (scope_of w).classes (feature_at m f).owner []
+  owner_name f lt = (number_is (scope_of w).classes (at (written_features w) f).owner (feature_at m f).owner (from f lt).owner).1
+
+  one_of_owner : (f g : ℕ) → IsFeature m f → IsFeature m g → (feature_at m f).owner ≡ (feature_at m g).owner → (feature_at m f).name ≡ (feature_at m g).name → f ≡ g
+  one_of_owner f g lf lg same_owner same_name =
+      let names = checks.feature_names (written_features w) in
+      let d = at (written_features w) f in
+      let e = at (written_features w) g in
+      let owners : d.owner ≡ e.owner = owner_name f lf ∙ ap (λ (k : ℕ). get_or (scope_of w).classes k []) same_owner ∙ sym (owner_name g lg) in
+      let texts : d.name ≡ e.name = sym (from f lf).name ∙ same_name ∙ (from g lg).name in
+      let labels : get_or names f [] ≡ get_or names g [] = label f lf ∙ rw (owners, texts) refl ∙ sym (label g lg) in
+      let long : length names ≡ length (written_features w) = length-map (written_features w) (λ (x : WrittenFeature). qualified x.owner x.name) in
+      one_place names f g (differs w distinct).features (subst (λ (n : ℕ). f < n) (sym long) (within f lf)) (subst (λ (n : ℕ). g < n) (sym long) (within g lg)) labels
+
+  pub one_feature : has_clash m ≡ false → (c f g : ℕ) → IsFeature m f → IsFeature m g → belongs m c f ≡ true → belongs m c g ≡ true → (feature_at m f).name ≡ (feature_at m g).name → f ≡ g
+  one_feature free c f g lf lg in_f in_g same =
+      elim (eqb_tells (feature_at m f).owner (feature_at m g).owner) [
+        | inl h ↦ one_of_owner f g lf lg h.1 same
+        | inr h ↦
+            let apart = unequal (feature_at m f).owner (feature_at m g).owner h.1 in
+            let clash = clash_found m c f g (class_known c f lf in_f) lf lg (joined (is_named m (feature_at m f).name g) (not (eqb (feature_at m f).owner (feature_at m g).owner)) (belongs m c f) (belongs m c g) ((bytes_eq-Decides (feature_at m f).name (feature_at m g).name).1 same) apart in_f in_g) in
+            absurd (false≢true (sym free ∙ clash))
+      ]
+
+  -- ---- bounds
+
+  multiplicity : (lower : ℕ) (upper : Option ℕ) (u : ℕ) → checks.is_multiplicity lower upper ≡ true → upper ≡ Some u → (0 < u) × (lower ≤ u)
+  multiplicity lower upper u e h =
+      let p = and_both (nat_le lower u) (nat_lt 0 u) (rw h at e) in
+      (le_of 1 u p.1, le_of lower u p.0)
+
+  small_upper : (upper : Option ℕ) (u : ℕ) → IfSome upper (λ x. x ≤ 1000000) → upper ≡ Some u → u ≤ 1000000
+  small_upper upper u e h = rw h at e
+
+  module _ (small : AllOf IsSmall (written_features w)) (bounds : list_all checks.has_multiplicity m.features ≡ true) where
+    pub lower_bounds : (f : ℕ) → IsFeature m f → (feature_at m f).lower ≤ 1000000
+    lower_bounds f lt = subst (λ (n : ℕ). n ≤ 1000000) (sym (from f lt).lower) (all_at IsSmall (written_features w) small f no_written (within f lt)).0
+
+    pub upper_bounds : (f u : ℕ) → IsFeature m f → (feature_at m f).upper ≡ Some u → (0 < u) × ((feature_at m f).lower ≤ u) × (u ≤ 1000000)
+    upper_bounds f u lt e =
+        let p = multiplicity (feature_at m f).lower (feature_at m f).upper u (AllPass-from_list_all checks.has_multiplicity m.features bounds f no_feature lt) e in
+        let s = (all_at IsSmall (written_features w) small f no_written (within f lt)).1 in
+        (p.0, p.1, small_upper (at (written_features w) f).upper u s (sym (from f lt).upper ∙ e))
+
+pub well_formed : (m : Model) → IsNumbered m → chains.is_cyclic (supers m) ≡ false → has_clash m ≡ false → list_all checks.has_multiplicity m.features ≡ true → IsClassModel m
+well_formed m n acyclic free bounds =
+    let w = n.written in
+    let parts = made_of w m n.numbered in
+    let counts = few w n.limits in
+    let names = differs w n.distinct in
+    let small = all_small w n.small in
+    let scope = scope_of w in
+    record {
+      few_classes = omega (arith, class_count w m n.limits n.distinct parts, counts.classes);
+      few_enumerations = omega (arith, enumeration_count w m n.limits n.distinct parts, counts.enumerations);
+      few_literals = along (λ (e : Enumeration). length e.literals ≤ 4096) (map enumeration_of w.enumerations) m.enumerations parts.enumerations
+          (all_mapped (λ (e : WrittenEnumeration). nat_le (length e.literals) 4096 ≡ true) (λ (e : Enumeration). length e.literals ≤ 4096) enumeration_of (λ e h. le_of (length e.literals) 4096 h) w.enumerations (of_each (λ e. nat_le (length e.literals) 4096) w.enumerations counts.literals));
+      few_features = omega (arith, feature_count w m n.limits n.distinct parts, counts.features);
+      classes_differ = ap repeats (names_kept w m n.limits n.distinct parts) ∙ classes_differ w n.distinct;
+      enumerations_differ = ap repeats (enumerations_kept w m n.limits n.distinct parts) ∙ enumerations_differ w n.distinct;
+      literals_differ = along (λ (e : Enumeration). repeats e.literals ≡ false) (map enumeration_of w.enumerations) m.enumerations parts.enumerations
+          (all_mapped (λ (e : WrittenEnumeration). repeats e.literals ≡ false) (λ (e : Enumeration). repeats e.literals ≡ false) enumeration_of (λ e h. h) w.enumerations (of_none (λ e. repeats e.literals) w.enumerations names.literals));
+      known_supers = subst (λ (k : ℕ). All (λ (c : Class). All (λ d. d < k) c.supers) m.classes) (scope_classes w m n.limits n.distinct parts) (all_at (λ (c : Class). All (λ d. d < length scope.classes) c.supers) m.classes (supers_within scope w.classes m.classes parts.classes));
+      acyclic = acyclic;
+      known_owners = owned w m n.limits n.distinct parts;
+      known_classes = λ f c lt e. let a = from w m n.limits n.distinct parts f lt in subst (λ (k : ℕ). c < k) (scope_classes w m n.limits n.distinct parts) (class_within scope (at (written_features w) f).role (at (written_features w) f).element (feature_at m f).element c a.element e);
+      known_enumerations = λ f k lt e. let a = from w m n.limits n.distinct parts f lt in subst (λ (x : ℕ). k < x) (scope_enumerations w m n.limits n.distinct parts) (enumeration_within scope (at (written_features w) f).role (at (written_features w) f).element (feature_at m f).element k a.element e);
+      scalar_attributes = λ f c lt r e.
+          let a = from w m n.limits n.distinct parts f lt in
+          let d = at (written_features w) f in
+          (attribute_is scope d.element (feature_at m f).element (subst (λ (x : Role). element_type scope x d.element ≡ okay (feature_at m f).element) (sym a.role ∙ r) a.element)).no_class c e;
+      lower_bounds = lower_bounds w m n.limits n.distinct parts small bounds;
+      upper_bounds = upper_bounds w m n.limits n.distinct parts small bounds;
+      unique_ends = unique_ends w m n.limits n.distinct parts;
+      single_values = single_values w m n.limits n.distinct parts;
+      sources = sources w m n.limits n.distinct parts;
+      opposites = opposites w m n.limits n.distinct parts;
+      one_feature = one_feature w m n.limits n.distinct parts free;
+      clash_free = free;
+    }

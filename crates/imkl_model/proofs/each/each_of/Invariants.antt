@@ -1,0 +1,11 @@
+use Rattle.std.proofs.Common.{◌≡◌, map, drop, All}
+use Rattle.serde_json.specs.View.{view}
+use Rattle.imkl_model.specs.Reading.{each}
+use Rattle.imkl_model.proofs.Lists.{with_front}
+use Rattle.imkl_model.proofs.each.each_of.Given as goal
+
+abbrev pub invariant-loop-value : goal.invariant-loop-value
+invariant-loop-value g l = record {
+  read : with_front l.found.items (each g.T.Spelled.spelled (map view (drop l.value-index l.values))) ≡ each g.T.Spelled.spelled (map view l.values);
+  fits : All g.T.Spelled.fits l.found.items;
+}

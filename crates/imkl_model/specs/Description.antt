@@ -1,0 +1,53 @@
+-- The class model that bytes describe, or their first fault.
+use Rattle.std.specs.Prelude.{◌≡◌, ℕ, List, Some, Result, Ok, Err, not, IsUtf8}
+use Rattle.std.specs.List.{list_all}
+use Rattle.serde_json.specs.Data.{Data}
+use Rattle.serde_json.specs.Read.{read}
+use Rattle.imkl_model.specs.declared.fault.ModelFault.{ModelFault}
+use Rattle.imkl_model.specs.declared.fault.ModelFault.TheVariants.{NotJson, DuplicateName, Cycle, FeatureClash, BadMultiplicity, Limit, OutOfMemory}
+use Rattle.imkl_model.specs.ClassModel.{Model, supers, has_clash}
+use Rattle.imkl_model.specs.Chains.{is_cyclic}
+use Rattle.imkl_model.specs.Reading.{◌>>=◌, check}
+use Rattle.imkl_model.specs.Shape.{written_at}
+use Rattle.imkl_model.specs.Checks.{is_within_limits, repeats_name, has_multiplicity}
+use Rattle.imkl_model.specs.Stage.{is_of_this_stage}
+use Rattle.imkl_model.specs.Numbering.{numbered}
+
+-- the bytes are the JSON text of this tree
+abbrev pub IsTree : List ℕ → Data → Type 0
+IsTree bytes d = IsUtf8 bytes × (read bytes ≡ Some d)
+
+-- the last checks, over numbers
+unfoldable pub checked : Model → Result Model ModelFault
+checked m = do
+  _ ← check (not (is_cyclic (supers m))) Cycle
+  _ ← check (not (has_clash m)) FeatureClash
+  _ ← check (list_all has_multiplicity m.features) BadMultiplicity
+  Ok m
+
+-- What a JSON tree describes, or its first fault: the checks are made line by line.
+unfoldable pub describes_model : Data → Result Model ModelFault
+describes_model d = do
+  w ← written_at d
+  _ ← check (is_within_limits w) Limit
+  _ ← check (is_of_this_stage w) Limit
+  _ ← check (not (repeats_name w)) DuplicateName
+  m ← numbered w
+  checked m
+
+-- A fault that the bytes have. NotJson is for bytes that are no tree's. Memory may run out anywhere.
+abbrev pub IsFault : ModelFault → List ℕ → Type 0
+IsFault OutOfMemory bytes = Unit {0}
+IsFault NotJson bytes = (d : Data) → IsTree bytes d → ⊥
+IsFault fault bytes = (d : Data) × IsTree bytes d × (describes_model d ≡ Err fault)
+
+-- what reading answers: the model that the tree describes, or its first fault
+abbrev pub Answers : List ℕ → Result Model ModelFault → Type 0
+Answers bytes (Ok m) = (d : Data) × IsTree bytes d × (describes_model d ≡ Ok m)
+Answers bytes (Err e) = IsFault e bytes
+
+-- how the reading of JSON itself ends
+abbrev pub IsRefusal : ModelFault → List ℕ → Type 0
+IsRefusal OutOfMemory bytes = Unit {0}
+IsRefusal NotJson bytes = (d : Data) → IsTree bytes d → ⊥
+IsRefusal fault bytes = ⊥

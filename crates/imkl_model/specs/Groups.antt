@@ -1,0 +1,41 @@
+-- Clashes, looked for among the features of one name.
+use Rattle.std.specs.Prelude.{ℕ, ◌<◌, ◌&&◌, ◌==◌, Bool, false, not, List, [], ◌∷◌, length, Option, Some, None}
+use Rattle.std.specs.List.{list_any}
+use Rattle.imkl_model.specs.declared.entry.Class.{Class}
+use Rattle.imkl_model.specs.declared.feature.FeatureInfo.{FeatureInfo}
+use Rattle.imkl_model.specs.ClassModel.{Model, model_of, feature_at, feature_in, belongs, is_named}
+use Rattle.imkl_model.specs.Chains.{any_below}
+use Rattle.imkl_model.specs.Held.{first, places}
+
+-- classes and features alone
+abbrev pub model_with : List Class → List FeatureInfo → Model
+model_with classes features = model_of [] [] classes features []
+
+-- the features with the name of feature f
+abbrev pub group : Model → ℕ → List ℕ
+group m f = places (is_named m (feature_at m f).name) (length m.features)
+
+-- the list begins with f
+abbrev pub begins_with : List ℕ → ℕ → Bool
+begins_with [] f = false
+begins_with (g ∷ gs) f = g == f
+
+-- a feature that belongs to the class and has another owner
+abbrev pub has_other_owner : Model → ℕ → ℕ → ℕ → Bool
+has_other_owner m c owner g = belongs m c g && not (owner == (feature_at m g).owner)
+
+abbrev pub meets_after : Model → ℕ → List ℕ → Option ℕ → Bool
+meets_after m c numbers None = false
+meets_after m c numbers (Some f) = list_any (has_other_owner m c (feature_at m f).owner) numbers
+
+-- two of these features have different owners and belong to the class
+abbrev pub meets : Model → ℕ → List ℕ → Bool
+meets m c numbers = meets_after m c numbers (first (belongs m c) numbers)
+
+-- the feature is the first of its name, and two features of that name and of different owners belong to one class
+abbrev pub group_meets : Model → ℕ → Bool
+group_meets m f = begins_with (group m f) f && any_below (λ c. meets m c (group m f)) (length m.classes)
+
+-- each feature's owner is a class
+abbrev pub AreOwned : List Class → List FeatureInfo → Type 0
+AreOwned classes features = (f : ℕ) → f < length features → (feature_in features f).owner < length classes

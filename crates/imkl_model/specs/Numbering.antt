@@ -1,0 +1,83 @@
+-- From names to numbers.
+use Rattle.std.specs.Prelude.{ℕ, List, map, Bool, true, false, Option, Some, None, Result, Ok, ◌==◌, position, bytes_eq, if◌then◌else◌, codes}
+use Rattle.imkl_model.specs.declared.fault.ModelFault.{ModelFault}
+use Rattle.imkl_model.specs.declared.fault.ModelFault.TheVariants.{UnknownName}
+use Rattle.imkl_model.specs.declared.entry.Enumeration.{Enumeration}
+use Rattle.imkl_model.specs.declared.entry.Class.{Class}
+use Rattle.imkl_model.specs.declared.feature.FeatureInfo.{FeatureInfo}
+use Rattle.imkl_model.specs.declared.feature.ElementType.{ElementType}
+use Rattle.imkl_model.specs.declared.feature.ElementType.TheVariants as element
+use Rattle.imkl_model.specs.declared.feature.CollectionKind.{CollectionKind}
+use Rattle.imkl_model.specs.declared.feature.CollectionKind.TheVariants as kind
+use Rattle.imkl_model.specs.declared.feature.Role.{Role}
+use Rattle.imkl_model.specs.declared.feature.Role.TheVariants as role
+use Rattle.imkl_model.specs.declared.written.WrittenClass.{WrittenClass}
+use Rattle.imkl_model.specs.declared.written.WrittenEnumeration.{WrittenEnumeration}
+use Rattle.imkl_model.specs.declared.written.Written.{Written}
+use Rattle.imkl_model.specs.Reading.{◌>>=◌, found, each}
+use Rattle.imkl_model.specs.WrittenFeatures.{written_features}
+use Rattle.imkl_model.specs.declared.written.WrittenFeature.{WrittenFeature}
+use Rattle.imkl_model.specs.Checks.{association_names}
+use Rattle.imkl_model.specs.declared.numbering.Scope.{Scope}
+use Rattle.imkl_model.specs.Scopes.{scope_of}
+use Rattle.imkl_model.specs.ClassModel.{Model}
+
+-- the number of a name, else UnknownName
+abbrev pub number_in : List (List ℕ) → List ℕ → Result ℕ ModelFault
+number_in names name = found (position (bytes_eq name) names) UnknownName
+
+-- Boolean, Integer, String or an enumeration
+unfoldable pub scalar_type : Scope → List ℕ → Result ElementType ModelFault
+scalar_type s name =
+    if bytes_eq name (codes "Boolean") then Ok element.Boolean
+    else (if bytes_eq name (codes "Integer") then Ok element.Integer
+    else (if bytes_eq name (codes "String") then Ok element.String
+    else (do
+      e ← number_in s.enumerations name
+      Ok (element.Enumeration e))))
+
+abbrev pub class_type : Scope → List ℕ → Result ElementType ModelFault
+class_type s name = do
+  c ← number_in s.classes name
+  Ok (element.Class c)
+
+-- an attribute's elements are of a scalar type, an end's elements are objects of a class
+unfoldable pub element_type : Scope → Role → List ℕ → Result ElementType ModelFault
+element_type s role.Attribute name = scalar_type s name
+element_type s (role.SourceEnd f) name = class_type s name
+element_type s (role.OppositeEnd f) name = class_type s name
+
+abbrev pub kind_of : Bool → Bool → CollectionKind
+kind_of true true = kind.OrderedSet
+kind_of true false = kind.Sequence
+kind_of false true = kind.Set
+kind_of false false = kind.Bag
+
+abbrev pub is_one : Option ℕ → Bool
+is_one None = false
+is_one (Some upper) = upper == 1
+
+-- with upper bound 1 what is written of order and uniqueness isn't kept
+abbrev pub collection_kind : WrittenFeature → CollectionKind
+collection_kind d = if is_one d.upper then kind.Set else kind_of d.ordered d.unique
+
+unfoldable pub feature_of : Scope → WrittenFeature → Result FeatureInfo ModelFault
+feature_of s d = do
+  owner ← number_in s.classes d.owner
+  element ← element_type s d.role d.element
+  Ok (record { name = d.name; owner = owner; element = element; lower = d.lower; upper = d.upper; kind = collection_kind d; role = d.role })
+
+unfoldable pub class_of : Scope → WrittenClass → Result Class ModelFault
+class_of s c = do
+  supers ← each (number_in s.classes) c.supers
+  Ok (record { name = c.name; is_abstract = c.is_abstract; supers = supers })
+
+abbrev pub enumeration_of : WrittenEnumeration → Enumeration
+enumeration_of e = record { name = e.name; literals = e.literals }
+
+-- the class model with numbers for names
+unfoldable pub numbered : Written → Result Model ModelFault
+numbered w = do
+  classes ← each (class_of (scope_of w)) w.classes
+  features ← each (feature_of (scope_of w)) (written_features w)
+  Ok (record { name = w.name; enumerations = map enumeration_of w.enumerations; classes = classes; features = features; associations = association_names w })

@@ -1,0 +1,81 @@
+//! Counts and bounds.
+
+ghost use Rattle.std.specs.Prelude.{◌≡◌, length, nat_le};
+ghost use Rattle.std.specs.List.{list_all};
+ghost use Rattle.imkl_model.specs.Checks.{is_within_limits, is_multiplicity, has_multiplicity};
+ghost use Rattle.imkl_model.specs.Stage.{is_of_this_stage};
+ghost use Rattle.imkl_model.specs.WrittenFeatures.{written_features};
+
+use crate::feature::FeatureInfo;
+use crate::written::{Written, WrittenClass, WrittenEnumeration, WrittenFeature};
+
+/// The greatest count of classes, of enumerations, and of literals of one enumeration.
+const MOST_NAMES: usize = 4_096;
+
+/// The greatest count of features.
+const MOST_FEATURES: usize = 65_535;
+
+fn few_literals(enumerations: &[WrittenEnumeration]) -> bool
+    ensures { result ≡ list_all (λ e. nat_le (length e.literals) 4096) enumerations.now }
+{
+    for enumeration in enumerations {
+        if enumeration.literals.as_slice().len() > MOST_NAMES {
+            return false;
+        }
+    }
+    true
+}
+
+/// Whether each count is within its limit.
+#[tactic(auto, unfolding(crate::specs::Checks::is_within_limits))]
+pub(crate) fn is_within_limits(written: &Written, features: &[WrittenFeature]) -> bool
+    requires { features.now ≡ written_features written.now }
+    ensures { result ≡ is_within_limits written.now }
+{
+    let classes = written.classes.as_slice();
+    let enumerations = written.enumerations.as_slice();
+    classes.len() <= MOST_NAMES
+        && enumerations.len() <= MOST_NAMES
+        && few_literals(enumerations)
+        && features.len() <= MOST_FEATURES
+}
+
+fn one_superclass(classes: &[WrittenClass]) -> bool
+    ensures { result ≡ list_all (λ c. nat_le (length c.supers) 1) classes.now }
+{
+    for class in classes {
+        if class.supers.as_slice().len() > 1 {
+            return false;
+        }
+    }
+    true
+}
+
+/// Whether the class model keeps to the limit of this stage.
+#[tactic(auto, unfolding(crate::specs::Stage::is_of_this_stage))]
+pub(crate) fn is_of_this_stage(written: &Written) -> bool
+    ensures { result ≡ is_of_this_stage written.now }
+{
+    one_superclass(written.classes.as_slice())
+}
+
+fn is_multiplicity(lower: u32, upper: Option<u32>) -> bool
+    ensures { result ≡ is_multiplicity lower upper }
+{
+    match upper {
+        None => true,
+        Some(upper) => lower <= upper && upper > 0,
+    }
+}
+
+/// Whether no lower bound is above its upper bound, and no upper bound is 0.
+pub(crate) fn have_multiplicities(features: &[FeatureInfo]) -> bool
+    ensures { result ≡ list_all has_multiplicity features.now }
+{
+    for feature in features {
+        if !is_multiplicity(feature.lower, feature.upper) {
+            return false;
+        }
+    }
+    true
+}

@@ -1,0 +1,119 @@
+//! Features of one name and different owners that belong to one class.
+
+ghost use Rattle.std.specs.Prelude.{◌≡◌, ◌<◌, ℕ, length, All, IfSome};
+ghost use Rattle.std.specs.List.{list_any};
+ghost use Rattle.imkl_model.specs.Chains.{any_below};
+ghost use Rattle.imkl_model.specs.ClassModel.{belongs, has_clash};
+ghost use Rattle.imkl_model.specs.Held.{first};
+ghost use Rattle.imkl_model.specs.Groups.{model_with, begins_with, has_other_owner, meets, group_meets, AreOwned};
+
+use crate::class_table::ClassTable;
+use crate::feature_table::FeatureTable;
+use crate::numbers::{ClassNo, FeatureNo};
+
+/// The first of some features that belongs to a class.
+fn first_in(
+    classes: &ClassTable,
+    features: &FeatureTable,
+    class: ClassNo,
+    numbers: &[usize],
+) -> Option<FeatureNo>
+    requires class { class < length classes.now }
+    requires numbers { All (λ f. f < length features.now) numbers.now }
+    requires owners { AreOwned classes.now features.now }
+    ensures within { IfSome result (λ f. f < length features.now) }
+    ensures first { result ≡ first (belongs (model_with classes.now features.now) class) numbers.now }
+{
+    for number in numbers {
+        let feature = FeatureNo::new(*number);
+        if classes.conforms(class, features.at(feature).owner) {
+            return Some(feature);
+        }
+    }
+    None
+}
+
+/// Whether one of some features belongs to a class and has another owner than this.
+fn any_other(
+    classes: &ClassTable,
+    features: &FeatureTable,
+    class: ClassNo,
+    owner: ClassNo,
+    numbers: &[usize],
+) -> bool
+    requires class { class < length classes.now }
+    requires numbers { All (λ f. f < length features.now) numbers.now }
+    requires owners { AreOwned classes.now features.now }
+    ensures { result ≡ list_any (has_other_owner (model_with classes.now features.now) class owner) numbers.now }
+{
+    for number in numbers {
+        let other = features.at(FeatureNo::new(*number)).owner;
+        if classes.conforms(class, other) && owner.place() != other.place() {
+            return true;
+        }
+    }
+    false
+}
+
+/// Whether two of some features have different owners and belong to a class.
+fn meet(classes: &ClassTable, features: &FeatureTable, class: ClassNo, numbers: &[usize]) -> bool
+    requires class { class < length classes.now }
+    requires numbers { All (λ f. f < length features.now) numbers.now }
+    requires owners { AreOwned classes.now features.now }
+    ensures { result ≡ meets (model_with classes.now features.now) class numbers.now }
+{
+    match first_in(classes, features, class, numbers) {
+        None => false,
+        Some(feature) => {
+            let owner = features.at(feature).owner;
+            any_other(classes, features, class, owner, numbers)
+        }
+    }
+}
+
+/// Whether two of some features have different owners and belong to one class.
+fn meet_somewhere(classes: &ClassTable, features: &FeatureTable, numbers: &[usize]) -> bool
+    requires numbers { All (λ f. f < length features.now) numbers.now }
+    requires owners { AreOwned classes.now features.now }
+    ensures { result ≡ any_below (λ c. meets (model_with classes.now features.now) c numbers.now) (length classes.now) }
+{
+    for class in 0..classes.len() {
+        if meet(classes, features, ClassNo::new(class), numbers) {
+            return true;
+        }
+    }
+    false
+}
+
+fn begins_with(numbers: &[usize], number: usize) -> bool
+    ensures { result ≡ begins_with numbers.now number }
+{
+    match numbers {
+        [first, ..] => *first == number,
+        [] => false,
+    }
+}
+
+/// Whether a feature is the first of its name, and two of that name and of different owners belong to one class.
+fn group_meets(classes: &ClassTable, features: &FeatureTable, feature: FeatureNo) -> bool
+    requires feature { feature < length features.now }
+    requires owners { AreOwned classes.now features.now }
+    ensures { result ≡ group_meets (model_with classes.now features.now) feature }
+{
+    let numbers = features.named(features.at(feature).name.as_str());
+    begins_with(numbers, feature.place()) && meet_somewhere(classes, features, numbers)
+}
+
+/// Whether two features of one name and different owners belong to one class. The features of each name are looked at
+/// once, with the first of them.
+pub(crate) fn has_clash(classes: &ClassTable, features: &FeatureTable) -> bool
+    requires { AreOwned classes.now features.now }
+    ensures { result ≡ has_clash (model_with classes.now features.now) }
+{
+    for number in 0..features.len() {
+        if group_meets(classes, features, FeatureNo::new(number)) {
+            return true;
+        }
+    }
+    false
+}

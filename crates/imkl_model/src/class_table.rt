@@ -1,0 +1,98 @@
+//! The classes of a class model, with tables for look-ups.
+
+ghost use Rattle.std.specs.Prelude.{◌≡◌, ◌<◌, length, position, bytes_eq, slice_index_or, IfOk};
+ghost use Rattle.imkl_model.specs.Chains.{conforms, is_cyclic};
+ghost use Rattle.imkl_model.specs.Tables.{AreWithin};
+ghost use Rattle.imkl_model.specs.ClassModel.{supers_in, names_of_classes, no_class};
+
+use crate::ancestors::{reached, reaches_itself};
+use crate::entry::Class;
+use crate::names::Names;
+use crate::numbers::ClassNo;
+use crate::row::Row;
+use std::alloc::{AllocError, Global};
+use std::marker::Model;
+
+/// Classes, their names in order, and the classes that each class reaches.
+#[derive(Drop)]
+pub(crate) struct ClassTable {
+    classes: Vec<Class>,
+    names: Names,
+    reached: Vec<Row>,
+}
+
+impl Model for ClassTable {
+    ghost use Rattle.std.specs.Prelude.{List};
+    ghost use Rattle.imkl_model.specs.declared.entry.Class.{Class};
+    ghost use Rattle.imkl_model.specs.Held.{ClassesHold};
+
+    ghost Value = { List Class };
+
+    ghost view = { λ t. t.classes.items };
+
+    ghost invariant = { λ t. ClassesHold t.classes.items t.names t.reached.items };
+}
+
+impl ClassTable {
+    /// The table of these classes.
+    pub(crate) fn new(
+        alloc: Global,
+        classes: Vec<Class>,
+        names: Names,
+    ) -> Result<ClassTable, AllocError>
+        requires names { names ≡ names_of_classes classes.items }
+        requires supers { AreWithin (length classes.items) (supers_in classes.items) }
+        ensures { IfOk result (λ t. t ≡ classes.items) }
+    {
+        let reached = reached(alloc, &classes)?;
+        Ok(ClassTable {
+            classes,
+            names,
+            reached,
+        })
+    }
+
+    pub(crate) fn len(&self) -> usize
+        ensures { result ≡ length self.now }
+    {
+        self.classes.len()
+    }
+
+    pub(crate) fn entries(&self) -> &[Class]
+        ensures { result.now ≡ self.now }
+    {
+        self.classes.as_slice()
+    }
+
+    pub(crate) fn at(&self, class: ClassNo) -> &Class
+        requires { class < length self.now }
+        ensures { result.now ≡ slice_index_or self.now class no_class }
+    {
+        &self.classes[class.place()]
+    }
+
+    pub(crate) fn number_of(&self, name: &str) -> Option<ClassNo>
+        ensures { result ≡ position (bytes_eq name.now) (names_of_classes self.now) }
+    {
+        match self.names.number_of(name) {
+            Some(place) => Some(ClassNo::new(place)),
+            None => None,
+        }
+    }
+
+    pub(crate) fn conforms(&self, from: ClassNo, to: ClassNo) -> bool
+        requires from { from < length self.now }
+        requires to { to < length self.now }
+        ensures { result ≡ conforms (supers_in self.now) from to }
+    {
+        let row = &self.reached[from.place()];
+        from.place() == to.place() || row.has(to.place())
+    }
+
+    /// Whether a class is above itself.
+    pub(crate) fn is_cyclic(&self) -> bool
+        ensures { result ≡ is_cyclic (supers_in self.now) }
+    {
+        reaches_itself(self.reached.as_slice())
+    }
+}

@@ -1,0 +1,57 @@
+//! A class model before its last checks.
+
+ghost use Rattle.std.specs.Prelude.{◌≡◌, false};
+ghost use Rattle.imkl_model.specs.Reading.{Gives};
+ghost use Rattle.imkl_model.specs.Checks.{repeats_name};
+ghost use Rattle.imkl_model.specs.WrittenFeatures.{written_features};
+ghost use Rattle.imkl_model.specs.Numbering.{numbered};
+ghost use Rattle.imkl_model.specs.Drafts.{model_of_draft};
+
+use crate::class_table::ClassTable;
+use crate::enumeration_table::EnumerationTable;
+use crate::fault::ModelFault;
+use crate::feature_table::FeatureTable;
+use crate::items::Items;
+use crate::name::Name;
+use crate::numbering::{association_names, classes_of, enumerations_of, features_of, scope_of};
+use crate::written::{Written, WrittenFeature};
+use std::alloc::Global;
+
+/// The parts of a class model, with numbers for names.
+#[derive(Drop)]
+pub(crate) struct Draft {
+    pub(crate) name: Name,
+    pub(crate) enumerations: EnumerationTable,
+    pub(crate) classes: ClassTable,
+    pub(crate) features: FeatureTable,
+    pub(crate) associations: Items<Name>,
+}
+
+/// The class model that is written, or `UnknownName`.
+#[tactic(auto, unfolding(crate::specs::Numbering::numbered))]
+pub(crate) fn draft_of(
+    alloc: Global,
+    written: &Written,
+    features: &[WrittenFeature],
+) -> Result<Draft, ModelFault>
+    requires features { features.now ≡ written_features written.now }
+    requires distinct { repeats_name written.now ≡ false }
+    ensures { Gives model_of_draft result (numbered written.now) }
+{
+    let scope = scope_of(alloc, written)?;
+    let classes = classes_of(alloc, &scope, written.classes.as_slice())?;
+    let features = features_of(alloc, &scope, features)?;
+    let enumerations = enumerations_of(alloc, written.enumerations.as_slice())?;
+    let associations = association_names(alloc, written.associations.as_slice())?;
+    let name = written.name.copy(alloc)?;
+    let classes = ClassTable::new(alloc, classes, scope.classes)?;
+    let enumerations = EnumerationTable::new(enumerations, scope.enumerations);
+    let features = FeatureTable::new(alloc, features)?;
+    Ok(Draft {
+        name,
+        enumerations,
+        classes,
+        features,
+        associations: Items::new(associations),
+    })
+}

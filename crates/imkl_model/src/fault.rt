@@ -1,0 +1,76 @@
+//! Why a class model could not be read.
+
+ghost use Rattle.std.specs.Prelude.{◌≡◌};
+ghost use Rattle.imkl_model.specs.declared.fault.ModelFault.TheVariants.{OutOfMemory};
+ghost use Rattle.imkl_model.specs.Numbers.{fault_number};
+
+use std::alloc::{AllocError, AllocFailed};
+use thiserror::Error;
+
+/// The first fault of a class model's file.
+#[derive(Clone, Copy, PartialEq, Eq, Debug, Error)]
+pub enum ModelFault {
+    /// The bytes are no JSON text.
+    #[error("not JSON")]
+    NotJson,
+    /// The JSON text is none of a class model: a member is missing or more than asked, a value is of another sort, a
+    /// name is no identifier or too long, or a bound is above 1,000,000.
+    #[error("not the shape of a class model")]
+    Shape,
+    /// A name stands twice where names must differ, or a class or enumeration has the name of a predefined type.
+    #[error("a name stands twice")]
+    DuplicateName,
+    /// A superclass, an attribute's type or an association's class isn't there.
+    #[error("a name is unknown")]
+    UnknownName,
+    /// A class reaches itself by one or more superclass steps.
+    #[error("a class is above itself")]
+    Cycle,
+    /// Two features of one name and different owners belong to one class.
+    #[error("two features of one name belong to one class")]
+    FeatureClash,
+    /// A lower bound is above its upper bound, or an upper bound is 0.
+    #[error("a multiplicity that nothing meets")]
+    BadMultiplicity,
+    /// There are too many classes, enumerations, literals of one enumeration or features.
+    #[error("too large a class model")]
+    Limit,
+    /// Memory ran out.
+    #[error("out of memory")]
+    OutOfMemory,
+}
+
+impl ModelFault {
+    /// The fault's number in texts.
+    pub fn number(&self) -> u8
+        ensures { result ≡ fault_number self.now }
+    {
+        match self {
+            ModelFault::NotJson => 1,
+            ModelFault::Shape => 2,
+            ModelFault::DuplicateName => 3,
+            ModelFault::UnknownName => 4,
+            ModelFault::Cycle => 5,
+            ModelFault::FeatureClash => 6,
+            ModelFault::BadMultiplicity => 7,
+            ModelFault::Limit => 8,
+            ModelFault::OutOfMemory => 9,
+        }
+    }
+}
+
+impl From<AllocError> for ModelFault {
+    ghost from_gives = { λ _ e. e ≡ OutOfMemory };
+
+    fn from(_e: AllocError) -> ModelFault {
+        ModelFault::OutOfMemory
+    }
+}
+
+impl<T: Drop> From<AllocFailed<T>> for ModelFault {
+    ghost from_gives = { λ _ e. e ≡ OutOfMemory };
+
+    fn from(_e: AllocFailed<T>) -> ModelFault {
+        ModelFault::OutOfMemory
+    }
+}

@@ -1,0 +1,143 @@
+//! The features that a class model writes, in the model's order.
+
+ghost use Rattle.std.specs.Prelude.{◌≡◌, ◌+◌, ◌^◌, ◌<◌, ◌++◌, ◌∷◌, [], length, map, IfOk, OnOk};
+ghost use Rattle.imkl_model.specs.WrittenFeatures.{attribute_of, source_end, opposite_end, attributes_of, ends_of, written_features};
+
+use crate::feature::Role;
+use crate::name::Name;
+use crate::numbers::FeatureNo;
+use crate::written::{Written, WrittenAssociation, WrittenAttribute, WrittenClass, WrittenFeature};
+use std::alloc::{AllocError, Global};
+
+fn attribute(
+    alloc: Global,
+    owner: &Name,
+    attribute: &WrittenAttribute,
+) -> Result<WrittenFeature, AllocError>
+    ensures { IfOk result (λ f. f ≡ attribute_of owner.now attribute.now) }
+{
+    Ok(WrittenFeature {
+        owner: owner.copy(alloc)?,
+        name: attribute.name.copy(alloc)?,
+        element: attribute.element.copy(alloc)?,
+        lower: attribute.lower,
+        upper: attribute.upper,
+        ordered: attribute.ordered,
+        unique: attribute.unique,
+        role: Role::Attribute,
+    })
+}
+
+/// The source end, where it is the feature at this place.
+fn source(
+    alloc: Global,
+    place: usize,
+    association: &WrittenAssociation,
+) -> Result<WrittenFeature, AllocError>
+    requires { place + 1 < 2 ^ 64 }
+    ensures { IfOk result (λ f. f ≡ source_end place association.now) }
+{
+    let end = &association.end;
+    Ok(WrittenFeature {
+        owner: association.from.copy(alloc)?,
+        name: end.name.copy(alloc)?,
+        element: association.to.copy(alloc)?,
+        lower: end.lower,
+        upper: end.upper,
+        ordered: end.ordered,
+        unique: true,
+        role: Role::SourceEnd {
+            opposite: FeatureNo::new(place + 1),
+        },
+    })
+}
+
+/// The opposite end of the feature at this place.
+fn opposite(
+    alloc: Global,
+    place: usize,
+    association: &WrittenAssociation,
+) -> Result<WrittenFeature, AllocError>
+    ensures { IfOk result (λ f. f ≡ opposite_end place association.now) }
+{
+    let end = &association.opposite;
+    Ok(WrittenFeature {
+        owner: association.to.copy(alloc)?,
+        name: end.name.copy(alloc)?,
+        element: association.from.copy(alloc)?,
+        lower: end.lower,
+        upper: end.upper,
+        ordered: end.ordered,
+        unique: true,
+        role: Role::OppositeEnd {
+            source: FeatureNo::new(place),
+        },
+    })
+}
+
+fn push_attributes(
+    alloc: Global,
+    features: &mut Vec<WrittenFeature>,
+    owner: &Name,
+    attributes: &[WrittenAttribute],
+) -> Result<(), AllocError>
+    ensures { OnOk result (features.new.items ≡ features.old.items ++ map (attribute_of owner.now) attributes.now) }
+{
+    for written in attributes {
+        features.push(attribute(alloc, owner, written)?)?;
+    }
+    Ok(())
+}
+
+fn push_classes(
+    alloc: Global,
+    features: &mut Vec<WrittenFeature>,
+    classes: &[WrittenClass],
+) -> Result<(), AllocError>
+    ensures { OnOk result (features.new.items ≡ features.old.items ++ attributes_of classes.now) }
+{
+    for class in classes {
+        push_attributes(alloc, features, &class.name, class.attributes.as_slice())?;
+    }
+    Ok(())
+}
+
+fn push_ends(
+    alloc: Global,
+    features: &mut Vec<WrittenFeature>,
+    association: &WrittenAssociation,
+) -> Result<(), AllocError>
+    ensures { OnOk result (features.new.items
+        ≡ features.old.items ++ source_end (length features.old.items) association.now ∷ opposite_end (length features.old.items) association.now ∷ []) }
+{
+    let place = features.len();
+    features.push(source(alloc, place, association)?)?;
+    features.push(opposite(alloc, place, association)?)?;
+    Ok(())
+}
+
+fn push_associations(
+    alloc: Global,
+    features: &mut Vec<WrittenFeature>,
+    associations: &[WrittenAssociation],
+) -> Result<(), AllocError>
+    ensures { OnOk result (features.new.items ≡ features.old.items ++ ends_of (length features.old.items) associations.now) }
+{
+    for association in associations {
+        push_ends(alloc, features, association)?;
+    }
+    Ok(())
+}
+
+/// Attributes class by class, then both ends of each association.
+pub(crate) fn written_features(
+    alloc: Global,
+    written: &Written,
+) -> Result<Vec<WrittenFeature>, AllocError>
+    ensures { IfOk result (λ v. v.items ≡ written_features written.now) }
+{
+    let mut features = Vec::new(alloc);
+    push_classes(alloc, &mut features, written.classes.as_slice())?;
+    push_associations(alloc, &mut features, written.associations.as_slice())?;
+    Ok(features)
+}

@@ -1,0 +1,38 @@
+//! Class models: classes with superclasses, attributes and associations, read from JSON.
+#![tactic(auto)]
+
+mod ancestors;
+mod checks;
+mod clash;
+mod class_table;
+mod draft;
+mod duplicates;
+mod each;
+mod entry;
+mod enumeration_table;
+mod fault;
+mod feature;
+mod feature_list;
+mod feature_table;
+mod items;
+pub mod laws;
+mod model;
+mod name;
+mod names;
+mod numbering;
+mod numbers;
+mod reading;
+mod row;
+mod same;
+mod tree;
+mod words;
+mod written;
+
+pub use fault::ModelFault;
+pub use feature::{CollectionKind, ElementType, FeatureInfo, Role};
+pub use model::ClassModel;
+pub use name::Name;
+pub use numbers::{ClassNo, EnumNo, FeatureNo, LiteralNo};
+
+#[cfg(test)]
+mod tests;

@@ -1,0 +1,16 @@
+pub mod Bools
+pub mod Ids
+pub mod Drafts
+pub mod Encoded
+pub mod Sets
+pub mod Twice
+pub mod Pairs
+pub mod Stored
+pub mod Firsts
+pub mod EndLaws
+pub mod Layouts
+pub mod Ranges
+pub mod Soundness
+pub mod Holders
+pub mod ConsistencyLaws
+pub mod Places

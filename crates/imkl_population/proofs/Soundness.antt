@@ -1,0 +1,94 @@
+-- What is written at a feature of a draft: nothing, or values without a fault.
+use Rattle.std.proofs.Common.{◌≡◌, ◌⊎◌, ℕ, ◌<◌, ◌≤◌, Bool, true, false, ◌&&◌, not, cond, List, [], ◌∷◌, length, Option, Some, None, refl, sym, ap, subst, ◌∙◌, if◌then◌else◌, is_none, inl, inr, get_or, arith}
+use Rattle.std.specs.Prelude.{unwrap_or}
+use Rattle.std.specs.List.{list_all}
+use Rattle.std.specs.Map.{lookup}
+use Rattle.std.specs.Ordering.{nat_cmp, is_eq}
+use Rattle.std.specs.BTreeMap.{is_at}
+use Rattle.std.specs.Cmp.{Equal-is}
+use Rattle.std.specs.FinMap.{nat_cmp-IsAntisymmetric}
+use Rattle.std.proofs.lemmas.Bool.{false≢true, and_parts}
+use Rattle.std.proofs.Math.ListN.{get_or-eq_default}
+use Rattle.imkl_model.specs.declared.feature.FeatureInfo.{FeatureInfo}
+use Rattle.imkl_model.specs.declared.feature.Role.{Role}
+use Rattle.imkl_model.specs.declared.feature.Role.TheVariants.{Attribute, SourceEnd, OppositeEnd}
+use Rattle.std.proofs.lemmas.Bool.Decides.{leb_tells}
+use Rattle.imkl_model.specs.ClassModel.{Model, feature_at, belongs, no_feature}
+use Rattle.imkl_population.specs.declared.fault.PopulationFault.{PopulationFault}
+use Rattle.imkl_population.specs.declared.fault.PopulationFault.TheVariants.{WrongFeature, WrongKind, WrongClass, DuplicateTarget, Derived}
+use Rattle.imkl_population.specs.declared.scalar.Scalar.{Scalar}
+use Rattle.imkl_population.specs.Written.{written_in}
+use Rattle.imkl_population.specs.Population.{Population, class_of, object_at, written_at}
+use Rattle.imkl_population.specs.Values.{is_attribute, is_opposite, is_of_type, is_target_of, is_unique, repeats}
+use Rattle.imkl_population.specs.Building.{bounds_fault, value_fault, link_fault}
+use Rattle.imkl_population.specs.Draft.{IsDraft, is_sound, entry_fault_by}
+
+sound_here : (p : Population) (o f k : ℕ) (b : Bool) (vs : List Scalar) (r : Option (List Scalar)) → is_eq (nat_cmp f k) ≡ b → is_sound p o (k, vs) ≡ true
+    → (unwrap_or r [] ≡ []) ⊎ (is_sound p o (f, unwrap_or r []) ≡ true)
+    → (unwrap_or (cond b (Some vs) r) [] ≡ []) ⊎ (is_sound p o (f, unwrap_or (cond b (Some vs) r) []) ≡ true)
+sound_here p o f k true vs r e sound later =
+    let same : k ≡ f = sym (nat_cmp-IsAntisymmetric f k ((Equal-is (nat_cmp f k)).0 e)) in
+    inr (subst (λ (n : ℕ). is_sound p o (n, vs) ≡ true) same sound)
+sound_here p o f k false vs r e sound later = later
+
+-- where each entry is sound, so is what is found at a feature
+pub sound_in : (p : Population) (o f : ℕ) (w : List (ℕ × List Scalar)) → list_all (is_sound p o) w ≡ true → (written_in w f ≡ []) ⊎ (is_sound p o (f, written_in w f) ≡ true)
+sound_in p o f [] h = inl refl
+sound_in p o f (e ∷ w) h =
+    let parts = and_parts (is_sound p o e) (list_all (is_sound p o) w) h in
+    sound_here p o f e.0 (is_eq (nat_cmp f e.0)) e.1 (lookup (is_at (nat_cmp f)) w) refl parts.0 (sound_in p o f w parts.1)
+
+pub record AreValues (p : Population) (o f : ℕ) (vs : List Scalar) : Type 0 where
+  pub belongs_so : belongs p.model (class_of p o) f ≡ true
+  pub typed : list_all (is_of_type (feature_at p.model f).element) vs ≡ true
+  pub apart : (is_unique (feature_at p.model f) && repeats vs) ≡ false
+  pub bounded : bounds_fault (feature_at p.model f) o f (length vs) ≡ None
+
+pub record AreTargets (p : Population) (o f : ℕ) (vs : List Scalar) : Type 0 where
+  pub belongs_so : belongs p.model (class_of p o) f ≡ true
+  pub joined : list_all (is_target_of p (feature_at p.model f).element) vs ≡ true
+  pub apart : repeats vs ≡ false
+  pub bounded : bounds_fault (feature_at p.model f) o f (length vs) ≡ None
+
+none_is : {A : Type 0} (o : Option A) → is_none o ≡ true → o ≡ None
+none_is None h = refl
+none_is (Some a) h = absurd (false≢true h)
+
+value_parts : (a t r : Bool) (q : Option PopulationFault)
+    → is_none (if not a then Some WrongFeature else (if not t then Some WrongKind else (if r then Some DuplicateTarget else q))) ≡ true → (a ≡ true) × (t ≡ true) × (r ≡ false) × (q ≡ None)
+value_parts false t r q h = absurd (false≢true h)
+value_parts true false r q h = absurd (false≢true h)
+value_parts true true true q h = absurd (false≢true h)
+value_parts true true false q h = (refl, refl, refl, none_is q h)
+
+link_parts : (a d t r : Bool) (q : Option PopulationFault)
+    → is_none (if not a then Some WrongFeature else (if d then Some Derived else (if not t then Some WrongClass else (if r then Some DuplicateTarget else q)))) ≡ true
+    → (a ≡ true) × (t ≡ true) × (r ≡ false) × (q ≡ None)
+link_parts false d t r q h = absurd (false≢true h)
+link_parts true true t r q h = absurd (false≢true h)
+link_parts true false false r q h = absurd (false≢true h)
+link_parts true false true true q h = absurd (false≢true h)
+link_parts true false true false q h = (refl, refl, refl, none_is q h)
+
+-- what a sound entry of an attribute, and of an end, has
+pub values_sound : (p : Population) (o f : ℕ) (vs : List Scalar) → is_attribute (feature_at p.model f).role ≡ true → is_sound p o (f, vs) ≡ true → AreValues p o f vs
+values_sound p o f vs a h =
+    let i : FeatureInfo = feature_at p.model f in
+    let sound : is_none (value_fault p o f i vs) ≡ true = subst (λ (b : Bool). is_none (entry_fault_by b p o f i vs) ≡ true) a h in
+    let parts = value_parts (belongs p.model (class_of p o) f && is_attribute i.role) (list_all (is_of_type i.element) vs) (is_unique i && repeats vs) (bounds_fault i o f (length vs)) sound in
+    record { belongs_so = (and_parts (belongs p.model (class_of p o) f) (is_attribute i.role) parts.0).0; typed = parts.1; apart = parts.2; bounded = parts.3 }
+
+pub targets_sound : (p : Population) (o f : ℕ) (vs : List Scalar) → is_attribute (feature_at p.model f).role ≡ false → is_sound p o (f, vs) ≡ true → AreTargets p o f vs
+targets_sound p o f vs a h =
+    let i : FeatureInfo = feature_at p.model f in
+    let sound : is_none (link_fault p o f i vs) ≡ true = subst (λ (b : Bool). is_none (entry_fault_by b p o f i vs) ≡ true) a h in
+    let parts = link_parts (belongs p.model (class_of p o) f && not (is_attribute i.role)) (is_opposite i.role) (list_all (is_target_of p i.element) vs) (repeats vs) (bounds_fault i o f (length vs)) sound in
+    record { belongs_so = (and_parts (belongs p.model (class_of p o) f) (not (is_attribute i.role)) parts.0).0; joined = parts.1; apart = parts.2; bounded = parts.3 }
+
+-- a feature that has another role than an attribute is one of the model
+pub end_within : (m : Model) (f : ℕ) → is_attribute (feature_at m f).role ≡ false → f < length m.features
+end_within m f h =
+    elim (leb_tells (length m.features) f) [
+      | inl le ↦ absurd (false≢true (sym h ∙ ap (λ (i : FeatureInfo). is_attribute i.role) (get_or-eq_default m.features no_feature le.1)))
+      | inr less ↦ less.1
+    ]

@@ -1,0 +1,9 @@
+use Rattle.std.proofs.Common.{◌≡◌, ℕ, [], length, get_or}
+use Rattle.imkl_population.specs.Written.{written_in}
+use Rattle.imkl_population.proofs.ends.no_ends.Given as goal
+
+abbrev pub invariant-objects : goal.invariant-objects
+invariant-objects l = record {
+  so_long : length l.ends.items ≡ l.made;
+  empty : (o h : ℕ) → written_in (get_or l.ends.items o []) h ≡ [];
+}

@@ -1,0 +1,11 @@
+use Rattle.std.proofs.Common.{◌∙◌, ap, sym, arith, length, ℕ}
+use Rattle.imkl_population.specs.Numbers.{first_of}
+use Rattle.imkl_population.specs.Finishing.{gap}
+use Rattle.imkl_population.proofs.Firsts.{first_found}
+use Rattle.imkl_population.proofs.finishing.first_gap.Goals as goal
+
+pub returns-then-is_some : goal.returns-then-is_some
+returns-then-is_some c =
+    let p = c.args.builder.now in
+    let g = λ (o : ℕ). first_of (gap p o) (length p.model.features) in
+    first_found g (length p.objects) c.objects.object c.first_gap_of-found.result (omega arith) c.objects.invariant (c.first_gap_of-found.ensures ∙ ap g c.new.ensures) (sym c.if-is_some.ensures)

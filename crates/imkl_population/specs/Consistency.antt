@@ -1,0 +1,29 @@
+-- What every finished population keeps.
+use Rattle.std.specs.Prelude.{◌≡◌, ℕ, ◌<◌, true, false, None, length, bytes_eq}
+use Rattle.std.specs.List.{list_all}
+use Rattle.imkl_model.specs.declared.feature.Role.{Role}
+use Rattle.imkl_model.specs.declared.feature.Role.TheVariants.{Attribute, SourceEnd, OppositeEnd}
+use Rattle.imkl_model.specs.ClassModel.{class_at, feature_at, belongs}
+use Rattle.imkl_population.specs.Population.{Population, object_at, class_of, values_of}
+use Rattle.imkl_population.specs.Values.{is_attribute, is_of_type, is_target_of, is_unique, repeats}
+use Rattle.imkl_population.specs.Building.{is_id, bounds_fault}
+
+pub record IsConsistent (p : Population) : Type 0 where
+  -- each object is of a class of the model, and none of an abstract one
+  pub classed : (o : ℕ) → o < length p.objects → class_of p o < length p.model.classes
+  pub concrete : (o : ℕ) → o < length p.objects → (class_at p.model (class_of p o)).is_abstract ≡ false
+  -- ids have their form, and differ
+  pub formed : (o : ℕ) → o < length p.objects → is_id (object_at p o).id ≡ true
+  pub distinct : (n o : ℕ) → n < o → o < length p.objects → bytes_eq (object_at p n).id (object_at p o).id ≡ false
+  -- each value of an attribute is of its type
+  pub typed : (o f : ℕ) → o < length p.objects → belongs p.model (class_of p o) f ≡ true → is_attribute (feature_at p.model f).role ≡ true
+      → list_all (is_of_type (feature_at p.model f).element) (values_of p o f) ≡ true
+  -- each value of an end is an object whose class conforms to the end's class
+  pub joined : (o f : ℕ) → o < length p.objects → belongs p.model (class_of p o) f ≡ true → is_attribute (feature_at p.model f).role ≡ false
+      → list_all (is_target_of p (feature_at p.model f).element) (values_of p o f) ≡ true
+  -- a unique feature holds nothing twice
+  pub apart : (o f : ℕ) → o < length p.objects → belongs p.model (class_of p o) f ≡ true → is_unique (feature_at p.model f) ≡ true
+      → repeats (values_of p o f) ≡ false
+  -- the length of each feature lies within its bounds
+  pub bounded : (o f : ℕ) → o < length p.objects → f < length p.model.features → belongs p.model (class_of p o) f ≡ true
+      → bounds_fault (feature_at p.model f) o f (length (values_of p o f)) ≡ None

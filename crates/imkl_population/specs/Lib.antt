@@ -1,0 +1,12 @@
+pub mod Numbers
+pub mod Written
+pub mod Population
+pub mod Values
+pub mod Building
+pub mod Finishing
+pub mod Consistency
+pub mod Seen
+pub mod Draft
+pub mod Ends
+pub mod Store
+pub mod Layout

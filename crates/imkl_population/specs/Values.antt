@@ -1,0 +1,73 @@
+-- Which values may stand at a feature.
+use Rattle.std.specs.Prelude.{ℕ, ◌==◌, ◌&&◌, ◌||◌, Bool, true, false, not, List, [], ◌∷◌, Option, Some, None, nat_lt, bytes_eq, length, if◌then◌else◌}
+use Rattle.std.specs.Ordering.{int_eq}
+use Rattle.std.specs.List.{list_all, list_any}
+use Rattle.imkl_model.specs.declared.feature.ElementType.{ElementType}
+use Rattle.imkl_model.specs.declared.feature.ElementType.TheVariants as element
+use Rattle.imkl_model.specs.declared.feature.CollectionKind.{CollectionKind}
+use Rattle.imkl_model.specs.declared.feature.CollectionKind.TheVariants.{Set, OrderedSet, Bag, Sequence}
+use Rattle.imkl_model.specs.declared.feature.FeatureInfo.{FeatureInfo}
+use Rattle.imkl_model.specs.declared.feature.Role.{Role}
+use Rattle.imkl_model.specs.declared.feature.Role.TheVariants.{Attribute, SourceEnd, OppositeEnd}
+use Rattle.imkl_model.specs.ClassModel.{conforms}
+use Rattle.imkl_population.specs.declared.scalar.Scalar.{Scalar}
+use Rattle.imkl_population.specs.declared.scalar.Scalar.TheVariants as scalar
+use Rattle.imkl_population.specs.Population.{Population, class_of}
+
+-- a value is of an attribute's type
+abbrev pub is_of_type : ElementType → Scalar → Bool
+is_of_type element.Boolean (scalar.Bool b) = true
+is_of_type element.Integer (scalar.Int n) = true
+is_of_type element.String (scalar.Text t) = true
+is_of_type (element.Enumeration e) (scalar.Literal d l) = d == e
+is_of_type t v = false
+
+-- a value is an object whose class conforms to an end's class
+abbrev pub is_target_of : Population → ElementType → Scalar → Bool
+is_target_of p (element.Class c) (scalar.Object o) = nat_lt o (length p.objects) && conforms p.model (class_of p o) c
+is_target_of p t v = false
+
+abbrev pub is_attribute : Role → Bool
+is_attribute Attribute = true
+is_attribute (SourceEnd g) = false
+is_attribute (OppositeEnd g) = false
+
+abbrev pub is_opposite : Role → Bool
+is_opposite Attribute = false
+is_opposite (SourceEnd g) = false
+is_opposite (OppositeEnd g) = true
+
+abbrev pub is_single : Option ℕ → Bool
+is_single None = false
+is_single (Some n) = n == 1
+
+abbrev pub is_unique_kind : CollectionKind → Bool
+is_unique_kind Set = true
+is_unique_kind OrderedSet = true
+is_unique_kind Bag = false
+is_unique_kind Sequence = false
+
+-- a unique feature holds nothing twice: each end is unique, and an attribute as its kind says, but for one with upper bound 1
+abbrev pub is_unique : FeatureInfo → Bool
+is_unique f = not (is_attribute f.role) || (not (is_single f.upper) && is_unique_kind f.kind)
+
+abbrev pub same_scalar : Scalar → Scalar → Bool
+same_scalar (scalar.Bool a) (scalar.Bool b) = if a then b else not b
+same_scalar (scalar.Int a) (scalar.Int b) = int_eq a b
+same_scalar (scalar.Text a) (scalar.Text b) = bytes_eq a b
+same_scalar (scalar.Literal d a) (scalar.Literal e b) = d == e && a == b
+same_scalar (scalar.Object a) (scalar.Object b) = a == b
+same_scalar v w = false
+
+abbrev pub is_among : List Scalar → Scalar → Bool
+is_among vs w = list_any (λ v. same_scalar w v) vs
+
+-- some value stands twice
+abbrev pub repeats : List Scalar → Bool
+repeats [] = false
+repeats (v ∷ vs) = is_among vs v || repeats vs
+
+-- more than an upper bound
+abbrev pub is_over : Option ℕ → ℕ → Bool
+is_over None n = false
+is_over (Some upper) n = nat_lt upper n

@@ -1,0 +1,315 @@
+//! Building a population object by object.
+
+ghost use Rattle.std.specs.Prelude.{◌≡◌, ◌<◌, [], true, length, ◌+◌, IfOk, OnOk, IfSome, Ok};
+ghost use Rattle.imkl_model.specs.ClassModel.{feature_at};
+ghost use Rattle.imkl_population.specs.Population.{class_of, written_at, object_of};
+ghost use Rattle.std.specs.List.{list_all};
+ghost use Rattle.imkl_population.specs.Draft.{is_sound};
+ghost use Rattle.imkl_population.specs.Values.{is_target_of};
+ghost use Rattle.imkl_population.specs.Finishing.{finished, Finishes};
+ghost use Rattle.imkl_population.specs.Building.{Answers, KeepsObjects, added, value_set, linked, value_fault, link_fault, with_values, as_objects};
+
+use crate::checks::{are_of_type, bounds_fault, is_attribute, is_id, is_opposite, is_unique};
+use crate::ends::opposite_ends;
+use crate::fault::PopulationFault;
+use crate::finishing::{first_end_fault, first_gap};
+use crate::layout::laid_out;
+use crate::numbers::ObjectNo;
+use crate::object::{Id, Object};
+use crate::population::Population;
+use crate::repeats::repeats;
+use crate::scalar::Scalar;
+use crate::written::{Values, Written};
+use imkl_model::{ClassModel, ClassNo, ElementType, FeatureNo};
+use std::alloc::{AllocError, Global};
+use std::collections::BTreeMap;
+use std::marker::Model;
+
+/// A population in the making. Contracts see the population of what was added so far.
+#[derive(Drop)]
+pub struct PopulationBuilder<'m> {
+    alloc: Global,
+    model: &'m ClassModel,
+    objects: Vec<Object>,
+    ids: BTreeMap<String, usize>,
+}
+
+impl<'m> Model for PopulationBuilder<'m> {
+    ghost use Rattle.std.specs.BTreeMap.{get_by_text};
+    ghost use Rattle.imkl_population.specs.Population.{Population};
+    ghost use Rattle.std.specs.List.{list_all};
+    ghost use Rattle.imkl_population.specs.Draft.{IsDraft};
+
+    ghost Value = { Population };
+
+    ghost view = { λ b. record { model = b.model.now; objects = b.objects.items } };
+
+    ghost invariant = { λ b. IsDraft (record { model = b.model.now; objects = b.objects.items }) (get_by_text b.ids) };
+}
+
+impl<'m> PopulationBuilder<'m> {
+    /// A builder of a population of this class model, without objects. Takes no memory.
+    pub fn new(alloc: Global, model: &'m ClassModel) -> PopulationBuilder<'m>
+        ensures { result ≡ record { model = model.now; objects = [] } }
+    {
+        PopulationBuilder {
+            alloc,
+            model,
+            objects: Vec::new(alloc),
+            ids: BTreeMap::new(alloc),
+        }
+    }
+
+    /// Adds an object, and answers its number. Refused with `BadId`, `DuplicateId`, `AbstractClass`
+    /// or `Limit`, in this order; refused, it changes nothing.
+    pub fn add_object(&mut self, id: &str, class: ClassNo) -> Result<ObjectNo, PopulationFault>
+        requires { class < length self.old.model.classes }
+        ensures answers { Answers result (added self.old id.now class) self.old self.new }
+        ensures number { IfOk result (λ n. n ≡ length self.old.objects) }
+        ensures count { OnOk result (length self.new.objects ≡ length self.old.objects + 1) }
+        ensures model { self.new.model ≡ self.old.model }
+    {
+        if !is_id(id) {
+            return Err(PopulationFault::BadId);
+        }
+        if self.ids.contains_key(id) {
+            return Err(PopulationFault::DuplicateId);
+        }
+        if self.model.is_abstract(class) {
+            return Err(PopulationFault::AbstractClass);
+        }
+        let number = self.objects.len();
+        if number >= 1_000_000 {
+            return Err(PopulationFault::Limit);
+        }
+        let key = String::from_str(self.alloc, id)?;
+        let id = Id::new(String::from_str(self.alloc, id)?);
+        let written = Written::new(self.alloc);
+        self.objects.reserve(1)?;
+        self.ids.insert(key, number)?;
+        self.objects.push_reserved(Object { id, class, written });
+        Ok(ObjectNo::new(number))
+    }
+
+    /// How many objects were added.
+    pub fn objects(&self) -> usize
+        ensures { result ≡ length self.now.objects }
+    {
+        self.objects.len()
+    }
+
+    /// The object that has an id.
+    pub fn object(&self, id: &str) -> Option<ObjectNo>
+        ensures number { result ≡ object_of self.now id.now }
+        ensures known { IfSome result (λ o. o < length self.now.objects) }
+    {
+        match self.ids.get(id) {
+            Some(number) => Some(ObjectNo::new(*number)),
+            None => None,
+        }
+    }
+
+    /// The class that an object is directly of.
+    pub fn class_of(&self, object: ObjectNo) -> ClassNo
+        requires { object < length self.now.objects }
+        ensures class { result ≡ class_of self.now object }
+        ensures known { result < length self.now.model.classes }
+    {
+        self.objects[object.place()].class
+    }
+
+    /// The class model.
+    pub fn model(&self) -> &'m ClassModel
+        ensures { result.now ≡ self.now.model }
+    {
+        self.model
+    }
+
+    pub(crate) fn alloc(&self) -> Global {
+        self.alloc
+    }
+
+    /// The class model and the objects.
+    pub(crate) fn into_parts(self) -> (&'m ClassModel, Vec<Object>)
+        ensures model { result.0.now ≡ self.entry.model }
+        ensures objects { result.1.items ≡ self.entry.objects }
+    {
+        let PopulationBuilder {
+            alloc: _,
+            model,
+            objects,
+            ids: _,
+        } = self;
+        (model, objects)
+    }
+
+    /// What is written at a feature of an object.
+    pub(crate) fn written(&self, object: ObjectNo, feature: FeatureNo) -> &[Scalar]
+        requires { object < length self.now.objects }
+        ensures { result.now ≡ written_at self.now object feature }
+    {
+        self.objects[object.place()].written.get(feature.place())
+    }
+
+    /// What is wrong with values at an attribute.
+    fn value_fault(
+        &self,
+        object: ObjectNo,
+        feature: FeatureNo,
+        values: &[Scalar],
+    ) -> Result<Option<PopulationFault>, AllocError>
+        requires object { object < length self.now.objects }
+        requires feature { feature < length self.now.model.features }
+        ensures { IfOk result (λ fault. fault ≡ value_fault self.now object feature (feature_at self.now.model feature) values.now) }
+    {
+        let info = self.model.feature_info(feature);
+        if !(self.model.belongs(self.class_of(object), feature) && is_attribute(info.role)) {
+            return Ok(Some(PopulationFault::WrongFeature));
+        }
+        if !are_of_type(info.element, values) {
+            return Ok(Some(PopulationFault::WrongKind));
+        }
+        if is_unique(info) && repeats(self.alloc, values)? {
+            return Ok(Some(PopulationFault::DuplicateTarget));
+        }
+        Ok(bounds_fault(info, object, feature, values.len()))
+    }
+
+    /// Whether a value is an object whose class conforms to a class.
+    fn is_target(&self, class: ClassNo, value: &Scalar) -> bool
+        requires { class < length self.now.model.classes }
+        ensures { result ≡ is_target_of self.now (ElementType.Class class) value.now }
+    {
+        let Scalar::Object(object) = value else {
+            return false;
+        };
+        object.place() < self.objects.len() && self.model.conforms(self.class_of(*object), class)
+    }
+
+    /// Whether all values are objects whose classes conform to the feature's class.
+    fn are_targets(&self, feature: FeatureNo, values: &[Scalar]) -> bool
+        requires { feature < length self.now.model.features }
+        ensures { result ≡ list_all (is_target_of self.now (feature_at self.now.model feature).element) values.now }
+    {
+        self.model.well_formed();
+        match self.model.feature_info(feature).element {
+            ElementType::Class(class) => values.iter().all(|v| self.is_target(class, v)),
+            _ => values.is_empty(),
+        }
+    }
+
+    /// What is wrong with targets at an end.
+    fn link_fault(
+        &self,
+        object: ObjectNo,
+        feature: FeatureNo,
+        targets: &[Scalar],
+    ) -> Result<Option<PopulationFault>, AllocError>
+        requires object { object < length self.now.objects }
+        requires feature { feature < length self.now.model.features }
+        ensures { IfOk result (λ fault. fault ≡ link_fault self.now object feature (feature_at self.now.model feature) targets.now) }
+    {
+        let info = self.model.feature_info(feature);
+        if !(self.model.belongs(self.class_of(object), feature) && !is_attribute(info.role)) {
+            return Ok(Some(PopulationFault::WrongFeature));
+        }
+        if is_opposite(info.role) {
+            return Ok(Some(PopulationFault::Derived));
+        }
+        if !self.are_targets(feature, targets) {
+            return Ok(Some(PopulationFault::WrongClass));
+        }
+        if repeats(self.alloc, targets)? {
+            return Ok(Some(PopulationFault::DuplicateTarget));
+        }
+        Ok(bounds_fault(info, object, feature, targets.len()))
+    }
+
+    /// Puts values at a feature, in the place of those that stood there.
+    fn put(
+        &mut self,
+        object: ObjectNo,
+        feature: FeatureNo,
+        values: Values,
+    ) -> Result<(), PopulationFault>
+        requires object { object < length self.old.objects }
+        requires sound { is_sound self.old object (feature, values) ≡ true }
+        ensures answers { Answers result (Ok (with_values self.old object feature values)) self.old self.new }
+        ensures kept { KeepsObjects self.old self.new }
+    {
+        let place = object.place();
+        let slot = &mut self.objects[place];
+        slot.written.set(feature.place(), values)?;
+        Ok(())
+    }
+
+    /// Sets the values of an attribute; a second call replaces the first. Refused with
+    /// `WrongFeature`, `WrongKind`, `DuplicateTarget`, `TooFew` or `TooMany`, in this order;
+    /// refused, it changes nothing and the list is dropped.
+    pub fn set_value(
+        &mut self,
+        object: ObjectNo,
+        feature: FeatureNo,
+        values: Vec<Scalar>,
+    ) -> Result<(), PopulationFault>
+        requires object { object < length self.old.objects }
+        requires feature { feature < length self.old.model.features }
+        ensures answers { Answers result (value_set self.old object feature values.items) self.old self.new }
+        ensures kept { KeepsObjects self.old self.new }
+    {
+        match self.value_fault(object, feature, &values)? {
+            Some(fault) => Err(fault),
+            None => self.put(object, feature, Values::new(values)),
+        }
+    }
+
+    /// Sets the targets of a source end; a second call replaces the first. Refused with
+    /// `WrongFeature`, `Derived`, `WrongClass`, `DuplicateTarget`, `TooFew` or `TooMany`, in this
+    /// order; refused, it changes nothing.
+    pub fn link(
+        &mut self,
+        object: ObjectNo,
+        feature: FeatureNo,
+        targets: &[ObjectNo],
+    ) -> Result<(), PopulationFault>
+        requires object { object < length self.old.objects }
+        requires feature { feature < length self.old.model.features }
+        ensures answers { Answers result (linked self.old object feature targets.now) self.old self.new }
+        ensures kept { KeepsObjects self.old self.new }
+    {
+        let targets = as_objects(self.alloc, targets)?;
+        match self.link_fault(object, feature, &targets)? {
+            Some(fault) => Err(fault),
+            None => self.put(object, feature, Values::new(targets)),
+        }
+    }
+
+    /// The population of what was added. Refused with `TooFew` at the first object, and its first
+    /// feature, that was never set and needs a value; else with `TooFew` or `TooMany` at the first
+    /// object, and its first opposite end, that has too few or too many holders.
+    pub fn finish(self) -> Result<Population<'m>, PopulationFault>
+        ensures finished { Finishes (finished self.entry) result }
+        ensures same { IfOk result (λ p. p ≡ self.entry) }
+    {
+        self.model.well_formed();
+        if let Some(fault) = first_gap(&self) {
+            return Err(fault);
+        }
+        let ends = opposite_ends(self.alloc, &self)?;
+        if let Some(fault) = first_end_fault(&self, &ends) {
+            return Err(fault);
+        }
+        Ok(laid_out(self, ends)?)
+    }
+}
+
+/// Objects as values.
+fn as_objects(alloc: Global, objects: &[ObjectNo]) -> Result<Vec<Scalar>, AllocError>
+    ensures { IfOk result (λ v. v.items ≡ as_objects objects.now) }
+{
+    let mut values = Vec::with_capacity(alloc, objects.len())?;
+    'objects: for object in objects {
+        values.push(Scalar::Object(*object))?;
+    }
+    Ok(values)
+}

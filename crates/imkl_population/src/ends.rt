@@ -1,0 +1,102 @@
+//! The opposite ends of all objects, from what is written at the source ends.
+
+ghost use Rattle.std.specs.Prelude.{◌≡◌, ◌<◌, ◌++◌, ◌==◌, ℕ, [], ◌∷◌, length, IfOk, OnOk, slice_index_or, if◌then◌else◌};
+ghost use Rattle.imkl_model.specs.ClassModel.{feature_at};
+ghost use Rattle.imkl_model.specs.declared.feature.Role.TheVariants.{OppositeEnd};
+ghost use Rattle.imkl_population.specs.Written.{written_in};
+ghost use Rattle.imkl_population.specs.Building.{as_objects};
+ghost use Rattle.imkl_population.specs.Population.{held_by, opposite_end};
+ghost use Rattle.imkl_population.specs.Ends.{AreEnds};
+
+use crate::builder::PopulationBuilder;
+use crate::numbers::ObjectNo;
+use crate::scalar::Scalar;
+use crate::written::Written;
+use imkl_model::{FeatureNo, Role};
+use std::alloc::{AllocError, Global};
+
+/// A value at a source end gives its target a holder.
+fn add_holder(
+    ends: &mut [Written],
+    alloc: Global,
+    end: usize,
+    holder: usize,
+    value: &Scalar,
+) -> Result<(), AllocError>
+    ensures same { length ends.new ≡ length ends.old }
+    ensures added { OnOk result ((o h : ℕ) → o < length ends.old → written_in (slice_index_or ends.new o []) h ≡ written_in (slice_index_or ends.old o []) h ++ (if h == end then as_objects (held_by holder o (value.now ∷ [])) else [])) }
+{
+    if let Scalar::Object(target) = value {
+        let place = target.place();
+        if place < ends.len() {
+            let slot = &mut ends[place];
+            slot.push(alloc, end, Scalar::Object(ObjectNo::new(holder)))?;
+        }
+    }
+    Ok(())
+}
+
+/// The values at a source end give their targets a holder.
+fn add_holders(
+    ends: &mut [Written],
+    alloc: Global,
+    end: usize,
+    holder: usize,
+    values: &[Scalar],
+) -> Result<(), AllocError>
+    ensures same { length ends.new ≡ length ends.old }
+    ensures added { OnOk result ((o h : ℕ) → o < length ends.old → written_in (slice_index_or ends.new o []) h ≡ written_in (slice_index_or ends.old o []) h ++ (if h == end then as_objects (held_by holder o values.now) else [])) }
+{
+    'values: for value in values {
+        add_holder(ends, alloc, end, holder, value)?;
+    }
+    Ok(())
+}
+
+/// Collects an opposite end of all objects.
+fn add_end(
+    ends: &mut [Written],
+    alloc: Global,
+    builder: &PopulationBuilder<'_>,
+    source: FeatureNo,
+    end: usize,
+) -> Result<(), AllocError>
+    requires { length ends.old ≡ length builder.now.objects }
+    ensures same { length ends.new ≡ length ends.old }
+    ensures added { OnOk result ((o h : ℕ) → o < length ends.old → written_in (slice_index_or ends.new o []) h ≡ written_in (slice_index_or ends.old o []) h ++ (if h == end then as_objects (opposite_end builder.now source o) else [])) }
+{
+    'holders: for holder in 0..builder.objects() {
+        let values = builder.written(ObjectNo::new(holder), source);
+        add_holders(ends, alloc, end, holder, values)?;
+    }
+    Ok(())
+}
+
+/// As many objects without ends.
+fn no_ends(alloc: Global, count: usize) -> Result<Vec<Written>, AllocError>
+    ensures { IfOk result (λ v. (length v.items ≡ count) × ((o h : ℕ) → written_in (slice_index_or v.items o []) h ≡ [])) }
+{
+    let mut ends = Vec::with_capacity(alloc, count)?;
+    'objects: for made in 0..count {
+        let _ = made;
+        ends.push(Written::new(alloc))?;
+    }
+    Ok(ends)
+}
+
+/// The opposite ends of all objects.
+pub(crate) fn opposite_ends(
+    alloc: Global,
+    builder: &PopulationBuilder<'_>,
+) -> Result<Vec<Written>, AllocError>
+    ensures { IfOk result (λ v. AreEnds builder.now v.items) }
+{
+    let model = builder.model();
+    let mut ends = no_ends(alloc, builder.objects())?;
+    'features: for feature in 0..model.feature_count() {
+        if let Role::OppositeEnd { source } = model.feature_info(FeatureNo::new(feature)).role {
+            add_end(&mut ends, alloc, builder, source, feature)?;
+        }
+    }
+    Ok(ends)
+}

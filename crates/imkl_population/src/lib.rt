@@ -1,0 +1,27 @@
+//! Populations: objects of a class model with their values and links.
+#![tactic(auto)]
+
+mod builder;
+mod checks;
+mod ends;
+mod fault;
+mod finishing;
+mod instances;
+mod layout;
+mod numbers;
+mod object;
+mod population;
+mod repeats;
+mod scalar;
+mod store;
+mod written;
+
+pub use builder::PopulationBuilder;
+pub use fault::PopulationFault;
+pub use numbers::ObjectNo;
+pub use object::{Id, Object};
+pub use population::{Head, Population};
+pub use repeats::Seen;
+pub use scalar::{Scalar, ScalarText};
+pub use store::{Entry, Segment};
+pub use written::{Values, Written};

@@ -1,0 +1,66 @@
+//! Values that stand twice.
+
+ghost use Rattle.std.specs.Prelude.{◌≡◌, ◌||◌, true, false, not, IfOk, OnOk};
+ghost use Rattle.imkl_population.specs.declared.scalar.Scalar.{Scalar};
+ghost use Rattle.imkl_population.specs.Values.{repeats, same_scalar};
+ghost use Rattle.imkl_population.specs.Seen.{has_seen, is_encodable, SeesMore};
+
+use crate::scalar::Scalar;
+use std::alloc::{AllocError, Global};
+use std::collections::BTreeSet;
+
+/// The values met so far, by their types.
+#[derive(Drop)]
+pub struct Seen {
+    pub truths: BTreeSet<bool>,
+    pub integers: BTreeSet<i64>,
+    pub texts: BTreeSet<String>,
+    pub literals: BTreeSet<(usize, usize)>,
+    pub objects: BTreeSet<usize>,
+}
+
+fn nothing_seen(alloc: Global) -> Seen
+    ensures { (value : Scalar) → has_seen result value ≡ false }
+{
+    Seen {
+        truths: BTreeSet::new(alloc),
+        integers: BTreeSet::new(alloc),
+        texts: BTreeSet::new(alloc),
+        literals: BTreeSet::new(alloc),
+        objects: BTreeSet::new(alloc),
+    }
+}
+
+/// Adds a value, and answers whether it is new.
+fn is_new(seen: &mut Seen, alloc: Global, value: &Scalar) -> Result<bool, AllocError>
+    ensures encodable { IfOk result (λ b. is_encodable value.now ≡ true) }
+    ensures new { IfOk result (λ b. b ≡ not (has_seen seen.old value.now)) }
+    ensures more { OnOk result (SeesMore seen.old value.now seen.new) }
+{
+    match value {
+        Scalar::Bool(b) => Ok(seen.truths.insert(*b)?),
+        Scalar::Int(n) => Ok(seen.integers.insert(*n)?),
+        Scalar::Text(text) => {
+            let key = String::from_str(alloc, text.as_str())?;
+            Ok(seen.texts.insert(key)?)
+        }
+        Scalar::Literal(enumeration, literal) => {
+            let key = (enumeration.place(), literal.place());
+            Ok(seen.literals.insert(key)?)
+        }
+        Scalar::Object(object) => Ok(seen.objects.insert(object.place())?),
+    }
+}
+
+/// Whether some value stands twice.
+pub(crate) fn repeats(alloc: Global, values: &[Scalar]) -> Result<bool, AllocError>
+    ensures { IfOk result (λ b. b ≡ repeats values.now) }
+{
+    let mut seen = nothing_seen(alloc);
+    'values: for value in values {
+        if !is_new(&mut seen, alloc, value)? {
+            return Ok(true);
+        }
+    }
+    Ok(false)
+}

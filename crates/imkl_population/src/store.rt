@@ -1,0 +1,133 @@
+//! Many finite maps from features to values, in three lists.
+
+ghost use Rattle.std.specs.Prelude.{◌≡◌, ◌<◌, ◌≤◌, ◌==◌, ◌++◌, ◌∷◌, [], length, find, IfOk, OnOk, slice_index_or, slice_range};
+ghost use Rattle.imkl_population.specs.Written.{written_in};
+ghost use Rattle.imkl_population.specs.Store.{Appended, IsEntry, IsSegment};
+
+use crate::scalar::Scalar;
+use crate::written::{Values, Written};
+use std::alloc::{AllocError, Global};
+use std::marker::Model;
+
+/// The values at one feature: those from `start` to before `end` in the list of values.
+#[derive(Clone, Copy, Debug)]
+pub struct Entry {
+    pub feature: usize,
+    pub start: usize,
+    pub end: usize,
+}
+
+/// One map: the entries from `start` to before `end`.
+#[derive(Clone, Copy, Debug)]
+pub struct Segment {
+    pub start: usize,
+    pub end: usize,
+}
+
+/// Finite maps in the order in which they were pushed. Contracts see the list of the maps.
+#[derive(Drop)]
+pub struct Store {
+    scalars: Vec<Scalar>,
+    entries: Vec<Entry>,
+    segments: Vec<Segment>,
+}
+
+impl Model for Store {
+    ghost use Rattle.std.specs.Prelude.{◌≤◌, List, ℕ, map, length};
+    ghost use Rattle.imkl_population.specs.declared.scalar.Scalar.{Scalar};
+    ghost use Rattle.imkl_population.specs.Store.{shown, IsLaidOut};
+
+    ghost Value = { List (List (ℕ × List Scalar)) };
+
+    ghost view = { λ s. map (shown s.scalars.items s.entries.items) s.segments.items };
+
+    ghost invariant = { λ s. IsLaidOut s.scalars.items s.entries.items s.segments.items };
+}
+
+/// Appends a map's values and entries.
+fn append(
+    scalars: &mut Vec<Scalar>,
+    entries: &mut Vec<Entry>,
+    written: Written,
+) -> Result<(), AllocError>
+    ensures { OnOk result (Appended scalars.old.items scalars.new.items entries.old.items entries.new.items written) }
+{
+    'entries: for (feature, values) in written.into_entries() {
+        let start = scalars.len();
+        let mut values = values.into_items();
+        scalars.append(&mut values)?;
+        let end = scalars.len();
+        entries.push(Entry {
+            feature,
+            start,
+            end,
+        })?;
+    }
+    Ok(())
+}
+
+/// The first entry of a feature.
+fn find_entry(entries: &[Entry], feature: usize) -> Option<Entry>
+    ensures { result ≡ find (λ e. e.feature == feature) entries.now }
+{
+    entries.iter().copied().find(|e| e.feature == feature)
+}
+
+fn entries_of(entries: &[Entry], segment: Segment) -> &[Entry]
+    requires { IsSegment (length entries.now) segment }
+    ensures { result.now ≡ slice_range entries.now segment.start segment.end }
+{
+    &entries[segment.start..segment.end]
+}
+
+fn values_of(scalars: &[Scalar], entry: Entry) -> &[Scalar]
+    requires { IsEntry (length scalars.now) entry }
+    ensures { result.now ≡ slice_range scalars.now entry.start entry.end }
+{
+    &scalars[entry.start..entry.end]
+}
+
+impl Store {
+    /// No maps.
+    pub(crate) fn new(alloc: Global) -> Store
+        ensures { result ≡ [] }
+    {
+        Store {
+            scalars: Vec::new(alloc),
+            entries: Vec::new(alloc),
+            segments: Vec::new(alloc),
+        }
+    }
+
+    /// These maps and one more.
+    pub(crate) fn with(self, written: Written) -> Result<Store, AllocError>
+        ensures { IfOk result (λ s. s ≡ self ++ written ∷ []) }
+    {
+        let Store {
+            mut scalars,
+            mut entries,
+            mut segments,
+        } = self;
+        let start = entries.len();
+        append(&mut scalars, &mut entries, written)?;
+        let end = entries.len();
+        segments.push(Segment { start, end })?;
+        Ok(Store {
+            scalars,
+            entries,
+            segments,
+        })
+    }
+
+    /// The values at a feature in the map at a place.
+    pub(crate) fn get(&self, place: usize, feature: usize) -> &[Scalar]
+        requires { place < length self.now }
+        ensures { result.now ≡ written_in (slice_index_or self.now place []) feature }
+    {
+        let segment = self.segments[place];
+        match find_entry(entries_of(&self.entries, segment), feature) {
+            Some(entry) => values_of(&self.scalars, entry),
+            None => &[],
+        }
+    }
+}

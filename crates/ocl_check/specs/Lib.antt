@@ -1,0 +1,16 @@
+pub mod Sink
+pub mod FaultNumber
+pub mod CodeTree
+pub mod Symbols
+pub mod Linked
+pub mod Known
+pub mod Stage
+pub mod Kinds
+pub mod Value
+pub mod Operations
+pub mod Machine
+pub mod Verdict
+pub mod Laws
+pub mod Walk
+pub mod Verifying
+pub mod Shown

@@ -1,0 +1,10 @@
+-- A unit and the class model in which its symbols are looked up.
+use Rattle.imkl_model.specs.ClassModel.{Model}
+use Rattle.rule_code.specs.Content.{Content}
+
+pub record LinkedUnit : Type 0 where
+  pub model : Model
+  pub unit : Content
+
+abbrev pub linked_unit : Model → Content → LinkedUnit
+linked_unit m u = record { model = m; unit = u }

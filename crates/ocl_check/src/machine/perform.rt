@@ -1,0 +1,174 @@
+//! The steps of the machine.
+
+ghost use Rattle.std.specs.Prelude.{◌≡◌, ◌<◌, ◌≤◌, List, [], ◌∷◌, length, true, OnOk, Some};
+ghost use Rattle.imkl_model.specs.ClassModel.{feature_at};
+ghost use Rattle.imkl_population.specs.Values.{is_single};
+ghost use Rattle.rule_code.specs.declared.instruction.Instr.TheVariants.{Attr};
+ghost use Rattle.ocl_check.specs.Value.{Value as Operand, Plain};
+ghost use Rattle.ocl_check.specs.Operations.{single_value};
+ghost use Rattle.ocl_check.specs.Machine.{read_from, performed};
+ghost use Rattle.ocl_check.specs.Laws.{setting_of};
+ghost use Rattle.ocl_check.specs.Walk.{HasSymbol};
+ghost use Rattle.ocl_check.specs.Shown.{meant, all_meant, IsHolder, CanPerform, object_variable};
+
+use super::value::{Value, at_least, conjunction, less_than, negation};
+use crate::stack::Stack;
+use crate::verify::{Linked, Named};
+use imkl_model::FeatureNo;
+use imkl_population::{ObjectNo, Population, Scalar};
+use rule_code::{Instr, SymbolNumber};
+use std::alloc::AllocError;
+
+/// A single value as an operand.
+fn operand(scalar: &Scalar) -> Value<'_>
+    ensures { meant result ≡ Plain scalar.now }
+{
+    match scalar {
+        Scalar::Bool(b) => Value::Bool(*b),
+        Scalar::Int(n) => Value::Int(*n),
+        Scalar::Text(text) => Value::Text(text),
+        Scalar::Literal(enumeration, literal) => Value::Literal(*enumeration, *literal),
+        Scalar::Object(object) => Value::Object(*object),
+    }
+}
+
+/// The value itself, or null.
+fn single(values: &[Scalar]) -> Value<'_>
+    ensures { meant result ≡ single_value values.now }
+{
+    match values {
+        [] => Value::Null,
+        [value, ..] => operand(value),
+    }
+}
+
+/// The value of a feature with upper bound 1, of what may hold it.
+pub(super) fn read<'p>(
+    population: &'p Population<'_>,
+    feature: FeatureNo,
+    holder: &Value<'p>,
+) -> Value<'p>
+    requires holder { IsHolder population.now feature (meant holder.now) }
+    requires feature { feature < length population.now.model.features }
+    requires single { is_single (feature_at population.now.model feature).upper ≡ true }
+    ensures { read_from population.now feature (meant holder.now) ≡ Some (meant result) }
+{
+    match holder {
+        Value::Object(object) => single(population.values(*object, feature)),
+        Value::Null => Value::Invalid,
+        Value::Invalid => Value::Invalid,
+        Value::Bool(_) => unreachable!(),
+        Value::Int(_) => unreachable!(),
+        Value::Text(_) => unreachable!(),
+        Value::Literal(_, _) => unreachable!(),
+    }
+}
+
+/// Takes the two topmost operands, the topmost first.
+pub(super) fn two<'p>(operands: &mut Stack<Value<'p>>) -> (Value<'p>, Value<'p>)
+    requires { 2 ≤ length operands.old }
+    ensures { operands.old ≡ result.0 ∷ result.1 ∷ operands.new }
+{
+    let Some(topmost) = operands.pop() else {
+        unreachable!()
+    };
+    let Some(below) = operands.pop() else {
+        unreachable!()
+    };
+    (topmost, below)
+}
+
+/// Takes the topmost operand.
+pub(super) fn one<'p>(operands: &mut Stack<Value<'p>>) -> Value<'p>
+    requires { 1 ≤ length operands.old }
+    ensures { operands.old ≡ result ∷ operands.new }
+{
+    let Some(topmost) = operands.pop() else {
+        unreachable!()
+    };
+    topmost
+}
+
+/// A feature is read from the topmost operand.
+fn read_feature<'p>(
+    linked: &Linked<'_>,
+    population: &'p Population<'_>,
+    operands: &mut Stack<Value<'p>>,
+    symbol: SymbolNumber,
+) -> Result<(), AllocError>
+    requires one_model { population.now.model ≡ linked.now.model }
+    requires symbol { symbol.0 < length linked.now.unit.symbols }
+    requires can { CanPerform linked.now.unit population.now (Attr symbol) (all_meant operands.old) }
+    ensures { OnOk result ((vs : List Operand) → performed (setting_of linked.now.unit population.now) vs (Attr symbol) (all_meant operands.old) ≡ Some (all_meant operands.new)) }
+{
+    let Some(name) = linked.named(symbol) else {
+        unreachable!()
+    };
+    match name {
+        Named::Feature(_, feature) => {
+            let holder = one(operands);
+            operands.push(read(population, feature, &holder))?;
+            Ok(())
+        }
+        Named::Class(_) => unreachable!(),
+        Named::Enumeration(_) => unreachable!(),
+        Named::Literal(_, _) => unreachable!(),
+    }
+}
+
+/// One step: an instruction on the operands, of code that runs for an object.
+pub(super) fn instruct<'p>(
+    linked: &Linked<'_>,
+    population: &'p Population<'_>,
+    object: ObjectNo,
+    operands: &mut Stack<Value<'p>>,
+    instr: Instr,
+) -> Result<(), AllocError>
+    requires one_model { population.now.model ≡ linked.now.model }
+    requires symbol { HasSymbol linked.now.unit instr }
+    requires can { CanPerform linked.now.unit population.now instr (all_meant operands.old) }
+    ensures { OnOk result (performed (setting_of linked.now.unit population.now) (object_variable object) instr (all_meant operands.old) ≡ Some (all_meant operands.new)) }
+{
+    match instr {
+        Instr::SelfObject => {
+            operands.push(Value::Object(object))?;
+            Ok(())
+        }
+        Instr::Int(n) => {
+            operands.push(Value::Int(n))?;
+            Ok(())
+        }
+        Instr::Bool(b) => {
+            operands.push(Value::Bool(b))?;
+            Ok(())
+        }
+        Instr::Null => {
+            operands.push(Value::Null)?;
+            Ok(())
+        }
+        Instr::Attr(symbol) => {
+            read_feature(linked, population, operands, symbol)?;
+            Ok(())
+        }
+        Instr::Lt => {
+            let (second, first) = two(operands);
+            operands.push(less_than(&first, &second))?;
+            Ok(())
+        }
+        Instr::Ge => {
+            let (second, first) = two(operands);
+            operands.push(at_least(&first, &second))?;
+            Ok(())
+        }
+        Instr::Not => {
+            let value = one(operands);
+            operands.push(negation(&value))?;
+            Ok(())
+        }
+        Instr::And => {
+            let (second, first) = two(operands);
+            operands.push(conjunction(&first, &second))?;
+            Ok(())
+        }
+    }
+}

@@ -1,0 +1,139 @@
+//! Units whose symbols have been looked up in a class model.
+
+ghost use Rattle.std.specs.Prelude.{◌≡◌, ◌<◌, length, map, IfOk, IfSome, Some};
+ghost use Rattle.imkl_model.specs.ClassModel.{belongs};
+ghost use Rattle.rule_code.specs.View.{content};
+ghost use Rattle.rule_code.specs.WellFormed.{SymbolFits};
+ghost use Rattle.ocl_check.specs.Symbols.{named_by, named_at};
+ghost use Rattle.ocl_check.specs.Kinds.{class_in};
+ghost use Rattle.ocl_check.specs.Known.{IsKnownName};
+
+use super::named::Named;
+use imkl_model::{ClassModel, ClassNo};
+use rule_code::{Symbol, SymbolNumber, Unit};
+use std::alloc::{AllocError, Global};
+use std::marker::Model;
+
+/// A unit, with what each of its symbols names in a class model.
+#[derive(Drop)]
+pub struct Linked<'m> {
+    model: &'m ClassModel,
+    unit: Unit,
+    names: Vec<Option<Named>>,
+}
+
+impl<'m> Model for Linked<'m> {
+    ghost use Rattle.std.specs.Prelude.{◌≡◌, map};
+    ghost use Rattle.ocl_check.specs.Linked.{LinkedUnit};
+    ghost use Rattle.ocl_check.specs.Symbols.{named_by};
+    ghost use Rattle.rule_code.specs.View.{content};
+
+    ghost Value = { LinkedUnit };
+
+    ghost view = { λ l. record { model = l.model.now; unit = content l.unit } };
+
+    ghost invariant = { λ l. l.names.items ≡ map (named_by l.model.now (content l.unit).texts) (content l.unit).symbols };
+}
+
+/// What a symbol names.
+fn named(model: &ClassModel, unit: &Unit, symbol: Symbol) -> Option<Named>
+    requires { SymbolFits (length (content unit.now).texts) symbol }
+    ensures { result ≡ named_by model.now (content unit.now).texts symbol }
+{
+    match symbol {
+        Symbol::Class(class) => {
+            let class = model.class(unit.text(class))?;
+            Some(Named::Class(class))
+        }
+        Symbol::Enumeration(enumeration) => {
+            let enumeration = model.enumeration(unit.text(enumeration))?;
+            Some(Named::Enumeration(enumeration))
+        }
+        Symbol::Feature { class, feature } => {
+            let class = model.class(unit.text(class))?;
+            let feature = model.feature(class, unit.text(feature))?;
+            Some(Named::Feature(class, feature))
+        }
+        Symbol::Literal {
+            enumeration,
+            literal,
+        } => {
+            let enumeration = model.enumeration(unit.text(enumeration))?;
+            let literal = model.literal(enumeration, unit.text(literal))?;
+            Some(Named::Literal(enumeration, literal))
+        }
+    }
+}
+
+/// What each symbol of a unit names, if it is there.
+pub(super) fn names_of(
+    alloc: Global,
+    model: &ClassModel,
+    unit: &Unit,
+) -> Result<Vec<Option<Named>>, AllocError>
+    ensures { IfOk result (λ v. v.items ≡ map (named_by model.now (content unit.now).texts) (content unit.now).symbols) }
+{
+    let mut names = Vec::new(alloc);
+    for symbol in unit.symbols.as_slice() {
+        names.push(named(model, unit, *symbol))?;
+    }
+    Ok(names)
+}
+
+impl<'m> Linked<'m> {
+    /// The unit with what its symbols name.
+    pub(super) fn new(model: &'m ClassModel, unit: Unit, names: Vec<Option<Named>>) -> Linked<'m>
+        requires { names.items ≡ map (named_by model.now (content unit).texts) (content unit).symbols }
+        ensures model { result.model ≡ model.entry.now }
+        ensures unit { result.unit ≡ content unit }
+    {
+        Linked { model, unit, names }
+    }
+
+    /// The unit again.
+    pub(super) fn into_unit(self) -> Unit
+        ensures { content result ≡ self.entry.unit }
+    {
+        let Linked {
+            model: _,
+            unit,
+            names: _,
+        } = self;
+        unit
+    }
+
+    /// The class model.
+    pub fn model(&self) -> &'m ClassModel
+        ensures { result.now ≡ self.now.model }
+    {
+        self.model
+    }
+
+    /// The unit.
+    pub fn unit(&self) -> &Unit
+        ensures { content result.now ≡ self.now.unit }
+    {
+        &self.unit
+    }
+
+    /// What a symbol names, if it is there.
+    pub fn named(&self, symbol: SymbolNumber) -> Option<Named>
+        requires { symbol.0 < length self.now.unit.symbols }
+        ensures name { result ≡ named_at self.now.model self.now.unit symbol.0 }
+        ensures known { IfSome result (IsKnownName self.now.model) }
+    {
+        self.names[usize::from(symbol.0)]
+    }
+
+    /// The class that a symbol names, if it names one that is there.
+    pub fn class(&self, symbol: SymbolNumber) -> Option<ClassNo>
+        requires { symbol.0 < length self.now.unit.symbols }
+        ensures class { result ≡ class_in (named_at self.now.model self.now.unit symbol.0) }
+        ensures in_range { IfSome result (λ c. c < length self.now.model.classes) }
+    {
+        match self.named(symbol)? {
+            Named::Class(class) => Some(class),
+            _ => None,
+        }
+    }
+}

@@ -1,0 +1,150 @@
+//! Judging the rules of a unit by their kinds.
+
+ghost use Rattle.std.specs.Prelude.{◌≡◌, ◌<◌, length, OnOk, slice_get, Some};
+ghost use Rattle.imkl_population.specs.Values.{is_single};
+ghost use Rattle.rule_code.specs.declared.instruction.Instr.TheVariants.{Attr};
+ghost use Rattle.ocl_check.specs.Kinds.{element_kind, feature_kind, effect, scope};
+ghost use Rattle.ocl_check.specs.Known.{AreKnownKinds};
+ghost use Rattle.ocl_check.specs.Walk.{Comes, HasSymbol, RuleAnswers, UnitAnswers};
+
+use super::fault::{Flaw, Stop, VerifyFault};
+use super::kind::{ElementKind, Kind};
+use super::linked::Linked;
+use super::named::Named;
+use super::operands::{apply, is_one_truth};
+use crate::stack::Stack;
+use imkl_model::{ClassNo, ElementType, FeatureInfo};
+use rule_code::{Instr, SymbolNumber};
+use std::alloc::Global;
+
+const VOID: Kind = Kind::Single(ElementKind::Void);
+const TRUTH: Kind = Kind::Single(ElementKind::Boolean);
+const WHOLE_NUMBER: Kind = Kind::Single(ElementKind::Integer);
+
+fn is_single(upper: Option<u32>) -> bool
+    ensures { result ≡ is_single upper }
+{
+    match upper {
+        Some(n) => n == 1,
+        None => false,
+    }
+}
+
+fn element_kind(element: ElementType) -> ElementKind
+    ensures { result ≡ element_kind element }
+{
+    match element {
+        ElementType::Boolean => ElementKind::Boolean,
+        ElementType::Integer => ElementKind::Integer,
+        ElementType::String => ElementKind::String,
+        ElementType::Enumeration(enumeration) => ElementKind::Enumeration(enumeration),
+        ElementType::Class(class) => ElementKind::Class(class),
+    }
+}
+
+fn feature_kind(feature: &FeatureInfo) -> Kind
+    ensures { result ≡ feature_kind feature.now }
+{
+    if is_single(feature.upper) {
+        Kind::Single(element_kind(feature.element))
+    } else {
+        Kind::Collection(feature.kind, element_kind(feature.element))
+    }
+}
+
+/// The operands after a feature is read.
+fn read_feature(
+    linked: &Linked<'_>,
+    context: ClassNo,
+    operands: &mut Stack<Kind>,
+    symbol: SymbolNumber,
+) -> Result<(), Stop>
+    requires operands { AreKnownKinds linked.now.model operands.old }
+    requires symbol { symbol.0 < length linked.now.unit.symbols }
+    ensures comes { Comes (λ at. effect (scope linked.now.model linked.now.unit context) (Attr symbol) at operands.old) result operands.new }
+    ensures known { OnOk result (AreKnownKinds linked.now.model operands.new) }
+{
+    let Some(name) = linked.named(symbol) else {
+        return Err(Stop::Wrong(Flaw::NoSuchName));
+    };
+    match name {
+        Named::Feature(class, feature) => {
+            let model = linked.model();
+            model.well_formed();
+            let info = model.feature_info(feature);
+            let holder = Kind::Single(ElementKind::Class(class));
+            apply(model, operands, &[holder], is_single(info.upper), feature_kind(info))
+        }
+        _ => Err(Stop::Wrong(Flaw::NoSuchName)),
+    }
+}
+
+/// The operands after an instruction.
+fn instruct(
+    linked: &Linked<'_>,
+    context: ClassNo,
+    operands: &mut Stack<Kind>,
+    instr: Instr,
+) -> Result<(), Stop>
+    requires operands { AreKnownKinds linked.now.model operands.old }
+    requires context { context < length linked.now.model.classes }
+    requires symbol { HasSymbol linked.now.unit instr }
+    ensures comes { Comes (λ at. effect (scope linked.now.model linked.now.unit context) instr at operands.old) result operands.new }
+    ensures known { OnOk result (AreKnownKinds linked.now.model operands.new) }
+{
+    let model = linked.model();
+    match instr {
+        Instr::SelfObject => {
+            let object = Kind::Single(ElementKind::Class(context));
+            apply(model, operands, &[], true, object)
+        }
+        Instr::Int(_) => apply(model, operands, &[], true, WHOLE_NUMBER),
+        Instr::Bool(_) => apply(model, operands, &[], true, TRUTH),
+        Instr::Null => apply(model, operands, &[], true, VOID),
+        Instr::Attr(symbol) => read_feature(linked, context, operands, symbol),
+        Instr::Lt => apply(model, operands, &[WHOLE_NUMBER, WHOLE_NUMBER], true, TRUTH),
+        Instr::Ge => apply(model, operands, &[WHOLE_NUMBER, WHOLE_NUMBER], true, TRUTH),
+        Instr::Not => apply(model, operands, &[TRUTH], true, TRUTH),
+        Instr::And => apply(model, operands, &[TRUTH, TRUTH], true, TRUTH),
+    }
+}
+
+/// Whether a rule has kinds, else its first fault.
+fn check_rule(alloc: Global, linked: &Linked<'_>, place: usize) -> Result<(), VerifyFault>
+    requires { place < length linked.now.unit.rules }
+    ensures { RuleAnswers linked.now.model linked.now.unit place result }
+{
+    let rule = linked.unit().rule(place);
+    let Some(context) = linked.class(rule.context) else {
+        return Err(VerifyFault::At {
+            flaw: Flaw::NoSuchName,
+            rule: place,
+            at: 0,
+        });
+    };
+    let mut operands = Stack::new(alloc);
+    'instructions: for at in 0..rule.code.len() {
+        if let Err(stop) = instruct(linked, context, &mut operands, rule.code[at]) {
+            return Err(stop.at(place, at));
+        }
+    }
+    if is_one_truth(linked.model(), &mut operands) {
+        Ok(())
+    } else {
+        Err(VerifyFault::At {
+            flaw: Flaw::LeftOver,
+            rule: place,
+            at: rule.code.len(),
+        })
+    }
+}
+
+/// Whether the rules of a unit have kinds, else the first fault.
+pub(super) fn check_rules(alloc: Global, linked: &Linked<'_>) -> Result<(), VerifyFault>
+    ensures { UnitAnswers linked.now.model linked.now.unit result }
+{
+    'rules: for place in 0..linked.unit().rules.len() {
+        check_rule(alloc, linked, place)?;
+    }
+    Ok(())
+}

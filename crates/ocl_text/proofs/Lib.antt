@@ -1,0 +1,15 @@
+pub mod Runs
+pub mod Boundaries
+pub mod Lexemes
+pub mod Progress
+pub mod OneReading
+pub mod Decoding
+pub mod Views
+pub mod Counts
+pub mod Turns
+pub mod Complete
+pub mod Sound
+pub mod Wider
+pub mod Taken
+pub mod Deeper
+pub mod Outcomes

@@ -1,0 +1,85 @@
+use Rattle.std.proofs.Common.{◌≡◌, ◌-◌, ◌+◌, ◌*◌, length, map, []}
+use Rattle.ocl_text.specs.Tree.{view, bound_of}
+use Rattle.ocl_text.specs.Gives.{from}
+use Rattle.ocl_text.specs.Parse as spec
+use Rattle.ocl_text.proofs.parser.+parser.Given as goal
+
+abbrev pub decreases-unary : goal.decreases-unary
+decreases-unary l = 40 * l.depth
+
+abbrev pub decreases-level : goal.decreases-level
+decreases-level l = 40 * l.depth + 2 * l.height + 1
+
+abbrev pub decreases-chain : goal.decreases-chain
+decreases-chain l = 40 * l.depth + 2 * l.height + 2
+
+abbrev pub decreases-expr : goal.decreases-expr
+decreases-expr l = 40 * l.depth + 20
+
+abbrev pub decreases-items : goal.decreases-items
+decreases-items l = 40 * l.depth + 21
+
+abbrev pub decreases-arguments : goal.decreases-arguments
+decreases-arguments l = 40 * l.depth + 22
+
+abbrev pub decreases-iteration : goal.decreases-iteration
+decreases-iteration l = 40 * l.depth + 22
+
+abbrev pub decreases-dotted : goal.decreases-dotted
+decreases-dotted l = 40 * l.depth + 24
+
+abbrev pub decreases-calling : goal.decreases-calling
+decreases-calling l = 40 * l.depth + 23
+
+abbrev pub decreases-arrowed : goal.decreases-arrowed
+decreases-arrowed l = 40 * l.depth + 24
+
+abbrev pub decreases-step : goal.decreases-step
+decreases-step l = 40 * l.depth + 25
+
+abbrev pub decreases-steps : goal.decreases-steps
+decreases-steps l = 40 * l.depth + 26
+
+abbrev pub decreases-conditional : goal.decreases-conditional
+decreases-conditional l = 40 * l.depth + 21
+
+abbrev pub decreases-prim : goal.decreases-prim
+decreases-prim l = 40 * l.depth + 22
+
+abbrev pub decreases-post : goal.decreases-post
+decreases-post l = 40 * l.depth + 27
+
+abbrev pub decreases-a_bind : goal.decreases-a_bind
+decreases-a_bind l = 40 * l.depth + 21
+
+abbrev pub decreases-bindings : goal.decreases-bindings
+decreases-bindings l = 40 * l.depth + 22
+
+abbrev pub decreases-let_in : goal.decreases-let_in
+decreases-let_in l = 40 * l.depth + 23
+
+abbrev pub invariant-chain-chain : goal.invariant-chain-chain
+invariant-chain-chain l =
+    spec.chain (spec.level_of l.most l.depth l.height) l.height l.most (view l.fn.first) (from l.tokens l.start)
+    ≡ spec.chain (spec.level_of l.most l.depth l.height) l.height l.links (view l.left) (from l.tokens l.at)
+
+abbrev pub decreases-chain-chain : goal.decreases-chain-chain
+decreases-chain-chain l = l.links
+
+abbrev pub invariant-steps-steps : goal.invariant-steps-steps
+invariant-steps-steps l =
+    spec.steps l.depth (spec.level_of l.most l.depth 8) (spec.expr l.most l.depth) l.most (view l.fn.first) (from l.tokens l.start)
+    ≡ spec.steps l.depth (spec.level_of l.most l.depth 8) (spec.expr l.most l.depth) l.left (view l.source) (from l.tokens l.at)
+
+abbrev pub decreases-steps-steps : goal.decreases-steps-steps
+decreases-steps-steps l = l.left
+
+abbrev pub invariant-items-items : goal.invariant-items-items
+invariant-items-items l =
+    spec.items (spec.level_of l.most l.depth 8) (length (from l.tokens l.start)) [] (from l.tokens l.start)
+    ≡ spec.items (spec.level_of l.most l.depth 8) (length (from l.tokens l.start) - l._turn) (map view l.all.items) (from l.tokens l.at)
+
+abbrev pub invariant-bindings-bindings : goal.invariant-bindings-bindings
+invariant-bindings-bindings l =
+    spec.items (spec.a_bind l.depth (spec.level_of l.most l.depth 8)) (length (from l.tokens l.start)) [] (from l.tokens l.start)
+    ≡ spec.items (spec.a_bind l.depth (spec.level_of l.most l.depth 8)) (length (from l.tokens l.start) - l._turn) (map bound_of l.all.items) (from l.tokens l.at)

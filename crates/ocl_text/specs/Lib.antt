@@ -1,0 +1,12 @@
+pub mod Faults
+pub mod Tokens
+pub mod Lexical
+pub mod Front
+pub mod Strings
+pub mod Tree
+pub mod Grammar
+pub mod RuleText
+pub mod Laws
+pub mod Parse
+pub mod Context
+pub mod Gives

@@ -1,0 +1,9 @@
+pub mod Loop
+pub mod RuleNames
+pub mod Bytes
+pub mod Codec
+pub mod Fields
+pub mod Symbols
+pub mod Instructions
+pub mod Units
+pub mod Held

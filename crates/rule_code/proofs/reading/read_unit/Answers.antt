@@ -1,0 +1,18 @@
+use Rattle.std.proofs.Common.{arith}
+use Rattle.rule_code.specs.Content.{content_of}
+use Rattle.rule_code.proofs.Units.{whole_takes, read_is, never_refused}
+use Rattle.rule_code.proofs.reading.read_unit.Goals as goal
+
+pub invariant_of-result : goal.invariant_of-result
+invariant_of-result c = record { is_unit = ∣ (whole_takes c.args.bytes.now (content_of c.in-Ok.texts.items c.in-Ok.symbols.items c.in-Ok.rules.items) (record { small = λ i. omega (arith, c.type_inv.bytes i) }) c.in-Ok.ensures).0 ∣₁ }
+
+pub returns-in-Ok-clause-found : goal.returns-in-Ok-clause-found
+returns-in-Ok-clause-found c = (whole_takes c.args.bytes.now (content_of c.in-Ok.texts.items c.in-Ok.symbols.items c.in-Ok.rules.items) (record { small = λ i. omega (arith, c.type_inv.bytes i) }) c.in-Ok.ensures).1
+
+pub returns-in-Ok-clause-only : goal.returns-in-Ok-clause-only
+returns-in-Ok-clause-only c = λ u fits e. read_is c.args.bytes.now u (content_of c.in-Ok.texts.items c.in-Ok.symbols.items c.in-Ok.rules.items) fits e c.in-Ok.ensures
+
+pub returns-in-Err-Fault-clause-only : goal.returns-in-Err-Fault-clause-only
+returns-in-Err-Fault-clause-only c = λ u fits e.
+    let refused = rw c.in-Err-Fault.field-0-is at c.in-Err-Fault.ensures in
+    absurd (never_refused c.args.bytes.now u (record { flaw = c.in-Err-Fault.flaw; left = c.in-Err-Fault.left }) fits e refused)

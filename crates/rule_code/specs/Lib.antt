@@ -1,0 +1,12 @@
+pub mod FaultNumber
+pub mod SymbolTag
+pub mod Names
+pub mod Content
+pub mod Spelling
+pub mod WellFormed
+pub mod View
+pub mod Reading
+pub mod Opcodes
+pub mod Parts
+pub mod CodeFile
+pub mod Taken
