@@ -99,7 +99,6 @@ two_there p a b (w ∷ os) h = by_rest os (and_right (is_in p w a) (are_in p (b 
     by_rest [] h = cc
     by_rest (v ∷ rest) h = (w, v, rest, refl)
 
-
 -- a feature is read from what is in the class that its symbol names
 reads : (p : Population) (c f : ℕ) (v : Value) → IsConsistent p → belongs p.model c f ≡ true → is_single (feature_at p.model f).upper ≡ true → is_in p v (object_of c) ≡ true → (r : Value) × (read_from p f v ≡ Some r) × (is_in p r (feature_kind (feature_at p.model f)) ≡ true)
 reads p c f value.Invalid consistent belonging single h = (value.Invalid, refl, refl)

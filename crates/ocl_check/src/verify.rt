@@ -14,12 +14,11 @@ mod rules;
 
 pub use accepted::Accepted;
 pub use fault::{Flaw, VerifyFault};
+use imkl_model::ClassModel;
 pub use kind::{ElementKind, Kind};
 pub use linked::Linked;
-pub use named::Named;
-
-use imkl_model::ClassModel;
 use linked::names_of;
+pub use named::Named;
 use rule_code::Unit;
 use rules::check_rules;
 use std::alloc::Global;

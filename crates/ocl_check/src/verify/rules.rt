@@ -18,7 +18,9 @@ use rule_code::{Instr, SymbolNumber};
 use std::alloc::Global;
 
 const VOID: Kind = Kind::Single(ElementKind::Void);
+
 const TRUTH: Kind = Kind::Single(ElementKind::Boolean);
+
 const WHOLE_NUMBER: Kind = Kind::Single(ElementKind::Integer);
 
 fn is_single(upper: Option<u32>) -> bool
@@ -73,7 +75,13 @@ fn read_feature(
             model.well_formed();
             let info = model.feature_info(feature);
             let holder = Kind::Single(ElementKind::Class(class));
-            apply(model, operands, &[holder], is_single(info.upper), feature_kind(info))
+            apply(
+                model,
+                operands,
+                &[holder],
+                is_single(info.upper),
+                feature_kind(info),
+            )
         }
         _ => Err(Stop::Wrong(Flaw::NoSuchName)),
     }

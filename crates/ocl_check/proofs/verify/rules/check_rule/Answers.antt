@@ -33,7 +33,9 @@ returns c =
     let r = c.rule-rule.result.now in
     let past : length r.code.items ≤ c.instructions.at = omega (arith, c.len-at-end.ensures, r.code.ok.0) in
     let one : is_one_truth v.model c.instructions.operands ≡ false = ap (λ m. is_one_truth m c.instructions.operands) (sym c.model.ensures) ∙ sym c.is_one_truth.ensures ∙ c.if-is_one_truth.false in
-    let len : length r.code.items ≡ c.len.result = omega (arith, c.len.ensures, r.code.ok.0) in
-    (refl, ends_rule v c.args.place (rule_content r) c.in-Some.context c.instructions.at c.instructions.operands false
-    (record { u = content c.unit.result.now; same = c.unit.ensures; is = c.rule-rule.ensures.rule }) (sym c.in-Some.ensures.class) c.instructions.invariant past one
-    ∙ ap (check false LeftOver) len)
+    let len : length r.code.items ≡ c.len.result = omega (arith, c.len.ensures, r.code.ok.0) in (
+      refl,
+      ends_rule v c.args.place (rule_content r) c.in-Some.context c.instructions.at c.instructions.operands false
+          (record { u = content c.unit.result.now; same = c.unit.ensures; is = c.rule-rule.ensures.rule }) (sym c.in-Some.ensures.class) c.instructions.invariant past one
+          ∙ ap (check false LeftOver) len,
+    )
