@@ -14,3 +14,6 @@ pub mod Laws
 pub mod Walk
 pub mod Verifying
 pub mod Shown
+pub mod Report
+pub mod Reply
+pub mod Answers

@@ -1,0 +1,90 @@
+//! What a command prints, and the status with which it ends.
+
+ghost use Rattle.std.specs.Prelude.{◌≡◌, string_bytes, IfOk};
+ghost use Rattle.ocl_check.specs.Reply.{said, refused_model, refused_delivery, refused_code, refused_verify};
+
+use crate::verify::Flaw;
+use imkl_delivery::DeliveryFault;
+use imkl_model::ModelFault;
+use std::alloc::{AllocError, Global};
+
+/// The status of a command whose input is refused.
+const REFUSED: u8 = 2;
+
+/// What a command prints on standard output, and its exit status.
+#[derive(Drop)]
+pub struct Reply {
+    pub text: String,
+    pub status: u8,
+}
+
+/// The reply to a class model that is refused.
+pub(crate) fn refused_model(alloc: Global, fault: &ModelFault) -> Result<Reply, AllocError>
+    ensures { IfOk result (λ r. said r ≡ refused_model fault.now) }
+{
+    let number = fault.number();
+    Ok(Reply {
+        text: format!(in alloc; "refused model {number}\n")?,
+        status: REFUSED,
+    })
+}
+
+/// The line for a delivery that is refused.
+fn delivery_line(alloc: Global, fault: &DeliveryFault) -> Result<String, AllocError>
+    ensures { IfOk result (λ s. (string_bytes s, 2) ≡ refused_delivery fault.now) }
+{
+    let number = fault.number();
+    match fault {
+        DeliveryFault::UnknownClass { object }
+        | DeliveryFault::UnknownFeature { object }
+        | DeliveryFault::UnknownTarget { object } => {
+            format!(in alloc; "refused delivery {number} {object}\n")
+        }
+        DeliveryFault::Population { object, fault } => {
+            let number = fault.number();
+            format!(in alloc; "refused delivery 7 {object} {number}\n")
+        }
+        _ => format!(in alloc; "refused delivery {number}\n"),
+    }
+}
+
+/// The reply to a delivery that is refused.
+pub(crate) fn refused_delivery(alloc: Global, fault: &DeliveryFault) -> Result<Reply, AllocError>
+    ensures { IfOk result (λ r. said r ≡ refused_delivery fault.now) }
+{
+    Ok(Reply {
+        text: delivery_line(alloc, fault)?,
+        status: REFUSED,
+    })
+}
+
+/// The reply to a code file that is refused at a byte.
+pub(crate) fn refused_code(
+    alloc: Global,
+    flaw: rule_code::Flaw,
+    offset: usize,
+) -> Result<Reply, AllocError>
+    ensures { IfOk result (λ r. said r ≡ refused_code (record { flaw = flaw; offset = offset })) }
+{
+    let number = flaw as u8;
+    Ok(Reply {
+        text: format!(in alloc; "refused code {number} {offset}\n")?,
+        status: REFUSED,
+    })
+}
+
+/// The reply to code that is not accepted, at an instruction of a rule.
+pub(crate) fn refused_verify(
+    alloc: Global,
+    flaw: Flaw,
+    rule: usize,
+    at: usize,
+) -> Result<Reply, AllocError>
+    ensures { IfOk result (λ r. said r ≡ refused_verify (record { flaw = flaw; rule = rule; at = at })) }
+{
+    let number = flaw as u8;
+    Ok(Reply {
+        text: format!(in alloc; "refused verify {number} {rule} {at}\n")?,
+        status: REFUSED,
+    })
+}
