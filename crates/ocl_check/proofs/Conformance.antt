@@ -1,5 +1,5 @@
 -- Conformance goes along chains.
-use Rattle.std.proofs.Common.{◌≡◌, ℕ, zero, suc, ◌<◌, Bool, true, false, ◌&&◌, ◌||◌, List, refl, sym, ap, ◌∙◌, subst}
+use Rattle.std.proofs.Common.{◌≡◌, ℕ, zero, suc, true, List, sym, subst}
 use Rattle.imkl_model.specs.Chains as chains
 use Rattle.imkl_model.specs.ClassModel.{Model, supers, conforms}
 use Rattle.imkl_model.proofs.Warshall.{conforms-decides}

@@ -1,6 +1,6 @@
 -- Values in kinds.
-use Rattle.std.proofs.Common.{◌≡◌, ℕ, zero, suc, ◌<◌, Bool, true, false, ◌&&◌, ◌||◌, not, List, [], ◌∷◌, length, Option, Some, None, ℤ, refl, sym, ap, ◌∙◌, subst, eqb-true}
-use Rattle.std.specs.Prelude.{nat_lt, if◌then◌else◌, ◌==◌, int_lt, int_le}
+use Rattle.std.proofs.Common.{◌≡◌, ℕ, Bool, true, false, ◌&&◌, ◌||◌, List, [], ◌∷◌, length, Option, Some, None, ℤ, refl, eqb-true}
+use Rattle.std.specs.Prelude.{nat_lt, if◌then◌else◌, ◌==◌}
 use Rattle.std.specs.List.{list_all}
 use Rattle.imkl_model.specs.declared.feature.CollectionKind.{CollectionKind}
 use Rattle.imkl_model.specs.declared.feature.CollectionKind.TheVariants as collection
@@ -15,7 +15,7 @@ use Rattle.ocl_check.specs.declared.verify.kind.ElementKind.{ElementKind}
 use Rattle.ocl_check.specs.declared.verify.kind.ElementKind.TheVariants as element
 use Rattle.ocl_check.specs.declared.verify.kind.Kind.{Kind}
 use Rattle.ocl_check.specs.declared.verify.kind.Kind.TheVariants as kind
-use Rattle.ocl_check.specs.Kinds.{element_fits, is_same_collection, fits, fit, past, element_kind, truth, whole_number}
+use Rattle.ocl_check.specs.Kinds.{element_fits, is_same_collection, fits, fit, past, element_kind, truth}
 use Rattle.ocl_check.specs.Value.{Value, Invalid, Null, Plain, Collection, is_scalar_in, is_element_in, is_in}
 use Rattle.ocl_check.specs.Operations.{comparison, negation, conjunction, single_value, is_true, is_false}
 use Rattle.ocl_check.specs.Machine.{are_in}

@@ -6,3 +6,5 @@ pub mod Runs
 pub mod Takes
 pub mod Walks
 pub mod Steps
+pub mod Reports
+pub mod Judging

@@ -1,30 +1,42 @@
 -- What a report says, object by object and rule by rule.
-use Rattle.std.proofs.Common.{◌≡◌, ℕ, zero, suc, ◌+◌, ◌<◌, ◌≤◌, List, [], ◌∷◌, ◌++◌, length, map, filter, take, get_or, refl, sym, ap, ◌∙◌, arith, length-append, append_assoc}
+use Rattle.std.proofs.Common.{◌≡◌, ℕ, zero, suc, ◌+◌, ◌<◌, ◌≤◌, List, [], ◌∷◌, ◌++◌, length, map, filter, take, get_or, refl, sym, ap, ◌∙◌, arith, length-append, append_assoc, length-take, subst, All, Some}
 use Rattle.std.specs.List.{flat_map}
-use Rattle.std.proofs.lemmas.List.{flat_map_more, map_more}
-use Rattle.std.proofs.lemmas.List.Elements.{filter-append}
-use Rattle.std.proofs.Math.Seq.{take-suc}
-use Rattle.imkl_population.specs.Population.{Population, object_at}
+use Rattle.std.proofs.lemmas.List.{flat_map_more, length-map, map_more}
+use Rattle.std.proofs.lemmas.List.Elements.{filter-append, All-get_or}
+use Rattle.std.proofs.Math.Seq.{take-suc, take-length}
+use Rattle.imkl_population.specs.Population.{Population, object_at, IsInstance}
 use Rattle.rule_code.specs.Content.{Content}
 use Rattle.ocl_check.specs.declared.machine.Verdict.{Verdict}
 use Rattle.ocl_check.specs.declared.machine.Verdict.TheVariants.{Holds, Fails, Undecided}
-use Rattle.ocl_check.specs.Report.{is_same, count, counted, tally_of, line_of, object_line, name_of, verdict_on, verdicts, context_objects, rule_line, rule_report, reports_below, fails_below, undecided_below}
+use Rattle.ocl_check.specs.declared.report.Tally.{Tally}
+use Rattle.ocl_check.specs.Kinds.{context_of, rule_at}
+use Rattle.ocl_check.specs.Laws.{IsContextObject}
+use Rattle.ocl_check.specs.Report.{is_same, count, counted, tally_of, line_of, object_line, name_of, verdict_on, verdicts, context_objects, rule_line, rule_report, reports_below, fails_below, undecided_below, status_by}
+
+pub plus_one : (n : ℕ) → n + 1 ≡ suc n
+plus_one n = omega arith
 
 -- what is written of one object more
 pub text_more : (f : ℕ → List ℕ) (os : List ℕ) (i d : ℕ) (before here after : List ℕ)
-    → i < length os → here ≡ before ++ flat_map f (take i os) → after ≡ here ++ f (get_or os i d) → after ≡ before ++ flat_map f (take (suc i) os)
+    → i < length os → here ≡ before ++ flat_map f (take i os) → after ≡ here ++ f (get_or os i d) → after ≡ before ++ flat_map f (take (i + 1) os)
 text_more f os i d before here after within so next =
     next ∙ ap (λ (x : List ℕ). x ++ f (get_or os i d)) so ∙ flat_map_more f before (take i os) (get_or os i d)
-    ∙ ap (λ (xs : List ℕ). before ++ flat_map f xs) (sym (take-suc os i d within))
+    ∙ ap (λ (xs : List ℕ). before ++ flat_map f xs) (sym (ap (λ n. take n os) (plus_one i) ∙ take-suc os i d within))
 
 pub count_more : (v w : Verdict) (vs : List Verdict) → count v (vs ++ w ∷ []) ≡ count v vs + count v (w ∷ [])
 count_more v w vs = ap length (filter-append (is_same v) vs (w ∷ [])) ∙ length-append (filter (is_same v) vs) (filter (is_same v) (w ∷ []))
 
+pub count_again : (v w : Verdict) (vs : List Verdict) → count v (w ∷ []) ≡ 1 → count v (vs ++ w ∷ []) ≡ suc (count v vs)
+count_again v w vs one = omega (arith, count_more v w vs, one)
+
+pub count_stays : (v w : Verdict) (vs : List Verdict) → count v (w ∷ []) ≡ 0 → count v (vs ++ w ∷ []) ≡ count v vs
+count_stays v w vs none = omega (arith, count_more v w vs, none)
+
 -- one verdict more
 pub tally_more : (vs : List Verdict) (w : Verdict) → tally_of (vs ++ w ∷ []) ≡ counted (tally_of vs) w
-tally_more vs Holds = rw (count_more Holds Holds vs, count_more Fails Holds vs, count_more Undecided Holds vs) refl
-tally_more vs Fails = rw (count_more Holds Fails vs, count_more Fails Fails vs, count_more Undecided Fails vs) refl
-tally_more vs Undecided = rw (count_more Holds Undecided vs, count_more Fails Undecided vs, count_more Undecided Undecided vs) refl
+tally_more vs Holds = rw (count_again Holds Holds vs refl, count_stays Fails Holds vs refl, count_stays Undecided Holds vs refl) refl
+tally_more vs Fails = rw (count_stays Holds Fails vs refl, count_again Fails Fails vs refl, count_stays Undecided Fails vs refl) refl
+tally_more vs Undecided = rw (count_stays Holds Undecided vs refl, count_stays Fails Undecided vs refl, count_again Undecided Undecided vs refl) refl
 
 -- each verdict is counted once
 pub counts_add_up : (vs : List Verdict) → count Holds vs + count Fails vs + count Undecided vs ≡ length vs
@@ -33,8 +45,91 @@ counts_add_up (Holds ∷ vs) = omega (arith, counts_add_up vs)
 counts_add_up (Fails ∷ vs) = omega (arith, counts_add_up vs)
 counts_add_up (Undecided ∷ vs) = omega (arith, counts_add_up vs)
 
--- an object that doesn't hold has a line of its own
+-- the tally of the first n of the objects counts no more than n
+pub tally_within : (f : ℕ → Verdict) (os : List ℕ) (n : ℕ) (t : Tally) → t ≡ tally_of (map f (take n os)) → t.holds + t.fails + t.undecided ≤ n
+tally_within f os n t is = omega (arith, ap (λ x. x.holds) is, ap (λ x. x.fails) is, ap (λ x. x.undecided) is, counts_add_up (map f (take n os)), length-map (take n os) f, length-take n os)
+
+-- the tally of one object more
+pub tally_next : (f : ℕ → Verdict) (os : List ℕ) (i d : ℕ) (t : Tally) → i < length os → t ≡ tally_of (map f (take i os)) → counted t (f (get_or os i d)) ≡ tally_of (map f (take (i + 1) os))
+tally_next f os i d t within is =
+    ap (λ x. counted x (f (get_or os i d))) is ∙ sym (tally_more (map f (take i os)) (f (get_or os i d)))
+    ∙ ap tally_of (sym (map_more f os i d within))
+
+-- what stands of all objects stands of each
+pub each_one : (P : ℕ → Type 0) (os : List ℕ) (i o : ℕ) → i < length os → o ≡ get_or os i o → All P os → P o
+each_one P os i o within is all = subst P (sym is) (All-get_or P os i o within all)
+
+-- an instance of the context class is an object for which the rule is judged
+pub is_context_object : (u : Content) (p : Population) (r c o : ℕ) → context_of p.model u (rule_at u r) ≡ Some c → IsInstance p c o → IsContextObject u p r o
+is_context_object u p r c o context instance = rw context instance.1
+
+pub line_is : (u : Content) (p : Population) (r o : ℕ) (v : Verdict) (name id : List ℕ)
+    → v ≡ verdict_on u p r o → name ≡ name_of u r → id ≡ (object_at p o).id → line_of v name id ≡ object_line u p r o
+line_is u p r o v name id verdict named known = rw (verdict, named, known) refl
+
+-- a verdict that is counted has a line
+pub line_of_counted : (v : Verdict) (name id : List ℕ) → count Fails (v ∷ []) + count Undecided (v ∷ []) ≤ length (line_of v name id)
+line_of_counted Holds name id = omega arith
+line_of_counted Fails name id = omega arith
+line_of_counted Undecided name id = omega arith
+
+pub count_first : (v w : Verdict) (vs : List Verdict) → count v (w ∷ vs) ≡ count v (w ∷ []) + count v vs
+count_first Holds Holds vs = omega arith
+count_first Holds Fails vs = omega arith
+count_first Holds Undecided vs = omega arith
+count_first Fails Holds vs = omega arith
+count_first Fails Fails vs = omega arith
+count_first Fails Undecided vs = omega arith
+count_first Undecided Holds vs = omega arith
+count_first Undecided Fails vs = omega arith
+count_first Undecided Undecided vs = omega arith
+
 pub lines_of_counted : (u : Content) (p : Population) (r : ℕ) (os : List ℕ)
     → count Fails (map (verdict_on u p r) os) + count Undecided (map (verdict_on u p r) os) ≤ length (flat_map (object_line u p r) os)
 lines_of_counted u p r [] = omega arith
-lines_of_counted u p r (o ∷ os) = ?
+lines_of_counted u p r (o ∷ os) =
+    let v = verdict_on u p r o in
+    let vs = map (verdict_on u p r) os in
+    let line = object_line u p r o in
+    let lines = flat_map (object_line u p r) os in
+    omega (arith, lines_of_counted u p r os, line_of_counted v (name_of u r) (object_at p o).id, count_first Fails v vs, count_first Undecided v vs, length-append line lines)
+
+-- the lines of all objects, and then the line of the rule
+pub report_is : (u : Content) (p : Population) (r : ℕ) (os : List ℕ) (i : ℕ) (name : List ℕ) (t : Tally) (before here after : List ℕ)
+    → os ≡ context_objects u p r → i ≡ length os → name ≡ name_of u r → t ≡ tally_of (map (verdict_on u p r) (take i os))
+    → here ≡ before ++ flat_map (object_line u p r) (take i os) → after ≡ here ++ rule_line name (length os) t
+    → after ≡ before ++ rule_report u p r
+report_is u p r os i name t before here after objects end named tally so next =
+    let whole : take i os ≡ os = ap (λ n. take n os) end ∙ take-length os in
+    let lines : flat_map (object_line u p r) (take i os) ++ rule_line name (length os) t ≡ rule_report u p r = rw (tally, named, whole, objects) refl in
+    next ∙ ap (λ x. x ++ rule_line name (length os) t) so ∙ append_assoc before (flat_map (object_line u p r) (take i os)) (rule_line name (length os) t)
+    ∙ ap (λ x. before ++ x) lines
+
+-- what is said of one rule more
+pub reports_more : (u : Content) (p : Population) (r : ℕ) (here after : List ℕ)
+    → here ≡ reports_below u p r → after ≡ here ++ rule_report u p r → after ≡ reports_below u p (r + 1)
+reports_more u p r here after so next = next ∙ ap (λ x. x ++ rule_report u p r) so ∙ ap (reports_below u p) (sym (plus_one r))
+
+-- what is counted has lines
+pub reports_of_counted : (u : Content) (p : Population) (n : ℕ) → fails_below u p n + undecided_below u p n ≤ length (reports_below u p n)
+reports_of_counted u p zero = omega arith
+reports_of_counted u p (suc r) =
+    let lines = flat_map (object_line u p r) (context_objects u p r) in
+    let line = rule_line (name_of u r) (length (context_objects u p r)) (tally_of (verdicts u p r)) in
+    omega (arith, reports_of_counted u p r, lines_of_counted u p r (context_objects u p r), length-append lines line, length-append (reports_below u p r) (lines ++ line))
+
+-- one rule more is counted
+pub fails_more : (u : Content) (p : Population) (r fails : ℕ) (t : Tally) → fails ≡ fails_below u p r → t ≡ tally_of (verdicts u p r) → fails + t.fails ≡ fails_below u p (r + 1)
+fails_more u p r fails t so is = rw (so, is) (ap (fails_below u p) (sym (plus_one r)))
+
+pub undecided_more : (u : Content) (p : Population) (r undecided : ℕ) (t : Tally) → undecided ≡ undecided_below u p r → t ≡ tally_of (verdicts u p r) → undecided + t.undecided ≡ undecided_below u p (r + 1)
+undecided_more u p r undecided t so is = rw (so, is) (ap (undecided_below u p) (sym (plus_one r)))
+
+-- what is counted is no more than the bytes written
+pub counted_within : (u : Content) (p : Population) (n fails undecided : ℕ) (bytes : List ℕ)
+    → fails ≡ fails_below u p n → undecided ≡ undecided_below u p n → bytes ≡ reports_below u p n → fails + undecided ≤ length bytes
+counted_within u p n fails undecided bytes f d b = omega (arith, f, d, ap length b, reports_of_counted u p n)
+
+pub status_is : (n s : ℕ) → (n ≡ 0 → s ≡ 0) → (¬ (n ≡ 0) → s ≡ 1) → s ≡ status_by n
+status_is zero s none some = none refl
+status_is (suc n) s none some = some (λ e. omega (arith, e))

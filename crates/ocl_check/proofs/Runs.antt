@@ -1,8 +1,7 @@
 -- Runs of accepted code.
-use Rattle.std.proofs.Common.{◌≡◌, ◌⊎◌, inl, inr, ℕ, zero, suc, ◌<◌, ◌≤◌, ◌+◌, Bool, true, false, ◌&&◌, List, [], ◌∷◌, length, get_or, Option, Some, None, Result, Ok, Err, refl, sym, ap, ◌∙◌, subst, IfSome, arith}
-use Rattle.std.specs.Prelude.{nat_lt, nat_le, if◌then◌else◌, ◌==◌, option_and_then, int_lt, int_le}
+use Rattle.std.proofs.Common.{◌≡◌, ◌⊎◌, inl, inr, ℕ, zero, suc, ◌<◌, ◌≤◌, ◌+◌, Bool, true, false, ◌&&◌, List, [], ◌∷◌, length, get_or, Option, Some, None, Result, Ok, Err, refl, sym, ap, ◌∙◌, subst, arith}
+use Rattle.std.specs.Prelude.{nat_lt, nat_le, if◌then◌else◌, option_and_then, int_lt, int_le}
 use Rattle.std.specs.Option.{option_map}
-use Rattle.std.specs.List.{list_all}
 use Rattle.std.proofs.lemmas.Bool.{ltb-true, lt-ltb}
 use Rattle.imkl_model.specs.ClassModel.{Model, conforms, belongs, feature_at}
 use Rattle.imkl_population.specs.declared.scalar.Scalar.TheVariants as scalar
@@ -22,13 +21,13 @@ use Rattle.ocl_check.specs.CodeTree.{Tree, End, Plain, size, tree_of}
 use Rattle.ocl_check.specs.Symbols.{named_at}
 use Rattle.ocl_check.specs.Known.{IsKnownName}
 use Rattle.ocl_check.specs.Stage.{names_single, is_of_this_stage}
-use Rattle.ocl_check.specs.Kinds.{Refusal, ◌>>=◌, check, found, has, fit, fits, past, takes, gives, holder_of, kind_read, feature_kind, element_kind, object_of, truth, whole_number, most_operands, Scope, scope, effect, kinds, judged, is_one_truth, context_of, class_in, rule_judged, Located, first_of, first_fault_from, IsAccepted, rule_at, no_rule}
+use Rattle.ocl_check.specs.Kinds.{Refusal, ◌>>=◌, check, found, has, fit, past, takes, gives, holder_of, kind_read, feature_kind, element_kind, object_of, truth, whole_number, most_operands, Scope, scope, effect, kinds, judged, is_one_truth, context_of, rule_judged, first_of, first_fault_from, IsAccepted, rule_at, no_rule}
 use Rattle.ocl_check.specs.Value as value
 use Rattle.ocl_check.specs.Value.{Value, is_in}
 use Rattle.ocl_check.specs.Operations.{feature_value, single_value, less_than, at_least, negation, conjunction}
-use Rattle.ocl_check.specs.Machine.{Setting, Piece, Sequence, Configuration, configuration, step, run, is_final, start, are_in, read_from, read_named, result_of, performed_with, performed}
+use Rattle.ocl_check.specs.Machine.{Setting, Sequence, Configuration, configuration, step, run, is_final, are_in, read_from, read_named, result_of, performed_with, performed}
 use Rattle.ocl_check.specs.Verdict.{ended_by, next_or, outcome, verdict_at}
-use Rattle.ocl_check.specs.Laws.{IsContextObject, IsTask, setting_of, start_of}
+use Rattle.ocl_check.specs.Laws.{IsTask, setting_of, start_of}
 use Rattle.ocl_check.proofs.Conformance.{conforms-trans}
 use Rattle.ocl_check.proofs.InKinds.{and_left, and_right, and_both, fits_in, AllIn, fit_in, past_in, comparison_in, negation_in, conjunction_in, attribute_in, end_in}
 use Rattle.ocl_check.proofs.SymbolLaws.{at_some, named_known}

@@ -1,39 +1,28 @@
 -- The machine's steps are those of its configuration.
-use Rattle.std.proofs.Common.{◌≡◌, ℕ, zero, suc, ◌+◌, ◌<◌, ◌≤◌, Bool, true, false, ◌&&◌, List, [], ◌∷◌, length, map, get_or, drop, Option, Some, None, IsSome, refl, sym, ap, ◌∙◌, subst, arith}
-use Rattle.std.specs.Prelude.{nat_lt, if◌then◌else◌, option_and_then}
-use Rattle.std.specs.Option.{option_map}
+use Rattle.std.proofs.Common.{◌≡◌, ℕ, ◌+◌, ◌<◌, ◌≤◌, Bool, true, List, [], ◌∷◌, length, map, get_or, drop, Option, Some, None, refl, sym, ap, ◌∙◌, subst, arith}
+use Rattle.std.specs.Prelude.{nat_lt, if◌then◌else◌}
 use Rattle.std.proofs.lemmas.Bool.{ltb-true}
 use Rattle.std.proofs.lemmas.List.{drop_more, drop_all}
-use Rattle.imkl_model.specs.ClassModel.{Model, belongs, conforms, feature_at}
+use Rattle.imkl_model.specs.ClassModel.{belongs, conforms, feature_at}
 use Rattle.imkl_population.specs.declared.scalar.Scalar.TheVariants as scalar
 use Rattle.imkl_population.specs.Population.{Population, class_of, values_of}
 use Rattle.imkl_population.specs.Values.{is_single}
-use Rattle.imkl_population.specs.Consistency.{IsConsistent}
 use Rattle.rule_code.specs.declared.instruction.Instr.{Instr}
-use Rattle.rule_code.specs.declared.instruction.Instr.TheVariants as instrs
-use Rattle.rule_code.specs.declared.symbol.SymbolNumber.{SymbolNumber}
 use Rattle.rule_code.specs.Content.{Content}
 use Rattle.ocl_check.specs.declared.verify.kind.Kind.{Kind}
-use Rattle.ocl_check.specs.declared.verify.named.Named.{Named}
-use Rattle.ocl_check.specs.declared.verify.named.Named.TheVariants as named
-use Rattle.ocl_check.specs.declared.machine.Verdict.{Verdict}
 use Rattle.ocl_check.specs.declared.machine.value.Value.{Value as Held}
 use Rattle.ocl_check.specs.CodeTree.{Tree, End, Plain, size, tree_of}
-use Rattle.ocl_check.specs.Symbols.{named_at}
-use Rattle.ocl_check.specs.Stage.{is_of_this_stage, names_single}
-use Rattle.ocl_check.specs.Kinds.{takes, past, object_of, rule_at, holder_of, effect, kinds, scope}
-use Rattle.ocl_check.specs.Known.{IsKnownName}
+use Rattle.ocl_check.specs.Kinds.{takes, rule_at, effect, kinds, scope}
 use Rattle.ocl_check.specs.Value as value
 use Rattle.ocl_check.specs.Value.{Value, is_in}
 use Rattle.ocl_check.specs.Operations.{single_value, feature_value}
-use Rattle.ocl_check.specs.Machine.{Setting, Configuration, are_in, read_from, read_named, result_of, performed_with, performed, step}
+use Rattle.ocl_check.specs.Machine.{Configuration, are_in, read_from, performed}
 use Rattle.ocl_check.specs.Verdict.{verdict_of, ended_by, next_or, outcome, verdict_at}
 use Rattle.ocl_check.specs.Laws.{IsTask, setting_of, start_of}
 use Rattle.ocl_check.specs.Shown.{meant, all_meant, IsHolder, CanPerform}
 use Rattle.ocl_check.proofs.Conformance.{conforms-trans}
 use Rattle.ocl_check.proofs.InKinds.{and_left, and_right, fit_in}
-use Rattle.ocl_check.proofs.SymbolLaws.{at_some, named_known}
-use Rattle.ocl_check.proofs.Runs.{HasEffect, effect_inv, then_inv, performed_so, Going, goes, one_operand, at_tree, one_step, Task, task_of, size-tree_of}
+use Rattle.ocl_check.proofs.Runs.{effect_inv, then_inv, Going, goes, one_operand, at_tree, one_step, Task, task_of, size-tree_of}
 
 -- the operands are there
 are_there : (p : Population) (ws : List Kind) (os : List Held) → are_in p ws (all_meant os) ≡ true → length ws ≤ length os

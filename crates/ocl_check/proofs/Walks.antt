@@ -1,9 +1,8 @@
 -- The verifier's walk over a rule, and over the rules of a unit.
-use Rattle.std.proofs.Common.{◌≡◌, ℕ, zero, suc, ◌+◌, ◌<◌, ◌≤◌, Bool, true, false, List, [], ◌∷◌, length, get_or, drop, Option, Some, None, Result, Ok, Err, refl, sym, ap, ◌∙◌, subst, arith}
+use Rattle.std.proofs.Common.{◌≡◌, ℕ, ◌+◌, ◌<◌, ◌≤◌, Bool, List, [], length, get_or, drop, Option, Some, None, Result, Ok, Err, refl, sym, ap, ◌∙◌, subst}
 use Rattle.std.specs.Prelude.{slice_get}
 use Rattle.std.proofs.lemmas.List.{drop_more, drop_all}
 use Rattle.std.proofs.lemmas.Option.{get_or_from_slice_get, slice_get-get_or}
-use Rattle.imkl_model.specs.ClassModel.{Model}
 use Rattle.rule_code.specs.declared.instruction.Instr.{Instr}
 use Rattle.rule_code.specs.declared.instruction.Instr.TheVariants as instrs
 use Rattle.rule_code.specs.declared.symbol.SymbolNumber.{SymbolNumber}
@@ -13,10 +12,10 @@ use Rattle.ocl_check.specs.declared.verify.fault.Flaw.{Flaw}
 use Rattle.ocl_check.specs.declared.verify.fault.Flaw.TheVariants as flaws
 use Rattle.ocl_check.specs.declared.verify.fault.Stop.{Stop}
 use Rattle.ocl_check.specs.declared.verify.fault.Stop.TheVariants as stops
-use Rattle.ocl_check.specs.CodeTree.{Tree, Plain, size, tree_of}
+use Rattle.ocl_check.specs.CodeTree.{size, tree_of}
 use Rattle.ocl_check.specs.Symbols.{named_at}
 use Rattle.ocl_check.specs.Linked.{LinkedUnit}
-use Rattle.ocl_check.specs.Kinds.{Refusal, ◌>>=◌, refuse, check, found, scope, effect, kinds, judged, is_one_truth, class_in, context_of, rule_judged, rule_at, no_rule, Located, first_of, first_fault_from, first_fault, IsAccepted}
+use Rattle.ocl_check.specs.Kinds.{Refusal, ◌>>=◌, refuse, check, found, scope, effect, kinds, judged, is_one_truth, class_in, context_of, rule_judged, rule_at, no_rule, first_of, first_fault_from, first_fault, IsAccepted}
 use Rattle.ocl_check.specs.Known.{AreKnownKinds}
 use Rattle.ocl_check.specs.Walk.{Comes, HasSymbol, RuleAnswers, stopped_at}
 use Rattle.ocl_check.proofs.Runs.{size-tree_of, rule_accepted}

@@ -1,5 +1,5 @@
 -- Configurations, their steps, and runs.
-use Rattle.std.specs.Prelude.{ℕ, zero, suc, ◌==◌, ◌&&◌, Bool, true, false, List, [], ◌∷◌, length, Option, Some, None, option_and_then, nat_lt, if◌then◌else◌}
+use Rattle.std.specs.Prelude.{ℕ, zero, suc, ◌==◌, ◌&&◌, Bool, true, false, List, [], ◌∷◌, length, Option, Some, None, option_and_then, if◌then◌else◌}
 use Rattle.std.specs.Option.{option_map}
 use Rattle.imkl_model.specs.ClassModel.{Model, feature_at, belongs}
 use Rattle.imkl_population.specs.declared.scalar.Scalar.TheVariants as scalar

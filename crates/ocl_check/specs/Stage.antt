@@ -1,5 +1,5 @@
 -- A limit of this stage: a feature that an instruction reads has upper bound 1. Beyond it the fault is WrongKind.
-use Rattle.std.specs.Prelude.{Bool, true, Option, Some, None}
+use Rattle.std.specs.Prelude.{Bool, true, Option, Some}
 use Rattle.imkl_model.specs.ClassModel.{Model, feature_at}
 use Rattle.imkl_population.specs.Values.{is_single}
 use Rattle.rule_code.specs.declared.instruction.Instr.{Instr}

@@ -1,5 +1,5 @@
 -- Values, and the kinds that they are in.
-use Rattle.std.specs.Prelude.{ℕ, ◌==◌, ◌&&◌, Bool, true, false, List, Option, Some, None, length, nat_lt}
+use Rattle.std.specs.Prelude.{◌==◌, ◌&&◌, Bool, true, false, List, Option, Some, None, length, nat_lt}
 use Rattle.std.specs.List.{list_all}
 use Rattle.imkl_model.specs.declared.feature.CollectionKind.{CollectionKind}
 use Rattle.imkl_model.specs.ClassModel.{conforms}

@@ -89,6 +89,7 @@ fn put_rule(
 {
     let name = accepted.rule_name(rule);
     let objects = population.instances(accepted.context(rule));
+    let checked = objects.len();
     let mut tally = Tally {
         holds: 0,
         fails: 0,
@@ -99,7 +100,7 @@ fn put_rule(
         tally.count(verdict);
         put_object(out, verdict, name, population.id(*object))?;
     }
-    put_rule_line(out, name, objects.len(), tally)?;
+    put_rule_line(out, name, checked, tally)?;
     Ok(tally)
 }
 

@@ -1,6 +1,6 @@
-use Rattle.std.proofs.Common.{◌≡◌, ◌<◌, ◌≤◌, [], ◌∷◌, Some, length, refl, sym, ap, ◌∙◌, subst, arith}
+use Rattle.std.proofs.Common.{◌≡◌, ◌<◌, Some, length, sym, ap, ◌∙◌, subst, arith}
 use Rattle.imkl_model.specs.ClassModel.{Model}
-use Rattle.rule_code.specs.Content.{Content, rule_content}
+use Rattle.rule_code.specs.Content.{rule_content}
 use Rattle.rule_code.specs.View.{content}
 use Rattle.ocl_check.specs.Linked.{LinkedUnit}
 use Rattle.ocl_check.specs.Kinds.{IsAccepted, rule_at}

@@ -1,4 +1,4 @@
-use Rattle.std.proofs.Common.{◌≡◌, List, [], ◌∷◌, Some, refl, sym, subst}
+use Rattle.std.proofs.Common.{◌≡◌, [], ◌∷◌, Some, refl, sym, subst}
 use Rattle.rule_code.specs.declared.instruction.Instr.{Instr}
 use Rattle.rule_code.specs.declared.instruction.Instr.TheVariants as instrs
 use Rattle.ocl_check.specs.Kinds.{truth, whole_number}

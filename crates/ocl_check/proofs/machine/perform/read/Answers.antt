@@ -1,4 +1,4 @@
-use Rattle.std.proofs.Common.{◌≡◌, Some, sym, subst, ◌∙◌}
+use Rattle.std.proofs.Common.{◌≡◌, Some, sym, subst}
 use Rattle.ocl_check.specs.declared.machine.value.Value.{Value}
 use Rattle.ocl_check.specs.Shown.{meant, IsHolder}
 use Rattle.ocl_check.specs.Machine.{read_from}

@@ -1,4 +1,4 @@
-use Rattle.std.proofs.Common.{sym, subst, length, List, ◌<◌}
+use Rattle.std.proofs.Common.{subst, length, List, ◌<◌}
 use Rattle.std.proofs.lemmas.Option.{slice_get-get_or}
 use Rattle.rule_code.specs.declared.symbol.Symbol.{Symbol}
 use Rattle.rule_code.specs.View.{content}

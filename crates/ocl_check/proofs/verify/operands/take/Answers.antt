@@ -1,4 +1,4 @@
-use Rattle.std.proofs.Common.{refl, sym, ◌∙◌}
+use Rattle.std.proofs.Common.{refl}
 use Rattle.ocl_check.proofs.Takes.{has_not, begins, known_at}
 use Rattle.ocl_check.proofs.verify.operands.take.Goals as goal
 

@@ -1,4 +1,4 @@
-use Rattle.std.proofs.Common.{◌≡◌, ◌<◌, ◌≤◌, true, false, List, length, refl, sym, ap, ◌∙◌, subst, Result, Err, arith}
+use Rattle.std.proofs.Common.{◌≡◌, ◌<◌, ◌≤◌, true, false, length, refl, sym, ap, ◌∙◌, subst, Err, arith}
 use Rattle.rule_code.specs.Content.{rule_content}
 use Rattle.rule_code.specs.View.{content}
 use Rattle.ocl_check.specs.declared.verify.fault.VerifyFault.{VerifyFault}
