@@ -40,7 +40,7 @@ judge() {
     measure "$room/$objects" "$program" judge \
         "$root/examples/catalogue.json" "$room/delivery.json" "$root/examples/min-depth.code" >"$room/report"
     status=$?
-    # (1 says only that some cables lie too high)
+    # (1 says only that some objects lie too shallow)
     [ "$status" -le 1 ] || fail "judge ended with status $status: $(head -n 1 "$room/report")"
     read -r seconds memory <"$room/$objects"
     awk -v n="$objects" -v s="$seconds" -v m="$memory" -v r="$(tail -n 1 "$room/report")" \
