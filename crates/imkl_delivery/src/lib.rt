@@ -6,6 +6,8 @@ mod fault;
 mod features;
 mod loading;
 mod scalars;
+#[cfg(test)]
+mod tests;
 
 pub use document::{Document, Entry};
 pub use fault::DeliveryFault;
