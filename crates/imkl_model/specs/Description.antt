@@ -10,7 +10,6 @@ use Rattle.imkl_model.specs.Chains.{is_cyclic}
 use Rattle.imkl_model.specs.Reading.{◌>>=◌, check}
 use Rattle.imkl_model.specs.Shape.{written_at}
 use Rattle.imkl_model.specs.Checks.{is_within_limits, repeats_name, has_multiplicity}
-use Rattle.imkl_model.specs.Stage.{is_of_this_stage}
 use Rattle.imkl_model.specs.Numbering.{numbered}
 
 -- the bytes are the JSON text of this tree
@@ -30,7 +29,6 @@ unfoldable pub describes_model : Data → Result Model ModelFault
 describes_model d = do
   w ← written_at d
   _ ← check (is_within_limits w) Limit
-  _ ← check (is_of_this_stage w) Limit
   _ ← check (not (repeats_name w)) DuplicateName
   m ← numbered w
   checked m

@@ -7,7 +7,6 @@ pub mod Reading
 pub mod Shape
 pub mod WrittenFeatures
 pub mod Checks
-pub mod Stage
 pub mod Scopes
 pub mod Numbering
 pub mod Bounds

@@ -3,11 +3,10 @@
 ghost use Rattle.std.specs.Prelude.{◌≡◌, length, nat_le};
 ghost use Rattle.std.specs.List.{list_all};
 ghost use Rattle.imkl_model.specs.Checks.{is_within_limits, is_multiplicity, has_multiplicity};
-ghost use Rattle.imkl_model.specs.Stage.{is_of_this_stage};
 ghost use Rattle.imkl_model.specs.WrittenFeatures.{written_features};
 
 use crate::feature::FeatureInfo;
-use crate::written::{Written, WrittenClass, WrittenEnumeration, WrittenFeature};
+use crate::written::{Written, WrittenEnumeration, WrittenFeature};
 
 /// The greatest count of classes, of enumerations, and of literals of one enumeration.
 const MOST_NAMES: usize = 4_096;
@@ -38,25 +37,6 @@ pub(crate) fn is_within_limits(written: &Written, features: &[WrittenFeature]) -
         && enumerations.len() <= MOST_NAMES
         && few_literals(enumerations)
         && features.len() <= MOST_FEATURES
-}
-
-fn one_superclass(classes: &[WrittenClass]) -> bool
-    ensures { result ≡ list_all (λ c. nat_le (length c.supers) 1) classes.now }
-{
-    for class in classes {
-        if class.supers.as_slice().len() > 1 {
-            return false;
-        }
-    }
-    true
-}
-
-/// Whether the class model keeps to the limit of this stage.
-#[tactic(auto, unfolding(crate::specs::Stage::is_of_this_stage))]
-pub(crate) fn is_of_this_stage(written: &Written) -> bool
-    ensures { result ≡ is_of_this_stage written.now }
-{
-    one_superclass(written.classes.as_slice())
 }
 
 fn is_multiplicity(lower: u32, upper: Option<u32>) -> bool

@@ -5,7 +5,7 @@ ghost use Rattle.serde_json.specs.View.{view};
 ghost use Rattle.imkl_model.specs.Reading.{Gives};
 ghost use Rattle.imkl_model.specs.Description.{Answers, IsTree, IsRefusal, describes_model};
 
-use crate::checks::{is_of_this_stage, is_within_limits};
+use crate::checks::is_within_limits;
 use crate::draft::draft_of;
 use crate::duplicates::repeats_name;
 use crate::fault::ModelFault;
@@ -35,9 +35,6 @@ fn described_of(alloc: Global, value: &Value) -> Result<ClassModel, ModelFault>
     let written = written_of(alloc, value)?;
     let features = written_features(alloc, &written)?;
     if !is_within_limits(&written, &features) {
-        return Err(ModelFault::Limit);
-    }
-    if !is_of_this_stage(&written) {
         return Err(ModelFault::Limit);
     }
     if repeats_name(alloc, &written, &features)? {

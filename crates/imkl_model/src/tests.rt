@@ -1,10 +1,4 @@
 use super::*;
-use crate::checks::is_within_limits;
-use crate::draft::draft_of;
-use crate::duplicates::repeats_name;
-use crate::feature_list::written_features;
-use crate::reading::tree;
-use crate::tree::written_of;
 use std::alloc::{AllocError, Global};
 use std::test::*;
 
@@ -209,8 +203,8 @@ fn faults(rt: HostRuntime) -> Result<(), Fail> {
         (r#"{"name":"1E","literals":[]}"#, "", "", 2),
         (r#"{"name":"E","name":"F","literals":[]}"#, "", "", 0),
         ("", TO_SELF, "", 2),
-        ("", DIAMOND, "", 8),
-        ("", SUPER_TWICE, "", 8),
+        ("", DIAMOND, "", 0),
+        ("", SUPER_TWICE, "", 3),
         ("", A, TO_SELF_ONE_NAME, 3),
         ("", A, NOWHERE_ONE_NAME, 3),
         ("", A, TO_NOWHERE, 4),
@@ -232,23 +226,9 @@ fn faults(rt: HostRuntime) -> Result<(), Fail> {
     Ok(())
 }
 
-/// Reads as a later stage will, with several direct superclasses.
-fn read_several(alloc: Global, bytes: &[u8]) -> Result<ClassModel, ModelFault> {
-    let value = tree(alloc, bytes)?;
-    let written = written_of(alloc, &value)?;
-    let features = written_features(alloc, &written)?;
-    if !is_within_limits(&written, &features) {
-        return Err(ModelFault::Limit);
-    }
-    if repeats_name(alloc, &written, &features)? {
-        return Err(ModelFault::DuplicateName);
-    }
-    ClassModel::new(draft_of(alloc, &written, &features)?)
-}
-
 /// The number of the fault of a document, or 0 where the class D has the feature x of the class A.
 fn several_number(alloc: Global, bytes: &[u8]) -> u8 {
-    match read_several(alloc, bytes) {
+    match ClassModel::read(alloc, bytes) {
         Ok(model) => {
             let Some(class) = model.class("D") else {
                 return 99;

@@ -165,12 +165,12 @@ fn tells_what_is_refused_first(rt: HostRuntime) -> Result<(), Fail> {
 
 /// A reader that gives one byte a call, and fails at a call.
 #[derive(Drop)]
-struct Drops {
+struct Trickle {
     left: u32,
     fails_at: u32,
 }
 
-impl Read for Drops {
+impl Read for Trickle {
     fn read(&mut self, buf: &mut [u8]) -> io::Result<usize> {
         if self.left == self.fails_at {
             return Err(Error::from(ErrorKind::Other));
@@ -185,10 +185,10 @@ impl Read for Drops {
 }
 
 /// What is read of so many bytes that come one at a time.
-fn drops(alloc: Global, count: u32, fails_at: u32, limit: u64) -> Result<usize, InputFault>
+fn trickled(alloc: Global, count: u32, fails_at: u32, limit: u64) -> Result<usize, InputFault>
     requires { limit < 100 }
 {
-    let mut reader = Drops {
+    let mut reader = Trickle {
         left: count,
         fails_at,
     };
@@ -199,10 +199,10 @@ fn drops(alloc: Global, count: u32, fails_at: u32, limit: u64) -> Result<usize, 
 #[test]
 fn reads_up_to_the_limit(rt: HostRuntime) -> Result<(), Fail> {
     let never = 1_000;
-    assert!(rt; drops(rt.alloc(), 0, never, 8) == Ok(0));
-    assert!(rt; drops(rt.alloc(), 8, never, 8) == Ok(8));
-    assert!(rt; drops(rt.alloc(), 9, never, 8) == Err(InputFault::Read));
-    assert!(rt; drops(rt.alloc(), 5, 2, 8) == Err(InputFault::Read));
+    assert!(rt; trickled(rt.alloc(), 0, never, 8) == Ok(0));
+    assert!(rt; trickled(rt.alloc(), 8, never, 8) == Ok(8));
+    assert!(rt; trickled(rt.alloc(), 9, never, 8) == Err(InputFault::Read));
+    assert!(rt; trickled(rt.alloc(), 5, 2, 8) == Err(InputFault::Read));
     Ok(())
 }
 
