@@ -8,3 +8,4 @@ pub mod Walks
 pub mod Steps
 pub mod Reports
 pub mod Judging
+pub mod Described

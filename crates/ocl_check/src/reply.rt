@@ -1,6 +1,8 @@
 //! What a command prints, and the status with which it ends.
 
-ghost use Rattle.std.specs.Prelude.{◌≡◌, string_bytes, IfOk};
+ghost use Rattle.std.specs.Prelude.{◌≡◌, ◌≢◌, string_bytes, IfOk};
+ghost use Rattle.imkl_model.specs.declared.fault.ModelFault.TheVariants as model;
+ghost use Rattle.imkl_delivery.specs.declared.fault.DeliveryFault.TheVariants as delivery;
 ghost use Rattle.ocl_check.specs.Reply.{said, refused_model, refused_delivery, refused_code, refused_verify};
 
 use crate::verify::Flaw;
@@ -18,10 +20,14 @@ pub struct Reply {
     pub status: u8,
 }
 
-/// The reply to a class model that is refused.
+/// The reply to a class model that is refused. Want of memory is no refusal.
 pub(crate) fn refused_model(alloc: Global, fault: &ModelFault) -> Result<Reply, AllocError>
-    ensures { IfOk result (λ r. said r ≡ refused_model fault.now) }
+    ensures said { IfOk result (λ r. said r ≡ refused_model fault.now) }
+    ensures refused { IfOk result (λ r. fault.now ≢ model.OutOfMemory) }
 {
+    if *fault == ModelFault::OutOfMemory {
+        return Err(AllocError);
+    }
     let number = fault.number();
     Ok(Reply {
         text: format!(in alloc; "refused model {number}\n")?,
@@ -48,10 +54,14 @@ fn delivery_line(alloc: Global, fault: &DeliveryFault) -> Result<String, AllocEr
     }
 }
 
-/// The reply to a delivery that is refused.
+/// The reply to a delivery that is refused. Want of memory is no refusal.
 pub(crate) fn refused_delivery(alloc: Global, fault: &DeliveryFault) -> Result<Reply, AllocError>
-    ensures { IfOk result (λ r. said r ≡ refused_delivery fault.now) }
+    ensures said { IfOk result (λ r. said r ≡ refused_delivery fault.now) }
+    ensures refused { IfOk result (λ r. fault.now ≢ delivery.OutOfMemory) }
 {
+    if *fault == DeliveryFault::OutOfMemory {
+        return Err(AllocError);
+    }
     Ok(Reply {
         text: delivery_line(alloc, fault)?,
         status: REFUSED,

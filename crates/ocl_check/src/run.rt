@@ -1,11 +1,11 @@
 //! The commands, each over its inputs and a sink.
 
-ghost use Rattle.std.specs.Prelude.{◌≡◌, false, true, Ok, IfOk};
+ghost use Rattle.std.specs.Prelude.{◌≡◌, ℕ, List, Some, false, true, Ok, IfOk};
 ghost use Rattle.rule_code.specs.View.{content};
 ghost use Rattle.ocl_check.specs.declared.outcome.Outcome.TheVariants.{Failed};
 ghost use Rattle.ocl_check.specs.declared.outcome.Cause.TheVariants.{Write};
 ghost use Rattle.ocl_check.specs.Reply.{said};
-ghost use Rattle.ocl_check.specs.Answers.{judged, judged_code};
+ghost use Rattle.ocl_check.specs.Answers.{judged, judged_code, judged_delivery, population_of, judge_answer, IsAnswered};
 
 use crate::input::read_input;
 use crate::outcome::{Cause, Outcome, say};
@@ -13,8 +13,8 @@ use crate::reply::{Reply, refused_code, refused_delivery, refused_model, refused
 use crate::report::report;
 use crate::sink::Sink;
 use crate::verify::{VerifyFault, verify};
-use imkl_delivery::{DeliveryFault, load};
-use imkl_model::{ClassModel, ModelFault};
+use imkl_delivery::load;
+use imkl_model::ClassModel;
 use imkl_population::Population;
 use rule_code::{CodeFault, Unit, read_unit};
 use std::alloc::{AllocError, Global};
@@ -51,10 +51,11 @@ fn judge_delivery(
     model: &ClassModel,
     delivery: &[u8],
     code: &[u8],
-) -> Result<Reply, AllocError> {
+) -> Result<Reply, AllocError>
+    ensures { IfOk result (λ r. said r ≡ judged_delivery (population_of model.now delivery.now) code.now) }
+{
     match load(alloc, delivery, model) {
         Ok(population) => judge_code(alloc, &population, code),
-        Err(DeliveryFault::OutOfMemory) => Err(AllocError),
         Err(fault) => refused_delivery(alloc, &fault),
     }
 }
@@ -65,10 +66,11 @@ fn judge_inputs(
     model: &[u8],
     delivery: &[u8],
     code: &[u8],
-) -> Result<Reply, AllocError> {
+) -> Result<Reply, AllocError>
+    ensures { IfOk result (λ r. said r ≡ judge_answer model.now delivery.now code.now) }
+{
     match ClassModel::read(alloc, model) {
         Ok(model) => judge_delivery(alloc, &model, delivery, code),
-        Err(ModelFault::OutOfMemory) => Err(AllocError),
         Err(fault) => refused_model(alloc, &fault),
     }
 }
@@ -83,6 +85,9 @@ pub fn run_judge<M: Read, D: Read, C: Read, S: Sink>(
     sink: &mut S,
 ) -> Outcome
     requires { S.has_failed sink.old ≡ false }
+    ensures told { (xs ys zs : List ℕ)
+        → M.remaining model.old ≡ Some xs → D.remaining delivery.old ≡ Some ys → C.remaining code.old ≡ Some zs
+        → IsAnswered (judge_answer xs ys zs) (S.contents sink.old) (S.contents sink.new) result }
     ensures write { result ≡ Failed Write → S.has_failed sink.new ≡ true }
 {
     let model = match read_input(alloc, model, MOST_BYTES) {
