@@ -1,6 +1,8 @@
 //! From bytes to a population.
 
-ghost use Rattle.std.specs.Prelude.{◌≡◌, ◌<◌, ◌≤◌, ◌+◌, length, OnOk, IfOk};
+ghost use Rattle.std.specs.Prelude.{◌≡◌, ◌<◌, ◌≤◌, ◌+◌, length, OnOk, IfOk, IfErr};
+ghost use Rattle.serde_json.specs.View.{view};
+ghost use Rattle.imkl_delivery.specs.Description.{IsTree, IsRefusal};
 ghost use Rattle.imkl_population.specs.Building.{KeepsModel, KeepsObjects};
 
 use crate::document::{document_of, entry_of};
@@ -12,7 +14,10 @@ use serde_json::Value;
 use std::alloc::Global;
 
 /// The JSON tree of some bytes.
-fn tree(alloc: Global, bytes: &[u8]) -> Result<Value, DeliveryFault> {
+fn tree(alloc: Global, bytes: &[u8]) -> Result<Value, DeliveryFault>
+    ensures tree { IfOk result (λ v. IsTree bytes.now (view v)) }
+    ensures fault { IfErr result (λ e. IsRefusal e bytes.now) }
+{
     match Value::from_slice(alloc, bytes) {
         Ok(value) => Ok(value),
         Err(e) if e.is_memory() => Err(DeliveryFault::OutOfMemory),
