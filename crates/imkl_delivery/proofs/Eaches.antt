@@ -1,5 +1,5 @@
 -- Reading each of a list, as a loop does.
-use Rattle.std.proofs.Common.{◌≡◌, ℕ, ◌+◌, ◌≤◌, ◌<◌, List, [], ◌∷◌, ◌++◌, length, get_or, drop, map, Result, Ok, Err, refl, sym, ap, ◌∙◌, append_assoc, drop-cons, add-one, subst}
+use Rattle.std.proofs.Common.{◌≡◌, ℕ, zero, suc, ◌+◌, ◌≤◌, ◌<◌, List, [], ◌∷◌, ◌++◌, length, get_or, drop, map, Result, Ok, Err, refl, sym, ap, ◌∙◌, append_assoc, drop-cons, add-one, subst, arith}
 use Rattle.std.proofs.lemmas.List.{append-nil}
 use Rattle.std.proofs.Math.ListN.{drop_of_length-le}
 use Rattle.imkl_delivery.specs.declared.fault.DeliveryFault.{DeliveryFault}
@@ -94,3 +94,24 @@ all_read {A = A} f look (d ∷ ds) xs sees is =
     let here : look (f d) ≡ p.first = ap look p.first_is ∙ sees p.first in
     let later : p.others ≡ map (λ x. look (f x)) ds = all_read f look ds p.others sees p.others_are in
     p.whole ∙ rw (here, later) refl
+
+pub each_length : {V D A : Type 0} (f : D → Result A DeliveryFault) (view : V → D) (vs : List V) (xs : List A) → each f (map view vs) ≡ Ok xs → length xs ≡ length vs
+unfolding each
+each_length {A = A} f view [] xs is = let same : xs ≡ [] = (let e : Ok [] ≡ Ok xs = is in cc) in rw same refl
+each_length f view (v ∷ vs) xs is =
+    let p = parts (f (view v)) (each f (map view vs)) xs is in
+    ap length p.whole ∙ ap suc (each_length f view vs p.others p.others_are)
+
+read_there : {V D A : Type 0} (f : D → Result A DeliveryFault) (view : V → D) (vs : List V) (xs : List A) (i : ℕ) (v : V) (none : A) → each f (map view vs) ≡ Ok xs → i < length vs → f (view (get_or vs i v)) ≡ Ok (get_or xs i none)
+unfolding each
+read_there f view [] xs i v none is lt = absurd (omega arith)
+read_there {A = A} f view (w ∷ vs) xs zero v none is lt =
+    let p = parts (f (view w)) (each f (map view vs)) xs is in
+    p.first_is ∙ ap (λ (ys : List A). Ok (get_or ys zero none)) (sym p.whole)
+read_there {A = A} f view (w ∷ vs) xs (suc i) v none is lt =
+    let p = parts (f (view w)) (each f (map view vs)) xs is in
+    read_there f view vs p.others i v none p.others_are (omega arith) ∙ ap (λ (ys : List A). Ok (get_or ys (suc i) none)) (sym p.whole)
+
+-- what was read at a place
+pub each_there : {V D A : Type 0} (f : D → Result A DeliveryFault) (view : V → D) (vs : List V) (xs : List A) (i : ℕ) (v : V) (none : A) → each f (map view vs) ≡ Ok xs → i < length vs → v ≡ get_or vs i v → f (view v) ≡ Ok (get_or xs i none)
+each_there {V = V} f view vs xs i v none is lt at = ap (λ (w : V). f (view w)) at ∙ read_there f view vs xs i v none is lt

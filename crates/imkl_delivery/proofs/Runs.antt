@@ -1,8 +1,9 @@
 -- Steps as a loop makes them: those made so far, and what a fault of one is for all.
-use Rattle.std.proofs.Common.{◌≡◌, ℕ, zero, suc, ◌+◌, ◌<◌, Result, Ok, refl, add-one, arith, inl, inr}
+use Rattle.std.proofs.Common.{◌≡◌, ℕ, zero, suc, ◌+◌, ◌<◌, true, false, Result, Ok, Err, refl, add-one, arith, inl, inr}
 use Rattle.std.proofs.lemmas.Bool.{cases_lt}
+use Rattle.std.specs.Result.{is_err, OnOk}
 use Rattle.imkl_delivery.specs.declared.fault.DeliveryFault.{DeliveryFault}
-use Rattle.imkl_delivery.specs.Steps.{◌>>=◌, steps, Fails}
+use Rattle.imkl_delivery.specs.Steps.{◌>>=◌, steps, Fails, Leaves}
 use Rattle.imkl_delivery.proofs.Eaches.{fails_as, fails_along}
 
 pub begins : {S : Type 0} (step : ℕ → S → Result S DeliveryFault) (s : S) → steps step 0 s ≡ Ok s
@@ -25,3 +26,18 @@ stops step e k (suc n) s t lt so_far h =
           let here : step k t ≡ (steps step n s >>= step n) = rw (← same, so_far) refl in
           fails_along e (step k t) (steps step n s >>= step n) here h
     ]
+
+-- ---- the same by what a call returned for a step
+
+pub goes_on_by : {X S : Type 0} (step : ℕ → S → Result S DeliveryFault) (r : Result X DeliveryFault) (k : ℕ) (s t u : S) → is_err r ≡ false → steps step k s ≡ Ok t → Leaves r (step k t) u → steps step (k + 1) s ≡ Ok u
+goes_on_by step (Ok x) k s t u is so_far now = goes_on step k s t u so_far now
+goes_on_by step (Err e) k s t u is so_far now = absurd (let bad : true ≡ false = is in cc)
+
+pub stops_by : {X S : Type 0} (step : ℕ → S → Result S DeliveryFault) (r : Result X DeliveryFault) (k n : ℕ) (s t u : S) → is_err r ≡ true → k < n → steps step k s ≡ Ok t → Leaves r (step k t) u → Leaves r (steps step n s) u
+stops_by step (Ok x) k n s t u is lt so_far now = absurd (let bad : false ≡ true = is in cc)
+stops_by step (Err e) k n s t u is lt so_far now = stops step e k n s t lt so_far now
+
+-- what a call does where it succeeds
+pub where_ok : {X E : Type 0} (r : Result X E) (P : Type 0) → is_err r ≡ false → OnOk r P → P
+where_ok (Ok x) P is h = h
+where_ok (Err e) P is h = absurd (let bad : true ≡ false = is in cc)
