@@ -1,2 +1,5 @@
 pub mod Trees
 pub mod Alls
+pub mod Eaches
+pub mod Runs
+pub mod Refusals

@@ -22,3 +22,9 @@ IsFault m fault bytes = (d : Data) × IsTree bytes d × (describes_population m 
 abbrev pub Answers : Model → List ℕ → Result population.Population DeliveryFault → Type 0
 Answers m bytes (Ok p) = (d : Data) × IsTree bytes d × (describes_population m d ≡ Ok p)
 Answers m bytes (Err e) = IsFault m e bytes
+
+-- how the reading of JSON itself ends
+abbrev pub IsRefusal : DeliveryFault → List ℕ → Type 0
+IsRefusal OutOfMemory bytes = Unit {0}
+IsRefusal NotJson bytes = (d : Data) → IsTree bytes d → ⊥
+IsRefusal fault bytes = ⊥

@@ -1,6 +1,6 @@
 -- The population that a document describes, or its first fault: first the whole document, then all objects' classes
 -- and ids, then the features object by object, last the opposite ends.
-use Rattle.std.specs.Prelude.{ℕ, ◌&&◌, List, [], ◌∷◌, Bool, true, false, Option, Some, None, Result, Ok, Err, length, nat_lt, bytes_eq, is_some, slice_index_or, if◌then◌else◌}
+use Rattle.std.specs.Prelude.{ℕ, ◌&&◌, List, [], Bool, true, Option, Result, Ok, Err, length, nat_lt, bytes_eq, is_some, slice_index_or, if◌then◌else◌}
 use Rattle.serde_json.specs.Data.{Data, Members, no_members, member}
 use Rattle.serde_json.specs.Find.{as_str, get_member}
 use Rattle.imkl_model.specs.declared.feature.FeatureInfo.{FeatureInfo}
@@ -9,14 +9,13 @@ use Rattle.imkl_model.specs.declared.feature.Role.TheVariants.{Attribute, Source
 use Rattle.imkl_model.specs.ClassModel.{Model, class_number, feature_number, feature_at, belongs}
 use Rattle.imkl_population.specs.declared.fault.PopulationFault.{PopulationFault}
 use Rattle.imkl_population.specs.declared.fault.PopulationFault.TheVariants.{WrongKind, TooFew, TooMany, Derived}
-use Rattle.imkl_population.specs.declared.scalar.Scalar.{Scalar}
 use Rattle.imkl_population.specs.Population as population
 use Rattle.imkl_population.specs.Building.{added, value_set, linked}
 use Rattle.imkl_population.specs.Finishing.{finished}
 use Rattle.imkl_delivery.specs.declared.fault.DeliveryFault.{DeliveryFault}
 use Rattle.imkl_delivery.specs.declared.fault.DeliveryFault.TheVariants as fault
-use Rattle.imkl_delivery.specs.Steps.{◌>>=◌, found, steps, at}
-use Rattle.imkl_delivery.specs.Document.{Written, Document, document_at}
+use Rattle.imkl_delivery.specs.Steps.{◌>>=◌, found, steps, at, told}
+use Rattle.imkl_delivery.specs.Document.{Written, document_at}
 use Rattle.imkl_delivery.specs.Scalars.{is_absent, value_list, scalar_at, all_of}
 
 abbrev pub nothing_written : Written
@@ -78,15 +77,15 @@ featured ws o p =
 
 -- ---- the whole
 
--- a fault of the finished population stands at its object
-abbrev pub finished_fault : PopulationFault → DeliveryFault
-finished_fault (TooFew o f) = fault.Population o (TooFew o f)
-finished_fault (TooMany o f) = fault.Population o (TooMany o f)
-finished_fault e = fault.Population 0 e
+-- the object at which a fault of the finished population stands
+abbrev pub fault_place : PopulationFault → ℕ
+fault_place (TooFew o f) = o
+fault_place (TooMany o f) = o
+fault_place e = 0
 
 abbrev pub finish : Result population.Population PopulationFault → Result population.Population DeliveryFault
 finish (Ok p) = Ok p
-finish (Err e) = Err (finished_fault e)
+finish (Err e) = Err (told (fault_place e) e)
 
 abbrev pub empty : Model → population.Population
 empty m = record { model = m; objects = [] }

@@ -1,6 +1,7 @@
 -- Steps that may fail: the first fault ends them.
-use Rattle.std.specs.Prelude.{◌≡◌, ℕ, zero, suc, List, [], ◌∷◌, Option, Some, None, Result, Ok, Err}
+use Rattle.std.specs.Prelude.{◌≡◌, ℕ, zero, suc, Option, Some, None, Result, Ok, Err}
 use Rattle.imkl_population.specs.declared.fault.PopulationFault.{PopulationFault}
+use Rattle.imkl_population.specs.declared.fault.PopulationFault.TheVariants as refusal
 use Rattle.imkl_delivery.specs.declared.fault.DeliveryFault.{DeliveryFault}
 use Rattle.imkl_delivery.specs.declared.fault.DeliveryFault.TheVariants as fault
 
@@ -23,6 +24,11 @@ steps step (suc n) s = steps step n s >>= step n
 abbrev pub at : {A : Type 0} → ℕ → Result A PopulationFault → Result A DeliveryFault
 at o (Ok x) = Ok x
 at o (Err e) = Err (fault.Population o e)
+
+-- how a refusal of the population is told: want of memory is the delivery's own
+abbrev pub told : ℕ → PopulationFault → DeliveryFault
+told o refusal.OutOfMemory = fault.OutOfMemory
+told o e = fault.Population o e
 
 -- What a call returned is what the definition gives, unless memory ran out. A walk over a tree never answers NotJson.
 abbrev pub Fails : {A : Type 0} → DeliveryFault → Result A DeliveryFault → Type 0

@@ -1,10 +1,10 @@
 //! The document of a delivery, as written.
 
-ghost use Rattle.std.specs.Prelude.{◌≡◌, map};
+ghost use Rattle.std.specs.Prelude.{◌≡◌, map, IfOk};
 ghost use Rattle.serde_json.specs.View.{view, members_view};
 ghost use Rattle.imkl_delivery.specs.Steps.{Gives};
-ghost use Rattle.imkl_delivery.specs.Document.{record_at, text_at, members_at, list_at, object_at};
-ghost use Rattle.imkl_delivery.specs.Seen.{written_of};
+ghost use Rattle.imkl_delivery.specs.Document.{record_at, text_at, members_at, list_at, object_at, each, document_at};
+ghost use Rattle.imkl_delivery.specs.Seen.{written_of, all_written, document_of, WritesAll};
 
 use crate::fault::DeliveryFault;
 use serde_json::{Map, Value};
@@ -76,7 +76,9 @@ pub(crate) fn entry_of(value: &Value) -> Result<Entry<'_>, DeliveryFault>
 }
 
 /// Whether each value has the shape of an object of a document.
-fn are_entries(values: &[Value]) -> Result<(), DeliveryFault> {
+fn are_entries(values: &[Value]) -> Result<(), DeliveryFault>
+    ensures { Gives (λ _. all_written (map view values.now)) result (each object_at (map view values.now)) }
+{
     'values: for value in values {
         let _ = entry_of(value)?;
     }
@@ -84,7 +86,11 @@ fn are_entries(values: &[Value]) -> Result<(), DeliveryFault> {
 }
 
 /// The document that a JSON tree writes.
-pub(crate) fn document_of(value: &Value) -> Result<Document<'_>, DeliveryFault> {
+#[tactic(auto, unfolding(crate::specs::Document::document_at))]
+pub(crate) fn document_of(value: &Value) -> Result<Document<'_>, DeliveryFault>
+    ensures gives { Gives document_of result (document_at (view value.now)) }
+    ensures objects { IfOk result (λ d. WritesAll (document_of d).objects (map view d.objects.now)) }
+{
     record_of(value, 2)?;
     let model = text(value, "model")?;
     let objects = list(value, "objects")?;

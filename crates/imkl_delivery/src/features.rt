@@ -1,27 +1,37 @@
 //! What is written at the features of one object.
 
-ghost use Rattle.std.specs.Prelude.{◌≡◌, ◌<◌, length};
+ghost use Rattle.std.specs.Prelude.{◌≡◌, ◌<◌, true, List, Option, map, length, option_map};
+ghost use Rattle.serde_json.specs.Data.{Data};
+ghost use Rattle.serde_json.specs.Find.{get_member};
+ghost use Rattle.serde_json.specs.View.{view, members_view};
+ghost use Rattle.imkl_model.specs.ClassModel.{feature_at};
+ghost use Rattle.imkl_population.specs.Population.{Population};
+ghost use Rattle.imkl_population.specs.Values.{is_opposite};
 ghost use Rattle.imkl_population.specs.Building.{KeepsObjects};
+ghost use Rattle.imkl_delivery.specs.Steps.{Leaves, told};
+ghost use Rattle.imkl_delivery.specs.Document.{Written};
+ghost use Rattle.imkl_delivery.specs.Scalars.{is_absent};
+ghost use Rattle.imkl_delivery.specs.Loading.{object_at, are_features, values_put, targets_put, put_by, put, featured};
 
 use crate::fault::DeliveryFault;
 use crate::scalars::{Targets, listed, scalars_of, targets_of};
-use imkl_model::{ClassModel, ClassNo, FeatureNo, Role};
+use imkl_model::{ClassModel, ClassNo, FeatureInfo, FeatureNo, Role};
 use imkl_population::{ObjectNo, PopulationBuilder, PopulationFault};
 use serde_json::{Map, Value};
 use std::alloc::Global;
 
 /// A fault of the population, at an object.
-fn stands_at(object: ObjectNo, fault: PopulationFault) -> DeliveryFault {
+pub(crate) fn told(object: usize, fault: PopulationFault) -> DeliveryFault
+    ensures { result ≡ told object fault }
+{
     match fault {
         PopulationFault::OutOfMemory => DeliveryFault::OutOfMemory,
-        fault => DeliveryFault::Population {
-            object: object.place(),
-            fault,
-        },
+        fault => DeliveryFault::Population { object, fault },
     }
 }
 
 /// Puts the values of an attribute.
+#[tactic(auto, unfolding(crate::specs::Loading::values_put))]
 fn put_values(
     builder: &mut PopulationBuilder<'_>,
     alloc: Global,
@@ -31,21 +41,23 @@ fn put_values(
 ) -> Result<(), DeliveryFault>
     requires object { object < length builder.old.objects }
     requires feature { feature < length builder.old.model.features }
-    ensures { KeepsObjects builder.old builder.new }
+    ensures leaves { Leaves result (values_put object feature (map view values.now) builder.old) builder.new }
+    ensures kept { KeepsObjects builder.old builder.new }
 {
     let model = builder.model();
     model.well_formed();
     let info = model.feature_info(feature);
     let Some(scalars) = scalars_of(alloc, model, info, values)? else {
-        return Err(stands_at(object, PopulationFault::WrongKind));
+        return Err(told(object.place(), PopulationFault::WrongKind));
     };
     match builder.set_value(object, feature, scalars) {
         Ok(()) => Ok(()),
-        Err(fault) => Err(stands_at(object, fault)),
+        Err(fault) => Err(told(object.place(), fault)),
     }
 }
 
 /// Puts the targets of a source end.
+#[tactic(auto, unfolding(crate::specs::Loading::targets_put))]
 fn put_targets(
     builder: &mut PopulationBuilder<'_>,
     alloc: Global,
@@ -55,22 +67,23 @@ fn put_targets(
 ) -> Result<(), DeliveryFault>
     requires object { object < length builder.old.objects }
     requires feature { feature < length builder.old.model.features }
-    ensures { KeepsObjects builder.old builder.new }
+    ensures leaves { Leaves result (targets_put object feature (map view values.now) builder.old) builder.new }
+    ensures kept { KeepsObjects builder.old builder.new }
 {
     match targets_of(alloc, builder, values)? {
-        Targets::NotTexts => Err(stands_at(object, PopulationFault::WrongKind)),
+        Targets::NotTexts => Err(told(object.place(), PopulationFault::WrongKind)),
         Targets::Unknown => Err(DeliveryFault::UnknownTarget {
             object: object.place(),
         }),
         Targets::Found(targets) => match builder.link(object, feature, &targets) {
             Ok(()) => Ok(()),
-            Err(fault) => Err(stands_at(object, fault)),
+            Err(fault) => Err(told(object.place(), fault)),
         },
     }
 }
 
 /// Puts what is written at a feature of the object's class; no value stands for the empty list.
-fn put_feature(
+fn put_written(
     builder: &mut PopulationBuilder<'_>,
     alloc: Global,
     object: ObjectNo,
@@ -79,28 +92,70 @@ fn put_feature(
 ) -> Result<(), DeliveryFault>
     requires object { object < length builder.old.objects }
     requires feature { feature < length builder.old.model.features }
-    ensures { KeepsObjects builder.old builder.new }
+    ensures leaves { Leaves result (put_by (feature_at builder.old.model feature).role object feature (option_map (λ v. view v.now) value.entry) builder.old) builder.new }
+    ensures kept { KeepsObjects builder.old builder.new }
 {
     let info = builder.model().feature_info(feature);
     let value = match value {
         Some(value) if !value.is_null() => value,
-        _ if is_opposite(info.role) || info.lower == 0 => return Ok(()),
-        _ => return Err(stands_at(object, PopulationFault::TooFew { object, feature })),
+        _ => return left_out(object, feature, info),
     };
     match info.role {
         Role::Attribute => put_values(builder, alloc, object, feature, listed(value)),
         Role::SourceEnd { .. } => put_targets(builder, alloc, object, feature, listed(value)),
-        Role::OppositeEnd { .. } => Err(stands_at(object, PopulationFault::Derived)),
+        Role::OppositeEnd { .. } => Err(told(object.place(), PopulationFault::Derived)),
     }
 }
 
-fn is_opposite(role: Role) -> bool {
+/// Nothing at a feature that needs values is too few; at an opposite end nothing is written.
+fn left_out(object: ObjectNo, feature: FeatureNo, info: &FeatureInfo) -> Result<(), DeliveryFault>
+    ensures { (p : Population) (v : Option Data) → feature_at p.model feature ≡ info.now → is_absent v ≡ true → Leaves result (put_by info.now.role object feature v p) p }
+{
+    if is_opposite(info.role) || info.lower == 0 {
+        return Ok(());
+    }
+    Err(told(object.place(), PopulationFault::TooFew { object, feature }))
+}
+
+fn is_opposite(role: Role) -> bool
+    ensures { result ≡ is_opposite role }
+{
     matches!(role, Role::OppositeEnd { .. })
+}
+
+/// Puts what the members write at a feature, where it belongs to the object's class.
+#[tactic(auto, unfolding(crate::specs::Loading::put))]
+fn put_feature(
+    builder: &mut PopulationBuilder<'_>,
+    alloc: Global,
+    object: ObjectNo,
+    feature: FeatureNo,
+    members: &Map<String, Value>,
+) -> Result<(), DeliveryFault>
+    requires object { object < length builder.old.objects }
+    requires feature { feature < length builder.old.model.features }
+    ensures leaves { (ws : List Written) → (object_at ws object).features ≡ members_view members.now.entries → Leaves result (put ws object feature builder.old) builder.new }
+    ensures kept { KeepsObjects builder.old builder.new }
+{
+    let model = builder.model();
+    if !model.belongs(builder.class_of(object), feature) {
+        return Ok(());
+    }
+    let name = model.feature_info(feature).name.as_str();
+    put_written(builder, alloc, object, feature, member(members, name))
+}
+
+/// The value of a member.
+fn member<'v>(members: &'v Map<String, Value>, name: &str) -> Option<&'v Value>
+    ensures { option_map (λ v. view v.now) result ≡ get_member name.now (members_view members.now.entries) }
+{
+    members.get(name)
 }
 
 /// Whether each member has the name of a feature of the class.
 fn are_features(model: &ClassModel, class: ClassNo, members: &Map<String, Value>) -> bool
     requires { class < length model.now.classes }
+    ensures { result ≡ are_features model.now class (members_view members.now.entries) }
 {
     'members: for (name, _) in members {
         if model.feature(class, name.as_str()).is_none() {
@@ -111,6 +166,7 @@ fn are_features(model: &ClassModel, class: ClassNo, members: &Map<String, Value>
 }
 
 /// Puts what is written on an object, in the model's order of features.
+#[tactic(auto, unfolding(crate::specs::Loading::featured))]
 pub(crate) fn put_features(
     builder: &mut PopulationBuilder<'_>,
     alloc: Global,
@@ -118,7 +174,8 @@ pub(crate) fn put_features(
     members: &Map<String, Value>,
 ) -> Result<(), DeliveryFault>
     requires { object < length builder.old.objects }
-    ensures { KeepsObjects builder.old builder.new }
+    ensures leaves { (ws : List Written) → (object_at ws object).features ≡ members_view members.now.entries → Leaves result (featured ws object builder.old) builder.new }
+    ensures kept { KeepsObjects builder.old builder.new }
 {
     let model = builder.model();
     let class = builder.class_of(object);
@@ -128,11 +185,7 @@ pub(crate) fn put_features(
         });
     }
     'features: for feature in 0..model.feature_count() {
-        let feature = FeatureNo::new(feature);
-        if model.belongs(class, feature) {
-            let value = members.get(model.feature_info(feature).name.as_str());
-            put_feature(builder, alloc, object, feature, value)?;
-        }
+        put_feature(builder, alloc, object, FeatureNo::new(feature), members)?;
     }
     Ok(())
 }

@@ -1,18 +1,27 @@
 //! From bytes to a population.
 
-ghost use Rattle.std.specs.Prelude.{◌≡◌, ◌<◌, ◌≤◌, ◌+◌, length, OnOk, IfOk};
+ghost use Rattle.std.specs.Prelude.{◌≡◌, ◌<◌, ◌≤◌, ◌+◌, List, map, length, OnOk, IfOk, IfErr};
+ghost use Rattle.serde_json.specs.View.{view};
 ghost use Rattle.imkl_population.specs.Building.{KeepsModel, KeepsObjects};
+ghost use Rattle.imkl_delivery.specs.Steps.{Gives, Leaves, steps, told};
+ghost use Rattle.imkl_delivery.specs.Document.{Written};
+ghost use Rattle.imkl_delivery.specs.Seen.{Writes, WritesAll};
+ghost use Rattle.imkl_delivery.specs.Loading.{named, featured, fault_place, loaded, describes_population};
+ghost use Rattle.imkl_delivery.specs.Description.{Answers, IsTree, IsRefusal};
 
 use crate::document::{document_of, entry_of};
 use crate::fault::DeliveryFault;
-use crate::features::put_features;
+use crate::features::{put_features, told};
 use imkl_model::ClassModel;
 use imkl_population::{ObjectNo, Population, PopulationBuilder, PopulationFault};
 use serde_json::Value;
 use std::alloc::Global;
 
 /// The JSON tree of some bytes.
-fn tree(alloc: Global, bytes: &[u8]) -> Result<Value, DeliveryFault> {
+fn tree(alloc: Global, bytes: &[u8]) -> Result<Value, DeliveryFault>
+    ensures tree { IfOk result (λ v. IsTree bytes.now (view v)) }
+    ensures fault { IfErr result (λ e. IsRefusal e bytes.now) }
+{
     match Value::from_slice(alloc, bytes) {
         Ok(value) => Ok(value),
         Err(e) if e.is_memory() => Err(DeliveryFault::OutOfMemory),
@@ -21,11 +30,13 @@ fn tree(alloc: Global, bytes: &[u8]) -> Result<Value, DeliveryFault> {
 }
 
 /// Adds an object with its class.
+#[tactic(auto, unfolding(crate::specs::Loading::named))]
 fn add(
     builder: &mut PopulationBuilder<'_>,
     place: usize,
     value: &Value,
 ) -> Result<(), DeliveryFault>
+    ensures leaves { (ws : List Written) → Writes ws place (view value.now) → Leaves result (named ws place builder.old) builder.new }
     ensures count { OnOk result (length builder.new.objects ≡ length builder.old.objects + 1) }
     ensures model { KeepsModel builder.old builder.new }
 {
@@ -35,16 +46,13 @@ fn add(
     };
     match builder.add_object(entry.id, class) {
         Ok(_) => Ok(()),
-        Err(PopulationFault::OutOfMemory) => Err(DeliveryFault::OutOfMemory),
-        Err(fault) => Err(DeliveryFault::Population {
-            object: place,
-            fault,
-        }),
+        Err(fault) => Err(told(place, fault)),
     }
 }
 
 /// Adds all objects, before anything is written on any.
 fn add_all(builder: &mut PopulationBuilder<'_>, values: &[Value]) -> Result<(), DeliveryFault>
+    ensures leaves { (ws : List Written) → WritesAll ws (map view values.now) → Leaves result (steps (named ws) (length ws) builder.old) builder.new }
     ensures count { OnOk result (length builder.new.objects ≡ length builder.old.objects + length values.now) }
     ensures model { KeepsModel builder.old builder.new }
 {
@@ -65,7 +73,8 @@ fn write(
     value: &Value,
 ) -> Result<(), DeliveryFault>
     requires { object < length builder.old.objects }
-    ensures { KeepsObjects builder.old builder.new }
+    ensures leaves { (ws : List Written) → Writes ws object (view value.now) → Leaves result (featured ws object builder.old) builder.new }
+    ensures kept { KeepsObjects builder.old builder.new }
 {
     let entry = entry_of(value)?;
     put_features(builder, alloc, object, entry.features)
@@ -78,7 +87,8 @@ fn write_all(
     values: &[Value],
 ) -> Result<(), DeliveryFault>
     requires { length values.now ≤ length builder.old.objects }
-    ensures { KeepsObjects builder.old builder.new }
+    ensures leaves { (ws : List Written) → WritesAll ws (map view values.now) → Leaves result (steps (featured ws) (length ws) builder.old) builder.new }
+    ensures kept { KeepsObjects builder.old builder.new }
 {
     'values: for place in 0..values.len() {
         let object = ObjectNo::new(place);
@@ -91,17 +101,51 @@ fn write_all(
 }
 
 /// A fault of the finished population, at its object.
-fn finished_fault(fault: PopulationFault) -> DeliveryFault {
+fn finished_fault(fault: PopulationFault) -> DeliveryFault
+    ensures { result ≡ told (fault_place fault) fault }
+{
     match fault {
-        PopulationFault::OutOfMemory => DeliveryFault::OutOfMemory,
         PopulationFault::TooFew { object, .. } | PopulationFault::TooMany { object, .. } => {
-            DeliveryFault::Population {
-                object: object.place(),
-                fault,
-            }
+            told(object.place(), fault)
         }
-        _ => DeliveryFault::Population { object: 0, fault },
+        _ => told(0, fault),
     }
+}
+
+/// The population of objects as trees write them, or its first fault.
+#[tactic(auto, unfolding(crate::specs::Loading::loaded))]
+fn population_of<'m>(
+    alloc: Global,
+    values: &[Value],
+    model: &'m ClassModel,
+) -> Result<Population<'m>, DeliveryFault>
+    ensures gives { (ws : List Written) → WritesAll ws (map view values.now) → Gives (λ p. p) result (loaded model.now ws) }
+    ensures model { IfOk result (λ p. p.model ≡ model.now) }
+{
+    let mut builder = PopulationBuilder::new(alloc, model);
+    add_all(&mut builder, values)?;
+    write_all(&mut builder, alloc, values)?;
+    match builder.finish() {
+        Ok(population) => Ok(population),
+        Err(fault) => Err(finished_fault(fault)),
+    }
+}
+
+/// The population that a JSON tree describes, or its first fault.
+#[tactic(auto, unfolding(crate::specs::Loading::describes_population))]
+fn described_of<'m>(
+    alloc: Global,
+    value: &Value,
+    model: &'m ClassModel,
+) -> Result<Population<'m>, DeliveryFault>
+    ensures gives { Gives (λ p. p) result (describes_population model.now (view value.now)) }
+    ensures model { IfOk result (λ p. p.model ≡ model.now) }
+{
+    let document = document_of(value)?;
+    if document.model != model.name() {
+        return Err(DeliveryFault::OtherModel);
+    }
+    population_of(alloc, document.objects, model)
 }
 
 /// The population that a delivery's bytes describe, or their first fault.
@@ -110,15 +154,9 @@ pub fn load<'m>(
     bytes: &[u8],
     model: &'m ClassModel,
 ) -> Result<Population<'m>, DeliveryFault>
-    ensures { IfOk result (λ p. p.model ≡ model.now) }
+    ensures model { IfOk result (λ p. p.model ≡ model.now) }
+    ensures exact { Answers model.now bytes.now result }
 {
     let value = tree(alloc, bytes)?;
-    let document = document_of(&value)?;
-    if document.model != model.name() {
-        return Err(DeliveryFault::OtherModel);
-    }
-    let mut builder = PopulationBuilder::new(alloc, model);
-    add_all(&mut builder, document.objects)?;
-    write_all(&mut builder, alloc, document.objects)?;
-    builder.finish().map_err(finished_fault)
+    described_of(alloc, &value, model)
 }

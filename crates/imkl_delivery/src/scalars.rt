@@ -1,9 +1,13 @@
 //! From JSON values to values of attributes and ids of targets.
 
-ghost use Rattle.std.specs.Prelude.{◌≡◌, ◌<◌, ℕ, length, map, Option, option_map, IfOk};
+ghost use Rattle.std.specs.Prelude.{◌≡◌, ◌<◌, ℕ, length, map, Option, option_map, option_and_then, is_some, IfOk};
+ghost use Rattle.std.specs.List.{list_all};
 ghost use Rattle.serde_json.specs.View.{view};
+ghost use Rattle.serde_json.specs.Find.{as_str};
 ghost use Rattle.imkl_model.specs.ClassModel.{literal_number};
+ghost use Rattle.imkl_population.specs.Population.{object_of};
 ghost use Rattle.imkl_delivery.specs.Scalars.{listed, scalar_at, all_of};
+ghost use Rattle.imkl_delivery.specs.Targets.{AreTargets};
 
 use imkl_model::{ClassModel, ElementType, EnumNo, FeatureInfo};
 use imkl_population::{ObjectNo, PopulationBuilder, Scalar, ScalarText};
@@ -91,21 +95,51 @@ pub(crate) fn scalars_of(
     Ok(Some(scalars))
 }
 
+/// The object whose id a value is, if it is a text and the id of one.
+fn target_of(builder: &PopulationBuilder<'_>, value: &Value) -> Option<ObjectNo>
+    ensures { result ≡ option_and_then (object_of builder.now) (as_str (view value.now)) }
+{
+    builder.object(value.as_str()?)
+}
+
+/// The objects that have these ids, if each value is the id of one.
+fn objects_of(
+    alloc: Global,
+    builder: &PopulationBuilder<'_>,
+    values: &[Value],
+) -> Result<Option<Vec<ObjectNo>>, AllocError>
+    ensures { IfOk result (λ r. option_map (λ v. v.items) r ≡ all_of (λ d. option_and_then (object_of builder.now) (as_str d)) (map view values.now)) }
+{
+    let mut targets = Vec::with_capacity(alloc, values.len())?;
+    'values: for value in values {
+        match target_of(builder, value) {
+            Some(object) => targets.push(object)?,
+            None => return Ok(None),
+        }
+    }
+    Ok(Some(targets))
+}
+
+/// Whether each value is a text.
+fn are_texts(values: &[Value]) -> bool
+    ensures { result ≡ list_all (λ v. is_some (as_str (view v))) values.now }
+{
+    values.iter().all(|value| value.is_string())
+}
+
 /// The objects that have these ids: none where a value is no text, and then where an id is no object's.
 pub(crate) fn targets_of(
     alloc: Global,
     builder: &PopulationBuilder<'_>,
     values: &[Value],
-) -> Result<Targets, AllocError> {
-    if !values.iter().all(Value::is_string) {
+) -> Result<Targets, AllocError>
+    ensures { IfOk result (λ t. AreTargets builder.now (map view values.now) t) }
+{
+    if !are_texts(values) {
         return Ok(Targets::NotTexts);
     }
-    let mut targets = Vec::with_capacity(alloc, values.len())?;
-    'values: for value in values {
-        match builder.object(value.as_str().unwrap_or("")) {
-            Some(object) => targets.push(object)?,
-            None => return Ok(Targets::Unknown),
-        }
+    match objects_of(alloc, builder, values)? {
+        Some(targets) => Ok(Targets::Found(targets)),
+        None => Ok(Targets::Unknown),
     }
-    Ok(Targets::Found(targets))
 }

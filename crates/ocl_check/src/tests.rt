@@ -1,5 +1,7 @@
 //! Worked examples, from bytes to bytes.
 
+ghost use Rattle.std.specs.Prelude.{◌<◌};
+
 use crate::input::{InputFault, read_input};
 use crate::outcome::{Cause, Outcome};
 use crate::run::run_judge;

@@ -1,8 +1,7 @@
-use Rattle.std.proofs.Common.{◌≡◌, ◌∙◌, List, ap, map, sym}
+use Rattle.std.proofs.Common.{◌∙◌, List, ap, map, sym}
 use Rattle.serde_json.specs.View.{view}
 use Rattle.serde_json.specs.declared.value.Value.{Value}
 use Rattle.serde_json.proofs.Views.{view-Array}
-use Rattle.imkl_delivery.specs.Scalars.{listed}
 use Rattle.imkl_delivery.proofs.Trees.{items-view}
 use Rattle.imkl_delivery.proofs.scalars.listed.Goals as goal
 

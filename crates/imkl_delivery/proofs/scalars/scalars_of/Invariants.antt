@@ -1,4 +1,4 @@
-use Rattle.std.proofs.Common.{◌≡◌, map, drop, List}
+use Rattle.std.proofs.Common.{◌≡◌, map, drop}
 use Rattle.serde_json.specs.View.{view}
 use Rattle.imkl_delivery.specs.Scalars.{scalar_at, all_of}
 use Rattle.imkl_delivery.proofs.Alls.{after}

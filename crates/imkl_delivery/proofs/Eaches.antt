@@ -1,0 +1,117 @@
+-- Reading each of a list, as a loop does.
+use Rattle.std.proofs.Common.{◌≡◌, ℕ, zero, suc, ◌+◌, ◌≤◌, ◌<◌, List, [], ◌∷◌, ◌++◌, length, get_or, drop, map, Result, Ok, Err, refl, sym, ap, ◌∙◌, append_assoc, drop-cons, add-one, subst, arith}
+use Rattle.std.proofs.lemmas.List.{append-nil}
+use Rattle.std.proofs.Math.ListN.{drop_of_length-le}
+use Rattle.imkl_delivery.specs.declared.fault.DeliveryFault.{DeliveryFault}
+use Rattle.imkl_delivery.specs.declared.fault.DeliveryFault.TheVariants as fault
+use Rattle.imkl_delivery.specs.Steps.{◌>>=◌, Fails}
+use Rattle.imkl_delivery.specs.Document.{each}
+
+-- ---- faults
+
+-- a fault of the first step is a fault of the whole
+pub fails_as : {A B : Type 0} (e : DeliveryFault) (r : Result A DeliveryFault) (f : A → Result B DeliveryFault) → Fails e r → Fails e (r >>= f)
+fails_as fault.OutOfMemory r f h = tt
+fails_as fault.NotJson r f h = absurd h
+fails_as fault.Shape r f h = rw h refl
+fails_as fault.OtherModel r f h = rw h refl
+fails_as (fault.UnknownClass o) r f h = rw h refl
+fails_as (fault.UnknownFeature o) r f h = rw h refl
+fails_as (fault.UnknownTarget o) r f h = rw h refl
+fails_as (fault.Population o p) r f h = rw h refl
+
+pub fails_along : {A : Type 0} (e : DeliveryFault) (r s : Result A DeliveryFault) → r ≡ s → Fails e r → Fails e s
+fails_along {A} e r s same h = let P : Result A DeliveryFault → Type 0 = λ q. Fails e q in subst P same h
+
+-- ---- each of a list
+
+-- what was read before, and what is still read
+abbrev pub with_front : {A : Type 0} → List A → Result (List A) DeliveryFault → Result (List A) DeliveryFault
+with_front front read = read >>= λ xs. Ok (front ++ xs)
+
+-- what was read of the first so many, such that the whole comes to it and what the rest comes to
+pub record IsReadTo {V D A : Type 0} (f : D → Result A DeliveryFault) (view : V → D) (vs : List V) (i : ℕ) : Type 0 where
+  pub front : List A
+  pub read : with_front front (each f (map view (drop i vs))) ≡ each f (map view vs)
+
+none_in_front : {A : Type 0} (read : Result (List A) DeliveryFault) → with_front [] read ≡ read
+none_in_front (Ok xs) = refl
+none_in_front (Err e) = refl
+
+pub begins : {V D A : Type 0} (f : D → Result A DeliveryFault) (view : V → D) (vs : List V) → IsReadTo f view vs 0
+begins f view vs = record { front = []; read = none_in_front (each f (map view vs)) }
+
+regroup : {A : Type 0} (front : List A) (x : A) (read : Result (List A) DeliveryFault) → with_front front (read >>= λ xs. Ok (x ∷ xs)) ≡ with_front (front ++ x ∷ []) read
+regroup {A} front x (Ok xs) = ap (λ (ys : List A). Ok ys) (simp append_assoc)
+regroup front x (Err f) = refl
+
+-- the list from a place on
+rest_is : {V D : Type 0} (view : V → D) (vs : List V) (i : ℕ) (v : V) → i < length vs → v ≡ get_or vs i v → map view (drop i vs) ≡ view v ∷ map view (drop (i + 1) vs)
+rest_is view vs i v lt is = rw (add-one, drop-cons vs i v, ← is) refl
+
+pub goes_on : {V D A : Type 0} (f : D → Result A DeliveryFault) (view : V → D) (vs : List V) (i : ℕ) (v : V) (x : A)
+    → i < length vs → v ≡ get_or vs i v → f (view v) ≡ Ok x → IsReadTo f view vs i → IsReadTo f view vs (i + 1)
+unfolding each
+goes_on f view vs i v x lt is h so_far =
+    let more = map view (drop (i + 1) vs) in
+    let one : with_front so_far.front (each f (map view (drop i vs))) ≡ with_front (so_far.front ++ x ∷ []) (each f more) = rw (rest_is view vs i v lt is, h) (regroup so_far.front x (each f more)) in
+    record { front = so_far.front ++ x ∷ []; read = sym one ∙ so_far.read }
+
+pub ends : {V D A : Type 0} (f : D → Result A DeliveryFault) (view : V → D) (e : DeliveryFault) (vs : List V) (i : ℕ) (v : V)
+    → i < length vs → v ≡ get_or vs i v → Fails e (f (view v)) → IsReadTo f view vs i → Fails e (each f (map view vs))
+unfolding each
+ends f view e vs i v lt is h so_far =
+    let more = map view (drop (i + 1) vs) in
+    let one : with_front so_far.front (each f (map view (drop i vs))) ≡ with_front so_far.front (f (view v) >>= λ x. each f more >>= λ xs. Ok (x ∷ xs)) = rw (rest_is view vs i v lt is) refl in
+    fails_along e _ _ (sym one ∙ so_far.read) (fails_as e _ (λ xs. Ok (so_far.front ++ xs)) (fails_as e (f (view v)) (λ x. each f more >>= λ xs. Ok (x ∷ xs)) h))
+
+pub is_done : {V D A : Type 0} (f : D → Result A DeliveryFault) (view : V → D) (vs : List V) (i : ℕ) → length vs ≤ i → (so_far : IsReadTo f view vs i) → each f (map view vs) ≡ Ok so_far.front
+unfolding each
+is_done {A = A} f view vs i le so_far =
+    let one : with_front so_far.front (each f (map view (drop i vs))) ≡ Ok so_far.front = rw (drop_of_length-le vs le) (ap (λ (xs : List A). Ok xs) (append-nil so_far.front)) in
+    sym so_far.read ∙ one
+
+-- ---- what was read
+
+pub record Parts {A : Type 0} (r : Result A DeliveryFault) (rest : Result (List A) DeliveryFault) (xs : List A) : Type 0 where
+  pub first : A
+  pub others : List A
+  pub first_is : r ≡ Ok first
+  pub others_are : rest ≡ Ok others
+  pub whole : xs ≡ first ∷ others
+
+parts : {A : Type 0} (r : Result A DeliveryFault) (rest : Result (List A) DeliveryFault) (xs : List A) → (r >>= λ x. rest >>= λ ys. Ok (x ∷ ys)) ≡ Ok xs → Parts r rest xs
+parts (Err e) rest xs is = absurd (let bad : Err e ≡ Ok xs = is in cc)
+parts (Ok x) (Err e) xs is = absurd (let bad : Err e ≡ Ok xs = is in cc)
+parts (Ok x) (Ok ys) xs is = record { first = x; others = ys; first_is = refl; others_are = refl; whole = let same : Ok (x ∷ ys) ≡ Ok xs = is in cc }
+
+-- what each of a list that was read gives, by a function that looks into what each step gives
+pub all_read : {X A : Type 0} (f : X → Result A DeliveryFault) (look : Result A DeliveryFault → A) (ds : List X) (xs : List A) → ((x : A) → look (Ok x) ≡ x) → each f ds ≡ Ok xs → xs ≡ map (λ d. look (f d)) ds
+unfolding each
+all_read {A = A} f look [] xs sees is = let same : Ok [] ≡ Ok xs = is in cc
+all_read {A = A} f look (d ∷ ds) xs sees is =
+    let p = parts (f d) (each f ds) xs is in
+    let here : look (f d) ≡ p.first = ap look p.first_is ∙ sees p.first in
+    let later : p.others ≡ map (λ x. look (f x)) ds = all_read f look ds p.others sees p.others_are in
+    p.whole ∙ rw (here, later) refl
+
+pub each_length : {V D A : Type 0} (f : D → Result A DeliveryFault) (view : V → D) (vs : List V) (xs : List A) → each f (map view vs) ≡ Ok xs → length xs ≡ length vs
+unfolding each
+each_length {A = A} f view [] xs is = let same : xs ≡ [] = (let e : Ok [] ≡ Ok xs = is in cc) in rw same refl
+each_length f view (v ∷ vs) xs is =
+    let p = parts (f (view v)) (each f (map view vs)) xs is in
+    ap length p.whole ∙ ap suc (each_length f view vs p.others p.others_are)
+
+read_there : {V D A : Type 0} (f : D → Result A DeliveryFault) (view : V → D) (vs : List V) (xs : List A) (i : ℕ) (v : V) (none : A) → each f (map view vs) ≡ Ok xs → i < length vs → f (view (get_or vs i v)) ≡ Ok (get_or xs i none)
+unfolding each
+read_there f view [] xs i v none is lt = absurd (omega arith)
+read_there {A = A} f view (w ∷ vs) xs zero v none is lt =
+    let p = parts (f (view w)) (each f (map view vs)) xs is in
+    p.first_is ∙ ap (λ (ys : List A). Ok (get_or ys zero none)) (sym p.whole)
+read_there {A = A} f view (w ∷ vs) xs (suc i) v none is lt =
+    let p = parts (f (view w)) (each f (map view vs)) xs is in
+    read_there f view vs p.others i v none p.others_are (omega arith) ∙ ap (λ (ys : List A). Ok (get_or ys (suc i) none)) (sym p.whole)
+
+-- what was read at a place
+pub each_there : {V D A : Type 0} (f : D → Result A DeliveryFault) (view : V → D) (vs : List V) (xs : List A) (i : ℕ) (v : V) (none : A) → each f (map view vs) ≡ Ok xs → i < length vs → v ≡ get_or vs i v → f (view v) ≡ Ok (get_or xs i none)
+each_there {V = V} f view vs xs i v none is lt at = ap (λ (w : V). f (view w)) at ∙ read_there f view vs xs i v none is lt
