@@ -1,4 +1,4 @@
-use Rattle.std.proofs.Common.{◌≡◌, Ok, Err, ap, sym}
+use Rattle.std.proofs.Common.{◌≡◌, Ok, ap, sym}
 use Rattle.imkl_model.specs.declared.fault.ModelFault.TheVariants as model
 use Rattle.ocl_check.specs.Reply.{refused_model}
 use Rattle.ocl_check.specs.Answers.{judged_model, judged_delivery, judge_answer, population_of}
