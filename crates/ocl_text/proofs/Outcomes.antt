@@ -1,5 +1,6 @@
 -- What the outcome of parsing says of the text.
-use Rattle.std.proofs.Common.{◌≡◌, ℕ, List, [], length, Bool, true, false, Ok, Err, refl, ap, subst}
+use Rattle.std.proofs.Common.{◌≡◌, ℕ, List, [], length, Bool, true, false, Result, Ok, Err, refl, ap, subst, IfOk}
+use Rattle.std.specs.Prelude.{IfErr}
 use Rattle.ocl_text.specs.declared.token.Token.{Token}
 use Rattle.ocl_text.specs.declared.refusal.Refusal.{Refusal}
 use Rattle.ocl_text.specs.declared.refusal.Refusal.TheVariants as r
@@ -8,14 +9,43 @@ use Rattle.ocl_text.specs.Lexical as l
 use Rattle.ocl_text.specs.Lexical.{Lexes, IsFault, StopsFrom, IsLexicalFault}
 use Rattle.ocl_text.specs.declared.fault.TextFault.{TextFault}
 use Rattle.ocl_text.specs.declared.fault.TextFault.TheVariants as f
-use Rattle.ocl_text.specs.Tree.{Rule}
-use Rattle.ocl_text.specs.Grammar.{Spells}
+use Rattle.ocl_text.specs.declared.tree.Expression.{Expression}
+use Rattle.ocl_text.specs.Tree.{Rule, Tree, view}
+use Rattle.ocl_text.specs.Grammar.{IsExpr, SpellsExpr, Spells}
 use Rattle.ocl_text.specs.RuleText.{TextSpells, TextSpellsWithin, RepeatsAt, place_of, IsWrong, IsTooDeep, IsRepeated, IfLexical, IfSyntax, IfTooDeep, IfDuplicate}
-use Rattle.ocl_text.specs.Parse.{syntax, too_deep, all_of}
-use Rattle.ocl_text.specs.Gives.{from, Fails, fault_of}
+use Rattle.ocl_text.specs.Parse.{Stop, syntax, too_deep, Read, expr, all_of}
+use Rattle.ocl_text.specs.Gives.{from, Gives, Fails, Tells, fault_of}
+use Rattle.ocl_text.proofs.Complete.{complete_expr}
+use Rattle.ocl_text.proofs.Sound.{sound_expr}
 use Rattle.ocl_text.proofs.Refused.{wrong_at, too_deep_at}
 use Rattle.ocl_text.proofs.OneReading.{one_token_list}
-use Rattle.ocl_text.proofs.Wider.{read_spells, one_list}
+use Rattle.ocl_text.proofs.Wider.{read_spells, one_expr, one_list}
+
+-- ---- an expression
+
+module _ (chain n : ℕ) (ts : List Token) (at : ℕ) where
+  expr_found : (x : Expression × ℕ) → expr chain n (from ts at) ≡ Ok (view x.0, from ts x.1) → IsExpr chain n (from ts at) (view x.0) (from ts x.1)
+  expr_found x h = subst (λ (r : Read Tree). IfOk r (λ y. IsExpr chain n (from ts at) y.0 y.1)) h (sound_expr chain n (from ts at))
+
+  pub expr_spells : (x : Result (Expression × ℕ) Refusal) → Gives ts view x (expr chain n (from ts at)) → IfOk x (λ y. IsExpr chain n (from ts at) (view y.0) (from ts y.1))
+  expr_spells (Ok x) h = expr_found x h
+  expr_spells (Err e) h = tt
+
+  pub expr_only : (x : Result (Expression × ℕ) Refusal) → Gives ts view x (expr chain n (from ts at))
+      → IfOk x (λ y. (tree : Tree) (rest : List Word) → SpellsExpr (from ts at) tree rest → (tree ≡ view y.0) × (rest ≡ from ts y.1))
+  expr_only (Ok x) h = λ tree rest d. one_expr (from ts at) tree (view x.0) rest (from ts x.1) d (n, chain, expr_found x h)
+  expr_only (Err e) h = tt
+
+  no_expr : (s : Stop) → expr chain n (from ts at) ≡ Err s → (tree : Tree) (rest : List Word) → IsExpr chain n (from ts at) tree rest → ⊥
+  no_expr s h tree rest d = let e = complete_expr d in cc (h, e)
+
+  pub expr_refused : (x : Result (Expression × ℕ) Refusal) → Gives ts view x (expr chain n (from ts at)) → IfErr x (Tells ((tree : Tree) (rest : List Word) → IsExpr chain n (from ts at) tree rest → ⊥))
+  expr_refused (Ok x) h = tt
+  expr_refused (Err r.Memory) h = tt
+  expr_refused (Err (r.Syntax at)) h = no_expr _ h
+  expr_refused (Err (r.TooDeep at)) h = no_expr _ h
+
+-- ---- a whole text
 
 module _ (nesting chain : ℕ) (text : List ℕ) (ts : List Token) (lexes : Lexes text (words ts)) where
   pub text_spells : (rules : List Rule) → all_of nesting chain (words ts) ≡ Ok rules → TextSpellsWithin nesting chain text rules
