@@ -105,7 +105,7 @@ sees_named text at ts =
     (pass (name text at) (May stops) ts)
     (may_not stops qualifies stop_qualifies)
 
-module _ (operand whole : Parser Tree) (at : ℕ) where
+module _ (whole : Parser Tree) (at : ℕ) where
   abbrev after_other : Tree → Tree → Tree → Parser Tree
   after_other x y z us = expect m.Endif us >>= λ rest. Ok (choose x y z at, rest)
 
@@ -121,10 +121,10 @@ module _ (operand operand' whole whole' : Parser Tree) (sees : (ts : List Word) 
   pub sees_conditional : (at : ℕ) (ts : List Word) → Sees (conditional operand whole at) (conditional operand' whole' at) (May stops) (Next counts) ts
   unfolding conditional
   sees_conditional at ts =
-      bind operand operand' (after_condition operand whole at) (after_condition operand' whole' at) (May stops) (May stops) (Next (is_mark m.Then)) (Next counts) ts (mark_may m.Then stops refl) (sees ts)
-      (λ x us. bind (λ vs. expect m.Then vs >>= whole) (λ vs. expect m.Then vs >>= whole') (after_chosen operand whole at x) (after_chosen operand' whole' at x) (May stops) (May stops) (Next (is_mark m.Else)) (Next (is_mark m.Then)) us (mark_may m.Else stops refl)
+      bind operand operand' (after_condition whole at) (after_condition whole' at) (May stops) (May stops) (Next (is_mark m.Then)) (Next counts) ts (mark_may m.Then stops refl) (sees ts)
+      (λ x us. bind (λ vs. expect m.Then vs >>= whole) (λ vs. expect m.Then vs >>= whole') (after_chosen whole at x) (after_chosen whole' at x) (May stops) (May stops) (Next (is_mark m.Else)) (Next (is_mark m.Then)) us (mark_may m.Else stops refl)
       (sees_expect m.Then whole whole' (May stops) (Next counts) sees_whole us)
-      (λ y vs. bind (λ ws. expect m.Else ws >>= whole) (λ ws. expect m.Else ws >>= whole') (after_other operand whole at x y) (after_other operand' whole' at x y) (May stops) (May stops) (Next (is_mark m.Endif)) (Next (is_mark m.Else)) vs (mark_may m.Endif stops refl)
+      (λ y vs. bind (λ ws. expect m.Else ws >>= whole) (λ ws. expect m.Else ws >>= whole') (after_other whole at x y) (after_other whole' at x y) (May stops) (May stops) (Next (is_mark m.Endif)) (Next (is_mark m.Else)) vs (mark_may m.Endif stops refl)
       (sees_expect m.Else whole whole' (May stops) (Next counts) sees_whole vs)
       (λ z ws. sees_expect m.Endif _ _ (May stops) (May stops) (λ rest. pass (choose x y z at) (May stops) rest) ws)))
 

@@ -345,11 +345,6 @@ fn tokens_of_rule_texts(rt: HostRuntime) -> Result<(), Fail> {
             "context A inv: self.x->select(a, b | true)",
             "Context 0-7;Identifier 8-9;Inv 10-13;Colon 13-14;SelfObject 15-19;Dot 19-20;Identifier 20-21;Arrow 21-23;Identifier 23-29;Open 29-30;Identifier 30-31;Comma 31-32;Identifier 33-34;Bar 35-36;True 37-41;Close 41-42;",
         ),
-        ("context A inv: 1 ; 2", "fault 1 17"),
-        ("context A inv: 1 / 2", "fault 1 17"),
-        ("context A inv: 1 /* x", "fault 5 17"),
-        ("context A inv: 9223372036854775808 > 0", "fault 4 15"),
-        ("context A inv: 'a\\q'", "fault 3 17"),
         (
             "context A inv p: true inv p: true",
             "Context 0-7;Identifier 8-9;Inv 10-13;Identifier 14-15;Colon 15-16;True 17-21;Inv 22-25;Identifier 26-27;Colon 27-28;True 29-33;",
