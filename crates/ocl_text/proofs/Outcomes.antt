@@ -79,15 +79,15 @@ module _ (nesting chain : ℕ) (text : List ℕ) (ts : List Token) (lexes : Lexe
   text_repeats rules place h repeats = record { rules = rules; spells = text_spells rules h; repeats = repeats }
 
 -- a refusal of the tokens is no other fault
-pub refused_lexical : (text : List ℕ) (ts : List Token) (refusal : Refusal) → IfLexical text (fault_of ts (length text) refusal)
-refused_lexical text ts r.Memory = tt
-refused_lexical text ts (r.Syntax at) = tt
-refused_lexical text ts (r.TooDeep at) = tt
+pub refused_lexical : (text : List ℕ) (ts : List Token) (end : ℕ) (refusal : Refusal) → IfLexical text (fault_of ts end refusal)
+refused_lexical text ts end r.Memory = tt
+refused_lexical text ts end (r.Syntax at) = tt
+refused_lexical text ts end (r.TooDeep at) = tt
 
-pub refused_duplicate : (nesting chain : ℕ) (text : List ℕ) (ts : List Token) (refusal : Refusal) → IfDuplicate nesting chain text (fault_of ts (length text) refusal)
-refused_duplicate nesting chain text ts r.Memory = tt
-refused_duplicate nesting chain text ts (r.Syntax at) = tt
-refused_duplicate nesting chain text ts (r.TooDeep at) = tt
+pub refused_duplicate : (nesting chain : ℕ) (text : List ℕ) (ts : List Token) (end : ℕ) (refusal : Refusal) → IfDuplicate nesting chain text (fault_of ts end refusal)
+refused_duplicate nesting chain text ts end r.Memory = tt
+refused_duplicate nesting chain text ts end (r.Syntax at) = tt
+refused_duplicate nesting chain text ts end (r.TooDeep at) = tt
 
 -- the faults 1 to 5
 abbrev is_lexical : TextFault → Bool

@@ -26,7 +26,7 @@ returns-in_err-words-clause-duplicate c =
     rw (p.1, p.2) (stops_no_duplicate MAX_NESTING MAX_CHAIN c.args.text.now c.in_err-words.field-0.0 c.in_err-words.ensures.fault)
 
 pub returns-in-Err-clause-lexical : goal.returns-in-Err-clause-lexical
-returns-in-Err-clause-lexical c = rw (c.fault_of.ensures, c.deref-in-Err.ensures.value) (refused_lexical c.args.text.now c.in_ok-words.words.items c.in-Err.refusal)
+returns-in-Err-clause-lexical c = rw (c.fault_of.ensures, c.deref-in-Err.ensures.value) (refused_lexical c.args.text.now c.in_ok-words.words.items _ c.in-Err.refusal)
 
 pub returns-in-Err-clause-syntax : goal.returns-in-Err-clause-syntax
 returns-in-Err-clause-syntax c = rw (c.fault_of.ensures, c.deref-in-Err.ensures.value) (refused_syntax MAX_NESTING MAX_CHAIN c.args.text.now c.in_ok-words.words.items c.in_ok-words.ensures.tokens c.in-Err.refusal (rw c.deref.ensures.value at c.in-Err.ensures))
@@ -35,7 +35,7 @@ pub returns-in-Err-clause-too_deep : goal.returns-in-Err-clause-too_deep
 returns-in-Err-clause-too_deep c = rw (c.fault_of.ensures, c.deref-in-Err.ensures.value) (refused_too_deep MAX_NESTING MAX_CHAIN c.args.text.now c.in_ok-words.words.items c.in_ok-words.ensures.tokens c.in-Err.refusal (rw c.deref.ensures.value at c.in-Err.ensures))
 
 pub returns-in-Err-clause-duplicate : goal.returns-in-Err-clause-duplicate
-returns-in-Err-clause-duplicate c = rw (c.fault_of.ensures, c.deref-in-Err.ensures.value) (refused_duplicate MAX_NESTING MAX_CHAIN c.args.text.now c.in_ok-words.words.items c.in-Err.refusal)
+returns-in-Err-clause-duplicate c = rw (c.fault_of.ensures, c.deref-in-Err.ensures.value) (refused_duplicate MAX_NESTING MAX_CHAIN c.args.text.now c.in_ok-words.words.items _ c.in-Err.refusal)
 
 pub returns-in-None-clause-spells : goal.returns-in-None-clause-spells
 returns-in-None-clause-spells c = text_spells MAX_NESTING MAX_CHAIN c.args.text.now c.in_ok-words.words.items c.in_ok-words.ensures.tokens _ (rw c.deref.ensures.value at c.in-Ok.ensures)
