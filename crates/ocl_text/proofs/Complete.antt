@@ -19,7 +19,7 @@ use Rattle.ocl_text.specs.Parse.{Stop, syntax, too_deep, Read, Parser, ◌>>=◌
 use Rattle.ocl_text.proofs.Turns.{expr_plain, steps_none, chain_none}
 
 -- ---- each part takes a token
-shorter_type : {n : ℕ} {ts rest : List Word} {s : Shape} → IsType n ts s rest → length rest < length ts
+pub shorter_type : {n : ℕ} {ts rest : List Word} {s : Shape} → IsType n ts s rest → length rest < length ts
 shorter_type (g.a_plain_type h) = omega arith
 shorter_type (g.a_type_of d) = let a = shorter_type d in omega arith
 
@@ -225,7 +225,7 @@ module _ (n : ℕ) (operand whole : Parser Tree) where
   unfolding applied
   applied_iterate source text at ts kind h = ap (λ o. applied_by n operand whole o source text at ts) h
 
-no_variable_is : (n : ℕ) (two : Bool) (ts : List Word) → begins_variable ts ≡ false → optional_variables n two ts ≡ Ok ([], ts)
+pub no_variable_is : (n : ℕ) (two : Bool) (ts : List Word) → begins_variable ts ≡ false → optional_variables n two ts ≡ Ok ([], ts)
 unfolding optional_variables
 no_variable_is n two ts h = rw h refl
 
@@ -353,12 +353,12 @@ mutual
 
 -- ---- rules
 
-shorter_invariant : {nesting c n class_at : ℕ} {class : List ℕ} {ts rest : List Word} {rule : Rule} → IsInvariant nesting c n class class_at ts rule rest → length rest < length ts
+pub shorter_invariant : {nesting c n class_at : ℕ} {class : List ℕ} {ts rest : List Word} {rule : Rule} → IsInvariant nesting c n class class_at ts rule rest → length rest < length ts
 shorter_invariant (g.named d) = let a = shorter_expr d in omega arith
 shorter_invariant (g.unnamed d) = let a = shorter_expr d in omega arith
 
 mutual
-  shorter_invariants : {nesting c class_at : ℕ} {class : List ℕ} {found all : List Rule} {ts rest : List Word} → IsInvariants nesting c class class_at found ts all rest → length rest < length ts
+  pub shorter_invariants : {nesting c class_at : ℕ} {class : List ℕ} {found all : List Rule} {ts rest : List Word} → IsInvariants nesting c class class_at found ts all rest → length rest < length ts
   shorter_invariants (g.an_invariant d e) = let a = shorter_invariant d in let b = shorter_more_invariants e in omega arith
 
   shorter_more_invariants : {nesting c class_at : ℕ} {class : List ℕ} {found all : List Rule} {ts rest : List Word} → MoreInvariants nesting c class class_at found ts all rest → length rest ≤ length ts

@@ -109,14 +109,14 @@ unfolding levels
 agree_levels b c p p' h zero ts = h ts
 agree_levels b c p p' h (suc level) ts = bind_agree _ _ _ _ (agree_levels b c p p' h level ts) (λ left. agree_chain b (levels c p level) (levels (plus c b) p' level) (agree_levels b c p p' h level) level c left.0 left.1)
 
-levels_shut : (c : ℕ) (p : Parser Tree) (level : ℕ) (ts : List Word) → p ts ≡ Err (syntax ts) → levels c p level ts ≡ Err (syntax ts)
+pub levels_shut : (c : ℕ) (p : Parser Tree) (level : ℕ) (ts : List Word) → p ts ≡ Err (syntax ts) → levels c p level ts ≡ Err (syntax ts)
 unfolding levels
 levels_shut c p zero ts h = h
 levels_shut c p (suc level) ts h = rw (levels_shut c p level ts h) refl
 
 -- ---- what stands inside a construct
 
-unary_shut : (c n : ℕ) (ts : List Word) → next_is begins ts ≡ false → unary c n ts ≡ Err (syntax ts)
+pub unary_shut : (c n : ℕ) (ts : List Word) → next_is begins ts ≡ false → unary c n ts ≡ Err (syntax ts)
 unfolding unary unary_over too_deep_at post prim
 unary_shut c zero ts h = rw h refl
 unary_shut c (suc n) [] h = refl

@@ -12,4 +12,13 @@ pub mod Sound
 pub mod Wider
 pub mod Taken
 pub mod Deeper
+pub mod Prefixes
+pub mod Stops
+pub mod Spelled
+pub mod Lists
+pub mod Parts
+pub mod Steps
+pub mod Expressions
+pub mod Contexts
+pub mod Refused
 pub mod Outcomes

@@ -17,11 +17,11 @@ use Rattle.ocl_text.specs.Parse.{Stop, syntax, too_deep, Read, Parser, ◌>>=◌
 
 -- ---- how parts are put together
 
-bind_ok : {A B : Type 0} (P : A → Type 0) (Q : B → Type 0) (r : Result A Stop) (f : A → Result B Stop) → IfOk r P → ((x : A) → P x → IfOk (f x) Q) → IfOk (r >>= f) Q
+pub bind_ok : {A B : Type 0} (P : A → Type 0) (Q : B → Type 0) (r : Result A Stop) (f : A → Result B Stop) → IfOk r P → ((x : A) → P x → IfOk (f x) Q) → IfOk (r >>= f) Q
 bind_ok P Q (Ok x) f h s = s x h
 bind_ok P Q (Err e) f h s = tt
 
-weaker : {A : Type 0} (P Q : A → Type 0) (r : Result A Stop) → ((x : A) → P x → Q x) → IfOk r P → IfOk r Q
+pub weaker : {A : Type 0} (P Q : A → Type 0) (r : Result A Stop) → ((x : A) → P x → Q x) → IfOk r P → IfOk r Q
 weaker P Q (Ok x) f h = f x h
 weaker P Q (Err e) f h = tt
 
@@ -29,7 +29,7 @@ if_ok : {A : Type 0} (P : A → Type 0) (b : Bool) (r s : Result A Stop) → (b 
 if_ok P true r s f h = f refl
 if_ok P false r s f h = h refl
 
-abbrev mark_kind : Mark → TokenKind
+abbrev pub mark_kind : Mark → TokenKind
 mark_kind m.Open = k.Open
 mark_kind m.Close = k.Close
 mark_kind m.Bar = k.Bar
@@ -41,7 +41,7 @@ mark_kind m.Else = k.Else
 mark_kind m.Endif = k.Endif
 mark_kind m.Context = k.Context
 
-mark_is : (mark : Mark) (kind : TokenKind) → is_mark mark kind ≡ true → kind ≡ mark_kind mark
+pub mark_is : (mark : Mark) (kind : TokenKind) → is_mark mark kind ≡ true → kind ≡ mark_kind mark
 mark_is m.Open k.Open h = refl
 mark_is m.Open (k.Number v) h = absurd (cc)
 mark_is m.Open _ h = absurd (cc)
@@ -147,7 +147,7 @@ no_deeper : {A : Type 0} (test : TokenKind → Bool) (ts : List Word) (P : A × 
 unfolding too_deep_at
 no_deeper test ts P = if_ok P (next_is test ts) _ _ (λ h. tt) (λ h. tt)
 
-sound_type : (n : ℕ) (ts : List Word) → IfOk (p.a_type n ts) (λ x. IsType n ts x.0 x.1)
+pub sound_type : (n : ℕ) (ts : List Word) → IfOk (p.a_type n ts) (λ x. IsType n ts x.0 x.1)
 unfolding p.a_type p.type_over
 sound_type zero ts = no_deeper g.is_name ts _
 sound_type (suc n) [] = tt
@@ -370,7 +370,7 @@ module _ (c n level : ℕ) (operand : Parser Tree) (sound : Sound (IsLevel c n l
       (λ right d. weaker (λ x. GoesOn c n level l (binary op left right.0 t.at) right.1 x.0 x.1) _ (chain operand level l (binary op left right.0 t.at) right.1)
       (λ x f. rw is (g.more h d f)) (sound_chain l (binary op left right.0 t.at) right.1)))
 
-sound_levels : (c n : ℕ) (p : Parser Tree) → Sound (IsUnary c n) p → (level : ℕ) → Sound (IsLevel c n level) (levels c p level)
+pub sound_levels : (c n : ℕ) (p : Parser Tree) → Sound (IsUnary c n) p → (level : ℕ) → Sound (IsLevel c n level) (levels c p level)
 unfolding levels
 sound_levels c n p sound zero ts = weaker _ _ (p ts) (λ x d. g.unary d) (sound ts)
 sound_levels c n p sound (suc level) ts =
@@ -476,7 +476,7 @@ module _ (nesting c : ℕ) where
       (λ colon_at colon us is. weaker (λ x. IsExpr c (suc nesting) us x.0 x.1) _ (expr c (suc nesting) us) (λ x d. give colon_at colon us is x.0 x.1 d) (sound_expr c (suc nesting) us)) v.1 refl)
       (λ x d. d))
 
-  sound_invariant : (class : List ℕ × ℕ) (n : ℕ) (ts : List Word) → IfOk (invariant (expr c (suc nesting)) class n ts) (λ x. IsInvariant nesting c n class.0 class.1 ts x.0 x.1)
+  pub sound_invariant : (class : List ℕ × ℕ) (n : ℕ) (ts : List Word) → IfOk (invariant (expr c (suc nesting)) class n ts) (λ x. IsInvariant nesting c n class.0 class.1 ts x.0 x.1)
   unfolding invariant
   sound_invariant class n [] = tt
   sound_invariant class n (t ∷ ts) = by t.kind t.at t.text
@@ -486,7 +486,7 @@ module _ (nesting c : ℕ) where
       by (k.Number v) at text = tt
       by _ at text = tt
 
-  sound_invariants : (class : List ℕ × ℕ) (f : ℕ) (found : List Rule) (ts : List Word) → IfOk (invariants (expr c (suc nesting)) class f found ts) (λ x. IsInvariants nesting c class.0 class.1 found ts x.0 x.1)
+  pub sound_invariants : (class : List ℕ × ℕ) (f : ℕ) (found : List Rule) (ts : List Word) → IfOk (invariants (expr c (suc nesting)) class f found ts) (λ x. IsInvariants nesting c class.0 class.1 found ts x.0 x.1)
   unfolding invariants
   sound_invariants class zero found ts = tt
   sound_invariants class (suc f) found ts =

@@ -1,11 +1,11 @@
 -- What is spelled within limits is spelled within wider ones, and a list spells at most one list of rules.
-use Rattle.std.proofs.Common.{◌≡◌, ℕ, zero, suc, ◌+◌, List, [], length, Result, Ok, ◌∙◌, subst, Bool, arith, IfOk}
+use Rattle.std.proofs.Common.{◌≡◌, ℕ, zero, suc, ◌+◌, List, [], length, Result, Ok, ap, ◌∙◌, subst, Bool, arith, IfOk}
 use Rattle.ocl_text.specs.Tokens.{Word}
 use Rattle.ocl_text.specs.Tree.{Shape, Optional, Bound, Rule, Tree}
 use Rattle.ocl_text.specs.Grammar as g
-use Rattle.ocl_text.specs.Grammar.{IsExpr, IsBinds, MoreBinds, IsUnary, IsPrim, IsLevel, GoesOn, IsSteps, IsArguments, IsItems, MoreItems, IsIteration, IsType, IsVariable, IsInvariant, IsInvariants, MoreInvariants, IsContexts, Spells, SpellsWithin}
+use Rattle.ocl_text.specs.Grammar.{IsExpr, IsBinds, MoreBinds, IsUnary, IsPrim, IsLevel, GoesOn, IsSteps, IsArguments, IsItems, MoreItems, IsIteration, IsType, IsVariable, IsInvariant, IsInvariants, MoreInvariants, IsContexts, SpellsExpr, Spells, SpellsWithin}
 use Rattle.ocl_text.specs.Parse.{Stop, all_of}
-use Rattle.ocl_text.proofs.Complete.{complete_contexts}
+use Rattle.ocl_text.proofs.Complete.{complete_expr, complete_contexts}
 use Rattle.ocl_text.proofs.Sound.{sound_contexts}
 
 abbrev pub plus : ℕ → ℕ → ℕ
@@ -113,6 +113,14 @@ spelled_read nesting chain ts rules d = complete_contexts d (length ts) (omega a
 
 pub wider : (nesting chain a b : ℕ) (ts : List Word) (rules : List Rule) → SpellsWithin nesting chain ts rules → SpellsWithin (plus nesting a) (plus chain b) ts rules
 wider nesting chain a b ts rules d = wider_contexts a b d
+
+pub one_expr : (ts : List Word) (some others : Tree) (left remains : List Word) → SpellsExpr ts some left → SpellsExpr ts others remains → (some ≡ others) × (left ≡ remains)
+one_expr ts some others left remains (n, c, d) (m, e, f) =
+    let x = complete_expr (wider_expr m e d) in
+    let y = complete_expr (wider_expr n c f) in
+    let z = rw (plus_swap m n, plus_swap e c) at y in
+    let same : (some, left) ≡ (others, remains) = cc (x, z) in
+    (ap (λ (p : Tree × List Word). p.0) same, ap (λ (p : Tree × List Word). p.1) same)
 
 pub one_list : (ts : List Word) (some others : List Rule) → Spells ts some → Spells ts others → some ≡ others
 one_list ts some others (n, c, d) (m, e, f) =

@@ -34,6 +34,12 @@ abbrev pub GivesAll : {X A : Type 0} → List Token → (X → A) → Result X R
 GivesAll ts f (Ok x) read = read ≡ Ok (f x)
 GivesAll ts f (Err e) read = Fails ts e read
 
+-- a refusal says so of the tokens; want of memory says nothing
+abbrev pub Tells : Type 0 → Refusal → Type 0
+Tells P r.Memory = Unit {0}
+Tells P (r.Syntax at) = P
+Tells P (r.TooDeep at) = P
+
 -- the fault of a refusal, in a text of this length
 abbrev pub fault_of : List Token → ℕ → Refusal → TextFault
 fault_of ts end r.Memory = OutOfMemory

@@ -227,6 +227,10 @@ mutual
     one_variable : {m at bar_at end : ℕ} {two : Bool} {text bar closing : List ℕ} {us ts rest : List Word} {v : Optional} {body : Tree} → begins_variable us ≡ true → IsVariable (suc m) us v (token k.Bar bar_at bar ∷ ts) → IsExpr chain (suc m) ts body (token k.Close end closing ∷ rest) → IsIteration chain (suc m) two (token k.Open at text ∷ us) (v ∷ []) body rest
     two_variables : {m at comma_at bar_at end : ℕ} {text comma bar closing : List ℕ} {us vs ts rest : List Word} {v w : Optional} {body : Tree} → begins_variable us ≡ true → IsVariable (suc m) us v (token k.Comma comma_at comma ∷ vs) → IsVariable (suc m) vs w (token k.Bar bar_at bar ∷ ts) → IsExpr chain (suc m) ts body (token k.Close end closing ∷ rest) → IsIteration chain (suc m) true (token k.Open at text ∷ us) (v ∷ w ∷ []) body rest
 
+-- the tokens before the rest spell the expression, within some limits
+abbrev pub SpellsExpr : List Word → Tree → List Word → Type 0
+SpellsExpr ts tree rest = (n : ℕ) × (chain : ℕ) × IsExpr chain n ts tree rest
+
 -- ---- rules; an invariant's expression may open `nesting` constructs
 
 -- without a name of its own an invariant is named `inv` and its number

@@ -39,21 +39,34 @@ abbrev pub place_of : ℕ → List Word → ℕ
 place_of end [] = end
 place_of end (t ∷ ts) = t.at
 
--- The tokens spell no rules, within any limits; the place is that of a token, or the length of the text.
+-- a list that agrees with this one through its first token, or is empty where this one is
+abbrev pub Agrees : List Word → List Word → Type 0
+Agrees [] other = other ≡ []
+Agrees (t ∷ ts) other = (more : List Word) × (other ≡ t ∷ more)
+
+-- the tokens begin a list that spells rules
+abbrev pub BeginsRules : List Word → Type 0
+BeginsRules before = (more : List Word) × (rules : List Rule) × Spells (before ++ more) rules
+
+-- The tokens before the place begin a list that spells rules, and no list that agrees with the text's through the place does:
+-- at the text's length, the whole list spells none.
 pub record IsWrong (text : List ℕ) (place : ℕ) : Type 0 where
   pub before : List Word
   pub rest : List Word
   pub lexes : Lexes text (before ++ rest)
   pub stands : place ≡ place_of (length text) rest
-  pub none : (rules : List Rule) → Spells (before ++ rest) rules → ⊥
+  pub begins : BeginsRules before
+  pub cannot : (other : List Word) (rules : List Rule) → Agrees rest other → Spells (before ++ other) rules → ⊥
 
--- The tokens spell no rules within these limits; the place is that of a token, or the length of the text.
+-- The tokens through the place begin a list that spells rules, but none that does within these limits.
 pub record IsTooDeep (nesting chain : ℕ) (text : List ℕ) (place : ℕ) : Type 0 where
   pub before : List Word
-  pub rest : List Word
-  pub lexes : Lexes text (before ++ rest)
-  pub stands : place ≡ place_of (length text) rest
-  pub none : (rules : List Rule) → SpellsWithin nesting chain (before ++ rest) rules → ⊥
+  pub first : Word
+  pub after : List Word
+  pub lexes : Lexes text (before ++ first ∷ after)
+  pub stands : place ≡ first.at
+  pub begins : BeginsRules (before ++ first ∷ [])
+  pub cannot : (more : List Word) (rules : List Rule) → SpellsWithin nesting chain (before ++ first ∷ more) rules → ⊥
 
 -- the text spells rules, and at this place is the first whose name stands on an earlier one
 pub record IsRepeated (nesting chain : ℕ) (text : List ℕ) (place : ℕ) : Type 0 where
@@ -61,10 +74,27 @@ pub record IsRepeated (nesting chain : ℕ) (text : List ℕ) (place : ℕ) : Ty
   pub spells : TextSpellsWithin nesting chain text rules
   pub repeats : RepeatsAt [] rules place
 
--- what a refusal says of the text; nothing for want of memory
-abbrev pub IsTextFault : ℕ → ℕ → List ℕ → TextFault → Type 0
-IsTextFault nesting chain text (Syntax place) = IsWrong text place
-IsTextFault nesting chain text (TooDeep place) = IsTooDeep nesting chain text place
-IsTextFault nesting chain text (DuplicateRule place) = IsRepeated nesting chain text place
-IsTextFault nesting chain text OutOfMemory = Unit {0}
-IsTextFault nesting chain text fault = Stops text fault
+-- ---- what a refusal says of the text, fault by fault; nothing for want of memory
+
+-- 1 to 5
+abbrev pub IfLexical : List ℕ → TextFault → Type 0
+IfLexical text (Syntax place) = Unit {0}
+IfLexical text (TooDeep place) = Unit {0}
+IfLexical text (DuplicateRule place) = Unit {0}
+IfLexical text OutOfMemory = Unit {0}
+IfLexical text fault = Stops text fault
+
+-- 6
+abbrev pub IfSyntax : List ℕ → TextFault → Type 0
+IfSyntax text (Syntax place) = IsWrong text place
+IfSyntax text fault = Unit {0}
+
+-- 7
+abbrev pub IfTooDeep : ℕ → ℕ → List ℕ → TextFault → Type 0
+IfTooDeep nesting chain text (TooDeep place) = IsTooDeep nesting chain text place
+IfTooDeep nesting chain text fault = Unit {0}
+
+-- 8
+abbrev pub IfDuplicate : ℕ → ℕ → List ℕ → TextFault → Type 0
+IfDuplicate nesting chain text (DuplicateRule place) = IsRepeated nesting chain text place
+IfDuplicate nesting chain text fault = Unit {0}

@@ -1,9 +1,11 @@
 //! Expressions, by recursive descent.
 
-ghost use Rattle.std.specs.Prelude.{◌≡◌, ◌≤◌, ◌<◌, ◌+◌, [], ◌∷◌, true, length, List, map, string_bytes};
+ghost use Rattle.std.specs.Prelude.{◌≡◌, ◌≤◌, ◌<◌, ◌+◌, [], ◌∷◌, true, length, List, map, string_bytes, IfOk, IfErr};
 ghost use Rattle.ocl_text.specs.Parse as spec;
 ghost use Rattle.ocl_text.specs.Tree.{Tree, view, bound_of, variable_of};
-ghost use Rattle.ocl_text.specs.Gives.{Gives, Fails, from};
+ghost use Rattle.ocl_text.specs.Tokens.{Word};
+ghost use Rattle.ocl_text.specs.Grammar.{IsExpr, SpellsExpr};
+ghost use Rattle.ocl_text.specs.Gives.{Gives, Fails, Tells, from};
 
 use crate::cursor::Mark;
 use crate::refusal::Refusal;
@@ -15,10 +17,27 @@ use std::alloc::Global;
 /// The loosest level of operators.
 const TOP: usize = 8;
 
+/// The expression that begins at this token, and the place after it. Round a token there may be fewer open constructs than the
+/// depth, and a chain may have so many links.
+pub(crate) fn expression(
+    alloc: Global,
+    most: usize,
+    depth: usize,
+    tokens: &[Token<'_>],
+    at: usize,
+) -> Result<(Expression, usize), Refusal>
+    ensures gives { Gives tokens.now view result (spec.expr most depth (from tokens.now at)) }
+    ensures spells { IfOk result (λ x. IsExpr most depth (from tokens.now at) (view x.0) (from tokens.now x.1)) }
+    ensures only { IfOk result (λ x. (tree : Tree) (rest : List Word) → SpellsExpr (from tokens.now at) tree rest → (tree ≡ view x.0) × (rest ≡ from tokens.now x.1)) }
+    ensures refused { IfErr result (Tells ((tree : Tree) (rest : List Word) → IsExpr most depth (from tokens.now at) tree rest → ⊥)) }
+{
+    expr(alloc, most, depth, tokens, at)
+}
+
 /// An expression: a `let`, or operands with binary operators. No token may stand where the depth is 0.
 #[cycle(parser)]
 #[tactic(auto, unfolding(crate::specs::Parse::unary, crate::specs::Parse::expr, crate::specs::Parse::expr_over))]
-pub(crate) fn expr(
+fn expr(
     alloc: Global,
     most: usize,
     depth: usize,

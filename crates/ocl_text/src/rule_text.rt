@@ -3,7 +3,7 @@
 ghost use Rattle.std.specs.Prelude.{◌≡◌, List, IfOk, IfErr, map};
 ghost use Rattle.ocl_text.specs.Gives as spec;
 ghost use Rattle.ocl_text.specs.Gives.{from};
-ghost use Rattle.ocl_text.specs.RuleText.{TextSpells, TextSpellsWithin, NamesDiffer, IsTextFault, place_of};
+ghost use Rattle.ocl_text.specs.RuleText.{TextSpells, TextSpellsWithin, NamesDiffer, IfLexical, IfSyntax, IfTooDeep, IfDuplicate, place_of};
 ghost use Rattle.ocl_text.specs.Tree.{Rule, rule_of};
 
 use crate::cursor::peek;
@@ -53,7 +53,10 @@ pub fn parse_rules(alloc: Global, text: &str) -> Result<Vec<SurfaceRule>, TextFa
     ensures spells { IfOk result (λ rules. TextSpellsWithin 64 256 text.now (map rule_of rules.items)) }
     ensures only { IfOk result (λ rules. (others : List Rule) → TextSpells text.now others → others ≡ map rule_of rules.items) }
     ensures names { IfOk result (λ rules. NamesDiffer (map rule_of rules.items)) }
-    ensures fault { IfErr result (IsTextFault 64 256 text.now) }
+    ensures lexical { IfErr result (IfLexical text.now) }
+    ensures syntax { IfErr result (IfSyntax text.now) }
+    ensures too_deep { IfErr result (IfTooDeep 64 256 text.now) }
+    ensures duplicate { IfErr result (IfDuplicate 64 256 text.now) }
 {
     let words = tokens(alloc, text)?;
     let rules = match rules_of(alloc, MAX_NESTING, MAX_CHAIN, &words) {

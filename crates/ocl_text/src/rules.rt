@@ -91,7 +91,7 @@ fn invariant_at(
 {
     let (name, at) = rule_name(alloc, number, tokens, at)?;
     let at = cursor::expect(Mark::Colon, tokens, at)?;
-    let (expression, at) = parser::expr(alloc, most, depth, tokens, at)?;
+    let (expression, at) = parser::expression(alloc, most, depth, tokens, at)?;
     let context = class.name.clone()?;
     let rule = SurfaceRule {
         name,

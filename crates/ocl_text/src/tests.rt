@@ -220,6 +220,20 @@ fn nested(
     Ok(outcome(alloc, &text))
 }
 
+/// A rule that declares a variable of a type with so many types round it.
+fn nested_type(alloc: Global, times: usize) -> Result<(u8, usize), Fail> {
+    let mut text = String::from_str(alloc, "context A inv: let a : ")?;
+    for _ in 0..times {
+        text.push_str("S(")?;
+    }
+    text.push('T')?;
+    for _ in 0..times {
+        text.push(')')?;
+    }
+    text.push_str(" = 1 in a")?;
+    Ok(outcome(alloc, &text))
+}
+
 #[test]
 fn tokens_of_texts(rt: HostRuntime) -> Result<(), Fail> {
     let alloc = rt.alloc();
@@ -272,6 +286,82 @@ fn tokens_of_texts(rt: HostRuntime) -> Result<(), Fail> {
 }
 
 #[test]
+fn tokens_of_rule_texts(rt: HostRuntime) -> Result<(), Fail> {
+    let alloc = rt.alloc();
+    let rows = [
+        (
+            "context KabelOfLeiding inv diepteMin: self.diepte >= 600",
+            "Context 0-7;Identifier 8-22;Inv 23-26;Identifier 27-36;Colon 36-37;SelfObject 38-42;Dot 42-43;Identifier 43-49;GreaterEqual 50-52;Number(600) 53-56;",
+        ),
+        (
+            "context Mantelbuis inv d: self.omvat->forAll(k | k.diepte >= 600)",
+            "Context 0-7;Identifier 8-18;Inv 19-22;Identifier 23-24;Colon 24-25;SelfObject 26-30;Dot 30-31;Identifier 31-36;Arrow 36-38;Identifier 38-44;Open 44-45;Identifier 45-46;Bar 47-48;Identifier 49-50;Dot 50-51;Identifier 51-57;GreaterEqual 58-60;Number(600) 61-64;Close 64-65;",
+        ),
+        (
+            "context Mantelbuis inv s: self.omvat.diepte->sum() = 1200",
+            "Context 0-7;Identifier 8-18;Inv 19-22;Identifier 23-24;Colon 24-25;SelfObject 26-30;Dot 30-31;Identifier 31-36;Dot 36-37;Identifier 37-43;Arrow 43-45;Identifier 45-48;Open 48-49;Close 49-50;Equal 51-52;Number(1200) 53-57;",
+        ),
+        (
+            "Elektriciteitskabel.allInstances().spanning->sum() = 9223372036854775807",
+            "Identifier 0-19;Dot 19-20;Identifier 20-32;Open 32-33;Close 33-34;Dot 34-35;Identifier 35-43;Arrow 43-45;Identifier 45-48;Open 48-49;Close 49-50;Equal 51-52;Number(9223372036854775807) 53-72;",
+        ),
+        (
+            "self.ligtIn->isEmpty() or self.ligtIn.diameter > 100",
+            "SelfObject 0-4;Dot 4-5;Identifier 5-11;Arrow 11-13;Identifier 13-20;Open 20-21;Close 21-22;Or 23-25;SelfObject 26-30;Dot 30-31;Identifier 31-37;Dot 37-38;Identifier 38-46;Greater 47-48;Number(100) 49-52;",
+        ),
+        (
+            "context Utiliteitsnet inv t: Utiliteitsnet.allInstances()->collect(n | n.leidingen)->collect(k | k.net)->size() >= 0",
+            "Context 0-7;Identifier 8-21;Inv 22-25;Identifier 26-27;Colon 27-28;Identifier 29-42;Dot 42-43;Identifier 43-55;Open 55-56;Close 56-57;Arrow 57-59;Identifier 59-66;Open 66-67;Identifier 67-68;Bar 69-70;Identifier 71-72;Dot 72-73;Identifier 73-82;Close 82-83;Arrow 83-85;Identifier 85-92;Open 92-93;Identifier 93-94;Bar 95-96;Identifier 97-98;Dot 98-99;Identifier 99-102;Close 102-103;Arrow 103-105;Identifier 105-109;Open 109-110;Close 110-111;GreaterEqual 112-114;Number(0) 115-116;",
+        ),
+        (
+            "self.identificatie.substring(1, 2) = 'nl'",
+            "SelfObject 0-4;Dot 4-5;Identifier 5-18;Dot 18-19;Identifier 19-28;Open 28-29;Number(1) 29-30;Comma 30-31;Number(2) 32-33;Close 33-34;Equal 35-36;Text 37-41;",
+        ),
+        (
+            "context Utiliteitsnet inv u: KabelOfLeiding.allInstances()->isUnique(k | k.identificatie)",
+            "Context 0-7;Identifier 8-21;Inv 22-25;Identifier 26-27;Colon 27-28;Identifier 29-43;Dot 43-44;Identifier 44-56;Open 56-57;Close 57-58;Arrow 58-60;Identifier 60-68;Open 68-69;Identifier 69-70;Bar 71-72;Identifier 73-74;Dot 74-75;Identifier 75-88;Close 88-89;",
+        ),
+        (
+            "context Utiliteitsnet inv p: Utiliteitsnet.allInstances()->forAll(a, b | a.thema = b.thema)",
+            "Context 0-7;Identifier 8-21;Inv 22-25;Identifier 26-27;Colon 27-28;Identifier 29-42;Dot 42-43;Identifier 43-55;Open 55-56;Close 56-57;Arrow 57-59;Identifier 59-65;Open 65-66;Identifier 66-67;Comma 67-68;Identifier 69-70;Bar 71-72;Identifier 73-74;Dot 74-75;Identifier 75-80;Equal 81-82;Identifier 83-84;Dot 84-85;Identifier 85-90;Close 90-91;",
+        ),
+        (
+            "context Mantelbuis\ninv: self.diameter > 0 -- a\ninv: not self.omvat->isEmpty()",
+            "Context 0-7;Identifier 8-18;Inv 19-22;Colon 22-23;SelfObject 24-28;Dot 28-29;Identifier 29-37;Greater 38-39;Number(0) 40-41;Inv 47-50;Colon 50-51;Not 52-55;SelfObject 56-60;Dot 60-61;Identifier 61-66;Arrow 66-68;Identifier 68-75;Open 75-76;Close 76-77;",
+        ),
+        (
+            "context A inv: 1 +",
+            "Context 0-7;Identifier 8-9;Inv 10-13;Colon 13-14;Number(1) 15-16;Plus 17-18;",
+        ),
+        (
+            "context A inv: true true",
+            "Context 0-7;Identifier 8-9;Inv 10-13;Colon 13-14;True 15-19;True 20-24;",
+        ),
+        (
+            "context A inv: self.omvat->size(a | true)",
+            "Context 0-7;Identifier 8-9;Inv 10-13;Colon 13-14;SelfObject 15-19;Dot 19-20;Identifier 20-25;Arrow 25-27;Identifier 27-31;Open 31-32;Identifier 32-33;Bar 34-35;True 36-40;Close 40-41;",
+        ),
+        (
+            "context A inv: self.x->select(a, b | true)",
+            "Context 0-7;Identifier 8-9;Inv 10-13;Colon 13-14;SelfObject 15-19;Dot 19-20;Identifier 20-21;Arrow 21-23;Identifier 23-29;Open 29-30;Identifier 30-31;Comma 31-32;Identifier 33-34;Bar 35-36;True 37-41;Close 41-42;",
+        ),
+        (
+            "context A inv p: true inv p: true",
+            "Context 0-7;Identifier 8-9;Inv 10-13;Identifier 14-15;Colon 15-16;True 17-21;Inv 22-25;Identifier 26-27;Colon 27-28;True 29-33;",
+        ),
+        (
+            "context A inv inv2: true inv: true",
+            "Context 0-7;Identifier 8-9;Inv 10-13;Identifier 14-18;Colon 18-19;True 20-24;Inv 25-28;Colon 28-29;True 30-34;",
+        ),
+    ];
+    for (text, wanted) in &rows {
+        let found = shown_tokens(alloc, text)?;
+        assert_eq!(rt; found.as_str(), *wanted, "{text}");
+    }
+    Ok(())
+}
+
+#[test]
 fn trees_of_expressions(rt: HostRuntime) -> Result<(), Fail> {
     let alloc = rt.alloc();
     let rows = [
@@ -290,11 +380,26 @@ fn trees_of_expressions(rt: HostRuntime) -> Result<(), Fail> {
             "((a@15 Divide@17 b@21) Equal@23 a@25.div@27(b@31;))",
         ),
         ("a mod b mod c", "((a@15 Modulo@17 b@21) Modulo@23 c@27)"),
+        ("a * b div c", "((a@15 Multiply@17 b@19) Divide@21 c@25)"),
+        ("a < b <= c", "((a@15 Less@17 b@19) LessEqual@21 c@24)"),
+        (
+            "a > b >= c",
+            "((a@15 Greater@17 b@19) GreaterEqual@21 c@24)",
+        ),
+        ("a = b <> c", "((a@15 Equal@17 b@19) NotEqual@21 c@24)"),
+        ("a and b and c", "((a@15 And@17 b@21) And@23 c@27)"),
+        ("a or b or c", "((a@15 Or@17 b@20) Or@22 c@25)"),
+        ("a xor b xor c", "((a@15 Xor@17 b@21) Xor@23 c@27)"),
         (
             "x->forAll(a, b : T | a <> E::l)",
             "x@15->ForAll@18(a;b:T@32;(a@36 NotEqual@38 E::l@41))",
         ),
         ("x->select(a)", "x@15->Select@18(a@25)"),
+        ("x->exists(a : T, b | a)", "x@15->Exists@18(a:T@29;b;a@36)"),
+        (
+            "x->one(a : Set(T) | a)",
+            "x@15->One@18(a:Set@26(T@30);a@35)",
+        ),
         ("x->size()->f(1, 2)", "x@15->size@18()->f@26(1@28;2@31;)"),
         ("C.allInstances()", "C@15.allInstances@17()"),
         (
@@ -392,6 +497,8 @@ fn limits_of_nesting(rt: HostRuntime) -> Result<(), Fail> {
     assert!(rt; nested(alloc, "a->one(", "a", ")", 64)? == (0, 1));
     assert!(rt; nested(alloc, "a->one(", "a", ")", 65)? == (7, 470));
     assert!(rt; nested(alloc, "a->one(v | ", "a", ")", 65)? == (7, 726));
+    assert!(rt; nested_type(alloc, 63)? == (0, 1));
+    assert!(rt; nested_type(alloc, 64)? == (7, 151));
     Ok(())
 }
 
@@ -404,7 +511,10 @@ fn limits_of_chains(rt: HostRuntime) -> Result<(), Fail> {
     assert!(rt; nested(alloc, "1-1+", "1", "", 129)? == (7, 528));
     assert!(rt; nested(alloc, "", "a", ".b", 256)? == (0, 1));
     assert!(rt; nested(alloc, "", "a", ".b", 257)? == (7, 528));
+    assert!(rt; nested(alloc, "", "a", "->b()", 256)? == (0, 1));
     assert!(rt; nested(alloc, "", "a", "->b()", 257)? == (7, 1296));
+    assert!(rt; nested(alloc, "", "a", ".b->c()", 128)? == (0, 1));
+    assert!(rt; nested(alloc, "", "a", ".b->c()", 129)? == (7, 912));
     Ok(())
 }
 

@@ -1,0 +1,94 @@
+-- What the parser's refusal says of the tokens.
+use Rattle.std.proofs.Common.{◌≡◌, ℕ, suc, List, [], ◌∷◌, ◌++◌, Result, Ok, Err, refl, sym, ap, ◌∙◌, subst}
+use Rattle.ocl_text.specs.Tokens.{Word}
+use Rattle.ocl_text.specs.Tree.{Rule}
+use Rattle.ocl_text.specs.RuleText.{Agrees, BeginsRules}
+use Rattle.ocl_text.specs.Grammar.{Spells, SpellsWithin}
+use Rattle.ocl_text.specs.Parse.{Stop, syntax, too_deep, Read, ◌>>=◌, expr, all_of}
+use Rattle.ocl_text.proofs.Deeper.{refused_for_good}
+use Rattle.ocl_text.proofs.Wider.{plus, read_spells, spelled_read}
+use Rattle.ocl_text.proofs.Prefixes.{Outcome, read, wrong, deep, told, Wide}
+use Rattle.ocl_text.proofs.Contexts.{Nothing, all_read, read_contexts, sees_rules}
+
+-- the tokens before s begin a list that spells rules, and no list that agrees through the first of s does
+abbrev pub WrongAt : List Word → List Word → Type 0
+WrongAt ts s = (before : List Word) × (ts ≡ before ++ s) × BeginsRules before × ((other : List Word) (rules : List Rule) → Agrees s other → Spells (before ++ other) rules → ⊥)
+
+-- the tokens through the first of s begin a list that spells rules, but none that does within the limits
+abbrev pub TooDeepAt : ℕ → ℕ → List Word → List Word → Type 0
+TooDeepAt nesting chain ts s =
+    (before : List Word) × (first : Word) × (after : List Word) × (s ≡ first ∷ after) × (ts ≡ before ++ first ∷ after) × BeginsRules (before ++ first ∷ [])
+    × ((more : List Word) (rules : List Rule) → SpellsWithin nesting chain (before ++ first ∷ more) rules → ⊥)
+
+agrees_itself : (s : List Word) → Agrees s s
+agrees_itself [] = refl
+agrees_itself (t ∷ s) = (s, refl)
+
+unread : (r : Result (List Rule) Stop) (rules : List Rule) (rest : List Word) → (r >>= all_read) ≡ Ok (rules, rest) → r ≡ Ok rules
+unread (Ok x) rules rest h = let e : (x, []) ≡ (rules, rest) = cc in ap (λ (p : List Rule × List Word). Ok p.0) e
+unread (Err e) rules rest h = absurd (cc)
+
+unread_stop : (r : Result (List Rule) Stop) (s : Stop) → (r >>= all_read) ≡ Err s → r ≡ Err s
+unread_stop (Ok x) s h = absurd (cc)
+unread_stop (Err e) s h = let same : e ≡ s = cc in ap (λ y. Err y) same
+
+module _ (nesting chain : ℕ) (ts : List Word) where
+  abbrev reads : List Word → Read (List Rule)
+  reads = read_contexts (expr chain (suc nesting)) []
+
+  stopped : (s : Stop) → all_of nesting chain ts ≡ Err s → reads ts ≡ Err s
+  unfolding all_of
+  stopped s h = ap (λ r. r >>= all_read) h
+
+  refused_as : (us : List Word) (s : Stop) → reads us ≡ Err s → all_of nesting chain us ≡ Err s
+  unfolding all_of
+  refused_as us s h = unread_stop _ s h
+
+  spelled_wider : (us more : List Word) (rules : List Rule) → read_contexts (expr (plus chain 1) (suc (plus nesting 3))) [] (us ++ (more ++ [])) ≡ Ok (rules, []) → BeginsRules us
+  unfolding all_of
+  spelled_wider us more rules h = (more ++ [], rules, (plus nesting 3, plus chain 1, read_spells (plus nesting 3) (plus chain 1) (us ++ (more ++ [])) rules (unread _ rules [] h)))
+
+  abbrev Same : Outcome (List Rule) → List Word → List Word → Type 0
+  Same o before rest = (other : List Word) → Agrees rest other → reads (before ++ other) ≡ told o other
+
+  abbrev Wider : Outcome (List Rule) → List Word → List Word → Type 0
+  Wider o before rest = Wide (read_contexts (expr (plus chain 1) (suc (plus nesting 3))) []) Nothing Nothing before rest o
+
+  here : (o : Outcome (List Rule)) (before rest : List Word) → ts ≡ before ++ rest → Same o before rest → reads ts ≡ told o rest
+  here o before rest is same = rw is (same rest (agrees_itself rest))
+
+  pub wrong_at : (s : List Word) → all_of nesting chain ts ≡ Err (syntax s) → WrongAt ts s
+  wrong_at s h = let sees = sees_rules 0 0 chain nesting ts in by sees.outcome sees.before sees.rest sees.split sees.same sees.wide
+    where
+      by : (o : Outcome (List Rule)) (before rest : List Word) → ts ≡ before ++ rest → Same o before rest → Wider o before rest → WrongAt ts s
+      by (read x) before rest is same w = let e = here (read x) before rest is same in let f = stopped (syntax s) h in absurd (cc (e, f))
+      by deep before rest is same w = let e = here deep before rest is same in let f = stopped (syntax s) h in absurd (cc (e, f))
+      by wrong before rest is same (x, more, g) =
+          let e = here wrong before rest is same in
+          let f = stopped (syntax s) h in
+          let at_rest : rest ≡ s = cc (e, f) in
+          subst (WrongAt ts) at_rest (before, is, spelled_wider before more x (g [] refl).1, λ other rules a. refused_for_good nesting chain (before ++ other) other (refused_as (before ++ other) (syntax other) (same other a)) rules)
+
+  pub too_deep_at : (s : List Word) → all_of nesting chain ts ≡ Err (too_deep s) → TooDeepAt nesting chain ts s
+  too_deep_at s h = let sees = sees_rules 0 0 chain nesting ts in by sees.outcome sees.before sees.rest sees.split sees.same sees.wide
+    where
+      by : (o : Outcome (List Rule)) (before rest : List Word) → ts ≡ before ++ rest → Same o before rest → Wider o before rest → TooDeepAt nesting chain ts s
+      by (read x) before rest is same w = let e = here (read x) before rest is same in let f = stopped (too_deep s) h in absurd (cc (e, f))
+      by wrong before rest is same w = let e = here wrong before rest is same in let f = stopped (too_deep s) h in absurd (cc (e, f))
+      by deep before rest is same (first, after, first_is, (x, more, g)) =
+          let e = here deep before rest is same in
+          let f = stopped (too_deep s) h in
+          let at_rest : rest ≡ s = cc (e, f) in
+          subst (TooDeepAt nesting chain ts) at_rest (
+            before,
+            first,
+            after,
+            first_is,
+            is ∙ ap (λ (l : List Word). before ++ l) first_is,
+            spelled_wider (before ++ first ∷ []) more x (g [] refl).1,
+            λ others rules d.
+                let a : Agrees rest (first ∷ others) = subst (λ (l : List Word). Agrees l (first ∷ others)) (sym first_is) (others, refl) in
+                let stop = refused_as (before ++ first ∷ others) (too_deep (first ∷ others)) (same (first ∷ others) a) in
+                let reads = spelled_read nesting chain (before ++ first ∷ others) rules d in
+                cc (stop, reads),
+          )
