@@ -1,4 +1,4 @@
--- What a refused call on the population is for the delivery.
+-- What a refused call on the population is for the delivery, and what is put on an object.
 use Rattle.std.proofs.Common.{◌≡◌, ℕ, List, Some, is_some, Result, Err, true, length, refl}
 use Rattle.serde_json.specs.Data.{Data, null, boolean, number, string, array, object}
 use Rattle.serde_json.specs.Find.{as_null}
