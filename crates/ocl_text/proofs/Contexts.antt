@@ -48,13 +48,13 @@ sees_rule_name n ts = by ts
 
 sees_class_name : (ts : List Word) → Sees class_name class_name Any (Next is_name) ts
 unfolding class_name
-sees_class_name [] = stuck class_name class_name Any (Next is_name) [] (λ us is. rw is refl) (([], 0), token k.Identifier 0 [] ∷ [], λ rest g. (refl, refl))
+sees_class_name [] = stuck class_name class_name Any (Next is_name) [] (λ us is. rw is refl) (λ us is. rw is refl) (([], 0), token k.Identifier 0 [] ∷ [], λ rest g. (refl, refl))
 sees_class_name (t ∷ ts) = by t.kind
   where
     by : (kind : TokenKind) → Sees class_name class_name Any (Next is_name) (token kind t.at t.text ∷ ts)
     by k.Identifier = skip (token k.Identifier t.at t.text) ts _ _ (λ us. Ok ((t.text, t.at), us)) (λ us. Ok ((t.text, t.at), us)) Any Any _ (λ us. refl) (λ us. refl) (pass (t.text, t.at) Any ts)
-    by (k.Number v) = stuck class_name class_name Any (Next is_name) _ (λ us (more, is). rw is refl) (([], 0), token k.Identifier 0 [] ∷ [], λ rest g. (refl, refl))
-    by _ = stuck class_name class_name Any (Next is_name) _ (λ us (more, is). rw is refl) (([], 0), token k.Identifier 0 [] ∷ [], λ rest g. (refl, refl))
+    by (k.Number v) = stuck class_name class_name Any (Next is_name) _ (λ us (more, is). rw is refl) (λ us (more, is). rw is refl) (([], 0), token k.Identifier 0 [] ∷ [], λ rest g. (refl, refl))
+    by _ = stuck class_name class_name Any (Next is_name) _ (λ us (more, is). rw is refl) (λ us (more, is). rw is refl) (([], 0), token k.Identifier 0 [] ∷ [], λ rest g. (refl, refl))
 
 abbrev rule_with : List ℕ × ℕ → ℕ → List ℕ → Tree → Rule
 rule_with class at name tree = record { name = name; context = class.0; at = at; context_at = class.1; tree = tree }
@@ -234,13 +234,13 @@ module _ (body body' : Parser Tree) (sees : (ts : List Word) → Sees body body'
 
     sees_invariants : (found : List Rule) (ts : List Word) → Sees (all_invariants body class found) (all_invariants body' class found) (May stops) Any ts
     unfolding invariant
-    sees_invariants found [] = stuck _ _ (May stops) Any [] (λ us is. rw is (invariants_are body shortens class found [])) (invariants_default found)
+    sees_invariants found [] = stuck _ _ (May stops) Any [] (λ us is. rw is (invariants_are body shortens class found [])) (λ us is. rw is (invariants_are body' shortens' class found [])) (invariants_default found)
     sees_invariants found (t ∷ ts) = by t.kind
       where
         by : (kind : TokenKind) → Sees (all_invariants body class found) (all_invariants body' class found) (May stops) Any (token kind t.at t.text ∷ ts)
         by k.Inv = skip (token k.Inv t.at t.text) ts _ _ (from_invariant body class found t.at) (from_invariant body' class found t.at) (May stops) (Next (is_mark m.Colon)) Any (invariant_first body shortens class found t.at t.text) (invariant_first body' shortens' class found t.at t.text) (sees_from (length ts) found t.at ts (omega arith))
-        by (k.Number v) = stuck _ _ (May stops) Any _ (λ us (more, is). rw is (invariants_are body shortens class found (token (k.Number v) t.at t.text ∷ more))) (invariants_default found)
-        by kind = stuck _ _ (May stops) Any _ (λ us (more, is). rw is (invariants_are body shortens class found (token kind t.at t.text ∷ more))) (invariants_default found)
+        by (k.Number v) = stuck _ _ (May stops) Any _ (λ us (more, is). rw is (invariants_are body shortens class found (token (k.Number v) t.at t.text ∷ more))) (λ us (more, is). rw is (invariants_are body' shortens' class found (token (k.Number v) t.at t.text ∷ more))) (invariants_default found)
+        by kind = stuck _ _ (May stops) Any _ (λ us (more, is). rw is (invariants_are body shortens class found (token kind t.at t.text ∷ more))) (λ us (more, is). rw is (invariants_are body' shortens' class found (token kind t.at t.text ∷ more))) (invariants_default found)
 
   nothing_more : (us : List Word) → Nothing us → May stops us
   nothing_more us is = rw is tt
@@ -252,8 +252,8 @@ module _ (body body' : Parser Tree) (sees : (ts : List Word) → Sees body body'
   unfolding contexts
   done body found us is = rw is refl
 
-  no_context : (found : List Rule) (ts : List Word) → ((us : List Word) → Agrees ts us → read_contexts body found us ≡ Err (syntax us)) → SeesContexts found ts
-  no_context found ts e = stuck _ _ Nothing Nothing ts e (found, [], λ rest g. (g, done body' found rest g))
+  no_context : (found : List Rule) (ts : List Word) → ((us : List Word) → Agrees ts us → read_contexts body found us ≡ Err (syntax us)) → ((us : List Word) → Agrees ts us → read_contexts body' found us ≡ Err (syntax us)) → SeesContexts found ts
+  no_context found ts e e' = stuck _ _ Nothing Nothing ts e e' (found, [], λ rest g. (g, done body' found rest g))
 
   sees_contexts : (l : ℕ) (found : List Rule) (ts : List Word) → length ts ≤ l → SeesContexts found ts
   unfolding contexts context expect
@@ -274,8 +274,8 @@ module _ (body body' : Parser Tree) (sees : (ts : List Word) → Sees body body'
           (bind_from class_name class_name (λ c vs. all_invariants body c found vs >>= λ x. read_contexts body x.0 x.1) (λ c vs. all_invariants body' c found vs >>= λ x. read_contexts body' x.0 x.1) Any Nothing Any (Next is_name) ts (λ us g. tt) (sees_class_name ts)
           (λ c us i. bind_from (all_invariants body c found) (all_invariants body' c found) (read_contexts body) (read_contexts body') (May stops) Nothing Nothing Any us nothing_more (sees_invariants c found us)
           (λ x vs j. more x vs (omega (arith, h, i, j)))))
-      by (k.Number v) more = no_context found _ (λ us (vs, is). rw is refl)
-      by _ more = no_context found _ (λ us (vs, is). rw is refl)
+      by (k.Number v) more = no_context found _ (λ us (vs, is). rw is refl) (λ us (vs, is). rw is refl)
+      by _ more = no_context found _ (λ us (vs, is). rw is refl) (λ us (vs, is). rw is refl)
 
 short_invariant : (c nesting : ℕ) (class : List ℕ × ℕ) (n : ℕ) (us : List Word) → IfOk (invariant (expr c (suc nesting)) class n us) (λ x. length x.1 < length us)
 short_invariant c nesting class n us = weaker (λ x. IsInvariant nesting c n class.0 class.1 us x.0 x.1) (λ x. length x.1 < length us) (invariant (expr c (suc nesting)) class n us) (λ x d. shorter_invariant d) (sound_invariant nesting c class n us)

@@ -11,13 +11,13 @@ use Rattle.ocl_text.specs.Tokens.{Word}
 use Rattle.ocl_text.specs.Tree as t
 use Rattle.ocl_text.specs.Tree.{Bound, Shape, Tree, number, prefixed, bindings_of}
 use Rattle.ocl_text.specs.RuleText.{Agrees}
-use Rattle.ocl_text.specs.Grammar.{token, top, Next, is_name, IsLevel, IsType}
+use Rattle.ocl_text.specs.Grammar.{token, top, next_is, Next, is_name, IsLevel, IsType}
 use Rattle.ocl_text.specs.Parse as p
 use Rattle.ocl_text.specs.Parse.{Stop, syntax, too_deep, Read, Parser, ◌>>=◌, begins, begins_expr, expect, is_mark, identifier, identifier_by, levels, level_of, unary, unary_over, expr, expr_over, prim, post, steps, items, a_bind, let_in}
 use Rattle.ocl_text.proofs.Complete.{shorter_level, shorter_type}
 use Rattle.ocl_text.proofs.Sound.{bind_ok, weaker, sound_levels, sound_unary, sound_type}
 use Rattle.ocl_text.proofs.Turns.{expr_plain}
-use Rattle.ocl_text.proofs.Deeper.{levels_shut, unary_shut}
+use Rattle.ocl_text.proofs.Shut.{levels_shut, unary_shut, expr_shut, let_shut}
 use Rattle.ocl_text.proofs.Wider.{plus}
 use Rattle.ocl_text.proofs.Prefixes.{Sees, Opens, Any, bind, sees_as, skip, pass, stuck, sees_expect, sees_identifier}
 use Rattle.ocl_text.proofs.Stops.{May, stops, stops_type, mark_next, mark_may, sees_shut, sees_type}
@@ -64,8 +64,11 @@ short_bind n operand h us =
     (λ s j. bind_ok (λ x. length x.1 ≤ length s.1) (λ x. length x.1 ≤ length us) (expect m.Equal s.1 >>= operand) _ (short_after m.Equal operand h s.1)
     (λ x l. omega (arith, i, j, l))))
 
+level_shuts : (c n : ℕ) (ts : List Word) → next_is begins ts ≡ false → level_of c n top ts ≡ Err (syntax ts)
+level_shuts c n ts h = levels_shut c (unary c n) top ts (unary_shut c n ts h)
+
 no_level : (c n : ℕ) → level_of c n top [] ≡ Err (syntax [])
-no_level c n = levels_shut c (unary c n) top [] (unary_shut c n [] refl)
+no_level c n = level_shuts c n [] refl
 
 no_bind : (n : ℕ) (operand : Parser Tree) → a_bind n operand [] ≡ Err (syntax [])
 unfolding a_bind identifier
@@ -142,7 +145,7 @@ module _ (a b c : ℕ) where
 
   sees_let : (n : ℕ) → SeesLevel n → SeesExpr n → (at : ℕ) (ts : List Word) → Sees (let_in n (level_of c n top) (expr c n) at) (let_in (deeper n) (level_of longer (deeper n) top) (expr longer (deeper n)) at) (May stops) (Next is_name) ts
   unfolding let_in
-  sees_let zero sees sees_whole at ts = sees_shut is_name _ (May stops) (Next is_name) (_, name_word ∷ after_let_name, λ rest g. (refl, let_done longer (suc (suc a)) (suc (suc a)) at 0 [] rest g)) (let_opened at) ts
+  sees_let zero sees sees_whole at ts = sees_shut is_name _ (May stops) (Next is_name) (let_shut (level_of longer (suc (suc (suc a))) top) (expr longer (suc (suc (suc a)))) at (suc (suc (suc a)))) (_, name_word ∷ after_let_name, λ rest g. (refl, let_done longer (suc (suc a)) (suc (suc a)) at 0 [] rest g)) (let_opened at) ts
   sees_let (suc n) sees sees_whole at ts =
       bind (listed (a_bind (suc n) (level_of c (suc n) top)) []) (listed (a_bind (suc (deeper n)) (level_of longer (suc (deeper n)) top)) []) (in_let (expr c (suc n)) at) (in_let (expr longer (suc (deeper n))) at) (May stops) (May stops) (Next (is_mark m.In)) (Next is_name) ts (mark_may m.In stops refl)
       (sees_listed (a_bind (suc n) (level_of c (suc n) top)) (a_bind (suc (deeper n)) (level_of longer (suc (deeper n)) top)) (short_bind (suc n) _ (short_level c (suc n))) (short_bind (suc (deeper n)) _ (short_level longer (suc (deeper n))))
@@ -158,7 +161,7 @@ module _ (a b c : ℕ) where
     sees_operand = sees_levels b c (unary c n) (unary longer (deeper n)) sees_below top
 
     steps_see : (source : Tree) (ts : List Word) → Sees (steps n (level_of c n top) (expr c n) c source) (steps (deeper n) (level_of longer (deeper n) top) (expr longer (deeper n)) longer source) (May stops) (May stops) ts
-    steps_see source ts = sees_steps a b c n (level_of c n top) (level_of longer (deeper n) top) sees_operand (short_level c n) (short_level longer (deeper n)) (no_level c n) (no_level longer (deeper n)) (opened_level a longer n) sees_whole sees_name c source ts
+    steps_see source ts = sees_steps a b c n (level_of c n top) (level_of longer (deeper n) top) sees_operand (short_level c n) (short_level longer (deeper n)) (no_level c n) (level_shuts longer (deeper n)) (opened_level a longer n) sees_whole sees_name c source ts
 
     sees_post : (ts : List Word) → Sees (post c n (level_of c n top) (expr c n)) (post longer (deeper n) (level_of longer (deeper n) top) (expr longer (deeper n))) (May stops) (Next counts) ts
     unfolding post
@@ -186,7 +189,7 @@ module _ (a b c : ℕ) where
 
     sees_unary : (ts : List Word) → Sees (unary c (suc n)) (unary longer (suc (deeper n))) (May stops) (Next counts) ts
     unfolding unary unary_over
-    sees_unary [] = stuck (unary c (suc n)) (unary longer (suc (deeper n))) (May stops) (Next counts) [] (λ us is. rw is refl) (number 0 0, nought ∷ [], λ rest g. (refl, number_unary longer (deeper n) rest g))
+    sees_unary [] = stuck (unary c (suc n)) (unary longer (suc (deeper n))) (May stops) (Next counts) [] (λ us is. rw is refl) (λ us is. rw is refl) (number 0 0, nought ∷ [], λ rest g. (refl, number_unary longer (deeper n) rest g))
     sees_unary (u ∷ ts) = by u.kind
       where
         as_post : (kind : TokenKind) → ((us : List Word) → unary c (suc n) (token kind u.at u.text ∷ us) ≡ post c n (level_of c n top) (expr c n) (token kind u.at u.text ∷ us))
@@ -258,8 +261,8 @@ module _ (a b c : ℕ) where
   sees_all : (n : ℕ) → SeesUnary n × SeesExpr n × SeesName a b c n
   unfolding unary expr p.too_deep_at
   sees_all zero = (
-    sees_shut begins (unary longer (suc (suc (suc a)))) (May stops) (Next counts) (number 0 0, nought ∷ [], λ rest g. (refl, number_unary longer (suc (suc a)) rest g)) (opened_unary longer (suc a)),
-    sees_shut begins_expr (expr longer (suc (suc (suc a)))) (May stops) (Next counts) (number 0 0, nought ∷ [], λ rest g. (refl, number_expr longer (suc (suc a)) rest g)) (opened_expr longer a),
+    sees_shut begins (unary longer (suc (suc (suc a)))) (May stops) (Next counts) (unary_shut longer (suc (suc (suc a)))) (number 0 0, nought ∷ [], λ rest g. (refl, number_unary longer (suc (suc a)) rest g)) (opened_unary longer (suc a)),
+    sees_shut begins_expr (expr longer (suc (suc (suc a)))) (May stops) (Next counts) (expr_shut longer (suc (suc (suc a)))) (number 0 0, nought ∷ [], λ rest g. (refl, number_expr longer (suc (suc a)) rest g)) (opened_expr longer a),
     λ at text us. refl,
   )
   sees_all (suc n) = let (u, e, s) = sees_all n in (sees_unary n u e s, sees_expr n u e s, sees_name_expr n u e s)

@@ -11,7 +11,7 @@ pub mod Complete
 pub mod Sound
 pub mod Wider
 pub mod Taken
-pub mod Deeper
+pub mod Shut
 pub mod Prefixes
 pub mod Stops
 pub mod Spelled

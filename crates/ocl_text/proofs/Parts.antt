@@ -18,6 +18,7 @@ use Rattle.ocl_text.specs.Parse as p
 use Rattle.ocl_text.specs.Parse.{Stop, syntax, too_deep, Read, Parser, ◌>>=◌, begins, begins_argument, expect, is_mark, identifier, link, link_by, linked, chain, levels, steps, one_step, items, arguments_in, arguments, calling, called, a_bind, conditional, prim}
 use Rattle.ocl_text.proofs.Turns.{chain_none, chain_deep}
 use Rattle.ocl_text.proofs.Wider.{plus}
+use Rattle.ocl_text.proofs.Shut.{argument_shut}
 use Rattle.ocl_text.proofs.Prefixes.{Sees, Opens, Any, bind, default_of, sees_as, skip, pass, stuck, blocked, adapt, sees_expect, sees_identifier, either}
 use Rattle.ocl_text.proofs.Stops.{May, stops, next_not, may_not, mark_may, sees_shut}
 use Rattle.ocl_text.proofs.Spelled.{nought, mark_word, not_linked, stop_qualifies, stop_opens}
@@ -136,7 +137,7 @@ module _ (operand operand' whole whole' : Parser Tree) (sees : (ts : List Word) 
 
   pub sees_prim : (ts : List Word) → Sees (prim operand whole) (prim operand' whole') (May stops) (Next counts) ts
   unfolding prim
-  sees_prim [] = stuck (prim operand whole) (prim operand' whole') (May stops) (Next counts) [] (λ us is. rw is refl) (number 0 0, nought ∷ [], λ rest g. (refl, refl))
+  sees_prim [] = stuck (prim operand whole) (prim operand' whole') (May stops) (Next counts) [] (λ us is. rw is refl) (λ us is. rw is refl) (number 0 0, nought ∷ [], λ rest g. (refl, refl))
   sees_prim (t ∷ ts) = by t.kind t.at t.text
     where
       value : (kind : TokenKind) (at : ℕ) (text : List ℕ) (x : Tree) → ((us : List Word) → prim operand whole (token kind at text ∷ us) ≡ Ok (x, us)) → ((us : List Word) → prim operand' whole' (token kind at text ∷ us) ≡ Ok (x, us)) → SeesPrim (token kind at text ∷ ts)
@@ -155,11 +156,11 @@ module _ (operand operand' whole whole' : Parser Tree) (sees : (ts : List Word) 
       by k.Open at text = skip (token k.Open at text) ts _ _ (λ us. whole us >>= λ x. in_parentheses x.0 x.1) (λ us. whole' us >>= λ x. in_parentheses x.0 x.1) (May stops) (Next counts) (Next counts) (λ us. refl) (λ us. refl)
           (bind whole whole' in_parentheses in_parentheses (May stops) (May stops) (Next (is_mark m.Close)) (Next counts) ts (mark_may m.Close stops refl) (sees_whole ts)
           (λ x us. sees_expect m.Close _ _ (May stops) (May stops) (λ rest. pass x (May stops) rest) us))
-      by _ at text = stuck (prim operand whole) (prim operand' whole') (May stops) (Next counts) _ (λ us (more, is). rw is refl) (number 0 0, nought ∷ [], λ rest g. (refl, refl))
+      by _ at text = stuck (prim operand whole) (prim operand' whole') (May stops) (Next counts) _ (λ us (more, is). rw is refl) (λ us (more, is). rw is refl) (number 0 0, nought ∷ [], λ rest g. (refl, refl))
 
 -- the operand of a list, which is no longer after it is read
 module _ (operand operand' : Parser Tree) (sees : (ts : List Word) → Sees operand operand' (May stops) (Next counts) ts)
-    (shortens : Shortens operand) (shortens' : Shortens operand') (empty : operand [] ≡ Err (syntax [])) (empty' : operand' [] ≡ Err (syntax []))
+    (shortens : Shortens operand) (shortens' : Shortens operand') (empty : operand [] ≡ Err (syntax [])) (shuts : (ts : List Word) → next_is begins ts ≡ false → operand' ts ≡ Err (syntax ts))
     (opened : (t : Word) → begins t.kind ≡ true → Opens operand' (May stops) t) where
   abbrev closed_list : List Tree → Parser (List Tree)
   closed_list all us = expect m.Close us >>= λ rest. Ok (all, rest)
@@ -185,12 +186,12 @@ module _ (operand operand' : Parser Tree) (sees : (ts : List Word) → Sees oper
 
   sees_arguments_in : (a n : ℕ) (ts : List Word) → Sees (arguments_in operand n) (arguments_in operand' (plus n (suc (suc (suc a))))) Any Any ts
   unfolding arguments_in
-  sees_arguments_in a zero ts = sees_shut begins_argument (arguments_in operand' (suc (suc (suc a)))) Any Any ([], mark_word m.Close ∷ [], λ rest g. (tt, refl)) (arguments_opened (suc (suc a))) ts
+  sees_arguments_in a zero ts = sees_shut begins_argument (arguments_in operand' (suc (suc (suc a)))) Any Any (argument_shut (suc (suc (suc a))) operand' shuts) ([], mark_word m.Close ∷ [], λ rest g. (tt, refl)) (arguments_opened (suc (suc a))) ts
   sees_arguments_in a (suc n) ts =
       adapt _ _ Any Any (Next counts) Any ts (λ us g. g) (λ us g. tt)
       (either closes (λ us. Ok ([], us)) (λ us. Ok ([], us)) _ _ Any Any (Next counts) ts (λ u us is. pass [] Any us)
       (bind (listed operand []) (listed operand' []) closed_list closed_list (May stops) Any (Next (is_mark m.Close)) (Next counts) ts (mark_may m.Close stops refl)
-      (sees_listed operand operand' shortens shortens' empty empty' (Next counts) sees [] ts)
+      (sees_listed operand operand' shortens shortens' empty (shuts [] refl) (Next counts) sees [] ts)
       (λ all us. sees_expect m.Close _ _ Any Any (λ rest. pass all Any rest) us))
       (next_not counts closes count_closes))
 

@@ -1,5 +1,6 @@
--- What a parser makes of a list it makes of each that agrees with it through the first token that is left. Where it stops,
--- what it has passed can be completed: under wider limits, and before each list that may follow.
+-- What a parser makes of a list it makes of each that agrees with it through the first token that is left. Under wider limits it
+-- reads the same and refuses the same, but for what was too deep. Where it stops, what it has passed can be completed under wider
+-- limits, before each list that may follow.
 use Rattle.std.proofs.Common.{◌≡◌, ◌≤◌, List, [], ◌∷◌, ◌++◌, length, drop, Result, Ok, Err, refl, sym, ap, ◌∙◌, subst, Bool, true, false, arith, inl, inr, ◌⊎◌}
 use Rattle.std.specs.Prelude.{if◌then◌else◌}
 use Rattle.std.proofs.lemmas.List.{append_assoc, append-nil, length-append}
@@ -38,7 +39,7 @@ Completes {A} p F S before = (value : A) × (more : List Word) × Ends p F S bef
 
 abbrev pub Wide : {A : Type 0} → Parser A → (List Word → Type 0) → (List Word → Type 0) → List Word → List Word → Outcome A → Type 0
 Wide p F S before rest (read value) = ((other : List Word) → Agrees rest other → p (before ++ other) ≡ Ok (value, other)) × Ends p F S before [] value
-Wide p F S before rest wrong = Completes p F S before
+Wide p F S before rest wrong = ((other : List Word) → Agrees rest other → p (before ++ other) ≡ Err (syntax other)) × Completes p F S before
 Wide p F S before rest deep = (first : Word) × (after : List Word) × (rest ≡ first ∷ after) × Completes p F S (before ++ first ∷ [])
 
 -- F says what may follow, S what a completion begins with where nothing was passed; p' has the wider limits
@@ -93,7 +94,7 @@ default_of {A} p p' F S s = by s.outcome s.before s.rest s.split s.wide
   where
     by : (o : Outcome A) (before rest : List Word) → [] ≡ before ++ rest → Wide p' F S before rest o → Completes p' F S []
     by (read x) [] rest is w = (x, [], w.1)
-    by wrong [] rest is w = w
+    by wrong [] rest is w = w.1
     by deep [] rest is (first, after, same, c) = absurd (cc)
     by (read x) (t ∷ before) rest is w = absurd (cc)
     by wrong (t ∷ before) rest is w = absurd (cc)
@@ -126,7 +127,10 @@ module _ {A B : Type 0} (p p' : Parser A) (f f' : A → Parser B) (F G R S : Lis
         λ other a. rw (append_assoc before c other) (ap (λ r. r >>= λ z. f' z.0 z.1) (w.0 (c ++ other) (subst (λ (l : List Word). Agrees l (c ++ other)) (sym is) (agrees_front c tail other a))) ∙ e.0 other a),
         ends_after p' f' F G S before rest x w.0 w.1 c tail [] y is (narrow x c [] y e.1),
       )
-      by wrong c tail is (y, more, e) = (y, more, ends_after p' f' F G S before rest x w.0 w.1 c tail more y is (narrow x c more y e))
+      by wrong c tail is (refuses, (y, more, e)) = (
+        λ other a. rw (append_assoc before c other) (ap (λ r. r >>= λ z. f' z.0 z.1) (w.0 (c ++ other) (subst (λ (l : List Word). Agrees l (c ++ other)) (sym is) (agrees_front c tail other a))) ∙ refuses other a),
+        (y, more, ends_after p' f' F G S before rest x w.0 w.1 c tail more y is (narrow x c more y e)),
+      )
       by deep c tail is (first, after, same, (y, more, e)) = (
         first,
         after,
@@ -157,7 +161,7 @@ module _ {A B : Type 0} (p p' : Parser A) (f f' : A → Parser B) (F G R S : Lis
         rest = rest;
         split = is;
         same = λ other a. ap (λ r. r >>= λ z. f z.0 z.1) (same other a);
-        wide = completes_by before default w;
+        wide = (λ other a. ap (λ r. r >>= λ z. f' z.0 z.1) (w.0 other a), completes_by before default w.1);
       }
       by deep before rest is same (first, after, first_is, w) = record {
         outcome = deep;
@@ -193,7 +197,7 @@ module _ {A : Type 0} (p p' q q' : Parser A) (F S : List Word → Type 0) (ts : 
 
       by : (o : Outcome A) (before rest : List Word) → ts ≡ before ++ rest → Wide q' F S before rest o → Wide p' F S before rest o
       by (read x) before rest is w = (λ other a. e' (before ++ other) (inl (goes before rest other is a)) ∙ w.0 other a, ends before rest [] x is w.1)
-      by wrong before rest is (x, more, h) = (x, more, ends before rest more x is h)
+      by wrong before rest is (refuses, (x, more, h)) = (λ other a. e' (before ++ other) (inl (goes before rest other is a)) ∙ refuses other a, (x, more, ends before rest more x is h))
       by deep before rest is (first, after, same, (x, more, h)) = (first, after, same, (x, more, ends (before ++ first ∷ []) after more x (with_first before first after ts (is ∙ ap (λ (l : List Word). before ++ l) same)) h))
 
 -- a token is passed
@@ -213,7 +217,7 @@ module _ {A : Type 0} (t : Word) (us : List Word) (p p' q q' : Parser A) (F R S 
 
       by : (o : Outcome A) (before rest : List Word) → Wide q' F R before rest o → Wide p' F S (t ∷ before) rest o
       by (read x) before rest w = (λ other a. e' (before ++ other) ∙ w.0 other a, ends before [] x w.1)
-      by wrong before rest (x, more, h) = (x, more, ends before more x h)
+      by wrong before rest (refuses, (x, more, h)) = (λ other a. e' (before ++ other) ∙ refuses other a, (x, more, ends before more x h))
       by deep before rest (first, after, same, (x, more, h)) = (first, after, same, (x, more, ends (before ++ first ∷ []) more x h))
 
 -- ---- single parsers
@@ -222,8 +226,8 @@ pub pass : {A : Type 0} (x : A) (F : List Word → Type 0) (ts : List Word) → 
 pass x F ts = record { outcome = read x; before = []; rest = ts; split = refl; same = λ other a. refl; wide = (λ other a. refl, λ rest g. (g, refl)) }
 
 -- the first token can't follow
-pub stuck : {A : Type 0} (p p' : Parser A) (F S : List Word → Type 0) (ts : List Word) → ((us : List Word) → Agrees ts us → p us ≡ Err (syntax us)) → Completes p' F S [] → Sees p p' F S ts
-stuck p p' F S ts e c = record { outcome = wrong; before = []; rest = ts; split = refl; same = e; wide = c }
+pub stuck : {A : Type 0} (p p' : Parser A) (F S : List Word → Type 0) (ts : List Word) → ((us : List Word) → Agrees ts us → p us ≡ Err (syntax us)) → ((us : List Word) → Agrees ts us → p' us ≡ Err (syntax us)) → Completes p' F S [] → Sees p p' F S ts
+stuck p p' F S ts e e' c = record { outcome = wrong; before = []; rest = ts; split = refl; same = e; wide = (e', c) }
 
 -- what completes a value after this token
 abbrev pub Opens : {A : Type 0} → Parser A → (List Word → Type 0) → Word → Type 0
@@ -250,7 +254,7 @@ adapt {A} p p' F F' S S' ts f g s = record { outcome = s.outcome; before = s.bef
 
     by : (o : Outcome A) (before rest : List Word) → Wide p' F S before rest o → Wide p' F' S' before rest o
     by (read x) before rest w = (w.0, ends before [] x w.1)
-    by wrong before rest (x, more, h) = (x, more, ends before more x h)
+    by wrong before rest (refuses, (x, more, h)) = (refuses, (x, more, ends before more x h))
     by deep before rest (first, after, same, (x, more, h)) = (first, after, same, (x, more, ends (before ++ first ∷ []) more x h))
 
 -- whatever follows
@@ -278,22 +282,22 @@ sees_expect {A} mark p p' F R h ts = by ts
     default (x, more, e) = (x, token (mark_kind mark) 0 [] ∷ more, λ rest g. (mark_itself mark, rw (mark_itself mark) (e rest g).1))
 
     by : (us : List Word) → Sees (λ us. expect mark us >>= p) (λ us. expect mark us >>= p') F (Next (is_mark mark)) us
-    by [] = stuck _ _ F _ [] (λ us is. rw is refl) (default (default_of p p' F R (h [])))
+    by [] = stuck _ _ F _ [] (λ us is. rw is refl) (λ us is. rw is refl) (default (default_of p p' F R (h [])))
     by (t ∷ us) = first (is_mark mark t.kind) refl
       where
         first : (b : Bool) → is_mark mark t.kind ≡ b → Sees (λ us. expect mark us >>= p) (λ us. expect mark us >>= p') F (Next (is_mark mark)) (t ∷ us)
         first true e = skip t us _ _ p p' F R _ (λ vs. rw e refl) (λ vs. rw e refl) (h us)
-        first false e = stuck _ _ F _ (t ∷ us) (λ vs (more, is). rw is (rw e refl)) (default (default_of p p' F R (h [])))
+        first false e = stuck _ _ F _ (t ∷ us) (λ vs (more, is). rw is (rw e refl)) (λ vs (more, is). rw is (rw e refl)) (default (default_of p p' F R (h [])))
 
 pub sees_identifier : (ts : List Word) → Sees identifier identifier Any (Next is_name) ts
 unfolding identifier
-sees_identifier [] = stuck identifier identifier Any (Next is_name) [] (λ us is. rw is refl) ([], token k.Identifier 0 [] ∷ [], λ rest g. (refl, refl))
+sees_identifier [] = stuck identifier identifier Any (Next is_name) [] (λ us is. rw is refl) (λ us is. rw is refl) ([], token k.Identifier 0 [] ∷ [], λ rest g. (refl, refl))
 sees_identifier (t ∷ ts) = by t.kind
   where
     by : (kind : TokenKind) → Sees identifier identifier Any (Next is_name) (token kind t.at t.text ∷ ts)
     by k.Identifier = skip (token k.Identifier t.at t.text) ts identifier identifier (λ us. Ok (t.text, us)) (λ us. Ok (t.text, us)) Any Any _ (λ vs. refl) (λ vs. refl) (pass t.text Any ts)
-    by (k.Number v) = stuck identifier identifier Any (Next is_name) _ (λ us (more, is). rw is refl) ([], token k.Identifier 0 [] ∷ [], λ rest g. (refl, refl))
-    by _ = stuck identifier identifier Any (Next is_name) _ (λ us (more, is). rw is refl) ([], token k.Identifier 0 [] ∷ [], λ rest g. (refl, refl))
+    by (k.Number v) = stuck identifier identifier Any (Next is_name) _ (λ us (more, is). rw is refl) (λ us (more, is). rw is refl) ([], token k.Identifier 0 [] ∷ [], λ rest g. (refl, refl))
+    by _ = stuck identifier identifier Any (Next is_name) _ (λ us (more, is). rw is refl) (λ us (more, is). rw is refl) ([], token k.Identifier 0 [] ∷ [], λ rest g. (refl, refl))
 
 -- what a token begins, which is passed, or what stands here without it
 pub either : {A : Type 0} (test : TokenKind → Bool) (g g' h h' : Parser A) (F R S : List Word → Type 0) (ts : List Word)

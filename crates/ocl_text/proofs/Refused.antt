@@ -1,12 +1,12 @@
 -- What the parser's refusal says of the tokens.
-use Rattle.std.proofs.Common.{◌≡◌, ℕ, suc, List, [], ◌∷◌, ◌++◌, Result, Ok, Err, refl, sym, ap, ◌∙◌, subst}
+use Rattle.std.proofs.Common.{◌≡◌, ℕ, suc, List, [], ◌∷◌, ◌++◌, Result, Ok, Err, refl, sym, ap, ◌∙◌, subst, arith}
+use Rattle.std.proofs.lemmas.List.{append_cancel_right}
 use Rattle.ocl_text.specs.Tokens.{Word}
 use Rattle.ocl_text.specs.Tree.{Rule}
 use Rattle.ocl_text.specs.RuleText.{Agrees, BeginsRules}
 use Rattle.ocl_text.specs.Grammar.{Spells, SpellsWithin}
 use Rattle.ocl_text.specs.Parse.{Stop, syntax, too_deep, Read, ◌>>=◌, expr, all_of}
-use Rattle.ocl_text.proofs.Deeper.{refused_for_good}
-use Rattle.ocl_text.proofs.Wider.{plus, read_spells, spelled_read}
+use Rattle.ocl_text.proofs.Wider.{plus, plus_is, wider, read_spells, spelled_read}
 use Rattle.ocl_text.proofs.Prefixes.{Outcome, read, wrong, deep, told, Wide}
 use Rattle.ocl_text.proofs.Contexts.{Nothing, all_read, read_contexts, sees_rules}
 
@@ -31,6 +31,12 @@ unread (Err e) rules rest h = absurd (cc)
 unread_stop : (r : Result (List Rule) Stop) (s : Stop) → (r >>= all_read) ≡ Err s → r ≡ Err s
 unread_stop (Ok x) s h = absurd (cc)
 unread_stop (Err e) s h = let same : e ≡ s = cc in ap (λ y. Err y) same
+
+swap_one : (a b : ℕ) → plus a (suc b) ≡ plus b (suc a)
+swap_one a b = plus_is a (suc b) ∙ (let e = plus_is b (suc a) in omega arith)
+
+swap_three : (a b : ℕ) → plus a (suc (suc (suc b))) ≡ plus b (suc (suc (suc a)))
+swap_three a b = plus_is a (suc (suc (suc b))) ∙ (let e = plus_is b (suc (suc (suc a))) in omega arith)
 
 module _ (nesting chain : ℕ) (ts : List Word) where
   abbrev reads : List Word → Read (List Rule)
@@ -57,17 +63,40 @@ module _ (nesting chain : ℕ) (ts : List Word) where
   here : (o : Outcome (List Rule)) (before rest : List Word) → ts ≡ before ++ rest → Same o before rest → reads ts ≡ told o rest
   here o before rest is same = rw is (same rest (agrees_itself rest))
 
+  -- under wider limits too the list is refused there, and each that agrees with it
+  wrong_wider : (s : List Word) → all_of nesting chain ts ≡ Err (syntax s) → (before : List Word) → ts ≡ before ++ s → (a b : ℕ) (other : List Word) → Agrees s other → all_of (plus nesting (suc (suc (suc a)))) (plus chain (suc b)) (before ++ other) ≡ Err (syntax other)
+  unfolding all_of
+  wrong_wider s h before split a b other agrees = let sees = sees_rules a b chain nesting ts in by sees.outcome sees.before sees.rest sees.split sees.same sees.wide
+    where
+      by : (o : Outcome (List Rule)) (passed rest : List Word) → ts ≡ passed ++ rest → Same o passed rest → Wide (read_contexts (expr (plus chain (suc b)) (suc (plus nesting (suc (suc (suc a)))))) []) Nothing Nothing passed rest o → all_of (plus nesting (suc (suc (suc a)))) (plus chain (suc b)) (before ++ other) ≡ Err (syntax other)
+      by (read x) passed rest is same w = let e = here (read x) passed rest is same in let f = stopped (syntax s) h in absurd (cc (e, f))
+      by deep passed rest is same w = let e = here deep passed rest is same in let f = stopped (syntax s) h in absurd (cc (e, f))
+      by wrong passed rest is same (refuses, completes) =
+          let e = here wrong passed rest is same in
+          let f = stopped (syntax s) h in
+          let at_rest : rest ≡ s = cc (e, f) in
+          let front : passed ≡ before = append_cancel_right passed before s (ap (λ (l : List Word). passed ++ l) (sym at_rest) ∙ sym is ∙ split) in
+          let refused = refuses other (subst (λ (l : List Word). Agrees l other) (sym at_rest) agrees) in
+          unread_stop _ (syntax other) (ap (λ (l : List Word). read_contexts (expr (plus chain (suc b)) (suc (plus nesting (suc (suc (suc a)))))) [] (l ++ other)) (sym front) ∙ refused)
+
+  wrong_for_good : (s : List Word) → all_of nesting chain ts ≡ Err (syntax s) → (before : List Word) → ts ≡ before ++ s → (other : List Word) (rules : List Rule) → Agrees s other → Spells (before ++ other) rules → ⊥
+  wrong_for_good s h before split other rules agrees (n, c, d) =
+      let refused = wrong_wider s h before split n c other agrees in
+      let spelled = rw (swap_three n nesting, swap_one c chain) at (spelled_read (plus n (suc (suc (suc nesting)))) (plus c (suc chain)) (before ++ other) rules (wider n c (suc (suc (suc nesting))) (suc chain) (before ++ other) rules d)) in
+      cc (refused, spelled)
+
   pub wrong_at : (s : List Word) → all_of nesting chain ts ≡ Err (syntax s) → WrongAt ts s
   wrong_at s h = let sees = sees_rules 0 0 chain nesting ts in by sees.outcome sees.before sees.rest sees.split sees.same sees.wide
     where
       by : (o : Outcome (List Rule)) (before rest : List Word) → ts ≡ before ++ rest → Same o before rest → Wider o before rest → WrongAt ts s
       by (read x) before rest is same w = let e = here (read x) before rest is same in let f = stopped (syntax s) h in absurd (cc (e, f))
       by deep before rest is same w = let e = here deep before rest is same in let f = stopped (syntax s) h in absurd (cc (e, f))
-      by wrong before rest is same (x, more, g) =
+      by wrong before rest is same (refuses, (x, more, g)) =
           let e = here wrong before rest is same in
           let f = stopped (syntax s) h in
           let at_rest : rest ≡ s = cc (e, f) in
-          subst (WrongAt ts) at_rest (before, is, spelled_wider before more x (g [] refl).1, λ other rules a. refused_for_good nesting chain (before ++ other) other (refused_as (before ++ other) (syntax other) (same other a)) rules)
+          let split : ts ≡ before ++ s = is ∙ ap (λ (l : List Word). before ++ l) at_rest in
+          (before, split, spelled_wider before more x (g [] refl).1, wrong_for_good s h before split)
 
   pub too_deep_at : (s : List Word) → all_of nesting chain ts ≡ Err (too_deep s) → TooDeepAt nesting chain ts s
   too_deep_at s h = let sees = sees_rules 0 0 chain nesting ts in by sees.outcome sees.before sees.rest sees.split sees.same sees.wide

@@ -173,7 +173,7 @@ abbrev word_divide : Word
 word_divide = token k.Div 0 []
 
 module _ (a b c n : ℕ) (operand operand' : Parser Tree) (sees : (ts : List Word) → Sees operand operand' (May stops) (Next counts) ts)
-    (shortens : Shortens operand) (shortens' : Shortens operand') (empty : operand [] ≡ Err (syntax [])) (empty' : operand' [] ≡ Err (syntax []))
+    (shortens : Shortens operand) (shortens' : Shortens operand') (empty : operand [] ≡ Err (syntax [])) (shuts : (ts : List Word) → next_is begins ts ≡ false → operand' ts ≡ Err (syntax ts))
     (opened : (t : Word) → begins t.kind ≡ true → Opens operand' (May stops) t)
     (sees_whole : (ts : List Word) → Sees (expr c n) (expr (plus c (suc b)) (plus n (suc (suc (suc a))))) (May stops) (Next counts) ts) (sees_name : SeesName a b c n) where
   abbrev deeper : ℕ
@@ -186,7 +186,7 @@ module _ (a b c n : ℕ) (operand operand' : Parser Tree) (sees : (ts : List Wor
   whole' = expr (plus c (suc b)) deeper
 
   arguments_see : (source : Tree) (by : Navigation) (text : List ℕ) (at : ℕ) (ts : List Word) → Sees (calling n operand whole source by text at) (calling deeper operand' whole' source by text at) (May stops) (Next (is_mark m.Open)) ts
-  arguments_see source by text at ts = sees_calling operand operand' sees shortens shortens' empty empty' opened a n whole whole' source by text at ts
+  arguments_see source by text at ts = sees_calling operand operand' sees shortens shortens' empty shuts opened a n whole whole' source by text at ts
 
   dot_default : (source : Tree) → Completes (dotted deeper operand' whole' source) (May stops) Any []
   unfolding dotted
@@ -196,15 +196,15 @@ module _ (a b c n : ℕ) (operand operand' : Parser Tree) (sees : (ts : List Wor
 
   sees_dotted : (source : Tree) (ts : List Word) → Sees (dotted n operand whole source) (dotted deeper operand' whole' source) (May stops) Any ts
   unfolding dotted
-  sees_dotted source [] = stuck _ _ (May stops) Any [] (λ us is. rw is refl) (dot_default source)
+  sees_dotted source [] = stuck _ _ (May stops) Any [] (λ us is. rw is refl) (λ us is. rw is refl) (dot_default source)
   sees_dotted source (t ∷ ts) = by t.kind
     where
       by : (kind : TokenKind) → Sees (dotted n operand whole source) (dotted deeper operand' whole' source) (May stops) Any (token kind t.at t.text ∷ ts)
-      by k.Identifier = skip (token k.Identifier t.at t.text) ts _ _ (called n operand whole source t.text t.at) (called deeper operand' whole' source t.text t.at) (May stops) (May stops) Any (λ us. refl) (λ us. refl) (sees_called operand operand' sees shortens shortens' empty empty' opened a n whole whole' source t.text t.at ts)
+      by k.Identifier = skip (token k.Identifier t.at t.text) ts _ _ (called n operand whole source t.text t.at) (called deeper operand' whole' source t.text t.at) (May stops) (May stops) Any (λ us. refl) (λ us. refl) (sees_called operand operand' sees shortens shortens' empty shuts opened a n whole whole' source t.text t.at ts)
       by k.Div = skip (token k.Div t.at t.text) ts _ _ (calling n operand whole source Dot t.text t.at) (calling deeper operand' whole' source Dot t.text t.at) (May stops) (Next (is_mark m.Open)) Any (λ us. refl) (λ us. refl) (arguments_see source Dot t.text t.at ts)
       by k.Mod = skip (token k.Mod t.at t.text) ts _ _ (calling n operand whole source Dot t.text t.at) (calling deeper operand' whole' source Dot t.text t.at) (May stops) (Next (is_mark m.Open)) Any (λ us. refl) (λ us. refl) (arguments_see source Dot t.text t.at ts)
-      by (k.Number v) = stuck _ _ (May stops) Any _ (λ us (more, is). rw is refl) (dot_default source)
-      by _ = stuck _ _ (May stops) Any _ (λ us (more, is). rw is refl) (dot_default source)
+      by (k.Number v) = stuck _ _ (May stops) Any _ (λ us (more, is). rw is refl) (λ us (more, is). rw is refl) (dot_default source)
+      by _ = stuck _ _ (May stops) Any _ (λ us (more, is). rw is refl) (λ us (more, is). rw is refl) (dot_default source)
 
   sees_applied : (o : Option IteratorKind) (source : Tree) (text : List ℕ) (at : ℕ) (ts : List Word) → Sees (applied_by n operand whole o source text at) (applied_by deeper operand' whole' o source text at) (May stops) (Next (is_mark m.Open)) ts
   sees_applied None source text at ts = arguments_see source Arrow text at ts
@@ -220,13 +220,13 @@ module _ (a b c n : ℕ) (operand operand' : Parser Tree) (sees : (ts : List Wor
 
   sees_arrowed : (source : Tree) (ts : List Word) → Sees (arrowed n operand whole source) (arrowed deeper operand' whole' source) (May stops) Any ts
   unfolding arrowed applied
-  sees_arrowed source [] = stuck _ _ (May stops) Any [] (λ us is. rw is refl) (arrow_default source)
+  sees_arrowed source [] = stuck _ _ (May stops) Any [] (λ us is. rw is refl) (λ us is. rw is refl) (arrow_default source)
   sees_arrowed source (t ∷ ts) = by t.kind
     where
       by : (kind : TokenKind) → Sees (arrowed n operand whole source) (arrowed deeper operand' whole' source) (May stops) Any (token kind t.at t.text ∷ ts)
       by k.Identifier = skip (token k.Identifier t.at t.text) ts _ _ (applied_by n operand whole (iterator_of t.text) source t.text t.at) (applied_by deeper operand' whole' (iterator_of t.text) source t.text t.at) (May stops) (Next (is_mark m.Open)) Any (λ us. refl) (λ us. refl) (sees_applied (iterator_of t.text) source t.text t.at ts)
-      by (k.Number v) = stuck _ _ (May stops) Any _ (λ us (more, is). rw is refl) (arrow_default source)
-      by _ = stuck _ _ (May stops) Any _ (λ us (more, is). rw is refl) (arrow_default source)
+      by (k.Number v) = stuck _ _ (May stops) Any _ (λ us (more, is). rw is refl) (λ us (more, is). rw is refl) (arrow_default source)
+      by _ = stuck _ _ (May stops) Any _ (λ us (more, is). rw is refl) (λ us (more, is). rw is refl) (arrow_default source)
 
   -- ---- chains of steps
 

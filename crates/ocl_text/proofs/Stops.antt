@@ -13,6 +13,7 @@ use Rattle.ocl_text.specs.Parse as p
 use Rattle.ocl_text.specs.Parse.{Stop, syntax, too_deep, Read, Parser, ◌>>=◌, too_deep_at, expect, is_mark, identifier, variables_by, has_second}
 use Rattle.ocl_text.proofs.Sound.{mark_kind, mark_is}
 use Rattle.ocl_text.proofs.Wider.{plus}
+use Rattle.ocl_text.proofs.Shut.{type_shut}
 use Rattle.ocl_text.proofs.Prefixes.{Completes, Sees, Opens, Any, bind, skip, pass, stuck, blocked, sees_expect, sees_identifier, either}
 
 -- ---- what may follow
@@ -76,14 +77,14 @@ mark_not mark test h [] g = refl
 mark_not mark test h (t ∷ us) g = rw (mark_is mark t.kind g) h
 
 -- where nothing may begin any more
-pub sees_shut : {A : Type 0} (test : TokenKind → Bool) (p' : Parser A) (F S : List Word → Type 0) → Completes p' F S [] → ((t : Word) → test t.kind ≡ true → Opens p' F t) → (ts : List Word) → Sees (too_deep_at test) p' F S ts
+pub sees_shut : {A : Type 0} (test : TokenKind → Bool) (p' : Parser A) (F S : List Word → Type 0) → ((us : List Word) → next_is test us ≡ false → p' us ≡ Err (syntax us)) → Completes p' F S [] → ((t : Word) → test t.kind ≡ true → Opens p' F t) → (ts : List Word) → Sees (too_deep_at test) p' F S ts
 unfolding too_deep_at
-sees_shut test p' F S default opened [] = stuck (too_deep_at test) p' F S [] (λ us is. rw is refl) default
-sees_shut {A} test p' F S default opened (t ∷ us) = by (test t.kind) refl
+sees_shut test p' F S shut default opened [] = stuck (too_deep_at test) p' F S [] (λ us is. rw is refl) (λ us is. rw is (shut [] refl)) default
+sees_shut {A} test p' F S shut default opened (t ∷ us) = by (test t.kind) refl
   where
     by : (b : Bool) → test t.kind ≡ b → Sees (too_deep_at test) p' F S (t ∷ us)
     by true e = blocked (too_deep_at test) p' F S t us (λ vs. rw e refl) (opened t e)
-    by false e = stuck (too_deep_at test) p' F S (t ∷ us) (λ vs (more, is). rw is (rw e refl)) default
+    by false e = stuck (too_deep_at test) p' F S (t ∷ us) (λ vs (more, is). rw is (rw e refl)) (λ vs (more, is). rw is (shut (t ∷ more) e)) default
 
 -- ---- types and variables
 
@@ -125,17 +126,17 @@ module _ (a : ℕ) where
 
   pub sees_type : (n : ℕ) (ts : List Word) → Sees (p.a_type n) (p.a_type (plus n (suc (suc (suc a))))) (Next stops_type) (Next is_name) ts
   unfolding p.a_type p.type_over
-  sees_type zero ts = sees_shut is_name (p.a_type (suc (suc (suc a)))) (Next stops_type) (Next is_name) (type_default (suc (suc a))) (type_opened (suc (suc a))) ts
-  sees_type (suc n) [] = stuck (p.a_type (suc n)) (p.a_type (suc (plus n (suc (suc (suc a)))))) (Next stops_type) (Next is_name) [] (λ us is. rw is refl) (type_default _)
+  sees_type zero ts = sees_shut is_name (p.a_type (suc (suc (suc a)))) (Next stops_type) (Next is_name) (type_shut (suc (suc (suc a)))) (type_default (suc (suc a))) (type_opened (suc (suc a))) ts
+  sees_type (suc n) [] = stuck (p.a_type (suc n)) (p.a_type (suc (plus n (suc (suc (suc a)))))) (Next stops_type) (Next is_name) [] (λ us is. rw is refl) (λ us is. rw is refl) (type_default _)
   sees_type (suc n) (u ∷ ts) = by u.kind (type_named (p.a_type n) (p.a_type (plus n (suc (suc (suc a))))) (sees_type n) u.at u.text ts)
     where
-      refused : (kind : TokenKind) → ((vs : List Word) → p.a_type (suc n) (token kind u.at u.text ∷ vs) ≡ Err (syntax (token kind u.at u.text ∷ vs))) → Sees (p.a_type (suc n)) (p.a_type (suc (plus n (suc (suc (suc a)))))) (Next stops_type) (Next is_name) (token kind u.at u.text ∷ ts)
-      refused kind e = stuck (p.a_type (suc n)) (p.a_type (suc (plus n (suc (suc (suc a)))))) (Next stops_type) (Next is_name) _ (λ us (more, is). rw is (e more)) (type_default _)
+      refused : (kind : TokenKind) → ((l : ℕ) (vs : List Word) → p.a_type (suc l) (token kind u.at u.text ∷ vs) ≡ Err (syntax (token kind u.at u.text ∷ vs))) → Sees (p.a_type (suc n)) (p.a_type (suc (plus n (suc (suc (suc a)))))) (Next stops_type) (Next is_name) (token kind u.at u.text ∷ ts)
+      refused kind e = stuck (p.a_type (suc n)) (p.a_type (suc (plus n (suc (suc (suc a)))))) (Next stops_type) (Next is_name) _ (λ us (more, is). rw is (e n more)) (λ us (more, is). rw is (e (plus n (suc (suc (suc a)))) more)) (type_default _)
 
       by : (kind : TokenKind) → Sees (type_after u.text u.at (p.a_type n)) (type_after u.text u.at (p.a_type (plus n (suc (suc (suc a)))))) (Next stops_type) (Next stops_type) ts → Sees (p.a_type (suc n)) (p.a_type (suc (plus n (suc (suc (suc a)))))) (Next stops_type) (Next is_name) (token kind u.at u.text ∷ ts)
       by k.Identifier s = skip (token k.Identifier u.at u.text) ts _ _ _ _ (Next stops_type) (Next stops_type) _ (λ vs. refl) (λ vs. refl) s
-      by (k.Number v) s = refused (k.Number v) (λ vs. refl)
-      by _ s = refused _ (λ vs. refl)
+      by (k.Number v) s = refused (k.Number v) (λ l vs. refl)
+      by _ s = refused _ (λ l vs. refl)
 
   pub sees_declared : (n : ℕ) (text : List ℕ) (ts : List Word) → Sees (declared_after text (p.a_type n)) (declared_after text (p.a_type (plus n (suc (suc (suc a)))))) (Next (is_mark m.Bar)) (Next (is_mark m.Bar)) ts
   sees_declared n text ts =

@@ -12,7 +12,7 @@ abbrev pub plus : ℕ → ℕ → ℕ
 plus zero b = b
 plus (suc a) b = suc (plus a b)
 
-plus_is : (a b : ℕ) → plus a b ≡ a + b
+pub plus_is : (a b : ℕ) → plus a b ≡ a + b
 plus_is zero b = omega arith
 plus_is (suc a) b = let e = plus_is a b in omega arith
 
