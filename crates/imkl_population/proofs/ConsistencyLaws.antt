@@ -1,29 +1,29 @@
 -- A draft in which nothing is missing and no opposite end is out of its bounds is consistent.
-use Rattle.std.proofs.Common.{◌≡◌, ◌⊎◌, ℕ, zero, suc, ◌<◌, ◌≤◌, Bool, true, false, ◌&&◌, not, List, [], length, map, Option, Some, None, refl, sym, ap, subst, ◌∙◌, if◌then◌else◌, nat_lt, inl, inr, arith}
+use Rattle.std.proofs.Common.{◌≡◌, ◌⊎◌, ℕ, zero, suc, ◌<◌, Bool, true, false, ◌&&◌, List, [], length, Option, Some, None, refl, sym, subst, if◌then◌else◌, nat_lt, inl, inr, arith}
 use Rattle.std.specs.List.{list_all}
-use Rattle.std.proofs.lemmas.Bool.{false≢true, and_parts, and_from, le-ltb, lt-ltb, cases_Bool}
+use Rattle.std.proofs.lemmas.Bool.{false≢true, and_from, le-ltb, lt-ltb, cases_Bool}
 use Rattle.std.proofs.lemmas.Bool.Decides.{leb_tells}
 use Rattle.std.proofs.lemmas.List.Folds.{list_all-map}
 use Rattle.imkl_model.specs.declared.feature.ElementType.TheVariants as element
 use Rattle.imkl_model.specs.declared.feature.FeatureInfo.{FeatureInfo}
 use Rattle.imkl_model.specs.declared.feature.Role.{Role}
 use Rattle.imkl_model.specs.declared.feature.Role.TheVariants.{Attribute, SourceEnd, OppositeEnd}
-use Rattle.imkl_model.specs.ClassModel.{Model, feature_at, belongs, conforms}
+use Rattle.imkl_model.specs.ClassModel.{feature_at, belongs, conforms}
 use Rattle.imkl_model.specs.WellFormed.{IsClassModel}
 use Rattle.imkl_population.specs.declared.fault.PopulationFault.{PopulationFault}
-use Rattle.imkl_population.specs.declared.fault.PopulationFault.TheVariants.{TooFew, TooMany}
+use Rattle.imkl_population.specs.declared.fault.PopulationFault.TheVariants.{TooFew}
 use Rattle.imkl_population.specs.declared.scalar.Scalar.{Scalar}
 use Rattle.imkl_population.specs.declared.scalar.Scalar.TheVariants as scalar
 use Rattle.imkl_population.specs.Numbers.{first_of, or_else}
 use Rattle.imkl_population.specs.Population.{Population, object_at, class_of, written_at, values_of, values_by, opposite_end}
 use Rattle.imkl_population.specs.Values.{is_attribute, is_opposite, is_of_type, is_target_of, is_unique, is_over, repeats}
-use Rattle.imkl_population.specs.Building.{bounds_fault, as_objects}
+use Rattle.imkl_population.specs.Building.{bounds_fault}
 use Rattle.imkl_population.specs.Draft.{IsDraft, is_sound}
 use Rattle.imkl_population.specs.Finishing.{gap, end_fault, first_fault}
 use Rattle.imkl_population.specs.Consistency.{IsConsistent}
 use Rattle.imkl_population.proofs.EndLaws.{values_written}
 use Rattle.imkl_population.proofs.Holders.{holders_all, holders_apart}
-use Rattle.imkl_population.proofs.Soundness.{AreValues, AreTargets, sound_in, values_sound, targets_sound, end_within}
+use Rattle.imkl_population.proofs.Soundness.{AreTargets, sound_in, values_sound, targets_sound, end_within}
 
 neither : {A : Type 0} (a b : Option A) → or_else a b ≡ None → (a ≡ None) × (b ≡ None)
 neither None b h = (refl, h)

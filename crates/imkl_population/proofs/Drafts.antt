@@ -1,11 +1,10 @@
 -- What a builder keeps, after an object is added and after values are set.
-use Rattle.std.proofs.Common.{◌≡◌, ℕ, suc, ◌+◌, ◌==◌, ◌<◌, ◌≤◌, Bool, true, false, ◌&&◌, not, cond, List, [], ◌∷◌, ◌++◌, length, Option, Some, None, refl, sym, ap, subst, ◌∙◌, bytes_eq, arith, if◌then◌else◌, is_none, is_some, get_or, set, inl, inr, nat_lt, length-append, Ordering, Less, Equal, Greater}
+use Rattle.std.proofs.Common.{◌≡◌, ℕ, suc, ◌==◌, ◌<◌, ◌≤◌, Bool, true, false, ◌&&◌, not, cond, List, [], ◌∷◌, ◌++◌, length, Option, Some, None, refl, sym, ap, subst, ◌∙◌, bytes_eq, arith, if◌then◌else◌, is_none, is_some, get_or, set, inl, inr, nat_lt, length-append, Ordering, Less, Equal, Greater}
 use Rattle.std.proofs.lemmas.Bool.{false≢true, and_parts, and_from, cases_eq, ne_eqb}
 use Rattle.std.proofs.lemmas.Bool.Decides.{leb_tells}
 use Rattle.std.proofs.lemmas.List.{get_or_default, get_or-set_same, get_or-set_other, length-set}
 use Rattle.std.proofs.Math.ListN.{get_or-append}
 use Rattle.std.proofs.Math.Seq.{get_or-append_seam}
-use Rattle.std.proofs.lemmas.Slice.Eq.{bytes_eq-Decides}
 use Rattle.std.specs.List.{list_all}
 use Rattle.std.specs.BTreeMap.{insert_entry}
 use Rattle.std.specs.FinMap.{nat_cmp-IsAntisymmetric}
@@ -22,7 +21,7 @@ use Rattle.imkl_population.specs.declared.scalar.Scalar.{Scalar}
 use Rattle.imkl_population.specs.declared.scalar.Scalar.TheVariants as scalar
 use Rattle.imkl_population.specs.Population.{Population, object_at, class_of, no_object, object_of}
 use Rattle.imkl_population.specs.Values.{is_target_of, is_attribute, is_opposite, repeats}
-use Rattle.imkl_population.specs.Building.{is_id, bounds_fault, with_written, with_values}
+use Rattle.imkl_population.specs.Building.{is_id, bounds_fault, with_written}
 use Rattle.imkl_population.specs.Draft.{IsDraft, is_sound, entry_fault_by}
 use Rattle.imkl_population.proofs.Bools.{list_all-weaker}
 use Rattle.imkl_population.proofs.Ids.{object_of-push, absent_differs, object_from-set}

@@ -1,11 +1,10 @@
 -- The opposite ends that are collected, as the values of their features.
-use Rattle.std.proofs.Common.{◌≡◌, ℕ, ◌<◌, true, false, ◌&&◌, List, [], length, Option, Some, None, refl, sym, ap, ◌∙◌, get_or, subst}
+use Rattle.std.proofs.Common.{◌≡◌, ℕ, ◌<◌, true, false, List, [], length, refl, sym, ap, ◌∙◌, get_or}
 use Rattle.std.proofs.lemmas.Bool.{false≢true}
 use Rattle.imkl_model.specs.declared.feature.Role.{Role}
 use Rattle.imkl_model.specs.declared.feature.Role.TheVariants.{Attribute, SourceEnd, OppositeEnd}
 use Rattle.imkl_model.specs.ClassModel.{feature_at, belongs}
 use Rattle.imkl_population.specs.declared.scalar.Scalar.{Scalar}
-use Rattle.imkl_population.specs.declared.fault.PopulationFault.{PopulationFault}
 use Rattle.imkl_population.specs.Written.{written_in}
 use Rattle.imkl_population.specs.Population.{Population, class_of, values_of, values_by, written_at}
 use Rattle.imkl_population.specs.Values.{is_opposite}

@@ -1,8 +1,8 @@
 -- The first number that has something.
-use Rattle.std.proofs.Common.{◌≡◌, ℕ, zero, suc, ◌+◌, ◌<◌, Option, Some, None, refl, sym, ◌∙◌, arith, inl, inr, add-one, is_some, true}
+use Rattle.std.proofs.Common.{◌≡◌, ℕ, zero, suc, ◌+◌, ◌<◌, Option, Some, None, refl, sym, arith, inl, inr, add-one, is_some, true}
 use Rattle.std.proofs.lemmas.Bool.{false≢true}
 use Rattle.std.proofs.lemmas.Bool.Decides.{leb_tells}
-use Rattle.imkl_population.specs.Numbers.{first_of, or_else}
+use Rattle.imkl_population.specs.Numbers.{first_of}
 
 pub first_of-found : {A : Type 0} (g : ℕ → Option A) (n k : ℕ) (a : A) → k < n → first_of g k ≡ None → g k ≡ Some a → first_of g n ≡ Some a
 first_of-found g zero k a lt none found = absurd (omega arith)

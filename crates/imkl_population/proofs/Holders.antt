@@ -1,5 +1,5 @@
 -- The holders of an object: each is one of the holders below, and none stands twice.
-use Rattle.std.proofs.Common.{◌≡◌, ◌⊎◌, ℕ, zero, suc, ◌<◌, ◌≤◌, ◌==◌, Bool, true, false, ◌&&◌, ◌||◌, List, [], ◌∷◌, ◌++◌, map, refl, sym, ap, subst, ◌∙◌, inl, inr, nat_lt, arith, if◌then◌else◌, cond}
+use Rattle.std.proofs.Common.{◌≡◌, ◌⊎◌, ℕ, zero, suc, ◌<◌, ◌==◌, Bool, true, false, List, [], ◌∷◌, ◌++◌, refl, sym, ap, subst, ◌∙◌, inl, inr, nat_lt, arith, if◌then◌else◌}
 use Rattle.std.specs.List.{list_all}
 use Rattle.std.proofs.lemmas.Bool.{false≢true, and_parts, and_from, or_parts, or_from, ltb-true, lt-ltb, ne_eqb, eqb-true, eq-eqb}
 use Rattle.std.proofs.lemmas.List.{append-nil, map-append}
@@ -7,10 +7,10 @@ use Rattle.std.proofs.lemmas.List.Folds.{list_all-append}
 use Rattle.imkl_population.specs.declared.scalar.Scalar.{Scalar}
 use Rattle.imkl_population.specs.declared.scalar.Scalar.TheVariants as scalar
 use Rattle.imkl_population.specs.Building.{as_objects}
-use Rattle.imkl_population.specs.Values.{same_scalar, is_among, repeats}
-use Rattle.imkl_population.specs.Population.{Population, targets, pairs_of, pairs_below, holders_of, held_by, written_at}
+use Rattle.imkl_population.specs.Values.{is_among, repeats}
+use Rattle.imkl_population.specs.Population.{Population, pairs_of, pairs_below, holders_of, held_by, written_at}
 use Rattle.imkl_population.proofs.Pairs.{holders_of-append}
-use Rattle.imkl_population.proofs.Bools.{list_all-weaker, same_test}
+use Rattle.imkl_population.proofs.Bools.{same_test}
 use Rattle.imkl_population.proofs.Twice.{apart_push}
 
 -- a target more: the holder once more, or not

@@ -14,3 +14,4 @@ pub mod Soundness
 pub mod Holders
 pub mod ConsistencyLaws
 pub mod Places
+pub mod Lengths

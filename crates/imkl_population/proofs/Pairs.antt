@@ -1,5 +1,5 @@
 -- The pairs of an association, holder by holder, and who holds an object.
-use Rattle.std.proofs.Common.{◌≡◌, ℕ, suc, ◌+◌, ◌==◌, Bool, true, false, List, [], ◌∷◌, ◌++◌, map, filter, refl, sym, ap, ◌∙◌, append_assoc, if◌then◌else◌, add-one}
+use Rattle.std.proofs.Common.{◌≡◌, ℕ, ◌+◌, ◌==◌, Bool, true, false, List, [], ◌++◌, map, filter, sym, ap, ◌∙◌, append_assoc, if◌then◌else◌, add-one}
 use Rattle.std.proofs.lemmas.List.{append-nil, map-append}
 use Rattle.std.proofs.lemmas.List.Elements.{filter_map-append, filter-append}
 use Rattle.imkl_population.specs.declared.scalar.Scalar.{Scalar}

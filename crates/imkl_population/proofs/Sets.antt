@@ -1,15 +1,13 @@
 -- One value more in a set of values.
-use Rattle.std.proofs.Common.{◌≡◌, ℕ, Bool, true, false, ◌&&◌, ◌||◌, cond, List, Ordering, refl, sym, ap, ◌∙◌, eqb, bytes_eq}
+use Rattle.std.proofs.Common.{◌≡◌, ℕ, Bool, true, false, ◌||◌, cond, List, Ordering, refl, sym, ap, ◌∙◌, bytes_eq}
 use Rattle.std.specs.Ordering.{nat_cmp, is_eq, ordering_then}
-use Rattle.std.specs.BTreeSet.{BTreeSet, contains, contains_text}
+use Rattle.std.specs.BTreeSet.{contains, contains_text}
 use Rattle.std.specs.Prelude.{encode_utf8_all}
 use Rattle.std.specs.Str.{all_scalars}
 use Rattle.std.proofs.Math.Bool.{or-false}
 use Rattle.imkl_population.specs.declared.repeats.Seen.{Seen}
-use Rattle.imkl_population.specs.declared.scalar.Scalar.{Scalar}
 use Rattle.imkl_population.specs.declared.scalar.Scalar.TheVariants as scalar
 use Rattle.imkl_population.specs.Seen.{has_seen, SeesMore}
-use Rattle.imkl_population.specs.Values.{same_scalar}
 use Rattle.imkl_population.proofs.Encoded.{bytes_eq-encoded, is_eq-pair}
 
 cond_or : (b c : Bool) → cond b true c ≡ (c || b)

@@ -1,5 +1,5 @@
 -- What is written at a feature of a draft: nothing, or values without a fault.
-use Rattle.std.proofs.Common.{◌≡◌, ◌⊎◌, ℕ, ◌<◌, ◌≤◌, Bool, true, false, ◌&&◌, not, cond, List, [], ◌∷◌, length, Option, Some, None, refl, sym, ap, subst, ◌∙◌, if◌then◌else◌, is_none, inl, inr, get_or, arith}
+use Rattle.std.proofs.Common.{◌≡◌, ◌⊎◌, ℕ, ◌<◌, Bool, true, false, ◌&&◌, not, cond, List, [], ◌∷◌, length, Option, Some, None, refl, sym, ap, subst, ◌∙◌, if◌then◌else◌, is_none, inl, inr}
 use Rattle.std.specs.Prelude.{unwrap_or}
 use Rattle.std.specs.List.{list_all}
 use Rattle.std.specs.Map.{lookup}
@@ -10,18 +10,16 @@ use Rattle.std.specs.FinMap.{nat_cmp-IsAntisymmetric}
 use Rattle.std.proofs.lemmas.Bool.{false≢true, and_parts}
 use Rattle.std.proofs.Math.ListN.{get_or-eq_default}
 use Rattle.imkl_model.specs.declared.feature.FeatureInfo.{FeatureInfo}
-use Rattle.imkl_model.specs.declared.feature.Role.{Role}
-use Rattle.imkl_model.specs.declared.feature.Role.TheVariants.{Attribute, SourceEnd, OppositeEnd}
 use Rattle.std.proofs.lemmas.Bool.Decides.{leb_tells}
 use Rattle.imkl_model.specs.ClassModel.{Model, feature_at, belongs, no_feature}
 use Rattle.imkl_population.specs.declared.fault.PopulationFault.{PopulationFault}
 use Rattle.imkl_population.specs.declared.fault.PopulationFault.TheVariants.{WrongFeature, WrongKind, WrongClass, DuplicateTarget, Derived}
 use Rattle.imkl_population.specs.declared.scalar.Scalar.{Scalar}
 use Rattle.imkl_population.specs.Written.{written_in}
-use Rattle.imkl_population.specs.Population.{Population, class_of, object_at, written_at}
+use Rattle.imkl_population.specs.Population.{Population, class_of}
 use Rattle.imkl_population.specs.Values.{is_attribute, is_opposite, is_of_type, is_target_of, is_unique, repeats}
 use Rattle.imkl_population.specs.Building.{bounds_fault, value_fault, link_fault}
-use Rattle.imkl_population.specs.Draft.{IsDraft, is_sound, entry_fault_by}
+use Rattle.imkl_population.specs.Draft.{is_sound, entry_fault_by}
 
 sound_here : (p : Population) (o f k : ℕ) (b : Bool) (vs : List Scalar) (r : Option (List Scalar)) → is_eq (nat_cmp f k) ≡ b → is_sound p o (k, vs) ≡ true
     → (unwrap_or r [] ≡ []) ⊎ (is_sound p o (f, unwrap_or r []) ≡ true)

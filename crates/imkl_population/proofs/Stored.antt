@@ -1,17 +1,17 @@
 -- Maps laid out one after another.
-use Rattle.std.proofs.Common.{◌≡◌, ℕ, ◌+◌, ◌-◌, ◌<◌, ◌≤◌, List, [], ◌∷◌, ◌++◌, length, map, take, drop, get_or, Bool, true, false, cond, Option, Some, None, refl, sym, ap, subst, ◌∙◌, arith, length-append, length-drop, append_assoc, slice_range, All}
+use Rattle.std.proofs.Common.{◌≡◌, ℕ, ◌+◌, ◌-◌, ◌<◌, ◌≤◌, List, [], ◌∷◌, ◌++◌, length, map, drop, get_or, Bool, true, false, cond, Option, Some, None, refl, sym, ap, subst, ◌∙◌, arith, length-append, length-drop, append_assoc, slice_range, All}
 use Rattle.std.proofs.lemmas.List.{append-nil, take-append-le, drop-append-le, map-append, get_or-map}
-use Rattle.std.proofs.lemmas.List.Elements.{All-nil, All-cons, All-head, All-tail, All-push, All-weaker, All-take, All-drop, All-get_or}
+use Rattle.std.proofs.lemmas.List.Elements.{All-nil, All-head, All-tail, All-append, All-push, All-weaker, All-take, All-drop}
 use Rattle.std.proofs.Math.Seq.{drop-append_seam, take-length}
 use Rattle.imkl_population.specs.declared.scalar.Scalar.{Scalar}
 use Rattle.imkl_population.specs.declared.store.Entry.{Entry}
 use Rattle.std.specs.Prelude.{find, unwrap_or, ◌==◌}
 use Rattle.std.specs.Map.{lookup}
-use Rattle.std.specs.Ordering.{nat_cmp, is_eq}
+use Rattle.std.specs.Ordering.{nat_cmp}
 use Rattle.std.specs.BTreeMap.{is_at}
 use Rattle.imkl_population.specs.declared.store.Segment.{Segment}
 use Rattle.imkl_population.specs.Written.{written_in}
-use Rattle.imkl_population.specs.Store.{entry_of, shown, IsEntry, IsSegment, IsLaidOut, Appended}
+use Rattle.imkl_population.specs.Store.{entry_of, shown, IsEntry, IsSegment, IsMap, IsLaidOut, Appended}
 use Rattle.imkl_population.proofs.Encoded.{is_eq-nat_cmp}
 
 -- a range of a list is the same range of a longer one
@@ -84,6 +84,19 @@ stored s0 s1 e0 e1 gs new w start end laid a from to pushed =
     let last : slice_range e1 start end ≡ a.added = rw a.entries_are (slice_range-new e0 a.added start end from (to ∙ so_long)) in
     let here : shown s1 e1 g ≡ w = ap (map (entry_of s1)) last ∙ a.same in
     ap (map (shown s1 e1)) pushed ∙ map-append (shown s1 e1) gs (g ∷ []) ∙ rw (segments-more s0 s1 e0 e1 w gs a laid.within laid.inside, here) refl
+
+-- and the maps stay laid out
+pub laid_out-more : (s0 s1 : List Scalar) (e0 e1 : List Entry) (gs new : List Segment) (w : List (ℕ × List Scalar)) (start end : ℕ) → IsLaidOut s0 e0 gs → Appended s0 s1 e0 e1 w → IsMap w
+    → start ≡ length e0 → end ≡ length e1 → new ≡ gs ++ record { start = start; end = end } ∷ [] → IsLaidOut s1 e1 new
+laid_out-more s0 s1 e0 e1 gs new w start end laid a is_map from to pushed =
+    let g : Segment = record { start = start; end = end } in
+    let scalars : length s0 ≤ length s1 = omega (arith, ap length a.scalars_are, length-append s0 a.more) in
+    let entries : length e0 ≤ length e1 = omega (arith, ap length a.entries_are, length-append e0 a.added) in
+    record {
+      within = subst (All (IsEntry (length s1))) (sym a.entries_are) (All-append (IsEntry (length s1)) e0 a.added (within-more (length s0) (length s1) e0 scalars laid.within) a.within);
+      inside = subst (All (IsSegment (length e1))) (sym pushed) (All-push (IsSegment (length e1)) gs g (All-weaker (IsSegment (length e0)) (IsSegment (length e1)) (λ h k. (k.0, omega (arith, k.1))) gs laid.inside) (omega arith, omega arith));
+      maps = subst (All IsMap) (sym (stored s0 s1 e0 e1 gs new w start end laid a from to pushed)) (All-push IsMap (map (shown s0 e0) gs) w laid.maps is_map);
+    }
 
 -- ---- looking up
 

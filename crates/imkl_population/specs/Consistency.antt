@@ -1,8 +1,6 @@
 -- What every finished population keeps.
 use Rattle.std.specs.Prelude.{◌≡◌, ℕ, ◌<◌, true, false, None, length, bytes_eq}
 use Rattle.std.specs.List.{list_all}
-use Rattle.imkl_model.specs.declared.feature.Role.{Role}
-use Rattle.imkl_model.specs.declared.feature.Role.TheVariants.{Attribute, SourceEnd, OppositeEnd}
 use Rattle.imkl_model.specs.ClassModel.{class_at, feature_at, belongs}
 use Rattle.imkl_population.specs.Population.{Population, object_at, class_of, values_of}
 use Rattle.imkl_population.specs.Values.{is_attribute, is_of_type, is_target_of, is_unique, repeats}

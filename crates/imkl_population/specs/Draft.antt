@@ -1,5 +1,5 @@
 -- What a builder keeps of the population that it makes.
-use Rattle.std.specs.Prelude.{◌≡◌, ℕ, ◌<◌, Bool, true, false, List, Option, Some, None, length, bytes_eq, is_none}
+use Rattle.std.specs.Prelude.{◌≡◌, ℕ, ◌<◌, Bool, true, false, List, Option, length, bytes_eq, is_none}
 use Rattle.std.specs.List.{list_all}
 use Rattle.imkl_model.specs.declared.feature.FeatureInfo.{FeatureInfo}
 use Rattle.imkl_model.specs.ClassModel.{class_at, feature_at}

@@ -10,3 +10,4 @@ pub mod Draft
 pub mod Ends
 pub mod Store
 pub mod Layout
+pub mod Sizes

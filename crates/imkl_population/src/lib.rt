@@ -13,6 +13,7 @@ mod object;
 mod population;
 mod repeats;
 mod scalar;
+mod sizes;
 mod store;
 mod written;
 
@@ -23,5 +24,6 @@ pub use object::{Id, Object};
 pub use population::{Head, Population};
 pub use repeats::Seen;
 pub use scalar::{Scalar, ScalarText};
+pub use sizes::Sizes;
 pub use store::{Entry, Segment};
 pub use written::{Values, Written};

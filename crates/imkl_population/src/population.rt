@@ -1,16 +1,20 @@
 //! Finished populations.
 
-ghost use Rattle.std.specs.Prelude.{◌≡◌, ◌<◌, ◌≤◌, true, length, slice_range, All};
-ghost use Rattle.imkl_model.specs.ClassModel.{belongs};
+ghost use Rattle.std.specs.Prelude.{◌≡◌, ◌<◌, ◌≤◌, ℕ, true, false, length, slice_range, slice_index, All, IfOk};
+ghost use Rattle.imkl_model.specs.ClassModel.{feature_at, belongs};
 ghost use Rattle.imkl_population.specs.Population.{object_at, class_of, values_of, instances, IsInstance};
 ghost use Rattle.imkl_population.specs.Consistency.{IsConsistent};
+ghost use Rattle.imkl_population.specs.Values.{is_opposite};
+ghost use Rattle.imkl_population.specs.Sizes.{listed, count_of, longest_below, longest_of, sizes_of};
 
 use crate::checks::is_opposite;
 use crate::numbers::ObjectNo;
 use crate::object::Id;
 use crate::scalar::Scalar;
+use crate::sizes::{Sizes, is_unbounded};
 use crate::store::{Segment, Store};
 use imkl_model::{ClassModel, ClassNo, FeatureNo};
+use std::alloc::{AllocError, Global};
 use std::marker::Model;
 
 /// An object's id and class.
@@ -115,6 +119,61 @@ impl<'m> Population<'m> {
     {
         let range = self.ranges[class.place()];
         objects_in(&self.instances, range)
+    }
+
+    /// The sizes of the population: how many objects each class has, and how long the values of
+    /// each attribute without upper bound are.
+    pub fn sizes(&self, alloc: Global) -> Result<Sizes<'m>, AllocError>
+        ensures { IfOk result (λ s. s ≡ sizes_of self.now) }
+    {
+        let counts = self.counts(alloc)?;
+        let longest = self.longest(alloc)?;
+        Ok(Sizes {
+            model: self.model,
+            counts,
+            longest,
+        })
+    }
+
+    /// How many objects each class has.
+    fn counts(&self, alloc: Global) -> Result<Vec<u64>, AllocError>
+        ensures { IfOk result (λ v. v.items ≡ listed (count_of self.now) (length self.now.model.classes)) }
+    {
+        let classes = self.model().class_count();
+        let mut counts = Vec::with_capacity(alloc, classes)?;
+        'classes: for class in 0..classes {
+            let count = self.instances(ClassNo::new(class)).len();
+            counts.push(count as u64)?;
+        }
+        Ok(counts)
+    }
+
+    /// How many values are written at most at each feature of an object.
+    fn longest_written(&self, alloc: Global) -> Result<Vec<u64>, AllocError>
+        ensures count { IfOk result (λ v. length v.items ≡ length self.now.model.features) }
+        ensures each { IfOk result (λ v. (f : ℕ) → f < length self.now.model.features → is_opposite (feature_at self.now.model f).role ≡ false → slice_index v.items f ≡ longest_below self.now f (length self.now.objects)) }
+    {
+        let features = self.model.feature_count();
+        self.store.longest(alloc, self.heads.len(), features)
+    }
+
+    /// The greatest length of each attribute without upper bound.
+    fn longest(&self, alloc: Global) -> Result<Vec<u64>, AllocError>
+        ensures { IfOk result (λ v. v.items ≡ listed (longest_of self.now) (length self.now.model.features)) }
+    {
+        let written = self.longest_written(alloc)?;
+        let model = self.model();
+        let mut longest = Vec::with_capacity(alloc, written.len())?;
+        'features: for feature in 0..written.len() {
+            let info = model.feature_info(FeatureNo::new(feature));
+            let count = if is_unbounded(info) {
+                written[feature]
+            } else {
+                0
+            };
+            longest.push(count)?;
+        }
+        Ok(longest)
     }
 }
 

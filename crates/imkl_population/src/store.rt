@@ -1,8 +1,8 @@
 //! Many finite maps from features to values, in three lists.
 
-ghost use Rattle.std.specs.Prelude.{◌≡◌, ◌<◌, ◌≤◌, ◌==◌, ◌++◌, ◌∷◌, [], length, find, IfOk, OnOk, slice_index_or, slice_range};
+ghost use Rattle.std.specs.Prelude.{◌≡◌, ◌<◌, ◌≤◌, ◌==◌, ◌++◌, ◌∷◌, ℕ, [], length, map, find, max, All, IfOk, OnOk, slice_index, slice_index_or, slice_range, if◌then◌else◌};
 ghost use Rattle.imkl_population.specs.Written.{written_in};
-ghost use Rattle.imkl_population.specs.Store.{Appended, IsEntry, IsSegment};
+ghost use Rattle.imkl_population.specs.Store.{Appended, IsEntry, IsSegment, IsMap, entry_of, raised, longest_in};
 
 use crate::scalar::Scalar;
 use crate::written::{Values, Written};
@@ -50,7 +50,8 @@ fn append(
     entries: &mut Vec<Entry>,
     written: Written,
 ) -> Result<(), AllocError>
-    ensures { OnOk result (Appended scalars.old.items scalars.new.items entries.old.items entries.new.items written) }
+    ensures appended { OnOk result (Appended scalars.old.items scalars.new.items entries.old.items entries.new.items written) }
+    ensures map { OnOk result (IsMap written) }
 {
     'entries: for (feature, values) in written.into_entries() {
         let start = scalars.len();
@@ -85,6 +86,28 @@ fn values_of(scalars: &[Scalar], entry: Entry) -> &[Scalar]
     ensures { result.now ≡ slice_range scalars.now entry.start entry.end }
 {
     &scalars[entry.start..entry.end]
+}
+
+/// Raises the number at a place, if there is one, to a length that is greater.
+fn raise(longest: &mut [u64], place: usize, count: usize)
+    ensures same { length longest.new ≡ length longest.old }
+    ensures raised { (k : ℕ) → k < length longest.old → slice_index longest.new k ≡ (if place == k then max (slice_index longest.old k) count else slice_index longest.old k) }
+{
+    if place < longest.len() {
+        longest[place] = longest[place].max(count as u64);
+    }
+}
+
+/// Raises the number at each feature to the length of its values.
+fn raise_all(longest: &mut [u64], scalars: &[Scalar], entries: &[Entry])
+    requires { All (IsEntry (length scalars.now)) entries.now }
+    ensures same { length longest.new ≡ length longest.old }
+    ensures raised { (f : ℕ) → f < length longest.old → slice_index longest.new f ≡ raised (map (entry_of scalars.now) entries.now) f (slice_index longest.old f) }
+{
+    'entries: for entry in entries {
+        let count = values_of(scalars, *entry).len();
+        raise(longest, entry.feature, count);
+    }
 }
 
 impl Store {
@@ -129,5 +152,28 @@ impl Store {
             Some(entry) => values_of(&self.scalars, entry),
             None => &[],
         }
+    }
+
+    /// For each feature below a number the greatest number of values that it has in the first maps.
+    pub(crate) fn longest(
+        &self,
+        alloc: Global,
+        maps: usize,
+        features: usize,
+    ) -> Result<Vec<u64>, AllocError>
+        requires { maps ≤ length self.now }
+        ensures count { IfOk result (λ v. length v.items ≡ features) }
+        ensures each { IfOk result (λ v. (f : ℕ) → f < features → slice_index v.items f ≡ longest_in self.now f maps) }
+    {
+        let mut longest = vec![in alloc; 0; features]?;
+        'maps: for place in 0..maps {
+            let segment = self.segments[place];
+            raise_all(
+                &mut longest,
+                &self.scalars,
+                entries_of(&self.entries, segment),
+            );
+        }
+        Ok(longest)
     }
 }

@@ -1,4 +1,4 @@
-use Rattle.std.proofs.Common.{◌∙◌, ◌≡◌, ◌==◌, ◌++◌, ◌<◌, ◌+◌, [], ◌∷◌, ℕ, List, ap, subst, sym, length, take, get_or}
+use Rattle.std.proofs.Common.{◌∙◌, ◌≡◌, ◌==◌, ◌++◌, ◌<◌, ◌+◌, [], ◌∷◌, ℕ, ap, subst, sym, length, take}
 use Rattle.std.proofs.lemmas.List.{take_more}
 use Rattle.imkl_population.specs.declared.scalar.Scalar.{Scalar}
 use Rattle.imkl_population.specs.Population.{held_by}

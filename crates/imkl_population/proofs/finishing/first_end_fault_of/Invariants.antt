@@ -1,4 +1,4 @@
-use Rattle.std.proofs.Common.{◌≡◌, None, length}
+use Rattle.std.proofs.Common.{◌≡◌, None}
 use Rattle.imkl_population.specs.Numbers.{first_of}
 use Rattle.imkl_population.specs.Finishing.{end_fault}
 use Rattle.imkl_population.proofs.finishing.first_end_fault_of.Given as goal

@@ -1,4 +1,4 @@
-use Rattle.std.proofs.Common.{ℕ, List, ◌∙◌, ap, arith, length, length-append}
+use Rattle.std.proofs.Common.{ap, arith, length, length-append}
 use Rattle.imkl_population.specs.declared.store.Segment.{Segment}
 use Rattle.imkl_population.specs.Population.{instances}
 use Rattle.imkl_population.proofs.Ranges.{class_more}

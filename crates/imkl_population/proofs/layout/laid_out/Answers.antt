@@ -1,7 +1,5 @@
 use Rattle.std.proofs.Common.{◌∙◌, ap, length, List}
 use Rattle.imkl_population.specs.declared.object.Object.{Object}
-use Rattle.imkl_population.specs.Layout.{objects_of}
-use Rattle.imkl_population.specs.Population.{Population}
 use Rattle.imkl_population.proofs.Layouts.{laid_out-same, is_finished}
 use Rattle.imkl_population.proofs.layout.laid_out.Goals as goal
 

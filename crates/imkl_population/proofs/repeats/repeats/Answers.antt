@@ -1,4 +1,4 @@
-use Rattle.std.proofs.Common.{◌≡◌, ◌∙◌, ◌+◌, ◌||◌, sym, ap, List, [], ◌∷◌, ◌++◌, take, Bool, false}
+use Rattle.std.proofs.Common.{◌≡◌, ◌∙◌, ◌+◌, ◌||◌, sym, ap, List, [], ◌∷◌, ◌++◌, take, Bool}
 use Rattle.std.proofs.lemmas.List.{take_more}
 use Rattle.imkl_population.specs.declared.scalar.Scalar.{Scalar}
 use Rattle.imkl_population.specs.Values.{is_among, repeats, same_scalar}

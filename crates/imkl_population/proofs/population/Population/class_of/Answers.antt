@@ -1,6 +1,6 @@
-use Rattle.std.proofs.Common.{◌≡◌, ◌∙◌, ◌<◌, ap, sym, subst, arith, length, ℕ}
+use Rattle.std.proofs.Common.{ap, sym, subst, arith, length}
 use Rattle.imkl_population.specs.declared.object.Object.{Object}
-use Rattle.imkl_population.specs.Population.{Population, class_of}
+use Rattle.imkl_population.specs.Population.{Population}
 use Rattle.imkl_population.specs.Consistency.{IsConsistent}
 use Rattle.imkl_population.proofs.Layouts.{length-objects_of, head-at}
 use Rattle.imkl_population.proofs.population.Population.class_of.Goals as goal

@@ -1,4 +1,4 @@
-use Rattle.std.proofs.Common.{◌∙◌, ap, arith, length}
+use Rattle.std.proofs.Common.{ap, arith, length}
 use Rattle.imkl_population.specs.Population.{Population}
 use Rattle.imkl_population.proofs.Layouts.{length-objects_of}
 use Rattle.imkl_population.proofs.population.Population.objects.Goals as goal

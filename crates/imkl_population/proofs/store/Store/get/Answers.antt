@@ -1,10 +1,10 @@
-use Rattle.std.proofs.Common.{◌≡◌, ◌∙◌, ◌==◌, ◌<◌, ℕ, List, [], Some, None, ap, sym, subst, arith, length, slice_range, get_or, map}
+use Rattle.std.proofs.Common.{◌≡◌, ◌∙◌, ◌==◌, ◌<◌, ℕ, List, [], Some, None, ap, sym, arith, length, slice_range, get_or, map}
 use Rattle.std.proofs.lemmas.List.{length-map}
 use Rattle.std.specs.Prelude.{find, Option}
 use Rattle.imkl_population.specs.declared.scalar.Scalar.{Scalar}
 use Rattle.imkl_population.specs.declared.store.Entry.{Entry}
 use Rattle.imkl_population.specs.declared.store.Segment.{Segment}
-use Rattle.imkl_population.specs.Store.{IsEntry, shown, entry_of}
+use Rattle.imkl_population.specs.Store.{shown, entry_of}
 use Rattle.imkl_population.specs.Written.{written_in}
 use Rattle.imkl_population.proofs.Stored.{find-lookup, find-within, range-within, shown-at, value_of}
 use Rattle.imkl_population.proofs.store.Store.get.Goals as goal
