@@ -11,7 +11,7 @@ use Rattle.ocl_text.specs.Grammar.{token, next_is, Next, is_name, begins_invaria
 use Rattle.ocl_text.specs.Parse.{Stop, syntax, Read, Parser, ◌>>=◌, expect, is_mark, identifier, rule_name, class_name, class_by, context, invariant, invariant_at, invariants, contexts, expr}
 use Rattle.ocl_text.proofs.Complete.{shorter_invariant, shorter_invariants}
 use Rattle.ocl_text.proofs.Sound.{weaker, sound_invariant, sound_invariants}
-use Rattle.ocl_text.proofs.Wider.{plus}
+use Rattle.ocl_text.proofs.Wider.{deeper, longer}
 use Rattle.ocl_text.proofs.Prefixes.{Completes, Sees, Any, bind, bind_from, default_of, sees_as, skip, pass, stuck, sees_expect, assoc}
 use Rattle.ocl_text.proofs.Stops.{May, stops, stop_is, may_not, mark_not}
 use Rattle.ocl_text.proofs.Parts.{counts}
@@ -283,7 +283,7 @@ short_invariant c nesting class n us = weaker (λ x. IsInvariant nesting c n cla
 short_invariants : (c nesting : ℕ) (class : List ℕ × ℕ) (found : List Rule) (us : List Word) → IfOk (all_invariants (expr c (suc nesting)) class found us) (λ x. length x.1 < length us)
 short_invariants c nesting class found us = weaker (λ x. IsInvariants nesting c class.0 class.1 found us x.0 x.1) (λ x. length x.1 < length us) (all_invariants (expr c (suc nesting)) class found us) (λ x d. shorter_invariants d) (sound_invariants nesting c class (length us) found us)
 
-pub sees_rules : (a b c nesting : ℕ) (ts : List Word) → Sees (read_contexts (expr c (suc nesting)) []) (read_contexts (expr (plus c (suc b)) (suc (plus nesting (suc (suc (suc a)))))) []) Nothing Nothing ts
+pub sees_rules : (a b c nesting : ℕ) (ts : List Word) → Sees (read_contexts (expr c (suc nesting)) []) (read_contexts (expr (longer b c) (suc (deeper a nesting))) []) Nothing Nothing ts
 sees_rules a b c nesting ts =
-    sees_contexts (expr c (suc nesting)) (expr (plus c (suc b)) (suc (plus nesting (suc (suc (suc a)))))) (sees_whole_expr a b c (suc nesting)) (short_invariant c nesting) (short_invariant (plus c (suc b)) (plus nesting (suc (suc (suc a)))))
-    (short_invariants c nesting) (short_invariants (plus c (suc b)) (plus nesting (suc (suc (suc a))))) (length ts) [] ts (omega arith)
+    sees_contexts (expr c (suc nesting)) (expr (longer b c) (suc (deeper a nesting))) (sees_whole_expr a b c (suc nesting)) (short_invariant c nesting) (short_invariant (longer b c) (deeper a nesting))
+    (short_invariants c nesting) (short_invariants (longer b c) (deeper a nesting)) (length ts) [] ts (omega arith)

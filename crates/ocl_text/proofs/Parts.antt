@@ -17,7 +17,7 @@ use Rattle.ocl_text.specs.Grammar.{token, operator, next_is, Next, is_name, open
 use Rattle.ocl_text.specs.Parse as p
 use Rattle.ocl_text.specs.Parse.{Stop, syntax, too_deep, Read, Parser, ◌>>=◌, begins, begins_argument, expect, is_mark, identifier, link, link_by, linked, chain, levels, steps, one_step, items, arguments_in, arguments, calling, called, a_bind, conditional, prim}
 use Rattle.ocl_text.proofs.Turns.{chain_none, chain_deep}
-use Rattle.ocl_text.proofs.Wider.{plus}
+use Rattle.ocl_text.proofs.Wider.{deeper, longer}
 use Rattle.ocl_text.proofs.Shut.{argument_shut}
 use Rattle.ocl_text.proofs.Prefixes.{Sees, Opens, Any, bind, default_of, sees_as, skip, pass, stuck, blocked, adapt, sees_expect, sees_identifier, either}
 use Rattle.ocl_text.proofs.Stops.{May, stops, next_not, may_not, mark_may, sees_shut}
@@ -37,10 +37,10 @@ count_closes _ h = refl
 -- ---- chains of operators
 
 module _ (b level : ℕ) (operand operand' : Parser Tree) (sees : (ts : List Word) → Sees operand operand' (May stops) (Next counts) ts) where
-  no_operator_here : (c : ℕ) (left : Tree) (ts : List Word) → ((us : List Word) → Agrees ts us → link (suc level) us ≡ None) → Sees (chain operand level c left) (chain operand' level (plus c (suc b)) left) (May stops) (May stops) ts
+  no_operator_here : (c : ℕ) (left : Tree) (ts : List Word) → ((us : List Word) → Agrees ts us → link (suc level) us ≡ None) → Sees (chain operand level c left) (chain operand' level (longer b c) left) (May stops) (May stops) ts
   no_operator_here c left ts h =
       sees_as _ _ (λ us. Ok (left, us)) (λ us. Ok (left, us)) (May stops) (May stops) ts
-      (λ us w. chain_none operand level c left us (none us w)) (λ us w. chain_none operand' level (plus c (suc b)) left us (none us w)) (pass left (May stops) ts)
+      (λ us w. chain_none operand level c left us (none us w)) (λ us w. chain_none operand' level (longer b c) left us (none us w)) (pass left (May stops) ts)
     where
       none : (us : List Word) → Agrees ts us ⊎ May stops us → link (suc level) us ≡ None
       none us (inl a) = h us a
@@ -62,7 +62,7 @@ module _ (b level : ℕ) (operand operand' : Parser Tree) (sees : (ts : List Wor
       let (x, more, h) = default_of operand operand' (May stops) (Next counts) (sees []) in
       (binary op left x t.at, more, λ rest g. goes_on operand' b left t op e (more ++ rest) ∙ ap (λ r. r >>= λ right. chain operand' level b (binary op left right.0 t.at) right.1) (h rest g).1 ∙ chain_none operand' level b (binary op left x t.at) rest (not_linked (suc level) rest g))
 
-  pub sees_chain : (c : ℕ) (left : Tree) (ts : List Word) → Sees (chain operand level c left) (chain operand' level (plus c (suc b)) left) (May stops) (May stops) ts
+  pub sees_chain : (c : ℕ) (left : Tree) (ts : List Word) → Sees (chain operand level c left) (chain operand' level (longer b c) left) (May stops) (May stops) ts
   unfolding link
   sees_chain c left [] = no_operator_here c left [] (λ us is. rw is refl)
   sees_chain zero left (t ∷ ts) = by (operator (suc level) t.kind) refl
@@ -72,29 +72,29 @@ module _ (b level : ℕ) (operand operand' : Parser Tree) (sees : (ts : List Wor
       by (Some op) e = blocked _ _ (May stops) (May stops) t ts (λ us. chain_deep operand level zero left (t ∷ us) (op, t.at, us) (is_linked t op e us) refl) (too_long left t op e)
   sees_chain (suc c) left (t ∷ ts) = by (operator (suc level) t.kind) refl (sees_chain c)
     where
-      by : (o : Option BinaryOperator) → operator (suc level) t.kind ≡ o → ((left : Tree) (ts : List Word) → Sees (chain operand level c left) (chain operand' level (plus c (suc b)) left) (May stops) (May stops) ts)
-          → Sees (chain operand level (suc c) left) (chain operand' level (suc (plus c (suc b))) left) (May stops) (May stops) (t ∷ ts)
+      by : (o : Option BinaryOperator) → operator (suc level) t.kind ≡ o → ((left : Tree) (ts : List Word) → Sees (chain operand level c left) (chain operand' level (longer b c) left) (May stops) (May stops) ts)
+          → Sees (chain operand level (suc c) left) (chain operand' level (suc (longer b c)) left) (May stops) (May stops) (t ∷ ts)
       by None e more = no_operator_here (suc c) left (t ∷ ts) (λ us (more, is). rw is (ap (λ o. link_by o t.at more) e))
-      by (Some op) e more = skip t ts _ _ (linked_on operand c left op t.at) (linked_on operand' (plus c (suc b)) left op t.at) (May stops) (Next counts) (May stops) (goes_on operand c left t op e) (goes_on operand' (plus c (suc b)) left t op e)
-          (bind operand operand' (λ right. chain operand level c (binary op left right t.at)) (λ right. chain operand' level (plus c (suc b)) (binary op left right t.at)) (May stops) (May stops) (May stops) (Next counts) ts (λ us g. g) (sees ts)
+      by (Some op) e more = skip t ts _ _ (linked_on operand c left op t.at) (linked_on operand' (longer b c) left op t.at) (May stops) (Next counts) (May stops) (goes_on operand c left t op e) (goes_on operand' (longer b c) left t op e)
+          (bind operand operand' (λ right. chain operand level c (binary op left right t.at)) (λ right. chain operand' level (longer b c) (binary op left right t.at)) (May stops) (May stops) (May stops) (Next counts) ts (λ us g. g) (sees ts)
           (λ right rest. more (binary op left right t.at) rest))
 
 module _ (b c : ℕ) (p p' : Parser Tree) where
-  pub sees_levels : ((ts : List Word) → Sees p p' (May stops) (Next counts) ts) → (level : ℕ) (ts : List Word) → Sees (levels c p level) (levels (plus c (suc b)) p' level) (May stops) (Next counts) ts
+  pub sees_levels : ((ts : List Word) → Sees p p' (May stops) (Next counts) ts) → (level : ℕ) (ts : List Word) → Sees (levels c p level) (levels (longer b c) p' level) (May stops) (Next counts) ts
   unfolding levels
   sees_levels sees zero ts = sees ts
   sees_levels sees (suc level) ts =
-      bind (levels c p level) (levels (plus c (suc b)) p' level) (chain (levels c p level) level c) (chain (levels (plus c (suc b)) p' level) level (plus c (suc b))) (May stops) (May stops) (May stops) (Next counts) ts (λ us g. g) (sees_levels sees level ts)
-      (λ left rest. sees_chain b level (levels c p level) (levels (plus c (suc b)) p' level) (sees_levels sees level) c left rest)
+      bind (levels c p level) (levels (longer b c) p' level) (chain (levels c p level) level c) (chain (levels (longer b c) p' level) level (longer b c)) (May stops) (May stops) (May stops) (Next counts) ts (λ us g. g) (sees_levels sees level ts)
+      (λ left rest. sees_chain b level (levels c p level) (levels (longer b c) p' level) (sees_levels sees level) c left rest)
 
   -- after a first token that is a name
   pub sees_levels_after : (t : Word) → ((ts : List Word) → Sees p p' (May stops) (Next counts) ts) → ((us : List Word) → Sees (λ vs. p (t ∷ vs)) (λ vs. p' (t ∷ vs)) (May stops) (May stops) us)
-      → (level : ℕ) (us : List Word) → Sees (λ vs. levels c p level (t ∷ vs)) (λ vs. levels (plus c (suc b)) p' level (t ∷ vs)) (May stops) (May stops) us
+      → (level : ℕ) (us : List Word) → Sees (λ vs. levels c p level (t ∷ vs)) (λ vs. levels (longer b c) p' level (t ∷ vs)) (May stops) (May stops) us
   unfolding levels
   sees_levels_after t sees first zero us = first us
   sees_levels_after t sees first (suc level) us =
-      bind (λ vs. levels c p level (t ∷ vs)) (λ vs. levels (plus c (suc b)) p' level (t ∷ vs)) (chain (levels c p level) level c) (chain (levels (plus c (suc b)) p' level) level (plus c (suc b))) (May stops) (May stops) (May stops) (May stops) us (λ vs g. g) (sees_levels_after t sees first level us)
-      (λ left rest. sees_chain b level (levels c p level) (levels (plus c (suc b)) p' level) (sees_levels sees level) c left rest)
+      bind (λ vs. levels c p level (t ∷ vs)) (λ vs. levels (longer b c) p' level (t ∷ vs)) (chain (levels c p level) level c) (chain (levels (longer b c) p' level) level (longer b c)) (May stops) (May stops) (May stops) (May stops) us (λ vs g. g) (sees_levels_after t sees first level us)
+      (λ left rest. sees_chain b level (levels c p level) (levels (longer b c) p' level) (sees_levels sees level) c left rest)
 
 -- ---- single operands
 
@@ -184,7 +184,7 @@ module _ (operand operand' : Parser Tree) (sees : (ts : List Word) → Sees oper
       by (k.Number v) h = argument_opened n (token (k.Number v) t.at t.text) refl h
       by kind h = argument_opened n (token kind t.at t.text) refl h
 
-  sees_arguments_in : (a n : ℕ) (ts : List Word) → Sees (arguments_in operand n) (arguments_in operand' (plus n (suc (suc (suc a))))) Any Any ts
+  sees_arguments_in : (a n : ℕ) (ts : List Word) → Sees (arguments_in operand n) (arguments_in operand' (deeper a n)) Any Any ts
   unfolding arguments_in
   sees_arguments_in a zero ts = sees_shut begins_argument (arguments_in operand' (suc (suc (suc a)))) Any Any (argument_shut (suc (suc (suc a))) operand' shuts) ([], mark_word m.Close ∷ [], λ rest g. (tt, refl)) (arguments_opened (suc (suc a))) ts
   sees_arguments_in a (suc n) ts =
@@ -195,15 +195,15 @@ module _ (operand operand' : Parser Tree) (sees : (ts : List Word) → Sees oper
       (λ all us. sees_expect m.Close _ _ Any Any (λ rest. pass all Any rest) us))
       (next_not counts closes count_closes))
 
-  sees_arguments : (a n : ℕ) (ts : List Word) → Sees (arguments operand n) (arguments operand' (plus n (suc (suc (suc a))))) Any (Next (is_mark m.Open)) ts
+  sees_arguments : (a n : ℕ) (ts : List Word) → Sees (arguments operand n) (arguments operand' (deeper a n)) Any (Next (is_mark m.Open)) ts
   unfolding arguments
-  sees_arguments a n ts = sees_expect m.Open (arguments_in operand n) (arguments_in operand' (plus n (suc (suc (suc a))))) Any Any (sees_arguments_in a n) ts
+  sees_arguments a n ts = sees_expect m.Open (arguments_in operand n) (arguments_in operand' (deeper a n)) Any Any (sees_arguments_in a n) ts
 
   module _ (a n : ℕ) (whole whole' : Parser Tree) where
-    pub sees_calling : (source : Tree) (by : Navigation) (text : List ℕ) (at : ℕ) (ts : List Word) → Sees (calling n operand whole source by text at) (calling (plus n (suc (suc (suc a)))) operand' whole' source by text at) (May stops) (Next (is_mark m.Open)) ts
+    pub sees_calling : (source : Tree) (by : Navigation) (text : List ℕ) (at : ℕ) (ts : List Word) → Sees (calling n operand whole source by text at) (calling (deeper a n) operand' whole' source by text at) (May stops) (Next (is_mark m.Open)) ts
     unfolding calling
     sees_calling source by text at ts =
-        bind (arguments operand n) (arguments operand' (plus n (suc (suc (suc a))))) (λ all us. Ok (call source by text (trees_of all) at, us)) (λ all us. Ok (call source by text (trees_of all) at, us)) Any (May stops) (May stops) (Next (is_mark m.Open)) ts (λ us g. tt) (sees_arguments a n ts)
+        bind (arguments operand n) (arguments operand' (deeper a n)) (λ all us. Ok (call source by text (trees_of all) at, us)) (λ all us. Ok (call source by text (trees_of all) at, us)) Any (May stops) (May stops) (Next (is_mark m.Open)) ts (λ us g. tt) (sees_arguments a n ts)
         (λ all us. pass (call source by text (trees_of all) at) (May stops) us)
 
     abbrev opened_call : Parser Tree → ℕ → Tree → List ℕ → ℕ → Parser Tree
@@ -219,11 +219,11 @@ module _ (operand operand' : Parser Tree) (sees : (ts : List Word) → Sees oper
         by (k.Number v) = refl
         by _ = refl
 
-    pub sees_called : (source : Tree) (text : List ℕ) (at : ℕ) (ts : List Word) → Sees (called n operand whole source text at) (called (plus n (suc (suc (suc a)))) operand' whole' source text at) (May stops) (May stops) ts
+    pub sees_called : (source : Tree) (text : List ℕ) (at : ℕ) (ts : List Word) → Sees (called n operand whole source text at) (called (deeper a n) operand' whole' source text at) (May stops) (May stops) ts
     sees_called source text at ts =
-        sees_as _ _ _ _ (May stops) (May stops) ts (λ us w. called_is operand whole n source text at us) (λ us w. called_is operand' whole' (plus n (suc (suc (suc a)))) source text at us)
-        (either opens (opened_call operand n source text at) (opened_call operand' (plus n (suc (suc (suc a)))) source text at) (λ us. Ok (property source text at, us)) (λ us. Ok (property source text at, us)) (May stops) Any (May stops) ts
-        (λ u us is. bind (arguments_in operand n) (arguments_in operand' (plus n (suc (suc (suc a))))) (λ all vs. Ok (call source Dot text (trees_of all) at, vs)) (λ all vs. Ok (call source Dot text (trees_of all) at, vs)) Any (May stops) (May stops) Any us (λ vs g. tt) (sees_arguments_in a n us)
+        sees_as _ _ _ _ (May stops) (May stops) ts (λ us w. called_is operand whole n source text at us) (λ us w. called_is operand' whole' (deeper a n) source text at us)
+        (either opens (opened_call operand n source text at) (opened_call operand' (deeper a n) source text at) (λ us. Ok (property source text at, us)) (λ us. Ok (property source text at, us)) (May stops) Any (May stops) ts
+        (λ u us is. bind (arguments_in operand n) (arguments_in operand' (deeper a n)) (λ all vs. Ok (call source Dot text (trees_of all) at, vs)) (λ all vs. Ok (call source Dot text (trees_of all) at, vs)) Any (May stops) (May stops) Any us (λ vs g. tt) (sees_arguments_in a n us)
         (λ all vs. pass (call source Dot text (trees_of all) at) (May stops) vs))
         (pass (property source text at) (May stops) ts)
         (may_not stops opens stop_opens))

@@ -6,7 +6,7 @@ use Rattle.ocl_text.specs.Tree.{Rule}
 use Rattle.ocl_text.specs.RuleText.{Agrees, BeginsRules}
 use Rattle.ocl_text.specs.Grammar.{Spells, SpellsWithin}
 use Rattle.ocl_text.specs.Parse.{Stop, syntax, too_deep, Read, ◌>>=◌, expr, all_of}
-use Rattle.ocl_text.proofs.Wider.{plus, plus_is, wider, read_spells, spelled_read}
+use Rattle.ocl_text.proofs.Wider.{plus_is, deeper, longer, wider, read_spells, spelled_read}
 use Rattle.ocl_text.proofs.Prefixes.{Outcome, read, wrong, deep, told, Wide}
 use Rattle.ocl_text.proofs.Contexts.{Nothing, all_read, read_contexts, sees_rules}
 
@@ -32,11 +32,11 @@ unread_stop : (r : Result (List Rule) Stop) (s : Stop) → (r >>= all_read) ≡ 
 unread_stop (Ok x) s h = absurd (cc)
 unread_stop (Err e) s h = let same : e ≡ s = cc in ap (λ y. Err y) same
 
-swap_one : (a b : ℕ) → plus a (suc b) ≡ plus b (suc a)
-swap_one a b = plus_is a (suc b) ∙ (let e = plus_is b (suc a) in omega arith)
+longer_swap : (a b : ℕ) → longer b a ≡ longer a b
+longer_swap a b = plus_is a (suc b) ∙ (let e = plus_is b (suc a) in omega arith)
 
-swap_three : (a b : ℕ) → plus a (suc (suc (suc b))) ≡ plus b (suc (suc (suc a)))
-swap_three a b = plus_is a (suc (suc (suc b))) ∙ (let e = plus_is b (suc (suc (suc a))) in omega arith)
+deeper_swap : (a b : ℕ) → deeper b a ≡ deeper a b
+deeper_swap a b = plus_is a (suc (suc (suc b))) ∙ (let e = plus_is b (suc (suc (suc a))) in omega arith)
 
 module _ (nesting chain : ℕ) (ts : List Word) where
   abbrev reads : List Word → Read (List Rule)
@@ -50,25 +50,25 @@ module _ (nesting chain : ℕ) (ts : List Word) where
   unfolding all_of
   refused_as us s h = unread_stop _ s h
 
-  spelled_wider : (us more : List Word) (rules : List Rule) → read_contexts (expr (plus chain 1) (suc (plus nesting 3))) [] (us ++ (more ++ [])) ≡ Ok (rules, []) → BeginsRules us
+  spelled_wider : (us more : List Word) (rules : List Rule) → read_contexts (expr (longer 0 chain) (suc (deeper 0 nesting))) [] (us ++ (more ++ [])) ≡ Ok (rules, []) → BeginsRules us
   unfolding all_of
-  spelled_wider us more rules h = (more ++ [], rules, (plus nesting 3, plus chain 1, read_spells (plus nesting 3) (plus chain 1) (us ++ (more ++ [])) rules (unread _ rules [] h)))
+  spelled_wider us more rules h = (more ++ [], rules, (deeper 0 nesting, longer 0 chain, read_spells (deeper 0 nesting) (longer 0 chain) (us ++ (more ++ [])) rules (unread _ rules [] h)))
 
   abbrev Same : Outcome (List Rule) → List Word → List Word → Type 0
   Same o before rest = (other : List Word) → Agrees rest other → reads (before ++ other) ≡ told o other
 
   abbrev Wider : Outcome (List Rule) → List Word → List Word → Type 0
-  Wider o before rest = Wide (read_contexts (expr (plus chain 1) (suc (plus nesting 3))) []) Nothing Nothing before rest o
+  Wider o before rest = Wide (read_contexts (expr (longer 0 chain) (suc (deeper 0 nesting))) []) Nothing Nothing before rest o
 
   here : (o : Outcome (List Rule)) (before rest : List Word) → ts ≡ before ++ rest → Same o before rest → reads ts ≡ told o rest
   here o before rest is same = rw is (same rest (agrees_itself rest))
 
   -- under wider limits too the list is refused there, and each that agrees with it
-  wrong_wider : (s : List Word) → all_of nesting chain ts ≡ Err (syntax s) → (before : List Word) → ts ≡ before ++ s → (a b : ℕ) (other : List Word) → Agrees s other → all_of (plus nesting (suc (suc (suc a)))) (plus chain (suc b)) (before ++ other) ≡ Err (syntax other)
+  wrong_wider : (s : List Word) → all_of nesting chain ts ≡ Err (syntax s) → (before : List Word) → ts ≡ before ++ s → (a b : ℕ) (other : List Word) → Agrees s other → all_of (deeper a nesting) (longer b chain) (before ++ other) ≡ Err (syntax other)
   unfolding all_of
   wrong_wider s h before split a b other agrees = let sees = sees_rules a b chain nesting ts in by sees.outcome sees.before sees.rest sees.split sees.same sees.wide
     where
-      by : (o : Outcome (List Rule)) (passed rest : List Word) → ts ≡ passed ++ rest → Same o passed rest → Wide (read_contexts (expr (plus chain (suc b)) (suc (plus nesting (suc (suc (suc a)))))) []) Nothing Nothing passed rest o → all_of (plus nesting (suc (suc (suc a)))) (plus chain (suc b)) (before ++ other) ≡ Err (syntax other)
+      by : (o : Outcome (List Rule)) (passed rest : List Word) → ts ≡ passed ++ rest → Same o passed rest → Wide (read_contexts (expr (longer b chain) (suc (deeper a nesting))) []) Nothing Nothing passed rest o → all_of (deeper a nesting) (longer b chain) (before ++ other) ≡ Err (syntax other)
       by (read x) passed rest is same w = let e = here (read x) passed rest is same in let f = stopped (syntax s) h in absurd (cc (e, f))
       by deep passed rest is same w = let e = here deep passed rest is same in let f = stopped (syntax s) h in absurd (cc (e, f))
       by wrong passed rest is same (refuses, completes) =
@@ -77,12 +77,12 @@ module _ (nesting chain : ℕ) (ts : List Word) where
           let at_rest : rest ≡ s = cc (e, f) in
           let front : passed ≡ before = append_cancel_right passed before s (ap (λ (l : List Word). passed ++ l) (sym at_rest) ∙ sym is ∙ split) in
           let refused = refuses other (subst (λ (l : List Word). Agrees l other) (sym at_rest) agrees) in
-          unread_stop _ (syntax other) (ap (λ (l : List Word). read_contexts (expr (plus chain (suc b)) (suc (plus nesting (suc (suc (suc a)))))) [] (l ++ other)) (sym front) ∙ refused)
+          unread_stop _ (syntax other) (ap (λ (l : List Word). read_contexts (expr (longer b chain) (suc (deeper a nesting))) [] (l ++ other)) (sym front) ∙ refused)
 
   wrong_for_good : (s : List Word) → all_of nesting chain ts ≡ Err (syntax s) → (before : List Word) → ts ≡ before ++ s → (other : List Word) (rules : List Rule) → Agrees s other → Spells (before ++ other) rules → ⊥
   wrong_for_good s h before split other rules agrees (n, c, d) =
       let refused = wrong_wider s h before split n c other agrees in
-      let spelled = rw (swap_three n nesting, swap_one c chain) at (spelled_read (plus n (suc (suc (suc nesting)))) (plus c (suc chain)) (before ++ other) rules (wider n c (suc (suc (suc nesting))) (suc chain) (before ++ other) rules d)) in
+      let spelled = rw (deeper_swap n nesting, longer_swap c chain) at (spelled_read (deeper nesting n) (longer chain c) (before ++ other) rules (wider n c (suc (suc (suc nesting))) (suc chain) (before ++ other) rules d)) in
       cc (refused, spelled)
 
   pub wrong_at : (s : List Word) → all_of nesting chain ts ≡ Err (syntax s) → WrongAt ts s

@@ -12,7 +12,7 @@ use Rattle.ocl_text.specs.Grammar.{token, next_is, Next, is_name, opens, separat
 use Rattle.ocl_text.specs.Parse as p
 use Rattle.ocl_text.specs.Parse.{Stop, syntax, too_deep, Read, Parser, ◌>>=◌, too_deep_at, expect, is_mark, identifier, variables_by, has_second}
 use Rattle.ocl_text.proofs.Sound.{mark_kind, mark_is}
-use Rattle.ocl_text.proofs.Wider.{plus}
+use Rattle.ocl_text.proofs.Wider.{deeper}
 use Rattle.ocl_text.proofs.Shut.{type_shut}
 use Rattle.ocl_text.proofs.Prefixes.{Completes, Sees, Opens, Any, bind, skip, pass, stuck, blocked, sees_expect, sees_identifier, either}
 
@@ -124,40 +124,40 @@ module _ (a : ℕ) where
       (pass (t.plain text at) (Next stops_type) ts)
       (next_not stops_type opens type_stop_opens)
 
-  pub sees_type : (n : ℕ) (ts : List Word) → Sees (p.a_type n) (p.a_type (plus n (suc (suc (suc a))))) (Next stops_type) (Next is_name) ts
+  pub sees_type : (n : ℕ) (ts : List Word) → Sees (p.a_type n) (p.a_type (deeper a n)) (Next stops_type) (Next is_name) ts
   unfolding p.a_type p.type_over
   sees_type zero ts = sees_shut is_name (p.a_type (suc (suc (suc a)))) (Next stops_type) (Next is_name) (type_shut (suc (suc (suc a)))) (type_default (suc (suc a))) (type_opened (suc (suc a))) ts
-  sees_type (suc n) [] = stuck (p.a_type (suc n)) (p.a_type (suc (plus n (suc (suc (suc a)))))) (Next stops_type) (Next is_name) [] (λ us is. rw is refl) (λ us is. rw is refl) (type_default _)
-  sees_type (suc n) (u ∷ ts) = by u.kind (type_named (p.a_type n) (p.a_type (plus n (suc (suc (suc a))))) (sees_type n) u.at u.text ts)
+  sees_type (suc n) [] = stuck (p.a_type (suc n)) (p.a_type (suc (deeper a n))) (Next stops_type) (Next is_name) [] (λ us is. rw is refl) (λ us is. rw is refl) (type_default _)
+  sees_type (suc n) (u ∷ ts) = by u.kind (type_named (p.a_type n) (p.a_type (deeper a n)) (sees_type n) u.at u.text ts)
     where
-      refused : (kind : TokenKind) → ((l : ℕ) (vs : List Word) → p.a_type (suc l) (token kind u.at u.text ∷ vs) ≡ Err (syntax (token kind u.at u.text ∷ vs))) → Sees (p.a_type (suc n)) (p.a_type (suc (plus n (suc (suc (suc a)))))) (Next stops_type) (Next is_name) (token kind u.at u.text ∷ ts)
-      refused kind e = stuck (p.a_type (suc n)) (p.a_type (suc (plus n (suc (suc (suc a)))))) (Next stops_type) (Next is_name) _ (λ us (more, is). rw is (e n more)) (λ us (more, is). rw is (e (plus n (suc (suc (suc a)))) more)) (type_default _)
+      refused : (kind : TokenKind) → ((l : ℕ) (vs : List Word) → p.a_type (suc l) (token kind u.at u.text ∷ vs) ≡ Err (syntax (token kind u.at u.text ∷ vs))) → Sees (p.a_type (suc n)) (p.a_type (suc (deeper a n))) (Next stops_type) (Next is_name) (token kind u.at u.text ∷ ts)
+      refused kind e = stuck (p.a_type (suc n)) (p.a_type (suc (deeper a n))) (Next stops_type) (Next is_name) _ (λ us (more, is). rw is (e n more)) (λ us (more, is). rw is (e (deeper a n) more)) (type_default _)
 
-      by : (kind : TokenKind) → Sees (type_after u.text u.at (p.a_type n)) (type_after u.text u.at (p.a_type (plus n (suc (suc (suc a)))))) (Next stops_type) (Next stops_type) ts → Sees (p.a_type (suc n)) (p.a_type (suc (plus n (suc (suc (suc a)))))) (Next stops_type) (Next is_name) (token kind u.at u.text ∷ ts)
+      by : (kind : TokenKind) → Sees (type_after u.text u.at (p.a_type n)) (type_after u.text u.at (p.a_type (deeper a n))) (Next stops_type) (Next stops_type) ts → Sees (p.a_type (suc n)) (p.a_type (suc (deeper a n))) (Next stops_type) (Next is_name) (token kind u.at u.text ∷ ts)
       by k.Identifier s = skip (token k.Identifier u.at u.text) ts _ _ _ _ (Next stops_type) (Next stops_type) _ (λ vs. refl) (λ vs. refl) s
       by (k.Number v) s = refused (k.Number v) (λ l vs. refl)
       by _ s = refused _ (λ l vs. refl)
 
-  pub sees_declared : (n : ℕ) (text : List ℕ) (ts : List Word) → Sees (declared_after text (p.a_type n)) (declared_after text (p.a_type (plus n (suc (suc (suc a)))))) (Next (is_mark m.Bar)) (Next (is_mark m.Bar)) ts
+  pub sees_declared : (n : ℕ) (text : List ℕ) (ts : List Word) → Sees (declared_after text (p.a_type n)) (declared_after text (p.a_type (deeper a n))) (Next (is_mark m.Bar)) (Next (is_mark m.Bar)) ts
   sees_declared n text ts =
       either declares _ _ _ _ (Next (is_mark m.Bar)) (Next is_name) (Next (is_mark m.Bar)) ts
-      (λ u us is. bind (p.a_type n) (p.a_type (plus n (suc (suc (suc a))))) (λ s vs. Ok ((text, Some s), vs)) (λ s vs. Ok ((text, Some s), vs)) (Next stops_type) (Next (is_mark m.Bar)) (Next (is_mark m.Bar)) (Next is_name) us (mark_next m.Bar stops_type refl) (sees_type n us)
+      (λ u us is. bind (p.a_type n) (p.a_type (deeper a n)) (λ s vs. Ok ((text, Some s), vs)) (λ s vs. Ok ((text, Some s), vs)) (Next stops_type) (Next (is_mark m.Bar)) (Next (is_mark m.Bar)) (Next is_name) us (mark_next m.Bar stops_type refl) (sees_type n us)
       (λ s vs. pass (text, Some s) (Next (is_mark m.Bar)) vs))
       (pass (text, None) (Next (is_mark m.Bar)) ts)
       (mark_not m.Bar declares refl)
 
-  pub sees_variable : (n : ℕ) (ts : List Word) → Sees (p.a_variable n) (p.a_variable (plus n (suc (suc (suc a))))) (Next (is_mark m.Bar)) (Next is_name) ts
+  pub sees_variable : (n : ℕ) (ts : List Word) → Sees (p.a_variable n) (p.a_variable (deeper a n)) (Next (is_mark m.Bar)) (Next is_name) ts
   unfolding p.a_variable
   sees_variable n ts =
-      bind identifier identifier (λ text. declared_after text (p.a_type n)) (λ text. declared_after text (p.a_type (plus n (suc (suc (suc a)))))) Any (Next (is_mark m.Bar)) (Next (is_mark m.Bar)) (Next is_name) ts (λ us h. tt) (sees_identifier ts)
+      bind identifier identifier (λ text. declared_after text (p.a_type n)) (λ text. declared_after text (p.a_type (deeper a n))) Any (Next (is_mark m.Bar)) (Next (is_mark m.Bar)) (Next is_name) ts (λ us h. tt) (sees_identifier ts)
       (λ text rest. sees_declared n text rest)
 
-  pub sees_variables_by : (n : ℕ) (two : Bool) (v : Optional) (ts : List Word) → Sees (variables_by n two v) (variables_by (plus n (suc (suc (suc a)))) two v) Any (Next (is_mark m.Bar)) ts
+  pub sees_variables_by : (n : ℕ) (two : Bool) (v : Optional) (ts : List Word) → Sees (variables_by n two v) (variables_by (deeper a n) two v) Any (Next (is_mark m.Bar)) ts
   unfolding variables_by
   sees_variables_by n false v ts = sees_expect m.Bar _ _ Any Any (λ vs. pass (v ∷ []) Any vs) ts
   sees_variables_by n true v ts =
       either separates _ _ _ _ Any (Next is_name) (Next (is_mark m.Bar)) ts
-      (λ u us is. bind (p.a_variable n) (p.a_variable (plus n (suc (suc (suc a))))) (second_after v) (second_after v) (Next (is_mark m.Bar)) Any (Next (is_mark m.Bar)) (Next is_name) us (λ vs h. h) (sees_variable n us)
+      (λ u us is. bind (p.a_variable n) (p.a_variable (deeper a n)) (second_after v) (second_after v) (Next (is_mark m.Bar)) Any (Next (is_mark m.Bar)) (Next is_name) us (λ vs h. h) (sees_variable n us)
       (λ w rest. sees_expect m.Bar _ _ Any Any (λ vs. pass (v ∷ w ∷ []) Any vs) rest))
       (sees_expect m.Bar _ _ Any Any (λ vs. pass (v ∷ []) Any vs) ts)
       (mark_not m.Bar separates refl)

@@ -16,6 +16,13 @@ pub plus_is : (a b : ℕ) → plus a b ≡ a + b
 plus_is zero b = omega arith
 plus_is (suc a) b = let e = plus_is a b in omega arith
 
+-- limits that are wider: by so much, and by what the shortest completions take
+abbrev pub deeper : ℕ → ℕ → ℕ
+deeper a n = plus n (suc (suc (suc a)))
+
+abbrev pub longer : ℕ → ℕ → ℕ
+longer b c = plus c (suc b)
+
 wider_type : (a : ℕ) {n : ℕ} {ts rest : List Word} {s : Shape} → IsType n ts s rest → IsType (plus n a) ts s rest
 wider_type a (g.a_plain_type h) = g.a_plain_type h
 wider_type a (g.a_type_of d) = g.a_type_of (wider_type a d)
