@@ -27,3 +27,6 @@ pub use scalar::{Scalar, ScalarText};
 pub use sizes::Sizes;
 pub use store::{Entry, Segment};
 pub use written::{Values, Written};
+
+#[cfg(test)]
+mod tests;
