@@ -15,3 +15,4 @@ pub mod Holders
 pub mod ConsistencyLaws
 pub mod Places
 pub mod Lengths
+pub mod Orders

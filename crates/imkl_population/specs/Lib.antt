@@ -5,6 +5,7 @@ pub mod Values
 pub mod Building
 pub mod Finishing
 pub mod Consistency
+pub mod Required
 pub mod Seen
 pub mod Draft
 pub mod Ends
