@@ -16,3 +16,5 @@ pub mod ConsistencyLaws
 pub mod Places
 pub mod Lengths
 pub mod Orders
+pub mod Held
+pub mod Idle

@@ -1,20 +1,21 @@
 -- Numbers in order: the places that pass a test, and what a sort without repeats leaves of a list.
-use Rattle.std.proofs.Common.{◌≡◌, ℕ, zero, suc, ◌<◌, ◌==◌, Bool, true, false, ◌||◌, List, [], ◌∷◌, ◌++◌, refl, sym, ap, subst, ◌∙◌, eqb, arith, All, Less, if◌then◌else◌, inl, inr}
+use Rattle.std.proofs.Common.{◌≡◌, ℕ, zero, suc, ◌<◌, ◌==◌, Bool, true, false, ◌||◌, List, [], ◌∷◌, ◌++◌, refl, sym, ap, subst, ◌∙◌, eqb, arith, All, Less, Some, is_some, cond, filter, nat_lt, ◌&&◌, if◌then◌else◌, inl, inr}
 use Rattle.std.specs.List.{AllByRecursion, Contains, list_any, dedup}
+use Rattle.std.specs.Map.{keys_of, lookup}
 use Rattle.std.specs.List.Retain.{IsFiltered, DiffersFromLast}
 use Rattle.std.specs.List.Sorted.{IsSorted, IsPermutation, IsStrictlySortedBy}
 use Rattle.std.specs.Ordering.{nat_cmp}
 use Rattle.std.specs.Cmp.{nat_cmp_is, IsEquivalence}
 use Rattle.std.specs.BTreeMap.{is_at}
 use Rattle.std.specs.BTreeSet.{BTreeSet}
-use Rattle.std.proofs.lemmas.Bool.{false≢true, eq-eqb, eqb-true, ne_eqb, or_from}
+use Rattle.std.proofs.lemmas.Bool.{eq-eqb, eqb-true, ne_eqb, or_from, and_parts, and_from, ltb-true, lt-ltb}
 use Rattle.std.proofs.lemmas.Bool.Decides.{leb_tells}
-use Rattle.std.proofs.Math.Bool.{or-false, or_comm}
+use Rattle.std.proofs.Math.Bool.{or-false, or_comm, and-false}
 use Rattle.std.proofs.lemmas.List.{append-nil}
 use Rattle.std.specs.FinMap.{nat_cmp-IsAntisymmetric}
 use Rattle.std.proofs.lemmas.List.Filters.{dedup_is}
 use Rattle.std.proofs.lemmas.List.Folds.{list_any-append}
-use Rattle.std.proofs.lemmas.List.Kept.{Contains-dedup_nat, Contains-from_dedup}
+use Rattle.std.proofs.lemmas.List.Kept.{Contains-dedup_nat, Contains-from_dedup, IsStrictlySortedBy-filter}
 use Rattle.std.proofs.lemmas.Map.Keys.{IsStrictlyIncreasing-dedup, sorted_from_strictly_increasing}
 use Rattle.std.proofs.lemmas.List.Sorted.{Contains-permutation, IsPermutation-sym}
 use Rattle.std.proofs.lemmas.Map.Lookups.{btree_set_from_contains}
@@ -22,7 +23,10 @@ use Rattle.std.proofs.lemmas.Map.Views.{Contains-from_any, list_any-from_Contain
 use Rattle.std.proofs.lemmas.List.Elements.{All-append, All-contains, All-weaker}
 use Rattle.std.proofs.lemmas.Cmp.{nat_cmp_total}
 use Rattle.imkl_population.specs.Numbers.{places}
+use Rattle.imkl_population.specs.declared.scalar.Scalar.{Scalar}
 use Rattle.imkl_population.specs.Required.{is_one_of}
+use Rattle.imkl_population.specs.Store.{IsMap}
+use Rattle.imkl_population.specs.Written.{is_set}
 use Rattle.imkl_population.proofs.Bools.{same_test}
 use Rattle.imkl_population.proofs.Encoded.{is_eq-nat_cmp}
 use Rattle.imkl_population.proofs.Places.{Passes, places-pass}
@@ -54,14 +58,15 @@ sorted_by : (p : ℕ → Bool) (n : ℕ) (b : Bool) → IsStrictlySortedBy nat_c
 sorted_by p n true sorted = push_sorted (places p n) n sorted (places-below p n)
 sorted_by p n false sorted = subst (IsStrictlySortedBy nat_cmp) (sym (append-nil (places p n))) sorted
 
-places-sorted : (p : ℕ → Bool) (n : ℕ) → IsStrictlySortedBy nat_cmp (places p n)
+pub places-sorted : (p : ℕ → Bool) (n : ℕ) → IsStrictlySortedBy nat_cmp (places p n)
 unfolding IsStrictlySortedBy
 places-sorted p zero = tt
 places-sorted p (suc n) = sorted_by p n (p n) (places-sorted p n)
 
 -- ---- what is among places
 
-one_of-push : (xs : List ℕ) (k f : ℕ) (b : Bool) → is_one_of (xs ++ (if b then k ∷ [] else [])) f ≡ (is_one_of xs f || (if b then f == k else false))
+-- a number more, or none
+pub one_of-push : (xs : List ℕ) (k f : ℕ) (b : Bool) → is_one_of (xs ++ (if b then k ∷ [] else [])) f ≡ (is_one_of xs f || (if b then f == k else false))
 one_of-push xs k f true = list_any-append (λ g. f == g) xs (k ∷ []) ∙ ap (λ (b : Bool). is_one_of xs f || b) (or-false (f == k))
 one_of-push xs k f false = ap (λ (l : List ℕ). is_one_of l f) (append-nil xs) ∙ sym (or-false (is_one_of xs f))
 
@@ -102,7 +107,7 @@ eqb_laws = record {
   congr = λ x y z h. rw (eqb-true x y h) refl;
 }
 
-one_of-contains : (xs : List ℕ) (f : ℕ) → is_one_of xs f ≡ true → Contains xs f
+pub one_of-contains : (xs : List ℕ) (f : ℕ) → is_one_of xs f ≡ true → Contains xs f
 one_of-contains xs f h = Contains-from_any eqb-true f xs h
 
 contains-one_of : (xs : List ℕ) (f : ℕ) → Contains xs f → is_one_of xs f ≡ true
@@ -115,6 +120,17 @@ set_of xs = record { keys = xs }
 told : (xs : List ℕ) (f : ℕ) → list_any (is_at (nat_cmp f)) xs ≡ is_one_of xs f
 told [] f = refl
 told (x ∷ xs) f = rw (is_eq-nat_cmp f x, eqb_laws.symm x f, told xs f) refl
+
+-- numbers that ascend are the places of a test, where they are those below the bound that pass
+ascending : (zs : List ℕ) (p : ℕ → Bool) (n : ℕ) → IsStrictlySortedBy nat_cmp zs → ((f : ℕ) → is_one_of zs f ≡ true → (f < n) × (p f ≡ true)) → ((f : ℕ) → f < n → p f ≡ true → is_one_of zs f ≡ true) → zs ≡ places p n
+ascending zs p n sorted each all =
+    let same : (f : ℕ) → is_one_of zs f ≡ is_one_of (places p n) f = λ f.
+    same_test (is_one_of zs f) (is_one_of (places p n) f)
+    (λ h. one_of-places p n f (each f h).0 ∙ (each f h).1)
+    (λ h.
+    let passes : Passes p n f = All-contains (Passes p n) (places p n) f (places-pass p n) (one_of-contains (places p n) f h) in
+    all f passes.0 passes.1) in
+    btree_set_from_contains nat_cmp_total (set_of zs) (set_of (places p n)) sorted (places-sorted p n) (λ f. told zs f ∙ same f ∙ sym (told (places p n) f)) nat_cmp-IsAntisymmetric
 
 -- what stays of the numbers of a list, sorted and without repeats
 module _ (xs ys zs : List ℕ) (moved : IsPermutation xs ys) (sorted : IsSorted nat_cmp ys) (kept : IsFiltered (DiffersFromLast eqb) [] ys zs) where
@@ -130,25 +146,51 @@ module _ (xs ys zs : List ℕ) (moved : IsPermutation xs ys) (sorted : IsSorted 
   zs_sorted : IsStrictlySortedBy nat_cmp zs
   zs_sorted = subst (IsStrictlySortedBy nat_cmp) (sym zs_are) (sorted_from_strictly_increasing (dedup eqb ys) (IsStrictlyIncreasing-dedup ys sorted))
 
-  same_members : (n f : ℕ) → All (λ g. g < n) xs → is_one_of zs f ≡ is_one_of (places (is_one_of xs) n) f
-  same_members n f small =
-      same_test (is_one_of zs f) (is_one_of (places (is_one_of xs) n) f)
-      (λ h.
-      let there : Contains xs f = back f (one_of-contains zs f h) in
-      one_of-places (is_one_of xs) n f (All-contains (λ g. g < n) xs f small there) ∙ contains-one_of xs f there)
-      (λ h.
-      let below : f < n = All-contains (λ g. g < n) (places (is_one_of xs) n) f (All-weaker (Passes (is_one_of xs) n) (λ g. g < n) (λ g q. q.0) (places (is_one_of xs) n) (places-pass (is_one_of xs) n)) (one_of-contains (places (is_one_of xs) n) f h) in
-      contains-one_of zs f (to f (one_of-contains xs f (sym (one_of-places (is_one_of xs) n f below) ∙ h))))
-
   pub ordered : (n : ℕ) → All (λ f. f < n) xs → zs ≡ places (is_one_of xs) n
-  ordered n small = btree_set_from_contains nat_cmp_total (set_of zs) (set_of (places (is_one_of xs) n)) zs_sorted (places-sorted (is_one_of xs) n) (λ f. told zs f ∙ same_members n f small ∙ sym (told (places (is_one_of xs) n) f)) nat_cmp-IsAntisymmetric
+  ordered n small =
+      ascending zs (is_one_of xs) n zs_sorted
+      (λ f h. let there : Contains xs f = back f (one_of-contains zs f h) in (All-contains (λ g. g < n) xs f small there, contains-one_of xs f there))
+      (λ f lt h. contains-one_of zs f (to f (one_of-contains xs f h)))
+
+-- places are below their bound
+pub places-small : (p : ℕ → Bool) (n : ℕ) (xs : List ℕ) → xs ≡ places p n → All (λ f. f < n) xs
+places-small p n xs are = subst (All (λ f. f < n)) (sym are) (All-weaker (Passes p n) (λ f. f < n) (λ f q. q.0) (places p n) (places-pass p n))
 
 -- some numbers in order with those places that pass
 pub ordered_with : (p : ℕ → Bool) (n : ℕ) (xs all zs : List ℕ) → All (λ f. f < n) xs → all ≡ xs ++ places p n → (All (λ f. f < n) all → zs ≡ places (is_one_of all) n)
     → zs ≡ places (λ f. p f || is_one_of xs f) n
 ordered_with p n xs all zs small joined order =
-    let passing : All (λ f. f < n) (places p n) = All-weaker (Passes p n) (λ f. f < n) (λ f q. q.0) (places p n) (places-pass p n) in
+    let passing : All (λ f. f < n) (places p n) = places-small p n (places p n) refl in
     let all_small : All (λ f. f < n) all = subst (All (λ f. f < n)) (sym joined) (All-append (λ f. f < n) xs (places p n) small passing) in
     order all_small
     ∙ places-same (is_one_of all) (λ f. p f || is_one_of xs f) n
     (λ f lt. ap (λ (l : List ℕ). is_one_of l f) joined ∙ list_any-append (λ g. f == g) xs (places p n) ∙ ap (λ (b : Bool). is_one_of xs f || b) (one_of-places p n f lt) ∙ or_comm (is_one_of xs f) (p f))
+
+-- ---- the keys of a map
+
+one_of-filter_by : (q : ℕ → Bool) (k : ℕ) (ks : List ℕ) (f : ℕ) (b c : Bool) → q k ≡ b → (f == k) ≡ c → is_one_of (filter q ks) f ≡ (q f && is_one_of ks f) → is_one_of (filter q (k ∷ ks)) f ≡ (q f && is_one_of (k ∷ ks) f)
+one_of-filter_by q k ks f true true e d later = let here : q f ≡ true = ap q (eqb-true f k d) ∙ e in rw (e, d, here) refl
+one_of-filter_by q k ks f true false e d later = rw (e, d) later
+one_of-filter_by q k ks f false true e d later = let here : q f ≡ false = ap q (eqb-true f k d) ∙ e in rw (e, d, later, here) refl
+one_of-filter_by q k ks f false false e d later = rw (e, d) later
+
+one_of-filter : (q : ℕ → Bool) (ks : List ℕ) (f : ℕ) → is_one_of (filter q ks) f ≡ (q f && is_one_of ks f)
+one_of-filter q [] f = sym (and-false (q f))
+one_of-filter q (k ∷ ks) f = one_of-filter_by q k ks f (q k) (f == k) refl refl (one_of-filter q ks f)
+
+keys_by : (b : Bool) (e : ℕ × List Scalar) (w : List (ℕ × List Scalar)) (f : ℕ) → is_one_of (keys_of w) f ≡ is_set w f → (b || is_one_of (keys_of w) f) ≡ is_some (cond b (Some e.1) (lookup (is_at (nat_cmp f)) w))
+keys_by true e w f later = refl
+keys_by false e w f later = later
+
+one_of-keys : (w : List (ℕ × List Scalar)) (f : ℕ) → is_one_of (keys_of w) f ≡ is_set w f
+one_of-keys [] f = refl
+one_of-keys (e ∷ w) f = rw (is_eq-nat_cmp f e.0, eqb_laws.symm f e.0) (keys_by (eqb e.0 f) e w f (one_of-keys w f))
+
+-- the features below a bound that are set
+pub set_below : (w : List (ℕ × List Scalar)) (n : ℕ) → IsMap w → filter (λ f. nat_lt f n) (keys_of w) ≡ places (is_set w) n
+set_below w n map =
+    ascending (filter (λ f. nat_lt f n) (keys_of w)) (is_set w) n (IsStrictlySortedBy-filter nat_cmp (λ f. nat_lt f n) (keys_of w) map)
+    (λ f h.
+    let parts = and_parts (nat_lt f n) (is_one_of (keys_of w) f) (sym (one_of-filter (λ g. nat_lt g n) (keys_of w) f) ∙ h) in
+    (ltb-true f n parts.0, sym (one_of-keys w f) ∙ parts.1))
+    (λ f lt h. one_of-filter (λ g. nat_lt g n) (keys_of w) f ∙ and_from (nat_lt f n) (is_one_of (keys_of w) f) (lt-ltb f n lt) (one_of-keys w f ∙ h))

@@ -1,5 +1,5 @@
 -- What is written at the features of one object.
-use Rattle.std.specs.Prelude.{ℕ, List, [], unwrap_or}
+use Rattle.std.specs.Prelude.{ℕ, Bool, List, [], is_some, unwrap_or}
 use Rattle.std.specs.Map.{lookup}
 use Rattle.std.specs.Ordering.{nat_cmp}
 use Rattle.std.specs.BTreeMap.{is_at}
@@ -8,3 +8,7 @@ use Rattle.imkl_population.specs.declared.scalar.Scalar.{Scalar}
 -- the values at a feature: nothing written is the empty list
 abbrev pub written_in : List (ℕ × List Scalar) → ℕ → List Scalar
 written_in written f = unwrap_or (lookup (is_at (nat_cmp f)) written) []
+
+-- something is written at a feature, if only the empty list
+abbrev pub is_set : List (ℕ × List Scalar) → ℕ → Bool
+is_set written f = is_some (lookup (is_at (nat_cmp f)) written)

@@ -1,8 +1,10 @@
 //! Building a population object by object.
 
-ghost use Rattle.std.specs.Prelude.{◌≡◌, ◌<◌, [], true, length, ◌+◌, IfOk, OnOk, IfSome, Ok};
+ghost use Rattle.std.specs.Prelude.{◌≡◌, ◌<◌, [], true, length, ◌+◌, All, IfOk, OnOk, IfSome, Ok};
 ghost use Rattle.imkl_model.specs.ClassModel.{feature_at};
-ghost use Rattle.imkl_population.specs.Population.{class_of, written_at, object_of};
+ghost use Rattle.imkl_population.specs.Numbers.{places};
+ghost use Rattle.imkl_population.specs.Written.{is_set};
+ghost use Rattle.imkl_population.specs.Population.{object_at, class_of, written_at, object_of};
 ghost use Rattle.std.specs.List.{list_all};
 ghost use Rattle.imkl_population.specs.Draft.{is_sound};
 ghost use Rattle.imkl_population.specs.Values.{is_target_of};
@@ -151,6 +153,16 @@ impl<'m> PopulationBuilder<'m> {
         self.objects[object.place()].written.get(feature.place())
     }
 
+    /// The features that are set on an object, in their order.
+    pub(crate) fn features(&self, object: ObjectNo) -> Result<Vec<FeatureNo>, AllocError>
+        requires { object < length self.now.objects }
+        ensures features { IfOk result (λ v. v.items ≡ places (is_set (object_at self.now object).written) (length self.now.model.features)) }
+        ensures known { IfOk result (λ v. All (λ f. f < length self.now.model.features) v.items) }
+    {
+        let written = &self.objects[object.place()].written;
+        written.features(self.alloc, self.model.feature_count())
+    }
+
     /// What is wrong with values at an attribute.
     fn value_fault(
         &self,
@@ -292,11 +304,11 @@ impl<'m> PopulationBuilder<'m> {
         ensures same { IfOk result (λ p. p ≡ self.entry) }
     {
         self.model.well_formed();
-        if let Some(fault) = first_gap(&self) {
+        if let Some(fault) = first_gap(&self)? {
             return Err(fault);
         }
         let ends = opposite_ends(self.alloc, &self)?;
-        if let Some(fault) = first_end_fault(&self, &ends) {
+        if let Some(fault) = first_end_fault(&self, &ends)? {
             return Err(fault);
         }
         Ok(laid_out(self, ends)?)

@@ -1,12 +1,10 @@
 //! The opposite ends of all objects, from what is written at the source ends.
 
-ghost use Rattle.std.specs.Prelude.{◌≡◌, ◌<◌, ◌++◌, ◌==◌, ℕ, [], ◌∷◌, length, IfOk, OnOk, slice_index_or, if◌then◌else◌};
-ghost use Rattle.imkl_model.specs.ClassModel.{feature_at};
-ghost use Rattle.imkl_model.specs.declared.feature.Role.TheVariants.{OppositeEnd};
+ghost use Rattle.std.specs.Prelude.{◌≡◌, ◌<◌, ◌+◌, ◌++◌, ◌==◌, ℕ, [], ◌∷◌, length, IfOk, OnOk, slice_index_or, if◌then◌else◌};
 ghost use Rattle.imkl_population.specs.Written.{written_in};
 ghost use Rattle.imkl_population.specs.Building.{as_objects};
-ghost use Rattle.imkl_population.specs.Population.{held_by, opposite_end};
-ghost use Rattle.imkl_population.specs.Ends.{AreEnds};
+ghost use Rattle.imkl_population.specs.Population.{held_by};
+ghost use Rattle.imkl_population.specs.Ends.{AreEndsBelow, AreEnds};
 
 use crate::builder::PopulationBuilder;
 use crate::numbers::ObjectNo;
@@ -53,21 +51,25 @@ fn add_holders(
     Ok(())
 }
 
-/// Collects an opposite end of all objects.
-fn add_end(
+/// The targets of an object's source ends get it as a holder.
+fn add_holders_of(
     ends: &mut [Written],
     alloc: Global,
     builder: &PopulationBuilder<'_>,
-    source: FeatureNo,
-    end: usize,
+    holder: ObjectNo,
 ) -> Result<(), AllocError>
-    requires { length ends.old ≡ length builder.now.objects }
-    ensures same { length ends.new ≡ length ends.old }
-    ensures added { OnOk result ((o h : ℕ) → o < length ends.old → written_in (slice_index_or ends.new o []) h ≡ written_in (slice_index_or ends.old o []) h ++ (if h == end then as_objects (opposite_end builder.now source o) else [])) }
+    requires ends { AreEndsBelow builder.now holder ends.old }
+    requires holder { holder < length builder.now.objects }
+    ensures ends { OnOk result (AreEndsBelow builder.now (holder + 1) ends.new) }
 {
-    'holders: for holder in 0..builder.objects() {
-        let values = builder.written(ObjectNo::new(holder), source);
-        add_holders(ends, alloc, end, holder, values)?;
+    let model = builder.model();
+    model.well_formed();
+    let features = builder.features(holder)?;
+    'features: for feature in &features {
+        if let Role::SourceEnd { opposite } = model.feature_info(*feature).role {
+            let targets = builder.written(holder, *feature);
+            add_holders(ends, alloc, opposite.place(), holder.place(), targets)?;
+        }
     }
     Ok(())
 }
@@ -91,12 +93,9 @@ pub(crate) fn opposite_ends(
 ) -> Result<Vec<Written>, AllocError>
     ensures { IfOk result (λ v. AreEnds builder.now v.items) }
 {
-    let model = builder.model();
     let mut ends = no_ends(alloc, builder.objects())?;
-    'features: for feature in 0..model.feature_count() {
-        if let Role::OppositeEnd { source } = model.feature_info(FeatureNo::new(feature)).role {
-            add_end(&mut ends, alloc, builder, source, feature)?;
-        }
+    'holders: for holder in 0..builder.objects() {
+        add_holders_of(&mut ends, alloc, builder, ObjectNo::new(holder))?;
     }
     Ok(ends)
 }

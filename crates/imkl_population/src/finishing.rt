@@ -1,16 +1,19 @@
 //! What is looked for when a population is finished.
 
-ghost use Rattle.std.specs.Prelude.{◌≡◌, ◌<◌, length};
+ghost use Rattle.std.specs.Prelude.{◌≡◌, ◌<◌, length, IfOk};
 ghost use Rattle.imkl_population.specs.Numbers.{first_of};
 ghost use Rattle.imkl_population.specs.Finishing.{gap, end_fault, first_fault};
 ghost use Rattle.imkl_population.specs.Ends.{AreEnds};
+ghost use Rattle.imkl_population.specs.declared.required.Side.TheVariants as side;
 
 use crate::builder::PopulationBuilder;
 use crate::checks::{bounds_fault, is_opposite};
 use crate::fault::PopulationFault;
 use crate::numbers::ObjectNo;
+use crate::required::{RequiredFeatures, Side};
 use crate::written::Written;
 use imkl_model::FeatureNo;
+use std::alloc::AllocError;
 
 /// A written feature of an object that has fewer values than its lower bound.
 fn gap(
@@ -34,30 +37,42 @@ fn gap(
     }
 }
 
-fn first_gap_of(builder: &PopulationBuilder<'_>, object: ObjectNo) -> Option<PopulationFault>
-    requires { object < length builder.now.objects }
-    ensures { result ≡ first_of (gap builder.now object) (length builder.now.model.features) }
+/// The first gap of an object: only at what its class requires can there be one.
+fn first_gap_of(
+    builder: &PopulationBuilder<'_>,
+    required: &mut RequiredFeatures<'_>,
+    object: ObjectNo,
+) -> Result<Option<PopulationFault>, AllocError>
+    requires object { object < length builder.now.objects }
+    requires required { required.old ≡ record { model = builder.now.model; side = side.Written } }
+    ensures first { IfOk result (λ fault. fault ≡ first_of (gap builder.now object) (length builder.now.model.features)) }
+    ensures same { required.new ≡ required.old }
 {
-    'features: for feature in 0..builder.model().feature_count() {
-        let found = gap(builder, object, FeatureNo::new(feature));
+    let class = builder.class_of(object);
+    let features = required.with_required(class, Vec::new(builder.alloc()))?;
+    'features: for feature in &features {
+        let found = gap(builder, object, *feature);
         if found.is_some() {
-            return found;
+            return Ok(found);
         }
     }
-    None
+    Ok(None)
 }
 
 /// The first object, and its first feature, that was never set and needs a value.
-pub(crate) fn first_gap(builder: &PopulationBuilder<'_>) -> Option<PopulationFault>
-    ensures { result ≡ first_fault gap builder.now }
+pub(crate) fn first_gap(
+    builder: &PopulationBuilder<'_>,
+) -> Result<Option<PopulationFault>, AllocError>
+    ensures { IfOk result (λ fault. fault ≡ first_fault gap builder.now) }
 {
+    let mut required = RequiredFeatures::new(builder.alloc(), builder.model(), Side::Written);
     'objects: for object in 0..builder.objects() {
-        let found = first_gap_of(builder, ObjectNo::new(object));
+        let found = first_gap_of(builder, &mut required, ObjectNo::new(object))?;
         if found.is_some() {
-            return found;
+            return Ok(found);
         }
     }
-    None
+    Ok(None)
 }
 
 /// An opposite end of an object against its bounds.
@@ -82,37 +97,46 @@ fn end_fault(
     }
 }
 
+/// The first fault of an object's opposite ends: where there are no holders and the class requires none, there is no fault.
 fn first_end_fault_of(
     builder: &PopulationBuilder<'_>,
     ends: &[Written],
+    required: &mut RequiredFeatures<'_>,
     object: ObjectNo,
-) -> Option<PopulationFault>
+) -> Result<Option<PopulationFault>, AllocError>
     requires ends { AreEnds builder.now ends.now }
     requires object { object < length builder.now.objects }
-    ensures { result ≡ first_of (end_fault builder.now object) (length builder.now.model.features) }
+    requires required { required.old ≡ record { model = builder.now.model; side = side.Opposite } }
+    ensures first { IfOk result (λ fault. fault ≡ first_of (end_fault builder.now object) (length builder.now.model.features)) }
+    ensures same { required.new ≡ required.old }
 {
-    'features: for feature in 0..builder.model().feature_count() {
-        let found = end_fault(builder, ends, object, FeatureNo::new(feature));
+    let class = builder.class_of(object);
+    let count = builder.model().feature_count();
+    let held = ends[object.place()].features(builder.alloc(), count)?;
+    let features = required.with_required(class, held)?;
+    'features: for feature in &features {
+        let found = end_fault(builder, ends, object, *feature);
         if found.is_some() {
-            return found;
+            return Ok(found);
         }
     }
-    None
+    Ok(None)
 }
 
 /// The first object, and its first opposite end, out of its bounds.
 pub(crate) fn first_end_fault(
     builder: &PopulationBuilder<'_>,
     ends: &[Written],
-) -> Option<PopulationFault>
+) -> Result<Option<PopulationFault>, AllocError>
     requires { AreEnds builder.now ends.now }
-    ensures { result ≡ first_fault end_fault builder.now }
+    ensures { IfOk result (λ fault. fault ≡ first_fault end_fault builder.now) }
 {
+    let mut required = RequiredFeatures::new(builder.alloc(), builder.model(), Side::Opposite);
     'objects: for object in 0..builder.objects() {
-        let found = first_end_fault_of(builder, ends, ObjectNo::new(object));
+        let found = first_end_fault_of(builder, ends, &mut required, ObjectNo::new(object))?;
         if found.is_some() {
-            return found;
+            return Ok(found);
         }
     }
-    None
+    Ok(None)
 }

@@ -153,6 +153,7 @@ impl<'m> RequiredFeatures<'m> {
         requires class { class < length self.old.model.classes }
         requires features { All (λ f. f < length self.old.model.features) features.items }
         ensures list { IfOk result (λ v. v.items ≡ with_required self.old class features.items) }
+        ensures known { IfOk result (λ v. All (λ f. f < length self.old.model.features) v.items) }
         ensures same { self.new ≡ self.old }
     {
         let mut features = features;

@@ -344,6 +344,83 @@ fn finished(rt: HostRuntime) -> Result<(), Fail> {
     Ok(())
 }
 
+/// Finishes a population of a cable, with these themes, that these ducts hold.
+fn finish(
+    alloc: Global,
+    model: &ClassModel,
+    themes: &[usize],
+    ducts: &[&str],
+) -> Result<(), PopulationFault> {
+    let mut builder = PopulationBuilder::new(alloc, model);
+    let _ = add(&mut builder, "k", "Kabel");
+    if !themes.is_empty() {
+        set_themes(&mut builder, alloc, "k", themes)?;
+    }
+    for duct in ducts {
+        let _ = add(&mut builder, duct, "Buis");
+        hold(&mut builder, alloc, duct, &[0])?;
+    }
+    let _ = builder.finish()?;
+    Ok(())
+}
+
+/// Whether a call is refused with this fault.
+fn is_refused(answer: Result<(), PopulationFault>, fault: PopulationFault) -> bool {
+    match answer {
+        Ok(()) => false,
+        Err(found) => found == fault,
+    }
+}
+
+#[test]
+fn finishing(rt: HostRuntime) -> Result<(), Fail> {
+    let model = read(rt.alloc())?;
+    let cable = ObjectNo::new(0);
+    let (themes, holders) = (FeatureNo::new(2), FeatureNo::new(5));
+    let unset = PopulationFault::TooFew {
+        object: cable,
+        feature: themes,
+    };
+    let crowded = PopulationFault::TooMany {
+        object: cable,
+        feature: holders,
+    };
+    // What was never set comes before too many holders.
+    assert!(rt; is_refused(finish(rt.alloc(), &model, &[], &["b", "c", "d"]), unset));
+    assert!(rt; is_refused(finish(rt.alloc(), &model, &[0], &["b", "c", "d"]), crowded));
+    assert!(rt; finish(rt.alloc(), &model, &[0], &["b", "c"]).is_ok());
+    Ok(())
+}
+
+/// Whether the features of the second class, one of its names, and what it requires stand in the model's order.
+fn has_required(alloc: Global, model: &ClassModel) -> Result<bool, AllocError> {
+    let (Some(class), Some(name)) = (model.class("Kabel"), feature(model, "Kabel", "naam")) else {
+        return Ok(false);
+    };
+    let mut required = RequiredFeatures::new(alloc, model, Side::Written);
+    let mut features = Vec::new(alloc);
+    features.push(name)?;
+    let features = required.with_required(class, features)?;
+    let again = required.with_required(class, Vec::new(alloc))?;
+    Ok(are_features(&features, &[0, 2]) && are_features(&again, &[2]))
+}
+
+/// Whether features have these places.
+fn are_features(features: &[FeatureNo], places: &[usize]) -> bool {
+    features.len() == places.len()
+        && features
+            .iter()
+            .zip(places)
+            .all(|(feature, place)| feature.place() == *place)
+}
+
+#[test]
+fn required(rt: HostRuntime) -> Result<(), Fail> {
+    let model = read(rt.alloc())?;
+    assert!(rt; has_required(rt.alloc(), &model)?);
+    Ok(())
+}
+
 /// What the sizes tell of the class of this name.
 fn count_of(sizes: &Sizes<'_>, class: &str) -> Option<u64> {
     let class = sizes.model().class(class)?;

@@ -1,11 +1,13 @@
 //! The values at the features of one object.
 
-ghost use Rattle.std.specs.Prelude.{◌≡◌, [], ◌∷◌, ◌++◌, ◌==◌, ℕ, OnOk, OnErr, if◌then◌else◌};
+ghost use Rattle.std.specs.Prelude.{◌≡◌, [], ◌∷◌, ◌++◌, ◌==◌, ℕ, IfOk, OnOk, OnErr, if◌then◌else◌};
 ghost use Rattle.std.specs.Ordering.{nat_cmp};
 ghost use Rattle.std.specs.BTreeMap.{insert_entry};
-ghost use Rattle.imkl_population.specs.Written.{written_in};
+ghost use Rattle.imkl_population.specs.Numbers.{places};
+ghost use Rattle.imkl_population.specs.Written.{is_set, written_in};
 
 use crate::scalar::Scalar;
+use imkl_model::FeatureNo;
 use std::alloc::{AllocError, Global};
 use std::collections::BTreeMap;
 use std::marker::Model;
@@ -113,6 +115,19 @@ impl Written {
         values.push(value)?;
         self.entries.insert(feature, values)?;
         Ok(())
+    }
+
+    /// The features below a number that are set, in their order.
+    pub(crate) fn features(&self, alloc: Global, count: usize) -> Result<Vec<FeatureNo>, AllocError>
+        ensures { IfOk result (λ v. v.items ≡ places (is_set self.now) count) }
+    {
+        let mut features = Vec::new(alloc);
+        'entries: for feature in self.entries.keys() {
+            if *feature < count {
+                features.push(FeatureNo::new(*feature))?;
+            }
+        }
+        Ok(features)
     }
 
     pub(crate) fn into_entries(self) -> BTreeMap<usize, Values>

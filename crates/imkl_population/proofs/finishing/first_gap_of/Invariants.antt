@@ -1,7 +1,7 @@
-use Rattle.std.proofs.Common.{◌≡◌, None}
-use Rattle.imkl_population.specs.Numbers.{first_of}
+use Rattle.std.proofs.Common.{◌≡◌, None, take}
 use Rattle.imkl_population.specs.Finishing.{gap}
+use Rattle.imkl_population.proofs.Firsts.{first_in}
 use Rattle.imkl_population.proofs.finishing.first_gap_of.Given as goal
 
 abbrev pub invariant-features : goal.invariant-features
-invariant-features l = first_of (gap l.builder l.object) l.feature ≡ None
+invariant-features l = first_in (gap l.builder l.object) (take l.feature-index l.feature-items) ≡ None
