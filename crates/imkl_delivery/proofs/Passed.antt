@@ -2,7 +2,7 @@
 use Rattle.std.proofs.Common.{◌≡◌, ◌∙◌, ◌<◌, ◌==◌, ℕ, Bool, true, false, ◌&&◌, ◌||◌, List, Option, Some, None, is_some, Result, Ok, Err, length, map, nat_lt, Ordering, Less, Equal, Greater, refl, sym, ap, subst, All, IfSome, set, get_or, if◌then◌else◌}
 use Rattle.std.specs.Ordering.{nat_cmp, match_ordering}
 use Rattle.std.specs.Cmp.Lexicographic.{slice_cmp}
-use Rattle.std.proofs.lemmas.Bool.{or_parts, eqb-false}
+use Rattle.std.proofs.lemmas.Bool.{and_parts, or_parts, eqb-false}
 use Rattle.std.proofs.lemmas.List.Elements.{All-weaker}
 use Rattle.std.proofs.lemmas.Slice.Eq.{bytes_eq-Decides}
 use Rattle.std.proofs.lemmas.Map.Lookups.{exact_bytes}
@@ -97,16 +97,12 @@ keeps-put ws o f p = search (keeps_either, keeps-put_by, keeps_ok, same)
 
 -- ---- a feature that no member names
 
-both : (a b : Bool) → (a && b) ≡ true → (a ≡ true) × (b ≡ true)
-both true b e = (refl, e)
-both false b e = absurd (let bad : false ≡ true = e in cc)
-
 -- a feature of a class is the one that its name gives
 feature_is : (m : Model) (c f g : ℕ) (name : List ℕ) → IsClassModel m → f < length m.features → belongs m c f ≡ true → feature_number m c name ≡ Some g → (feature_at m f).name ≡ name → f ≡ g
 feature_is m c f g name formed below here found named =
     let test : ℕ → Bool = λ k. is_named m name k && belongs m c k in
     let passes : (g < length m.features) × (test g ≡ true) = subst (λ (k : Option ℕ). IfSome k (λ j. (j < length m.features) × (test j ≡ true))) found (least_passes test (length m.features)) in
-    let parts = both (is_named m name g) (belongs m c g) passes.1 in
+    let parts = and_parts (is_named m name g) (belongs m c g) passes.1 in
     formed.one_feature c f g below passes.0 here parts.1 (named ∙ (bytes_eq-Decides name (feature_at m g).name).0 parts.0)
 
 by_order : (order : Ordering) (k name : List ℕ) (d : Data) (r : Option Data) → slice_cmp nat_cmp k name ≡ order → (k ≡ name → ⊥) → r ≡ None → match_ordering order r (Some d) r ≡ None
