@@ -151,7 +151,7 @@ put_passed ws o f p fs h =
 
 -- ---- the features that are named or required
 
-pub named_is : (m : Model) (c : ℕ) (ms : Members) → is_some (named_features m c ms) ≡ are_features m c ms
+named_is : (m : Model) (c : ℕ) (ms : Members) → is_some (named_features m c ms) ≡ are_features m c ms
 named_is m c no_members = refl
 named_is m c (member name d ms) = both_there (feature_number m c name) (named_features m c ms) ∙ ap (λ b. is_some (feature_number m c name) && b) (named_is m c ms)
 
