@@ -10,7 +10,7 @@ abbrev pub after : {A : Type 0} → List A → Option (List A) → Option (List 
 after front None = None
 after front (Some xs) = Some (front ++ xs)
 
-regroup : {A : Type 0} (front : List A) (x : A) (r : Option (List A)) → after front (with_first (Some x) r) ≡ after (front ++ x ∷ []) r
+pub regroup : {A : Type 0} (front : List A) (x : A) (r : Option (List A)) → after front (with_first (Some x) r) ≡ after (front ++ x ∷ []) r
 regroup front x None = refl
 regroup {A} front x (Some xs) = ap (λ (ys : List A). Some ys) (simp append_assoc)
 
@@ -37,7 +37,7 @@ all_there {A = A} f view front vs i total le so_far =
 
 -- ---- whether all are there, and a step after another
 
-both_there : {A : Type 0} (r : Option A) (rest : Option (List A)) → is_some (with_first r rest) ≡ (is_some r && is_some rest)
+pub both_there : {A : Type 0} (r : Option A) (rest : Option (List A)) → is_some (with_first r rest) ≡ (is_some r && is_some rest)
 both_there None rest = refl
 both_there (Some x) None = refl
 both_there (Some x) (Some xs) = refl
@@ -54,7 +54,7 @@ pub record Parts {A : Type 0} (r : Option A) (rest : Option (List A)) (xs : List
   pub others_are : rest ≡ Some others
   pub whole : xs ≡ first ∷ others
 
-parts : {A : Type 0} (r : Option A) (rest : Option (List A)) (xs : List A) → with_first r rest ≡ Some xs → Parts r rest xs
+pub parts : {A : Type 0} (r : Option A) (rest : Option (List A)) (xs : List A) → with_first r rest ≡ Some xs → Parts r rest xs
 parts None rest xs is = absurd (let bad : None ≡ Some xs = is in cc)
 parts (Some x) None xs is = absurd (let bad : None ≡ Some xs = is in cc)
 parts (Some x) (Some ys) xs is = record { first = x; others = ys; first_is = refl; others_are = refl; whole = let same : Some (x ∷ ys) ≡ Some xs = is in cc }

@@ -10,12 +10,12 @@ pub begins : {S : Type 0} (step : ℕ → S → Result S DeliveryFault) (s : S) 
 unfolding steps
 begins step s = refl
 
-pub goes_on : {S : Type 0} (step : ℕ → S → Result S DeliveryFault) (k : ℕ) (s t u : S) → steps step k s ≡ Ok t → step k t ≡ Ok u → steps step (k + 1) s ≡ Ok u
+goes_on : {S : Type 0} (step : ℕ → S → Result S DeliveryFault) (k : ℕ) (s t u : S) → steps step k s ≡ Ok t → step k t ≡ Ok u → steps step (k + 1) s ≡ Ok u
 unfolding steps
 goes_on step k s t u so_far now = rw (add-one, so_far) now
 
 -- the fault of a step is the fault of all
-pub stops : {S : Type 0} (step : ℕ → S → Result S DeliveryFault) (e : DeliveryFault) (k n : ℕ) (s t : S) → k < n → steps step k s ≡ Ok t → Fails e (step k t) → Fails e (steps step n s)
+stops : {S : Type 0} (step : ℕ → S → Result S DeliveryFault) (e : DeliveryFault) (k n : ℕ) (s t : S) → k < n → steps step k s ≡ Ok t → Fails e (step k t) → Fails e (steps step n s)
 unfolding steps
 stops step e k zero s t lt so_far h = absurd (omega arith)
 stops step e k (suc n) s t lt so_far h =

@@ -3,6 +3,7 @@ pub mod Steps
 pub mod Document
 pub mod Scalars
 pub mod Loading
+pub mod Named
 pub mod Description
 pub mod Seen
 pub mod Targets

@@ -1,6 +1,6 @@
 //! What is written at the features of one object.
 
-ghost use Rattle.std.specs.Prelude.{◌≡◌, ◌<◌, true, List, Option, map, length, option_map};
+ghost use Rattle.std.specs.Prelude.{◌≡◌, ◌<◌, true, List, Option, All, map, length, option_map, IfOk, IfSome};
 ghost use Rattle.serde_json.specs.Data.{Data};
 ghost use Rattle.serde_json.specs.Find.{get_member};
 ghost use Rattle.serde_json.specs.View.{view, members_view};
@@ -11,14 +11,15 @@ ghost use Rattle.imkl_population.specs.Building.{KeepsObjects};
 ghost use Rattle.imkl_delivery.specs.Steps.{Leaves, told};
 ghost use Rattle.imkl_delivery.specs.Document.{Written};
 ghost use Rattle.imkl_delivery.specs.Scalars.{is_absent};
-ghost use Rattle.imkl_delivery.specs.Loading.{object_at, are_features, values_put, targets_put, put_by, put, featured};
+ghost use Rattle.imkl_delivery.specs.Loading.{object_at, values_put, targets_put, put_by, put, featured};
+ghost use Rattle.imkl_delivery.specs.Named.{named_features, written_requirements};
 
 use crate::fault::DeliveryFault;
 use crate::scalars::{Targets, listed, scalars_of, targets_of};
 use imkl_model::{ClassModel, ClassNo, FeatureInfo, FeatureNo, Role};
-use imkl_population::{ObjectNo, PopulationBuilder, PopulationFault};
+use imkl_population::{ObjectNo, PopulationBuilder, PopulationFault, RequiredFeatures};
 use serde_json::{Map, Value};
-use std::alloc::Global;
+use std::alloc::{AllocError, Global};
 
 /// A fault of the population, at an object.
 pub(crate) fn told(object: usize, fault: PopulationFault) -> DeliveryFault
@@ -152,40 +153,53 @@ fn member<'v>(members: &'v Map<String, Value>, name: &str) -> Option<&'v Value>
     members.get(name)
 }
 
-/// Whether each member has the name of a feature of the class.
-fn are_features(model: &ClassModel, class: ClassNo, members: &Map<String, Value>) -> bool
+/// The features of the class that the members name, or nothing where a member names none.
+fn named_features(
+    alloc: Global,
+    model: &ClassModel,
+    class: ClassNo,
+    members: &Map<String, Value>,
+) -> Result<Option<Vec<FeatureNo>>, AllocError>
     requires { class < length model.now.classes }
-    ensures { result ≡ are_features model.now class (members_view members.now.entries) }
+    ensures named { IfOk result (λ r. option_map (λ v. v.items) r ≡ named_features model.now class (members_view members.now.entries)) }
+    ensures in_range { IfOk result (λ r. IfSome r (λ v. All (λ f. f < length model.now.features) v.items)) }
 {
+    let mut features = Vec::with_capacity(alloc, members.len())?;
     'members: for (name, _) in members {
-        if model.feature(class, name.as_str()).is_none() {
-            return false;
+        match model.feature(class, name.as_str()) {
+            Some(feature) => features.push(feature)?,
+            None => return Ok(None),
         }
     }
-    true
+    Ok(Some(features))
 }
 
-/// Puts what is written on an object, in the model's order of features.
-#[tactic(auto, unfolding(crate::specs::Loading::featured))]
+/// Puts what is written on an object, in the model's order of features. A feature that no member names and the class does
+/// not require is passed over, since there is nothing to put.
 pub(crate) fn put_features(
     builder: &mut PopulationBuilder<'_>,
     alloc: Global,
     object: ObjectNo,
     members: &Map<String, Value>,
+    required: &mut RequiredFeatures<'_>,
 ) -> Result<(), DeliveryFault>
-    requires { object < length builder.old.objects }
+    requires object { object < length builder.old.objects }
+    requires required { required.old ≡ written_requirements builder.old.model }
     ensures leaves { (ws : List Written) → (object_at ws object).features ≡ members_view members.now.entries → Leaves result (featured ws object builder.old) builder.new }
     ensures kept { KeepsObjects builder.old builder.new }
+    ensures same { required.new ≡ required.old }
 {
     let model = builder.model();
+    model.well_formed();
     let class = builder.class_of(object);
-    if !are_features(model, class, members) {
+    let Some(named) = named_features(alloc, model, class, members)? else {
         return Err(DeliveryFault::UnknownFeature {
             object: object.place(),
         });
-    }
-    'features: for feature in 0..model.feature_count() {
-        put_feature(builder, alloc, object, FeatureNo::new(feature), members)?;
+    };
+    let features = required.with_required(class, named)?;
+    'features: for feature in &features {
+        put_feature(builder, alloc, object, *feature, members)?;
     }
     Ok(())
 }

@@ -7,13 +7,16 @@ ghost use Rattle.imkl_delivery.specs.Steps.{Gives, Leaves, steps, told};
 ghost use Rattle.imkl_delivery.specs.Document.{Written};
 ghost use Rattle.imkl_delivery.specs.Seen.{Writes, WritesAll};
 ghost use Rattle.imkl_delivery.specs.Loading.{named, featured, fault_place, loaded, describes_population};
+ghost use Rattle.imkl_delivery.specs.Named.{written_requirements};
 ghost use Rattle.imkl_delivery.specs.Description.{Answers, IsTree, IsRefusal};
 
 use crate::document::{document_of, entry_of};
 use crate::fault::DeliveryFault;
 use crate::features::{put_features, told};
 use imkl_model::ClassModel;
-use imkl_population::{ObjectNo, Population, PopulationBuilder, PopulationFault};
+use imkl_population::{
+    ObjectNo, Population, PopulationBuilder, PopulationFault, RequiredFeatures, Side,
+};
 use serde_json::Value;
 use std::alloc::Global;
 
@@ -71,13 +74,16 @@ fn write(
     alloc: Global,
     object: ObjectNo,
     value: &Value,
+    required: &mut RequiredFeatures<'_>,
 ) -> Result<(), DeliveryFault>
-    requires { object < length builder.old.objects }
+    requires object { object < length builder.old.objects }
+    requires required { required.old ≡ written_requirements builder.old.model }
     ensures leaves { (ws : List Written) → Writes ws object (view value.now) → Leaves result (featured ws object builder.old) builder.new }
     ensures kept { KeepsObjects builder.old builder.new }
+    ensures same { required.new ≡ required.old }
 {
     let entry = entry_of(value)?;
-    put_features(builder, alloc, object, entry.features)
+    put_features(builder, alloc, object, entry.features, required)
 }
 
 /// Writes on all objects.
@@ -85,14 +91,17 @@ fn write_all(
     builder: &mut PopulationBuilder<'_>,
     alloc: Global,
     values: &[Value],
+    required: &mut RequiredFeatures<'_>,
 ) -> Result<(), DeliveryFault>
-    requires { length values.now ≤ length builder.old.objects }
+    requires objects { length values.now ≤ length builder.old.objects }
+    requires required { required.old ≡ written_requirements builder.old.model }
     ensures leaves { (ws : List Written) → WritesAll ws (map view values.now) → Leaves result (steps (featured ws) (length ws) builder.old) builder.new }
     ensures kept { KeepsObjects builder.old builder.new }
+    ensures same { required.new ≡ required.old }
 {
     'values: for place in 0..values.len() {
         let object = ObjectNo::new(place);
-        let written = write(builder, alloc, object, &values[place]);
+        let written = write(builder, alloc, object, &values[place], required);
         if written.is_err() {
             return written;
         }
@@ -124,7 +133,8 @@ fn population_of<'m>(
 {
     let mut builder = PopulationBuilder::new(alloc, model);
     add_all(&mut builder, values)?;
-    write_all(&mut builder, alloc, values)?;
+    let mut required = RequiredFeatures::new(alloc, model, Side::Written);
+    write_all(&mut builder, alloc, values, &mut required)?;
     match builder.finish() {
         Ok(population) => Ok(population),
         Err(fault) => Err(finished_fault(fault)),

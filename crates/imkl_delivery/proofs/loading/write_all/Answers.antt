@@ -9,6 +9,7 @@ use Rattle.imkl_delivery.proofs.loading.write_all.Goals as goal
 pub values-init : goal.values-init
 values-init c = record {
   kept = record { model = refl; count = refl };
+  same = refl;
   made = λ ws all. begins (featured ws) c.args.builder.now;
 }
 
@@ -24,6 +25,7 @@ returns-then-is_err-clause-leaves c =
 pub values-preserved : goal.values-preserved
 values-preserved c = record {
   kept = record { model = c.write-written.ensures.kept.model ∙ c.values.invariant.kept.model; count = c.write-written.ensures.kept.count ∙ c.values.invariant.kept.count };
+  same = c.write-written.ensures.same ∙ c.values.invariant.same;
   made = λ ws all.
       let i = c.values.place in
       let here = each_there object_at view c.args.values.now ws i c.index-values-place.result nothing_written all c.values-test.true c.index-values-place.is in

@@ -10,5 +10,6 @@ use Rattle.imkl_delivery.proofs.loading.write_all.Given as goal
 abbrev pub invariant-values : goal.invariant-values
 invariant-values l = record {
   kept : KeepsObjects l.initial.builder l.builder;
+  same : l.required ≡ l.initial.required;
   made : (ws : List Written) → WritesAll ws (map view l.values) → steps (featured ws) l.place l.initial.builder ≡ Ok l.builder;
 }
