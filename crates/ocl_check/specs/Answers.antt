@@ -16,7 +16,10 @@ use Rattle.rule_code.specs.Content.{Content}
 use Rattle.rule_code.specs.CodeFile.{Located, unit_of}
 use Rattle.ocl_check.specs.declared.outcome.Outcome.{Outcome}
 use Rattle.ocl_check.specs.declared.outcome.Outcome.TheVariants.{Status, Failed}
-use Rattle.ocl_check.specs.declared.outcome.Cause.TheVariants.{Write}
+use Rattle.ocl_check.specs.declared.input.InputFault.{InputFault}
+use Rattle.ocl_check.specs.declared.input.InputFault.TheVariants as input
+use Rattle.ocl_check.specs.declared.outcome.Cause.{Cause}
+use Rattle.ocl_check.specs.declared.outcome.Cause.TheVariants.{Memory, Read, Write}
 use Rattle.ocl_check.specs.Kinds.{Located as Misfit, first_fault}
 use Rattle.ocl_check.specs.Report.{report_of, status_of}
 use Rattle.ocl_check.specs.Reply.{Answer, refused_model, refused_delivery, refused_code, refused_verify}
@@ -75,3 +78,8 @@ IsAnswered told old new (Failed cause) = (n : ℕ) × Appends old new (take n to
 abbrev pub IsSaid : Bool → Outcome → Type 0
 IsSaid has_failed (Status s) = Unit {0}
 IsSaid has_failed (Failed cause) = (cause ≡ Write) × (has_failed ≡ true)
+
+-- what keeps a command from its answer where an input can't be had
+abbrev pub cause_of : InputFault → Cause
+cause_of input.Read = Read
+cause_of input.OutOfMemory = Memory

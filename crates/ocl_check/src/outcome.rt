@@ -1,9 +1,8 @@
 //! How a command ends.
 
-ghost use Rattle.std.specs.Prelude.{◌≡◌, ◌≢◌, true, false};
-ghost use Rattle.ocl_check.specs.declared.outcome.Cause.TheVariants as causes;
+ghost use Rattle.std.specs.Prelude.{◌≡◌, true, false};
 ghost use Rattle.ocl_check.specs.Reply.{said};
-ghost use Rattle.ocl_check.specs.Answers.{IsAnswered, IsSaid};
+ghost use Rattle.ocl_check.specs.Answers.{IsAnswered, IsSaid, cause_of};
 
 use crate::input::InputFault;
 use crate::reply::Reply;
@@ -30,7 +29,7 @@ pub enum Outcome {
 }
 
 impl From<InputFault> for Cause {
-    ghost from_gives = { λ _ c. c ≢ causes.Write };
+    ghost from_gives = { λ f c. c ≡ cause_of f };
 
     fn from(fault: InputFault) -> Cause {
         match fault {

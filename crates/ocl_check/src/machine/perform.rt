@@ -146,10 +146,7 @@ pub(super) fn instruct<'p>(
             operands.push(Value::Null)?;
             Ok(())
         }
-        Instr::Attr(symbol) => {
-            read_feature(linked, population, operands, symbol)?;
-            Ok(())
-        }
+        Instr::Attr(symbol) => read_feature(linked, population, operands, symbol),
         Instr::Lt => {
             let (second, first) = two(operands);
             operands.push(less_than(&first, &second))?;

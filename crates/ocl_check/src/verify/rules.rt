@@ -1,6 +1,6 @@
 //! Judging the rules of a unit by their kinds.
 
-ghost use Rattle.std.specs.Prelude.{◌≡◌, ◌<◌, length, OnOk, slice_get, Some};
+ghost use Rattle.std.specs.Prelude.{◌≡◌, ◌<◌, ℕ, length, OnOk, slice_get, Some};
 ghost use Rattle.imkl_population.specs.Values.{is_single};
 ghost use Rattle.rule_code.specs.declared.instruction.Instr.TheVariants.{Attr};
 ghost use Rattle.ocl_check.specs.Kinds.{element_kind, feature_kind, effect, scope};
@@ -57,13 +57,12 @@ fn feature_kind(feature: &FeatureInfo) -> Kind
 /// The operands after a feature is read.
 fn read_feature(
     linked: &Linked<'_>,
-    context: ClassNo,
     operands: &mut Stack<Kind>,
     symbol: SymbolNumber,
 ) -> Result<(), Stop>
     requires operands { AreKnownKinds linked.now.model operands.old }
     requires symbol { symbol.0 < length linked.now.unit.symbols }
-    ensures comes { Comes (λ at. effect (scope linked.now.model linked.now.unit context) (Attr symbol) at operands.old) result operands.new }
+    ensures comes { (context : ℕ) → Comes (λ at. effect (scope linked.now.model linked.now.unit context) (Attr symbol) at operands.old) result operands.new }
     ensures known { OnOk result (AreKnownKinds linked.now.model operands.new) }
 {
     let Some(name) = linked.named(symbol) else {
@@ -109,7 +108,7 @@ fn instruct(
         Instr::Int(_) => apply(model, operands, &[], true, WHOLE_NUMBER),
         Instr::Bool(_) => apply(model, operands, &[], true, TRUTH),
         Instr::Null => apply(model, operands, &[], true, VOID),
-        Instr::Attr(symbol) => read_feature(linked, context, operands, symbol),
+        Instr::Attr(symbol) => read_feature(linked, operands, symbol),
         Instr::Lt => apply(model, operands, &[WHOLE_NUMBER, WHOLE_NUMBER], true, TRUTH),
         Instr::Ge => apply(model, operands, &[WHOLE_NUMBER, WHOLE_NUMBER], true, TRUTH),
         Instr::Not => apply(model, operands, &[TRUTH], true, TRUTH),

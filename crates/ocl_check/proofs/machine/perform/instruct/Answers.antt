@@ -1,4 +1,5 @@
 use Rattle.std.proofs.Common.{◌≡◌, [], ◌∷◌, Some, refl, sym, subst}
+use Rattle.std.proofs.lemmas.Result.{on_ok_weaker}
 use Rattle.rule_code.specs.declared.instruction.Instr.{Instr}
 use Rattle.rule_code.specs.declared.instruction.Instr.TheVariants as instrs
 use Rattle.ocl_check.specs.Kinds.{truth, whole_number}
@@ -17,7 +18,7 @@ two-second-requires-in-Ge c = operands_there c.args.linked.now.unit c.args.popul
 pub two-second-requires-in-And : goal.two-second-requires-in-And
 two-second-requires-in-And c = operands_there c.args.linked.now.unit c.args.population.now instrs.And c.args.instr (truth ∷ truth ∷ []) c.args.operands.now c.in-And.is refl c.requires.can
 
-pub returns-in_ok-read_feature-in-Attr : goal.returns-in_ok-read_feature-in-Attr
-returns-in_ok-read_feature-in-Attr c =
+pub returns-in-Attr : goal.returns-in-Attr
+returns-in-Attr c =
     let P : Instr → Type 0 = λ i. performed (setting_of c.args.linked.now.unit c.args.population.now) (object_variable c.args.object) i (all_meant c.args.operands.now) ≡ Some (all_meant c.read_feature.new.operands) in
-    subst P (sym c.in-Attr.is) (c.in_ok-read_feature-in-Attr.ensures (object_variable c.args.object))
+    on_ok_weaker c.read_feature.result (λ h. subst P (sym c.in-Attr.is) (h (object_variable c.args.object))) c.read_feature.ensures

@@ -7,4 +7,4 @@ use Rattle.ocl_check.proofs.verify.rules.instruct.Goals as goal
 pub returns-in-Attr-clause-comes : goal.returns-in-Attr-clause-comes
 returns-in-Attr-clause-comes c =
     let P : Instr → Type 0 = λ i. Comes (λ at. effect (scope c.args.linked.now.model c.args.linked.now.unit c.args.context) i at c.args.operands.now) c.read_feature.result c.read_feature.new.operands in
-    subst P (sym c.in-Attr.is) c.read_feature.ensures.comes
+    subst P (sym c.in-Attr.is) (c.read_feature.ensures.comes c.args.context)
