@@ -1,9 +1,8 @@
 -- The features of an object at which there is something to put.
-use Rattle.std.proofs.Common.{◌≡◌, ◌∙◌, ◌<◌, ◌==◌, ℕ, Bool, true, false, ◌&&◌, ◌||◌, List, Option, Some, None, is_some, Result, Ok, Err, length, map, nat_lt, Ordering, Less, Equal, Greater, refl, sym, ap, subst, All, IfSome, set, get_or, if◌then◌else◌}
+use Rattle.std.proofs.Common.{◌≡◌, ◌∙◌, ◌<◌, ◌==◌, ℕ, Bool, true, false, ◌&&◌, ◌||◌, List, Option, Some, None, is_some, Result, Ok, Err, length, map, nat_lt, Ordering, Less, Equal, Greater, refl, sym, ap, subst, IfSome, set, get_or, if◌then◌else◌}
 use Rattle.std.specs.Ordering.{nat_cmp, match_ordering}
 use Rattle.std.specs.Cmp.Lexicographic.{slice_cmp}
 use Rattle.std.proofs.lemmas.Bool.{and_parts, or_parts, eqb-false}
-use Rattle.std.proofs.lemmas.List.Elements.{All-weaker}
 use Rattle.std.proofs.lemmas.Slice.Eq.{bytes_eq-Decides}
 use Rattle.std.proofs.lemmas.Map.Lookups.{exact_bytes}
 use Rattle.std.proofs.Math.Seq.{map-set_same}
@@ -23,9 +22,7 @@ use Rattle.imkl_population.specs.declared.required.Side.TheVariants as side
 use Rattle.imkl_population.specs.Population as population
 use Rattle.imkl_population.specs.Population.{Population, class_of, no_object}
 use Rattle.imkl_population.specs.Building.{unless, with_values, with_written}
-use Rattle.imkl_population.specs.Numbers.{places}
-use Rattle.imkl_population.specs.Required.{Requirements, is_on, is_required, is_one_of, with_required}
-use Rattle.imkl_population.proofs.Places.{Passes, places-pass}
+use Rattle.imkl_population.specs.Required.{is_on, is_required, is_one_of, with_required}
 use Rattle.imkl_delivery.specs.declared.fault.DeliveryFault.{DeliveryFault}
 use Rattle.imkl_delivery.specs.declared.fault.DeliveryFault.TheVariants.{UnknownFeature}
 use Rattle.imkl_delivery.specs.Steps.{◌>>=◌, found, at}
@@ -177,10 +174,3 @@ unfolding featured
 unnamed-featured ws o p none =
     let names : are_features p.model (class_of p o) (object_at ws o).features ≡ false = sym (named_is p.model (class_of p o) (object_at ws o).features) ∙ ap is_some none in
     rw names refl
-
--- each of them is a feature of the model
-pub visited-in_range : (r : Requirements) (c : ℕ) (fs : List ℕ) → All (λ f. f < length r.model.features) (with_required r c fs)
-visited-in_range r c fs =
-    let n = length r.model.features in
-    let asked : ℕ → Bool = λ f. is_required r c f || is_one_of fs f in
-    All-weaker (Passes asked n) (λ f. f < n) (λ f h. h.0) (places asked n) (places-pass asked n)

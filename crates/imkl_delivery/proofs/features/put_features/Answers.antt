@@ -7,7 +7,7 @@ use Rattle.imkl_population.specs.Required.{with_required}
 use Rattle.imkl_delivery.specs.Named.{written_requirements}
 use Rattle.imkl_delivery.specs.Loading.{put, featured}
 use Rattle.imkl_delivery.proofs.Walks.{walks_on, walk_stops, walk_ends}
-use Rattle.imkl_delivery.proofs.Passed.{walk-featured, unnamed-featured, visited-in_range}
+use Rattle.imkl_delivery.proofs.Passed.{walk-featured, unnamed-featured}
 use Rattle.imkl_delivery.proofs.features.put_features.Goals as goal
 
 pub returns-in_default-clause-leaves : goal.returns-in_default-clause-leaves
@@ -28,7 +28,7 @@ features-init c =
     let formed : IsClassModel m = subst IsClassModel c.model-model.ensures c.well_formed-2.ensures in
     record {
       kept = record { model = refl; count = refl };
-      in_range = rw listed (visited-in_range (written_requirements m) (class_of b o) fs);
+      in_range = rw c.deref-feature-items.ensures.value (rw c.requires.required at c.in_ok-features.ensures.known);
       left = λ ws same. rw listed (walk-featured ws o b fs formed (rw (same, ← c.model-model.ensures, ← c.class_of-class.ensures.class) (sym found)));
     }
 
