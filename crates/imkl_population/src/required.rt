@@ -107,7 +107,7 @@ impl<'m> RequiredFeatures<'m> {
         ensures { result ≡ is_required self.now class feature }
     {
         let info = self.model.feature_info(feature);
-        self.model.belongs(class, feature) && is_on(self.side, info.role) && 0 < info.lower
+        0 < info.lower && is_on(self.side, info.role) && self.model.belongs(class, feature)
     }
 
     /// The features that a class requires.

@@ -130,6 +130,13 @@ pub counted_within : (u : Content) (p : Population) (n fails undecided : ℕ) (b
     → fails ≡ fails_below u p n → undecided ≡ undecided_below u p n → bytes ≡ reports_below u p n → fails + undecided ≤ length bytes
 counted_within u p n fails undecided bytes f d b = omega (arith, f, d, ap length b, reports_of_counted u p n)
 
+-- with one rule more too
+pub counted_next : (u : Content) (p : Population) (r fails undecided : ℕ) (t : Tally) (here after : List ℕ)
+    → fails ≡ fails_below u p r → undecided ≡ undecided_below u p r → here ≡ reports_below u p r → t ≡ tally_of (verdicts u p r) → after ≡ here ++ rule_report u p r
+    → fails + t.fails + (undecided + t.undecided) ≤ length after
+counted_next u p r fails undecided t here after f d h is next =
+    counted_within u p (r + 1) (fails + t.fails) (undecided + t.undecided) after (fails_more u p r fails t f is) (undecided_more u p r undecided t d is) (reports_more u p r here after h next)
+
 pub status_is : (n s : ℕ) → (n ≡ 0 → s ≡ 0) → (¬ (n ≡ 0) → s ≡ 1) → s ≡ status_by n
 status_is zero s none some = none refl
 status_is (suc n) s none some = some (λ e. omega (arith, e))
