@@ -17,13 +17,14 @@ use Rattle.imkl_population.specs.declared.scalar.Scalar.TheVariants as scalar
 use Rattle.imkl_population.specs.Numbers.{first_of, or_else}
 use Rattle.imkl_population.specs.Population.{Population, object_at, class_of, written_at, values_of, values_by, opposite_end}
 use Rattle.imkl_population.specs.Values.{is_attribute, is_opposite, is_of_type, is_target_of, is_unique, is_over, repeats}
+use Rattle.imkl_population.specs.Written.{is_set}
 use Rattle.imkl_population.specs.Building.{bounds_fault}
 use Rattle.imkl_population.specs.Draft.{IsDraft, is_sound}
 use Rattle.imkl_population.specs.Finishing.{gap, end_fault, first_fault}
 use Rattle.imkl_population.specs.Consistency.{IsConsistent}
 use Rattle.imkl_population.proofs.EndLaws.{values_written}
 use Rattle.imkl_population.proofs.Holders.{holders_all, holders_apart}
-use Rattle.imkl_population.proofs.Soundness.{AreTargets, sound_in, values_sound, targets_sound, end_within}
+use Rattle.imkl_population.proofs.Soundness.{AreTargets, sound_in, unset_in, values_sound, targets_sound, end_within}
 
 neither : {A : Type 0} (a b : Option A) → or_else a b ≡ None → (a ≡ None) × (b ≡ None)
 neither None b h = (refl, h)
@@ -61,11 +62,23 @@ bounds_nought i o f h = rw (h, none_over i.upper) refl
 
 module _ (p : Population) (ids : List ℕ → Option ℕ) (draft : IsDraft p ids) (known : IsClassModel p.model) (gaps : first_fault gap p ≡ None) (ends : first_fault end_fault p ≡ None) where
   written_sound : (o f : ℕ) → o < length p.objects → (written_at p o f ≡ []) ⊎ (is_sound p o (f, written_at p o f) ≡ true)
-  written_sound o f lt = sound_in p o f (object_at p o).written (draft.sound o lt)
+  written_sound o f lt =
+      elim (cases_Bool (is_set (object_at p o).written f)) [
+        | inl set ↦ inr (sound_in p o f (object_at p o).written (draft.sound o lt) set)
+        | inr unset ↦ inl (unset_in (object_at p o).written f unset)
+      ]
+
+  set_where : (o f : ℕ) → o < length p.objects → is_set (object_at p o).written f ≡ true → (belongs p.model (class_of p o) f ≡ true) × (is_opposite (feature_at p.model f).role ≡ false)
+  set_where o f lt set =
+      let sound : is_sound p o (f, written_at p o f) ≡ true = sound_in p o f (object_at p o).written (draft.sound o lt) set in
+      elim (cases_Bool (is_attribute (feature_at p.model f).role)) [
+        | inl a ↦ ((values_sound p o f (written_at p o f) a sound).belongs_so, attribute_written (feature_at p.model f).role a)
+        | inr a ↦ let s = targets_sound p o f (written_at p o f) a sound in (s.belongs_so, s.underived)
+      ]
 
   -- ---- attributes
 
-  typed : (o f : ℕ) → o < length p.objects → is_attribute (feature_at p.model f).role ≡ true → list_all (is_of_type (feature_at p.model f).element) (values_of p o f) ≡ true
+  typed : (o f : ℕ) → o < length p.objects → is_attribute (feature_at p.model f).role ≡ true → list_all (is_of_type p.model (feature_at p.model f).element) (values_of p o f) ≡ true
   typed o f lt a =
       rw (values_written p o f (attribute_written (feature_at p.model f).role a)) (elim (written_sound o f lt) [
         | inl e ↦ rw e refl
@@ -152,9 +165,11 @@ module _ (p : Population) (ids : List ℕ → Option ℕ) (draft : IsDraft p ids
     concrete = draft.concrete;
     formed = draft.formed;
     distinct = draft.distinct;
-    typed = λ o f lt b a. typed o f lt a;
-    joined = λ o f lt b a. joined_by o f lt (feature_at p.model f).role refl a;
-    apart = λ o f lt b u. elim (cases_Bool (is_attribute (feature_at p.model f).role)) [
+    owned = λ o f lt set. (set_where o f lt set).0;
+    underived = λ o f lt set. (set_where o f lt set).1;
+    typed = typed;
+    joined = λ o f lt a. joined_by o f lt (feature_at p.model f).role refl a;
+    apart = λ o f lt u. elim (cases_Bool (is_attribute (feature_at p.model f).role)) [
       | inl a ↦ unique_values o f lt a u
       | inr a ↦ apart_by o f lt (feature_at p.model f).role refl a
     ];

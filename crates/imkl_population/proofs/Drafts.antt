@@ -1,6 +1,6 @@
 -- What a builder keeps, after an object is added and after values are set.
-use Rattle.std.proofs.Common.{◌≡◌, ℕ, suc, ◌==◌, ◌<◌, ◌≤◌, Bool, true, false, ◌&&◌, not, cond, List, [], ◌∷◌, ◌++◌, length, Option, Some, None, refl, sym, ap, subst, ◌∙◌, bytes_eq, arith, if◌then◌else◌, is_none, is_some, get_or, set, inl, inr, nat_lt, length-append, Ordering, Less, Equal, Greater}
-use Rattle.std.proofs.lemmas.Bool.{false≢true, and_parts, and_from, cases_eq, ne_eqb}
+use Rattle.std.proofs.Common.{◌≡◌, ℕ, ◌==◌, ◌<◌, ◌≤◌, Bool, true, false, ◌&&◌, not, cond, List, [], ◌∷◌, ◌++◌, length, Option, Some, None, refl, sym, ap, subst, ◌∙◌, bytes_eq, arith, if◌then◌else◌, is_none, is_some, get_or, set, inl, inr, nat_lt, length-append, Ordering, Less, Equal, Greater}
+use Rattle.std.proofs.lemmas.Bool.{false≢true, and_parts, and_from, cases_eq}
 use Rattle.std.proofs.lemmas.Bool.Decides.{leb_tells}
 use Rattle.std.proofs.lemmas.List.{get_or_default, get_or-set_same, get_or-set_other, length-set}
 use Rattle.std.proofs.Math.ListN.{get_or-append}
@@ -23,7 +23,7 @@ use Rattle.imkl_population.specs.Population.{Population, object_at, class_of, no
 use Rattle.imkl_population.specs.Values.{is_target_of, is_attribute, is_opposite, repeats}
 use Rattle.imkl_population.specs.Building.{is_id, bounds_fault, with_written}
 use Rattle.imkl_population.specs.Draft.{IsDraft, is_sound, entry_fault_by}
-use Rattle.imkl_population.proofs.Bools.{list_all-weaker}
+use Rattle.imkl_population.proofs.Bools.{list_all-weaker, list_all-none}
 use Rattle.imkl_population.proofs.Ids.{object_of-push, absent_differs, object_from-set}
 
 abbrev of : Model → List Object → Population
@@ -196,12 +196,11 @@ draft-put m os o f vs ids inside draft sound =
 
 -- nothing but nothing is at an end without a class
 pub no_targets : (p : Population) (t : ElementType) (vs : List Scalar) → ((c : ℕ) → t ≡ element.Class c → ⊥) → (length vs == 0) ≡ list_all (is_target_of p t) vs
-no_targets p t [] none = refl
-no_targets p (element.Class c) (v ∷ vs) none = absurd (none c refl)
-no_targets p element.Boolean (v ∷ vs) none = ne_eqb (suc (length vs)) 0 (λ e. absurd (omega arith))
-no_targets p element.Integer (v ∷ vs) none = ne_eqb (suc (length vs)) 0 (λ e. absurd (omega arith))
-no_targets p element.String (v ∷ vs) none = ne_eqb (suc (length vs)) 0 (λ e. absurd (omega arith))
-no_targets p (element.Enumeration e) (v ∷ vs) none = ne_eqb (suc (length vs)) 0 (λ e. absurd (omega arith))
+no_targets p (element.Class c) vs none = absurd (none c refl)
+no_targets p element.Boolean vs none = list_all-none (is_target_of p element.Boolean) (λ v. refl) vs
+no_targets p element.Integer vs none = list_all-none (is_target_of p element.Integer) (λ v. refl) vs
+no_targets p element.String vs none = list_all-none (is_target_of p element.String) (λ v. refl) vs
+no_targets p (element.Enumeration e) vs none = list_all-none (is_target_of p (element.Enumeration e)) (λ v. refl) vs
 
 -- the same, for an object found by its place
 pub draft-written : (m : Model) (os : List Object) (at o f n : ℕ) (vs : List Scalar) (slot : Object) (w : List (ℕ × List Scalar)) (ids : List ℕ → Option ℕ) → at ≡ o → n ≡ f → o < length os

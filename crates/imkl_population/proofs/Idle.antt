@@ -1,9 +1,5 @@
 -- Features at which nothing can be wrong when a population is finished.
-use Rattle.std.proofs.Common.{◌≡◌, ℕ, ◌<◌, Bool, true, false, ◌&&◌, ◌||◌, not, List, [], length, get_or, Option, Some, None, nat_lt, is_some, refl, sym, ap, ◌∙◌, arith, if◌then◌else◌}
-use Rattle.std.specs.Prelude.{unwrap_or}
-use Rattle.std.specs.Map.{lookup}
-use Rattle.std.specs.Ordering.{nat_cmp}
-use Rattle.std.specs.BTreeMap.{is_at}
+use Rattle.std.proofs.Common.{◌≡◌, ℕ, ◌<◌, Bool, true, false, ◌&&◌, ◌||◌, not, List, [], length, get_or, Option, Some, None, nat_lt, refl, sym, ap, ◌∙◌, arith, if◌then◌else◌}
 use Rattle.std.proofs.lemmas.Bool.{false≢true, lt-ltb, ltb-true, le-ltb, or_parts}
 use Rattle.std.proofs.lemmas.List.{get_or_default}
 use Rattle.imkl_model.specs.declared.feature.FeatureInfo.{FeatureInfo}
@@ -21,6 +17,7 @@ use Rattle.imkl_population.specs.Written.{is_set}
 use Rattle.imkl_population.proofs.EndLaws.{ends_values}
 use Rattle.imkl_population.proofs.Firsts.{first_in, first_in-places}
 use Rattle.imkl_population.proofs.Orders.{one_of-places}
+use Rattle.imkl_population.proofs.Soundness.{unset_in}
 
 abbrev pub written_side : Population → Requirements
 written_side p = record { model = p.model; side = Written }
@@ -43,10 +40,6 @@ no_gap p o f fs idle =
     none_by (belongs p.model (class_of p o) f) (not (is_opposite i.role)) (nat_lt 0 i.lower) (nat_lt n i.lower) _
     (λ h. lt-ltb 0 i.lower (omega (arith, ltb-true n i.lower h))) (or_parts (is_required (written_side p) (class_of p o) f) (is_one_of fs f) idle).0
 
-unset_by : (r : Option (List Scalar)) → is_some r ≡ false → unwrap_or r [] ≡ []
-unset_by None h = refl
-unset_by (Some vs) h = absurd (false≢true (sym h))
-
 over_none : (upper : Option ℕ) → is_over upper 0 ≡ false
 over_none None = refl
 over_none (Some u) = le-ltb u 0 (omega arith)
@@ -66,7 +59,7 @@ no_end_fault p ends are o f held inside within set idle =
     let parts = or_parts (is_required (opposite_side p) (class_of p o) f) (is_one_of held f) idle in
     let unset : is_set w f ≡ false = sym (one_of-places (is_set w) (length p.model.features) f within) ∙ ap (λ (l : List ℕ). is_one_of l f) (sym set) ∙ parts.1 in
     end_by (belongs p.model (class_of p o) f) (is_opposite i.role) (nat_lt 0 i.lower) i o f (length (values_of p o f)) refl parts.0
-    (λ end. ap length (sym (ends_values p ends are o f inside end) ∙ unset_by (lookup (is_at (nat_cmp f)) w) unset))
+    (λ end. ap length (sym (ends_values p ends are o f inside end) ∙ unset_in w f unset))
 
 -- the first gap of an object is the first at what its class requires
 pub first_gap_in : (p : Population) (o : ℕ) (r : Requirements) (c : ℕ) (fs items : List ℕ) → r ≡ written_side p → c ≡ class_of p o → items ≡ with_required r c fs → first_in (gap p o) items ≡ first_of (gap p o) (length p.model.features)

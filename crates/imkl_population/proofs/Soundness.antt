@@ -1,5 +1,5 @@
 -- What is written at a feature of a draft: nothing, or values without a fault.
-use Rattle.std.proofs.Common.{◌≡◌, ◌⊎◌, ℕ, ◌<◌, Bool, true, false, ◌&&◌, not, cond, List, [], ◌∷◌, length, Option, Some, None, refl, sym, ap, subst, ◌∙◌, if◌then◌else◌, is_none, inl, inr}
+use Rattle.std.proofs.Common.{◌≡◌, ℕ, ◌<◌, Bool, true, false, ◌&&◌, not, cond, List, [], ◌∷◌, length, Option, Some, None, refl, sym, ap, subst, ◌∙◌, if◌then◌else◌, is_none, is_some, inl, inr}
 use Rattle.std.specs.Prelude.{unwrap_or}
 use Rattle.std.specs.List.{list_all}
 use Rattle.std.specs.Map.{lookup}
@@ -15,35 +15,44 @@ use Rattle.imkl_model.specs.ClassModel.{Model, feature_at, belongs, no_feature}
 use Rattle.imkl_population.specs.declared.fault.PopulationFault.{PopulationFault}
 use Rattle.imkl_population.specs.declared.fault.PopulationFault.TheVariants.{WrongFeature, WrongKind, WrongClass, DuplicateTarget, Derived}
 use Rattle.imkl_population.specs.declared.scalar.Scalar.{Scalar}
-use Rattle.imkl_population.specs.Written.{written_in}
+use Rattle.imkl_population.specs.Written.{written_in, is_set}
 use Rattle.imkl_population.specs.Population.{Population, class_of}
 use Rattle.imkl_population.specs.Values.{is_attribute, is_opposite, is_of_type, is_target_of, is_unique, repeats}
 use Rattle.imkl_population.specs.Building.{bounds_fault, value_fault, link_fault}
 use Rattle.imkl_population.specs.Draft.{is_sound, entry_fault_by}
 
 sound_here : (p : Population) (o f k : ℕ) (b : Bool) (vs : List Scalar) (r : Option (List Scalar)) → is_eq (nat_cmp f k) ≡ b → is_sound p o (k, vs) ≡ true
-    → (unwrap_or r [] ≡ []) ⊎ (is_sound p o (f, unwrap_or r []) ≡ true)
-    → (unwrap_or (cond b (Some vs) r) [] ≡ []) ⊎ (is_sound p o (f, unwrap_or (cond b (Some vs) r) []) ≡ true)
-sound_here p o f k true vs r e sound later =
+    → (is_some r ≡ true → is_sound p o (f, unwrap_or r []) ≡ true)
+    → is_some (cond b (Some vs) r) ≡ true → is_sound p o (f, unwrap_or (cond b (Some vs) r) []) ≡ true
+sound_here p o f k true vs r e sound later set =
     let same : k ≡ f = sym (nat_cmp-IsAntisymmetric f k ((Equal-is (nat_cmp f k)).0 e)) in
-    inr (subst (λ (n : ℕ). is_sound p o (n, vs) ≡ true) same sound)
-sound_here p o f k false vs r e sound later = later
+    subst (λ (n : ℕ). is_sound p o (n, vs) ≡ true) same sound
+sound_here p o f k false vs r e sound later set = later set
 
--- where each entry is sound, so is what is found at a feature
-pub sound_in : (p : Population) (o f : ℕ) (w : List (ℕ × List Scalar)) → list_all (is_sound p o) w ≡ true → (written_in w f ≡ []) ⊎ (is_sound p o (f, written_in w f) ≡ true)
-sound_in p o f [] h = inl refl
-sound_in p o f (e ∷ w) h =
+-- where each entry is sound, so is what is set at a feature
+pub sound_in : (p : Population) (o f : ℕ) (w : List (ℕ × List Scalar)) → list_all (is_sound p o) w ≡ true → is_set w f ≡ true → is_sound p o (f, written_in w f) ≡ true
+sound_in p o f [] h set = absurd (false≢true set)
+sound_in p o f (e ∷ w) h set =
     let parts = and_parts (is_sound p o e) (list_all (is_sound p o) w) h in
-    sound_here p o f e.0 (is_eq (nat_cmp f e.0)) e.1 (lookup (is_at (nat_cmp f)) w) refl parts.0 (sound_in p o f w parts.1)
+    sound_here p o f e.0 (is_eq (nat_cmp f e.0)) e.1 (lookup (is_at (nat_cmp f)) w) refl parts.0 (sound_in p o f w parts.1) set
+
+-- what is not set reads as no values
+pub unset_in : (w : List (ℕ × List Scalar)) (f : ℕ) → is_set w f ≡ false → written_in w f ≡ []
+unset_in w f = unset_by (lookup (is_at (nat_cmp f)) w)
+  where
+    unset_by : (r : Option (List Scalar)) → is_some r ≡ false → unwrap_or r [] ≡ []
+    unset_by None h = refl
+    unset_by (Some vs) h = absurd (false≢true (sym h))
 
 pub record AreValues (p : Population) (o f : ℕ) (vs : List Scalar) : Type 0 where
   pub belongs_so : belongs p.model (class_of p o) f ≡ true
-  pub typed : list_all (is_of_type (feature_at p.model f).element) vs ≡ true
+  pub typed : list_all (is_of_type p.model (feature_at p.model f).element) vs ≡ true
   pub apart : (is_unique (feature_at p.model f) && repeats vs) ≡ false
   pub bounded : bounds_fault (feature_at p.model f) o f (length vs) ≡ None
 
 pub record AreTargets (p : Population) (o f : ℕ) (vs : List Scalar) : Type 0 where
   pub belongs_so : belongs p.model (class_of p o) f ≡ true
+  pub underived : is_opposite (feature_at p.model f).role ≡ false
   pub joined : list_all (is_target_of p (feature_at p.model f).element) vs ≡ true
   pub apart : repeats vs ≡ false
   pub bounded : bounds_fault (feature_at p.model f) o f (length vs) ≡ None
@@ -61,19 +70,19 @@ value_parts true true false q h = (refl, refl, refl, none_is q h)
 
 link_parts : (a d t r : Bool) (q : Option PopulationFault)
     → is_none (if not a then Some WrongFeature else (if d then Some Derived else (if not t then Some WrongClass else (if r then Some DuplicateTarget else q)))) ≡ true
-    → (a ≡ true) × (t ≡ true) × (r ≡ false) × (q ≡ None)
+    → (a ≡ true) × (d ≡ false) × (t ≡ true) × (r ≡ false) × (q ≡ None)
 link_parts false d t r q h = absurd (false≢true h)
 link_parts true true t r q h = absurd (false≢true h)
 link_parts true false false r q h = absurd (false≢true h)
 link_parts true false true true q h = absurd (false≢true h)
-link_parts true false true false q h = (refl, refl, refl, none_is q h)
+link_parts true false true false q h = (refl, refl, refl, refl, none_is q h)
 
 -- what a sound entry of an attribute, and of an end, has
 pub values_sound : (p : Population) (o f : ℕ) (vs : List Scalar) → is_attribute (feature_at p.model f).role ≡ true → is_sound p o (f, vs) ≡ true → AreValues p o f vs
 values_sound p o f vs a h =
     let i : FeatureInfo = feature_at p.model f in
     let sound : is_none (value_fault p o f i vs) ≡ true = subst (λ (b : Bool). is_none (entry_fault_by b p o f i vs) ≡ true) a h in
-    let parts = value_parts (belongs p.model (class_of p o) f && is_attribute i.role) (list_all (is_of_type i.element) vs) (is_unique i && repeats vs) (bounds_fault i o f (length vs)) sound in
+    let parts = value_parts (belongs p.model (class_of p o) f && is_attribute i.role) (list_all (is_of_type p.model i.element) vs) (is_unique i && repeats vs) (bounds_fault i o f (length vs)) sound in
     record { belongs_so = (and_parts (belongs p.model (class_of p o) f) (is_attribute i.role) parts.0).0; typed = parts.1; apart = parts.2; bounded = parts.3 }
 
 pub targets_sound : (p : Population) (o f : ℕ) (vs : List Scalar) → is_attribute (feature_at p.model f).role ≡ false → is_sound p o (f, vs) ≡ true → AreTargets p o f vs
@@ -81,7 +90,7 @@ targets_sound p o f vs a h =
     let i : FeatureInfo = feature_at p.model f in
     let sound : is_none (link_fault p o f i vs) ≡ true = subst (λ (b : Bool). is_none (entry_fault_by b p o f i vs) ≡ true) a h in
     let parts = link_parts (belongs p.model (class_of p o) f && not (is_attribute i.role)) (is_opposite i.role) (list_all (is_target_of p i.element) vs) (repeats vs) (bounds_fault i o f (length vs)) sound in
-    record { belongs_so = (and_parts (belongs p.model (class_of p o) f) (not (is_attribute i.role)) parts.0).0; joined = parts.1; apart = parts.2; bounded = parts.3 }
+    record { belongs_so = (and_parts (belongs p.model (class_of p o) f) (not (is_attribute i.role)) parts.0).0; underived = parts.1; joined = parts.2; apart = parts.3; bounded = parts.4 }
 
 -- a feature that has another role than an attribute is one of the model
 pub end_within : (m : Model) (f : ℕ) → is_attribute (feature_at m f).role ≡ false → f < length m.features

@@ -80,7 +80,7 @@ bounds_fault i o f n = if nat_lt n i.lower then Some (TooFew o f) else (if is_ov
 abbrev pub value_fault : Population → ℕ → ℕ → FeatureInfo → List Scalar → Option PopulationFault
 value_fault p o f i vs =
     if not (belongs p.model (class_of p o) f && is_attribute i.role) then Some WrongFeature
-    else (if not (list_all (is_of_type i.element) vs) then Some WrongKind
+    else (if not (list_all (is_of_type p.model i.element) vs) then Some WrongKind
     else (if is_unique i && repeats vs then Some DuplicateTarget
     else bounds_fault i o f (length vs)))
 

@@ -9,18 +9,23 @@ use Rattle.imkl_model.specs.declared.feature.CollectionKind.TheVariants.{Set, Or
 use Rattle.imkl_model.specs.declared.feature.FeatureInfo.{FeatureInfo}
 use Rattle.imkl_model.specs.declared.feature.Role.{Role}
 use Rattle.imkl_model.specs.declared.feature.Role.TheVariants.{Attribute, SourceEnd, OppositeEnd}
-use Rattle.imkl_model.specs.ClassModel.{conforms}
+use Rattle.imkl_model.specs.ClassModel.{Model, enumeration_at, conforms}
 use Rattle.imkl_population.specs.declared.scalar.Scalar.{Scalar}
 use Rattle.imkl_population.specs.declared.scalar.Scalar.TheVariants as scalar
 use Rattle.imkl_population.specs.Population.{Population, class_of}
 
+-- a value is a literal of an enumeration that has so many
+abbrev pub is_literal_of : ℕ → ℕ → Scalar → Bool
+is_literal_of e literals (scalar.Literal d l) = d == e && nat_lt l literals
+is_literal_of e literals v = false
+
 -- a value is of an attribute's type
-abbrev pub is_of_type : ElementType → Scalar → Bool
-is_of_type element.Boolean (scalar.Bool b) = true
-is_of_type element.Integer (scalar.Int n) = true
-is_of_type element.String (scalar.Text t) = true
-is_of_type (element.Enumeration e) (scalar.Literal d l) = d == e
-is_of_type t v = false
+abbrev pub is_of_type : Model → ElementType → Scalar → Bool
+is_of_type m element.Boolean (scalar.Bool b) = true
+is_of_type m element.Integer (scalar.Int n) = true
+is_of_type m element.String (scalar.Text t) = true
+is_of_type m (element.Enumeration e) v = is_literal_of e (length (enumeration_at m e).literals) v
+is_of_type m t v = false
 
 -- a value is an object whose class conforms to an end's class
 abbrev pub is_target_of : Population → ElementType → Scalar → Bool

@@ -174,11 +174,12 @@ impl<'m> PopulationBuilder<'m> {
         requires feature { feature < length self.now.model.features }
         ensures { IfOk result (λ fault. fault ≡ value_fault self.now object feature (feature_at self.now.model feature) values.now) }
     {
+        self.model.well_formed();
         let info = self.model.feature_info(feature);
         if !(self.model.belongs(self.class_of(object), feature) && is_attribute(info.role)) {
             return Ok(Some(PopulationFault::WrongFeature));
         }
-        if !are_of_type(info.element, values) {
+        if !are_of_type(self.model, info.element, values) {
             return Ok(Some(PopulationFault::WrongKind));
         }
         if is_unique(info) && repeats(self.alloc, values)? {

@@ -2,13 +2,13 @@
 
 ghost use Rattle.std.specs.Prelude.{◌≡◌, ◌<◌, ◌≤◌, ◌&&◌, ◌||◌, true, ℕ, not, length, Option, map, slice_index_or};
 ghost use Rattle.std.specs.List.{list_all};
-ghost use Rattle.imkl_population.specs.Values.{is_of_type, is_attribute, is_opposite, is_single, is_unique_kind, is_unique, is_over, same_scalar};
+ghost use Rattle.imkl_population.specs.Values.{is_literal_of, is_of_type, is_attribute, is_opposite, is_single, is_unique_kind, is_unique, is_over, same_scalar};
 ghost use Rattle.imkl_population.specs.Building.{is_id_byte, is_id, bounds_fault};
 
 use crate::fault::PopulationFault;
 use crate::numbers::ObjectNo;
 use crate::scalar::Scalar;
-use imkl_model::{CollectionKind, ElementType, EnumNo, FeatureInfo, FeatureNo, Role};
+use imkl_model::{ClassModel, CollectionKind, ElementType, EnumNo, FeatureInfo, FeatureNo, Role};
 
 fn is_id_byte(b: u8) -> bool
     ensures { result ≡ is_id_byte b }
@@ -29,33 +29,33 @@ pub(crate) fn is_id(id: &str) -> bool
     !id.is_empty() && id.len() <= 128 && are_id_bytes(id.as_bytes())
 }
 
-fn is_literal_of(enumeration: EnumNo, value: &Scalar) -> bool
-    ensures { result ≡ is_of_type (ElementType.Enumeration enumeration) value.now }
+/// Whether a value is a literal of an enumeration that has so many.
+fn is_literal_of(enumeration: EnumNo, literals: usize, value: &Scalar) -> bool
+    ensures { result ≡ is_literal_of enumeration literals value.now }
 {
     match value {
-        Scalar::Literal(e, _) => e.place() == enumeration.place(),
+        Scalar::Literal(e, literal) => {
+            e.place() == enumeration.place() && literal.place() < literals
+        }
         _ => false,
     }
 }
 
-/// Whether a value is of an attribute's type.
-pub(crate) fn is_of_type(element: ElementType, value: &Scalar) -> bool
-    ensures { result ≡ is_of_type element value.now }
+/// Whether all values are of an attribute's type.
+pub(crate) fn are_of_type(model: &ClassModel, element: ElementType, values: &[Scalar]) -> bool
+    requires { (e : ℕ) → element ≡ ElementType.Enumeration e → e < length model.now.enumerations }
+    ensures { result ≡ list_all (is_of_type model.now element) values.now }
 {
     match element {
-        ElementType::Boolean => matches!(value, Scalar::Bool(_)),
-        ElementType::Integer => matches!(value, Scalar::Int(_)),
-        ElementType::String => matches!(value, Scalar::Text(_)),
-        ElementType::Enumeration(e) => is_literal_of(e, value),
-        ElementType::Class(_) => false,
+        ElementType::Boolean => values.iter().all(|v| matches!(v, Scalar::Bool(_))),
+        ElementType::Integer => values.iter().all(|v| matches!(v, Scalar::Int(_))),
+        ElementType::String => values.iter().all(|v| matches!(v, Scalar::Text(_))),
+        ElementType::Enumeration(e) => {
+            let literals = model.literal_count(e);
+            values.iter().all(|v| is_literal_of(e, literals, v))
+        }
+        ElementType::Class(_) => values.is_empty(),
     }
-}
-
-/// Whether all values are of an attribute's type.
-pub(crate) fn are_of_type(element: ElementType, values: &[Scalar]) -> bool
-    ensures { result ≡ list_all (is_of_type element) values.now }
-{
-    values.iter().all(|v| is_of_type(element, v))
 }
 
 pub(crate) fn is_attribute(role: Role) -> bool

@@ -6,7 +6,7 @@ use Rattle.imkl_model.specs.declared.feature.CollectionKind.{CollectionKind}
 use Rattle.imkl_model.specs.declared.feature.CollectionKind.TheVariants as collection
 use Rattle.imkl_model.specs.declared.feature.ElementType.{ElementType}
 use Rattle.imkl_model.specs.declared.feature.ElementType.TheVariants as type
-use Rattle.imkl_model.specs.ClassModel.{conforms}
+use Rattle.imkl_model.specs.ClassModel.{conforms, enumeration_at}
 use Rattle.imkl_population.specs.declared.scalar.Scalar.{Scalar}
 use Rattle.imkl_population.specs.declared.scalar.Scalar.TheVariants as scalar
 use Rattle.imkl_population.specs.Population.{Population, class_of}
@@ -121,11 +121,11 @@ conjunction_in p v w = by_tests (is_false v || is_false w) (is_true v && is_true
     by_tests false false = refl
 
 -- what stands at a feature is in its kind
-of_type_in : (p : Population) (t : ElementType) (v : Scalar) → is_of_type t v ≡ true → is_scalar_in p v (element_kind t) ≡ true
+of_type_in : (p : Population) (t : ElementType) (v : Scalar) → is_of_type p.model t v ≡ true → is_scalar_in p v (element_kind t) ≡ true
 of_type_in p type.Boolean (scalar.Bool b) h = refl
 of_type_in p type.Integer (scalar.Int n) h = refl
 of_type_in p type.String (scalar.Text t) h = refl
-of_type_in p (type.Enumeration e) (scalar.Literal d l) h = h
+of_type_in p (type.Enumeration e) (scalar.Literal d l) h = and_left (d == e) (nat_lt l (length (enumeration_at p.model e).literals)) h
 of_type_in p t v h = cc
 
 target_in : (p : Population) (t : ElementType) (v : Scalar) → is_target_of p t v ≡ true → is_scalar_in p v (element_kind t) ≡ true
@@ -136,8 +136,8 @@ single_in : (p : Population) (t : ElementType) (test : Scalar → Bool) (vs : Li
 single_in p t test [] each h = refl
 single_in p t test (v ∷ vs) each h = each v (and_left (test v) (list_all test vs) h)
 
-pub attribute_in : (p : Population) (t : ElementType) (vs : List Scalar) → list_all (is_of_type t) vs ≡ true → is_in p (single_value vs) (kind.Single (element_kind t)) ≡ true
-attribute_in p t vs h = single_in p t (is_of_type t) vs (of_type_in p t) h
+pub attribute_in : (p : Population) (t : ElementType) (vs : List Scalar) → list_all (is_of_type p.model t) vs ≡ true → is_in p (single_value vs) (kind.Single (element_kind t)) ≡ true
+attribute_in p t vs h = single_in p t (is_of_type p.model t) vs (of_type_in p t) h
 
 pub end_in : (p : Population) (t : ElementType) (vs : List Scalar) → list_all (is_target_of p t) vs ≡ true → is_in p (single_value vs) (kind.Single (element_kind t)) ≡ true
 end_in p t vs h = single_in p t (is_target_of p t) vs (target_in p t) h

@@ -79,12 +79,12 @@ pub record Gives (u : Content) (p : Population) (context : ℕ) (vs : List Value
   pub result_is : result_of (setting_of u p) vs i os ≡ Some value
   pub in_kind : is_in p value (gives p.model u context i) ≡ true
 
-feature_in : (p : Population) (o f : ℕ) → IsConsistent p → o < length p.objects → belongs p.model (class_of p o) f ≡ true → is_single (feature_at p.model f).upper ≡ true → is_in p (feature_value (feature_at p.model f) (values_of p o f)) (feature_kind (feature_at p.model f)) ≡ true
-feature_in p o f consistent there belonging single = rw single (by_role (is_attribute (feature_at p.model f).role) refl)
+feature_in : (p : Population) (o f : ℕ) → IsConsistent p → o < length p.objects → is_single (feature_at p.model f).upper ≡ true → is_in p (feature_value (feature_at p.model f) (values_of p o f)) (feature_kind (feature_at p.model f)) ≡ true
+feature_in p o f consistent there single = rw single (by_role (is_attribute (feature_at p.model f).role) refl)
   where
     by_role : (b : Bool) → is_attribute (feature_at p.model f).role ≡ b → is_in p (single_value (values_of p o f)) (kind.Single (element_kind (feature_at p.model f).element)) ≡ true
-    by_role true e = attribute_in p (feature_at p.model f).element (values_of p o f) (consistent.typed o f there belonging e)
-    by_role false e = end_in p (feature_at p.model f).element (values_of p o f) (consistent.joined o f there belonging e)
+    by_role true e = attribute_in p (feature_at p.model f).element (values_of p o f) (consistent.typed o f there e)
+    by_role false e = end_in p (feature_at p.model f).element (values_of p o f) (consistent.joined o f there e)
 
 one_there : (p : Population) (a : Kind) (os : List Value) → are_in p (a ∷ []) os ≡ true → (v : Value) × (rest : List Value) × (os ≡ v ∷ rest) × (is_in p v a ≡ true)
 one_there p a [] h = cc
@@ -106,7 +106,7 @@ reads p c f (value.Plain (scalar.Object x)) consistent belonging single h =
     let there = ltb-true x (length p.objects) (and_left (nat_lt x (length p.objects)) (conforms p.model (class_of p x) c) h) in
     let conforming = and_right (nat_lt x (length p.objects)) (conforms p.model (class_of p x) c) h in
     let its = conforms-trans p.model (class_of p x) c (feature_at p.model f).owner conforming belonging in
-    (feature_value (feature_at p.model f) (values_of p x f), rw its refl, feature_in p x f consistent there its single)
+    (feature_value (feature_at p.model f) (values_of p x f), rw its refl, feature_in p x f consistent there single)
 reads p c f v consistent belonging single h = cc
 
 pub performed_so : (s : Setting) (vs : List Value) (i : Instr) (os : List Value) (ws : List Kind) (v : Value) → takes s.model s.unit i ≡ Some ws → are_in s.population ws os ≡ true → result_of s vs i os ≡ Some v → performed s vs i os ≡ Some (v ∷ past ws os)
