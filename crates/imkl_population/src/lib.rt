@@ -7,6 +7,7 @@ mod ends;
 mod fault;
 mod finishing;
 mod instances;
+pub mod laws;
 mod layout;
 mod numbers;
 mod object;
