@@ -34,15 +34,15 @@ source_below p source o (suc n) =
     from_append o (pairs_below p source n) (pairs_of n (written_at p n source)) ∙
     elim (leb_tells n o) [
       | inr less ↦
-        let apart : (n == o) ≡ false = ne_eqb n o (λ e. absurd (omega (arith, e, less.1))) in
-        rw (source_below p source o n, from_one false n o here apart, lt-ltb o n less.1, lt-ltb o (suc n) (omega (arith, less.1))) (append-nil (targets (written_at p o source)))
+          let apart : (n == o) ≡ false = ne_eqb n o (λ e. absurd (omega (arith, e, less.1))) in
+          rw (source_below p source o n, from_one false n o here apart, lt-ltb o n less.1, lt-ltb o (suc n) (omega (arith, less.1))) (append-nil (targets (written_at p o source)))
       | inl le ↦ elim (leb_tells (suc n) o) [
         | inl later ↦
-          let apart : (n == o) ≡ false = ne_eqb n o (λ e. absurd (omega (arith, e, later.1))) in
-          rw (source_below p source o n, from_one false n o here apart, le-ltb o n le.1, le-ltb o (suc n) later.1) refl
+            let apart : (n == o) ≡ false = ne_eqb n o (λ e. absurd (omega (arith, e, later.1))) in
+            rw (source_below p source o n, from_one false n o here apart, le-ltb o n le.1, le-ltb o (suc n) later.1) refl
         | inr now ↦
-          let same : n ≡ o = omega (arith, le.1, now.1) in
-          rw (source_below p source o n, from_one true n o here (eq-eqb n o same), le-ltb o n le.1, lt-ltb o (suc n) now.1) (ap (λ (k : ℕ). targets (written_at p k source)) same)
+            let same : n ≡ o = omega (arith, le.1, now.1) in
+            rw (source_below p source o n, from_one true n o here (eq-eqb n o same), le-ltb o n le.1, lt-ltb o (suc n) now.1) (ap (λ (k : ℕ). targets (written_at p k source)) same)
       ]
     ]
 

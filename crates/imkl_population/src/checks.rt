@@ -13,7 +13,7 @@ use imkl_model::{ClassModel, CollectionKind, ElementType, EnumNo, FeatureInfo, F
 fn is_id_byte(b: u8) -> bool
     ensures { result ≡ is_id_byte b }
 {
-    matches!(b, 65..=90 | 97..=122 | 48..=57 | 45..=46 | 95..=95 | 58..=58)
+    matches!(b, b'A'..=b'Z' | b'a'..=b'z' | b'0'..=b'9' | b'-'..=b'.' | b'_' | b':')
 }
 
 fn are_id_bytes(id: &[u8]) -> bool
