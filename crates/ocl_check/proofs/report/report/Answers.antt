@@ -1,4 +1,4 @@
-use Rattle.std.proofs.Common.{◌+◌, string_bytes, arith}
+use Rattle.std.proofs.Common.{arith}
 use Rattle.ocl_check.proofs.Reports.{counted_within, counted_next}
 use Rattle.ocl_check.proofs.report.report.Goals as goal
 
