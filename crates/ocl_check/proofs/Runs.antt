@@ -20,7 +20,7 @@ use Rattle.ocl_check.specs.declared.verify.fault.Flaw.TheVariants as flaws
 use Rattle.ocl_check.specs.CodeTree.{Tree, End, Plain, size, tree_of}
 use Rattle.ocl_check.specs.Symbols.{named_at}
 use Rattle.ocl_check.specs.Known.{IsKnownName}
-use Rattle.ocl_check.specs.Stage.{names_single, is_of_this_stage}
+use Rattle.ocl_check.specs.Supported.{names_single, is_supported}
 use Rattle.ocl_check.specs.Kinds.{Refusal, ◌>>=◌, check, found, has, fit, past, takes, gives, holder_of, kind_read, feature_kind, element_kind, object_of, truth, whole_number, most_operands, Scope, scope, effect, kinds, judged, is_one_truth, context_of, rule_judged, first_of, first_fault_from, IsAccepted, rule_at, no_rule}
 use Rattle.ocl_check.specs.Value as value
 use Rattle.ocl_check.specs.Value.{Value, is_in}
@@ -54,20 +54,20 @@ pub record HasEffect (s : Scope) (i : Instr) (ks out : List Kind) : Type 0 where
   pub taken : List Kind
   pub takes_is : takes s.model s.unit i ≡ Some taken
   pub fitting : fit s.model taken ks ≡ true
-  pub of_this_stage : is_of_this_stage s.model s.unit i ≡ true
+  pub supported : is_supported s.model s.unit i ≡ true
   pub out_is : gives s.model s.unit s.context i ∷ past taken ks ≡ out
 
 pub effect_inv : (s : Scope) (i : Instr) (at : ℕ) (ks out : List Kind) → effect s i at ks ≡ Ok out → HasEffect s i ks out
 effect_inv s i at ks out e =
     let a = found_inv (takes s.model s.unit i) flaws.NoSuchName at _ out e in
     let b = check_inv (has a.0 ks) flaws.MissingOperand at _ out a.2 in
-    let c = check_inv (fit s.model a.0 ks && is_of_this_stage s.model s.unit i) flaws.WrongKind at _ out b.1 in
+    let c = check_inv (fit s.model a.0 ks && is_supported s.model s.unit i) flaws.WrongKind at _ out b.1 in
     let d = check_inv (nat_le (suc (length (past a.0 ks))) most_operands) flaws.StackLimit at _ out c.1 in
     record {
       taken = a.0;
       takes_is = a.1;
-      fitting = and_left (fit s.model a.0 ks) (is_of_this_stage s.model s.unit i) c.0;
-      of_this_stage = and_right (fit s.model a.0 ks) (is_of_this_stage s.model s.unit i) c.0;
+      fitting = and_left (fit s.model a.0 ks) (is_supported s.model s.unit i) c.0;
+      supported = and_right (fit s.model a.0 ks) (is_supported s.model s.unit i) c.0;
       out_is = ok_same _ _ d.1;
     }
 
@@ -129,28 +129,28 @@ module _ (u : Content) (p : Population) (context o : ℕ) (consistent : IsConsis
       (r.0, (operand.0, operand.1, operand.2, r.1), r.2)
   by_name a make os n ws is h are single = cc
 
-  gives_value : (i : Instr) (os : List Value) (ws : List Kind) → takes p.model u i ≡ Some ws → are_in p ws os ≡ true → is_of_this_stage p.model u i ≡ true → Gives u p context variables i os
-  gives_value instrs.SelfObject os ws t are stage =
+  gives_value : (i : Instr) (os : List Value) (ws : List Kind) → takes p.model u i ≡ Some ws → are_in p ws os ≡ true → is_supported p.model u i ≡ true → Gives u p context variables i os
+  gives_value instrs.SelfObject os ws t are supported =
       record { value = value.Plain (scalar.Object o); result_is = refl; in_kind = and_both (nat_lt o (length p.objects)) (conforms p.model (class_of p o) context) (lt-ltb o (length p.objects) there) inside }
-  gives_value (instrs.Int n) os ws t are stage = record { value = value.Plain (scalar.Int n); result_is = refl; in_kind = refl }
-  gives_value (instrs.Bool b) os ws t are stage = record { value = value.Plain (scalar.Bool b); result_is = refl; in_kind = refl }
-  gives_value instrs.Null os ws t are stage = record { value = value.Null; result_is = refl; in_kind = refl }
-  gives_value (instrs.Attr a) os ws t are stage =
-      let r = by_name a.0 (instrs.Attr a) os (named_at p.model u a.0) ws refl t are stage in
+  gives_value (instrs.Int n) os ws t are supported = record { value = value.Plain (scalar.Int n); result_is = refl; in_kind = refl }
+  gives_value (instrs.Bool b) os ws t are supported = record { value = value.Plain (scalar.Bool b); result_is = refl; in_kind = refl }
+  gives_value instrs.Null os ws t are supported = record { value = value.Null; result_is = refl; in_kind = refl }
+  gives_value (instrs.Attr a) os ws t are supported =
+      let r = by_name a.0 (instrs.Attr a) os (named_at p.model u a.0) ws refl t are supported in
       record { value = r.0; result_is = ap (result_of (setting_of u p) variables (instrs.Attr a)) r.1.2 ∙ r.1.3; in_kind = r.2 }
-  gives_value instrs.Lt os ws t are stage =
+  gives_value instrs.Lt os ws t are supported =
       let same : whole_number ∷ whole_number ∷ [] ≡ ws = cc in
       let operands = two_there p whole_number whole_number os (subst (λ (l : List Kind). are_in p l os ≡ true) (sym same) are) in
       record { value = less_than operands.1 operands.0; result_is = ap (result_of (setting_of u p) variables instrs.Lt) operands.3; in_kind = comparison_in p int_lt operands.1 operands.0 }
-  gives_value instrs.Ge os ws t are stage =
+  gives_value instrs.Ge os ws t are supported =
       let same : whole_number ∷ whole_number ∷ [] ≡ ws = cc in
       let operands = two_there p whole_number whole_number os (subst (λ (l : List Kind). are_in p l os ≡ true) (sym same) are) in
       record { value = at_least operands.1 operands.0; result_is = ap (result_of (setting_of u p) variables instrs.Ge) operands.3; in_kind = comparison_in p (λ a b. int_le b a) operands.1 operands.0 }
-  gives_value instrs.Not os ws t are stage =
+  gives_value instrs.Not os ws t are supported =
       let same : truth ∷ [] ≡ ws = cc in
       let operand = one_there p truth os (subst (λ (l : List Kind). are_in p l os ≡ true) (sym same) are) in
       record { value = negation operand.0; result_is = ap (result_of (setting_of u p) variables instrs.Not) operand.2; in_kind = negation_in p operand.0 }
-  gives_value instrs.And os ws t are stage =
+  gives_value instrs.And os ws t are supported =
       let same : truth ∷ truth ∷ [] ≡ ws = cc in
       let operands = two_there p truth truth os (subst (λ (l : List Kind). are_in p l os ≡ true) (sym same) are) in
       record { value = conjunction operands.1 operands.0; result_is = ap (result_of (setting_of u p) variables instrs.And) operands.3; in_kind = conjunction_in p operands.1 operands.0 }
@@ -174,7 +174,7 @@ module _ (u : Content) (p : Population) (context o : ℕ) (consistent : IsConsis
       let a = then_inv (effect (scope p.model u context) i g.place g.before) (kinds (scope p.model u context) rest (g.place + 1)) g.after g.judged_so in
       let e = effect_inv (scope p.model u context) i g.place g.before a.0 a.1 in
       let are = fit_in p e.taken os g.before e.fitting g.all_in in
-      let r = gives_value i os e.taken e.takes_is are e.of_this_stage in
+      let r = gives_value i os e.taken e.takes_is are e.supported in
       record {
         operands = r.value ∷ past e.taken os;
         performed_is = performed_so (setting_of u p) variables i os e.taken r.value e.takes_is are r.result_is;

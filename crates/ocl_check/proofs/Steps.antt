@@ -79,7 +79,7 @@ module _ (u : Content) (p : Population) (r o : ℕ) (code : List Instr) (at : �
       let g = going_at in
       let a = then_inv (effect (scope p.model u s.context) i g.place g.before) (kinds (scope p.model u s.context) (tree_of (drop (at + 1) code)) (g.place + 1)) g.after g.judged_so in
       let e = effect_inv (scope p.model u s.context) i g.place g.before a.0 a.1 in
-      record { taken = e.taken; takes_is = e.takes_is; are = fit_in p e.taken os g.before e.fitting g.all_in; of_this_stage = e.of_this_stage }
+      record { taken = e.taken; takes_is = e.takes_is; are = fit_in p e.taken os g.before e.fitting g.all_in; supported = e.supported }
 
   pub stands_on : (new : List Value) → performed (setting_of u p) (value.Plain (scalar.Object o) ∷ []) i os ≡ Some new → Standing u p r o code (at + 1) new
   stands_on new done =

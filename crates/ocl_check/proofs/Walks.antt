@@ -1,11 +1,9 @@
 -- The verifier's walk over a rule, and over the rules of a unit.
-use Rattle.std.proofs.Common.{◌≡◌, ℕ, ◌+◌, ◌<◌, ◌≤◌, Bool, List, [], length, get_or, drop, Option, Some, None, Result, Ok, Err, refl, sym, ap, ◌∙◌, subst}
+use Rattle.std.proofs.Common.{◌≡◌, ℕ, ◌+◌, ◌<◌, ◌≤◌, Bool, List, [], length, get_or, drop, Option, Some, None, Result, Ok, Err, refl, sym, ap, ◌∙◌}
 use Rattle.std.specs.Prelude.{slice_get}
 use Rattle.std.proofs.lemmas.List.{drop_more, drop_all}
-use Rattle.std.proofs.lemmas.Option.{get_or_from_slice_get, slice_get-get_or}
+use Rattle.std.proofs.lemmas.Option.{get_or_from_slice_get}
 use Rattle.rule_code.specs.declared.instruction.Instr.{Instr}
-use Rattle.rule_code.specs.declared.instruction.Instr.TheVariants as instrs
-use Rattle.rule_code.specs.declared.symbol.SymbolNumber.{SymbolNumber}
 use Rattle.rule_code.specs.Content.{Content, RuleContent}
 use Rattle.ocl_check.specs.declared.verify.kind.Kind.{Kind}
 use Rattle.ocl_check.specs.declared.verify.fault.Flaw.{Flaw}
@@ -17,13 +15,8 @@ use Rattle.ocl_check.specs.Symbols.{named_at}
 use Rattle.ocl_check.specs.Linked.{LinkedUnit}
 use Rattle.ocl_check.specs.Kinds.{Refusal, ◌>>=◌, refuse, check, found, scope, effect, kinds, judged, is_one_truth, class_in, context_of, rule_judged, rule_at, no_rule, first_of, first_fault_from, first_fault, IsAccepted}
 use Rattle.ocl_check.specs.Known.{AreKnownKinds}
-use Rattle.ocl_check.specs.Walk.{Comes, HasSymbol, RuleAnswers, stopped_at}
+use Rattle.ocl_check.specs.Walk.{Comes, RuleAnswers, stopped_at}
 use Rattle.ocl_check.proofs.Runs.{size-tree_of, rule_accepted}
-
--- the symbol of an instruction of a rule is there
-pub has_symbol : (u v : Content) (code : List Instr) (at : ℕ) (i d : Instr) → u ≡ v → at < length code → get_or code at d ≡ i → ((k : ℕ) (s : SymbolNumber) → slice_get code k ≡ Some (instrs.Attr s) → s.0 < length u.symbols) → HasSymbol v i
-has_symbol u v code at (instrs.Attr s) d same lt is all = subst (λ (x : Content). s.0 < length x.symbols) same (all at s (slice_get-get_or code at d lt ∙ ap Some is))
-has_symbol u v code at i d same lt is all = tt
 
 -- the walk over the code of a rule stands before the instruction at a place, with these operands
 pub record Walked (v : LinkedUnit) (context : ℕ) (code : List Instr) (at : ℕ) (ks : List Kind) : Type 0 where

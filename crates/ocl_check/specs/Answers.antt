@@ -1,5 +1,5 @@
 -- What the commands answer.
-use Rattle.std.specs.Prelude.{◌≡◌, ℕ, Bool, true, List, take, Option, Some, None, Result, Ok, Err, if◌then◌else◌}
+use Rattle.std.specs.Prelude.{◌≡◌, ◌≤◌, ℕ, Bool, true, List, length, take, Option, Some, None, Result, Ok, Err, if◌then◌else◌}
 use Rattle.std.specs.Str.{is_utf8}
 use Rattle.std.specs.Io.KnownBytes.{Appends}
 use Rattle.serde_json.specs.Data.{Data}
@@ -23,6 +23,13 @@ use Rattle.ocl_check.specs.declared.outcome.Cause.TheVariants.{Memory, Read, Wri
 use Rattle.ocl_check.specs.Kinds.{Located as Misfit, first_fault}
 use Rattle.ocl_check.specs.Report.{report_of, status_of}
 use Rattle.ocl_check.specs.Reply.{Answer, refused_model, refused_delivery, refused_code, refused_verify}
+
+-- the greatest number of bytes in an input
+abbrev pub most_bytes : ℕ
+most_bytes = 268435456
+
+abbrev pub IsWithin : List ℕ → Type 0
+IsWithin bytes = length bytes ≤ most_bytes
 
 -- a unit with a fault is refused, else its rules are judged
 abbrev pub judged_unit : Population → Content → Option Misfit → Answer

@@ -20,7 +20,7 @@ use Rattle.ocl_check.specs.declared.verify.fault.Flaw.{Flaw}
 use Rattle.ocl_check.specs.declared.verify.fault.Flaw.TheVariants as flaws
 use Rattle.ocl_check.specs.CodeTree.{Tree, End, Plain, size, tree_of}
 use Rattle.ocl_check.specs.Symbols.{named_at}
-use Rattle.ocl_check.specs.Stage.{is_of_this_stage}
+use Rattle.ocl_check.specs.Supported.{is_supported}
 
 -- ---- which kind fits another
 
@@ -167,7 +167,7 @@ applied m ws is_allowed given ks at = do
 abbrev pub effect : Scope → Instr → ℕ → List Kind → Result (List Kind) Refusal
 effect s i at ks = do
   ws ← found (takes s.model s.unit i) flaws.NoSuchName at
-  applied s.model ws (is_of_this_stage s.model s.unit i) (gives s.model s.unit s.context i) ks at
+  applied s.model ws (is_supported s.model s.unit i) (gives s.model s.unit s.context i) ks at
 
 -- the operands after a tree
 abbrev pub kinds : Scope → Tree → ℕ → List Kind → Result (List Kind) Refusal

@@ -4,7 +4,7 @@ pub mod CodeTree
 pub mod Symbols
 pub mod Linked
 pub mod Known
-pub mod Stage
+pub mod Supported
 pub mod Kinds
 pub mod Value
 pub mod Operations

@@ -8,7 +8,7 @@ use Rattle.ocl_check.specs.declared.machine.value.Value.TheVariants as held
 use Rattle.rule_code.specs.declared.instruction.Instr.{Instr}
 use Rattle.rule_code.specs.Content.{Content}
 use Rattle.ocl_check.specs.declared.verify.kind.Kind.{Kind}
-use Rattle.ocl_check.specs.Stage.{is_of_this_stage}
+use Rattle.ocl_check.specs.Supported.{is_supported}
 use Rattle.ocl_check.specs.Kinds.{object_of, takes}
 use Rattle.ocl_check.specs.Value.{Value, Invalid, Null, Plain, is_in}
 use Rattle.ocl_check.specs.Machine.{are_in}
@@ -30,12 +30,12 @@ all_meant (v ∷ vs) = meant v ∷ all_meant vs
 abbrev pub IsHolder : Population → ℕ → Value → Type 0
 IsHolder p f v = (c : ℕ) × (is_in p v (object_of c) ≡ true) × (belongs p.model c f ≡ true)
 
--- the operands that an instruction takes are there, each in its kind, and it is of this stage
+-- the operands that an instruction takes are there, each in its kind, and it is supported
 pub record CanPerform (u : Content) (p : Population) (i : Instr) (os : List Value) : Type 0 where
   pub taken : List Kind
   pub takes_is : takes p.model u i ≡ Some taken
   pub are : are_in p taken os ≡ true
-  pub of_this_stage : is_of_this_stage p.model u i ≡ true
+  pub supported : is_supported p.model u i ≡ true
 
 -- variable 0 is the object
 abbrev pub object_variable : ℕ → List Value

@@ -6,8 +6,11 @@ use std::alloc::{AllocError, Global};
 /// The files that `judge` names.
 #[derive(Clone, Copy, Drop)]
 pub struct JudgeFiles<'a> {
+    /// The path of the class model.
     pub model: &'a str,
+    /// The path of the delivery.
     pub delivery: &'a str,
+    /// The path of the code file.
     pub code: &'a str,
 }
 

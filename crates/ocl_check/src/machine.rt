@@ -45,7 +45,8 @@ pub fn judge(
     let judged = linked.unit().rule(rule);
     let mut operands = Stack::new(alloc);
     'instructions: for at in 0..judged.code.len() {
-        instruct(linked, population, object, &mut operands, judged.code[at])?;
+        let value = instruct(linked, population, object, &mut operands, judged.code[at]);
+        operands.push(value)?;
     }
     let Some(value) = operands.pop() else {
         unreachable!()

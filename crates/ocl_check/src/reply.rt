@@ -16,7 +16,9 @@ const REFUSED: u8 = 2;
 /// What a command prints on standard output, and its exit status.
 #[derive(Drop)]
 pub struct Reply {
+    /// What is printed, all of it.
     pub text: String,
+    /// The exit status: 0, 1 or 2.
     pub status: u8,
 }
 

@@ -14,8 +14,11 @@ use std::fmt::Write;
 /// How many objects have each verdict.
 #[derive(Clone, Copy, Debug, PartialEq, Eq)]
 pub struct Tally {
+    /// The number for which the rule holds.
     pub holds: usize,
+    /// The number for which it fails.
     pub fails: usize,
+    /// The number for which it is undecided.
     pub undecided: usize,
 }
 

@@ -2,10 +2,10 @@
 
 ghost use Rattle.std.specs.Prelude.{◌≡◌, ℕ, List, Some, false, true, Ok, IfOk};
 ghost use Rattle.rule_code.specs.View.{content};
-ghost use Rattle.ocl_check.specs.declared.outcome.Outcome.TheVariants.{Failed};
+ghost use Rattle.ocl_check.specs.declared.outcome.Outcome.TheVariants.{Status, Failed};
 ghost use Rattle.ocl_check.specs.declared.outcome.Cause.TheVariants.{Write};
 ghost use Rattle.ocl_check.specs.Reply.{said};
-ghost use Rattle.ocl_check.specs.Answers.{judged, judged_code, judged_delivery, population_of, judge_answer, IsAnswered};
+ghost use Rattle.ocl_check.specs.Answers.{judged, judged_code, judged_delivery, population_of, judge_answer, IsAnswered, IsWithin};
 
 use crate::input::read_input;
 use crate::outcome::{Cause, Outcome, say};
@@ -88,6 +88,9 @@ pub fn run_judge<M: Read, D: Read, C: Read, S: Sink>(
     ensures told { (xs ys zs : List ℕ)
         → M.remaining model.old ≡ Some xs → D.remaining delivery.old ≡ Some ys → C.remaining code.old ≡ Some zs
         → IsAnswered (judge_answer xs ys zs) (S.contents sink.old) (S.contents sink.new) result }
+    ensures within { (xs ys zs : List ℕ) (s : ℕ)
+        → M.remaining model.old ≡ Some xs → D.remaining delivery.old ≡ Some ys → C.remaining code.old ≡ Some zs
+        → result ≡ Status s → IsWithin xs × IsWithin ys × IsWithin zs }
     ensures write { result ≡ Failed Write → S.has_failed sink.new ≡ true }
 {
     let model = match read_input(alloc, model, MOST_BYTES) {

@@ -18,6 +18,31 @@ const MODEL: &str = r#"{"model":"m","enums":[],"classes":[
 {"name":"Elektriciteitskabel","abstract":false,"supers":["KabelOfLeiding"],"attributes":[]}],
 "associations":[]}"#;
 
+/// Ducts that hold one cable each.
+const DUCTS: &str = r#"{"model":"m","enums":[],"classes":[
+{"name":"Duct","abstract":false,"supers":[],"attributes":[]},
+{"name":"Cable","abstract":false,"supers":[],"attributes":[]}],
+"associations":[{"name":"holding","from":"Duct","to":"Cable",
+"end":{"name":"held","lower":1,"upper":1,"ordered":false},
+"opposite":{"name":"holders","lower":0,"upper":null,"ordered":false}}]}"#;
+
+/// A class that is its own superclass.
+const CYCLE: &str = r#"{"name":"A","abstract":false,"supers":["A"],"attributes":[]}"#;
+
+/// A class with two superclasses, each with an attribute x.
+const CLASH: &str = r#"
+{"name":"A","abstract":true,"supers":[],"attributes":[
+{"name":"x","type":"Integer","lower":0,"upper":1,"ordered":false,"unique":true}]},
+{"name":"B","abstract":true,"supers":[],"attributes":[
+{"name":"x","type":"Integer","lower":0,"upper":1,"ordered":false,"unique":true}]},
+{"name":"C","abstract":false,"supers":["A","B"],"attributes":[]}"#;
+
+/// A delivery of no objects.
+const NO_OBJECTS: &str = r#"{"model":"m","objects":[]}"#;
+
+/// No texts, no symbols, no rules.
+const NO_RULES: [u8; 12] = *b"OCLB\x00\x01\x00\x00\x00\x00\x00\x00";
+
 /// The rule diepteMin of KabelOfLeiding: SELF, ATTR diepte, INT 600, GE.
 const DEPTH: [u8; 75] =
     *b"OCLB\x00\x01\x00\x03\x00\x09diepteMin\x00\x0eKabelOfLeiding\x00\x06diepte\x00\x02\x01\x00\x01\x03\x00\x01\x00\x02\x00\x01\x00\x00\x00\x00\x00\x04\x01\x09\x00\x01\x03\x00\x00\x00\x00\x00\x00\x02\x58\x1c";
@@ -27,8 +52,8 @@ const HEAD: &[u8] =
     b"OCLB\x00\x01\x00\x02\x00\x01r\x00\x0eKabelOfLeiding\x00\x01\x01\x00\x01\x00\x01\x00\x00\x00\x00";
 
 /// What `judge` writes, and how it ends.
-fn judged(alloc: Global, delivery: &str, code: &[u8]) -> (Outcome, Vec<u8>) {
-    let mut model = MODEL.as_bytes();
+fn judged(alloc: Global, model: &str, delivery: &str, code: &[u8]) -> (Outcome, Vec<u8>) {
+    let mut model = model.as_bytes();
     let mut delivery = delivery.as_bytes();
     let mut code = code;
     let mut sink = Telling::new(Vec::new(alloc));
@@ -45,7 +70,28 @@ fn judged_cable(
     let delivery = format!(in alloc;
         "{{\"model\":\"m\",\"objects\":[{{\"id\":\"E1\",\"class\":\"Elektriciteitskabel\",\"features\":{{{features}}}}}]}}"
     )?;
-    Ok(judged(alloc, delivery.as_str(), code))
+    Ok(judged(alloc, MODEL, delivery.as_str(), code))
+}
+
+/// What `judge` writes of a class model of these classes and no objects, and how it ends.
+fn judged_classes(alloc: Global, classes: &str) -> Result<(Outcome, Vec<u8>), AllocError> {
+    let model = format!(in alloc;
+        "{{\"model\":\"m\",\"enums\":[],\"classes\":[{classes}],\"associations\":[]}}"
+    )?;
+    Ok(judged(alloc, model.as_str(), NO_OBJECTS, &NO_RULES))
+}
+
+/// What `judge` writes of this object before two cables, c and e, and how it ends.
+fn judged_before_cables(
+    alloc: Global,
+    id: &str,
+    class: &str,
+    features: &str,
+) -> Result<(Outcome, Vec<u8>), AllocError> {
+    let delivery = format!(in alloc;
+        "{{\"model\":\"m\",\"objects\":[{{\"id\":\"{id}\",\"class\":\"{class}\",\"features\":{{{features}}}}},{{\"id\":\"c\",\"class\":\"Cable\",\"features\":{{}}}},{{\"id\":\"e\",\"class\":\"Cable\",\"features\":{{}}}}]}}"
+    )?;
+    Ok(judged(alloc, DUCTS, delivery.as_str(), &NO_RULES))
 }
 
 /// A file with the rule r of so many instructions.
@@ -80,6 +126,52 @@ fn judges_depths(rt: HostRuntime) -> Result<(), Fail> {
         let (outcome, bytes) = judged_cable(rt.alloc(), features, &DEPTH)?;
         assert!(rt; outcome == Outcome::Status(status));
         assert!(rt; bytes.as_slice() == text.as_bytes());
+    }
+    Ok(())
+}
+
+#[test]
+fn judges_nothing(rt: HostRuntime) -> Result<(), Fail> {
+    let (outcome, bytes) = judged_classes(rt.alloc(), "")?;
+    assert!(rt; outcome == Outcome::Status(0));
+    assert!(rt; bytes.as_slice() == b"total fails 0 undecided 0\n".as_slice());
+    Ok(())
+}
+
+#[test]
+fn refuses_models(rt: HostRuntime) -> Result<(), Fail> {
+    let cases = [(CYCLE, "refused model 5\n"), (CLASH, "refused model 6\n")];
+    for (classes, line) in cases {
+        let (outcome, bytes) = judged_classes(rt.alloc(), classes)?;
+        assert!(rt; outcome == Outcome::Status(2));
+        assert!(rt; bytes.as_slice() == line.as_bytes());
+    }
+    Ok(())
+}
+
+#[test]
+fn refuses_deliveries(rt: HostRuntime) -> Result<(), Fail> {
+    let cases = [
+        ("d", "Duct", "", "refused delivery 7 0 5\n"),
+        (
+            "d",
+            "Duct",
+            "\"held\":[\"c\",\"e\"]",
+            "refused delivery 7 0 6\n",
+        ),
+        ("c", "Duct", "\"held\":\"e\"", "refused delivery 7 1 1\n"),
+        (
+            "d",
+            "Cable",
+            "\"holders\":\"c\"",
+            "refused delivery 7 0 9\n",
+        ),
+        ("d", "Duct", "\"held\":\"x\"", "refused delivery 6 0\n"),
+    ];
+    for (id, class, features, line) in cases {
+        let (outcome, bytes) = judged_before_cables(rt.alloc(), id, class, features)?;
+        assert!(rt; outcome == Outcome::Status(2));
+        assert!(rt; bytes.as_slice() == line.as_bytes());
     }
     Ok(())
 }
@@ -150,13 +242,21 @@ fn refuses_a_cut_or_changed_file(rt: HostRuntime) -> Result<(), Fail> {
     changed[74] = 0xff;
     let (_, bytes) = judged_cable(rt.alloc(), "", &changed)?;
     assert!(rt; bytes.as_slice() == b"refused code 4 74\n".as_slice());
+    let (_, bytes) = judged_cable(rt.alloc(), "", &DEPTH[..74])?;
+    assert!(rt; bytes.as_slice() == b"refused code 3 74\n".as_slice());
+    let mut longer = [0u8; 76];
+    longer[..75].copy_from_slice(&DEPTH);
+    let (_, bytes) = judged_cable(rt.alloc(), "", &longer)?;
+    assert!(rt; bytes.as_slice() == b"refused code 8 75\n".as_slice());
     Ok(())
 }
 
 #[test]
 fn tells_what_is_refused_first(rt: HostRuntime) -> Result<(), Fail> {
-    let (outcome, bytes) = judged(rt.alloc(), "{}", b"");
+    let (outcome, bytes) = judged(rt.alloc(), "{}", "{}", b"");
     assert!(rt; outcome == Outcome::Status(2));
+    assert!(rt; bytes.as_slice() == b"refused model 2\n".as_slice());
+    let (_, bytes) = judged(rt.alloc(), MODEL, "{}", b"");
     assert!(rt; bytes.as_slice() == b"refused delivery 2\n".as_slice());
     let (_, bytes) = judged_cable(rt.alloc(), "\"breedte\":1", b"")?;
     assert!(rt; bytes.as_slice() == b"refused delivery 5 0\n".as_slice());
@@ -211,17 +311,18 @@ fn reads_up_to_the_limit(rt: HostRuntime) -> Result<(), Fail> {
 /// A writer that takes a few bytes, and then fails.
 #[derive(Drop)]
 struct Narrow {
+    taken: Vec<u8>,
     left: usize,
 }
 
 impl Write for Narrow {
     fn write(&mut self, buf: &[u8]) -> io::Result<usize> {
-        if self.left == 0 {
+        let count = buf.len().min(self.left);
+        if count == 0 || self.taken.extend_from_slice(&buf[..count]).is_err() {
             return Err(Error::from(ErrorKind::Other));
         }
-        let taken = buf.len().min(self.left);
-        self.left -= taken;
-        Ok(taken)
+        self.left -= count;
+        Ok(count)
     }
 
     fn flush(&mut self) -> io::Result<()> {
@@ -232,10 +333,15 @@ impl Write for Narrow {
 #[test]
 fn tells_a_failed_write(rt: HostRuntime) -> Result<(), Fail> {
     let mut model = MODEL.as_bytes();
-    let mut delivery = b"{}".as_slice();
-    let mut code = b"".as_slice();
-    let mut sink = Telling::new(Narrow { left: 3 });
+    let mut delivery = NO_OBJECTS.as_bytes();
+    let mut code = DEPTH.as_slice();
+    let mut sink = Telling::new(Narrow {
+        taken: Vec::new(rt.alloc()),
+        left: 24,
+    });
     let outcome = run_judge(rt.alloc(), &mut model, &mut delivery, &mut code, &mut sink);
     assert!(rt; outcome == Outcome::Failed(Cause::Write));
+    let taken = sink.into_inner().taken;
+    assert!(rt; taken.as_slice() == b"rule diepteMin checked 0".as_slice());
     Ok(())
 }

@@ -17,7 +17,7 @@ pub data Fields : Type 0 where
   boolean : (Bool → Instr) → Fields
   symbol : SymbolTag → (SymbolNumber → Instr) → Fields
 
--- The opcodes of this stage: nine. Every other byte is no opcode.
+-- The opcodes: nine today. Every other byte is no opcode.
 abbrev pub opcodes : List (ℕ × Fields)
 opcodes = (0x01, nothing instrs.SelfObject)
     ∷ (0x03, integer instrs.Int)

@@ -2,7 +2,8 @@
 
 use crate::symbol::SymbolNumber;
 
-/// One instruction. `docs/code-file.md` has the opcode and the operands of each.
+/// One instruction. `docs/code-file.md` has the opcode and the fields of each, `docs/machine.md`
+/// the operands that it takes and the value that it gives.
 #[derive(Clone, Copy, Debug, PartialEq, Eq)]
 pub enum Instr {
     /// The object that the rule is judged on.

@@ -32,12 +32,16 @@ pub enum Symbol {
     Enumeration(TextNumber),
     /// The feature of a name that belongs to a class.
     Feature {
+        /// The name of the class.
         class: TextNumber,
+        /// The name of the feature.
         feature: TextNumber,
     },
     /// The literal of a name of an enumeration.
     Literal {
+        /// The name of the enumeration.
         enumeration: TextNumber,
+        /// The name of the literal.
         literal: TextNumber,
     },
 }

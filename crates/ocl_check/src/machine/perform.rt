@@ -1,6 +1,6 @@
 //! The steps of the machine.
 
-ghost use Rattle.std.specs.Prelude.{◌≡◌, ◌<◌, ◌≤◌, List, [], ◌∷◌, length, true, OnOk, Some};
+ghost use Rattle.std.specs.Prelude.{◌≡◌, ◌<◌, ◌≤◌, List, [], ◌∷◌, length, true, Some};
 ghost use Rattle.imkl_model.specs.ClassModel.{feature_at};
 ghost use Rattle.imkl_population.specs.Values.{is_single};
 ghost use Rattle.rule_code.specs.declared.instruction.Instr.TheVariants.{Attr};
@@ -17,7 +17,6 @@ use crate::verify::{Linked, Named};
 use imkl_model::FeatureNo;
 use imkl_population::{ObjectNo, Population, Scalar};
 use rule_code::{Instr, SymbolNumber};
-use std::alloc::AllocError;
 
 /// A single value as an operand.
 fn operand(scalar: &Scalar) -> Value<'_>
@@ -43,11 +42,7 @@ fn single(values: &[Scalar]) -> Value<'_>
 }
 
 /// The value of a feature with upper bound 1, of what may hold it.
-pub(super) fn read<'p>(
-    population: &'p Population<'_>,
-    feature: FeatureNo,
-    holder: &Value<'p>,
-) -> Value<'p>
+fn read<'p>(population: &'p Population<'_>, feature: FeatureNo, holder: &Value<'p>) -> Value<'p>
     requires holder { IsHolder population.now feature (meant holder.now) }
     requires feature { feature < length population.now.model.features }
     requires single { is_single (feature_at population.now.model feature).upper ≡ true }
@@ -65,7 +60,7 @@ pub(super) fn read<'p>(
 }
 
 /// Takes the two topmost operands, the topmost first.
-pub(super) fn two<'p>(operands: &mut Stack<Value<'p>>) -> (Value<'p>, Value<'p>)
+fn two<'p>(operands: &mut Stack<Value<'p>>) -> (Value<'p>, Value<'p>)
     requires { 2 ≤ length operands.old }
     ensures { operands.old ≡ result.0 ∷ result.1 ∷ operands.new }
 {
@@ -79,7 +74,7 @@ pub(super) fn two<'p>(operands: &mut Stack<Value<'p>>) -> (Value<'p>, Value<'p>)
 }
 
 /// Takes the topmost operand.
-pub(super) fn one<'p>(operands: &mut Stack<Value<'p>>) -> Value<'p>
+fn one<'p>(operands: &mut Stack<Value<'p>>) -> Value<'p>
     requires { 1 ≤ length operands.old }
     ensures { operands.old ≡ result ∷ operands.new }
 {
@@ -89,17 +84,17 @@ pub(super) fn one<'p>(operands: &mut Stack<Value<'p>>) -> Value<'p>
     topmost
 }
 
-/// A feature is read from the topmost operand.
+/// The value of a feature of the topmost operand, which is taken.
 fn read_feature<'p>(
     linked: &Linked<'_>,
     population: &'p Population<'_>,
     operands: &mut Stack<Value<'p>>,
     symbol: SymbolNumber,
-) -> Result<(), AllocError>
+) -> Value<'p>
     requires one_model { population.now.model ≡ linked.now.model }
     requires symbol { symbol.0 < length linked.now.unit.symbols }
     requires can { CanPerform linked.now.unit population.now (Attr symbol) (all_meant operands.old) }
-    ensures { OnOk result ((vs : List Operand) → performed (setting_of linked.now.unit population.now) vs (Attr symbol) (all_meant operands.old) ≡ Some (all_meant operands.new)) }
+    ensures { (vs : List Operand) → performed (setting_of linked.now.unit population.now) vs (Attr symbol) (all_meant operands.old) ≡ Some (meant result ∷ all_meant operands.new) }
 {
     let Some(name) = linked.named(symbol) else {
         unreachable!()
@@ -107,8 +102,7 @@ fn read_feature<'p>(
     match name {
         Named::Feature(_, feature) => {
             let holder = one(operands);
-            operands.push(read(population, feature, &holder))?;
-            Ok(())
+            read(population, feature, &holder)
         }
         Named::Class(_) => unreachable!(),
         Named::Enumeration(_) => unreachable!(),
@@ -116,56 +110,37 @@ fn read_feature<'p>(
     }
 }
 
-/// One step: an instruction on the operands, of code that runs for an object.
+/// The value that an instruction gives, of code that runs for an object. Its operands are taken.
 pub(super) fn instruct<'p>(
     linked: &Linked<'_>,
     population: &'p Population<'_>,
     object: ObjectNo,
     operands: &mut Stack<Value<'p>>,
     instr: Instr,
-) -> Result<(), AllocError>
+) -> Value<'p>
     requires one_model { population.now.model ≡ linked.now.model }
     requires symbol { HasSymbol linked.now.unit instr }
     requires can { CanPerform linked.now.unit population.now instr (all_meant operands.old) }
-    ensures { OnOk result (performed (setting_of linked.now.unit population.now) (object_variable object) instr (all_meant operands.old) ≡ Some (all_meant operands.new)) }
+    ensures { performed (setting_of linked.now.unit population.now) (object_variable object) instr (all_meant operands.old) ≡ Some (meant result ∷ all_meant operands.new) }
 {
     match instr {
-        Instr::SelfObject => {
-            operands.push(Value::Object(object))?;
-            Ok(())
-        }
-        Instr::Int(n) => {
-            operands.push(Value::Int(n))?;
-            Ok(())
-        }
-        Instr::Bool(b) => {
-            operands.push(Value::Bool(b))?;
-            Ok(())
-        }
-        Instr::Null => {
-            operands.push(Value::Null)?;
-            Ok(())
-        }
+        Instr::SelfObject => Value::Object(object),
+        Instr::Int(n) => Value::Int(n),
+        Instr::Bool(b) => Value::Bool(b),
+        Instr::Null => Value::Null,
         Instr::Attr(symbol) => read_feature(linked, population, operands, symbol),
         Instr::Lt => {
             let (second, first) = two(operands);
-            operands.push(less_than(&first, &second))?;
-            Ok(())
+            less_than(&first, &second)
         }
         Instr::Ge => {
             let (second, first) = two(operands);
-            operands.push(at_least(&first, &second))?;
-            Ok(())
+            at_least(&first, &second)
         }
-        Instr::Not => {
-            let value = one(operands);
-            operands.push(negation(&value))?;
-            Ok(())
-        }
+        Instr::Not => negation(&one(operands)),
         Instr::And => {
             let (second, first) = two(operands);
-            operands.push(conjunction(&first, &second))?;
-            Ok(())
+            conjunction(&first, &second)
         }
     }
 }

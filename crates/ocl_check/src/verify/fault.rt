@@ -25,7 +25,7 @@ pub enum Flaw {
     LeftOver = 6,
     /// There are more than 1,024 operands after it.
     StackLimit = 7,
-    /// It opens more than 64 blocks.
+    /// More than 64 blocks are open after it.
     NestLimit = 8,
 }
 

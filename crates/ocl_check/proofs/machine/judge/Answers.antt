@@ -1,4 +1,4 @@
-use Rattle.std.proofs.Common.{◌≡◌, ◌<◌, Some, length, sym, ap, ◌∙◌, subst, arith}
+use Rattle.std.proofs.Common.{◌≡◌, ◌<◌, ◌∷◌, Some, length, sym, ap, ◌∙◌, subst, arith}
 use Rattle.imkl_model.specs.ClassModel.{Model}
 use Rattle.rule_code.specs.Content.{rule_content}
 use Rattle.rule_code.specs.View.{content}
@@ -6,8 +6,8 @@ use Rattle.ocl_check.specs.Linked.{LinkedUnit}
 use Rattle.ocl_check.specs.Kinds.{IsAccepted, rule_at}
 use Rattle.ocl_check.specs.Machine.{performed}
 use Rattle.ocl_check.specs.Laws.{setting_of}
-use Rattle.ocl_check.specs.Shown.{all_meant, object_variable, CanPerform}
-use Rattle.ocl_check.proofs.Walks.{rule_is, has_symbol}
+use Rattle.ocl_check.specs.Shown.{meant, all_meant, object_variable, CanPerform}
+use Rattle.ocl_check.proofs.Walks.{rule_is}
 use Rattle.ocl_check.proofs.Steps.{stands_first, stands_can, stands_on}
 use Rattle.ocl_check.proofs.machine.judge.Goals as goal
 
@@ -27,14 +27,8 @@ instructions-init c =
     })
     (ap (λ (x : LinkedUnit). (rule_at x.unit c.args.rule).code) (sym c.linked-linked.ensures) ∙ its) c.new-operands.ensures
 
-pub instruct-requires-clause-symbol : goal.instruct-requires-clause-symbol
-instruct-requires-clause-symbol c =
-    let j = c.rule-judged.result.now in
-    let within : c.instructions.at < length j.code.items = omega (arith, c.len-at-end.ensures, j.code.ok.0) in
-    has_symbol (content c.unit.result.now) c.linked-linked.result.now.unit j.code.items c.instructions.at c.index.result.now c.index.result.now c.unit.ensures within (sym c.index.ensures) c.rule-judged.ensures.features_in_range
-
-pub instruct-requires-clause-can : goal.instruct-requires-clause-can
-instruct-requires-clause-can c =
+pub instruct-value-requires-clause-can : goal.instruct-value-requires-clause-can
+instruct-value-requires-clause-can c =
     let j = c.rule-judged.result.now in
     let within : c.instructions.at < length j.code.items = omega (arith, c.len-at-end.ensures, j.code.ok.0) in
     subst (λ (x : LinkedUnit). CanPerform x.unit c.args.population.now c.index.result.now (all_meant c.instructions.operands)) (sym c.linked-linked.ensures)
@@ -44,5 +38,5 @@ pub instructions-preserved : goal.instructions-preserved
 instructions-preserved c =
     let j = c.rule-judged.result.now in
     let within : c.instructions.at < length j.code.items = omega (arith, c.len-at-end.ensures, j.code.ok.0) in
-    stands_on c.args.accepted.now.unit c.args.population.now c.args.rule c.args.object j.code.items c.instructions.at (all_meant c.instructions.operands) c.instructions.invariant c.index.result.now within (sym c.index.ensures) (all_meant c.instruct.new.operands)
-    (subst (λ (x : LinkedUnit). performed (setting_of x.unit c.args.population.now) (object_variable c.args.object) c.index.result.now (all_meant c.instructions.operands) ≡ Some (all_meant c.instruct.new.operands)) c.linked-linked.ensures c.in_ok-instruct.ensures)
+    stands_on c.args.accepted.now.unit c.args.population.now c.args.rule c.args.object j.code.items c.instructions.at (all_meant c.instructions.operands) c.instructions.invariant c.index.result.now within (sym c.index.ensures) (all_meant c.push.new.self)
+    (rw c.in_ok-push.ensures.ok (subst (λ (x : LinkedUnit). performed (setting_of x.unit c.args.population.now) (object_variable c.args.object) c.index.result.now (all_meant c.instructions.operands) ≡ Some (meant c.instruct-value.result ∷ all_meant c.instruct-value.new.operands)) c.linked-linked.ensures c.instruct-value.ensures))

@@ -1,11 +1,10 @@
 use Rattle.std.proofs.Common.{◌≡◌, [], ◌∷◌, Some, refl, sym, subst}
-use Rattle.std.proofs.lemmas.Result.{on_ok_weaker}
 use Rattle.rule_code.specs.declared.instruction.Instr.{Instr}
 use Rattle.rule_code.specs.declared.instruction.Instr.TheVariants as instrs
 use Rattle.ocl_check.specs.Kinds.{truth, whole_number}
 use Rattle.ocl_check.specs.Machine.{performed}
 use Rattle.ocl_check.specs.Laws.{setting_of}
-use Rattle.ocl_check.specs.Shown.{all_meant, object_variable}
+use Rattle.ocl_check.specs.Shown.{meant, all_meant, object_variable}
 use Rattle.ocl_check.proofs.Steps.{operands_there}
 use Rattle.ocl_check.proofs.machine.perform.instruct.Goals as goal
 
@@ -20,5 +19,5 @@ two-second-requires-in-And c = operands_there c.args.linked.now.unit c.args.popu
 
 pub returns-in-Attr : goal.returns-in-Attr
 returns-in-Attr c =
-    let P : Instr → Type 0 = λ i. performed (setting_of c.args.linked.now.unit c.args.population.now) (object_variable c.args.object) i (all_meant c.args.operands.now) ≡ Some (all_meant c.read_feature.new.operands) in
-    on_ok_weaker c.read_feature.result (λ h. subst P (sym c.in-Attr.is) (h (object_variable c.args.object))) c.read_feature.ensures
+    let P : Instr → Type 0 = λ i. performed (setting_of c.args.linked.now.unit c.args.population.now) (object_variable c.args.object) i (all_meant c.args.operands.now) ≡ Some (meant c.read_feature.result ∷ all_meant c.read_feature.new.operands) in
+    subst P (sym c.in-Attr.is) (c.read_feature.ensures (object_variable c.args.object))

@@ -1,4 +1,4 @@
--- A limit of this stage: a feature that an instruction reads has upper bound 1. Beyond it the fault is WrongKind.
+-- A limit of today's machine: a feature that an instruction reads has upper bound 1. Beyond it the fault is WrongKind.
 use Rattle.std.specs.Prelude.{Bool, true, Option, Some}
 use Rattle.imkl_model.specs.ClassModel.{Model, feature_at}
 use Rattle.imkl_population.specs.Values.{is_single}
@@ -13,7 +13,7 @@ abbrev pub names_single : Model → Option Named → Bool
 names_single m (Some (named.Feature c f)) = is_single (feature_at m f).upper
 names_single m n = true
 
--- of this stage
-abbrev pub is_of_this_stage : Model → Content → Instr → Bool
-is_of_this_stage m u (instrs.Attr s) = names_single m (named_at m u s.0)
-is_of_this_stage m u i = true
+-- an instruction reads no feature of more than one value
+abbrev pub is_supported : Model → Content → Instr → Bool
+is_supported m u (instrs.Attr s) = names_single m (named_at m u s.0)
+is_supported m u i = true
