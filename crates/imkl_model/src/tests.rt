@@ -169,8 +169,11 @@ const SUPER_TWICE: &str =
 const CLASH: &str =
     r#"{"name":"A","abstract":false,"supers":[],"attributes":[{"name":"x","type":"Integer","lower":0,"upper":1,"ordered":false,"unique":true}]},{"name":"B","abstract":false,"supers":["A"],"attributes":[{"name":"x","type":"String","lower":2,"upper":1,"ordered":false,"unique":true}]}"#;
 
-const SELF_CLASH: &str =
+const CYCLE_AND_BAD_BOUNDS: &str =
     r#"{"name":"A","abstract":false,"supers":["A"],"attributes":[{"name":"x","type":"Integer","lower":0,"upper":0,"ordered":false,"unique":true}]}"#;
+
+const CYCLE_AND_CLASH: &str =
+    r#"{"name":"A","abstract":false,"supers":["B"],"attributes":[{"name":"x","type":"Integer","lower":0,"upper":1,"ordered":false,"unique":true}]},{"name":"B","abstract":false,"supers":["A"],"attributes":[{"name":"x","type":"Integer","lower":0,"upper":1,"ordered":false,"unique":true}]}"#;
 
 const TO_SELF: &str =
     r#"{"name":"r","from":"A","to":"A","end":{"name":"x","lower":0,"upper":null,"ordered":true},"opposite":{"name":"y","lower":0,"upper":null,"ordered":false}}"#;
@@ -211,7 +214,8 @@ fn faults(rt: HostRuntime) -> Result<(), Fail> {
         ("", AA, TO_NOWHERE, 4),
         ("", AA, "", 5),
         ("", A_UNDER_B, "", 5),
-        ("", SELF_CLASH, "", 5),
+        ("", CYCLE_AND_BAD_BOUNDS, "", 5),
+        ("", CYCLE_AND_CLASH, "", 5),
         ("", CLASH, "", 6),
         ("", CLASH, BAD_END, 3),
         ("", A, BAD_END, 7),
@@ -414,6 +418,62 @@ fn counts(rt: HostRuntime) -> Result<(), Fail> {
     assert!(rt; literals_number(rt.alloc(), 4_097)? == 8);
     assert!(rt; types_number(rt.alloc(), 4_096, 0)? == 0);
     assert!(rt; types_number(rt.alloc(), 4_097, 0)? == 8);
+    assert!(rt; types_number(rt.alloc(), 0, 4_096)? == 0);
     assert!(rt; types_number(rt.alloc(), 0, 4_097)? == 8);
+    Ok(())
+}
+
+/// The number of the fault of 4,096 classes and this one after them.
+fn last_class_number(alloc: Global, last: &str) -> Result<u8, AllocError> {
+    let classes = numbered(
+        alloc,
+        4_096,
+        r##"{"name":"C#","abstract":false,"supers":[],"attributes":[]}"##,
+    )?;
+    let classes = format!(in alloc; "{classes},{last}")?;
+    let text = document(alloc, "", classes.as_str(), "")?;
+    Ok(number_of(alloc, text.as_bytes()))
+}
+
+const CLASS_WITHOUT_ATTRIBUTES: &str = r#"{"name":"C","abstract":false,"supers":[]}"#;
+
+const CLASS_OF_THE_FIRST_NAME: &str =
+    r#"{"name":"C0","abstract":false,"supers":[],"attributes":[]}"#;
+
+#[test]
+fn one_class_more(rt: HostRuntime) -> Result<(), Fail> {
+    assert!(rt; last_class_number(rt.alloc(), A)? == 8);
+    // A shape that isn't a class's comes before the count, and the count before a name that stands twice.
+    assert!(rt; last_class_number(rt.alloc(), CLASS_WITHOUT_ATTRIBUTES)? == 2);
+    assert!(rt; last_class_number(rt.alloc(), CLASS_OF_THE_FIRST_NAME)? == 8);
+    Ok(())
+}
+
+/// The number of the fault of a class A with so many attributes, and associations.
+fn features_number(alloc: Global, count: usize, associations: &str) -> Result<u8, AllocError> {
+    let attributes = numbered(
+        alloc,
+        count,
+        r##"{"name":"x#","type":"Integer","lower":0,"upper":1,"ordered":false,"unique":true}"##,
+    )?;
+    let class = format!(in alloc;
+        r#"{{"name":"A","abstract":false,"supers":[],"attributes":[{attributes}]}}"#
+    )?;
+    let text = document(alloc, "", class.as_str(), associations)?;
+    Ok(number_of(alloc, text.as_bytes()))
+}
+
+#[test]
+fn many_attributes(rt: HostRuntime) -> Result<(), Fail> {
+    assert!(rt; features_number(rt.alloc(), 65_535, "")? == 0);
+    assert!(rt; features_number(rt.alloc(), 65_536, "")? == 8);
+    Ok(())
+}
+
+#[test]
+fn many_features(rt: HostRuntime) -> Result<(), Fail> {
+    // Both ends of an association count.
+    assert!(rt; features_number(rt.alloc(), 65_533, TO_SELF)? == 0);
+    assert!(rt; features_number(rt.alloc(), 65_534, TO_SELF)? == 8);
     Ok(())
 }
