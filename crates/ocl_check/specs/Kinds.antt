@@ -78,12 +78,15 @@ holder_of n = None
 
 -- what an instruction takes, the topmost operand first, where what it names is there
 abbrev pub takes : Model → Content → Instr → Option (List Kind)
+takes m u instrs.SelfObject = Some []
+takes m u (instrs.Int n) = Some []
+takes m u (instrs.Bool b) = Some []
+takes m u instrs.Null = Some []
 takes m u (instrs.Attr s) = holder_of (named_at m u s.0)
 takes m u instrs.Lt = Some (whole_number ∷ whole_number ∷ [])
 takes m u instrs.Ge = Some (whole_number ∷ whole_number ∷ [])
 takes m u instrs.Not = Some (truth ∷ [])
 takes m u instrs.And = Some (truth ∷ truth ∷ [])
-takes m u i = Some []
 
 abbrev pub kind_read : Model → Option Named → Kind
 kind_read m (Some (named.Feature c f)) = feature_kind (feature_at m f)
@@ -93,9 +96,13 @@ kind_read m n = Single element.Void
 abbrev pub gives : Model → Content → ℕ → Instr → Kind
 gives m u context instrs.SelfObject = object_of context
 gives m u context (instrs.Int n) = whole_number
-gives m u context (instrs.Attr s) = kind_read m (named_at m u s.0)
+gives m u context (instrs.Bool b) = truth
 gives m u context instrs.Null = Single element.Void
-gives m u context i = truth
+gives m u context (instrs.Attr s) = kind_read m (named_at m u s.0)
+gives m u context instrs.Lt = truth
+gives m u context instrs.Ge = truth
+gives m u context instrs.Not = truth
+gives m u context instrs.And = truth
 
 -- ---- operands
 
