@@ -2,6 +2,7 @@
 use Rattle.std.proofs.Common.{◌≡◌, ℕ, Bool, true, false, ◌&&◌, ◌||◌, List, [], ◌∷◌, length, Option, Some, None, ℤ, refl, eqb-true}
 use Rattle.std.specs.Prelude.{nat_lt, if◌then◌else◌, ◌==◌}
 use Rattle.std.specs.List.{list_all}
+use Rattle.std.proofs.lemmas.Bool.{and_from, and_parts}
 use Rattle.imkl_model.specs.declared.feature.CollectionKind.{CollectionKind}
 use Rattle.imkl_model.specs.declared.feature.CollectionKind.TheVariants as collection
 use Rattle.imkl_model.specs.declared.feature.ElementType.{ElementType}
@@ -21,17 +22,6 @@ use Rattle.ocl_check.specs.Operations.{comparison, negation, conjunction, single
 use Rattle.ocl_check.specs.Machine.{are_in}
 use Rattle.ocl_check.proofs.Conformance.{conforms-trans}
 
-pub and_left : (a b : Bool) → (a && b) ≡ true → a ≡ true
-and_left true b e = refl
-and_left false b e = e
-
-pub and_right : (a b : Bool) → (a && b) ≡ true → b ≡ true
-and_right true b e = e
-and_right false b e = cc
-
-pub and_both : (a b : Bool) → a ≡ true → b ≡ true → (a && b) ≡ true
-and_both a b e f = rw (e, f) refl
-
 eqb-trans : (a b c : ℕ) → (a == b) ≡ true → (b == c) ≡ true → (a == c) ≡ true
 eqb-trans a b c e f = let h : a ≡ b = eqb-true a b e in rw h f
 
@@ -42,10 +32,10 @@ scalar_fits p (scalar.Int n) element.Integer element.Integer f h = h
 scalar_fits p (scalar.Text t) element.String element.String f h = h
 scalar_fits p (scalar.Literal d l) (element.Enumeration e) (element.Enumeration g) f h = eqb-trans d e g h f
 scalar_fits p (scalar.Object o) (element.Class c) (element.Class d) f h =
-    let there = and_left (nat_lt o (length p.objects)) (conforms p.model (class_of p o) c) h in
-    let conforming = and_right (nat_lt o (length p.objects)) (conforms p.model (class_of p o) c) h in
-    and_both (nat_lt o (length p.objects)) (conforms p.model (class_of p o) d) there (conforms-trans p.model (class_of p o) c d conforming f)
-scalar_fits p (scalar.Object o) (element.Class c) element.AnyObject f h = and_left (nat_lt o (length p.objects)) (conforms p.model (class_of p o) c) h
+    let there = (and_parts (nat_lt o (length p.objects)) (conforms p.model (class_of p o) c) h).0 in
+    let conforming = (and_parts (nat_lt o (length p.objects)) (conforms p.model (class_of p o) c) h).1 in
+    and_from (nat_lt o (length p.objects)) (conforms p.model (class_of p o) d) there (conforms-trans p.model (class_of p o) c d conforming f)
+scalar_fits p (scalar.Object o) (element.Class c) element.AnyObject f h = (and_parts (nat_lt o (length p.objects)) (conforms p.model (class_of p o) c) h).0
 scalar_fits p (scalar.Object o) element.AnyObject element.AnyObject f h = h
 scalar_fits p v a b f h = cc
 
@@ -56,9 +46,9 @@ element_fits_in p (Some v) a b f h = scalar_fits p v a b f h
 elements_fit : (p : Population) (vs : List (Option Scalar)) (a b : ElementKind) → element_fits p.model a b ≡ true → list_all (is_element_in p a) vs ≡ true → list_all (is_element_in p b) vs ≡ true
 elements_fit p [] a b f h = refl
 elements_fit p (v ∷ vs) a b f h =
-    let first = and_left (is_element_in p a v) (list_all (is_element_in p a) vs) h in
-    let others = and_right (is_element_in p a v) (list_all (is_element_in p a) vs) h in
-    and_both (is_element_in p b v) (list_all (is_element_in p b) vs) (element_fits_in p v a b f first) (elements_fit p vs a b f others)
+    let first = (and_parts (is_element_in p a v) (list_all (is_element_in p a) vs) h).0 in
+    let others = (and_parts (is_element_in p a v) (list_all (is_element_in p a) vs) h).1 in
+    and_from (is_element_in p b v) (list_all (is_element_in p b) vs) (element_fits_in p v a b f first) (elements_fit p vs a b f others)
 
 same_collection-trans : (a b c : CollectionKind) → is_same_collection a b ≡ true → is_same_collection b c ≡ true → is_same_collection a c ≡ true
 same_collection-trans collection.Set collection.Set c f g = g
@@ -74,11 +64,11 @@ fits_in p Null a b f h = cc
 fits_in p (Plain v) (kind.Single a) (kind.Single b) f h = scalar_fits p v a b f h
 fits_in p (Plain v) a b f h = cc
 fits_in p (Collection c vs) (kind.Collection d j) (kind.Collection e k) f h =
-    let same = and_left (is_same_collection c d) (list_all (is_element_in p j) vs) h in
-    let all = and_right (is_same_collection c d) (list_all (is_element_in p j) vs) h in
-    let sort = and_left (is_same_collection d e) (element_fits p.model j k) f in
-    let fitting = and_right (is_same_collection d e) (element_fits p.model j k) f in
-    and_both (is_same_collection c e) (list_all (is_element_in p k) vs) (same_collection-trans c d e same sort) (elements_fit p vs j k fitting all)
+    let same = (and_parts (is_same_collection c d) (list_all (is_element_in p j) vs) h).0 in
+    let all = (and_parts (is_same_collection c d) (list_all (is_element_in p j) vs) h).1 in
+    let sort = (and_parts (is_same_collection d e) (element_fits p.model j k) f).0 in
+    let fitting = (and_parts (is_same_collection d e) (element_fits p.model j k) f).1 in
+    and_from (is_same_collection c e) (list_all (is_element_in p k) vs) (same_collection-trans c d e same sort) (elements_fit p vs j k fitting all)
 fits_in p (Collection c vs) a b f h = cc
 
 -- each operand is in its kind
@@ -93,15 +83,15 @@ fit_in p [] os ks f a = refl
 fit_in p (w ∷ ws) os [] f a = cc
 fit_in p (w ∷ ws) [] (k ∷ ks) f a = absurd a
 fit_in p (w ∷ ws) (o ∷ os) (k ∷ ks) f a =
-    let first = and_left (fits p.model k w) (fit p.model ws ks) f in
-    let others = and_right (fits p.model k w) (fit p.model ws ks) f in
-    and_both (is_in p o w) (are_in p ws os) (fits_in p o k w first a.0) (fit_in p ws os ks others a.1)
+    let first = (and_parts (fits p.model k w) (fit p.model ws ks) f).0 in
+    let others = (and_parts (fits p.model k w) (fit p.model ws ks) f).1 in
+    and_from (is_in p o w) (are_in p ws os) (fits_in p o k w first a.0) (fit_in p ws os ks others a.1)
 
 pub past_in : (p : Population) (ws : List Kind) (os : List Value) (ks : List Kind) → fit p.model ws ks ≡ true → AllIn p os ks → AllIn p (past ws os) (past ws ks)
 past_in p [] os ks f a = a
 past_in p (w ∷ ws) os [] f a = cc
 past_in p (w ∷ ws) [] (k ∷ ks) f a = absurd a
-past_in p (w ∷ ws) (o ∷ os) (k ∷ ks) f a = past_in p ws os ks (and_right (fits p.model k w) (fit p.model ws ks) f) a.1
+past_in p (w ∷ ws) (o ∷ os) (k ∷ ks) f a = past_in p ws os ks (and_parts (fits p.model k w) (fit p.model ws ks) f).1 a.1
 
 -- the operations give Booleans
 pub comparison_in : (p : Population) (test : ℤ → ℤ → Bool) (v w : Value) → is_in p (comparison test v w) truth ≡ true
@@ -134,7 +124,7 @@ target_in p t v h = cc
 
 single_in : (p : Population) (t : ElementType) (test : Scalar → Bool) (vs : List Scalar) → ((v : Scalar) → test v ≡ true → is_scalar_in p v (element_kind t) ≡ true) → list_all test vs ≡ true → is_in p (single_value vs) (kind.Single (element_kind t)) ≡ true
 single_in p t test [] each h = refl
-single_in p t test (v ∷ vs) each h = each v (and_left (test v) (list_all test vs) h)
+single_in p t test (v ∷ vs) each h = each v (and_parts (test v) (list_all test vs) h).0
 
 pub attribute_in : (p : Population) (t : ElementType) (vs : List Scalar) → list_all (is_of_type p.model t) vs ≡ true → is_in p (single_value vs) (kind.Single (element_kind t)) ≡ true
 attribute_in p t vs h = single_in p t (is_of_type p.model t) vs (of_type_in p t) h

@@ -2,7 +2,7 @@
 use Rattle.std.proofs.Common.{◌≡◌, ◌⊎◌, inl, inr, ℕ, zero, suc, ◌<◌, ◌≤◌, ◌+◌, Bool, true, false, ◌&&◌, List, [], ◌∷◌, length, get_or, Option, Some, None, Result, Ok, Err, refl, sym, ap, ◌∙◌, subst, arith}
 use Rattle.std.specs.Prelude.{nat_lt, nat_le, if◌then◌else◌, option_and_then, int_lt, int_le}
 use Rattle.std.specs.Option.{option_map}
-use Rattle.std.proofs.lemmas.Bool.{ltb-true, lt-ltb}
+use Rattle.std.proofs.lemmas.Bool.{ltb-true, lt-ltb, and_from, and_parts}
 use Rattle.imkl_model.specs.ClassModel.{Model, conforms, belongs, feature_at}
 use Rattle.imkl_population.specs.declared.scalar.Scalar.TheVariants as scalar
 use Rattle.imkl_population.specs.Population.{Population, class_of, values_of}
@@ -29,7 +29,7 @@ use Rattle.ocl_check.specs.Machine.{Setting, Sequence, Configuration, configurat
 use Rattle.ocl_check.specs.Verdict.{ended_by, next_or, outcome, verdict_at}
 use Rattle.ocl_check.specs.Laws.{IsTask, setting_of, start_of}
 use Rattle.ocl_check.proofs.Conformance.{conforms-trans}
-use Rattle.ocl_check.proofs.InKinds.{and_left, and_right, and_both, fits_in, AllIn, fit_in, past_in, comparison_in, negation_in, conjunction_in, attribute_in, end_in}
+use Rattle.ocl_check.proofs.InKinds.{fits_in, AllIn, fit_in, past_in, comparison_in, negation_in, conjunction_in, attribute_in, end_in}
 use Rattle.ocl_check.proofs.SymbolLaws.{at_some, named_known}
 
 -- ---- what a result says of its parts
@@ -62,12 +62,13 @@ effect_inv s i at ks out e =
     let a = found_inv (takes s.model s.unit i) flaws.NoSuchName at _ out e in
     let b = check_inv (has a.0 ks) flaws.MissingOperand at _ out a.2 in
     let c = check_inv (fit s.model a.0 ks && is_supported s.model s.unit i) flaws.WrongKind at _ out b.1 in
+    let both = and_parts (fit s.model a.0 ks) (is_supported s.model s.unit i) c.0 in
     let d = check_inv (nat_le (suc (length (past a.0 ks))) most_operands) flaws.StackLimit at _ out c.1 in
     record {
       taken = a.0;
       takes_is = a.1;
-      fitting = and_left (fit s.model a.0 ks) (is_supported s.model s.unit i) c.0;
-      supported = and_right (fit s.model a.0 ks) (is_supported s.model s.unit i) c.0;
+      fitting = both.0;
+      supported = both.1;
       out_is = ok_same _ _ d.1;
     }
 
@@ -88,11 +89,11 @@ feature_in p o f consistent there single = rw single (by_role (is_attribute (fea
 
 one_there : (p : Population) (a : Kind) (os : List Value) → are_in p (a ∷ []) os ≡ true → (v : Value) × (rest : List Value) × (os ≡ v ∷ rest) × (is_in p v a ≡ true)
 one_there p a [] h = cc
-one_there p a (v ∷ rest) h = (v, rest, refl, and_left (is_in p v a) true h)
+one_there p a (v ∷ rest) h = (v, rest, refl, (and_parts (is_in p v a) true h).0)
 
 two_there : (p : Population) (a b : Kind) (os : List Value) → are_in p (a ∷ b ∷ []) os ≡ true → (w : Value) × (v : Value) × (rest : List Value) × (os ≡ w ∷ v ∷ rest)
 two_there p a b [] h = cc
-two_there p a b (w ∷ os) h = by_rest os (and_right (is_in p w a) (are_in p (b ∷ []) os) h)
+two_there p a b (w ∷ os) h = by_rest os (and_parts (is_in p w a) (are_in p (b ∷ []) os) h).1
   where
     by_rest : (os : List Value) → are_in p (b ∷ []) os ≡ true → (x : Value) × (v : Value) × (rest : List Value) × (w ∷ os ≡ x ∷ v ∷ rest)
     by_rest [] h = cc
@@ -103,8 +104,8 @@ reads : (p : Population) (c f : ℕ) (v : Value) → IsConsistent p → belongs 
 reads p c f value.Invalid consistent belonging single h = (value.Invalid, refl, refl)
 reads p c f value.Null consistent belonging single h = (value.Invalid, refl, refl)
 reads p c f (value.Plain (scalar.Object x)) consistent belonging single h =
-    let there = ltb-true x (length p.objects) (and_left (nat_lt x (length p.objects)) (conforms p.model (class_of p x) c) h) in
-    let conforming = and_right (nat_lt x (length p.objects)) (conforms p.model (class_of p x) c) h in
+    let there = ltb-true x (length p.objects) (and_parts (nat_lt x (length p.objects)) (conforms p.model (class_of p x) c) h).0 in
+    let conforming = (and_parts (nat_lt x (length p.objects)) (conforms p.model (class_of p x) c) h).1 in
     let its = conforms-trans p.model (class_of p x) c (feature_at p.model f).owner conforming belonging in
     (feature_value (feature_at p.model f) (values_of p x f), rw its refl, feature_in p x f consistent there single)
 reads p c f v consistent belonging single h = cc
@@ -120,23 +121,23 @@ module _ (u : Content) (p : Population) (context o : ℕ) (consistent : IsConsis
   abbrev pub variables : List Value
   variables = value.Plain (scalar.Object o) ∷ []
 
-  by_name : (a : ℕ) (make : Instr) (os : List Value) (n : Option Named) (ws : List Kind) → named_at p.model u a ≡ n → holder_of n ≡ Some ws → are_in p ws os ≡ true → names_single p.model n ≡ true → (r : Value) × ((v : Value) × (rest : List Value) × (os ≡ v ∷ rest) × (read_named p n v ≡ Some r)) × (is_in p r (kind_read p.model n) ≡ true)
-  by_name a make os (Some (named.Feature c f)) ws is h are single =
+  by_name : (a : ℕ) (os : List Value) (n : Option Named) (ws : List Kind) → named_at p.model u a ≡ n → holder_of n ≡ Some ws → are_in p ws os ≡ true → names_single p.model n ≡ true → (r : Value) × ((v : Value) × (rest : List Value) × (os ≡ v ∷ rest) × (read_named p n v ≡ Some r)) × (is_in p r (kind_read p.model n) ≡ true)
+  by_name a os (Some (named.Feature c f)) ws is h are single =
       let same : object_of c ∷ [] ≡ ws = cc in
       let operand = one_there p (object_of c) os (subst (λ (l : List Kind). are_in p l os ≡ true) (sym same) are) in
       let known = at_some (named_at p.model u a) (IsKnownName p.model) (named.Feature c f) is (named_known p.model u a) in
       let r = reads p c f operand.0 consistent known.2 single operand.3 in
       (r.0, (operand.0, operand.1, operand.2, r.1), r.2)
-  by_name a make os n ws is h are single = cc
+  by_name a os n ws is h are single = cc
 
   gives_value : (i : Instr) (os : List Value) (ws : List Kind) → takes p.model u i ≡ Some ws → are_in p ws os ≡ true → is_supported p.model u i ≡ true → Gives u p context variables i os
   gives_value instrs.SelfObject os ws t are supported =
-      record { value = value.Plain (scalar.Object o); result_is = refl; in_kind = and_both (nat_lt o (length p.objects)) (conforms p.model (class_of p o) context) (lt-ltb o (length p.objects) there) inside }
+      record { value = value.Plain (scalar.Object o); result_is = refl; in_kind = and_from (nat_lt o (length p.objects)) (conforms p.model (class_of p o) context) (lt-ltb o (length p.objects) there) inside }
   gives_value (instrs.Int n) os ws t are supported = record { value = value.Plain (scalar.Int n); result_is = refl; in_kind = refl }
   gives_value (instrs.Bool b) os ws t are supported = record { value = value.Plain (scalar.Bool b); result_is = refl; in_kind = refl }
   gives_value instrs.Null os ws t are supported = record { value = value.Null; result_is = refl; in_kind = refl }
   gives_value (instrs.Attr a) os ws t are supported =
-      let r = by_name a.0 (instrs.Attr a) os (named_at p.model u a.0) ws refl t are supported in
+      let r = by_name a.0 os (named_at p.model u a.0) ws refl t are supported in
       record { value = r.0; result_is = ap (result_of (setting_of u p) variables (instrs.Attr a)) r.1.2 ∙ r.1.3; in_kind = r.2 }
   gives_value instrs.Lt os ws t are supported =
       let same : whole_number ∷ whole_number ∷ [] ≡ ws = cc in

@@ -1,8 +1,9 @@
 -- The machine's steps are those of its configuration.
 use Rattle.std.proofs.Common.{◌≡◌, ℕ, ◌+◌, ◌<◌, ◌≤◌, Bool, true, List, [], ◌∷◌, length, map, get_or, drop, Option, Some, None, refl, sym, ap, ◌∙◌, subst, arith}
 use Rattle.std.specs.Prelude.{nat_lt, if◌then◌else◌}
-use Rattle.std.proofs.lemmas.Bool.{ltb-true}
+use Rattle.std.proofs.lemmas.Bool.{ltb-true, and_parts}
 use Rattle.std.proofs.lemmas.List.{drop_more, drop_all}
+use Rattle.std.proofs.lemmas.Option.{same_Some}
 use Rattle.imkl_model.specs.ClassModel.{belongs, conforms, feature_at}
 use Rattle.imkl_population.specs.declared.scalar.Scalar.TheVariants as scalar
 use Rattle.imkl_population.specs.Population.{Population, class_of, values_of}
@@ -21,22 +22,19 @@ use Rattle.ocl_check.specs.Verdict.{verdict_of, ended_by, next_or, outcome, verd
 use Rattle.ocl_check.specs.Laws.{IsTask, setting_of, start_of}
 use Rattle.ocl_check.specs.Shown.{meant, all_meant, IsHolder, CanPerform}
 use Rattle.ocl_check.proofs.Conformance.{conforms-trans}
-use Rattle.ocl_check.proofs.InKinds.{and_left, and_right, fit_in}
+use Rattle.ocl_check.proofs.InKinds.{fit_in}
 use Rattle.ocl_check.proofs.Runs.{effect_inv, then_inv, Going, goes, one_operand, at_tree, one_step, Task, task_of, size-tree_of}
 
 -- the operands are there
 are_there : (p : Population) (ws : List Kind) (os : List Held) → are_in p ws (all_meant os) ≡ true → length ws ≤ length os
 are_there p [] os h = omega arith
 are_there p (w ∷ ws) [] h = cc
-are_there p (w ∷ ws) (o ∷ os) h = omega (arith, are_there p ws os (and_right (is_in p (meant o) w) (are_in p ws (all_meant os)) h))
+are_there p (w ∷ ws) (o ∷ os) h = omega (arith, are_there p ws os (and_parts (is_in p (meant o) w) (are_in p ws (all_meant os)) h).1)
 
 pub operands_there : (u : Content) (p : Population) (i j : Instr) (ws : List Kind) (os : List Held) → j ≡ i → takes p.model u i ≡ Some ws → CanPerform u p j (all_meant os) → length ws ≤ length os
 operands_there u p i j ws os is t can =
-    let same : can.taken ≡ ws = some_same can.taken ws (sym can.takes_is ∙ ap (takes p.model u) is ∙ t) in
+    let same : can.taken ≡ ws = same_Some can.taken ws (sym can.takes_is ∙ ap (takes p.model u) is ∙ t) in
     are_there p ws os (subst (λ (l : List Kind). are_in p l (all_meant os) ≡ true) same can.are)
-  where
-    some_same : (x y : List Kind) → ◌≡◌ {A = Option (List Kind)} (Some x) (Some y) → x ≡ y
-    some_same x y h = cc
 
 -- ---- the code of a rule
 
@@ -84,7 +82,7 @@ module _ (u : Content) (p : Population) (r o : ℕ) (code : List Instr) (at : �
   pub stands_on : (new : List Value) → performed (setting_of u p) (value.Plain (scalar.Object o) ∷ []) i os ≡ Some new → Standing u p r o code (at + 1) new
   stands_on new done =
       let gone = goes u p s.context o s.task.consistent s.task.object s.inside i (tree_of (drop (at + 1) code)) os going_at in
-      let same : gone.operands ≡ new = some_same gone.operands new (sym gone.performed_is ∙ done) in
+      let same : gone.operands ≡ new = same_Some gone.operands new (sym gone.performed_is ∙ done) in
       let start = at_tree u p s.context o s.task.consistent s.task.object s.inside in
       let first = one_step u p s.context o s.task.consistent s.task.object s.inside i (tree_of (drop (at + 1) code)) os new done in
       record {
@@ -98,9 +96,6 @@ module _ (u : Content) (p : Population) (r o : ℕ) (code : List Instr) (at : �
             ∙ sym (ap (λ (t : Tree). outcome (ended_by (size t) (setting_of u p) (start t os))) split)
             ∙ s.verdict;
       }
-    where
-      some_same : (x y : List Value) → ◌≡◌ {A = Option (List Value)} (Some x) (Some y) → x ≡ y
-      some_same x y h = cc
 
 pub stands_last : (u : Content) (p : Population) (r o : ℕ) (code : List Instr) (at : ℕ) (os : List Value) → Standing u p r o code at os → length code ≤ at → (v : Value) × (os ≡ v ∷ []) × (verdict_of v ≡ verdict_at u p.model p r o)
 stands_last u p r o code at os s le =
@@ -115,8 +110,8 @@ stands_last u p r o code at os s le =
 -- an object among what may hold a feature is there, and the feature belongs to its class
 pub holder_there : (p : Population) (f o : ℕ) → IsHolder p f (value.Plain (scalar.Object o)) → (o < length p.objects) × (belongs p.model (class_of p o) f ≡ true)
 holder_there p f o h =
-    let there = ltb-true o (length p.objects) (and_left (nat_lt o (length p.objects)) (conforms p.model (class_of p o) h.0) h.1) in
-    let conforming = and_right (nat_lt o (length p.objects)) (conforms p.model (class_of p o) h.0) h.1 in
+    let there = ltb-true o (length p.objects) (and_parts (nat_lt o (length p.objects)) (conforms p.model (class_of p o) h.0) h.1).0 in
+    let conforming = (and_parts (nat_lt o (length p.objects)) (conforms p.model (class_of p o) h.0) h.1).1 in
     (there, conforms-trans p.model (class_of p o) h.0 (feature_at p.model f).owner conforming h.2)
 
 pub read_object : (p : Population) (f o : ℕ) (r : Value) → belongs p.model (class_of p o) f ≡ true → is_single (feature_at p.model f).upper ≡ true → r ≡ single_value (values_of p o f) → read_from p f (value.Plain (scalar.Object o)) ≡ Some r

@@ -2,6 +2,7 @@
 use Rattle.std.proofs.Common.{◌≡◌, ℕ, zero, suc, get_or, ◌<◌, true, ◌&&◌, List, [], ◌∷◌, length, Option, Some, None, map, refl, sym, ap, ◌∙◌, subst, IfSome, arith, bytes_eq, position}
 use Rattle.std.specs.Prelude.{slice_get, option_and_then}
 use Rattle.std.specs.Option.{option_map}
+use Rattle.std.proofs.lemmas.Bool.{and_parts}
 use Rattle.std.proofs.lemmas.List.{length-map}
 use Rattle.std.proofs.lemmas.Option.{slice_get_read}
 use Rattle.std.proofs.lemmas.List.Quantifiers.{position-Some}
@@ -15,7 +16,6 @@ use Rattle.ocl_check.specs.declared.verify.named.Named.TheVariants as named
 use Rattle.ocl_check.specs.Symbols.{named_by, named_at}
 use Rattle.ocl_check.specs.Known.{IsKnownName}
 use Rattle.ocl_check.specs.Linked.{LinkedUnit, linked_unit}
-use Rattle.ocl_check.proofs.InKinds.{and_right}
 
 pub at_some : {A : Type 0} (o : Option A) (P : A → Type 0) (x : A) → o ≡ Some x → IfSome o P → P x
 at_some (Some y) P x e h = let same : y ≡ x = cc in subst P same h
@@ -51,7 +51,7 @@ enumeration_known m name =
 feature_known : (m : Model) (c : ℕ) (name : List ℕ) → IfSome (feature_number m c name) (λ f. (f < length m.features) × (belongs m c f ≡ true))
 feature_known m c name =
     if_weaker (feature_number m c name) (λ f. (f < length m.features) × ((is_named m name f && belongs m c f) ≡ true)) (λ f. (f < length m.features) × (belongs m c f ≡ true))
-    (λ f h. (h.0, and_right (is_named m name f) (belongs m c f) h.1)) (least_passes (λ f. is_named m name f && belongs m c f) (length m.features))
+    (λ f h. (h.0, (and_parts (is_named m name f) (belongs m c f) h.1).1)) (least_passes (λ f. is_named m name f && belongs m c f) (length m.features))
 
 by_symbol : (m : Model) (texts : List (List ℕ)) (s : Symbol) → IfSome (named_by m texts s) (IsKnownName m)
 by_symbol m texts (symbols.Class c) =

@@ -1,10 +1,10 @@
 -- What every unit keeps, at each of its parts.
-use Rattle.std.proofs.Common.{◌≡◌, ℕ, zero, suc, ◌<◌, ◌^◌, true, List, [], ◌∷◌, ◌++◌, length, get_or, map, string_bytes, String, Option, Some, refl, sym, ap, ◌∙◌, subst, arith}
+use Rattle.std.proofs.Common.{◌≡◌, ℕ, zero, suc, ◌<◌, ◌^◌, true, List, [], ◌∷◌, ◌++◌, length, get_or, map, string_bytes, String, Some, refl, sym, ap, ◌∙◌, subst, arith}
 use Rattle.std.specs.Prelude.{slice_get}
 use Rattle.std.specs.List.{AllByRecursion}
 use Rattle.std.specs.declared.alloc.Global.{Global}
 use Rattle.std.proofs.lemmas.List.{length-map, get_or-map}
-use Rattle.std.proofs.lemmas.Option.{slice_get_read}
+use Rattle.std.proofs.lemmas.Option.{same_Some, slice_get_read}
 use Rattle.std.proofs.lemmas.List.Elements.{All-from_recursion}
 use Rattle.std.proofs.Props.{props}
 use Rattle.std.proofs.Math.Logic.{∥∥₁_elim}
@@ -44,16 +44,10 @@ module _ (ts : List (String Global)) (ss : List Symbol) (rs : List Rule) (held :
   pub rules_few : length rs < 2 ^ 16
   rules_few = ∥∥₁_elim held (hlevel props) (λ h. omega (arith, h.rule_count, length-map rs rule_content))
 
-abbrev some : {A : Type 0} → A → Option A
-some x = Some x
-
-some_is : {A : Type 0} (x y : A) → some x ≡ some y → x ≡ y
-some_is x y e = cc
-
 -- the thing at a place fits, given some things before it
 pub EachFits-at : {A : Type 0} (Fits : List A → A → Type 0) (before xs : List A) (i : ℕ) (x : A) → slice_get xs i ≡ Some x → EachFits Fits before xs → (earlier : List A) × Fits earlier x
 EachFits-at Fits before [] i x e h = absurd cc
-EachFits-at Fits before (y ∷ ys) zero x e h = (before, subst (Fits before) (some_is y x e) h.0)
+EachFits-at Fits before (y ∷ ys) zero x e h = (before, subst (Fits before) (same_Some y x e) h.0)
 EachFits-at Fits before (y ∷ ys) (suc i) x e h = EachFits-at Fits (before ++ y ∷ []) ys i x e h.1
 
 pub AllByRecursion-at : {A : Type 0} (Fits : A → Type 0) (xs : List A) (i : ℕ) (x : A) → slice_get xs i ≡ Some x → AllByRecursion Fits xs → Fits x

@@ -16,7 +16,7 @@ use Rattle.rule_code.specs.Reading.{Fault, ◌>>=◌, Read, at, number_at, count
 use Rattle.rule_code.specs.Opcodes.{instr_at}
 use Rattle.rule_code.specs.Parts.{text_at, symbol_at, name_at, code_at, rule_at, next_rule_at}
 use Rattle.rule_code.specs.CodeFile.{head_at, texts_at, symbols_at, rules_at, ended, whole_at, with_offset, unit_of}
-use Rattle.rule_code.proofs.Bytes.{IsBytes, IsBytes-drop, bind_ok, pass_ok, pass_on, ok_is, Takes, Takes-then}
+use Rattle.rule_code.proofs.Bytes.{IsBytes, IsBytes-drop, bind_ok, pass_ok, pass_on, done, ok_is, Takes, Takes-then}
 use Rattle.rule_code.proofs.Codec.{IsCodec, counted_codec, AllByRecursion-from_each, EachFits-from_all}
 use Rattle.rule_code.proofs.Fields.{number_codec, count_codec, text_number_codec, symbol_number_codec, text_codec}
 use Rattle.rule_code.proofs.Symbols.{symbol_codec}
@@ -162,9 +162,6 @@ whole_again u fits = ap whole_at (sym (append-nil (spelling u))) ∙ whole_again
 pub no_beginning : (u v : Content) (rest : List ℕ) → IsUnit u → IsUnit v → spelling v ≡ spelling u ++ rest → (rest ≡ []) × (u ≡ v)
 no_beginning u v rest fits more e = ended_ok u v rest (sym (whole_again_then u rest fits) ∙ ap whole_at (sym e) ∙ whole_again v more)
 
-abbrev read_as : Content → Result Content Fault
-read_as u = Ok u
-
 abbrev refused : Fault → Result Content Fault
 refused fault = Err fault
 
@@ -172,14 +169,11 @@ refused fault = Err fault
 whole_is : (bytes : List ℕ) (u : Content) (read : Result Content Fault) → IsUnit u → bytes ≡ spelling u → whole_at bytes ≡ read → read ≡ Ok u
 whole_is bytes u read fits e is = sym is ∙ ap whole_at e ∙ whole_again u fits
 
-result_is : (u v : Content) → read_as u ≡ read_as v → u ≡ v
-result_is u v e = cc
-
-no_fault : (u : Content) (fault : Fault) → refused fault ≡ read_as u → ⊥
+no_fault : (u : Content) (fault : Fault) → refused fault ≡ done u → ⊥
 no_fault u fault e = cc
 
 pub read_is : (bytes : List ℕ) (u v : Content) → IsUnit u → bytes ≡ spelling u → whole_at bytes ≡ Ok v → v ≡ u
-read_is bytes u v fits e is = result_is v u (whole_is bytes u (Ok v) fits e is)
+read_is bytes u v fits e is = ok_is v u (whole_is bytes u (Ok v) fits e is)
 
 pub never_refused : (bytes : List ℕ) (u : Content) (fault : Fault) → IsUnit u → bytes ≡ spelling u → whole_at bytes ≡ Err fault → ⊥
 never_refused bytes u fault fits e is = no_fault u fault (whole_is bytes u (Err fault) fits e is)

@@ -2,7 +2,8 @@ use Rattle.std.proofs.Common.{◌≡◌, ◌++◌, ◌+◌, ◌-◌, ◌∙◌, 
 use Rattle.std.proofs.lemmas.List.{take_rest}
 use Rattle.std.proofs.Math.Seq.{take-add}
 use Rattle.std.specs.Io.KnownBytes.{Appends}
-use Rattle.ocl_check.proofs.Writes.{appends_then, takes_some}
+use Rattle.std.proofs.KnownBytes.{Appends-trans}
+use Rattle.ocl_check.proofs.Writes.{takes_some}
 use Rattle.ocl_check.proofs.sink.write_whole.Goals as goal
 
 pub pieces-preserved : goal.pieces-preserved
@@ -14,6 +15,6 @@ pieces-preserved g c =
     let parts : take at bs ++ take c.in-Ok.n (take (length bs - at) (drop at bs)) ≡ take (at + c.in-Ok.n) bs = rw rest (sym (take-add at c.in-Ok.n bs)) in
     record {
       within = omega (arith, more.bound, ap length rest, length-drop at bs);
-      written = subst (λ (xs : List ℕ). Appends (g.S.Sink.contents c.args.sink.now) (g.S.Sink.contents c.write.new.self) xs) parts (appends_then _ (g.S.Sink.contents c.pieces.sink) _ (take at bs) _ c.pieces.invariant.written more.bytes);
+      written = subst (λ (xs : List ℕ). Appends (g.S.Sink.contents c.args.sink.now) (g.S.Sink.contents c.write.new.self) xs) parts (Appends-trans _ (g.S.Sink.contents c.pieces.sink) _ (take at bs) _ c.pieces.invariant.written more.bytes);
       well = more.failed ∙ rw (c.pieces.invariant.well, takes_some (take (length bs - at) (drop at bs)) c.in-Ok.n c.in-Ok.n-test.1) refl;
     }
