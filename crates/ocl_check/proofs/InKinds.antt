@@ -115,7 +115,7 @@ of_type_in : (p : Population) (t : ElementType) (v : Scalar) → is_of_type p.mo
 of_type_in p type.Boolean (scalar.Bool b) h = refl
 of_type_in p type.Integer (scalar.Int n) h = refl
 of_type_in p type.String (scalar.Text t) h = refl
-of_type_in p (type.Enumeration e) (scalar.Literal d l) h = and_left (d == e) (nat_lt l (length (enumeration_at p.model e).literals)) h
+of_type_in p (type.Enumeration e) (scalar.Literal d l) h = (and_parts (d == e) (nat_lt l (length (enumeration_at p.model e).literals)) h).0
 of_type_in p t v h = cc
 
 target_in : (p : Population) (t : ElementType) (v : Scalar) → is_target_of p t v ≡ true → is_scalar_in p v (element_kind t) ≡ true
