@@ -18,3 +18,4 @@ pub mod Lengths
 pub mod Orders
 pub mod Held
 pub mod Idle
+pub mod Gathering

@@ -10,6 +10,7 @@ mod instances;
 mod layout;
 mod numbers;
 mod object;
+mod order;
 mod population;
 mod repeats;
 mod required;
