@@ -19,3 +19,4 @@ pub mod Orders
 pub mod Held
 pub mod Idle
 pub mod SourceEnds
+pub mod Gathering

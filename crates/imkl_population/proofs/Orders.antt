@@ -1,9 +1,8 @@
--- Numbers in order: the places that pass a test, and what a sort without repeats leaves of a list.
+-- Numbers in order: the places that pass a test, and the numbers of a list.
 use Rattle.std.proofs.Common.{◌≡◌, ℕ, zero, suc, ◌<◌, ◌==◌, Bool, true, false, ◌||◌, List, [], ◌∷◌, ◌++◌, refl, sym, ap, subst, ◌∙◌, eqb, arith, All, Less, Some, is_some, cond, filter, nat_lt, ◌&&◌, if◌then◌else◌, inl, inr}
-use Rattle.std.specs.List.{AllByRecursion, Contains, list_any, dedup}
+use Rattle.std.specs.List.{AllByRecursion, Contains, list_any}
 use Rattle.std.specs.Map.{keys_of, lookup}
-use Rattle.std.specs.List.Retain.{IsFiltered, DiffersFromLast}
-use Rattle.std.specs.List.Sorted.{IsSorted, IsPermutation, IsStrictlySortedBy}
+use Rattle.std.specs.List.Sorted.{IsStrictlySortedBy}
 use Rattle.std.specs.Ordering.{nat_cmp}
 use Rattle.std.specs.Cmp.{nat_cmp_is, IsEquivalence}
 use Rattle.std.specs.BTreeMap.{is_at}
@@ -13,17 +12,15 @@ use Rattle.std.proofs.lemmas.Bool.Decides.{leb_tells}
 use Rattle.std.proofs.Math.Bool.{or-false, or_comm, and-false}
 use Rattle.std.proofs.lemmas.List.{append-nil}
 use Rattle.std.specs.FinMap.{nat_cmp-IsAntisymmetric}
-use Rattle.std.proofs.lemmas.List.Filters.{dedup_is}
-use Rattle.std.proofs.lemmas.List.Folds.{list_any-append}
-use Rattle.std.proofs.lemmas.List.Kept.{Contains-dedup_nat, Contains-from_dedup, IsStrictlySortedBy-filter}
-use Rattle.std.proofs.lemmas.Map.Keys.{IsStrictlyIncreasing-dedup, sorted_from_strictly_increasing}
-use Rattle.std.proofs.lemmas.List.Sorted.{Contains-permutation, IsPermutation-sym}
+use Rattle.std.proofs.lemmas.List.Folds.{list_any-append, list_any-from_Any}
+use Rattle.std.proofs.lemmas.List.Kept.{IsStrictlySortedBy-filter}
 use Rattle.std.proofs.lemmas.Map.Lookups.{btree_set_from_contains}
 use Rattle.std.proofs.lemmas.Map.Views.{Contains-from_any, list_any-from_Contains}
 use Rattle.std.proofs.lemmas.List.Elements.{All-append, All-contains, All-weaker}
 use Rattle.std.proofs.lemmas.Cmp.{nat_cmp_total}
 use Rattle.imkl_population.specs.Numbers.{places}
 use Rattle.imkl_population.specs.declared.scalar.Scalar.{Scalar}
+use Rattle.imkl_population.specs.Order.{AreInOrder}
 use Rattle.imkl_population.specs.Required.{is_one_of}
 use Rattle.imkl_population.specs.Store.{IsMap}
 use Rattle.imkl_population.specs.Written.{is_set}
@@ -132,37 +129,24 @@ ascending zs p n sorted each all =
     all f passes.0 passes.1) in
     btree_set_from_contains nat_cmp_total (set_of zs) (set_of (places p n)) sorted (places-sorted p n) (λ f. told zs f ∙ same f ∙ sym (told (places p n) f)) nat_cmp-IsAntisymmetric
 
--- what stays of the numbers of a list, sorted and without repeats
-module _ (xs ys zs : List ℕ) (moved : IsPermutation xs ys) (sorted : IsSorted nat_cmp ys) (kept : IsFiltered (DiffersFromLast eqb) [] ys zs) where
-  zs_are : zs ≡ dedup eqb ys
-  zs_are = dedup_is eqb ys zs kept
-
-  to : (f : ℕ) → Contains xs f → Contains zs f
-  to f h = subst (λ (l : List ℕ). Contains l f) (sym zs_are) (Contains-dedup_nat ys f (Contains-permutation xs ys f moved h))
-
-  back : (f : ℕ) → Contains zs f → Contains xs f
-  back f h = Contains-permutation ys xs f (IsPermutation-sym xs ys moved) (Contains-from_dedup eqb ys f (subst (λ (l : List ℕ). Contains l f) zs_are h))
-
-  zs_sorted : IsStrictlySortedBy nat_cmp zs
-  zs_sorted = subst (IsStrictlySortedBy nat_cmp) (sym zs_are) (sorted_from_strictly_increasing (dedup eqb ys) (IsStrictlyIncreasing-dedup ys sorted))
-
-  pub ordered : (n : ℕ) → All (λ f. f < n) xs → zs ≡ places (is_one_of xs) n
-  ordered n small =
-      ascending zs (is_one_of xs) n zs_sorted
-      (λ f h. let there : Contains xs f = back f (one_of-contains zs f h) in (All-contains (λ g. g < n) xs f small there, contains-one_of xs f there))
-      (λ f lt h. contains-one_of zs f (to f (one_of-contains xs f h)))
+-- the numbers of a list, in order, are the places that are among them
+pub ordered : (xs zs : List ℕ) → AreInOrder nat_cmp eqb xs zs → (n : ℕ) → All (λ f. f < n) xs → zs ≡ places (is_one_of xs) n
+ordered xs zs order n small =
+    ascending zs (is_one_of xs) n order.ascend
+    (λ f h. let there : Contains xs f = order.were f (one_of-contains zs f h) in (All-contains (λ g. g < n) xs f small there, contains-one_of xs f there))
+    (λ f lt h. list_any-from_Any (λ g. f == g) zs (order.kept f (one_of-contains xs f h)))
 
 -- places are below their bound
 pub places-small : (p : ℕ → Bool) (n : ℕ) (xs : List ℕ) → xs ≡ places p n → All (λ f. f < n) xs
 places-small p n xs are = subst (All (λ f. f < n)) (sym are) (All-weaker (Passes p n) (λ f. f < n) (λ f q. q.0) (places p n) (places-pass p n))
 
 -- some numbers in order with those places that pass
-pub ordered_with : (p : ℕ → Bool) (n : ℕ) (xs all zs : List ℕ) → All (λ f. f < n) xs → all ≡ xs ++ places p n → (All (λ f. f < n) all → zs ≡ places (is_one_of all) n)
+pub ordered_with : (p : ℕ → Bool) (n : ℕ) (xs all zs : List ℕ) → All (λ f. f < n) xs → all ≡ xs ++ places p n → AreInOrder nat_cmp eqb all zs
     → zs ≡ places (λ f. p f || is_one_of xs f) n
 ordered_with p n xs all zs small joined order =
     let passing : All (λ f. f < n) (places p n) = places-small p n (places p n) refl in
     let all_small : All (λ f. f < n) all = subst (All (λ f. f < n)) (sym joined) (All-append (λ f. f < n) xs (places p n) small passing) in
-    order all_small
+    ordered all zs order n all_small
     ∙ places-same (is_one_of all) (λ f. p f || is_one_of xs f) n
     (λ f lt. ap (λ (l : List ℕ). is_one_of l f) joined ∙ list_any-append (λ g. f == g) xs (places p n) ∙ ap (λ (b : Bool). is_one_of xs f || b) (one_of-places p n f lt) ∙ or_comm (is_one_of xs f) (p f))
 

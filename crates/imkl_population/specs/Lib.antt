@@ -12,3 +12,5 @@ pub mod Ends
 pub mod Store
 pub mod Layout
 pub mod Sizes
+pub mod Order
+pub mod Instances

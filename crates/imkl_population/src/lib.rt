@@ -11,6 +11,7 @@ pub mod laws;
 mod layout;
 mod numbers;
 mod object;
+mod order;
 mod population;
 mod repeats;
 mod required;

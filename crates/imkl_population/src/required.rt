@@ -2,9 +2,10 @@
 
 ghost use Rattle.std.specs.Prelude.{◌≡◌, ◌<◌, ◌++◌, ℕ, length, All, IfOk, OnOk};
 ghost use Rattle.imkl_population.specs.Numbers.{places};
-ghost use Rattle.imkl_population.specs.Required.{is_on, is_required, required, is_one_of, with_required};
+ghost use Rattle.imkl_population.specs.Required.{is_on, is_required, required, with_required};
 
 use crate::checks::is_opposite;
+use crate::order::in_order;
 use imkl_model::{ClassModel, ClassNo, FeatureNo, Role};
 use std::alloc::{AllocError, Global};
 use std::collections::BTreeMap;
@@ -76,16 +77,6 @@ fn is_on(side: Side, role: Role) -> bool
         Side::Written => !is_opposite(role),
         Side::Opposite => is_opposite(role),
     }
-}
-
-/// A list that ascends, with each number once.
-fn in_order(features: Vec<FeatureNo>) -> Vec<FeatureNo>
-    ensures { (n : ℕ) → All (λ f. f < n) features.items → result.items ≡ places (is_one_of features.items) n }
-{
-    let mut features = features;
-    features.sort_unstable();
-    features.dedup();
-    features
 }
 
 impl<'m> RequiredFeatures<'m> {

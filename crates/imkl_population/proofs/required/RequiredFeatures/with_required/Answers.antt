@@ -7,7 +7,7 @@ pub returns-clause-list : goal.returns-clause-list
 returns-clause-list c =
     let r = c.args.self.now in
     let n = length r.model.features in
-    ordered_with (is_required r c.args.class) n c.args.features.items c.add_required.new.features.items c.in_order.result.items c.requires.features c.in_ok-add_required.ensures.added (c.in_order.ensures n)
+    ordered_with (is_required r c.args.class) n c.args.features.items c.add_required.new.features.items c.in_order.result.items c.requires.features c.in_ok-add_required.ensures.added c.in_order.ensures
 
 pub returns-clause-known : goal.returns-clause-known
 returns-clause-known c =
