@@ -5,7 +5,7 @@ use imkl_model::{ClassModel, EnumNo, FeatureNo, LiteralNo, ModelFault};
 use std::alloc::{AllocError, Global};
 use std::test::*;
 
-const MODEL: &str = r#"{"model":"m","enums":[{"name":"Thema","literals":["water","gas"]}],
+const MODEL: &str = r#"{"model":"m","enums":[{"name":"Thema","literals":["water","gas","riool"]}],
 "classes":[
 {"name":"Leiding","abstract":true,"supers":[],"attributes":[
 {"name":"naam","type":"String","lower":0,"upper":1,"ordered":false,"unique":true},
@@ -14,11 +14,15 @@ const MODEL: &str = r#"{"model":"m","enums":[{"name":"Thema","literals":["water"
 {"name":"themas","type":"Thema","lower":1,"upper":2,"ordered":false,"unique":true}]},
 {"name":"Glasvezel","abstract":false,"supers":["Kabel"],"attributes":[
 {"name":"actief","type":"Boolean","lower":0,"upper":null,"ordered":false,"unique":true}]},
-{"name":"Buis","abstract":false,"supers":["Leiding"],"attributes":[]}],
+{"name":"Buis","abstract":false,"supers":["Leiding"],"attributes":[]},
+{"name":"Bundel","abstract":false,"supers":[],"attributes":[]}],
 "associations":[
 {"name":"omhulling","from":"Buis","to":"Kabel",
 "end":{"name":"omvat","lower":0,"upper":2,"ordered":false},
-"opposite":{"name":"ligtIn","lower":0,"upper":2,"ordered":false}}]}"#;
+"opposite":{"name":"ligtIn","lower":0,"upper":2,"ordered":false}},
+{"name":"bundeling","from":"Bundel","to":"Kabel",
+"end":{"name":"bundelt","lower":3,"upper":null,"ordered":false},
+"opposite":{"name":"gebundeld","lower":0,"upper":null,"ordered":false}}]}"#;
 
 /// The class model of all tests.
 fn read(alloc: Global) -> Result<ClassModel, ModelFault> {
@@ -130,6 +134,15 @@ fn link_number(
     Ok(link(&mut builder, id, place, &targets))
 }
 
+/// The number of the fault of linking a bundle to these of the five, or 0.
+fn bundle_number(alloc: Global, model: &ClassModel, targets: &[usize]) -> Result<u8, AllocError> {
+    let mut builder = PopulationBuilder::new(alloc, model);
+    let _ = add_five(&mut builder);
+    let _ = add(&mut builder, "u", "Bundel");
+    let targets = objects(alloc, targets)?;
+    Ok(link(&mut builder, "u", BUNDLED, &targets))
+}
+
 /// The objects at these places.
 fn objects(alloc: Global, places: &[usize]) -> Result<Vec<ObjectNo>, AllocError> {
     let mut objects = Vec::new(alloc);
@@ -196,6 +209,8 @@ const HELD: (&str, &str) = ("Buis", "omvat");
 
 const HOLDERS: (&str, &str) = ("Kabel", "ligtIn");
 
+const BUNDLED: (&str, &str) = ("Bundel", "bundelt");
+
 /// Whether setting is refused with each of its faults.
 fn has_set_faults(alloc: Global, model: &ClassModel) -> Result<bool, AllocError> {
     Ok(
@@ -219,6 +234,7 @@ fn setting(rt: HostRuntime) -> Result<(), Fail> {
 fn has_link_faults(alloc: Global, model: &ClassModel) -> Result<bool, AllocError> {
     Ok(
         link_number(alloc, model, "b", NAME, &[0])? == 3
+            && link_number(alloc, model, "b", HOLDERS, &[0])? == 3
             && link_number(alloc, model, "k", HOLDERS, &[0])? == 9
             && link_number(alloc, model, "b", HELD, &[1, 1])? == 7
             && link_number(alloc, model, "b", HELD, &[0, 5])? == 7
@@ -231,6 +247,16 @@ fn has_link_faults(alloc: Global, model: &ClassModel) -> Result<bool, AllocError
 fn linking(rt: HostRuntime) -> Result<(), Fail> {
     let model = read(rt.alloc())?;
     assert!(rt; has_link_faults(rt.alloc(), &model)?);
+    Ok(())
+}
+
+#[test]
+fn bundling(rt: HostRuntime) -> Result<(), Fail> {
+    let model = read(rt.alloc())?;
+    // A target that stands twice comes before too few targets.
+    assert!(rt; bundle_number(rt.alloc(), &model, &[0, 0])? == 8);
+    assert!(rt; bundle_number(rt.alloc(), &model, &[0, 2])? == 5);
+    assert!(rt; bundle_number(rt.alloc(), &model, &[0, 2, 4])? == 0);
     Ok(())
 }
 
@@ -344,12 +370,54 @@ fn finished(rt: HostRuntime) -> Result<(), Fail> {
     Ok(())
 }
 
-/// Finishes a population of a cable, with these themes, that these ducts hold.
+/// Whether values are the literals at these places, in this order.
+fn are_literals(values: &[Scalar], places: &[usize]) -> bool {
+    values.len() == places.len()
+        && values.iter().zip(places).all(|(value, place)| match value {
+            Scalar::Literal(_, literal) => literal.place() == *place,
+            _ => false,
+        })
+}
+
+/// Whether a call on the themes of one of the five, and one on what another holds, are refused.
+fn are_refused(builder: &mut PopulationBuilder<'_>, alloc: Global) -> Result<bool, AllocError> {
+    let themes = literals(alloc, &[])?;
+    let targets = objects(alloc, &[4, 1])?;
+    Ok(set(builder, "k", THEMES, themes) == 5 && link(builder, "c", HELD, &targets) == 7)
+}
+
+/// The population of the five, with calls that are refused before it is finished.
+fn five_after_refusals<'m>(
+    alloc: Global,
+    model: &'m ClassModel,
+) -> Result<Option<Population<'m>>, PopulationFault> {
+    let mut builder = PopulationBuilder::new(alloc, model);
+    let _ = add_five(&mut builder);
+    describe(&mut builder, alloc)?;
+    if are_refused(&mut builder, alloc)? {
+        Ok(Some(builder.finish()?))
+    } else {
+        Ok(None)
+    }
+}
+
+#[test]
+fn refused(rt: HostRuntime) -> Result<(), Fail> {
+    let model = read(rt.alloc())?;
+    let population = five_after_refusals(rt.alloc(), &model)?.expect(&rt, "calls are refused");
+    assert!(rt; are_literals(values_of(&population, 0, "themas"), &[1, 0]));
+    assert!(rt; are_objects(values_of(&population, 3, "omvat"), &[2, 0]));
+    assert!(rt; has_ends(&population) && has_objects(&population));
+    Ok(())
+}
+
+/// Finishes a population of a cable, with these themes, that these ducts hold, and of these cables without themes.
 fn finish(
     alloc: Global,
     model: &ClassModel,
     themes: &[usize],
     ducts: &[&str],
+    cables: &[&str],
 ) -> Result<(), PopulationFault> {
     let mut builder = PopulationBuilder::new(alloc, model);
     let _ = add(&mut builder, "k", "Kabel");
@@ -359,6 +427,9 @@ fn finish(
     for duct in ducts {
         let _ = add(&mut builder, duct, "Buis");
         hold(&mut builder, alloc, duct, &[0])?;
+    }
+    for cable in cables {
+        let _ = add(&mut builder, cable, "Kabel");
     }
     let _ = builder.finish()?;
     Ok(())
@@ -381,14 +452,25 @@ fn finishing(rt: HostRuntime) -> Result<(), Fail> {
         object: cable,
         feature: themes,
     };
+    let unset_later = PopulationFault::TooFew {
+        object: ObjectNo::new(4),
+        feature: themes,
+    };
     let crowded = PopulationFault::TooMany {
         object: cable,
         feature: holders,
     };
-    // What was never set comes before too many holders.
-    assert!(rt; is_refused(finish(rt.alloc(), &model, &[], &["b", "c", "d"]), unset));
-    assert!(rt; is_refused(finish(rt.alloc(), &model, &[0], &["b", "c", "d"]), crowded));
-    assert!(rt; finish(rt.alloc(), &model, &[0], &["b", "c"]).is_ok());
+    let ducts = ["b", "c", "d"];
+    // What was never set comes before too many holders, also where it is at a later object.
+    assert!(rt; is_refused(finish(rt.alloc(), &model, &[], &ducts, &[]), unset));
+    assert!(rt;
+        is_refused(
+            finish(rt.alloc(), &model, &[0], &ducts, &["l"]),
+            unset_later
+        )
+    );
+    assert!(rt; is_refused(finish(rt.alloc(), &model, &[0], &ducts, &[]), crowded));
+    assert!(rt; finish(rt.alloc(), &model, &[0], &["b", "c"], &[]).is_ok());
     Ok(())
 }
 
