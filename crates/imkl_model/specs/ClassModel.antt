@@ -74,10 +74,6 @@ conforms m c d = chains.conforms (supers m) c d
 
 -- ---- features of a class
 
--- the class owns the feature
-abbrev pub owns : Model → ℕ → ℕ → Bool
-owns m c f = (feature_at m f).owner == c
-
 -- a feature belongs to its owner and to each class that conforms to it
 abbrev pub belongs : Model → ℕ → ℕ → Bool
 belongs m c f = conforms m c (feature_at m f).owner

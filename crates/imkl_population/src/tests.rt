@@ -219,7 +219,9 @@ fn has_set_faults(alloc: Global, model: &ClassModel) -> Result<bool, AllocError>
             && set_number(alloc, model, "k", NAME, &[0, 0])? == 4
             && set_number(alloc, model, "k", THEMES, &[0, 1, 0])? == 8
             && set_number(alloc, model, "k", THEMES, &[])? == 5
-            && set_number(alloc, model, "k", THEMES, &[0, 1, 2])? == 6,
+            && set_number(alloc, model, "k", THEMES, &[0, 1, 2])? == 6
+            && set_number(alloc, model, "k", THEMES, &[3])? == 4
+            && set_number(alloc, model, "k", THEMES, &[2])? == 0,
     )
 }
 
