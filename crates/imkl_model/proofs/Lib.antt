@@ -4,6 +4,7 @@ pub mod Warshall
 pub mod Rows
 pub mod Places
 pub mod Named
+pub mod Lookup
 pub mod Repeated
 pub mod Positions
 pub mod Marks

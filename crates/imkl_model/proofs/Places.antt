@@ -1,5 +1,5 @@
 -- Numbers that pass a test.
-use Rattle.std.proofs.Common.{◌≡◌, ℕ, zero, suc, ◌<◌, Bool, true, false, ◌&&◌, List, [], ◌∷◌, ◌++◌, length, get_or, Option, Some, None, refl, sym, ap, ◌∙◌, arith, All, if◌then◌else◌, ◌⊎◌, inl, inr, IfSome}
+use Rattle.std.proofs.Common.{◌≡◌, ℕ, zero, suc, ◌<◌, Bool, true, false, ◌&&◌, List, [], ◌∷◌, ◌++◌, length, get_or, Option, Some, None, refl, sym, ap, subst, ◌∙◌, arith, All, if◌then◌else◌, ◌⊎◌, inl, inr, IfSome}
 use Rattle.std.proofs.lemmas.Bool.{false≢true}
 use Rattle.std.proofs.lemmas.Bool.Decides.{leb_tells}
 use Rattle.std.proofs.lemmas.List.{length_push, get_or_at}
@@ -16,13 +16,13 @@ first_push : (p : ℕ → Bool) (xs : List ℕ) (n : ℕ) → first p (xs ++ n �
 first_push p [] n = refl
 first_push p (x ∷ xs) n = ap (λ (o : Option ℕ). if p x then Some x else o) (first_push p xs n) ∙ sym (or_else-if (p x) x n (first p xs) (if p n then Some n else None))
 
-none_more : (o : Option ℕ) → o ≡ or_else o None
-none_more None = refl
-none_more (Some x) = refl
+pub or_else-none : (o : Option ℕ) → o ≡ or_else o None
+or_else-none None = refl
+or_else-none (Some x) = refl
 
 first_step : (a : Bool) (p q : ℕ → Bool) (n : ℕ) (xs : List ℕ) → p n ≡ a → first q (if a then xs ++ n ∷ [] else xs) ≡ or_else (first q xs) (if a && q n then Some n else None)
 first_step true p q n xs e = first_push q xs n
-first_step false p q n xs e = none_more (first q xs)
+first_step false p q n xs e = or_else-none (first q xs)
 
 pub first_places : (p q : ℕ → Bool) (n : ℕ) → first q (places p n) ≡ least (λ k. p k && q k) n
 first_places p q zero = refl
@@ -76,6 +76,28 @@ least_or p n None false e h = tt
 pub least_passes : (p : ℕ → Bool) (n : ℕ) → IfSome (least p n) (λ k. (k < n) × (p k ≡ true))
 least_passes p zero = tt
 least_passes p (suc n) = least_or p n (least p n) (p n) refl (least_passes p n)
+
+-- where a number passes, the least that passes is there
+found_or : (p : ℕ → Bool) (n : ℕ) (o : Option ℕ) (b : Bool) → p n ≡ b → (p n ≡ true) ⊎ ((j : ℕ) × (o ≡ Some j)) → (j : ℕ) × (or_else o (if b then Some n else None) ≡ Some j)
+found_or p n (Some j) b e h = (j, refl)
+found_or p n None true e h = (n, refl)
+found_or p n None false e (inl h) = absurd (false≢true (sym e ∙ h))
+found_or p n None false e (inr h) = absurd (let none : None ≡ Some h.0 = h.1 in cc)
+
+least_found : (p : ℕ → Bool) (n k : ℕ) → k < n → p k ≡ true → (j : ℕ) × (least p n ≡ Some j)
+least_found p zero k lt passes = absurd (omega (arith, lt))
+least_found p (suc n) k lt passes =
+    found_or p n (least p n) (p n) refl (elim (leb_tells n k) [
+      | inl h ↦ let same : k ≡ n = omega (arith, h.1, lt) in inl (ap p (sym same) ∙ passes)
+      | inr h ↦ inr (least_found p n k h.1 passes)
+    ])
+
+-- a number that passes is the least, where no other passes
+pub least_is : (p : ℕ → Bool) (n k : ℕ) → k < n → p k ≡ true → ((j : ℕ) → j < n → p j ≡ true → j ≡ k) → least p n ≡ Some k
+least_is p n k lt passes only =
+    let w = least_found p n k lt passes in
+    let h : IfSome (Some w.0) (λ j. (j < n) × (p j ≡ true)) = subst (λ (o : Option ℕ). IfSome o (λ j. (j < n) × (p j ≡ true))) w.1 (least_passes p n) in
+    w.1 ∙ ap (λ (j : ℕ). Some j) (only w.0 h.0 h.1)
 
 pub passes_at : (o q : Option ℕ) (P Q : ℕ → Type 0) → o ≡ q → ((k : ℕ) → P k → Q k) → IfSome q P → IfSome o Q
 passes_at o None P Q e f h = rw e tt

@@ -1,8 +1,11 @@
 -- What the tables of a class model keep beside its content, for look-ups.
-use Rattle.std.specs.Prelude.{◌≡◌, ℕ, zero, suc, ◌<◌, ◌++◌, [], ◌∷◌, Bool, List, Option, Some, None, length, if◌then◌else◌}
+use Rattle.std.specs.Prelude.{◌≡◌, ℕ, zero, suc, ◌<◌, ◌==◌, ◌&&◌, ◌++◌, [], ◌∷◌, Bool, List, Option, Some, None, length, unwrap_or, if◌then◌else◌}
+use Rattle.std.specs.Map.{lookup}
+use Rattle.std.specs.Ordering.{nat_cmp}
+use Rattle.std.specs.BTreeMap.{is_at}
 use Rattle.imkl_model.specs.declared.entry.Class.{Class}
 use Rattle.imkl_model.specs.declared.feature.FeatureInfo.{FeatureInfo}
-use Rattle.imkl_model.specs.ClassModel.{supers_in, names_of_classes, is_named_in}
+use Rattle.imkl_model.specs.ClassModel.{supers_in, names_of_classes, feature_in, is_named_in, least}
 use Rattle.imkl_model.specs.Chains.{reaches}
 use Rattle.imkl_model.specs.Tables.{IsSquare, at}
 
@@ -22,6 +25,27 @@ pub record ClassesHold (cs : List Class) (ns : List (List ℕ)) (rows : List (Li
   pub square : IsSquare (length cs) rows
   pub reached : (i j : ℕ) → i < length cs → at rows i j ≡ reaches (supers_in cs) i j
 
--- the numbers of the features of each name
-abbrev pub ByName : List FeatureInfo → (List ℕ → List ℕ) → Type 0
-ByName fs by_name = (q : List ℕ) → by_name q ≡ places (is_named_in fs q) (length fs)
+-- the features of one name: their numbers in order, and owners with the first that each has
+pub record Group : Type 0 where
+  pub numbers : List ℕ
+  pub own : List (ℕ × ℕ)
+
+abbrev pub no_group : Group
+no_group = record { numbers = []; own = [] }
+
+-- the first feature that a class itself has
+abbrev pub own_in : Group → ℕ → Option ℕ
+own_in g c = lookup (is_at (nat_cmp c)) g.own
+
+-- a feature of this name that the class itself has
+abbrev pub is_own_in : List FeatureInfo → List ℕ → ℕ → ℕ → Bool
+is_own_in fs name c f = is_named_in fs name f && (feature_in fs f).owner == c
+
+-- the group of those of the first n features that have this name
+pub record IsGroup (fs : List FeatureInfo) (n : ℕ) (name : List ℕ) (g : Group) : Type 0 where
+  pub numbers : g.numbers ≡ places (is_named_in fs name) n
+  pub own : (c : ℕ) → own_in g c ≡ least (is_own_in fs name c) n
+
+-- the groups of all names
+abbrev pub AreGroups : List FeatureInfo → ℕ → (List ℕ → Option Group) → Type 0
+AreGroups fs n by_name = (name : List ℕ) → IsGroup fs n name (unwrap_or (by_name name) no_group)

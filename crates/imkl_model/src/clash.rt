@@ -1,37 +1,15 @@
 //! Features of one name and different owners that belong to one class.
 
-ghost use Rattle.std.specs.Prelude.{◌≡◌, ◌<◌, ℕ, length, All, IfSome};
+ghost use Rattle.std.specs.Prelude.{◌≡◌, ◌<◌, ℕ, length, All};
 ghost use Rattle.std.specs.List.{list_any};
 ghost use Rattle.imkl_model.specs.Chains.{any_below};
-ghost use Rattle.imkl_model.specs.ClassModel.{belongs, has_clash};
-ghost use Rattle.imkl_model.specs.Held.{first};
+ghost use Rattle.imkl_model.specs.ClassModel.{has_clash};
 ghost use Rattle.imkl_model.specs.Groups.{model_with, begins_with, has_other_owner, meets, group_meets, AreOwned};
 
+use crate::belonging::first_belonging;
 use crate::class_table::ClassTable;
 use crate::feature_table::FeatureTable;
 use crate::numbers::{ClassNo, FeatureNo};
-
-/// The first of some features that belongs to a class.
-fn first_in(
-    classes: &ClassTable,
-    features: &FeatureTable,
-    class: ClassNo,
-    numbers: &[usize],
-) -> Option<FeatureNo>
-    requires class { class < length classes.now }
-    requires numbers { All (λ f. f < length features.now) numbers.now }
-    requires owners { AreOwned classes.now features.now }
-    ensures within { IfSome result (λ f. f < length features.now) }
-    ensures first { result ≡ first (belongs (model_with classes.now features.now) class) numbers.now }
-{
-    for number in numbers {
-        let feature = FeatureNo::new(*number);
-        if classes.conforms(class, features.at(feature).owner) {
-            return Some(feature);
-        }
-    }
-    None
-}
 
 /// Whether one of some features belongs to a class and has another owner than this.
 fn any_other(
@@ -62,7 +40,7 @@ fn meet(classes: &ClassTable, features: &FeatureTable, class: ClassNo, numbers: 
     requires owners { AreOwned classes.now features.now }
     ensures { result ≡ meets (model_with classes.now features.now) class numbers.now }
 {
-    match first_in(classes, features, class, numbers) {
+    match first_belonging(classes, features, class, numbers) {
         None => false,
         Some(feature) => {
             let owner = features.at(feature).owner;
@@ -100,8 +78,13 @@ fn group_meets(classes: &ClassTable, features: &FeatureTable, feature: FeatureNo
     requires owners { AreOwned classes.now features.now }
     ensures { result ≡ group_meets (model_with classes.now features.now) feature }
 {
-    let numbers = features.named(features.at(feature).name.as_str());
-    begins_with(numbers, feature.place()) && meet_somewhere(classes, features, numbers)
+    match features.group(features.at(feature).name.as_str()) {
+        None => false,
+        Some(group) => {
+            let numbers = group.numbers();
+            begins_with(numbers, feature.place()) && meet_somewhere(classes, features, numbers)
+        }
+    }
 }
 
 /// Whether two features of one name and different owners belong to one class. The features of each name are looked at

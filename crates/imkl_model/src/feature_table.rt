@@ -1,36 +1,36 @@
-//! The features of a class model, with the numbers of the features of each name.
+//! The features of a class model, grouped by name.
 
-ghost use Rattle.std.specs.Prelude.{◌≡◌, ℕ, ◌<◌, List, [], length, slice_index_or, IfOk};
-ghost use Rattle.std.specs.Option.{option_map_or};
+ghost use Rattle.std.specs.Prelude.{◌≡◌, ◌<◌, length, unwrap_or, IfOk};
+ghost use Rattle.std.specs.Option.{option_copied};
 ghost use Rattle.std.specs.BTreeMap.{get_by_text};
-ghost use Rattle.imkl_model.specs.ClassModel.{feature_in, is_named_in};
-ghost use Rattle.imkl_model.specs.Held.{places};
+ghost use Rattle.imkl_model.specs.ClassModel.{feature_in};
+ghost use Rattle.imkl_model.specs.Held.{IsGroup, AreGroups, no_group};
 
 use crate::feature::FeatureInfo;
+use crate::feature_group::FeatureGroup;
 use crate::numbers::FeatureNo;
 use std::alloc::{AllocError, Global};
 use std::collections::BTreeMap;
 use std::marker::Model;
 
-/// Features, and the numbers of those of each name.
+/// Features, and a group of those of each name.
 #[derive(Drop)]
 pub(crate) struct FeatureTable {
     features: Vec<FeatureInfo>,
-    by_name: BTreeMap<String, Vec<usize>>,
+    groups: BTreeMap<String, FeatureGroup>,
 }
 
 impl Model for FeatureTable {
-    ghost use Rattle.std.specs.Prelude.{List, []};
-    ghost use Rattle.std.specs.Option.{option_map_or};
+    ghost use Rattle.std.specs.Prelude.{List, length};
     ghost use Rattle.std.specs.BTreeMap.{get_by_text};
     ghost use Rattle.imkl_model.specs.declared.feature.FeatureInfo.{FeatureInfo};
-    ghost use Rattle.imkl_model.specs.Held.{ByName};
+    ghost use Rattle.imkl_model.specs.Held.{AreGroups};
 
     ghost Value = { List FeatureInfo };
 
     ghost view = { λ t. t.features.items };
 
-    ghost invariant = { λ t. ByName t.features.items (λ q. option_map_or (λ g. g.items) (get_by_text t.by_name q) []) };
+    ghost invariant = { λ t. AreGroups t.features.items (length t.features.items) (get_by_text t.groups) };
 }
 
 impl FeatureTable {
@@ -38,8 +38,8 @@ impl FeatureTable {
     pub(crate) fn new(alloc: Global, features: Vec<FeatureInfo>) -> Result<FeatureTable, AllocError>
         ensures { IfOk result (λ t. t ≡ features.items) }
     {
-        let by_name = by_name(alloc, &features)?;
-        Ok(FeatureTable { features, by_name })
+        let groups = groups_of(alloc, &features)?;
+        Ok(FeatureTable { features, groups })
     }
 
     pub(crate) fn len(&self) -> usize
@@ -61,28 +61,28 @@ impl FeatureTable {
         &self.features[feature.place()]
     }
 
-    /// The numbers of the features of this name, in order.
-    pub(crate) fn named(&self, name: &str) -> &[usize]
-        ensures { result.now ≡ places (is_named_in self.now name.now) (length self.now) }
+    /// The group of the features of this name, if there are any.
+    pub(crate) fn group(&self, name: &str) -> Option<&FeatureGroup>
+        ensures { IsGroup self.now (length self.now) name.now (unwrap_or (option_copied result) no_group) }
     {
-        match self.by_name.get(name) {
-            Some(numbers) => numbers.as_slice(),
-            None => &[],
-        }
+        self.groups.get(name)
     }
 }
 
-/// The numbers of the features of each name.
-fn by_name(
+/// A group for each name.
+fn groups_of(
     alloc: Global,
     features: &[FeatureInfo],
-) -> Result<BTreeMap<String, Vec<usize>>, AllocError>
-    ensures { IfOk result (λ m. (q : List ℕ) → option_map_or (λ g. g.items) (get_by_text m q) [] ≡ places (is_named_in features.now q) (length features.now)) }
+) -> Result<BTreeMap<String, FeatureGroup>, AllocError>
+    ensures { IfOk result (λ m. AreGroups features.now (length features.now) (get_by_text m)) }
 {
-    let mut found: BTreeMap<String, Vec<usize>> = BTreeMap::new(alloc);
+    let mut groups: BTreeMap<String, FeatureGroup> = BTreeMap::new(alloc);
     for (number, feature) in features.iter().enumerate() {
         let name = String::from_str(alloc, feature.name.as_str())?;
-        found.entry(name)?.or_default().push(number)?;
+        let group = groups
+            .entry(name)?
+            .or_insert_with(|| FeatureGroup::new(alloc));
+        group.push(feature.owner, number)?;
     }
-    Ok(found)
+    Ok(groups)
 }

@@ -2,6 +2,7 @@
 #![tactic(auto)]
 
 mod ancestors;
+mod belonging;
 mod checks;
 mod clash;
 mod class_table;
@@ -12,6 +13,7 @@ mod entry;
 mod enumeration_table;
 mod fault;
 mod feature;
+mod feature_group;
 mod feature_list;
 mod feature_table;
 mod items;

@@ -1,13 +1,13 @@
 //! A class model and its reads.
 
-ghost use Rattle.std.specs.Prelude.{◌≡◌, ◌<◌, [], true, length, Decides, IfOk, IfSome, slice_index_or, All};
+ghost use Rattle.std.specs.Prelude.{◌≡◌, ◌<◌, [], true, length, Decides, IfOk, IfSome, slice_index_or};
 ghost use Rattle.imkl_model.specs.ClassModel.{Conforms, conforms, belongs, enumeration_at, class_at, feature_at, class_number, enumeration_number, literal_number, feature_number};
 ghost use Rattle.imkl_model.specs.WellFormed.{IsClassModel};
-ghost use Rattle.imkl_model.specs.Held.{first};
 ghost use Rattle.imkl_model.specs.Reading.{Gives};
 ghost use Rattle.imkl_model.specs.Drafts.{IsNumbered, model_of_draft};
 ghost use Rattle.imkl_model.specs.Description.{Answers, checked};
 
+use crate::belonging::first_belonging;
 use crate::checks::have_multiplicities;
 use crate::clash::has_clash;
 use crate::class_table::ClassTable;
@@ -186,7 +186,7 @@ impl ClassModel {
             .conforms(class, self.feature_info(feature).owner)
     }
 
-    /// The feature of this name that belongs to the class.
+    /// The feature of this name that belongs to the class: its own, or else that of a class above it.
     pub fn feature(&self, class: ClassNo, name: &str) -> Option<FeatureNo>
         requires { class < length self.now.classes }
         ensures number { result ≡ feature_number self.now class name.now }
@@ -194,22 +194,11 @@ impl ClassModel {
         ensures belongs { IfSome result (λ f. belongs self.now class f ≡ true) }
         ensures named { IfSome result (λ f. (feature_at self.now f).name ≡ name.now) }
     {
-        self.first_of(class, self.features.named(name))
-    }
-
-    /// The first of some features that belongs to the class.
-    fn first_of(&self, class: ClassNo, numbers: &[usize]) -> Option<FeatureNo>
-        requires class { class < length self.now.classes }
-        requires numbers { All (λ f. f < length self.now.features) numbers.now }
-        ensures { result ≡ first (λ f. belongs self.now class f) numbers.now }
-    {
-        for number in numbers {
-            let feature = FeatureNo::new(*number);
-            if self.belongs(class, feature) {
-                return Some(feature);
-            }
+        let group = self.features.group(name)?;
+        match group.own(class) {
+            Some(own) => Some(own),
+            None => first_belonging(&self.classes, &self.features, class, group.numbers()),
         }
-        None
     }
 
     /// Whether two class models have equal content.

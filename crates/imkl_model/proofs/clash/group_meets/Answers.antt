@@ -4,4 +4,4 @@ use Rattle.imkl_model.proofs.Places.{places_below}
 use Rattle.imkl_model.proofs.clash.group_meets.Goals as goal
 
 pub meet_somewhere-requires-clause-numbers : goal.meet_somewhere-requires-clause-numbers
-meet_somewhere-requires-clause-numbers c = rw c.named-numbers.ensures (places_below (is_named_in c.args.features.now c.as_str.result.now) (length c.args.features.now))
+meet_somewhere-requires-clause-numbers c = rw (c.numbers-numbers.ensures, c.in-Some.ensures.numbers) (places_below (is_named_in c.args.features.now c.as_str.result.now) (length c.args.features.now))

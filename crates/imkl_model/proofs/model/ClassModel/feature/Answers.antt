@@ -1,45 +1,46 @@
-use Rattle.std.proofs.Common.{◌≡◌, ◌∙◌, ◌&&◌, Bool, true, false, length, refl, sym, subst}
-use Rattle.std.proofs.lemmas.Bool.{false≢true}
-use Rattle.std.proofs.lemmas.Slice.Eq.{bytes_eq-Decides}
-use Rattle.imkl_model.specs.ClassModel.{Model, is_named, belongs, feature_at, feature_number}
-use Rattle.imkl_model.specs.Held.{places}
-use Rattle.imkl_model.proofs.Places.{first_places, places_below, least_passes, passes_at}
+use Rattle.std.proofs.Common.{◌≡◌, ◌∙◌, Some, length, sym, subst}
+use Rattle.imkl_model.specs.ClassModel.{Model, is_named, feature_number}
+use Rattle.imkl_model.specs.contracts.model.ClassModel.{the_view}
+use Rattle.imkl_model.specs.Held.{no_group}
+use Rattle.imkl_model.proofs.Places.{places_below}
+use Rattle.imkl_model.proofs.Lookup.{first_is, own_is, found_in_range, found_belongs, found_named}
 use Rattle.imkl_model.proofs.model.ClassModel.feature.Goals as goal
 
-both : (a b : Bool) → (a && b) ≡ true → (a ≡ true) × (b ≡ true)
-both true b e = (refl, e)
-both false b e = absurd (false≢true e)
+pub first_belonging-requires-clause-numbers : goal.first_belonging-requires-clause-numbers
+first_belonging-requires-clause-numbers c =
+    let features = c.self.inside.features in
+    rw (c.numbers.ensures, c.in_ok-group.ensures.numbers) (places_below (is_named (the_view c.self.inside) c.args.name.now) (length features))
 
-named : (c : goal.After-named) → c.named.result.now ≡ places (is_named c.args.self.now c.args.name.now) (length c.args.self.now.features)
-named c = subst (λ (m : Model). c.named.result.now ≡ places (is_named m c.args.name.now) (length m.features)) c.self.view_is c.named.ensures
-
-pub first_of-requires-clause-numbers : goal.first_of-requires-clause-numbers
-first_of-requires-clause-numbers c =
-    let m = c.args.self.now in
-    rw (named c) (places_below (is_named m c.args.name.now) (length m.features))
-
-number : (c : goal.After-first_of) → c.first_of.result ≡ feature_number c.args.self.now c.args.class c.args.name.now
-number c =
-    let m = c.args.self.now in
+pub returns-in_err-group-clause-number : goal.returns-in_err-group-clause-number
+returns-in_err-group-clause-number c =
     let q = c.args.name.now in
-    let found = subst (λ (x : Model). c.named.result.now ≡ places (is_named x q) (length x.features)) c.self.view_is c.named.ensures in
-    c.first_of.ensures ∙ rw found (first_places (is_named m q) (belongs m c.args.class) (length m.features))
+    let none = first_is (the_view c.self.inside) c.args.class q no_group c.in_err-group.ensures in
+    subst (λ (m : Model). c.from_residual.result ≡ feature_number m c.args.class q) c.self.view_is (c.from_residual.ensures ∙ none)
 
-pub returns-clause-number : goal.returns-clause-number
-returns-clause-number c = number c
-
-pub returns-clause-in_range : goal.returns-clause-in_range
-returns-clause-in_range c =
-    let m = c.args.self.now in
-    passes_at _ _ _ _ (number c) (λ k h. h.0) (least_passes (λ f. is_named m c.args.name.now f && belongs m c.args.class f) (length m.features))
-
-pub returns-clause-belongs : goal.returns-clause-belongs
-returns-clause-belongs c =
-    let m = c.args.self.now in
-    passes_at _ _ _ _ (number c) (λ k h. (both (is_named m c.args.name.now k) (belongs m c.args.class k) h.1).1) (least_passes (λ f. is_named m c.args.name.now f && belongs m c.args.class f) (length m.features))
-
-pub returns-clause-named : goal.returns-clause-named
-returns-clause-named c =
-    let m = c.args.self.now in
+pub returns-in-Some-clause-number : goal.returns-in-Some-clause-number
+returns-in-Some-clause-number c =
     let q = c.args.name.now in
-    passes_at _ _ _ _ (number c) (λ k h. sym ((bytes_eq-Decides q (feature_at m k).name).0 (both (is_named m q k) (belongs m c.args.class k) h.1).0)) (least_passes (λ f. is_named m q f && belongs m c.args.class f) (length m.features))
+    let own = own_is (the_view c.self.inside) c.args.class q c.in_ok-group.group.now c.in_ok-group.ensures c.self.invariant c.in-Some.own (sym c.own.ensures ∙ c.in-Some.is) in
+    subst (λ (m : Model). Some c.in-Some.own ≡ feature_number m c.args.class q) c.self.view_is (sym own)
+
+pub returns-in-None-clause-number : goal.returns-in-None-clause-number
+returns-in-None-clause-number c =
+    let q = c.args.name.now in
+    let first = first_is (the_view c.self.inside) c.args.class q c.in_ok-group.group.now c.in_ok-group.ensures in
+    let inherited = c.first_belonging.ensures.first ∙ rw c.numbers.ensures first in
+    subst (λ (m : Model). c.first_belonging.result ≡ feature_number m c.args.class q) c.self.view_is inherited
+
+pub returns-in-Some-clause-in_range : goal.returns-in-Some-clause-in_range
+returns-in-Some-clause-in_range c = found_in_range c.args.self.now c.args.class c.args.name.now (Some c.in-Some.own) (returns-in-Some-clause-number c)
+
+pub returns-in-Some-clause-belongs : goal.returns-in-Some-clause-belongs
+returns-in-Some-clause-belongs c = found_belongs c.args.self.now c.args.class c.args.name.now (Some c.in-Some.own) (returns-in-Some-clause-number c)
+
+pub returns-in-Some-clause-named : goal.returns-in-Some-clause-named
+returns-in-Some-clause-named c = found_named c.args.self.now c.args.class c.args.name.now (Some c.in-Some.own) (returns-in-Some-clause-number c)
+
+pub returns-in-None-clause-belongs : goal.returns-in-None-clause-belongs
+returns-in-None-clause-belongs c = found_belongs c.args.self.now c.args.class c.args.name.now c.first_belonging.result (returns-in-None-clause-number c)
+
+pub returns-in-None-clause-named : goal.returns-in-None-clause-named
+returns-in-None-clause-named c = found_named c.args.self.now c.args.class c.args.name.now c.first_belonging.result (returns-in-None-clause-number c)

@@ -1,0 +1,65 @@
+-- The feature of a name that belongs to a class.
+use Rattle.std.proofs.Common.{◌≡◌, ◌∙◌, ◌&&◌, ◌<◌, ℕ, Bool, true, false, List, length, Option, Some, eqb, refl, sym, ap, subst, IfSome}
+use Rattle.std.proofs.lemmas.Bool.{false≢true}
+use Rattle.std.proofs.lemmas.Bool.Decides.{Decides-eqb}
+use Rattle.std.proofs.lemmas.Slice.Eq.{bytes_eq-Decides}
+use Rattle.imkl_model.specs.Chains.{conforms}
+use Rattle.imkl_model.specs.ClassModel.{Model, supers, is_named, belongs, feature_at, feature_number}
+use Rattle.imkl_model.specs.WellFormed.{IsClassModel}
+use Rattle.imkl_model.specs.Held.{Group, IsGroup, first, own_in, is_own_in}
+use Rattle.imkl_model.proofs.Warshall.{conforms-decides}
+use Rattle.imkl_model.proofs.Places.{first_places, least_passes, least_is, passes_at}
+
+both : (a b : Bool) → (a && b) ≡ true → (a ≡ true) × (b ≡ true)
+both true b e = (refl, e)
+both false b e = absurd (false≢true e)
+
+joined : (a b : Bool) → a ≡ true → b ≡ true → (a && b) ≡ true
+joined a b ea eb = rw (ea, eb) refl
+
+-- a feature of this name that belongs to the class
+abbrev pub IsFeatureOf : Model → ℕ → List ℕ → ℕ → Type 0
+IsFeatureOf m c q f = (f < length m.features) × (belongs m c f ≡ true) × ((feature_at m f).name ≡ q)
+
+abbrev passes : Model → ℕ → List ℕ → ℕ → Bool
+passes m c q f = is_named m q f && belongs m c f
+
+feature_of : (m : Model) (c : ℕ) (q : List ℕ) (f : ℕ) → f < length m.features → passes m c q f ≡ true → IsFeatureOf m c q f
+feature_of m c q f lt h =
+    let p = both (is_named m q f) (belongs m c f) h in
+    (lt, p.1, sym ((bytes_eq-Decides q (feature_at m f).name).0 p.0))
+
+-- what is so of the feature that is found
+module _ (m : Model) (c : ℕ) (q : List ℕ) (o : Option ℕ) (is : o ≡ feature_number m c q) where
+  each_found : (P : ℕ → Type 0) → ((f : ℕ) → IsFeatureOf m c q f → P f) → IfSome o P
+  each_found P h = passes_at o (feature_number m c q) _ P is (λ f w. h f (feature_of m c q f w.0 w.1)) (least_passes (passes m c q) (length m.features))
+
+  pub found_in_range : IfSome o (λ f. f < length m.features)
+  found_in_range = each_found (λ f. f < length m.features) (λ f h. h.0)
+
+  pub found_belongs : IfSome o (λ f. belongs m c f ≡ true)
+  found_belongs = each_found (λ f. belongs m c f ≡ true) (λ f h. h.1)
+
+  pub found_named : IfSome o (λ f. (feature_at m f).name ≡ q)
+  found_named = each_found (λ f. (feature_at m f).name ≡ q) (λ f h. h.2)
+
+module _ (m : Model) (c : ℕ) (q : List ℕ) (g : Group) (group : IsGroup m.features (length m.features) q g) where
+  -- it is the first of the name's features that belongs
+  pub first_is : first (belongs m c) g.numbers ≡ feature_number m c q
+  first_is = rw group.numbers (first_places (is_named m q) (belongs m c) (length m.features))
+
+  own_passes : (f : ℕ) → is_own_in m.features q c f ≡ true → passes m c q f ≡ true
+  own_passes f h =
+      let p = both (is_named m q f) (eqb (feature_at m f).owner c) h in
+      let owned : (feature_at m f).owner ≡ c = (Decides-eqb (feature_at m f).owner c).0 p.1 in
+      joined (is_named m q f) (belongs m c f) p.0 (let here : conforms (supers m) c c ≡ true = (conforms-decides (supers m) c c).1 (0, refl) in ap (conforms (supers m) c) owned ∙ here)
+
+  -- no other feature of the name belongs to a class that has its own
+  pub own_is : IsClassModel m → (f : ℕ) → own_in g c ≡ Some f → feature_number m c q ≡ Some f
+  own_is well f own =
+      let n = length m.features in
+      let found : IfSome (Some f) (λ k. (k < n) × (is_own_in m.features q c k ≡ true)) = subst (λ (o : Option ℕ). IfSome o (λ k. (k < n) × (is_own_in m.features q c k ≡ true))) (sym (group.own c) ∙ own) (least_passes (is_own_in m.features q c) n) in
+      let here = feature_of m c q f found.0 (own_passes f found.1) in
+      least_is (passes m c q) n f found.0 (own_passes f found.1) (λ k lt h.
+        let other = feature_of m c q k lt h in
+        well.one_feature c k f lt found.0 other.1 here.1 (other.2 ∙ sym here.2))

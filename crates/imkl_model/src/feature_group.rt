@@ -1,0 +1,61 @@
+//! The features of one name.
+
+ghost use Rattle.std.specs.Prelude.{◌≡◌, ◌++◌, ◌∷◌, ◌==◌, [], ℕ, OnOk, Some, None, if◌then◌else◌};
+ghost use Rattle.imkl_model.specs.ClassModel.{or_else};
+ghost use Rattle.imkl_model.specs.Held.{Group, no_group, own_in};
+
+use crate::numbers::{ClassNo, FeatureNo};
+use std::alloc::{AllocError, Global};
+use std::collections::BTreeMap;
+use std::marker::Model;
+
+/// The numbers of the features of one name, in order, and for each owner the first that it has.
+#[derive(Drop)]
+pub(crate) struct FeatureGroup {
+    numbers: Vec<usize>,
+    by_owner: BTreeMap<usize, usize>,
+}
+
+impl Model for FeatureGroup {
+    ghost use Rattle.imkl_model.specs.Held.{Group};
+
+    ghost Value = { Group };
+
+    ghost view = { λ g. record { numbers = g.numbers.items; own = g.by_owner.entries } };
+}
+
+impl FeatureGroup {
+    /// No features.
+    pub(crate) fn new(alloc: Global) -> FeatureGroup
+        ensures { result ≡ no_group }
+    {
+        FeatureGroup {
+            numbers: Vec::new(alloc),
+            by_owner: BTreeMap::new(alloc),
+        }
+    }
+
+    /// Adds a feature after the others.
+    pub(crate) fn push(&mut self, owner: ClassNo, number: usize) -> Result<(), AllocError>
+        ensures numbers { OnOk result (self.new.numbers ≡ self.old.numbers ++ number ∷ []) }
+        ensures own { OnOk result ((c : ℕ) → own_in self.new c ≡ or_else (own_in self.old c) (if owner == c then Some number else None)) }
+    {
+        self.numbers.push(number)?;
+        self.by_owner.entry(owner.place())?.or_insert(number);
+        Ok(())
+    }
+
+    pub(crate) fn numbers(&self) -> &[usize]
+        ensures { result.now ≡ self.now.numbers }
+    {
+        self.numbers.as_slice()
+    }
+
+    /// The feature that the class itself has.
+    pub(crate) fn own(&self, class: ClassNo) -> Option<FeatureNo>
+        ensures { result ≡ own_in self.now class }
+    {
+        let number = self.by_owner.get(&class.place())?;
+        Some(FeatureNo::new(*number))
+    }
+}
