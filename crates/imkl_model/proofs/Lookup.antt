@@ -61,5 +61,5 @@ module _ (m : Model) (c : ℕ) (q : List ℕ) (g : Group) (group : IsGroup m.fea
       let found : IfSome (Some f) (λ k. (k < n) × (is_own_in m.features q c k ≡ true)) = subst (λ (o : Option ℕ). IfSome o (λ k. (k < n) × (is_own_in m.features q c k ≡ true))) (sym (group.own c) ∙ own) (least_passes (is_own_in m.features q c) n) in
       let here = feature_of m c q f found.0 (own_passes f found.1) in
       least_is (passes m c q) n f found.0 (own_passes f found.1) (λ k lt h.
-        let other = feature_of m c q k lt h in
-        well.one_feature c k f lt found.0 other.1 here.1 (other.2 ∙ sym here.2))
+      let other = feature_of m c q k lt h in
+      well.one_feature c k f lt found.0 other.1 here.1 (other.2 ∙ sym here.2))

@@ -4,10 +4,11 @@ use Rattle.std.proofs.lemmas.List.{get_or_read}
 use Rattle.std.proofs.lemmas.Bool.{cases_Bool}
 use Rattle.std.proofs.lemmas.Slice.Eq.{bytes_eq-Decides}
 use Rattle.std.specs.Cmp.Lexicographic.{nat_list_eq_equiv}
+use Rattle.std.specs.Option.{option_or}
 use Rattle.imkl_model.specs.declared.feature.FeatureInfo.{FeatureInfo}
-use Rattle.imkl_model.specs.ClassModel.{is_named_in, no_feature, least, or_else}
+use Rattle.imkl_model.specs.ClassModel.{is_named_in, no_feature, least}
 use Rattle.imkl_model.specs.Held.{Group, IsGroup, places, own_in, is_own_in}
-use Rattle.imkl_model.proofs.Places.{or_else-none}
+use Rattle.imkl_model.proofs.Places.{option_or-none}
 
 module _ (fs : List FeatureInfo) (n : ℕ) (f : FeatureInfo) (lt : n < length fs) (is : f ≡ get_or fs n f) where
   feature_is : get_or fs n no_feature ≡ f
@@ -16,11 +17,11 @@ module _ (fs : List FeatureInfo) (n : ℕ) (f : FeatureInfo) (lt : n < length fs
   places_more : (q : List ℕ) → places (is_named_in fs q) (n + 1) ≡ cond (bytes_eq q f.name) (places (is_named_in fs q) n ++ n ∷ []) (places (is_named_in fs q) n)
   places_more q = rw (add-one, feature_is) refl
 
-  own_more : (q : List ℕ) (c : ℕ) → least (is_own_in fs q c) (n + 1) ≡ or_else (least (is_own_in fs q c) n) (if bytes_eq q f.name && eqb f.owner c then Some n else None)
+  own_more : (q : List ℕ) (c : ℕ) → least (is_own_in fs q c) (n + 1) ≡ option_or (least (is_own_in fs q c) n) (if bytes_eq q f.name && eqb f.owner c then Some n else None)
   own_more q c = rw (add-one, feature_is) refl
 
   taken : (here pushed : Group) → IsGroup fs n f.name here → pushed.numbers ≡ here.numbers ++ n ∷ []
-      → ((c : ℕ) → own_in pushed c ≡ or_else (own_in here c) (if eqb f.owner c then Some n else None)) → IsGroup fs (n + 1) f.name pushed
+      → ((c : ℕ) → own_in pushed c ≡ option_or (own_in here c) (if eqb f.owner c then Some n else None)) → IsGroup fs (n + 1) f.name pushed
   taken here pushed of_name numbers own =
       let same : bytes_eq f.name f.name ≡ true = (bytes_eq-Decides f.name f.name).1 refl in
       record {
@@ -32,12 +33,12 @@ module _ (fs : List FeatureInfo) (n : ℕ) (f : FeatureInfo) (lt : n < length fs
   kept q old apart of_q =
       record {
         numbers = rw (of_q.numbers, places_more q, apart) refl;
-        own = λ c. rw (of_q.own c, own_more q c, apart) (or_else-none (least (is_own_in fs q c) n));
+        own = λ c. rw (of_q.own c, own_more q c, apart) (option_or-none (least (is_own_in fs q c) n));
       }
 
   -- the group of its name takes the next feature, and the others stay
   pub next_group : (q : List ℕ) (here pushed old new : Group) → IsGroup fs n f.name here → IsGroup fs n q old
-      → pushed.numbers ≡ here.numbers ++ n ∷ [] → ((c : ℕ) → own_in pushed c ≡ or_else (own_in here c) (if eqb f.owner c then Some n else None))
+      → pushed.numbers ≡ here.numbers ++ n ∷ [] → ((c : ℕ) → own_in pushed c ≡ option_or (own_in here c) (if eqb f.owner c then Some n else None))
       → new ≡ cond (bytes_eq f.name q) pushed old → IsGroup fs (n + 1) q new
   next_group q here pushed old new of_name of_q numbers own is_new =
       elim (cases_Bool (bytes_eq f.name q)) [

@@ -5,28 +5,29 @@ use Rattle.std.proofs.lemmas.Bool.Decides.{leb_tells}
 use Rattle.std.proofs.lemmas.List.{length_push, get_or_at}
 use Rattle.std.proofs.lemmas.Grind.{common_steps}
 use Rattle.std.proofs.lemmas.List.Elements.{All-push}
-use Rattle.imkl_model.specs.ClassModel.{least, or_else}
+use Rattle.std.specs.Option.{option_or}
+use Rattle.imkl_model.specs.ClassModel.{least}
 use Rattle.imkl_model.specs.Held.{places, first}
 
-or_else-if : (b : Bool) (x y : ℕ) (o r : Option ℕ) → or_else (if b then Some x else o) r ≡ (if b then Some x else or_else o r)
-or_else-if true x y o r = refl
-or_else-if false x y o r = refl
+option_or-if : (b : Bool) (x y : ℕ) (o r : Option ℕ) → option_or (if b then Some x else o) r ≡ (if b then Some x else option_or o r)
+option_or-if true x y o r = refl
+option_or-if false x y o r = refl
 
-first_push : (p : ℕ → Bool) (xs : List ℕ) (n : ℕ) → first p (xs ++ n ∷ []) ≡ or_else (first p xs) (if p n then Some n else None)
+first_push : (p : ℕ → Bool) (xs : List ℕ) (n : ℕ) → first p (xs ++ n ∷ []) ≡ option_or (first p xs) (if p n then Some n else None)
 first_push p [] n = refl
-first_push p (x ∷ xs) n = ap (λ (o : Option ℕ). if p x then Some x else o) (first_push p xs n) ∙ sym (or_else-if (p x) x n (first p xs) (if p n then Some n else None))
+first_push p (x ∷ xs) n = ap (λ (o : Option ℕ). if p x then Some x else o) (first_push p xs n) ∙ sym (option_or-if (p x) x n (first p xs) (if p n then Some n else None))
 
-pub or_else-none : (o : Option ℕ) → o ≡ or_else o None
-or_else-none None = refl
-or_else-none (Some x) = refl
+pub option_or-none : (o : Option ℕ) → o ≡ option_or o None
+option_or-none None = refl
+option_or-none (Some x) = refl
 
-first_step : (a : Bool) (p q : ℕ → Bool) (n : ℕ) (xs : List ℕ) → p n ≡ a → first q (if a then xs ++ n ∷ [] else xs) ≡ or_else (first q xs) (if a && q n then Some n else None)
+first_step : (a : Bool) (p q : ℕ → Bool) (n : ℕ) (xs : List ℕ) → p n ≡ a → first q (if a then xs ++ n ∷ [] else xs) ≡ option_or (first q xs) (if a && q n then Some n else None)
 first_step true p q n xs e = first_push q xs n
-first_step false p q n xs e = or_else-none (first q xs)
+first_step false p q n xs e = option_or-none (first q xs)
 
 pub first_places : (p q : ℕ → Bool) (n : ℕ) → first q (places p n) ≡ least (λ k. p k && q k) n
 first_places p q zero = refl
-first_places p q (suc n) = first_step (p n) p q n (places p n) refl ∙ ap (λ (o : Option ℕ). or_else o (if p n && q n then Some n else None)) (first_places p q n)
+first_places p q (suc n) = first_step (p n) p q n (places p n) refl ∙ ap (λ (o : Option ℕ). option_or o (if p n && q n then Some n else None)) (first_places p q n)
 
 kept : (b : Bool) (n : ℕ) (xs : List ℕ) → All (λ k. k < suc n) xs → All (λ k. k < suc n) (if b then xs ++ n ∷ [] else xs)
 kept true n xs h = All-push (λ k. k < suc n) xs n h (omega arith)
@@ -68,7 +69,7 @@ places_pass p zero = λ k d lt. absurd (omega (arith, lt))
 places_pass p (suc n) = passing p (p n) n (places p n) refl (places_pass p n)
 
 -- the least number that passes is below n and passes
-least_or : (p : ℕ → Bool) (n : ℕ) (o : Option ℕ) (b : Bool) → p n ≡ b → IfSome o (λ k. (k < n) × (p k ≡ true)) → IfSome (or_else o (if b then Some n else None)) (λ k. (k < suc n) × (p k ≡ true))
+least_or : (p : ℕ → Bool) (n : ℕ) (o : Option ℕ) (b : Bool) → p n ≡ b → IfSome o (λ k. (k < n) × (p k ≡ true)) → IfSome (option_or o (if b then Some n else None)) (λ k. (k < suc n) × (p k ≡ true))
 least_or p n (Some k) b e h = (omega (arith, h.0), h.1)
 least_or p n None true e h = (omega arith, e)
 least_or p n None false e h = tt
@@ -78,7 +79,7 @@ least_passes p zero = tt
 least_passes p (suc n) = least_or p n (least p n) (p n) refl (least_passes p n)
 
 -- where a number passes, the least that passes is there
-found_or : (p : ℕ → Bool) (n : ℕ) (o : Option ℕ) (b : Bool) → p n ≡ b → (p n ≡ true) ⊎ ((j : ℕ) × (o ≡ Some j)) → (j : ℕ) × (or_else o (if b then Some n else None) ≡ Some j)
+found_or : (p : ℕ → Bool) (n : ℕ) (o : Option ℕ) (b : Bool) → p n ≡ b → (p n ≡ true) ⊎ ((j : ℕ) × (o ≡ Some j)) → (j : ℕ) × (option_or o (if b then Some n else None) ≡ Some j)
 found_or p n (Some j) b e h = (j, refl)
 found_or p n None true e h = (n, refl)
 found_or p n None false e (inl h) = absurd (false≢true (sym e ∙ h))

@@ -1,5 +1,6 @@
 -- Class models: enumerations, classes with superclasses, features, associations.
 use Rattle.std.specs.Prelude.{◌≡◌, ◌≢◌, ℕ, suc, zero, ◌==◌, ◌&&◌, ◌<◌, Bool, false, not, List, [], length, map, Option, Some, None, position, slice_index_or, bytes_eq, if◌then◌else◌}
+use Rattle.std.specs.Option.{option_or}
 use Rattle.imkl_model.specs.declared.entry.Enumeration.{Enumeration}
 use Rattle.imkl_model.specs.declared.entry.Class.{Class}
 use Rattle.imkl_model.specs.declared.feature.FeatureInfo.{FeatureInfo}
@@ -89,14 +90,10 @@ enumeration_number m name = position (bytes_eq name) (enumeration_names m)
 abbrev pub literal_number : Model → ℕ → List ℕ → Option ℕ
 literal_number m e name = position (bytes_eq name) (enumeration_at m e).literals
 
-abbrev pub or_else : Option ℕ → Option ℕ → Option ℕ
-or_else None b = b
-or_else (Some k) b = Some k
-
 -- the least number below n that passes
 abbrev pub least : (ℕ → Bool) → ℕ → Option ℕ
 least p zero = None
-least p (suc n) = or_else (least p n) (if p n then Some n else None)
+least p (suc n) = option_or (least p n) (if p n then Some n else None)
 
 abbrev pub is_named_in : List FeatureInfo → List ℕ → ℕ → Bool
 is_named_in features name f = bytes_eq name (feature_in features f).name

@@ -1,7 +1,7 @@
 //! The features of one name.
 
 ghost use Rattle.std.specs.Prelude.{◌≡◌, ◌++◌, ◌∷◌, ◌==◌, [], ℕ, OnOk, Some, None, if◌then◌else◌};
-ghost use Rattle.imkl_model.specs.ClassModel.{or_else};
+ghost use Rattle.std.specs.Option.{option_or};
 ghost use Rattle.imkl_model.specs.Held.{Group, no_group, own_in};
 
 use crate::numbers::{ClassNo, FeatureNo};
@@ -38,7 +38,7 @@ impl FeatureGroup {
     /// Adds a feature after the others.
     pub(crate) fn push(&mut self, owner: ClassNo, number: usize) -> Result<(), AllocError>
         ensures numbers { OnOk result (self.new.numbers ≡ self.old.numbers ++ number ∷ []) }
-        ensures own { OnOk result ((c : ℕ) → own_in self.new c ≡ or_else (own_in self.old c) (if owner == c then Some number else None)) }
+        ensures own { OnOk result ((c : ℕ) → own_in self.new c ≡ option_or (own_in self.old c) (if owner == c then Some number else None)) }
     {
         self.numbers.push(number)?;
         self.by_owner.entry(owner.place())?.or_insert(number);
