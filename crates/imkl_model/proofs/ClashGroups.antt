@@ -1,12 +1,12 @@
 -- Clashes, looked for among the features of one name.
-use Rattle.std.proofs.Common.{◌≡◌, ◌≢◌, ℕ, zero, suc, ◌<◌, ◌&&◌, ◌||◌, not, Bool, true, false, List, [], ◌∷◌, length, get_or, eqb, Option, Some, None, refl, sym, ap, ◌∙◌, subst, arith, ◌⊎◌, inl, inr}
+use Rattle.std.proofs.Common.{find, ◌≡◌, ◌≢◌, ℕ, zero, suc, ◌<◌, ◌&&◌, ◌||◌, not, Bool, true, false, List, [], ◌∷◌, length, get_or, eqb, Option, Some, None, refl, sym, ap, ◌∙◌, subst, arith, ◌⊎◌, inl, inr}
 use Rattle.std.specs.List.{list_any}
 use Rattle.std.proofs.lemmas.Bool.{false≢true}
 use Rattle.std.proofs.lemmas.Bool.Decides.{eqb_tells}
 use Rattle.std.proofs.lemmas.Slice.Eq.{bytes_eq-Decides}
 use Rattle.imkl_model.specs.Chains.{any_below}
 use Rattle.imkl_model.specs.ClassModel.{Model, supers, feature_at, belongs, is_named, has_clash, IsClash}
-use Rattle.imkl_model.specs.Held.{first, places}
+use Rattle.imkl_model.specs.Held.{places}
 use Rattle.imkl_model.specs.Groups.{group, begins_with, has_other_owner, meets_after, meets, group_meets}
 use Rattle.imkl_model.proofs.Below.{or_either, any_found, found_any}
 use Rattle.imkl_model.proofs.Places.{place_of, places_below, places_pass}
@@ -39,32 +39,32 @@ of_any p (x ∷ xs) zero lt e = rw e refl
 of_any p (x ∷ xs) (suc k) lt e = or_true (p x) (list_any p xs) (of_any p xs k (omega (arith, lt)) e)
 
 -- the first that passes, by whether x does
-first_cases : (p : ℕ → Bool) (x : ℕ) (xs : List ℕ) (b : Bool) → p x ≡ b → (k : ℕ) → first p (x ∷ xs) ≡ Some k → ((k ≡ x) × (p x ≡ true)) ⊎ (first p xs ≡ Some k)
-first_cases p x xs true e k h = inl (some_is k x (sym (rw e at h)), e)
+find_cases : (p : ℕ → Bool) (x : ℕ) (xs : List ℕ) (b : Bool) → p x ≡ b → (k : ℕ) → find p (x ∷ xs) ≡ Some k → ((k ≡ x) × (p x ≡ true)) ⊎ (find p xs ≡ Some k)
+find_cases p x xs true e k h = inl (some_is k x (sym (rw e at h)), e)
   where
     some_is : (a b : ℕ) → Some a ≡ Some b → a ≡ b
     some_is a b s = cc
-first_cases p x xs false e k h = inr (rw e at h)
+find_cases p x xs false e k h = inr (rw e at h)
 
-pub first_of : (p : ℕ → Bool) (xs : List ℕ) (k : ℕ) → first p xs ≡ Some k → (j : ℕ) × (j < length xs) × (get_or xs j 0 ≡ k) × (p k ≡ true)
-first_of p [] k h = absurd (nothing k h)
+pub found_at : (p : ℕ → Bool) (xs : List ℕ) (k : ℕ) → find p xs ≡ Some k → (j : ℕ) × (j < length xs) × (get_or xs j 0 ≡ k) × (p k ≡ true)
+found_at p [] k h = absurd (nothing k h)
   where
     nothing : (a : ℕ) → None ≡ Some a → ⊥
     nothing a s = cc
-first_of p (x ∷ xs) k h =
-    elim (first_cases p x xs (p x) refl k h) [
+found_at p (x ∷ xs) k h =
+    elim (find_cases p x xs (p x) refl k h) [
       | inl here ↦ (zero, omega arith, sym here.0, ap p here.0 ∙ here.1)
-      | inr later ↦ let w = first_of p xs k later in (suc w.0, omega (arith, w.1), w.2, w.3)
+      | inr later ↦ let w = found_at p xs k later in (suc w.0, omega (arith, w.1), w.2, w.3)
     ]
 
-some_first : (p : ℕ → Bool) (x : ℕ) (xs : List ℕ) (b : Bool) → p x ≡ b → (b ≡ false → (k : ℕ) × (first p xs ≡ Some k)) → (k : ℕ) × (first p (x ∷ xs) ≡ Some k)
-some_first p x xs true e later = (x, rw e refl)
-some_first p x xs false e later = let w = later refl in (w.0, rw e w.1)
+some_found : (p : ℕ → Bool) (x : ℕ) (xs : List ℕ) (b : Bool) → p x ≡ b → (b ≡ false → (k : ℕ) × (find p xs ≡ Some k)) → (k : ℕ) × (find p (x ∷ xs) ≡ Some k)
+some_found p x xs true e later = (x, rw e refl)
+some_found p x xs false e later = let w = later refl in (w.0, rw e w.1)
 
-pub is_first : (p : ℕ → Bool) (xs : List ℕ) (k : ℕ) → k < length xs → p (get_or xs k 0) ≡ true → (f : ℕ) × (first p xs ≡ Some f)
-is_first p [] k lt e = absurd (omega (arith, lt))
-is_first p (x ∷ xs) zero lt e = some_first p x xs (p x) refl (λ b. absurd (false≢true (sym b ∙ e)))
-is_first p (x ∷ xs) (suc k) lt e = some_first p x xs (p x) refl (λ b. is_first p xs k (omega (arith, lt)) e)
+pub is_found : (p : ℕ → Bool) (xs : List ℕ) (k : ℕ) → k < length xs → p (get_or xs k 0) ≡ true → (f : ℕ) × (find p xs ≡ Some f)
+is_found p [] k lt e = absurd (omega (arith, lt))
+is_found p (x ∷ xs) zero lt e = some_found p x xs (p x) refl (λ b. absurd (false≢true (sym b ∙ e)))
+is_found p (x ∷ xs) (suc k) lt e = some_found p x xs (p x) refl (λ b. is_found p xs k (omega (arith, lt)) e)
 
 -- ---- the features of one name
 
@@ -86,10 +86,10 @@ pair_clash m f c j k lc lj lk apart one other =
     clash_found m c h g lc a.0 b.0 (joined (is_named m (feature_at m h).name g) (not (eqb (feature_at m h).owner (feature_at m g).owner)) (belongs m c h) (belongs m c g)
     ((bytes_eq-Decides (feature_at m h).name (feature_at m g).name).1 same) apart one other)
 
-meeting : (m : Model) (f c : ℕ) (o : Option ℕ) → c < length m.classes → first (belongs m c) (group m f) ≡ o → meets_after m c (group m f) o ≡ true → has_clash m ≡ true
+meeting : (m : Model) (f c : ℕ) (o : Option ℕ) → c < length m.classes → find (belongs m c) (group m f) ≡ o → meets_after m c (group m f) o ≡ true → has_clash m ≡ true
 meeting m f c None lc is e = absurd (false≢true e)
 meeting m f c (Some h) lc is e =
-    let a = first_of (belongs m c) (group m f) h is in
+    let a = found_at (belongs m c) (group m f) h is in
     let b = any_of (has_other_owner m c (feature_at m h).owner) (group m f) e in
     let parts = and_both (belongs m c (get_or (group m f) b.0 0)) (not (eqb (feature_at m h).owner (feature_at m (get_or (group m f) b.0 0)).owner)) b.2 in
     pair_clash m f c a.0 b.0 lc a.1 b.1 (rw a.2 parts.1) (rw a.2 a.3) parts.0
@@ -98,7 +98,7 @@ pub clash_in_group : (m : Model) (f : ℕ) → group_meets m f ≡ true → has_
 clash_in_group m f e =
     let p = and_both (begins_with (group m f) f) (any_below (λ c. meets m c (group m f)) (length m.classes)) e in
     let w = found_any (λ c. meets m c (group m f)) (length m.classes) p.1 in
-    meeting m f w.0 (first (belongs m w.0) (group m f)) w.1 refl w.2
+    meeting m f w.0 (find (belongs m w.0) (group m f)) w.1 refl w.2
 
 -- ---- and back
 
@@ -111,7 +111,7 @@ other m c owner g there apart = rw (there, unequal owner (feature_at m g).owner 
 
 meets_at : (m : Model) (c : ℕ) (xs : List ℕ) (f g : ℕ) → IsIn f xs → IsIn g xs → belongs m c f ≡ true → belongs m c g ≡ true → (feature_at m f).owner ≢ (feature_at m g).owner → meets m c xs ≡ true
 meets_at m c xs f g at_f at_g in_f in_g apart =
-    let w = is_first (belongs m c) xs at_f.0 at_f.1 (rw at_f.2 in_f) in
+    let w = is_found (belongs m c) xs at_f.0 at_f.1 (rw at_f.2 in_f) in
     let owner = (feature_at m w.0).owner in
     let found : list_any (has_other_owner m c owner) xs ≡ true = elim (eqb_tells owner (feature_at m f).owner) [
       | inl same ↦ of_any (has_other_owner m c owner) xs at_g.0 at_g.1 (rw at_g.2 (other m c owner g in_g (λ e. apart (sym same.1 ∙ e))))

@@ -1,14 +1,14 @@
 -- The feature of a name that belongs to a class.
-use Rattle.std.proofs.Common.{◌≡◌, ◌∙◌, ◌&&◌, ◌<◌, ℕ, Bool, true, false, List, length, Option, Some, eqb, refl, sym, ap, subst, IfSome}
+use Rattle.std.proofs.Common.{find, ◌≡◌, ◌∙◌, ◌&&◌, ◌<◌, ℕ, Bool, true, false, List, length, Option, Some, eqb, refl, sym, ap, subst, IfSome}
 use Rattle.std.proofs.lemmas.Bool.{false≢true}
 use Rattle.std.proofs.lemmas.Bool.Decides.{Decides-eqb}
 use Rattle.std.proofs.lemmas.Slice.Eq.{bytes_eq-Decides}
 use Rattle.imkl_model.specs.Chains.{conforms}
 use Rattle.imkl_model.specs.ClassModel.{Model, supers, is_named, belongs, feature_at, feature_number}
 use Rattle.imkl_model.specs.WellFormed.{IsClassModel}
-use Rattle.imkl_model.specs.Held.{Group, IsGroup, first, own_in, is_own_in}
+use Rattle.imkl_model.specs.Held.{Group, IsGroup, own_in, is_own_in}
 use Rattle.imkl_model.proofs.Warshall.{conforms-decides}
-use Rattle.imkl_model.proofs.Places.{first_places, least_passes, least_is, passes_at}
+use Rattle.imkl_model.proofs.Places.{find_places, least_passes, least_is, passes_at}
 
 both : (a b : Bool) → (a && b) ≡ true → (a ≡ true) × (b ≡ true)
 both true b e = (refl, e)
@@ -45,8 +45,8 @@ module _ (m : Model) (c : ℕ) (q : List ℕ) (o : Option ℕ) (is : o ≡ featu
 
 module _ (m : Model) (c : ℕ) (q : List ℕ) (g : Group) (group : IsGroup m.features (length m.features) q g) where
   -- it is the first of the name's features that belongs
-  pub first_is : first (belongs m c) g.numbers ≡ feature_number m c q
-  first_is = rw group.numbers (first_places (is_named m q) (belongs m c) (length m.features))
+  pub first_is : find (belongs m c) g.numbers ≡ feature_number m c q
+  first_is = rw group.numbers (find_places (is_named m q) (belongs m c) (length m.features))
 
   own_passes : (f : ℕ) → is_own_in m.features q c f ≡ true → passes m c q f ≡ true
   own_passes f h =

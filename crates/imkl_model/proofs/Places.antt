@@ -1,33 +1,26 @@
 -- Numbers that pass a test.
-use Rattle.std.proofs.Common.{◌≡◌, ℕ, zero, suc, ◌<◌, Bool, true, false, ◌&&◌, List, [], ◌∷◌, ◌++◌, length, get_or, Option, Some, None, refl, sym, ap, subst, ◌∙◌, arith, All, if◌then◌else◌, ◌⊎◌, inl, inr, IfSome}
+use Rattle.std.proofs.Common.{◌≡◌, ℕ, zero, suc, ◌<◌, Bool, true, false, ◌&&◌, List, [], ◌∷◌, ◌++◌, length, get_or, find, Option, Some, None, refl, sym, ap, subst, ◌∙◌, arith, All, if◌then◌else◌, ◌⊎◌, inl, inr, IfSome}
 use Rattle.std.proofs.lemmas.Bool.{false≢true}
 use Rattle.std.proofs.lemmas.Bool.Decides.{leb_tells}
 use Rattle.std.proofs.lemmas.List.{length_push, get_or_at}
+use Rattle.std.proofs.lemmas.List.Folds.{find-append}
 use Rattle.std.proofs.lemmas.Grind.{common_steps}
 use Rattle.std.proofs.lemmas.List.Elements.{All-push}
 use Rattle.std.specs.Option.{option_or}
 use Rattle.imkl_model.specs.ClassModel.{least}
-use Rattle.imkl_model.specs.Held.{places, first}
-
-option_or-if : (b : Bool) (x y : ℕ) (o r : Option ℕ) → option_or (if b then Some x else o) r ≡ (if b then Some x else option_or o r)
-option_or-if true x y o r = refl
-option_or-if false x y o r = refl
-
-first_push : (p : ℕ → Bool) (xs : List ℕ) (n : ℕ) → first p (xs ++ n ∷ []) ≡ option_or (first p xs) (if p n then Some n else None)
-first_push p [] n = refl
-first_push p (x ∷ xs) n = ap (λ (o : Option ℕ). if p x then Some x else o) (first_push p xs n) ∙ sym (option_or-if (p x) x n (first p xs) (if p n then Some n else None))
+use Rattle.imkl_model.specs.Held.{places}
 
 pub option_or-none : (o : Option ℕ) → o ≡ option_or o None
 option_or-none None = refl
 option_or-none (Some x) = refl
 
-first_step : (a : Bool) (p q : ℕ → Bool) (n : ℕ) (xs : List ℕ) → p n ≡ a → first q (if a then xs ++ n ∷ [] else xs) ≡ option_or (first q xs) (if a && q n then Some n else None)
-first_step true p q n xs e = first_push q xs n
-first_step false p q n xs e = option_or-none (first q xs)
+find_step : (a : Bool) (p q : ℕ → Bool) (n : ℕ) (xs : List ℕ) → p n ≡ a → find q (if a then xs ++ n ∷ [] else xs) ≡ option_or (find q xs) (if a && q n then Some n else None)
+find_step true p q n xs e = find-append q xs (n ∷ [])
+find_step false p q n xs e = option_or-none (find q xs)
 
-pub first_places : (p q : ℕ → Bool) (n : ℕ) → first q (places p n) ≡ least (λ k. p k && q k) n
-first_places p q zero = refl
-first_places p q (suc n) = first_step (p n) p q n (places p n) refl ∙ ap (λ (o : Option ℕ). option_or o (if p n && q n then Some n else None)) (first_places p q n)
+pub find_places : (p q : ℕ → Bool) (n : ℕ) → find q (places p n) ≡ least (λ k. p k && q k) n
+find_places p q zero = refl
+find_places p q (suc n) = find_step (p n) p q n (places p n) refl ∙ ap (λ (o : Option ℕ). option_or o (if p n && q n then Some n else None)) (find_places p q n)
 
 kept : (b : Bool) (n : ℕ) (xs : List ℕ) → All (λ k. k < suc n) xs → All (λ k. k < suc n) (if b then xs ++ n ∷ [] else xs)
 kept true n xs h = All-push (λ k. k < suc n) xs n h (omega arith)

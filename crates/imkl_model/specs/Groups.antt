@@ -1,11 +1,11 @@
 -- Clashes, looked for among the features of one name.
-use Rattle.std.specs.Prelude.{ℕ, ◌<◌, ◌&&◌, ◌==◌, Bool, false, not, List, [], ◌∷◌, length, Option, Some, None}
+use Rattle.std.specs.Prelude.{ℕ, ◌<◌, ◌&&◌, ◌==◌, Bool, false, not, List, [], ◌∷◌, length, find, Option, Some, None}
 use Rattle.std.specs.List.{list_any}
 use Rattle.imkl_model.specs.declared.entry.Class.{Class}
 use Rattle.imkl_model.specs.declared.feature.FeatureInfo.{FeatureInfo}
 use Rattle.imkl_model.specs.ClassModel.{Model, model_of, feature_at, feature_in, belongs, is_named}
 use Rattle.imkl_model.specs.Chains.{any_below}
-use Rattle.imkl_model.specs.Held.{first, places}
+use Rattle.imkl_model.specs.Held.{places}
 
 -- classes and features alone
 abbrev pub model_with : List Class → List FeatureInfo → Model
@@ -30,7 +30,7 @@ meets_after m c numbers (Some f) = list_any (has_other_owner m c (feature_at m f
 
 -- two of these features have different owners and belong to the class
 abbrev pub meets : Model → ℕ → List ℕ → Bool
-meets m c numbers = meets_after m c numbers (first (belongs m c) numbers)
+meets m c numbers = meets_after m c numbers (find (belongs m c) numbers)
 
 -- the feature is the first of its name, and two features of that name and of different owners belong to one class
 abbrev pub group_meets : Model → ℕ → Bool

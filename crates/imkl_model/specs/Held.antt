@@ -1,5 +1,5 @@
 -- What the tables of a class model keep beside its content, for look-ups.
-use Rattle.std.specs.Prelude.{◌≡◌, ℕ, zero, suc, ◌<◌, ◌==◌, ◌&&◌, ◌++◌, [], ◌∷◌, Bool, List, Option, Some, None, length, unwrap_or, if◌then◌else◌}
+use Rattle.std.specs.Prelude.{◌≡◌, ℕ, zero, suc, ◌<◌, ◌==◌, ◌&&◌, ◌++◌, [], ◌∷◌, Bool, List, Option, length, unwrap_or, if◌then◌else◌}
 use Rattle.std.specs.Map.{lookup}
 use Rattle.std.specs.Ordering.{nat_cmp}
 use Rattle.std.specs.BTreeMap.{is_at}
@@ -13,11 +13,6 @@ use Rattle.imkl_model.specs.Tables.{IsSquare, at}
 abbrev pub places : (ℕ → Bool) → ℕ → List ℕ
 places p zero = []
 places p (suc n) = if p n then places p n ++ n ∷ [] else places p n
-
--- the first of these numbers that passes
-abbrev pub first : (ℕ → Bool) → List ℕ → Option ℕ
-first p [] = None
-first p (x ∷ xs) = if p x then Some x else first p xs
 
 -- classes, their names in order, and a row of the classes that each class reaches
 pub record ClassesHold (cs : List Class) (ns : List (List ℕ)) (rows : List (List Bool)) : Type 0 where

@@ -1,8 +1,7 @@
 //! Features that belong to a class.
 
-ghost use Rattle.std.specs.Prelude.{◌≡◌, ◌<◌, length, All, IfSome};
+ghost use Rattle.std.specs.Prelude.{◌≡◌, ◌<◌, length, find, All, IfSome};
 ghost use Rattle.imkl_model.specs.ClassModel.{belongs};
-ghost use Rattle.imkl_model.specs.Held.{first};
 ghost use Rattle.imkl_model.specs.Groups.{model_with, AreOwned};
 
 use crate::class_table::ClassTable;
@@ -20,7 +19,7 @@ pub(crate) fn first_belonging(
     requires numbers { All (λ f. f < length features.now) numbers.now }
     requires owners { AreOwned classes.now features.now }
     ensures within { IfSome result (λ f. f < length features.now) }
-    ensures first { result ≡ first (belongs (model_with classes.now features.now) class) numbers.now }
+    ensures found { result ≡ find (belongs (model_with classes.now features.now) class) numbers.now }
 {
     for number in numbers {
         let feature = FeatureNo::new(*number);

@@ -27,7 +27,7 @@ pub returns-in-None-clause-number : goal.returns-in-None-clause-number
 returns-in-None-clause-number c =
     let q = c.args.name.now in
     let first = first_is (the_view c.self.inside) c.args.class q c.in_ok-group.group.now c.in_ok-group.ensures in
-    let inherited = c.first_belonging.ensures.first ∙ rw c.numbers.ensures first in
+    let inherited = c.first_belonging.ensures.found ∙ rw c.numbers.ensures first in
     subst (λ (m : Model). c.first_belonging.result ≡ feature_number m c.args.class q) c.self.view_is inherited
 
 pub returns-in-Some-clause-in_range : goal.returns-in-Some-clause-in_range
