@@ -14,15 +14,20 @@ use std::marker::Model;
 /// The values at one feature: those from `start` to before `end` in the list of values.
 #[derive(Clone, Copy, Debug)]
 pub struct Entry {
+    /// The feature's place in the class model, from 0.
     pub feature: usize,
+    /// The place of the first value, from 0.
     pub start: usize,
+    /// The place behind the last value: `start` where there are none.
     pub end: usize,
 }
 
-/// One map: the entries from `start` to before `end`.
+/// A part of a list, from `start` to before `end`: a map's entries, or a class's objects.
 #[derive(Clone, Copy, Debug)]
 pub struct Segment {
+    /// The place of the first element, from 0.
     pub start: usize,
+    /// The place behind the last element: `start` where there are none.
     pub end: usize,
 }
 
