@@ -1,6 +1,7 @@
 -- A draft in which nothing is missing and no opposite end is out of its bounds is consistent.
 use Rattle.std.proofs.Common.{◌≡◌, ◌⊎◌, ℕ, zero, suc, ◌<◌, Bool, true, false, ◌&&◌, List, [], length, Option, Some, None, refl, sym, subst, if◌then◌else◌, nat_lt, inl, inr, arith}
 use Rattle.std.specs.List.{list_all}
+use Rattle.std.specs.Option.{option_or}
 use Rattle.std.proofs.lemmas.Bool.{false≢true, and_from, le-ltb, lt-ltb, cases_Bool}
 use Rattle.std.proofs.lemmas.Bool.Decides.{leb_tells}
 use Rattle.std.proofs.lemmas.List.Folds.{list_all-map}
@@ -14,7 +15,7 @@ use Rattle.imkl_population.specs.declared.fault.PopulationFault.{PopulationFault
 use Rattle.imkl_population.specs.declared.fault.PopulationFault.TheVariants.{TooFew}
 use Rattle.imkl_population.specs.declared.scalar.Scalar.{Scalar}
 use Rattle.imkl_population.specs.declared.scalar.Scalar.TheVariants as scalar
-use Rattle.imkl_population.specs.Numbers.{first_of, or_else}
+use Rattle.imkl_population.specs.Numbers.{first_of}
 use Rattle.imkl_population.specs.Population.{Population, object_at, class_of, written_at, values_of, values_by, opposite_end}
 use Rattle.imkl_population.specs.Values.{is_attribute, is_opposite, is_of_type, is_target_of, is_unique, is_over, repeats}
 use Rattle.imkl_population.specs.Written.{is_set}
@@ -26,7 +27,7 @@ use Rattle.imkl_population.proofs.EndLaws.{values_written}
 use Rattle.imkl_population.proofs.Holders.{holders_all, holders_apart}
 use Rattle.imkl_population.proofs.Soundness.{AreTargets, sound_in, unset_in, values_sound, targets_sound, end_within}
 
-neither : {A : Type 0} (a b : Option A) → or_else a b ≡ None → (a ≡ None) × (b ≡ None)
+neither : {A : Type 0} (a b : Option A) → option_or a b ≡ None → (a ≡ None) × (b ≡ None)
 neither None b h = (refl, h)
 neither (Some a) b h = absurd (let bad : Some a ≡ None = h in cc)
 

@@ -20,3 +20,4 @@ pub mod Held
 pub mod Idle
 pub mod SourceEnds
 pub mod Gathering
+pub mod Searches

@@ -1,17 +1,18 @@
 -- Maps laid out one after another.
 use Rattle.std.proofs.Common.{◌≡◌, ℕ, ◌+◌, ◌-◌, ◌<◌, ◌≤◌, List, [], ◌∷◌, ◌++◌, length, map, drop, get_or, Bool, true, false, cond, Option, Some, None, refl, sym, ap, subst, ◌∙◌, arith, length-append, length-drop, append_assoc, slice_range, All}
-use Rattle.std.proofs.lemmas.List.{append-nil, take-append-le, drop-append-le, map-append, get_or-map}
+use Rattle.std.proofs.lemmas.List.{append-nil, take-append-le, drop-append-le, map-append, get_or-map, length-map}
 use Rattle.std.proofs.lemmas.List.Elements.{All-nil, All-head, All-tail, All-append, All-push, All-weaker, All-take, All-drop}
 use Rattle.std.proofs.Math.Seq.{drop-append_seam, take-length}
 use Rattle.imkl_population.specs.declared.scalar.Scalar.{Scalar}
 use Rattle.imkl_population.specs.declared.store.Entry.{Entry}
 use Rattle.std.specs.Prelude.{find, unwrap_or, ◌==◌}
-use Rattle.std.specs.Map.{lookup}
+use Rattle.std.specs.Map.{lookup, keys_of}
+use Rattle.std.specs.List.Sorted.{IsStrictlySortedBy}
 use Rattle.std.specs.Ordering.{nat_cmp}
 use Rattle.std.specs.BTreeMap.{is_at}
 use Rattle.imkl_population.specs.declared.store.Segment.{Segment}
 use Rattle.imkl_population.specs.Written.{written_in}
-use Rattle.imkl_population.specs.Store.{entry_of, shown, IsEntry, IsSegment, IsMap, IsLaidOut, Appended}
+use Rattle.imkl_population.specs.Store.{entry_of, features_of, shown, IsEntry, IsSegment, IsMap, IsLaidOut, Appended}
 use Rattle.imkl_population.proofs.Encoded.{is_eq-nat_cmp}
 
 -- a range of a list is the same range of a longer one
@@ -136,3 +137,16 @@ range-within n es start end h = All-take (IsEntry n) (end - start) (drop start e
 pub shown-at : (scalars : List Scalar) (entries : List Entry) (gs : List Segment) (place : ℕ) (g : Segment) → place < length gs → g ≡ get_or gs place g
     → get_or (map (shown scalars entries) gs) place [] ≡ shown scalars entries g
 shown-at scalars entries gs place g inside is = get_or-map (shown scalars entries) gs place g [] inside ∙ ap (shown scalars entries) (sym is)
+
+-- a map's keys are the features of its entries
+keys_of-entries : (scalars : List Scalar) (es : List Entry) → keys_of (map (entry_of scalars) es) ≡ features_of es
+keys_of-entries scalars [] = refl
+keys_of-entries scalars (e ∷ es) = ap (λ (l : List ℕ). e.feature ∷ l) (keys_of-entries scalars es)
+
+-- so the features of a segment's entries ascend
+pub features-ascend : (scalars : List Scalar) (entries : List Entry) (gs : List Segment) (place : ℕ) (g : Segment) → place < length gs → g ≡ get_or gs place g → All IsMap (map (shown scalars entries) gs)
+    → IsStrictlySortedBy nat_cmp (features_of (slice_range entries g.start g.end))
+features-ascend scalars entries gs place g inside is maps =
+    let long : length (map (shown scalars entries) gs) ≡ length gs = length-map gs (shown scalars entries) in
+    let here : IsMap (shown scalars entries g) = subst IsMap (shown-at scalars entries gs place g inside is) (maps place [] (omega (arith, long, inside))) in
+    subst (IsStrictlySortedBy nat_cmp) (keys_of-entries scalars (slice_range entries g.start g.end)) here

@@ -1,9 +1,10 @@
 -- What is looked for when a population is finished: features that were never set, then opposite ends.
 use Rattle.std.specs.Prelude.{◌≡◌, ℕ, ◌&&◌, not, Option, Some, None, Result, Ok, Err, length, nat_lt, if◌then◌else◌}
+use Rattle.std.specs.Option.{option_or}
 use Rattle.imkl_model.specs.ClassModel.{feature_at, belongs}
 use Rattle.imkl_population.specs.declared.fault.PopulationFault.{PopulationFault}
 use Rattle.imkl_population.specs.declared.fault.PopulationFault.TheVariants.{TooFew, OutOfMemory}
-use Rattle.imkl_population.specs.Numbers.{or_else, first_of}
+use Rattle.imkl_population.specs.Numbers.{first_of}
 use Rattle.imkl_population.specs.Population.{Population, class_of, written_at, values_of}
 use Rattle.imkl_population.specs.Values.{is_opposite}
 use Rattle.imkl_population.specs.Building.{bounds_fault, unless}
@@ -27,7 +28,7 @@ abbrev pub first_fault : (Population → ℕ → ℕ → Option PopulationFault)
 first_fault fault p = first_of (λ o. first_of (fault p o) (length p.model.features)) (length p.objects)
 
 abbrev pub finished : Population → Result Population PopulationFault
-finished p = unless (or_else (first_fault gap p) (first_fault end_fault p)) p
+finished p = unless (option_or (first_fault gap p) (first_fault end_fault p)) p
 
 -- The end of a building: the population of what was added, or the first fault, unless memory ran out.
 abbrev pub Finishes : Result Population PopulationFault → Result Population PopulationFault → Type 0

@@ -12,6 +12,10 @@ use Rattle.imkl_population.specs.Written.{written_in}
 abbrev pub entry_of : List Scalar → Entry → ℕ × List Scalar
 entry_of scalars e = (e.feature, slice_range scalars e.start e.end)
 
+-- the features of entries, in their order
+abbrev pub features_of : List Entry → List ℕ
+features_of entries = map (λ e. e.feature) entries
+
 -- the map of a segment
 abbrev pub shown : List Scalar → List Entry → Segment → List (ℕ × List Scalar)
 shown scalars entries s = map (entry_of scalars) (slice_range entries s.start s.end)

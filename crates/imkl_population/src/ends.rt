@@ -79,8 +79,7 @@ fn no_ends(alloc: Global, count: usize) -> Result<Vec<Written>, AllocError>
     ensures { IfOk result (λ v. (length v.items ≡ count) × ((o h : ℕ) → written_in (slice_index_or v.items o []) h ≡ [])) }
 {
     let mut ends = Vec::with_capacity(alloc, count)?;
-    'objects: for made in 0..count {
-        let _ = made;
+    'objects: for _ in 0..count {
         ends.push(Written::new(alloc))?;
     }
     Ok(ends)

@@ -19,8 +19,7 @@ fn no_objects(alloc: Global, count: usize) -> Result<Vec<Vec<ObjectNo>>, AllocEr
     ensures { IfOk result (λ v. (length v.items ≡ count) × ((c : ℕ) → list_of v.items c ≡ [])) }
 {
     let mut lists = Vec::with_capacity(alloc, count)?;
-    'classes: for made in 0..count {
-        let _ = made;
+    'classes: for _ in 0..count {
         lists.push(Vec::new(alloc))?;
     }
     Ok(lists)

@@ -20,7 +20,9 @@ use std::marker::Model;
 /// An object's id and class.
 #[derive(Drop)]
 pub struct Head {
+    /// The object's id.
     pub id: Id,
+    /// The class that it is directly of.
     pub class: ClassNo,
 }
 

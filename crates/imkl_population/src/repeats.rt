@@ -12,10 +12,15 @@ use std::collections::BTreeSet;
 /// The values met so far, by their types.
 #[derive(Drop)]
 pub struct Seen {
+    /// The truth values.
     pub truths: BTreeSet<bool>,
+    /// The whole numbers.
     pub integers: BTreeSet<i64>,
+    /// The texts.
     pub texts: BTreeSet<String>,
+    /// Of each literal the place of its enumeration and its place in it, both from 0.
     pub literals: BTreeSet<(usize, usize)>,
+    /// The places of the objects, from 0.
     pub objects: BTreeSet<usize>,
 }
 

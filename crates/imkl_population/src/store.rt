@@ -1,8 +1,10 @@
 //! Many finite maps from features to values, in three lists.
 
 ghost use Rattle.std.specs.Prelude.{◌≡◌, ◌<◌, ◌≤◌, ◌==◌, ◌++◌, ◌∷◌, ℕ, [], length, map, find, max, All, IfOk, OnOk, slice_index, slice_index_or, slice_range, if◌then◌else◌};
+ghost use Rattle.std.specs.List.Sorted.{IsStrictlySortedBy};
+ghost use Rattle.std.specs.Ordering.{nat_cmp};
 ghost use Rattle.imkl_population.specs.Written.{written_in};
-ghost use Rattle.imkl_population.specs.Store.{Appended, IsEntry, IsSegment, IsMap, entry_of, raised, longest_in};
+ghost use Rattle.imkl_population.specs.Store.{Appended, IsEntry, IsSegment, IsMap, entry_of, features_of, raised, longest_in};
 
 use crate::scalar::Scalar;
 use crate::written::{Values, Written};
@@ -12,15 +14,20 @@ use std::marker::Model;
 /// The values at one feature: those from `start` to before `end` in the list of values.
 #[derive(Clone, Copy, Debug)]
 pub struct Entry {
+    /// The feature's place in the class model, from 0.
     pub feature: usize,
+    /// The place of the first value, from 0.
     pub start: usize,
+    /// The place behind the last value: `start` where there are none.
     pub end: usize,
 }
 
-/// One map: the entries from `start` to before `end`.
+/// A part of a list, from `start` to before `end`: a map's entries, or a class's objects.
 #[derive(Clone, Copy, Debug)]
 pub struct Segment {
+    /// The place of the first element, from 0.
     pub start: usize,
+    /// The place behind the last element: `start` where there are none.
     pub end: usize,
 }
 
@@ -67,11 +74,15 @@ fn append(
     Ok(())
 }
 
-/// The first entry of a feature.
+/// The entry of a feature among entries whose features ascend.
 fn find_entry(entries: &[Entry], feature: usize) -> Option<Entry>
+    requires { IsStrictlySortedBy nat_cmp (features_of entries.now) }
     ensures { result ≡ find (λ e. e.feature == feature) entries.now }
 {
-    entries.iter().copied().find(|e| e.feature == feature)
+    match entries.binary_search_by_key(&feature, |entry| entry.feature) {
+        Ok(place) => Some(entries[place]),
+        Err(_) => None,
+    }
 }
 
 fn entries_of(entries: &[Entry], segment: Segment) -> &[Entry]

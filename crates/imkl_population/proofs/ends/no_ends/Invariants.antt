@@ -4,6 +4,6 @@ use Rattle.imkl_population.proofs.ends.no_ends.Given as goal
 
 abbrev pub invariant-objects : goal.invariant-objects
 invariant-objects l = record {
-  so_long : length l.ends.items ≡ l.made;
+  so_long : length l.ends.items ≡ l.counter;
   empty : (o h : ℕ) → written_in (get_or l.ends.items o []) h ≡ [];
 }

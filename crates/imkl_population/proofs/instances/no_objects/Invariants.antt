@@ -4,6 +4,6 @@ use Rattle.imkl_population.proofs.instances.no_objects.Given as goal
 
 abbrev pub invariant-classes : goal.invariant-classes
 invariant-classes l = record {
-  so_long : length l.lists.items ≡ l.made;
+  so_long : length l.lists.items ≡ l.counter;
   empty : (c : ℕ) → list_of l.lists.items c ≡ [];
 }

@@ -1,12 +1,14 @@
-use Rattle.std.proofs.Common.{◌≡◌, ◌∙◌, ◌==◌, ◌<◌, ℕ, List, [], Some, None, ap, sym, arith, length, slice_range, get_or, map}
+use Rattle.std.proofs.Common.{◌≡◌, ◌∙◌, ◌==◌, ◌<◌, ℕ, List, [], Some, None, ap, sym, subst, arith, length, slice_range, get_or, map}
 use Rattle.std.proofs.lemmas.List.{length-map}
 use Rattle.std.specs.Prelude.{find, Option}
+use Rattle.std.specs.List.Sorted.{IsStrictlySortedBy}
+use Rattle.std.specs.Ordering.{nat_cmp}
 use Rattle.imkl_population.specs.declared.scalar.Scalar.{Scalar}
 use Rattle.imkl_population.specs.declared.store.Entry.{Entry}
 use Rattle.imkl_population.specs.declared.store.Segment.{Segment}
-use Rattle.imkl_population.specs.Store.{shown, entry_of}
+use Rattle.imkl_population.specs.Store.{shown, entry_of, features_of}
 use Rattle.imkl_population.specs.Written.{written_in}
-use Rattle.imkl_population.proofs.Stored.{find-lookup, find-within, range-within, shown-at, value_of}
+use Rattle.imkl_population.proofs.Stored.{features-ascend, find-lookup, find-within, range-within, shown-at, value_of}
 use Rattle.imkl_population.proofs.store.Store.get.Goals as goal
 
 -- what the search among a segment's entries comes to, in the map at the place
@@ -18,6 +20,14 @@ looked_up scalars entries part held gs place feature g found maps inside is view
     let part_is : part ≡ es = of ∙ ap (λ (l : List Entry). slice_range l g.start g.end) same in
     let at : get_or maps place [] ≡ map (entry_of scalars) es = ap (λ (l : List (List (ℕ × List Scalar))). get_or l place []) (sym view) ∙ shown-at scalars entries gs place g inside is in
     ap (value_of scalars) (result ∙ ap (find (λ e. e.feature == feature)) part_is) ∙ find-lookup scalars es feature ∙ ap (λ (m : List (ℕ × List Scalar)). written_in m feature) (sym at)
+
+pub find_entry-requires : goal.find_entry-requires
+find_entry-requires c =
+    let i = c.self.inside in
+    let g = c.index-segment.result.now in
+    let inside : c.args.place < length i.segments.items = omega (arith, c.requires, ap length c.self.view_is, length-map i.segments.items (shown i.scalars.items i.entries.items)) in
+    let part_is = c.entries_of.ensures ∙ ap (λ (l : List Entry). slice_range l g.start g.end) c.deref.ensures.value in
+    subst (λ (l : List Entry). IsStrictlySortedBy nat_cmp (features_of l)) (sym part_is) (features-ascend i.scalars.items i.entries.items i.segments.items c.args.place g inside c.index-segment.ensures c.self.invariant.maps)
 
 pub values_of-requires : goal.values_of-requires
 values_of-requires c =

@@ -1,0 +1,54 @@
+-- What is found by a key in a list whose keys ascend strictly.
+use Rattle.std.proofs.Common.{◌≡◌, ◌≢◌, ℕ, zero, suc, ◌<◌, ◌≤◌, ◌==◌, List, [], ◌∷◌, length, map, get_or, Some, None, Result, Ok, Err, MatchResult, refl, sym, arith, All, inl, inr}
+use Rattle.std.specs.Prelude.{find}
+use Rattle.std.specs.List.Sorted.{IsStrictlySortedBy, IsNonDecreasingBy, IsBinarySearchResult, IsSearchInRange}
+use Rattle.std.specs.Ordering.{nat_cmp, ordering_index}
+use Rattle.std.proofs.lemmas.Cmp.{ranked}
+use Rattle.std.proofs.lemmas.Bool.{eq-eqb, ne_eqb}
+use Rattle.std.proofs.lemmas.Bool.Decides.{nat_tests, leb_tells}
+use Rattle.std.proofs.lemmas.List.{length-map, get_or-map}
+use Rattle.std.proofs.lemmas.List.Elements.{All-head, All-tail}
+use Rattle.std.proofs.lemmas.Map.Keys.{below_from_sorted, non_decreasing_from_sorted, sorted_tail}
+
+-- a greater number compares no lower
+ordering_index-le : (a b k : ℕ) → a ≤ b → ordering_index (nat_cmp a k) ≤ ordering_index (nat_cmp b k)
+ordering_index-le a b k le = grind (arith, nat_tests)
+
+module _ {X : Type 0} (key : X → ℕ) where
+  -- the comparisons with a number rise along the list
+  pub comparisons_rise : (k : ℕ) (xs : List X) → IsStrictlySortedBy nat_cmp (map key xs) → IsNonDecreasingBy (λ x. ordering_index (nat_cmp (key x) k)) xs
+  comparisons_rise k xs ascend i j d le inside =
+      let long : length (map key xs) ≡ length xs = length-map xs key in
+      let keys_rise : get_or (map key xs) i (key d) ≤ get_or (map key xs) j (key d) = non_decreasing_from_sorted (map key xs) ascend i j (key d) le (omega (arith, long, inside)) in
+      ordering_index-le (key (get_or xs i d)) (key (get_or xs j d)) k (omega (arith, keys_rise, get_or-map key xs i d (key d) (omega arith), get_or-map key xs j d (key d) inside))
+
+  -- the element at a place is the first that has its key
+  pub find-at : (xs : List X) (place k : ℕ) (d : X) → IsStrictlySortedBy nat_cmp (map key xs) → place < length xs → key (get_or xs place d) ≡ k → find (λ x. key x == k) xs ≡ Some (get_or xs place d)
+  find-at [] place k d ascend inside here = absurd (omega arith)
+  find-at (x ∷ xs) zero k d ascend inside here = rw (eq-eqb (key x) k here) refl
+  find-at (x ∷ xs) (suc place) k d ascend inside here =
+      let long : length (map key xs) ≡ length xs = length-map xs key in
+      let below : key x < get_or (map key xs) place (key d) = below_from_sorted (map key (x ∷ xs)) zero (suc place) (key d) ascend (omega arith) (omega (arith, long, inside)) in
+      let at : get_or (map key xs) place (key d) ≡ key (get_or xs place d) = get_or-map key xs place d (key d) (omega arith) in
+      let apart : key x ≢ k = λ e. absurd (omega (arith, below, at, here, e)) in
+      rw (ne_eqb (key x) k apart) (find-at xs place k d (sorted_tail nat_cmp (key x) (map key xs) ascend) (omega arith) here)
+
+  -- no element has the key
+  pub find-none : (xs : List X) (k : ℕ) → All (λ x. key x ≢ k) xs → find (λ x. key x == k) xs ≡ None
+  find-none [] k apart = refl
+  find-none (x ∷ xs) k apart = rw (ne_eqb (key x) k (All-head (λ y. key y ≢ k) x xs apart)) (find-none xs k (All-tail (λ y. key y ≢ k) x xs apart))
+
+  -- what a binary search by the key answers is what is found
+  pub searched-find : (xs : List X) (k : ℕ) (r : Result ℕ ℕ) → IsStrictlySortedBy nat_cmp (map key xs) → IsSearchInRange r (length xs) → IsBinarySearchResult (λ x. nat_cmp (key x) k) xs r
+      → MatchResult r (λ place. (d : X) → find (λ x. key x == k) xs ≡ Some (get_or xs place d)) (λ gap. find (λ x. key x == k) xs ≡ None)
+  searched-find xs k (Ok place) ascend inside equal = λ d. find-at xs place k d ascend inside (ranked (key (get_or xs place d)) k _ (sym (equal d)))
+  searched-find xs k (Err gap) ascend inside parted = find-none xs k (λ i d lt.
+      let split = parted (comparisons_rise k xs ascend) in
+      elim (leb_tells gap i) [
+        | inl le ↦
+            let above : k < key (get_or xs i d) = ranked (key (get_or xs i d)) k _ (sym (split.1 i d le.1 lt)) in
+            λ e. absurd (omega (arith, above, e))
+        | inr less ↦
+            let below : key (get_or xs i d) < k = ranked (key (get_or xs i d)) k _ (sym (split.0 i d (omega arith) less.1)) in
+            λ e. absurd (omega (arith, below, e))
+      ])
