@@ -1,10 +1,10 @@
 -- Steps that may fail, over a JSON tree.
-use Rattle.std.specs.Prelude.{◌≡◌, ℕ, List, [], ◌∷◌, Bool, true, false, Option, Some, None, Result, Ok, Err, if◌then◌else◌, ◌==◌, option_and_then}
-use Rattle.serde_json.specs.Data.{Data, Items, no_items, item, Members}
-use Rattle.serde_json.specs.Events.{members_len}
-use Rattle.serde_json.specs.Find.{get, as_str, as_array, as_object, as_number, as_u64, as_bool}
+use Rattle.std.specs.Prelude.{◌≡◌, ℕ, List, [], ◌∷◌, Bool, true, false, Option, Some, None, Result, Ok, Err, option_and_then}
+use Rattle.serde_json.specs.Data.{Data, Members}
+use Rattle.serde_json.specs.Find.{get, as_str, as_number, as_u64, as_bool}
 use Rattle.imkl_model.specs.declared.fault.ModelFault.{ModelFault}
 use Rattle.imkl_model.specs.declared.fault.ModelFault.TheVariants.{NotJson, Shape, OutOfMemory}
+use Rattle.imkl_model.specs.Trees.{list_of, record_of}
 
 -- one step after another: the first fault ends them
 infixl 10 ◌>>=◌
@@ -32,15 +32,9 @@ abbrev pub found : {A : Type 0} → Option A → ModelFault → Result A ModelFa
 found None fault = Err fault
 found (Some x) fault = Ok x
 
-abbrev pub items : Items → List Data
-items no_items = []
-items (item d ds) = d ∷ items ds
-
 -- an object of n members
 unfoldable pub record_at : ℕ → Data → Result Members ModelFault
-record_at n d = do
-  ms ← found (as_object d) Shape
-  if members_len ms == n then Ok ms else Err Shape
+record_at n d = found (record_of n d) Shape
 
 abbrev pub member_at : List ℕ → Data → Result Data ModelFault
 member_at name d = found (get name d) Shape
@@ -56,9 +50,7 @@ abbrev pub number_at : Data → Result ℕ ModelFault
 number_at d = found (option_and_then as_u64 (as_number d)) Shape
 
 unfoldable pub list_at : Data → Result (List Data) ModelFault
-list_at d = do
-  ds ← found (as_array d) Shape
-  Ok (items ds)
+list_at d = found (list_of d) Shape
 
 -- each of a list
 unfoldable pub each : {X A : Type 0} → (X → Result A ModelFault) → List X → Result (List A) ModelFault
