@@ -2,10 +2,10 @@
 use Rattle.std.proofs.Common.{◌≡◌, ℕ, zero, suc, ◌+◌, ◌≤◌, ◌<◌, List, [], ◌∷◌, ◌++◌, length, get_or, drop, map, Result, Ok, Err, refl, sym, ap, ◌∙◌, append_assoc, drop-cons, add-one, subst, arith}
 use Rattle.std.proofs.lemmas.List.{append-nil}
 use Rattle.std.proofs.Math.ListN.{drop_of_length-le}
+use Rattle.imkl_model.specs.Steps.{◌>>=◌, each}
 use Rattle.imkl_delivery.specs.declared.fault.DeliveryFault.{DeliveryFault}
 use Rattle.imkl_delivery.specs.declared.fault.DeliveryFault.TheVariants as fault
-use Rattle.imkl_delivery.specs.Steps.{◌>>=◌, Fails}
-use Rattle.imkl_delivery.specs.Document.{each}
+use Rattle.imkl_delivery.specs.Steps.{Fails}
 
 -- ---- faults
 

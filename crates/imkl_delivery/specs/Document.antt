@@ -1,11 +1,11 @@
 -- A delivery's document: exactly the members of the format, each of its sort.
-use Rattle.std.specs.Prelude.{ℕ, List, [], ◌∷◌, Result, Ok, codes}
+use Rattle.std.specs.Prelude.{ℕ, List, Result, Ok, codes}
 use Rattle.serde_json.specs.Data.{Data, Members}
 use Rattle.serde_json.specs.Find.{get, as_str, as_object}
 use Rattle.imkl_model.specs.Trees.{list_of, record_of}
+use Rattle.imkl_model.specs.Steps.{◌>>=◌, found, each}
 use Rattle.imkl_delivery.specs.declared.fault.DeliveryFault.{DeliveryFault}
 use Rattle.imkl_delivery.specs.declared.fault.DeliveryFault.TheVariants.{Shape}
-use Rattle.imkl_delivery.specs.Steps.{◌>>=◌, found}
 
 -- an object of the document: its id, the name of its class, and the members of its features
 pub record Written : Type 0 where
@@ -43,14 +43,6 @@ object_at d = do
   class ← text_at (codes "class") d
   features ← members_at (codes "features") d
   Ok (record { id = id; class = class; features = features })
-
--- each of a list
-unfoldable pub each : {X A : Type 0} → (X → Result A DeliveryFault) → List X → Result (List A) DeliveryFault
-each f [] = Ok []
-each f (d ∷ ds) = do
-  x ← f d
-  xs ← each f ds
-  Ok (x ∷ xs)
 
 unfoldable pub document_at : Data → Result Document DeliveryFault
 document_at d = do

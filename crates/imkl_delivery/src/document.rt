@@ -2,8 +2,9 @@
 
 ghost use Rattle.std.specs.Prelude.{◌≡◌, map, IfOk};
 ghost use Rattle.serde_json.specs.View.{view, members_view};
+ghost use Rattle.imkl_model.specs.Steps.{each};
 ghost use Rattle.imkl_delivery.specs.Steps.{Gives};
-ghost use Rattle.imkl_delivery.specs.Document.{record_at, text_at, members_at, list_at, object_at, each, document_at};
+ghost use Rattle.imkl_delivery.specs.Document.{record_at, text_at, members_at, list_at, object_at, document_at};
 ghost use Rattle.imkl_delivery.specs.Seen.{written_of, all_written, document_of, WritesAll};
 
 use crate::fault::DeliveryFault;

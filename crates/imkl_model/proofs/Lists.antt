@@ -4,7 +4,8 @@ use Rattle.std.proofs.lemmas.List.{append-nil}
 use Rattle.std.proofs.Math.ListN.{drop_of_length-le}
 use Rattle.imkl_model.specs.declared.fault.ModelFault.{ModelFault}
 use Rattle.imkl_model.specs.declared.fault.ModelFault.TheVariants as faults
-use Rattle.imkl_model.specs.Reading.{◌>>=◌, Fails, each}
+use Rattle.imkl_model.specs.Steps.{◌>>=◌, each}
+use Rattle.imkl_model.specs.Reading.{Fails}
 
 -- what was read before, and what is still read
 abbrev pub with_front : {A : Type 0} → List A → Result (List A) ModelFault → Result (List A) ModelFault

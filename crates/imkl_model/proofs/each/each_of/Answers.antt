@@ -2,7 +2,7 @@ use Rattle.std.proofs.Common.{map}
 use Rattle.std.proofs.lemmas.Result.{err_from_is_err_and}
 use Rattle.std.proofs.lemmas.List.Elements.{All-push}
 use Rattle.serde_json.specs.View.{view}
-use Rattle.imkl_model.specs.Reading.{each}
+use Rattle.imkl_model.specs.Steps.{each}
 use Rattle.imkl_model.proofs.Lists.{goes_on, ends, is_done}
 use Rattle.imkl_model.proofs.each.each_of.Goals as goal
 

@@ -1,5 +1,5 @@
 use Rattle.std.proofs.lemmas.Result.{err_from_is_err_and}
-use Rattle.imkl_model.specs.Reading.{each}
+use Rattle.imkl_model.specs.Steps.{each}
 use Rattle.imkl_model.specs.Numbering.{class_of}
 use Rattle.imkl_model.proofs.Lists.{goes_on_plain, ends_plain, is_done_plain}
 use Rattle.imkl_model.proofs.numbering.classes_of.Goals as goal
