@@ -1,11 +1,11 @@
 -- Reading each of a list, as a loop does.
-use Rattle.std.proofs.Common.{◌≡◌, ℕ, zero, suc, ◌+◌, ◌≤◌, ◌<◌, List, [], ◌∷◌, ◌++◌, length, get_or, drop, map, Result, Ok, Err, refl, sym, ap, ◌∙◌, append_assoc, drop-cons, add-one, subst, arith}
-use Rattle.std.proofs.lemmas.List.{append-nil}
-use Rattle.std.proofs.Math.ListN.{drop_of_length-le}
+use Rattle.std.proofs.Common.{◌≡◌, ℕ, zero, suc, ◌+◌, ◌≤◌, ◌<◌, List, [], ◌∷◌, ◌++◌, length, get_or, drop, map, Result, Ok, Err, refl, sym, ap, ◌∙◌, subst, arith}
+use Rattle.imkl_model.specs.Steps.{◌>>=◌, each}
+use Rattle.imkl_model.proofs.Lists as lists
+use Rattle.imkl_model.proofs.Lists.{with_front}
 use Rattle.imkl_delivery.specs.declared.fault.DeliveryFault.{DeliveryFault}
 use Rattle.imkl_delivery.specs.declared.fault.DeliveryFault.TheVariants as fault
-use Rattle.imkl_delivery.specs.Steps.{◌>>=◌, Fails}
-use Rattle.imkl_delivery.specs.Document.{each}
+use Rattle.imkl_delivery.specs.Steps.{Fails}
 
 -- ---- faults
 
@@ -13,21 +13,12 @@ use Rattle.imkl_delivery.specs.Document.{each}
 pub fails_as : {A B : Type 0} (e : DeliveryFault) (r : Result A DeliveryFault) (f : A → Result B DeliveryFault) → Fails e r → Fails e (r >>= f)
 fails_as fault.OutOfMemory r f h = tt
 fails_as fault.NotJson r f h = absurd h
-fails_as fault.Shape r f h = rw h refl
-fails_as fault.OtherModel r f h = rw h refl
-fails_as (fault.UnknownClass o) r f h = rw h refl
-fails_as (fault.UnknownFeature o) r f h = rw h refl
-fails_as (fault.UnknownTarget o) r f h = rw h refl
-fails_as (fault.Population o p) r f h = rw h refl
+fails_as e r f h = rw h refl
 
 pub fails_along : {A : Type 0} (e : DeliveryFault) (r s : Result A DeliveryFault) → r ≡ s → Fails e r → Fails e s
 fails_along {A} e r s same h = let P : Result A DeliveryFault → Type 0 = λ q. Fails e q in subst P same h
 
--- ---- each of a list
-
--- what was read before, and what is still read
-abbrev pub with_front : {A : Type 0} → List A → Result (List A) DeliveryFault → Result (List A) DeliveryFault
-with_front front read = read >>= λ xs. Ok (front ++ xs)
+-- ---- each of a list, where a loop keeps nothing of what it reads
 
 -- what was read of the first so many, such that the whole comes to it and what the rest comes to
 pub record IsReadTo {V D A : Type 0} (f : D → Result A DeliveryFault) (view : V → D) (vs : List V) (i : ℕ) : Type 0 where
@@ -41,35 +32,16 @@ none_in_front (Err e) = refl
 pub begins : {V D A : Type 0} (f : D → Result A DeliveryFault) (view : V → D) (vs : List V) → IsReadTo f view vs 0
 begins f view vs = record { front = []; read = none_in_front (each f (map view vs)) }
 
-regroup : {A : Type 0} (front : List A) (x : A) (read : Result (List A) DeliveryFault) → with_front front (read >>= λ xs. Ok (x ∷ xs)) ≡ with_front (front ++ x ∷ []) read
-regroup {A} front x (Ok xs) = ap (λ (ys : List A). Ok ys) (simp append_assoc)
-regroup front x (Err f) = refl
-
--- the list from a place on
-rest_is : {V D : Type 0} (view : V → D) (vs : List V) (i : ℕ) (v : V) → i < length vs → v ≡ get_or vs i v → map view (drop i vs) ≡ view v ∷ map view (drop (i + 1) vs)
-rest_is view vs i v lt is = rw (add-one, drop-cons vs i v, ← is) refl
-
 pub goes_on : {V D A : Type 0} (f : D → Result A DeliveryFault) (view : V → D) (vs : List V) (i : ℕ) (v : V) (x : A)
     → i < length vs → v ≡ get_or vs i v → f (view v) ≡ Ok x → IsReadTo f view vs i → IsReadTo f view vs (i + 1)
-unfolding each
-goes_on f view vs i v x lt is h so_far =
-    let more = map view (drop (i + 1) vs) in
-    let one : with_front so_far.front (each f (map view (drop i vs))) ≡ with_front (so_far.front ++ x ∷ []) (each f more) = rw (rest_is view vs i v lt is, h) (regroup so_far.front x (each f more)) in
-    record { front = so_far.front ++ x ∷ []; read = sym one ∙ so_far.read }
+goes_on f view vs i v x lt is h so_far = record { front = so_far.front ++ x ∷ []; read = lists.goes_on f view so_far.front vs i v x (each f (map view vs)) lt is h so_far.read }
 
 pub ends : {V D A : Type 0} (f : D → Result A DeliveryFault) (view : V → D) (e : DeliveryFault) (vs : List V) (i : ℕ) (v : V)
     → i < length vs → v ≡ get_or vs i v → Fails e (f (view v)) → IsReadTo f view vs i → Fails e (each f (map view vs))
-unfolding each
-ends f view e vs i v lt is h so_far =
-    let more = map view (drop (i + 1) vs) in
-    let one : with_front so_far.front (each f (map view (drop i vs))) ≡ with_front so_far.front (f (view v) >>= λ x. each f more >>= λ xs. Ok (x ∷ xs)) = rw (rest_is view vs i v lt is) refl in
-    fails_along e _ _ (sym one ∙ so_far.read) (fails_as e _ (λ xs. Ok (so_far.front ++ xs)) (fails_as e (f (view v)) (λ x. each f more >>= λ xs. Ok (x ∷ xs)) h))
+ends f view e vs i v lt is h so_far = fails_along e _ _ (lists.next f view so_far.front vs i v (each f (map view vs)) lt is so_far.read) (fails_as e (f (view v)) _ h)
 
 pub is_done : {V D A : Type 0} (f : D → Result A DeliveryFault) (view : V → D) (vs : List V) (i : ℕ) → length vs ≤ i → (so_far : IsReadTo f view vs i) → each f (map view vs) ≡ Ok so_far.front
-unfolding each
-is_done {A = A} f view vs i le so_far =
-    let one : with_front so_far.front (each f (map view (drop i vs))) ≡ Ok so_far.front = rw (drop_of_length-le vs le) (ap (λ (xs : List A). Ok xs) (append-nil so_far.front)) in
-    sym so_far.read ∙ one
+is_done f view vs i le so_far = lists.is_done f view so_far.front vs i (each f (map view vs)) le so_far.read
 
 -- ---- what was read
 

@@ -1,4 +1,3 @@
-pub mod Trees
 pub mod Alls
 pub mod Eaches
 pub mod Runs

@@ -14,6 +14,7 @@ use Rattle.imkl_model.specs.declared.feature.Role.{Role}
 use Rattle.imkl_model.specs.declared.feature.Role.TheVariants.{Attribute, SourceEnd, OppositeEnd}
 use Rattle.imkl_model.specs.ClassModel.{Model, feature_number, feature_at, is_named, belongs}
 use Rattle.imkl_model.specs.WellFormed.{IsClassModel}
+use Rattle.imkl_model.specs.Steps.{◌>>=◌, found}
 use Rattle.imkl_model.proofs.Places.{least_passes}
 use Rattle.imkl_population.specs.declared.fault.PopulationFault.{PopulationFault}
 use Rattle.imkl_population.specs.declared.object.Object.{Object}
@@ -25,7 +26,7 @@ use Rattle.imkl_population.specs.Building.{unless, with_values, with_written}
 use Rattle.imkl_population.specs.Required.{is_on, is_required, is_one_of, with_required}
 use Rattle.imkl_delivery.specs.declared.fault.DeliveryFault.{DeliveryFault}
 use Rattle.imkl_delivery.specs.declared.fault.DeliveryFault.TheVariants.{UnknownFeature}
-use Rattle.imkl_delivery.specs.Steps.{◌>>=◌, found, at}
+use Rattle.imkl_delivery.specs.Steps.{at}
 use Rattle.imkl_delivery.specs.Document.{Written}
 use Rattle.imkl_delivery.specs.Loading.{object_at, are_features, left_out, values_put, targets_put, put_by, put, featured}
 use Rattle.imkl_delivery.specs.Named.{named_features, written_requirements}

@@ -16,17 +16,7 @@ use Rattle.imkl_delivery.specs.Loading.{object_at, are_features, values_put, put
 -- a call's refusal, told at an object, is what the definition gives there
 pub refused : (X : Type 0) (o : ℕ) (e : PopulationFault) (given : Result Population PopulationFault) (old new : Population) → Answers {X = X} (Err e) given old new → Fails (told o e) (at o given)
 refused X o refusal.OutOfMemory given old new h = tt
-refused X o refusal.DuplicateId given old new h = rw h.0 refl
-refused X o refusal.AbstractClass given old new h = rw h.0 refl
-refused X o refusal.WrongFeature given old new h = rw h.0 refl
-refused X o refusal.WrongKind given old new h = rw h.0 refl
-refused X o (refusal.TooFew p f) given old new h = rw h.0 refl
-refused X o (refusal.TooMany p f) given old new h = rw h.0 refl
-refused X o refusal.WrongClass given old new h = rw h.0 refl
-refused X o refusal.DuplicateTarget given old new h = rw h.0 refl
-refused X o refusal.Derived given old new h = rw h.0 refl
-refused X o refusal.Limit given old new h = rw h.0 refl
-refused X o refusal.BadId given old new h = rw h.0 refl
+refused X o e given old new h = rw h.0 refl
 
 -- values that are all of their type come to what the population does with them
 pub values_there : (o f : ℕ) (ds : List Data) (p : Population) (vs : List Scalar) → all_of (scalar_at p.model (feature_at p.model f).element) ds ≡ Some vs → at o (value_set p o f vs) ≡ values_put o f ds p

@@ -2,8 +2,9 @@
 use Rattle.std.proofs.Common.{◌≡◌, ℕ, zero, suc, ◌+◌, ◌<◌, true, false, Result, Ok, Err, refl, add-one, arith, inl, inr}
 use Rattle.std.proofs.lemmas.Bool.{cases_lt}
 use Rattle.std.specs.Result.{is_err, OnOk}
+use Rattle.imkl_model.specs.Steps.{◌>>=◌}
 use Rattle.imkl_delivery.specs.declared.fault.DeliveryFault.{DeliveryFault}
-use Rattle.imkl_delivery.specs.Steps.{◌>>=◌, steps, Fails, Leaves}
+use Rattle.imkl_delivery.specs.Steps.{steps, Fails, Leaves}
 use Rattle.imkl_delivery.proofs.Eaches.{fails_as, fails_along}
 
 pub begins : {S : Type 0} (step : ℕ → S → Result S DeliveryFault) (s : S) → steps step 0 s ≡ Ok s

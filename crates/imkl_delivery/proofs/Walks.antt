@@ -1,9 +1,10 @@
 -- Steps for each number of a list, and when those for some of the numbers below a bound are those for all.
 use Rattle.std.proofs.Common.{◌≡◌, ◌∙◌, ℕ, zero, suc, ◌+◌, ◌<◌, ◌≤◌, Bool, true, false, List, [], ◌∷◌, ◌++◌, length, drop, get_or, Result, Ok, Err, refl, sym, subst, add-one, drop-cons, arith, if◌then◌else◌}
 use Rattle.std.proofs.Math.ListN.{drop_of_length-le}
+use Rattle.imkl_model.specs.Steps.{◌>>=◌}
 use Rattle.imkl_population.specs.Numbers.{places}
 use Rattle.imkl_delivery.specs.declared.fault.DeliveryFault.{DeliveryFault}
-use Rattle.imkl_delivery.specs.Steps.{◌>>=◌, steps, Fails}
+use Rattle.imkl_delivery.specs.Steps.{steps, Fails}
 use Rattle.imkl_delivery.proofs.Eaches.{fails_as, fails_along}
 
 abbrev pub walk : {S : Type 0} → (ℕ → S → Result S DeliveryFault) → List ℕ → S → Result S DeliveryFault

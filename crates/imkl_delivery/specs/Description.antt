@@ -1,21 +1,17 @@
 -- The population that bytes describe, or their first fault.
-use Rattle.std.specs.Prelude.{◌≡◌, ℕ, List, Some, Result, Ok, Err, IsUtf8}
+use Rattle.std.specs.Prelude.{◌≡◌, ℕ, List, Result, Ok, Err}
 use Rattle.serde_json.specs.Data.{Data}
-use Rattle.serde_json.specs.Read.{read}
 use Rattle.imkl_model.specs.ClassModel.{Model}
+use Rattle.imkl_model.specs.Trees.{IsTree, IsNoTree}
 use Rattle.imkl_population.specs.Population as population
 use Rattle.imkl_delivery.specs.declared.fault.DeliveryFault.{DeliveryFault}
 use Rattle.imkl_delivery.specs.declared.fault.DeliveryFault.TheVariants.{NotJson, OutOfMemory}
 use Rattle.imkl_delivery.specs.Loading.{describes_population}
 
--- the bytes are the JSON text of this tree
-abbrev pub IsTree : List ℕ → Data → Type 0
-IsTree bytes d = IsUtf8 bytes × (read bytes ≡ Some d)
-
 -- A fault that the bytes have. NotJson is for bytes that are no tree's. Memory may run out anywhere.
 abbrev pub IsFault : Model → DeliveryFault → List ℕ → Type 0
 IsFault m OutOfMemory bytes = Unit {0}
-IsFault m NotJson bytes = (d : Data) → IsTree bytes d → ⊥
+IsFault m NotJson bytes = IsNoTree bytes
 IsFault m fault bytes = (d : Data) × IsTree bytes d × (describes_population m d ≡ Err fault)
 
 -- what loading answers: the population that the tree describes, or its first fault
@@ -26,5 +22,5 @@ Answers m bytes (Err e) = IsFault m e bytes
 -- how the reading of JSON itself ends
 abbrev pub IsRefusal : DeliveryFault → List ℕ → Type 0
 IsRefusal OutOfMemory bytes = Unit {0}
-IsRefusal NotJson bytes = (d : Data) → IsTree bytes d → ⊥
+IsRefusal NotJson bytes = IsNoTree bytes
 IsRefusal fault bytes = ⊥

@@ -1,11 +1,11 @@
 -- A delivery's document: exactly the members of the format, each of its sort.
-use Rattle.std.specs.Prelude.{ℕ, List, [], ◌∷◌, Result, Ok, Err, ◌==◌, codes, if◌then◌else◌}
-use Rattle.serde_json.specs.Data.{Data, Items, no_items, item, Members}
-use Rattle.serde_json.specs.Events.{members_len}
-use Rattle.serde_json.specs.Find.{get, as_str, as_array, as_object}
+use Rattle.std.specs.Prelude.{ℕ, List, Result, Ok, codes}
+use Rattle.serde_json.specs.Data.{Data, Members}
+use Rattle.serde_json.specs.Find.{get, as_str, as_object}
+use Rattle.imkl_model.specs.Trees.{list_of, record_of}
+use Rattle.imkl_model.specs.Steps.{◌>>=◌, found, each}
 use Rattle.imkl_delivery.specs.declared.fault.DeliveryFault.{DeliveryFault}
 use Rattle.imkl_delivery.specs.declared.fault.DeliveryFault.TheVariants.{Shape}
-use Rattle.imkl_delivery.specs.Steps.{◌>>=◌, found}
 
 -- an object of the document: its id, the name of its class, and the members of its features
 pub record Written : Type 0 where
@@ -17,15 +17,9 @@ pub record Document : Type 0 where
   pub model : List ℕ
   pub objects : List Written
 
-abbrev pub items : Items → List Data
-items no_items = []
-items (item d ds) = d ∷ items ds
-
 -- an object of n members
 unfoldable pub record_at : ℕ → Data → Result Members DeliveryFault
-record_at n d = do
-  ms ← found (as_object d) Shape
-  if members_len ms == n then Ok ms else Err Shape
+record_at n d = found (record_of n d) Shape
 
 abbrev pub text_at : List ℕ → Data → Result (List ℕ) DeliveryFault
 text_at name d = do
@@ -40,8 +34,7 @@ members_at name d = do
 unfoldable pub list_at : List ℕ → Data → Result (List Data) DeliveryFault
 list_at name d = do
   v ← found (get name d) Shape
-  ds ← found (as_array v) Shape
-  Ok (items ds)
+  found (list_of v) Shape
 
 unfoldable pub object_at : Data → Result Written DeliveryFault
 object_at d = do
@@ -50,14 +43,6 @@ object_at d = do
   class ← text_at (codes "class") d
   features ← members_at (codes "features") d
   Ok (record { id = id; class = class; features = features })
-
--- each of a list
-unfoldable pub each : {X A : Type 0} → (X → Result A DeliveryFault) → List X → Result (List A) DeliveryFault
-each f [] = Ok []
-each f (d ∷ ds) = do
-  x ← f d
-  xs ← each f ds
-  Ok (x ∷ xs)
 
 unfoldable pub document_at : Data → Result Document DeliveryFault
 document_at d = do

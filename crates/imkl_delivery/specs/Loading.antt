@@ -7,6 +7,7 @@ use Rattle.imkl_model.specs.declared.feature.FeatureInfo.{FeatureInfo}
 use Rattle.imkl_model.specs.declared.feature.Role.{Role}
 use Rattle.imkl_model.specs.declared.feature.Role.TheVariants.{Attribute, SourceEnd, OppositeEnd}
 use Rattle.imkl_model.specs.ClassModel.{Model, class_number, feature_number, feature_at, belongs}
+use Rattle.imkl_model.specs.Steps.{◌>>=◌, found}
 use Rattle.imkl_population.specs.declared.fault.PopulationFault.{PopulationFault}
 use Rattle.imkl_population.specs.declared.fault.PopulationFault.TheVariants.{WrongKind, TooFew, TooMany, Derived}
 use Rattle.imkl_population.specs.Population as population
@@ -14,7 +15,7 @@ use Rattle.imkl_population.specs.Building.{added, value_set, linked}
 use Rattle.imkl_population.specs.Finishing.{finished}
 use Rattle.imkl_delivery.specs.declared.fault.DeliveryFault.{DeliveryFault}
 use Rattle.imkl_delivery.specs.declared.fault.DeliveryFault.TheVariants as fault
-use Rattle.imkl_delivery.specs.Steps.{◌>>=◌, found, steps, at, told}
+use Rattle.imkl_delivery.specs.Steps.{steps, at, told}
 use Rattle.imkl_delivery.specs.Document.{Written, document_at}
 use Rattle.imkl_delivery.specs.Scalars.{is_absent, value_list, scalar_at, all_of}
 

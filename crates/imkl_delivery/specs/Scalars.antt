@@ -6,9 +6,9 @@ use Rattle.serde_json.specs.Find.{as_bool, as_number, as_i64, as_str}
 use Rattle.imkl_model.specs.declared.feature.ElementType.{ElementType}
 use Rattle.imkl_model.specs.declared.feature.ElementType.TheVariants as element
 use Rattle.imkl_model.specs.ClassModel.{Model, literal_number}
+use Rattle.imkl_model.specs.Trees.{items}
 use Rattle.imkl_population.specs.declared.scalar.Scalar.{Scalar}
 use Rattle.imkl_population.specs.declared.scalar.Scalar.TheVariants as scalar
-use Rattle.imkl_delivery.specs.Document.{items}
 
 -- null is nothing, a list its elements, anything else a list of one
 abbrev pub listed : Data → List Data

@@ -2,10 +2,11 @@
 use Rattle.std.specs.Prelude.{◌≡◌, ℕ, List, map, Result, Ok, Err}
 use Rattle.serde_json.specs.Data.{Data}
 use Rattle.serde_json.specs.View.{view, members_view}
+use Rattle.imkl_model.specs.Steps.{each}
 use Rattle.imkl_delivery.specs.declared.fault.DeliveryFault.{DeliveryFault}
 use Rattle.imkl_delivery.specs.declared.document.Entry as entry
 use Rattle.imkl_delivery.specs.declared.document.Document as document
-use Rattle.imkl_delivery.specs.Document.{Written, Document, object_at, each}
+use Rattle.imkl_delivery.specs.Document.{Written, Document, object_at}
 use Rattle.imkl_delivery.specs.Loading as loading
 
 abbrev pub written_of : entry.Entry → Written

@@ -1,19 +1,10 @@
--- Steps that may fail: the first fault ends them.
-use Rattle.std.specs.Prelude.{◌≡◌, ℕ, zero, suc, Option, Some, None, Result, Ok, Err}
+-- The steps of a delivery, and what a call returned for one.
+use Rattle.std.specs.Prelude.{◌≡◌, ℕ, zero, suc, Result, Ok, Err}
+use Rattle.imkl_model.specs.Steps.{◌>>=◌}
 use Rattle.imkl_population.specs.declared.fault.PopulationFault.{PopulationFault}
 use Rattle.imkl_population.specs.declared.fault.PopulationFault.TheVariants as refusal
 use Rattle.imkl_delivery.specs.declared.fault.DeliveryFault.{DeliveryFault}
 use Rattle.imkl_delivery.specs.declared.fault.DeliveryFault.TheVariants as fault
-
-infixl 10 ◌>>=◌
-abbrev pub ◌>>=◌ : {A B : Type 0} → Result A DeliveryFault → (A → Result B DeliveryFault) → Result B DeliveryFault
-(Ok x) >>= f = f x
-(Err e) >>= f = Err e
-
--- what is there, else the fault
-abbrev pub found : {A : Type 0} → Option A → DeliveryFault → Result A DeliveryFault
-found None e = Err e
-found (Some x) e = Ok x
 
 -- a step for each number below n, in order
 unfoldable pub steps : {S : Type 0} → (ℕ → S → Result S DeliveryFault) → ℕ → S → Result S DeliveryFault

@@ -2,8 +2,9 @@
 
 ghost use Rattle.std.specs.Prelude.{◌≡◌, map, IfOk};
 ghost use Rattle.serde_json.specs.View.{view, members_view};
+ghost use Rattle.imkl_model.specs.Steps.{each};
 ghost use Rattle.imkl_delivery.specs.Steps.{Gives};
-ghost use Rattle.imkl_delivery.specs.Document.{record_at, text_at, members_at, list_at, object_at, each, document_at};
+ghost use Rattle.imkl_delivery.specs.Document.{record_at, text_at, members_at, list_at, object_at, document_at};
 ghost use Rattle.imkl_delivery.specs.Seen.{written_of, all_written, document_of, WritesAll};
 
 use crate::fault::DeliveryFault;
@@ -25,7 +26,7 @@ pub struct Document<'v> {
 }
 
 /// An object with just so many members.
-#[tactic(auto, using(crate::proofs::Trees::trees), unfolding(crate::specs::Document::record_at))]
+#[tactic(auto, using(imkl_model::proofs::Trees::trees), unfolding(crate::specs::Document::record_at))]
 fn record_of(value: &Value, members: usize) -> Result<&Map<String, Value>, DeliveryFault>
     ensures { Gives (λ ms. members_view ms.now.entries) result (record_at members (view value.now)) }
 {
@@ -49,7 +50,7 @@ fn members<'v>(value: &'v Value, name: &str) -> Result<&'v Map<String, Value>, D
     member.as_object().ok_or(DeliveryFault::Shape)
 }
 
-#[tactic(auto, using(crate::proofs::Trees::trees), unfolding(crate::specs::Document::list_at))]
+#[tactic(auto, using(imkl_model::proofs::Trees::trees), unfolding(crate::specs::Document::list_at))]
 fn list<'v>(value: &'v Value, name: &str) -> Result<&'v [Value], DeliveryFault>
     ensures { Gives (λ vs. map view vs.now) result (list_at name.now (view value.now)) }
 {

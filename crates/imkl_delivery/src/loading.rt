@@ -2,13 +2,14 @@
 
 ghost use Rattle.std.specs.Prelude.{◌≡◌, ◌<◌, ◌≤◌, ◌+◌, List, map, length, OnOk, IfOk, IfErr};
 ghost use Rattle.serde_json.specs.View.{view};
+ghost use Rattle.imkl_model.specs.Trees.{IsTree};
 ghost use Rattle.imkl_population.specs.Building.{KeepsModel, KeepsObjects};
 ghost use Rattle.imkl_delivery.specs.Steps.{Gives, Leaves, steps, told};
 ghost use Rattle.imkl_delivery.specs.Document.{Written};
 ghost use Rattle.imkl_delivery.specs.Seen.{Writes, WritesAll};
 ghost use Rattle.imkl_delivery.specs.Loading.{named, featured, fault_place, loaded, describes_population};
 ghost use Rattle.imkl_delivery.specs.Named.{written_requirements};
-ghost use Rattle.imkl_delivery.specs.Description.{Answers, IsTree, IsRefusal};
+ghost use Rattle.imkl_delivery.specs.Description.{Answers, IsRefusal};
 
 use crate::document::{document_of, entry_of};
 use crate::fault::DeliveryFault;

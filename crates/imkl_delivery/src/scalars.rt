@@ -26,7 +26,7 @@ pub enum Targets {
     Found(Vec<ObjectNo>),
 }
 
-#[tactic(auto, using(crate::proofs::Trees::trees))]
+#[tactic(auto, using(imkl_model::proofs::Trees::trees))]
 /// The values that a member writes: null is none, a list its elements, anything else one.
 pub(crate) fn listed(value: &Value) -> &[Value]
     ensures { map view result.now ≡ listed (view value.now) }

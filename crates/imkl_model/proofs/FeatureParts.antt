@@ -8,7 +8,7 @@ use Rattle.imkl_model.specs.declared.feature.Role.{Role}
 use Rattle.imkl_model.specs.declared.feature.Role.TheVariants as role
 use Rattle.imkl_model.specs.declared.numbering.Scope.{Scope}
 use Rattle.imkl_model.specs.declared.written.WrittenFeature.{WrittenFeature}
-use Rattle.imkl_model.specs.Reading.{◌>>=◌}
+use Rattle.imkl_model.specs.Steps.{◌>>=◌}
 use Rattle.imkl_model.specs.Numbering.{number_in, scalar_type, element_type, collection_kind, feature_of}
 use Rattle.imkl_model.proofs.Parts.{number_is}
 use Rattle.imkl_model.proofs.Steps.{okay, ok_is, both_steps}

@@ -1,5 +1,6 @@
 pub mod Trees
 pub mod Lists
+pub mod Faults
 pub mod Warshall
 pub mod Rows
 pub mod Places

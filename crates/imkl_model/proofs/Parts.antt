@@ -11,7 +11,7 @@ use Rattle.imkl_model.specs.declared.written.Written.{Written}
 use Rattle.imkl_model.specs.declared.written.WrittenClass.{WrittenClass}
 use Rattle.imkl_model.specs.declared.written.WrittenEnumeration.{WrittenEnumeration}
 use Rattle.imkl_model.specs.Words.{repeats, is_predefined}
-use Rattle.imkl_model.specs.Reading.{each}
+use Rattle.imkl_model.specs.Steps.{each}
 use Rattle.imkl_model.specs.Checks as checks
 use Rattle.imkl_model.specs.WrittenFeatures.{written_features}
 use Rattle.imkl_model.specs.Numbering.{number_in, class_of, enumeration_of}

@@ -15,7 +15,7 @@ use Rattle.imkl_model.specs.declared.written.Written.{Written}
 use Rattle.imkl_model.specs.declared.written.WrittenEnumeration.{WrittenEnumeration}
 use Rattle.imkl_model.specs.declared.written.WrittenFeature.{WrittenFeature}
 use Rattle.imkl_model.specs.Words.{repeats, qualified}
-use Rattle.imkl_model.specs.Reading.{◌>>=◌, each}
+use Rattle.imkl_model.specs.Steps.{◌>>=◌, each}
 use Rattle.imkl_model.specs.Checks as checks
 use Rattle.imkl_model.specs.WrittenFeatures.{written_features}
 use Rattle.imkl_model.specs.Scopes.{scope_of}

@@ -1,7 +1,7 @@
 -- What is known where steps that may fail succeeded.
 use Rattle.std.proofs.Common.{◌≡◌, ℕ, suc, zero, ◌<◌, List, [], ◌∷◌, ◌++◌, length, get_or, map, Option, Some, None, Result, Ok, Err, refl, sym, ap, arith, All}
 use Rattle.imkl_model.specs.declared.fault.ModelFault.{ModelFault}
-use Rattle.imkl_model.specs.Reading.{◌>>=◌, found, each}
+use Rattle.imkl_model.specs.Steps.{◌>>=◌, found, each}
 
 abbrev pub okay : {A : Type 0} → A → Result A ModelFault
 okay x = Ok x

@@ -4,7 +4,7 @@ use Rattle.std.specs.declared.alloc.Global.{Global}
 use Rattle.serde_json.specs.Events.{members_len}
 use Rattle.serde_json.specs.View.{view, items_view, members_view}
 use Rattle.serde_json.specs.declared.value.Value.{Value}
-use Rattle.imkl_model.specs.Reading.{items}
+use Rattle.imkl_model.specs.Trees.{items}
 
 pub members_len-view : (es : List (String Global × Value)) → members_len (members_view es) ≡ length es
 members_len-view [] = refl

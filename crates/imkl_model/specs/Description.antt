@@ -1,20 +1,16 @@
 -- The class model that bytes describe, or their first fault.
-use Rattle.std.specs.Prelude.{◌≡◌, ℕ, List, Some, Result, Ok, Err, not, IsUtf8}
+use Rattle.std.specs.Prelude.{◌≡◌, ℕ, List, Result, Ok, Err, not}
 use Rattle.std.specs.List.{list_all}
 use Rattle.serde_json.specs.Data.{Data}
-use Rattle.serde_json.specs.Read.{read}
 use Rattle.imkl_model.specs.declared.fault.ModelFault.{ModelFault}
 use Rattle.imkl_model.specs.declared.fault.ModelFault.TheVariants.{NotJson, DuplicateName, Cycle, FeatureClash, BadMultiplicity, Limit, OutOfMemory}
 use Rattle.imkl_model.specs.ClassModel.{Model, supers, has_clash}
 use Rattle.imkl_model.specs.Chains.{is_cyclic}
-use Rattle.imkl_model.specs.Reading.{◌>>=◌, check}
+use Rattle.imkl_model.specs.Trees.{IsTree, IsNoTree}
+use Rattle.imkl_model.specs.Steps.{◌>>=◌, check}
 use Rattle.imkl_model.specs.Shape.{written_at}
 use Rattle.imkl_model.specs.Checks.{is_within_limits, repeats_name, has_multiplicity}
 use Rattle.imkl_model.specs.Numbering.{numbered}
-
--- the bytes are the JSON text of this tree
-abbrev pub IsTree : List ℕ → Data → Type 0
-IsTree bytes d = IsUtf8 bytes × (read bytes ≡ Some d)
 
 -- the last checks, over numbers
 unfoldable pub checked : Model → Result Model ModelFault
@@ -36,7 +32,7 @@ describes_model d = do
 -- A fault that the bytes have. NotJson is for bytes that are no tree's. Memory may run out anywhere.
 abbrev pub IsFault : ModelFault → List ℕ → Type 0
 IsFault OutOfMemory bytes = Unit {0}
-IsFault NotJson bytes = (d : Data) → IsTree bytes d → ⊥
+IsFault NotJson bytes = IsNoTree bytes
 IsFault fault bytes = (d : Data) × IsTree bytes d × (describes_model d ≡ Err fault)
 
 -- what reading answers: the model that the tree describes, or its first fault
@@ -47,5 +43,5 @@ Answers bytes (Err e) = IsFault e bytes
 -- how the reading of JSON itself ends
 abbrev pub IsRefusal : ModelFault → List ℕ → Type 0
 IsRefusal OutOfMemory bytes = Unit {0}
-IsRefusal NotJson bytes = (d : Data) → IsTree bytes d → ⊥
+IsRefusal NotJson bytes = IsNoTree bytes
 IsRefusal fault bytes = ⊥

@@ -3,6 +3,8 @@ pub mod Words
 pub mod Chains
 pub mod ClassModel
 pub mod WellFormed
+pub mod Steps
+pub mod Trees
 pub mod Reading
 pub mod Shape
 pub mod WrittenFeatures

@@ -14,7 +14,7 @@ use Rattle.imkl_model.specs.declared.feature.Role.TheVariants as role
 use Rattle.imkl_model.specs.declared.written.WrittenClass.{WrittenClass}
 use Rattle.imkl_model.specs.declared.written.WrittenEnumeration.{WrittenEnumeration}
 use Rattle.imkl_model.specs.declared.written.Written.{Written}
-use Rattle.imkl_model.specs.Reading.{◌>>=◌, found, each}
+use Rattle.imkl_model.specs.Steps.{◌>>=◌, found, each}
 use Rattle.imkl_model.specs.WrittenFeatures.{written_features}
 use Rattle.imkl_model.specs.declared.written.WrittenFeature.{WrittenFeature}
 use Rattle.imkl_model.specs.Checks.{association_names}

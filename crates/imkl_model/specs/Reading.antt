@@ -1,16 +1,11 @@
--- Steps that may fail, over a JSON tree.
-use Rattle.std.specs.Prelude.{◌≡◌, ℕ, List, [], ◌∷◌, Bool, true, false, Option, Some, None, Result, Ok, Err, if◌then◌else◌, ◌==◌, option_and_then}
-use Rattle.serde_json.specs.Data.{Data, Items, no_items, item, Members}
-use Rattle.serde_json.specs.Events.{members_len}
-use Rattle.serde_json.specs.Find.{get, as_str, as_array, as_object, as_number, as_u64, as_bool}
+-- Reading a JSON tree: what is not of the shape that is asked has the fault Shape.
+use Rattle.std.specs.Prelude.{◌≡◌, ℕ, List, Bool, Result, Ok, Err, option_and_then}
+use Rattle.serde_json.specs.Data.{Data, Members}
+use Rattle.serde_json.specs.Find.{get, as_str, as_number, as_u64, as_bool}
 use Rattle.imkl_model.specs.declared.fault.ModelFault.{ModelFault}
 use Rattle.imkl_model.specs.declared.fault.ModelFault.TheVariants.{NotJson, Shape, OutOfMemory}
-
--- one step after another: the first fault ends them
-infixl 10 ◌>>=◌
-abbrev pub ◌>>=◌ : {A B : Type 0} → Result A ModelFault → (A → Result B ModelFault) → Result B ModelFault
-(Ok x) >>= f = f x
-(Err e) >>= f = Err e
+use Rattle.imkl_model.specs.Steps.{found}
+use Rattle.imkl_model.specs.Trees.{list_of, record_of}
 
 -- What a function returned, seen by view, is what the definition gives, unless memory ran out. A tree is JSON.
 abbrev pub Fails : {Y : Type 0} → ModelFault → Result Y ModelFault → Type 0
@@ -22,25 +17,9 @@ abbrev pub Gives : {X Y : Type 0} → (X → Y) → Result X ModelFault → Resu
 Gives view (Ok x) given = given ≡ Ok (view x)
 Gives view (Err e) given = Fails e given
 
--- a condition, else the fault
-abbrev pub check : Bool → ModelFault → Result (Unit {0}) ModelFault
-check true fault = Ok tt
-check false fault = Err fault
-
--- what is there, else the fault
-abbrev pub found : {A : Type 0} → Option A → ModelFault → Result A ModelFault
-found None fault = Err fault
-found (Some x) fault = Ok x
-
-abbrev pub items : Items → List Data
-items no_items = []
-items (item d ds) = d ∷ items ds
-
 -- an object of n members
 unfoldable pub record_at : ℕ → Data → Result Members ModelFault
-record_at n d = do
-  ms ← found (as_object d) Shape
-  if members_len ms == n then Ok ms else Err Shape
+record_at n d = found (record_of n d) Shape
 
 abbrev pub member_at : List ℕ → Data → Result Data ModelFault
 member_at name d = found (get name d) Shape
@@ -56,14 +35,4 @@ abbrev pub number_at : Data → Result ℕ ModelFault
 number_at d = found (option_and_then as_u64 (as_number d)) Shape
 
 unfoldable pub list_at : Data → Result (List Data) ModelFault
-list_at d = do
-  ds ← found (as_array d) Shape
-  Ok (items ds)
-
--- each of a list
-unfoldable pub each : {X A : Type 0} → (X → Result A ModelFault) → List X → Result (List A) ModelFault
-each f [] = Ok []
-each f (d ∷ ds) = do
-  x ← f d
-  xs ← each f ds
-  Ok (x ∷ xs)
+list_at d = found (list_of d) Shape

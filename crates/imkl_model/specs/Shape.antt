@@ -11,7 +11,8 @@ use Rattle.imkl_model.specs.declared.written.WrittenEnd.{WrittenEnd}
 use Rattle.imkl_model.specs.declared.written.WrittenAssociation.{WrittenAssociation}
 use Rattle.imkl_model.specs.declared.written.Written.{Written}
 use Rattle.imkl_model.specs.Words.{is_identifier, is_title}
-use Rattle.imkl_model.specs.Reading.{◌>>=◌, record_at, member_at, text_at, truth_at, number_at, list_at, each}
+use Rattle.imkl_model.specs.Steps.{◌>>=◌, each}
+use Rattle.imkl_model.specs.Reading.{record_at, member_at, text_at, truth_at, number_at, list_at}
 
 -- the class model's own name: any text of 1 to 128 characters
 unfoldable pub title_at : Data → Result (List ℕ) ModelFault

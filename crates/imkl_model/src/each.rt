@@ -2,7 +2,8 @@
 
 ghost use Rattle.std.specs.Prelude.{map, All, IfOk};
 ghost use Rattle.serde_json.specs.View.{view};
-ghost use Rattle.imkl_model.specs.Reading.{Gives, each};
+ghost use Rattle.imkl_model.specs.Steps.{each};
+ghost use Rattle.imkl_model.specs.Reading.{Gives};
 
 use crate::fault::ModelFault;
 use serde_json::Value;

@@ -3,7 +3,8 @@
 ghost use Rattle.std.specs.Prelude.{◌≡◌, false, length, map, IfOk};
 ghost use Rattle.std.specs.List.{list_any};
 ghost use Rattle.imkl_model.specs.Words.{repeats};
-ghost use Rattle.imkl_model.specs.Reading.{Gives, each};
+ghost use Rattle.imkl_model.specs.Steps.{each};
+ghost use Rattle.imkl_model.specs.Reading.{Gives};
 ghost use Rattle.imkl_model.specs.Checks.{class_names, enumeration_names, association_names};
 ghost use Rattle.imkl_model.specs.WrittenFeatures.{written_features};
 ghost use Rattle.imkl_model.specs.Scopes.{scope_of};

@@ -3,7 +3,8 @@
 ghost use Rattle.std.specs.Prelude.{IfOk, IfErr};
 ghost use Rattle.serde_json.specs.View.{view};
 ghost use Rattle.imkl_model.specs.Reading.{Gives};
-ghost use Rattle.imkl_model.specs.Description.{Answers, IsTree, IsRefusal, describes_model};
+ghost use Rattle.imkl_model.specs.Trees.{IsTree};
+ghost use Rattle.imkl_model.specs.Description.{Answers, IsRefusal, describes_model};
 
 use crate::checks::is_within_limits;
 use crate::draft::draft_of;

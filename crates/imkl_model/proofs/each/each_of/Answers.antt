@@ -2,8 +2,9 @@ use Rattle.std.proofs.Common.{map}
 use Rattle.std.proofs.lemmas.Result.{err_from_is_err_and}
 use Rattle.std.proofs.lemmas.List.Elements.{All-push}
 use Rattle.serde_json.specs.View.{view}
-use Rattle.imkl_model.specs.Reading.{each}
-use Rattle.imkl_model.proofs.Lists.{goes_on, ends, is_done}
+use Rattle.imkl_model.specs.Steps.{each}
+use Rattle.imkl_model.proofs.Lists.{goes_on, is_done}
+use Rattle.imkl_model.proofs.Faults.{ends}
 use Rattle.imkl_model.proofs.each.each_of.Goals as goal
 
 pub returns-in_err-of-clause-trees : goal.returns-in_err-of-clause-trees

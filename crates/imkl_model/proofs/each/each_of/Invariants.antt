@@ -1,6 +1,6 @@
 use Rattle.std.proofs.Common.{◌≡◌, map, drop, All}
 use Rattle.serde_json.specs.View.{view}
-use Rattle.imkl_model.specs.Reading.{each}
+use Rattle.imkl_model.specs.Steps.{each}
 use Rattle.imkl_model.proofs.Lists.{with_front}
 use Rattle.imkl_model.proofs.each.each_of.Given as goal
 

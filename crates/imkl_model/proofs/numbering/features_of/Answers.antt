@@ -1,7 +1,8 @@
 use Rattle.std.proofs.lemmas.Result.{err_from_is_err_and}
-use Rattle.imkl_model.specs.Reading.{each}
+use Rattle.imkl_model.specs.Steps.{each}
 use Rattle.imkl_model.specs.Numbering.{feature_of}
-use Rattle.imkl_model.proofs.Lists.{goes_on_plain, ends_plain, is_done_plain}
+use Rattle.imkl_model.proofs.Lists.{goes_on_plain, is_done_plain}
+use Rattle.imkl_model.proofs.Faults.{ends_plain}
 use Rattle.imkl_model.proofs.numbering.features_of.Goals as goal
 
 pub returns-in_err-feature_of : goal.returns-in_err-feature_of

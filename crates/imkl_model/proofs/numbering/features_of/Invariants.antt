@@ -1,5 +1,5 @@
 use Rattle.std.proofs.Common.{◌≡◌, drop}
-use Rattle.imkl_model.specs.Reading.{each}
+use Rattle.imkl_model.specs.Steps.{each}
 use Rattle.imkl_model.specs.Numbering.{feature_of}
 use Rattle.imkl_model.proofs.Lists.{with_front}
 use Rattle.imkl_model.proofs.numbering.features_of.Given as goal
