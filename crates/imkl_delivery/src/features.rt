@@ -6,7 +6,6 @@ ghost use Rattle.serde_json.specs.Find.{get_member};
 ghost use Rattle.serde_json.specs.View.{view, members_view};
 ghost use Rattle.imkl_model.specs.ClassModel.{feature_at};
 ghost use Rattle.imkl_population.specs.Population.{Population};
-ghost use Rattle.imkl_population.specs.Values.{is_opposite};
 ghost use Rattle.imkl_population.specs.Building.{KeepsObjects};
 ghost use Rattle.imkl_delivery.specs.Steps.{Leaves, told};
 ghost use Rattle.imkl_delivery.specs.Document.{Written};
@@ -112,16 +111,10 @@ fn put_written(
 fn left_out(object: ObjectNo, feature: FeatureNo, info: &FeatureInfo) -> Result<(), DeliveryFault>
     ensures { (p : Population) (v : Option Data) → feature_at p.model feature ≡ info.now → is_absent v ≡ true → Leaves result (put_by info.now.role object feature v p) p }
 {
-    if is_opposite(info.role) || info.lower == 0 {
+    if info.role.is_opposite() || info.lower == 0 {
         return Ok(());
     }
     Err(told(object.place(), PopulationFault::TooFew { object, feature }))
-}
-
-fn is_opposite(role: Role) -> bool
-    ensures { result ≡ is_opposite role }
-{
-    matches!(role, Role::OppositeEnd { .. })
 }
 
 /// Puts what the members write at a feature, where it belongs to the object's class.

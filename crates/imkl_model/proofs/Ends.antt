@@ -8,7 +8,7 @@ use Rattle.imkl_model.specs.declared.written.Written.{Written}
 use Rattle.imkl_model.specs.declared.feature.Role.{Role}
 use Rattle.imkl_model.specs.declared.feature.Role.TheVariants as role
 use Rattle.imkl_model.specs.WrittenFeatures.{attribute_of, source_end, opposite_end, attributes_of, ends_of, written_features}
-use Rattle.imkl_model.specs.WellFormed.{is_end}
+use Rattle.imkl_model.specs.Features.{is_end}
 use Rattle.imkl_model.specs.Bounds.{AreSmall, HasSmallAttribute, HasSmallAttributes, HasSmallEnds, HasSmallBounds}
 use Rattle.imkl_model.proofs.Steps.{AllOf, from_all, all_joined, all_mapped}
 

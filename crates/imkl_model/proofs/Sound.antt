@@ -22,7 +22,8 @@ use Rattle.imkl_model.specs.Scopes.{scope_of}
 use Rattle.imkl_model.specs.Numbering.{number_in, element_type, collection_kind, kind_of, is_one, feature_of, class_of, enumeration_of, numbered}
 use Rattle.imkl_model.specs.Chains as chains
 use Rattle.imkl_model.specs.ClassModel.{Model, supers, class_names, enumeration_names, names_of_enumerations, feature_at, no_feature, has_clash, belongs, is_named}
-use Rattle.imkl_model.specs.WellFormed.{IsClassModel, ArePaired, IsFeature, is_end, is_unique}
+use Rattle.imkl_model.specs.Features.{is_end, is_unique_kind}
+use Rattle.imkl_model.specs.WellFormed.{IsClassModel, ArePaired, IsFeature}
 use Rattle.imkl_model.specs.Drafts.{IsNumbered}
 use Rattle.imkl_model.proofs.Steps.{okay, ok_is, both_steps, each_length, each_at, AllOf, all_at, all_mapped}
 use Rattle.imkl_model.proofs.Parts.{differs, classes_differ, enumerations_differ, number_is, class_names_kept, supers_within, enumeration_names_kept}
@@ -129,20 +130,20 @@ module _ (w : Written) (m : Model) (limits : checks.is_within_limits w ≡ true)
 
   -- ---- ends
 
-  unique_end : (d : WrittenFeature) → d.unique ≡ true → is_unique (collection_kind d) ≡ true
+  unique_end : (d : WrittenFeature) → d.unique ≡ true → is_unique_kind (collection_kind d) ≡ true
   unique_end d e = kinds (is_one d.upper) d.ordered d.unique e
     where
-      kinds : (one ordered unique : Bool) → unique ≡ true → is_unique (if one then kind.Set else kind_of ordered unique) ≡ true
+      kinds : (one ordered unique : Bool) → unique ≡ true → is_unique_kind (if one then kind.Set else kind_of ordered unique) ≡ true
       kinds true o u h = refl
       kinds false true true h = refl
       kinds false false true h = refl
       kinds false o false h = absurd (false≢true h)
 
-  pub unique_ends : (f : ℕ) → IsFeature m f → is_end (feature_at m f).role ≡ true → is_unique (feature_at m f).kind ≡ true
+  pub unique_ends : (f : ℕ) → IsFeature m f → is_end (feature_at m f).role ≡ true → is_unique_kind (feature_at m f).kind ≡ true
   unique_ends f lt e =
       let d = at (written_features w) f in
       let u = all_at IsUniqueEnd (written_features w) (all_unique w) f no_written (within f lt) in
-      ap is_unique (from f lt).kind ∙ unique_end d (u (ap is_end (sym (from f lt).role) ∙ e))
+      ap is_unique_kind (from f lt).kind ∙ unique_end d (u (ap is_end (sym (from f lt).role) ∙ e))
 
   pub single_values : (f : ℕ) → IsFeature m f → (feature_at m f).upper ≡ Some 1 → (feature_at m f).kind ≡ kind.Set
   single_values f lt e =

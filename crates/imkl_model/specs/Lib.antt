@@ -1,6 +1,7 @@
 pub mod Numbers
 pub mod Words
 pub mod Chains
+pub mod Features
 pub mod ClassModel
 pub mod WellFormed
 pub mod Steps

@@ -1,28 +1,16 @@
 -- What every class model that was read keeps.
-use Rattle.std.specs.Prelude.{◌≡◌, ℕ, suc, ◌<◌, ◌≤◌, Bool, true, false, length, All, Some}
+use Rattle.std.specs.Prelude.{◌≡◌, ℕ, suc, ◌<◌, ◌≤◌, true, false, length, All, Some}
 use Rattle.imkl_model.specs.declared.feature.ElementType.TheVariants as element
-use Rattle.imkl_model.specs.declared.feature.CollectionKind.{CollectionKind}
 use Rattle.imkl_model.specs.declared.feature.CollectionKind.TheVariants as kind
-use Rattle.imkl_model.specs.declared.feature.Role.{Role}
 use Rattle.imkl_model.specs.declared.feature.Role.TheVariants as role
 use Rattle.imkl_model.specs.Words.{repeats}
 use Rattle.imkl_model.specs.Chains.{is_cyclic}
+use Rattle.imkl_model.specs.Features.{is_end, is_unique_kind}
 use Rattle.imkl_model.specs.ClassModel.{Model, supers, class_names, enumeration_names, feature_at, has_clash, belongs}
 
 -- a feature of the model
 abbrev pub IsFeature : Model → ℕ → Type 0
 IsFeature m f = f < length m.features
-
-abbrev pub is_end : Role → Bool
-is_end role.Attribute = false
-is_end (role.SourceEnd g) = true
-is_end (role.OppositeEnd g) = true
-
-abbrev pub is_unique : CollectionKind → Bool
-is_unique kind.Set = true
-is_unique kind.OrderedSet = true
-is_unique kind.Bag = false
-is_unique kind.Sequence = false
 
 -- two features are the source end and the opposite end of one association: each end's elements are objects of the other
 -- end's owner, and the opposite end stands right after the source end
@@ -54,7 +42,7 @@ pub record IsClassModel (m : Model) : Type 0 where
   pub scalar_attributes : (f c : ℕ) → IsFeature m f → (feature_at m f).role ≡ role.Attribute → (feature_at m f).element ≡ element.Class c → ⊥
   pub lower_bounds : (f : ℕ) → IsFeature m f → (feature_at m f).lower ≤ 1000000
   pub upper_bounds : (f u : ℕ) → IsFeature m f → (feature_at m f).upper ≡ Some u → (0 < u) × ((feature_at m f).lower ≤ u) × (u ≤ 1000000)
-  pub unique_ends : (f : ℕ) → IsFeature m f → is_end (feature_at m f).role ≡ true → is_unique (feature_at m f).kind ≡ true
+  pub unique_ends : (f : ℕ) → IsFeature m f → is_end (feature_at m f).role ≡ true → is_unique_kind (feature_at m f).kind ≡ true
   pub single_values : (f : ℕ) → IsFeature m f → (feature_at m f).upper ≡ Some 1 → (feature_at m f).kind ≡ kind.Set
   pub sources : (f g : ℕ) → IsFeature m f → (feature_at m f).role ≡ role.SourceEnd g → ArePaired m f g
   pub opposites : (f g : ℕ) → IsFeature m f → (feature_at m f).role ≡ role.OppositeEnd g → ArePaired m g f

@@ -1,5 +1,8 @@
 //! Features: attributes and association ends.
 
+ghost use Rattle.std.specs.Prelude.{◌≡◌};
+ghost use Rattle.imkl_model.specs.Features.{is_attribute, is_opposite, is_single, is_unique_kind, is_unique};
+
 use crate::name::Name;
 use crate::numbers::{ClassNo, EnumNo, FeatureNo};
 
@@ -31,6 +34,15 @@ pub enum CollectionKind {
     Sequence,
 }
 
+impl CollectionKind {
+    /// Whether a value may stand only once.
+    pub fn is_unique(self) -> bool
+        ensures { result ≡ is_unique_kind self }
+    {
+        matches!(self, CollectionKind::Set | CollectionKind::OrderedSet)
+    }
+}
+
 /// Whether a feature is an attribute, or which end of an association it is.
 #[derive(Clone, Copy, PartialEq, Eq, Debug)]
 pub enum Role {
@@ -46,6 +58,22 @@ pub enum Role {
         /// The association's other end.
         source: FeatureNo,
     },
+}
+
+impl Role {
+    /// Whether it is an attribute's.
+    pub fn is_attribute(self) -> bool
+        ensures { result ≡ is_attribute self }
+    {
+        matches!(self, Role::Attribute)
+    }
+
+    /// Whether it is an opposite end's.
+    pub fn is_opposite(self) -> bool
+        ensures { result ≡ is_opposite self }
+    {
+        matches!(self, Role::OppositeEnd { .. })
+    }
 }
 
 /// A feature of a class model.
@@ -65,4 +93,20 @@ pub struct FeatureInfo {
     pub kind: CollectionKind,
     /// Attribute or association end.
     pub role: Role,
+}
+
+impl FeatureInfo {
+    /// Whether it gives the value itself: its upper bound is 1.
+    pub fn is_single(&self) -> bool
+        ensures { result ≡ is_single self.now.upper }
+    {
+        self.upper == Some(1)
+    }
+
+    /// Whether it is a collection in which nothing may stand twice: an end, or an attribute of a unique kind.
+    pub fn is_unique(&self) -> bool
+        ensures { result ≡ is_unique self.now }
+    {
+        !self.role.is_attribute() || (!self.is_single() && self.kind.is_unique())
+    }
 }

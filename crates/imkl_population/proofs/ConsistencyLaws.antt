@@ -17,7 +17,8 @@ use Rattle.imkl_population.specs.declared.scalar.Scalar.{Scalar}
 use Rattle.imkl_population.specs.declared.scalar.Scalar.TheVariants as scalar
 use Rattle.imkl_population.specs.Numbers.{first_of}
 use Rattle.imkl_population.specs.Population.{Population, object_at, class_of, written_at, values_of, values_by, opposite_end}
-use Rattle.imkl_population.specs.Values.{is_attribute, is_opposite, is_of_type, is_target_of, is_unique, is_over, repeats}
+use Rattle.imkl_model.specs.Features.{is_attribute, is_opposite, is_unique}
+use Rattle.imkl_population.specs.Values.{is_of_type, is_target_of, is_over, repeats}
 use Rattle.imkl_population.specs.Written.{is_set}
 use Rattle.imkl_population.specs.Building.{bounds_fault}
 use Rattle.imkl_population.specs.Draft.{IsDraft, is_sound}

@@ -20,7 +20,8 @@ use Rattle.imkl_population.specs.declared.object.Object.{Object}
 use Rattle.imkl_population.specs.declared.scalar.Scalar.{Scalar}
 use Rattle.imkl_population.specs.declared.scalar.Scalar.TheVariants as scalar
 use Rattle.imkl_population.specs.Population.{Population, object_at, class_of, no_object, object_of}
-use Rattle.imkl_population.specs.Values.{is_target_of, is_attribute, is_opposite, repeats}
+use Rattle.imkl_model.specs.Features.{is_attribute, is_opposite}
+use Rattle.imkl_population.specs.Values.{is_target_of, repeats}
 use Rattle.imkl_population.specs.Building.{is_id, bounds_fault, with_written}
 use Rattle.imkl_population.specs.Draft.{IsDraft, is_sound, entry_fault_by}
 use Rattle.imkl_population.proofs.Bools.{list_all-weaker, list_all-none}

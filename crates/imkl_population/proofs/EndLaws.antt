@@ -7,7 +7,7 @@ use Rattle.imkl_model.specs.ClassModel.{feature_at, belongs}
 use Rattle.imkl_population.specs.declared.scalar.Scalar.{Scalar}
 use Rattle.imkl_population.specs.Written.{written_in}
 use Rattle.imkl_population.specs.Population.{Population, class_of, values_of, values_by, written_at}
-use Rattle.imkl_population.specs.Values.{is_opposite}
+use Rattle.imkl_model.specs.Features.{is_opposite}
 use Rattle.imkl_population.specs.Building.{bounds_fault}
 use Rattle.imkl_population.specs.Finishing.{end_fault}
 use Rattle.imkl_population.specs.Ends.{AreEnds}

@@ -17,7 +17,7 @@ use Rattle.imkl_population.specs.Building.{as_objects}
 use Rattle.imkl_population.specs.Numbers.{places}
 use Rattle.imkl_population.specs.Population.{Population, object_at, held_by, holders_of, pairs_below, written_at}
 use Rattle.imkl_population.specs.Required.{is_one_of}
-use Rattle.imkl_population.specs.Values.{is_attribute}
+use Rattle.imkl_model.specs.Features.{is_attribute}
 use Rattle.imkl_population.specs.Written.{is_set, written_in}
 use Rattle.imkl_population.proofs.Orders.{one_of-contains, one_of-places, one_of-push, places-sorted}
 use Rattle.imkl_population.proofs.Bools.{same_test}

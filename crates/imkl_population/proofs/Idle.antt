@@ -12,7 +12,8 @@ use Rattle.imkl_population.specs.Finishing.{gap, end_fault}
 use Rattle.imkl_population.specs.Numbers.{places, first_of}
 use Rattle.imkl_population.specs.Population.{Population, class_of, written_at, values_of}
 use Rattle.imkl_population.specs.Required.{Requirements, is_required, is_one_of, with_required}
-use Rattle.imkl_population.specs.Values.{is_opposite, is_over}
+use Rattle.imkl_model.specs.Features.{is_opposite}
+use Rattle.imkl_population.specs.Values.{is_over}
 use Rattle.imkl_population.specs.Written.{is_set}
 use Rattle.imkl_population.proofs.EndLaws.{ends_values}
 use Rattle.imkl_population.proofs.Firsts.{first_in, first_in-places}

@@ -18,7 +18,7 @@ use Rattle.imkl_population.specs.declared.scalar.Scalar.{Scalar}
 use Rattle.imkl_population.specs.declared.store.Entry.{Entry}
 use Rattle.imkl_population.specs.Written.{written_in}
 use Rattle.imkl_population.specs.Store.{IsMap, entry_of, longer, raised, longest_in}
-use Rattle.imkl_population.specs.Values.{is_attribute, is_opposite}
+use Rattle.imkl_model.specs.Features.{is_attribute, is_opposite}
 use Rattle.imkl_population.specs.Population.{Population, object_at}
 use Rattle.imkl_population.specs.Sizes.{listed, is_unbounded, longest_below}
 use Rattle.imkl_population.specs.declared.population.Head.{Head}

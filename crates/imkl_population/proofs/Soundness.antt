@@ -17,7 +17,8 @@ use Rattle.imkl_population.specs.declared.fault.PopulationFault.TheVariants.{Wro
 use Rattle.imkl_population.specs.declared.scalar.Scalar.{Scalar}
 use Rattle.imkl_population.specs.Written.{written_in, is_set}
 use Rattle.imkl_population.specs.Population.{Population, class_of}
-use Rattle.imkl_population.specs.Values.{is_attribute, is_opposite, is_of_type, is_target_of, is_unique, repeats}
+use Rattle.imkl_model.specs.Features.{is_attribute, is_opposite, is_unique}
+use Rattle.imkl_population.specs.Values.{is_of_type, is_target_of, repeats}
 use Rattle.imkl_population.specs.Building.{bounds_fault, value_fault, link_fault}
 use Rattle.imkl_population.specs.Draft.{is_sound, entry_fault_by}
 

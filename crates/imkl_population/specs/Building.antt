@@ -11,7 +11,8 @@ use Rattle.imkl_population.specs.declared.fault.PopulationFault.{PopulationFault
 use Rattle.imkl_population.specs.declared.fault.PopulationFault.TheVariants.{DuplicateId, AbstractClass, WrongFeature, WrongKind, TooFew, TooMany, WrongClass, DuplicateTarget, Derived, Limit, BadId, OutOfMemory}
 use Rattle.imkl_population.specs.declared.object.Object.{Object}
 use Rattle.imkl_population.specs.Population.{Population, object_at, class_of, object_of}
-use Rattle.imkl_population.specs.Values.{is_attribute, is_opposite, is_of_type, is_target_of, is_unique, is_over, repeats}
+use Rattle.imkl_model.specs.Features.{is_attribute, is_opposite, is_unique}
+use Rattle.imkl_population.specs.Values.{is_of_type, is_target_of, is_over, repeats}
 
 abbrev pub fault_number : PopulationFault → ℕ
 fault_number DuplicateId = 1

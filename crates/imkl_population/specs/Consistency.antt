@@ -3,7 +3,8 @@ use Rattle.std.specs.Prelude.{◌≡◌, ℕ, ◌<◌, true, false, None, length
 use Rattle.std.specs.List.{list_all}
 use Rattle.imkl_model.specs.ClassModel.{class_at, feature_at, belongs}
 use Rattle.imkl_population.specs.Population.{Population, object_at, class_of, values_of}
-use Rattle.imkl_population.specs.Values.{is_attribute, is_opposite, is_of_type, is_target_of, is_unique, repeats}
+use Rattle.imkl_model.specs.Features.{is_attribute, is_opposite, is_unique}
+use Rattle.imkl_population.specs.Values.{is_of_type, is_target_of, repeats}
 use Rattle.imkl_population.specs.Written.{is_set}
 use Rattle.imkl_population.specs.Building.{is_id, bounds_fault}
 

@@ -6,7 +6,7 @@ use Rattle.imkl_model.specs.ClassModel.{class_at, feature_at}
 use Rattle.imkl_population.specs.declared.scalar.Scalar.{Scalar}
 use Rattle.imkl_population.specs.declared.fault.PopulationFault.{PopulationFault}
 use Rattle.imkl_population.specs.Population.{Population, object_at, class_of, object_of}
-use Rattle.imkl_population.specs.Values.{is_attribute}
+use Rattle.imkl_model.specs.Features.{is_attribute}
 use Rattle.imkl_population.specs.Building.{is_id, value_fault, link_fault}
 
 -- what is wrong with what is written at a feature

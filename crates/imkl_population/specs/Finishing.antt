@@ -6,7 +6,7 @@ use Rattle.imkl_population.specs.declared.fault.PopulationFault.{PopulationFault
 use Rattle.imkl_population.specs.declared.fault.PopulationFault.TheVariants.{TooFew, OutOfMemory}
 use Rattle.imkl_population.specs.Numbers.{first_of}
 use Rattle.imkl_population.specs.Population.{Population, class_of, written_at, values_of}
-use Rattle.imkl_population.specs.Values.{is_opposite}
+use Rattle.imkl_model.specs.Features.{is_opposite}
 use Rattle.imkl_population.specs.Building.{bounds_fault, unless}
 
 -- a written feature of an object has fewer values than its lower bound: what was set has enough, so it was never set

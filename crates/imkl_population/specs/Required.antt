@@ -6,7 +6,7 @@ use Rattle.imkl_model.specs.ClassModel.{Model, feature_at, belongs}
 use Rattle.imkl_population.specs.declared.required.Side.{Side}
 use Rattle.imkl_population.specs.declared.required.Side.TheVariants.{Written, Opposite}
 use Rattle.imkl_population.specs.Numbers.{places}
-use Rattle.imkl_population.specs.Values.{is_opposite}
+use Rattle.imkl_model.specs.Features.{is_opposite}
 
 -- for each class of a model, what it requires on one side
 pub record Requirements : Type 0 where

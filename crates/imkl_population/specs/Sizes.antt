@@ -3,7 +3,7 @@ use Rattle.std.specs.Prelude.{ℕ, zero, suc, ◌&&◌, Bool, List, [], ◌∷�
 use Rattle.imkl_model.specs.declared.feature.FeatureInfo.{FeatureInfo}
 use Rattle.imkl_model.specs.ClassModel.{Model, feature_at}
 use Rattle.imkl_population.specs.Population.{Population, values_of, instances}
-use Rattle.imkl_population.specs.Values.{is_attribute}
+use Rattle.imkl_model.specs.Features.{is_attribute}
 
 -- a number for each class and for each feature of a class model
 pub record Sizes : Type 0 where

@@ -4,11 +4,6 @@ use Rattle.std.specs.Ordering.{int_eq}
 use Rattle.std.specs.List.{list_any}
 use Rattle.imkl_model.specs.declared.feature.ElementType.{ElementType}
 use Rattle.imkl_model.specs.declared.feature.ElementType.TheVariants as element
-use Rattle.imkl_model.specs.declared.feature.CollectionKind.{CollectionKind}
-use Rattle.imkl_model.specs.declared.feature.CollectionKind.TheVariants.{Set, OrderedSet, Bag, Sequence}
-use Rattle.imkl_model.specs.declared.feature.FeatureInfo.{FeatureInfo}
-use Rattle.imkl_model.specs.declared.feature.Role.{Role}
-use Rattle.imkl_model.specs.declared.feature.Role.TheVariants.{Attribute, SourceEnd, OppositeEnd}
 use Rattle.imkl_model.specs.ClassModel.{Model, enumeration_at, conforms}
 use Rattle.imkl_population.specs.declared.scalar.Scalar.{Scalar}
 use Rattle.imkl_population.specs.declared.scalar.Scalar.TheVariants as scalar
@@ -31,30 +26,6 @@ is_of_type m t v = false
 abbrev pub is_target_of : Population → ElementType → Scalar → Bool
 is_target_of p (element.Class c) (scalar.Object o) = nat_lt o (length p.objects) && conforms p.model (class_of p o) c
 is_target_of p t v = false
-
-abbrev pub is_attribute : Role → Bool
-is_attribute Attribute = true
-is_attribute (SourceEnd g) = false
-is_attribute (OppositeEnd g) = false
-
-abbrev pub is_opposite : Role → Bool
-is_opposite Attribute = false
-is_opposite (SourceEnd g) = false
-is_opposite (OppositeEnd g) = true
-
-abbrev pub is_single : Option ℕ → Bool
-is_single None = false
-is_single (Some n) = n == 1
-
-abbrev pub is_unique_kind : CollectionKind → Bool
-is_unique_kind Set = true
-is_unique_kind OrderedSet = true
-is_unique_kind Bag = false
-is_unique_kind Sequence = false
-
--- a unique feature holds nothing twice: each end is unique, and an attribute as its kind says, but for one with upper bound 1
-abbrev pub is_unique : FeatureInfo → Bool
-is_unique f = not (is_attribute f.role) || (not (is_single f.upper) && is_unique_kind f.kind)
 
 abbrev pub same_scalar : Scalar → Scalar → Bool
 same_scalar (scalar.Bool a) (scalar.Bool b) = if a then b else not b

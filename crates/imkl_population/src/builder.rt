@@ -11,7 +11,7 @@ ghost use Rattle.imkl_population.specs.Values.{is_target_of};
 ghost use Rattle.imkl_population.specs.Finishing.{finished, Finishes};
 ghost use Rattle.imkl_population.specs.Building.{Answers, KeepsObjects, added, value_set, linked, value_fault, link_fault, with_values, as_objects};
 
-use crate::checks::{are_of_type, bounds_fault, is_attribute, is_id, is_opposite, is_unique};
+use crate::checks::{are_of_type, bounds_fault, is_id};
 use crate::ends::opposite_ends;
 use crate::fault::PopulationFault;
 use crate::finishing::{first_end_fault, first_gap};
@@ -176,13 +176,13 @@ impl<'m> PopulationBuilder<'m> {
     {
         self.model.well_formed();
         let info = self.model.feature_info(feature);
-        if !(self.model.belongs(self.class_of(object), feature) && is_attribute(info.role)) {
+        if !(self.model.belongs(self.class_of(object), feature) && info.role.is_attribute()) {
             return Ok(Some(PopulationFault::WrongFeature));
         }
         if !are_of_type(self.model, info.element, values) {
             return Ok(Some(PopulationFault::WrongKind));
         }
-        if is_unique(info) && repeats(self.alloc, values)? {
+        if info.is_unique() && repeats(self.alloc, values)? {
             return Ok(Some(PopulationFault::DuplicateTarget));
         }
         Ok(bounds_fault(info, object, feature, values.len()))
@@ -223,10 +223,10 @@ impl<'m> PopulationBuilder<'m> {
         ensures { IfOk result (λ fault. fault ≡ link_fault self.now object feature (feature_at self.now.model feature) targets.now) }
     {
         let info = self.model.feature_info(feature);
-        if !(self.model.belongs(self.class_of(object), feature) && !is_attribute(info.role)) {
+        if !(self.model.belongs(self.class_of(object), feature) && !info.role.is_attribute()) {
             return Ok(Some(PopulationFault::WrongFeature));
         }
-        if is_opposite(info.role) {
+        if info.role.is_opposite() {
             return Ok(Some(PopulationFault::Derived));
         }
         if !self.are_targets(feature, targets) {

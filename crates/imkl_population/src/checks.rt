@@ -2,13 +2,13 @@
 
 ghost use Rattle.std.specs.Prelude.{◌≡◌, ◌<◌, ◌≤◌, ◌&&◌, ◌||◌, true, ℕ, not, length, Option, map, slice_index_or};
 ghost use Rattle.std.specs.List.{list_all};
-ghost use Rattle.imkl_population.specs.Values.{is_literal_of, is_of_type, is_attribute, is_opposite, is_single, is_unique_kind, is_unique, is_over, same_scalar};
+ghost use Rattle.imkl_population.specs.Values.{is_literal_of, is_of_type, is_over, same_scalar};
 ghost use Rattle.imkl_population.specs.Building.{is_id_byte, is_id, bounds_fault};
 
 use crate::fault::PopulationFault;
 use crate::numbers::ObjectNo;
 use crate::scalar::Scalar;
-use imkl_model::{ClassModel, CollectionKind, ElementType, EnumNo, FeatureInfo, FeatureNo, Role};
+use imkl_model::{ClassModel, ElementType, EnumNo, FeatureInfo, FeatureNo};
 
 fn is_id_byte(b: u8) -> bool
     ensures { result ≡ is_id_byte b }
@@ -56,40 +56,6 @@ pub(crate) fn are_of_type(model: &ClassModel, element: ElementType, values: &[Sc
         }
         ElementType::Class(_) => values.is_empty(),
     }
-}
-
-pub(crate) fn is_attribute(role: Role) -> bool
-    ensures { result ≡ is_attribute role }
-{
-    matches!(role, Role::Attribute)
-}
-
-pub(crate) fn is_opposite(role: Role) -> bool
-    ensures { result ≡ is_opposite role }
-{
-    matches!(role, Role::OppositeEnd { .. })
-}
-
-fn is_unique_kind(kind: CollectionKind) -> bool
-    ensures { result ≡ is_unique_kind kind }
-{
-    matches!(kind, CollectionKind::Set | CollectionKind::OrderedSet)
-}
-
-fn is_single(upper: Option<u32>) -> bool
-    ensures { result ≡ is_single upper }
-{
-    match upper {
-        None => false,
-        Some(n) => n == 1,
-    }
-}
-
-/// Whether a feature holds nothing twice.
-pub(crate) fn is_unique(info: &FeatureInfo) -> bool
-    ensures { result ≡ is_unique info.now }
-{
-    !is_attribute(info.role) || (!is_single(info.upper) && is_unique_kind(info.kind))
 }
 
 fn is_over(upper: Option<u32>, count: usize) -> bool

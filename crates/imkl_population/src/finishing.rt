@@ -7,7 +7,7 @@ ghost use Rattle.imkl_population.specs.Ends.{AreEnds};
 ghost use Rattle.imkl_population.specs.declared.required.Side.TheVariants as side;
 
 use crate::builder::PopulationBuilder;
-use crate::checks::{bounds_fault, is_opposite};
+use crate::checks::bounds_fault;
 use crate::fault::PopulationFault;
 use crate::numbers::ObjectNo;
 use crate::required::{RequiredFeatures, Side};
@@ -28,7 +28,7 @@ fn gap(
     let model = builder.model();
     let info = model.feature_info(feature);
     let is_gap = model.belongs(builder.class_of(object), feature)
-        && !is_opposite(info.role)
+        && !info.role.is_opposite()
         && builder.written(object, feature).len() < info.lower as usize;
     if is_gap {
         Some(PopulationFault::TooFew { object, feature })
@@ -89,7 +89,7 @@ fn end_fault(
 {
     let model = builder.model();
     let info = model.feature_info(feature);
-    if model.belongs(builder.class_of(object), feature) && is_opposite(info.role) {
+    if model.belongs(builder.class_of(object), feature) && info.role.is_opposite() {
         let holders = ends[object.place()].get(feature.place());
         bounds_fault(info, object, feature, holders.len())
     } else {

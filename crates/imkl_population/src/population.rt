@@ -4,10 +4,9 @@ ghost use Rattle.std.specs.Prelude.{◌≡◌, ◌<◌, ◌≤◌, ℕ, true, fa
 ghost use Rattle.imkl_model.specs.ClassModel.{feature_at, belongs};
 ghost use Rattle.imkl_population.specs.Population.{object_at, class_of, values_of, instances, IsInstance};
 ghost use Rattle.imkl_population.specs.Consistency.{IsConsistent};
-ghost use Rattle.imkl_population.specs.Values.{is_opposite};
+ghost use Rattle.imkl_model.specs.Features.{is_opposite};
 ghost use Rattle.imkl_population.specs.Sizes.{listed, count_of, longest_below, longest_of, sizes_of};
 
-use crate::checks::is_opposite;
 use crate::numbers::ObjectNo;
 use crate::object::Id;
 use crate::scalar::Scalar;
@@ -99,7 +98,7 @@ impl<'m> Population<'m> {
         ensures { result.now ≡ values_of self.now object feature }
     {
         let place = object.place();
-        if is_opposite(self.model.feature_info(feature).role) {
+        if self.model.feature_info(feature).role.is_opposite() {
             self.store.get(self.heads.len() + place, feature.place())
         } else {
             self.store.get(place, feature.place())

@@ -4,7 +4,6 @@ ghost use Rattle.std.specs.Prelude.{◌≡◌, ◌<◌, ◌++◌, ℕ, length, A
 ghost use Rattle.imkl_population.specs.Numbers.{places};
 ghost use Rattle.imkl_population.specs.Required.{is_on, is_required, required, with_required};
 
-use crate::checks::is_opposite;
 use crate::order::in_order;
 use imkl_model::{ClassModel, ClassNo, FeatureNo, Role};
 use std::alloc::{AllocError, Global};
@@ -74,8 +73,8 @@ fn is_on(side: Side, role: Role) -> bool
     ensures { result ≡ is_on side role }
 {
     match side {
-        Side::Written => !is_opposite(role),
-        Side::Opposite => is_opposite(role),
+        Side::Written => !role.is_opposite(),
+        Side::Opposite => role.is_opposite(),
     }
 }
 

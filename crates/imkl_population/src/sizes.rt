@@ -3,7 +3,6 @@
 ghost use Rattle.std.specs.Prelude.{◌≡◌, ◌<◌, length, slice_index};
 ghost use Rattle.imkl_population.specs.Sizes.{is_unbounded};
 
-use crate::checks::is_attribute;
 use imkl_model::{ClassModel, ClassNo, FeatureInfo, FeatureNo};
 use std::marker::Model;
 
@@ -57,5 +56,5 @@ impl<'m> Sizes<'m> {
 pub(crate) fn is_unbounded(info: &FeatureInfo) -> bool
     ensures { result ≡ is_unbounded info.now }
 {
-    is_attribute(info.role) && info.upper.is_none()
+    info.role.is_attribute() && info.upper.is_none()
 }

@@ -6,7 +6,7 @@ use Rattle.std.proofs.lemmas.Bool.{ltb-true, lt-ltb, and_from, and_parts}
 use Rattle.imkl_model.specs.ClassModel.{Model, conforms, belongs, feature_at}
 use Rattle.imkl_population.specs.declared.scalar.Scalar.TheVariants as scalar
 use Rattle.imkl_population.specs.Population.{Population, class_of, values_of}
-use Rattle.imkl_population.specs.Values.{is_attribute, is_single}
+use Rattle.imkl_model.specs.Features.{is_attribute, is_single}
 use Rattle.imkl_population.specs.Consistency.{IsConsistent}
 use Rattle.rule_code.specs.declared.instruction.Instr.{Instr}
 use Rattle.rule_code.specs.declared.instruction.Instr.TheVariants as instrs

@@ -7,7 +7,7 @@ use Rattle.std.proofs.lemmas.Option.{same_Some}
 use Rattle.imkl_model.specs.ClassModel.{belongs, conforms, feature_at}
 use Rattle.imkl_population.specs.declared.scalar.Scalar.TheVariants as scalar
 use Rattle.imkl_population.specs.Population.{Population, class_of, values_of}
-use Rattle.imkl_population.specs.Values.{is_single}
+use Rattle.imkl_model.specs.Features.{is_single}
 use Rattle.rule_code.specs.declared.instruction.Instr.{Instr}
 use Rattle.rule_code.specs.Content.{Content}
 use Rattle.ocl_check.specs.declared.verify.kind.Kind.{Kind}

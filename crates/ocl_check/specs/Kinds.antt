@@ -6,7 +6,7 @@ use Rattle.imkl_model.specs.declared.feature.ElementType.{ElementType}
 use Rattle.imkl_model.specs.declared.feature.ElementType.TheVariants as type
 use Rattle.imkl_model.specs.declared.feature.FeatureInfo.{FeatureInfo}
 use Rattle.imkl_model.specs.ClassModel.{Model, conforms, feature_at}
-use Rattle.imkl_population.specs.Values.{is_single}
+use Rattle.imkl_model.specs.Features.{is_single}
 use Rattle.rule_code.specs.declared.instruction.Instr.{Instr}
 use Rattle.rule_code.specs.declared.instruction.Instr.TheVariants as instrs
 use Rattle.rule_code.specs.Content.{Content, RuleContent}

@@ -3,7 +3,7 @@ use Rattle.std.specs.Prelude.{ℤ, ◌||◌, ◌&&◌, Bool, true, false, not, L
 use Rattle.imkl_model.specs.declared.feature.FeatureInfo.{FeatureInfo}
 use Rattle.imkl_population.specs.declared.scalar.Scalar.{Scalar}
 use Rattle.imkl_population.specs.declared.scalar.Scalar.TheVariants as scalar
-use Rattle.imkl_population.specs.Values.{is_single}
+use Rattle.imkl_model.specs.Features.{is_single}
 use Rattle.ocl_check.specs.Value.{Value, Invalid, Null, Plain, Collection, truth_value}
 
 -- a comparison of whole numbers; with null or invalid it is invalid

@@ -1,7 +1,7 @@
 -- A limit of today's machine: a feature that an instruction reads has upper bound 1. Beyond it the fault is WrongKind.
 use Rattle.std.specs.Prelude.{Bool, true, Option, Some}
 use Rattle.imkl_model.specs.ClassModel.{Model, feature_at}
-use Rattle.imkl_population.specs.Values.{is_single}
+use Rattle.imkl_model.specs.Features.{is_single}
 use Rattle.rule_code.specs.declared.instruction.Instr.{Instr}
 use Rattle.rule_code.specs.declared.instruction.Instr.TheVariants as instrs
 use Rattle.rule_code.specs.Content.{Content}

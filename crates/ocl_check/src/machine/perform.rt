@@ -2,7 +2,7 @@
 
 ghost use Rattle.std.specs.Prelude.{◌≡◌, ◌<◌, ◌≤◌, List, [], ◌∷◌, length, true, Some};
 ghost use Rattle.imkl_model.specs.ClassModel.{feature_at};
-ghost use Rattle.imkl_population.specs.Values.{is_single};
+ghost use Rattle.imkl_model.specs.Features.{is_single};
 ghost use Rattle.rule_code.specs.declared.instruction.Instr.TheVariants.{Attr};
 ghost use Rattle.ocl_check.specs.Value.{Value as Operand, Plain};
 ghost use Rattle.ocl_check.specs.Operations.{single_value};

@@ -2,7 +2,7 @@
 
 ghost use Rattle.std.specs.Prelude.{◌≡◌, List, length, OnOk, OnErr, slice_get, Some};
 ghost use Rattle.imkl_model.specs.ClassModel.{feature_at};
-ghost use Rattle.imkl_population.specs.Values.{is_single};
+ghost use Rattle.imkl_model.specs.Features.{is_single};
 ghost use Rattle.ocl_check.specs.Kinds.{truth, whole_number, object_of, element_kind, feature_kind, applied, effect, scope, is_one_truth};
 ghost use Rattle.ocl_check.specs.Known.{IsKnownElement, IsKnownKind, AreKnownKinds};
 ghost use Rattle.ocl_check.specs.Walk.{TakenAs, Comes, HasSymbol};

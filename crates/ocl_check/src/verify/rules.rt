@@ -1,7 +1,6 @@
 //! Judging the rules of a unit by their kinds.
 
 ghost use Rattle.std.specs.Prelude.{◌≡◌, ◌<◌, ℕ, length, OnOk, slice_get, Some};
-ghost use Rattle.imkl_population.specs.Values.{is_single};
 ghost use Rattle.rule_code.specs.declared.instruction.Instr.TheVariants.{Attr};
 ghost use Rattle.ocl_check.specs.Kinds.{element_kind, feature_kind, effect, scope};
 ghost use Rattle.ocl_check.specs.Known.{AreKnownKinds};
@@ -23,15 +22,6 @@ const TRUTH: Kind = Kind::Single(ElementKind::Boolean);
 
 const WHOLE_NUMBER: Kind = Kind::Single(ElementKind::Integer);
 
-fn is_single(upper: Option<u32>) -> bool
-    ensures { result ≡ is_single upper }
-{
-    match upper {
-        Some(n) => n == 1,
-        None => false,
-    }
-}
-
 fn element_kind(element: ElementType) -> ElementKind
     ensures { result ≡ element_kind element }
 {
@@ -47,7 +37,7 @@ fn element_kind(element: ElementType) -> ElementKind
 fn feature_kind(feature: &FeatureInfo) -> Kind
     ensures { result ≡ feature_kind feature.now }
 {
-    if is_single(feature.upper) {
+    if feature.is_single() {
         Kind::Single(element_kind(feature.element))
     } else {
         Kind::Collection(feature.kind, element_kind(feature.element))
@@ -78,7 +68,7 @@ fn read_feature(
                 model,
                 operands,
                 &[holder],
-                is_single(info.upper),
+                info.is_single(),
                 feature_kind(info),
             )
         }

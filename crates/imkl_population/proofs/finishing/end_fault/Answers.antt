@@ -5,7 +5,7 @@ use Rattle.imkl_model.specs.ClassModel.{Model, feature_at, belongs}
 use Rattle.imkl_population.specs.declared.scalar.Scalar.{Scalar}
 use Rattle.imkl_population.specs.Building.{bounds_fault}
 use Rattle.imkl_population.specs.Population.{class_of}
-use Rattle.imkl_population.specs.Values.{is_opposite}
+use Rattle.imkl_model.specs.Features.{is_opposite}
 use Rattle.imkl_population.specs.Written.{written_in}
 use Rattle.imkl_population.proofs.EndLaws.{end_fault-counted}
 use Rattle.imkl_population.proofs.finishing.end_fault.Goals as goal

@@ -5,7 +5,7 @@ use Rattle.imkl_model.specs.ClassModel.{feature_at}
 use Rattle.imkl_population.specs.declared.scalar.Scalar.{Scalar}
 use Rattle.imkl_population.specs.Population.{Population, values_of}
 use Rattle.imkl_population.specs.Layout.{objects_of}
-use Rattle.imkl_population.specs.Values.{is_opposite}
+use Rattle.imkl_model.specs.Features.{is_opposite}
 use Rattle.imkl_population.specs.Written.{written_in}
 use Rattle.imkl_population.proofs.EndLaws.{ends_values, values_written}
 use Rattle.imkl_population.proofs.Layouts.{length-objects_of, written-at}
