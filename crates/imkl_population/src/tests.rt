@@ -205,6 +205,8 @@ const DEPTHS: (&str, &str) = ("Leiding", "diepten");
 
 const NAME: (&str, &str) = ("Leiding", "naam");
 
+const ACTIVE: (&str, &str) = ("Glasvezel", "actief");
+
 const HELD: (&str, &str) = ("Buis", "omvat");
 
 const HOLDERS: (&str, &str) = ("Kabel", "ligtIn");
@@ -379,6 +381,103 @@ fn are_literals(values: &[Scalar], places: &[usize]) -> bool {
             Scalar::Literal(_, literal) => literal.place() == *place,
             _ => false,
         })
+}
+
+/// The values that are one truth value.
+fn truth(alloc: Global, truth: bool) -> Result<Vec<Scalar>, AllocError> {
+    let mut values = Vec::new(alloc);
+    values.push(Scalar::Bool(truth))?;
+    Ok(values)
+}
+
+/// The values that are one text.
+fn text(alloc: Global, text: &str) -> Result<Vec<Scalar>, AllocError> {
+    let mut values = Vec::new(alloc);
+    let text = ScalarText::new(String::from_str(alloc, text)?);
+    values.push(Scalar::Text(text))?;
+    Ok(values)
+}
+
+/// Sets all four attributes of the fibre, the last one first, and two of each cable.
+fn set_out_of_order(builder: &mut PopulationBuilder<'_>, alloc: Global) -> Result<(), AllocError> {
+    let active = truth(alloc, true)?;
+    let _ = set(builder, "g", ACTIVE, active);
+    let name = text(alloc, "glas")?;
+    let _ = set(builder, "g", NAME, name);
+    set_themes(builder, alloc, "g", &[2, 0])?;
+    let depths = numbers(alloc, &[5, -3, 5])?;
+    let _ = set(builder, "g", DEPTHS, depths);
+    set_themes(builder, alloc, "k", &[1])?;
+    let name = text(alloc, "kabel")?;
+    let _ = set(builder, "k", NAME, name);
+    let depths = numbers(alloc, &[9])?;
+    let _ = set(builder, "h", DEPTHS, depths);
+    set_themes(builder, alloc, "h", &[0])?;
+    hold(builder, alloc, "c", &[2])
+}
+
+/// The population of the five, with attributes that are set out of order.
+fn five_out_of_order<'m>(
+    alloc: Global,
+    model: &'m ClassModel,
+) -> Result<Population<'m>, PopulationFault> {
+    let mut builder = PopulationBuilder::new(alloc, model);
+    let _ = add_five(&mut builder);
+    set_out_of_order(&mut builder, alloc)?;
+    builder.finish()
+}
+
+/// Whether values are these numbers, in this order.
+fn are_numbers(values: &[Scalar], numbers: &[i64]) -> bool {
+    values.len() == numbers.len()
+        && values.iter().zip(numbers).all(|(value, number)| match value {
+            Scalar::Int(found) => *found == *number,
+            _ => false,
+        })
+}
+
+/// Whether values are one text.
+fn is_text(values: &[Scalar], text: &str) -> bool {
+    match values {
+        [Scalar::Text(found)] => found.as_str() == text,
+        _ => false,
+    }
+}
+
+/// Whether values are one truth value.
+fn is_truth(values: &[Scalar], truth: bool) -> bool {
+    match values {
+        [Scalar::Bool(found)] => *found == truth,
+        _ => false,
+    }
+}
+
+/// Whether the fibre has the values that were set out of order, and the duct that holds it.
+fn has_fibre(population: &Population<'_>) -> bool {
+    is_text(values_of(population, 2, "naam"), "glas")
+        && are_numbers(values_of(population, 2, "diepten"), &[5, -3, 5])
+        && are_literals(values_of(population, 2, "themas"), &[2, 0])
+        && is_truth(values_of(population, 2, "actief"), true)
+        && are_objects(values_of(population, 2, "ligtIn"), &[3])
+}
+
+/// Whether the cables have two features each: the first one none between them, the last one none before them.
+fn has_cables(population: &Population<'_>) -> bool {
+    is_text(values_of(population, 0, "naam"), "kabel")
+        && values_of(population, 0, "diepten").is_empty()
+        && are_literals(values_of(population, 0, "themas"), &[1])
+        && values_of(population, 4, "naam").is_empty()
+        && are_numbers(values_of(population, 4, "diepten"), &[9])
+        && are_literals(values_of(population, 4, "themas"), &[0])
+}
+
+#[test]
+fn several_features(rt: HostRuntime) -> Result<(), Fail> {
+    let model = read(rt.alloc())?;
+    let population = five_out_of_order(rt.alloc(), &model)?;
+    assert!(rt; has_fibre(&population) && has_cables(&population));
+    assert!(rt; values_of(&population, 1, "naam").is_empty());
+    Ok(())
 }
 
 /// Whether a call on the themes of one of the five, and one on what another holds, are refused.
