@@ -1,8 +1,11 @@
 -- Reading each of a list, as a loop does.
-use Rattle.std.proofs.Common.{◌≡◌, ℕ, zero, suc, ◌+◌, ◌≤◌, ◌<◌, List, [], ◌∷◌, ◌++◌, length, get_or, drop, map, Result, Ok, Err, refl, sym, ap, ◌∙◌, subst, arith}
+use Rattle.std.proofs.Common.{◌≡◌, ℕ, ◌+◌, ◌≤◌, ◌<◌, List, [], ◌∷◌, ◌++◌, length, get_or, drop, map, Result, Ok, Err, refl, sym, ap, ◌∙◌, subst, arith}
 use Rattle.imkl_model.specs.Steps.{◌>>=◌, each}
+use Rattle.std.proofs.lemmas.List.{map-id, length-map, get_or-map}
 use Rattle.imkl_model.proofs.Lists as lists
 use Rattle.imkl_model.proofs.Lists.{with_front}
+use Rattle.imkl_model.proofs.Steps as steps
+use Rattle.imkl_model.proofs.Steps.{each_map}
 use Rattle.imkl_delivery.specs.declared.fault.DeliveryFault.{DeliveryFault}
 use Rattle.imkl_delivery.specs.declared.fault.DeliveryFault.TheVariants as fault
 use Rattle.imkl_delivery.specs.Steps.{Fails}
@@ -45,45 +48,15 @@ is_done f view vs i le so_far = lists.is_done f view so_far.front vs i (each f (
 
 -- ---- what was read
 
-pub record Parts {A : Type 0} (r : Result A DeliveryFault) (rest : Result (List A) DeliveryFault) (xs : List A) : Type 0 where
-  pub first : A
-  pub others : List A
-  pub first_is : r ≡ Ok first
-  pub others_are : rest ≡ Ok others
-  pub whole : xs ≡ first ∷ others
-
-parts : {A : Type 0} (r : Result A DeliveryFault) (rest : Result (List A) DeliveryFault) (xs : List A) → (r >>= λ x. rest >>= λ ys. Ok (x ∷ ys)) ≡ Ok xs → Parts r rest xs
-parts (Err e) rest xs is = absurd (let bad : Err e ≡ Ok xs = is in cc)
-parts (Ok x) (Err e) xs is = absurd (let bad : Err e ≡ Ok xs = is in cc)
-parts (Ok x) (Ok ys) xs is = record { first = x; others = ys; first_is = refl; others_are = refl; whole = let same : Ok (x ∷ ys) ≡ Ok xs = is in cc }
-
 -- what each of a list that was read gives, by a function that looks into what each step gives
 pub all_read : {X A : Type 0} (f : X → Result A DeliveryFault) (look : Result A DeliveryFault → A) (ds : List X) (xs : List A) → ((x : A) → look (Ok x) ≡ x) → each f ds ≡ Ok xs → xs ≡ map (λ d. look (f d)) ds
-unfolding each
-all_read {A = A} f look [] xs sees is = let same : Ok [] ≡ Ok xs = is in cc
-all_read {A = A} f look (d ∷ ds) xs sees is =
-    let p = parts (f d) (each f ds) xs is in
-    let here : look (f d) ≡ p.first = ap look p.first_is ∙ sees p.first in
-    let later : p.others ≡ map (λ x. look (f x)) ds = all_read f look ds p.others sees p.others_are in
-    p.whole ∙ rw (here, later) refl
+all_read f look ds xs sees is = sym (map-id xs) ∙ each_map f (λ x. x) (λ d. look (f d)) (λ d x e. sym (ap look e ∙ sees x)) ds xs is
 
 pub each_length : {V D A : Type 0} (f : D → Result A DeliveryFault) (view : V → D) (vs : List V) (xs : List A) → each f (map view vs) ≡ Ok xs → length xs ≡ length vs
-unfolding each
-each_length {A = A} f view [] xs is = let same : xs ≡ [] = (let e : Ok [] ≡ Ok xs = is in cc) in rw same refl
-each_length f view (v ∷ vs) xs is =
-    let p = parts (f (view v)) (each f (map view vs)) xs is in
-    ap length p.whole ∙ ap suc (each_length f view vs p.others p.others_are)
-
-read_there : {V D A : Type 0} (f : D → Result A DeliveryFault) (view : V → D) (vs : List V) (xs : List A) (i : ℕ) (v : V) (none : A) → each f (map view vs) ≡ Ok xs → i < length vs → f (view (get_or vs i v)) ≡ Ok (get_or xs i none)
-unfolding each
-read_there f view [] xs i v none is lt = absurd (omega arith)
-read_there {A = A} f view (w ∷ vs) xs zero v none is lt =
-    let p = parts (f (view w)) (each f (map view vs)) xs is in
-    p.first_is ∙ ap (λ (ys : List A). Ok (get_or ys zero none)) (sym p.whole)
-read_there {A = A} f view (w ∷ vs) xs (suc i) v none is lt =
-    let p = parts (f (view w)) (each f (map view vs)) xs is in
-    read_there f view vs p.others i v none p.others_are (omega arith) ∙ ap (λ (ys : List A). Ok (get_or ys (suc i) none)) (sym p.whole)
+each_length f view vs xs is = steps.each_length f (map view vs) xs is ∙ length-map vs view
 
 -- what was read at a place
 pub each_there : {V D A : Type 0} (f : D → Result A DeliveryFault) (view : V → D) (vs : List V) (xs : List A) (i : ℕ) (v : V) (none : A) → each f (map view vs) ≡ Ok xs → i < length vs → v ≡ get_or vs i v → f (view v) ≡ Ok (get_or xs i none)
-each_there {V = V} f view vs xs i v none is lt at = ap (λ (w : V). f (view w)) at ∙ read_there f view vs xs i v none is lt
+each_there f view vs xs i v none is lt at =
+    let here : view v ≡ get_or (map view vs) i (view v) = ap view at ∙ sym (get_or-map view vs i v (view v) lt) in
+    ap f here ∙ steps.each_at f (map view vs) xs i (view v) none is (omega (arith, lt, length-map vs view))
