@@ -13,7 +13,7 @@ pub(crate) fn first_belonging(
     classes: &ClassTable,
     features: &FeatureTable,
     class: ClassNo,
-    numbers: &[usize],
+    numbers: &[FeatureNo],
 ) -> Option<FeatureNo>
     requires class { class < length classes.now }
     requires numbers { All (λ f. f < length features.now) numbers.now }
@@ -22,9 +22,8 @@ pub(crate) fn first_belonging(
     ensures found { result ≡ find (belongs (model_with classes.now features.now) class) numbers.now }
 {
     for number in numbers {
-        let feature = FeatureNo::new(*number);
-        if classes.conforms(class, features.at(feature).owner) {
-            return Some(feature);
+        if classes.conforms(class, features.at(*number).owner) {
+            return Some(*number);
         }
     }
     None

@@ -17,7 +17,7 @@ fn any_other(
     features: &FeatureTable,
     class: ClassNo,
     owner: ClassNo,
-    numbers: &[usize],
+    numbers: &[FeatureNo],
 ) -> bool
     requires class { class < length classes.now }
     requires numbers { All (λ f. f < length features.now) numbers.now }
@@ -25,7 +25,7 @@ fn any_other(
     ensures { result ≡ list_any (has_other_owner (model_with classes.now features.now) class owner) numbers.now }
 {
     for number in numbers {
-        let other = features.at(FeatureNo::new(*number)).owner;
+        let other = features.at(*number).owner;
         if classes.conforms(class, other) && owner.place() != other.place() {
             return true;
         }
@@ -34,7 +34,12 @@ fn any_other(
 }
 
 /// Whether two of some features have different owners and belong to a class.
-fn meet(classes: &ClassTable, features: &FeatureTable, class: ClassNo, numbers: &[usize]) -> bool
+fn meet(
+    classes: &ClassTable,
+    features: &FeatureTable,
+    class: ClassNo,
+    numbers: &[FeatureNo],
+) -> bool
     requires class { class < length classes.now }
     requires numbers { All (λ f. f < length features.now) numbers.now }
     requires owners { AreOwned classes.now features.now }
@@ -50,7 +55,7 @@ fn meet(classes: &ClassTable, features: &FeatureTable, class: ClassNo, numbers: 
 }
 
 /// Whether two of some features have different owners and belong to one class.
-fn meet_somewhere(classes: &ClassTable, features: &FeatureTable, numbers: &[usize]) -> bool
+fn meet_somewhere(classes: &ClassTable, features: &FeatureTable, numbers: &[FeatureNo]) -> bool
     requires numbers { All (λ f. f < length features.now) numbers.now }
     requires owners { AreOwned classes.now features.now }
     ensures { result ≡ any_below (λ c. meets (model_with classes.now features.now) c numbers.now) (length classes.now) }
@@ -63,11 +68,11 @@ fn meet_somewhere(classes: &ClassTable, features: &FeatureTable, numbers: &[usiz
     false
 }
 
-fn begins_with(numbers: &[usize], number: usize) -> bool
+fn begins_with(numbers: &[FeatureNo], number: FeatureNo) -> bool
     ensures { result ≡ begins_with numbers.now number }
 {
     match numbers {
-        [first, ..] => *first == number,
+        [first, ..] => first.place() == number.place(),
         [] => false,
     }
 }
@@ -82,7 +87,7 @@ fn group_meets(classes: &ClassTable, features: &FeatureTable, feature: FeatureNo
         None => false,
         Some(group) => {
             let numbers = group.numbers();
-            begins_with(numbers, feature.place()) && meet_somewhere(classes, features, numbers)
+            begins_with(numbers, feature) && meet_somewhere(classes, features, numbers)
         }
     }
 }

@@ -12,8 +12,8 @@ use std::marker::Model;
 /// The numbers of the features of one name, in order, and for each owner the first that it has.
 #[derive(Drop)]
 pub(crate) struct FeatureGroup {
-    numbers: Vec<usize>,
-    by_owner: BTreeMap<usize, usize>,
+    numbers: Vec<FeatureNo>,
+    by_owner: BTreeMap<usize, FeatureNo>,
 }
 
 impl Model for FeatureGroup {
@@ -36,7 +36,7 @@ impl FeatureGroup {
     }
 
     /// Adds a feature after the others.
-    pub(crate) fn push(&mut self, owner: ClassNo, number: usize) -> Result<(), AllocError>
+    pub(crate) fn push(&mut self, owner: ClassNo, number: FeatureNo) -> Result<(), AllocError>
         ensures numbers { OnOk result (self.new.numbers ≡ self.old.numbers ++ number ∷ []) }
         ensures own { OnOk result ((c : ℕ) → own_in self.new c ≡ option_or (own_in self.old c) (if owner == c then Some number else None)) }
     {
@@ -45,7 +45,7 @@ impl FeatureGroup {
         Ok(())
     }
 
-    pub(crate) fn numbers(&self) -> &[usize]
+    pub(crate) fn numbers(&self) -> &[FeatureNo]
         ensures { result.now ≡ self.now.numbers }
     {
         self.numbers.as_slice()
@@ -55,7 +55,6 @@ impl FeatureGroup {
     pub(crate) fn own(&self, class: ClassNo) -> Option<FeatureNo>
         ensures { result ≡ own_in self.now class }
     {
-        let number = self.by_owner.get(&class.place())?;
-        Some(FeatureNo::new(*number))
+        self.by_owner.get(&class.place()).copied()
     }
 }

@@ -82,7 +82,7 @@ fn groups_of(
         let group = groups
             .entry(name)?
             .or_insert_with(|| FeatureGroup::new(alloc));
-        group.push(feature.owner, number)?;
+        group.push(feature.owner, FeatureNo::new(number))?;
     }
     Ok(groups)
 }
