@@ -1,30 +1,22 @@
 -- Tests of the numbers below a bound.
-use Rattle.std.proofs.Common.{◌≡◌, ℕ, zero, suc, ◌<◌, ◌||◌, Bool, true, false, refl, sym, ap, ◌∙◌, arith, ◌⊎◌, inl, inr}
-use Rattle.std.proofs.lemmas.Bool.{false≢true}
+use Rattle.std.proofs.Common.{◌≡◌, ℕ, zero, suc, ◌<◌, Bool, true, false, refl, sym, ap, ◌∙◌, arith, inl, inr}
+use Rattle.std.proofs.lemmas.Bool.{false≢true, or_cases, or_right}
 use Rattle.std.proofs.lemmas.Bool.Decides.{leb_tells}
 use Rattle.imkl_model.specs.Chains.{any_below}
-
-pub or_either : (a b : Bool) → (a || b) ≡ true → (a ≡ true) ⊎ (b ≡ true)
-or_either true b e = inl refl
-or_either false b e = inr e
-
-or_true : (a b : Bool) → b ≡ true → (a || b) ≡ true
-or_true true b e = refl
-or_true false b e = e
 
 -- some number below n passes
 pub any_found : (p : ℕ → Bool) (n k : ℕ) → k < n → p k ≡ true → any_below p n ≡ true
 any_found p zero k lt passes = absurd (omega (arith, lt))
 any_found p (suc n) k lt passes =
     elim (leb_tells n k) [
-      | inl le ↦ let same : k ≡ n = omega (arith, le.1) in or_true (any_below p n) (p n) (ap p (sym same) ∙ passes)
+      | inl le ↦ let same : k ≡ n = omega (arith, le.1) in or_right (any_below p n) (p n) (ap p (sym same) ∙ passes)
       | inr less ↦ rw (any_found p n k less.1 passes) refl
     ]
 
 pub found_any : (p : ℕ → Bool) (n : ℕ) → any_below p n ≡ true → (k : ℕ) × (k < n) × (p k ≡ true)
 found_any p zero e = absurd (false≢true e)
 found_any p (suc n) e =
-    elim (or_either (any_below p n) (p n) e) [
+    elim (or_cases (any_below p n) (p n) e) [
       | inl before ↦ let w = found_any p n before in (w.0, omega (arith, w.1), w.2)
       | inr here ↦ (n, omega arith, here)
     ]

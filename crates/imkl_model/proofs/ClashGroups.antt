@@ -1,14 +1,14 @@
 -- Clashes, looked for among the features of one name.
-use Rattle.std.proofs.Common.{find, ◌≡◌, ◌≢◌, ℕ, zero, suc, ◌<◌, ◌&&◌, ◌||◌, not, Bool, true, false, List, [], ◌∷◌, length, get_or, eqb, Option, Some, None, refl, sym, ap, ◌∙◌, subst, arith, ◌⊎◌, inl, inr}
+use Rattle.std.proofs.Common.{find, ◌≡◌, ◌≢◌, ℕ, zero, suc, ◌<◌, not, Bool, true, false, List, [], ◌∷◌, length, get_or, eqb, Option, Some, None, refl, sym, ap, ◌∙◌, subst, arith, ◌⊎◌, inl, inr}
 use Rattle.std.specs.List.{list_any}
-use Rattle.std.proofs.lemmas.Bool.{false≢true}
+use Rattle.std.proofs.lemmas.Bool.{false≢true, and_parts, or_cases, or_right}
 use Rattle.std.proofs.lemmas.Bool.Decides.{eqb_tells}
 use Rattle.std.proofs.lemmas.Slice.Eq.{bytes_eq-Decides}
 use Rattle.imkl_model.specs.Chains.{any_below}
 use Rattle.imkl_model.specs.ClassModel.{Model, supers, feature_at, belongs, is_named, has_clash, IsClash}
 use Rattle.imkl_model.specs.Held.{places}
 use Rattle.imkl_model.specs.Groups.{group, begins_with, has_other_owner, meets_after, meets, group_meets}
-use Rattle.imkl_model.proofs.Below.{or_either, any_found, found_any}
+use Rattle.imkl_model.proofs.Below.{any_found, found_any}
 use Rattle.imkl_model.proofs.Places.{place_of, places_below, places_pass}
 use Rattle.imkl_model.proofs.ClashLaws.{joined, unequal, clash_found, found_clash}
 use Rattle.imkl_model.proofs.Warshall.{conforms-decides}
@@ -17,18 +17,10 @@ use Rattle.imkl_model.proofs.Warshall.{conforms-decides}
 abbrev pub IsIn : ℕ → List ℕ → Type 0
 IsIn g xs = (k : ℕ) × (k < length xs) × (get_or xs k 0 ≡ g)
 
-and_both : (a b : Bool) → (a && b) ≡ true → (a ≡ true) × (b ≡ true)
-and_both true b e = (refl, e)
-and_both false b e = absurd (false≢true e)
-
-or_true : (a b : Bool) → b ≡ true → (a || b) ≡ true
-or_true true b e = refl
-or_true false b e = e
-
 any_of : (p : ℕ → Bool) (xs : List ℕ) → list_any p xs ≡ true → (k : ℕ) × (k < length xs) × (p (get_or xs k 0) ≡ true)
 any_of p [] e = absurd (false≢true e)
 any_of p (x ∷ xs) e =
-    elim (or_either (p x) (list_any p xs) e) [
+    elim (or_cases (p x) (list_any p xs) e) [
       | inl here ↦ (zero, omega arith, here)
       | inr later ↦ let w = any_of p xs later in (suc w.0, omega (arith, w.1), w.2)
     ]
@@ -36,7 +28,7 @@ any_of p (x ∷ xs) e =
 of_any : (p : ℕ → Bool) (xs : List ℕ) (k : ℕ) → k < length xs → p (get_or xs k 0) ≡ true → list_any p xs ≡ true
 of_any p [] k lt e = absurd (omega (arith, lt))
 of_any p (x ∷ xs) zero lt e = rw e refl
-of_any p (x ∷ xs) (suc k) lt e = or_true (p x) (list_any p xs) (of_any p xs k (omega (arith, lt)) e)
+of_any p (x ∷ xs) (suc k) lt e = or_right (p x) (list_any p xs) (of_any p xs k (omega (arith, lt)) e)
 
 -- the first that passes, by whether x does
 find_cases : (p : ℕ → Bool) (x : ℕ) (xs : List ℕ) (b : Bool) → p x ≡ b → (k : ℕ) → find p (x ∷ xs) ≡ Some k → ((k ≡ x) × (p x ≡ true)) ⊎ (find p xs ≡ Some k)
@@ -91,12 +83,12 @@ meeting m f c None lc is e = absurd (false≢true e)
 meeting m f c (Some h) lc is e =
     let a = found_at (belongs m c) (group m f) h is in
     let b = any_of (has_other_owner m c (feature_at m h).owner) (group m f) e in
-    let parts = and_both (belongs m c (get_or (group m f) b.0 0)) (not (eqb (feature_at m h).owner (feature_at m (get_or (group m f) b.0 0)).owner)) b.2 in
+    let parts = and_parts (belongs m c (get_or (group m f) b.0 0)) (not (eqb (feature_at m h).owner (feature_at m (get_or (group m f) b.0 0)).owner)) b.2 in
     pair_clash m f c a.0 b.0 lc a.1 b.1 (rw a.2 parts.1) (rw a.2 a.3) parts.0
 
 pub clash_in_group : (m : Model) (f : ℕ) → group_meets m f ≡ true → has_clash m ≡ true
 clash_in_group m f e =
-    let p = and_both (begins_with (group m f) f) (any_below (λ c. meets m c (group m f)) (length m.classes)) e in
+    let p = and_parts (begins_with (group m f) f) (any_below (λ c. meets m c (group m f)) (length m.classes)) e in
     let w = found_any (λ c. meets m c (group m f)) (length m.classes) p.1 in
     meeting m f w.0 (find (belongs m w.0) (group m f)) w.1 refl w.2
 

@@ -1,7 +1,6 @@
 -- Clashes of features.
-use Rattle.std.proofs.Common.{◌≡◌, ◌≢◌, ℕ, ◌<◌, ◌&&◌, not, Bool, true, false, eqb, length, Decides, refl, sym, ap, ◌∙◌, inl, inr}
-use Rattle.std.proofs.lemmas.Bool.{false≢true}
-use Rattle.std.proofs.lemmas.Bool.Decides.{eqb_tells}
+use Rattle.std.proofs.Common.{◌≡◌, ◌≢◌, ℕ, ◌<◌, ◌&&◌, not, Bool, true, false, eqb, length, Decides, refl}
+use Rattle.std.proofs.lemmas.Bool.{false≢true, eqb-false, ne_eqb, not-true, not_from_false}
 use Rattle.std.proofs.lemmas.Slice.Eq.{bytes_eq-Decides}
 use Rattle.imkl_model.specs.Chains.{any_below}
 use Rattle.imkl_model.specs.ClassModel.{Model, supers, feature_at, is_named, belongs, clashes, has_clash, IsClash}
@@ -20,10 +19,10 @@ pub joined : (a b c d : Bool) → a ≡ true → b ≡ true → c ≡ true → d
 joined a b c d ea eb ec ed = rw (ea, eb, ec, ed) refl
 
 pub different : (a b : ℕ) → not (eqb a b) ≡ true → a ≢ b
-different a b h = elim (eqb_tells a b) [ inl s ↦ absurd (false≢true (ap not (sym s.0) ∙ h)) | inr s ↦ s.1 ]
+different a b h = eqb-false a b (not-true (eqb a b) h)
 
 pub unequal : (a b : ℕ) → a ≢ b → not (eqb a b) ≡ true
-unequal a b ne = elim (eqb_tells a b) [ inl s ↦ absurd (ne s.1) | inr s ↦ rw s.0 refl ]
+unequal a b ne = not_from_false (eqb a b) (ne_eqb a b ne)
 
 pub clash_of : (m : Model) (c f g : ℕ) → c < length m.classes → f < length m.features → g < length m.features → clashes m c f g ≡ true → IsClash m c f g
 clash_of m c f g lc lf lg h =

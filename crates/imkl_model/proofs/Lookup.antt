@@ -1,6 +1,6 @@
 -- The feature of a name that belongs to a class.
-use Rattle.std.proofs.Common.{find, ◌≡◌, ◌∙◌, ◌&&◌, ◌<◌, ℕ, Bool, true, false, List, length, Option, Some, eqb, refl, sym, ap, subst, IfSome}
-use Rattle.std.proofs.lemmas.Bool.{false≢true}
+use Rattle.std.proofs.Common.{find, ◌≡◌, ◌∙◌, ◌&&◌, ◌<◌, ℕ, Bool, true, List, length, Option, Some, eqb, refl, sym, ap, subst, IfSome}
+use Rattle.std.proofs.lemmas.Bool.{and_from, and_parts}
 use Rattle.std.proofs.lemmas.Bool.Decides.{Decides-eqb}
 use Rattle.std.proofs.lemmas.Slice.Eq.{bytes_eq-Decides}
 use Rattle.imkl_model.specs.Chains.{conforms}
@@ -9,13 +9,6 @@ use Rattle.imkl_model.specs.WellFormed.{IsClassModel}
 use Rattle.imkl_model.specs.Held.{Group, IsGroup, own_in, is_own_in}
 use Rattle.imkl_model.proofs.Warshall.{conforms-decides}
 use Rattle.imkl_model.proofs.Places.{find_places, least_passes, least_is, passes_at}
-
-both : (a b : Bool) → (a && b) ≡ true → (a ≡ true) × (b ≡ true)
-both true b e = (refl, e)
-both false b e = absurd (false≢true e)
-
-joined : (a b : Bool) → a ≡ true → b ≡ true → (a && b) ≡ true
-joined a b ea eb = rw (ea, eb) refl
 
 -- a feature of this name that belongs to the class
 abbrev pub IsFeatureOf : Model → ℕ → List ℕ → ℕ → Type 0
@@ -26,7 +19,7 @@ passes m c q f = is_named m q f && belongs m c f
 
 feature_of : (m : Model) (c : ℕ) (q : List ℕ) (f : ℕ) → f < length m.features → passes m c q f ≡ true → IsFeatureOf m c q f
 feature_of m c q f lt h =
-    let p = both (is_named m q f) (belongs m c f) h in
+    let p = and_parts (is_named m q f) (belongs m c f) h in
     (lt, p.1, sym ((bytes_eq-Decides q (feature_at m f).name).0 p.0))
 
 -- what is so of the feature that is found
@@ -50,9 +43,9 @@ module _ (m : Model) (c : ℕ) (q : List ℕ) (g : Group) (group : IsGroup m.fea
 
   own_passes : (f : ℕ) → is_own_in m.features q c f ≡ true → passes m c q f ≡ true
   own_passes f h =
-      let p = both (is_named m q f) (eqb (feature_at m f).owner c) h in
+      let p = and_parts (is_named m q f) (eqb (feature_at m f).owner c) h in
       let owned : (feature_at m f).owner ≡ c = (Decides-eqb (feature_at m f).owner c).0 p.1 in
-      joined (is_named m q f) (belongs m c f) p.0 (let here : conforms (supers m) c c ≡ true = (conforms-decides (supers m) c c).1 (0, refl) in ap (conforms (supers m) c) owned ∙ here)
+      and_from (is_named m q f) (belongs m c f) p.0 (let here : conforms (supers m) c c ≡ true = (conforms-decides (supers m) c c).1 (0, refl) in ap (conforms (supers m) c) owned ∙ here)
 
   -- no other feature of the name belongs to a class that has its own
   pub own_is : IsClassModel m → (f : ℕ) → own_in g c ≡ Some f → feature_number m c q ≡ Some f

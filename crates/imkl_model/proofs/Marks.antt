@@ -1,5 +1,6 @@
 -- Marks as bits of words.
 use Rattle.std.proofs.Common.{◌≡◌, ℕ, ◌+◌, ◌*◌, ◌^◌, zero, suc, ◌<◌, ◌≤◌, ◌/◌, ◌%◌, ◌||◌, Bool, true, false, eqb, List, [], ◌∷◌, ◌++◌, length, get_or, set, max, refl, sym, ap, ◌∙◌, arith, bit_or, w64, replicate, inl, inr}
+use Rattle.std.proofs.lemmas.Bool.{eq-eqb, ne_eqb}
 use Rattle.std.proofs.lemmas.Bool.Decides.{leb_tells, eqb_tells}
 use Rattle.std.proofs.Math.Nat.{div-add-mod}
 use Rattle.std.proofs.lemmas.List.{get_or-set_other, get_or-set_same, length_push, get_or_push, get_or_past}
@@ -51,12 +52,6 @@ or_untouched : (b c : Bool) → c ≡ false → b ≡ (b || c)
 or_untouched true c e = refl
 or_untouched false c e = sym e
 
-apart : (n j : ℕ) → (n ≡ j → ⊥) → eqb n j ≡ false
-apart n j ne = elim (eqb_tells n j) [ inl h ↦ absurd (ne h.1) | inr h ↦ h.0 ]
-
-at_once : (n j : ℕ) → n ≡ j → eqb n j ≡ true
-at_once n j e = elim (eqb_tells n j) [ inl h ↦ h.0 | inr h ↦ absurd (h.1 e) ]
-
 -- the word that marks number k of a word
 abbrev with_bit : ℕ → ℕ → ℕ
 with_bit w k = bit_or w (1 * 2 ^ k % 18446744073709551616)
@@ -69,10 +64,10 @@ one_word w n j within d =
     elim (eqb_tells (j % 64) (n % 64)) [
       | inl h ↦
           let set : bit_at (with_bit w (n % 64)) (j % 64) ≡ 1 = ap (bit_at (with_bit w (n % 64))) h.1 ∙ bit_at_set_same w64 w (n % 64) within in
-          rw (set, at_once n j (same_number n j d h.1)) (sym (or_true (eqb (bit_at w (j % 64)) 1)))
+          rw (set, eq-eqb n j (same_number n j d h.1)) (sym (or_true (eqb (bit_at w (j % 64)) 1)))
       | inr h ↦
           let kept : bit_at (with_bit w (n % 64)) (j % 64) ≡ bit_at w (j % 64) = bit_at_set_other w64 w (n % 64) within (j % 64) h.1 in
-          rw kept (or_untouched (eqb (bit_at w (j % 64)) 1) (eqb n j) (apart n j (λ e. h.1 (ap (λ (x : ℕ). x % 64) (sym e)))))
+          rw kept (or_untouched (eqb (bit_at w (j % 64)) 1) (eqb n j) (ne_eqb n j (λ e. h.1 (ap (λ (x : ℕ). x % 64) (sym e)))))
     ]
 
 pub is_marked-set : (ws : List ℕ) (n j : ℕ) → n % 64 < 64 → n / 64 < length ws → is_marked (set ws (n / 64) (with_bit (get_or ws (n / 64) 0) (n % 64))) j ≡ (is_marked ws j || eqb n j)
@@ -84,7 +79,7 @@ is_marked-set ws n j within lt =
           let there : get_or ws (j / 64) 0 ≡ w = ap (λ (i : ℕ). get_or ws i 0) h.1 in
           rw (here, there) (one_word w n j within h.1)
       | inr h ↦
-          rw (get_or-set_other ws (n / 64) (j / 64) (with_bit w (n % 64)) 0 h.1) (or_untouched (is_marked ws j) (eqb n j) (apart n j (λ e. h.1 (ap (λ (x : ℕ). x / 64) (sym e)))))
+          rw (get_or-set_other ws (n / 64) (j / 64) (with_bit w (n % 64)) 0 h.1) (or_untouched (is_marked ws j) (eqb n j) (ne_eqb n j (λ e. h.1 (ap (λ (x : ℕ). x / 64) (sym e)))))
     ]
 
 -- ---- a row of n marks
@@ -107,7 +102,7 @@ row_joined ws us n f row e inside outside j =
     ])
 
 pub apart_past : (number n j : ℕ) → number < n → n ≤ j → eqb number j ≡ false
-apart_past number n j lt le = apart number j (λ e. absurd (omega (arith, e, lt, le)))
+apart_past number n j lt le = ne_eqb number j (λ e. absurd (omega (arith, e, lt, le)))
 
 pub row_past : (vs : List ℕ) (n j : ℕ) (row : List Bool) → marks vs n ≡ row → n ≤ j → has row j ≡ false
 row_past vs n j row e le = rw (← e) (has-marks_past vs n j le)

@@ -1,7 +1,7 @@
 -- What is known of the parts of a class model that was numbered.
 use Rattle.std.proofs.Common.{◌≡◌, ℕ, ◌<◌, ◌||◌, List, [], ◌∷◌, ◌++◌, length, get_or, map, Bool, true, false, Ok, refl, sym, ap, ◌∙◌, All, bytes_eq, position}
 use Rattle.std.specs.List.{list_any}
-use Rattle.std.proofs.lemmas.Bool.{false≢true}
+use Rattle.std.proofs.lemmas.Bool.{false≢true, or_parts}
 use Rattle.std.proofs.lemmas.List.Quantifiers.{position-Some}
 use Rattle.std.proofs.lemmas.Slice.Eq.{bytes_eq-Decides}
 use Rattle.imkl_model.specs.declared.fault.ModelFault.TheVariants as faults
@@ -17,7 +17,7 @@ use Rattle.imkl_model.specs.WrittenFeatures.{written_features}
 use Rattle.imkl_model.specs.Numbering.{number_in, class_of, enumeration_of}
 use Rattle.imkl_model.specs.Tables.{AreWithin}
 use Rattle.imkl_model.specs.ClassModel.{names_of_classes, names_of_enumerations, supers_in}
-use Rattle.imkl_model.proofs.Repeated.{or_none, repeats_front, repeats_back}
+use Rattle.imkl_model.proofs.Repeated.{repeats_front, repeats_back}
 use Rattle.imkl_model.proofs.Steps.{okay, ok_is, both_steps, found_is, each_map, all_each, all_at, all_mapped, AllOf}
 
 -- ---- names
@@ -35,15 +35,15 @@ pub record Differs (w : Written) : Type 0 where
 pub differs : (w : Written) → checks.repeats_name w ≡ false → Differs w
 unfolding checks.repeats_name
 differs w e =
-    let p = or_none (checks.repeats_type w || checks.repeats_literal w || checks.repeats_super w || checks.repeats_association w) (checks.repeats_feature w) e in
-    let q = or_none (checks.repeats_type w || checks.repeats_literal w || checks.repeats_super w) (checks.repeats_association w) p.0 in
-    let r = or_none (checks.repeats_type w || checks.repeats_literal w) (checks.repeats_super w) q.0 in
-    let s = or_none (checks.repeats_type w) (checks.repeats_literal w) r.0 in
+    let p = or_parts (checks.repeats_type w || checks.repeats_literal w || checks.repeats_super w || checks.repeats_association w) (checks.repeats_feature w) e in
+    let q = or_parts (checks.repeats_type w || checks.repeats_literal w || checks.repeats_super w) (checks.repeats_association w) p.0 in
+    let r = or_parts (checks.repeats_type w || checks.repeats_literal w) (checks.repeats_super w) q.0 in
+    let s = or_parts (checks.repeats_type w) (checks.repeats_literal w) r.0 in
     record { types = s.0; literals = s.1; features = p.1 }
 
 types_differ : (w : Written) → checks.repeats_type w ≡ false → repeats (checks.enumeration_names w ++ checks.class_names w) ≡ false
 unfolding checks.repeats_type
-types_differ w e = (or_none (list_any is_predefined (checks.enumeration_names w) || list_any is_predefined (checks.class_names w)) (repeats (checks.enumeration_names w ++ checks.class_names w)) e).1
+types_differ w e = (or_parts (list_any is_predefined (checks.enumeration_names w) || list_any is_predefined (checks.class_names w)) (repeats (checks.enumeration_names w ++ checks.class_names w)) e).1
 
 pub enumerations_differ : (w : Written) → checks.repeats_name w ≡ false → repeats (checks.enumeration_names w) ≡ false
 enumerations_differ w e =

@@ -1,6 +1,6 @@
 -- Names that stand twice.
 use Rattle.std.proofs.Common.{◌≡◌, ℕ, Bool, true, false, ◌||◌, List, [], ◌∷◌, ◌++◌, map, String, string_bytes, refl, sym, ap, ◌∙◌, bytes_eq, not, append_assoc, zero, suc, arith, ◌<◌, length, take, drop, get_or, drop-cons}
-use Rattle.std.proofs.lemmas.Bool.{false≢true}
+use Rattle.std.proofs.lemmas.Bool.{false≢true, or_parts, or_right}
 use Rattle.std.proofs.lemmas.Slice.Eq.{bytes_eq-Decides}
 use Rattle.std.proofs.lemmas.Cmp.{nat_list_eq_equiv}
 use Rattle.std.proofs.Math.Bool.{or-false}
@@ -23,14 +23,6 @@ or_regroup : (a b c : Bool) → (a || (b || c)) ≡ ((a || b) || c)
 or_regroup true b c = refl
 or_regroup false b c = refl
 
-pub or_none : (a b : Bool) → (a || b) ≡ false → (a ≡ false) × (b ≡ false)
-or_none true b e = absurd (false≢true (sym e))
-or_none false b e = (refl, e)
-
-pub or_last : (a b : Bool) → b ≡ true → (a || b) ≡ true
-or_last true b e = refl
-or_last false b e = e
-
 same_back : (x y : List ℕ) (b : Bool) → bytes_eq x y ≡ b → bytes_eq y x ≡ b
 same_back x y b e = nat_list_eq_equiv.symm y x ∙ e
 
@@ -40,14 +32,14 @@ among_push (x ∷ xs) z y = ap (λ (b : Bool). bytes_eq z x || b) (among_push xs
 
 among_in : (xs : List (List ℕ)) (y : List ℕ) (ys : List (List ℕ)) (z : List ℕ) → bytes_eq z y ≡ true → is_among (xs ++ y ∷ ys) z ≡ true
 among_in [] y ys z e = rw e refl
-among_in (x ∷ xs) y ys z e = or_last (bytes_eq z x) (is_among (xs ++ y ∷ ys) z) (among_in xs y ys z e)
+among_in (x ∷ xs) y ys z e = or_right (bytes_eq z x) (is_among (xs ++ y ∷ ys) z) (among_in xs y ys z e)
 
 -- no name twice, and one more that isn't there
 pub apart_push : (xs : List (List ℕ)) (y : List ℕ) → repeats xs ≡ false → is_among xs y ≡ false → repeats (xs ++ y ∷ []) ≡ false
 apart_push [] y e a = refl
 apart_push (x ∷ xs) y e a =
-    let p = or_none (is_among xs x) (repeats xs) e in
-    let q = or_none (bytes_eq y x) (is_among xs y) a in
+    let p = or_parts (is_among xs x) (repeats xs) e in
+    let q = or_parts (bytes_eq y x) (is_among xs y) a in
     let here : is_among (xs ++ y ∷ []) x ≡ false = among_push xs x y ∙ rw (p.0, same_back y x false q.0) refl in
     rw (here, apart_push xs y p.1 q.1) refl
 
@@ -55,7 +47,7 @@ apart_push (x ∷ xs) y e a =
 found_at : (b : Bool) (x : List ℕ) (xs : List (List ℕ)) (y : List ℕ) (ys : List (List ℕ)) → bytes_eq y x ≡ b → (is_among xs y ≡ true → repeats (xs ++ y ∷ ys) ≡ true) → (b || is_among xs y) ≡ true
     → repeats (x ∷ (xs ++ y ∷ ys)) ≡ true
 found_at true x xs y ys e later a = rw (among_in xs y ys x (same_back y x true e)) refl
-found_at false x xs y ys e later a = or_last (is_among (xs ++ y ∷ ys) x) (repeats (xs ++ y ∷ ys)) (later a)
+found_at false x xs y ys e later a = or_right (is_among (xs ++ y ∷ ys) x) (repeats (xs ++ y ∷ ys)) (later a)
 
 pub found_again : (xs : List (List ℕ)) (y : List ℕ) (ys : List (List ℕ)) → is_among xs y ≡ true → repeats (xs ++ y ∷ ys) ≡ true
 found_again [] y ys a = absurd (false≢true a)
@@ -87,7 +79,7 @@ among_front (x ∷ xs) ys z a = or_grow (bytes_eq z x) (is_among xs z) (is_among
 
 or_both : (a b c d : Bool) → (a ≡ true → c ≡ true) → (b ≡ true → d ≡ true) → (a || b) ≡ true → (c || d) ≡ true
 or_both true b c d f g e = rw (f refl) refl
-or_both false b c d f g e = or_last c d (g e)
+or_both false b c d f g e = or_right c d (g e)
 
 pub repeats_front : (xs ys : List (List ℕ)) → repeats xs ≡ true → repeats (xs ++ ys) ≡ true
 repeats_front [] ys r = absurd (false≢true r)
@@ -95,7 +87,7 @@ repeats_front (x ∷ xs) ys r = or_both (is_among xs x) (repeats xs) (is_among (
 
 pub repeats_back : (xs ys : List (List ℕ)) → repeats ys ≡ true → repeats (xs ++ ys) ≡ true
 repeats_back [] ys r = r
-repeats_back (x ∷ xs) ys r = or_last (is_among (xs ++ ys) x) (repeats (xs ++ ys)) (repeats_back xs ys r)
+repeats_back (x ∷ xs) ys r = or_right (is_among (xs ++ ys) x) (repeats (xs ++ ys)) (repeats_back xs ys r)
 
 map_join : {X : Type 0} (f : X → List ℕ) (xs ys : List X) → map f (xs ++ ys) ≡ map f xs ++ map f ys
 map_join f [] ys = refl
@@ -115,11 +107,11 @@ again_at {X} f old xs i x lt is there =
 among_at : (x : List ℕ) (xs : List (List ℕ)) (j : ℕ) → j < length xs → x ≡ get_or xs j [] → is_among xs x ≡ true
 among_at x [] j lt e = absurd (omega (arith, lt))
 among_at x (y ∷ ys) zero lt e = rw ((bytes_eq-Decides x y).1 e) refl
-among_at x (y ∷ ys) (suc j) lt e = or_last (bytes_eq x y) (is_among ys x) (among_at x ys j (omega (arith, lt)) e)
+among_at x (y ∷ ys) (suc j) lt e = or_right (bytes_eq x y) (is_among ys x) (among_at x ys j (omega (arith, lt)) e)
 
 pub one_place : (xs : List (List ℕ)) (i j : ℕ) → repeats xs ≡ false → i < length xs → j < length xs → get_or xs i [] ≡ get_or xs j [] → i ≡ j
 one_place [] i j apart li lj e = absurd (omega (arith, li))
 one_place (x ∷ xs) zero zero apart li lj e = refl
-one_place (x ∷ xs) zero (suc j) apart li lj e = absurd (false≢true (sym (or_none (is_among xs x) (repeats xs) apart).0 ∙ among_at x xs j (omega (arith, lj)) e))
-one_place (x ∷ xs) (suc i) zero apart li lj e = absurd (false≢true (sym (or_none (is_among xs x) (repeats xs) apart).0 ∙ among_at x xs i (omega (arith, li)) (sym e)))
-one_place (x ∷ xs) (suc i) (suc j) apart li lj e = ap suc (one_place xs i j (or_none (is_among xs x) (repeats xs) apart).1 (omega (arith, li)) (omega (arith, lj)) e)
+one_place (x ∷ xs) zero (suc j) apart li lj e = absurd (false≢true (sym (or_parts (is_among xs x) (repeats xs) apart).0 ∙ among_at x xs j (omega (arith, lj)) e))
+one_place (x ∷ xs) (suc i) zero apart li lj e = absurd (false≢true (sym (or_parts (is_among xs x) (repeats xs) apart).0 ∙ among_at x xs i (omega (arith, li)) (sym e)))
+one_place (x ∷ xs) (suc i) (suc j) apart li lj e = ap suc (one_place xs i j (or_parts (is_among xs x) (repeats xs) apart).1 (omega (arith, li)) (omega (arith, lj)) e)

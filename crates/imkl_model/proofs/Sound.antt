@@ -1,7 +1,7 @@
 -- A class model that was numbered and checked keeps what a class model keeps.
 use Rattle.std.proofs.Common.{◌≡◌, ℕ, zero, suc, ◌+◌, ◌<◌, ◌≤◌, ◌&&◌, not, Bool, true, false, List, [], ◌∷◌, length, get_or, map, eqb, leb, Option, Some, Ok, All, IfSome, refl, sym, ap, ◌∙◌, subst, arith, inl, inr, nat_le, nat_lt, if◌then◌else◌}
 use Rattle.std.specs.List.{list_all, list_any}
-use Rattle.std.proofs.lemmas.Bool.{false≢true}
+use Rattle.std.proofs.lemmas.Bool.{false≢true, and_parts, or_parts}
 use Rattle.std.proofs.lemmas.Bool.Decides.{eqb_tells, leb_tells}
 use Rattle.std.proofs.lemmas.List.{length-map, get_or-map}
 use Rattle.std.proofs.lemmas.List.Sums.{AllPass-from_list_all}
@@ -29,14 +29,10 @@ use Rattle.imkl_model.proofs.Steps.{okay, ok_is, both_steps, each_length, each_a
 use Rattle.imkl_model.proofs.Parts.{differs, classes_differ, enumerations_differ, number_is, class_names_kept, supers_within, enumeration_names_kept}
 use Rattle.imkl_model.proofs.FeatureParts.{IsFrom, feature_is, attribute_is, source_is, opposite_is, class_within, enumeration_within}
 use Rattle.imkl_model.proofs.Ends.{no_written, at, PairAt, paired, IsUniqueEnd, all_unique, IsSmall, all_small}
-use Rattle.imkl_model.proofs.Repeated.{one_place, or_none}
+use Rattle.imkl_model.proofs.Repeated.{one_place}
 use Rattle.imkl_model.proofs.Warshall.{in_range, conforms-decides}
 use Rattle.imkl_model.proofs.ClashLaws.{clash_found, joined, unequal}
 use Rattle.std.proofs.lemmas.Slice.Eq.{bytes_eq-Decides}
-
-and_both : (a b : Bool) → (a && b) ≡ true → (a ≡ true) × (b ≡ true)
-and_both true b e = (refl, e)
-and_both false b e = absurd (false≢true e)
 
 le_of : (a b : ℕ) → leb a b ≡ true → a ≤ b
 le_of a b e = elim (leb_tells a b) [ inl h ↦ h.1 | inr h ↦ absurd (false≢true (sym h.0 ∙ e)) ]
@@ -75,9 +71,9 @@ few w e =
     let a = nat_le (length w.classes) 4096 in
     let b = nat_le (length w.enumerations) 4096 in
     let l = list_all (λ (e : WrittenEnumeration). nat_le (length e.literals) 4096) w.enumerations in
-    let p = and_both (a && b && l) (nat_le (length (written_features w)) 65535) e in
-    let q = and_both (a && b) l p.0 in
-    let r = and_both a b q.0 in
+    let p = and_parts (a && b && l) (nat_le (length (written_features w)) 65535) e in
+    let q = and_parts (a && b) l p.0 in
+    let r = and_parts a b q.0 in
     record {
       classes = le_of (length w.classes) 4096 r.0;
       enumerations = le_of (length w.enumerations) 4096 r.1;
@@ -88,11 +84,11 @@ few w e =
 -- each enumeration's literals
 of_each : (p : WrittenEnumeration → Bool) (es : List WrittenEnumeration) → list_all p es ≡ true → AllOf (λ e. p e ≡ true) es
 of_each p [] h = tt
-of_each p (e ∷ es) h = let g = and_both (p e) (list_all p es) h in (g.0, of_each p es g.1)
+of_each p (e ∷ es) h = let g = and_parts (p e) (list_all p es) h in (g.0, of_each p es g.1)
 
 of_none : (p : WrittenEnumeration → Bool) (es : List WrittenEnumeration) → list_any p es ≡ false → AllOf (λ e. p e ≡ false) es
 of_none p [] h = tt
-of_none p (e ∷ es) h = let g = or_none (p e) (list_any p es) h in (g.0, of_none p es g.1)
+of_none p (e ∷ es) h = let g = or_parts (p e) (list_any p es) h in (g.0, of_none p es g.1)
 
 along : {X : Type 0} (P : X → Type 0) (xs ys : List X) → ys ≡ xs → AllOf P xs → All P ys
 along {X} P xs ys e h = subst (λ (zs : List X). All P zs) (sym e) (all_at P xs h)
@@ -234,7 +230,7 @@ module _ (w : Written) (m : Model) (limits : checks.is_within_limits w ≡ true)
 
   multiplicity : (lower : ℕ) (upper : Option ℕ) (u : ℕ) → checks.is_multiplicity lower upper ≡ true → upper ≡ Some u → (0 < u) × (lower ≤ u)
   multiplicity lower upper u e h =
-      let p = and_both (nat_le lower u) (nat_lt 0 u) (rw h at e) in
+      let p = and_parts (nat_le lower u) (nat_lt 0 u) (rw h at e) in
       (le_of 1 u p.1, le_of lower u p.0)
 
   small_upper : (upper : Option ℕ) (u : ℕ) → IfSome upper (λ x. x ≤ 1000000) → upper ≡ Some u → u ≤ 1000000

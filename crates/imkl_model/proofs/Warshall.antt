@@ -1,31 +1,11 @@
 -- The test `via` decides chains of superclass steps.
-use Rattle.std.proofs.Common.{◌≡◌, ℕ, suc, zero, ◌<◌, ◌≤◌, ◌||◌, ◌&&◌, Bool, true, false, eqb, List, [], ◌∷◌, length, get_or, refl, sym, ap, ◌∙◌, subst, arith, Decides, ◌⊎◌, inl, inr}
-use Rattle.std.proofs.lemmas.Bool.{false≢true}
+use Rattle.std.proofs.Common.{◌≡◌, ℕ, suc, zero, ◌<◌, ◌≤◌, ◌&&◌, true, eqb, List, [], ◌∷◌, length, get_or, refl, sym, ap, ◌∙◌, subst, arith, Decides, ◌⊎◌, inl, inr}
+use Rattle.std.proofs.lemmas.Bool.{false≢true, and_from, and_parts, or_cases, or_left, or_right}
 use Rattle.std.proofs.lemmas.Bool.Decides.{Decides-eqb, Decides-or, Decides-like, leb_tells}
 use Rattle.std.specs.List.{list_any}
 use Rattle.imkl_model.specs.Chains.{is_super, Chain, Reaches, Conforms, via, reaches, conforms}
 
 -- ---- tests
-
-and_both : (a b : Bool) → (a && b) ≡ true → (a ≡ true) × (b ≡ true)
-and_both true b e = (refl, e)
-and_both false b e = absurd (false≢true e)
-
-or_either : (a b : Bool) → (a || b) ≡ true → (a ≡ true) ⊎ (b ≡ true)
-or_either true b e = inl refl
-or_either false b e = inr e
-
-or_left : (a b : Bool) → a ≡ true → (a || b) ≡ true
-or_left true b e = refl
-or_left false b e = absurd (false≢true e)
-
-or_right : (a b : Bool) → b ≡ true → (a || b) ≡ true
-or_right true b e = refl
-or_right false b e = e
-
-both : (a b : Bool) → a ≡ true → b ≡ true → (a && b) ≡ true
-both true b e f = f
-both false b e f = absurd (false≢true e)
 
 lt_or_le : (a b : ℕ) → (a < b) ⊎ (b ≤ a)
 lt_or_le a b = elim (leb_tells b a) [ inl h ↦ inr h.1 | inr h ↦ inl h.1 ]
@@ -54,17 +34,17 @@ step supers (suc k) c e d s lt v =
     let direct = via supers k c d in
     let round = via supers k c k && via supers k k d in
     elim (lt_or_le e k) [
-      | inl less ↦ elim (or_either (via supers k e d) (via supers k e k && via supers k k d) v) [
+      | inl less ↦ elim (or_cases (via supers k e d) (via supers k e k && via supers k k d) v) [
         | inl a ↦ or_left direct round (step supers k c e d s less a)
-        | inr b ↦ let p = and_both (via supers k e k) (via supers k k d) b in or_right direct round (both _ _ (step supers k c e k s less p.0) p.1)
+        | inr b ↦ let p = and_parts (via supers k e k) (via supers k k d) b in or_right direct round (and_from _ _ (step supers k c e k s less p.0) p.1)
       ]
       | inr more ↦
           let same : e ≡ k = omega arith in
           let here : via supers k c k ≡ true = base supers k c k (subst (λ (x : ℕ). is_super supers c x ≡ true) same s) in
           let there : via supers (suc k) k d ≡ true = subst (λ (x : ℕ). via supers (suc k) x d ≡ true) same v in
-          elim (or_either (via supers k k d) (via supers k k k && via supers k k d) there) [
-            | inl a ↦ or_right direct round (both _ _ here a)
-            | inr b ↦ or_right direct round (both _ _ here (and_both (via supers k k k) (via supers k k d) b).1)
+          elim (or_cases (via supers k k d) (via supers k k k && via supers k k d) there) [
+            | inl a ↦ or_right direct round (and_from _ _ here a)
+            | inr b ↦ or_right direct round (and_from _ _ here (and_parts (via supers k k k) (via supers k k d) b).1)
           ]
     ]
 
@@ -81,10 +61,10 @@ join supers (suc n) m c k d a b = let rest = join supers n m a.0 k d a.2 b in (s
 sound : (supers : List (List ℕ)) (k c d : ℕ) → via supers k c d ≡ true → Reaches supers c d
 sound supers zero c d h = (zero, (d, h, refl))
 sound supers (suc k) c d h =
-    elim (or_either (via supers k c d) (via supers k c k && via supers k k d) h) [
+    elim (or_cases (via supers k c d) (via supers k c k && via supers k k d) h) [
       | inl a ↦ sound supers k c d a
       | inr b ↦
-          let p = and_both (via supers k c k) (via supers k k d) b in
+          let p = and_parts (via supers k c k) (via supers k k d) b in
           let x = sound supers k c k p.0 in
           let y = sound supers k k d p.1 in
           join supers x.0 y.0 c k d x.1 y.1

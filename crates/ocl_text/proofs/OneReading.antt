@@ -1,7 +1,7 @@
 -- A text has at most one list of tokens, at most one fault, and never both.
-use Rattle.std.proofs.Common.{◌≡◌, ◌≢◌, ℕ, suc, ◌+◌, ◌<◌, Bool, true, false, ◌&&◌, ◌||◌, ◌==◌, List, [], ◌∷◌, drop, Option, Some, None, refl, sym, ap, ◌∙◌, subst, inl, inr, arith, lit<, add-zero, ◌^◌}
+use Rattle.std.proofs.Common.{◌≡◌, ◌≢◌, ℕ, suc, ◌+◌, ◌<◌, Bool, true, false, ◌&&◌, ◌==◌, List, [], ◌∷◌, drop, Option, Some, None, refl, sym, ap, ◌∙◌, subst, inl, inr, arith, lit<, add-zero, ◌^◌}
 use Rattle.std.specs.Prelude.{is_some}
-use Rattle.std.proofs.lemmas.Bool.{cases_eq, ne_eqb, eqb-true, lt-ltb, le-ltb}
+use Rattle.std.proofs.lemmas.Bool.{cases_eq, ne_eqb, eqb-true, lt-ltb, le-ltb, or_parts}
 use Rattle.std.proofs.lemmas.Bool.Decides.{nat_tests}
 use Rattle.std.specs.List.{take_while}
 use Rattle.std.specs.Char.{is_ascii_digit}
@@ -58,10 +58,6 @@ no_long_mark b (c ∷ text) h = elim (cases_eq b 58) [
   ]
 ]
 
-or_none : (a b : Bool) → (a || b) ≡ false → (a ≡ false) × (b ≡ false)
-or_none true b e = absurd (cc)
-or_none false b e = (refl, e)
-
 -- a byte that begins a mark begins nothing else
 record Others (b : ℕ) : Type 0 where
   white : is_white b ≡ false
@@ -83,7 +79,7 @@ others b k = record {
 
 front_mark : (b : ℕ) (text : List ℕ) → opens_comment b text ≡ false → Others b → front (b ∷ text) ≡ mark_by (mark_ahead b text) b
 unfolding front
-front_mark b text c o = let p = or_none (b == 45 && starts_with text 45) (b == 47 && starts_with text 42) c in rw (o.white, p.0, p.1, o.quote, o.digit, o.letter) refl
+front_mark b text c o = let p = or_parts (b == 45 && starts_with text 45) (b == 47 && starts_with text 42) c in rw (o.white, p.0, p.1, o.quote, o.digit, o.letter) refl
 
 long_is_mark : (b : ℕ) (text : List ℕ) (kind : TokenKind) → mark_ahead b text ≡ Some kind → mark_of_one b ≡ None → ⊥
 long_is_mark b text kind h n = let e = no_long_mark b text n in cc (h, e)
@@ -134,9 +130,9 @@ FaultAhead at text fault = (flaw : Flaw) × (n : ℕ) × (front text ≡ Fault f
 front_of_fault : {at : ℕ} {text : List ℕ} {fault : TextFault} → IsFault at text fault → FaultAhead at text fault
 unfolding front
 front_of_fault {at} (l.bad_character {b = b} {text = text} white none c) =
-    let p = or_none _ (is_some (mark_of_one b)) none in
-    let q = or_none _ (b == 39) p.0 in
-    let r = or_none (is_letter b) (is_ascii_digit b) q.0 in
+    let p = or_parts _ (is_some (mark_of_one b)) none in
+    let q = or_parts _ (b == 39) p.0 in
+    let r = or_parts (is_letter b) (is_ascii_digit b) q.0 in
     let no = none_of (mark_of_one b) p.1 in
     let o : Others b = record { white = white; digit = r.1; letter = r.0; quote = q.1 } in
     (w.BadCharacter, 0, front_mark b text c o ∙ ap (λ x. mark_by x b) (no_long_mark b text no) ∙ ap short_mark no, rw add-zero refl)
