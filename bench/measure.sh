@@ -31,5 +31,5 @@ PYTHON
 
 # The built program, which the launcher builds if need be; what is measured is the program alone.
 "$root/ocl_check" --help >/dev/null || fail "the program isn't built"
-program=$(echo "$root"/crates/ocl_check/out/kept/*/ocl_check)
+program=$(ls -1t "$root"/crates/ocl_check_main/out/kept/*/ocl_check | head -n 1)
 [ -x "$program" ] || fail "the built program isn't where the launcher keeps it: $program"

@@ -1,6 +1,6 @@
 pub mod Alls
-pub mod Eaches
-pub mod Runs
-pub mod Refusals
-pub mod Walks
+pub mod Describing
 pub mod Passed
+pub mod Refusals
+pub mod Runs
+pub mod Walks

@@ -14,8 +14,8 @@ use Rattle.imkl_model.specs.declared.feature.Role.{Role}
 use Rattle.imkl_model.specs.declared.feature.Role.TheVariants.{Attribute, SourceEnd, OppositeEnd}
 use Rattle.imkl_model.specs.ClassModel.{Model, feature_number, feature_at, is_named, belongs}
 use Rattle.imkl_model.specs.WellFormed.{IsClassModel}
-use Rattle.imkl_model.specs.Steps.{◌>>=◌, found}
-use Rattle.imkl_model.proofs.Places.{least_passes}
+use Rattle.ocl_base.specs.Steps.{◌>>=◌, found}
+use Rattle.ocl_base.proofs.ForAbove.{least_passes}
 use Rattle.imkl_population.specs.declared.fault.PopulationFault.{PopulationFault}
 use Rattle.imkl_population.specs.declared.object.Object.{Object}
 use Rattle.imkl_population.specs.declared.scalar.Scalar.{Scalar}
@@ -26,9 +26,8 @@ use Rattle.imkl_population.specs.Building.{unless, with_values, with_written}
 use Rattle.imkl_population.specs.Required.{is_on, is_required, is_one_of, with_required}
 use Rattle.imkl_delivery.specs.declared.fault.DeliveryFault.{DeliveryFault}
 use Rattle.imkl_delivery.specs.declared.fault.DeliveryFault.TheVariants.{UnknownFeature}
-use Rattle.imkl_delivery.specs.Steps.{at}
-use Rattle.imkl_delivery.specs.Document.{Written}
-use Rattle.imkl_delivery.specs.Loading.{object_at, are_features, left_out, values_put, targets_put, put_by, put, featured}
+use Rattle.imkl_delivery.specs.Steps.{at_object}
+use Rattle.imkl_delivery.specs.Loading.{are_features, left_out, put_values, put_targets, put_by, put_member, put_members}
 use Rattle.imkl_delivery.specs.Named.{named_features, written_requirements}
 use Rattle.imkl_delivery.proofs.Alls.{parts, both_there}
 use Rattle.imkl_delivery.proofs.Refusals.{names_there}
@@ -69,29 +68,29 @@ keeps_found : {A : Type 0} (o : ℕ) (p : Population) (a : Option A) (e : Delive
 keeps_found o p None e f h = keeps_err o p e
 keeps_found o p (Some x) e f h = h x
 
-keeps_unless : (o f : ℕ) (p : Population) (vs : List Scalar) (e : Option PopulationFault) → Keeps o p (at o (unless e (with_values p o f vs)))
+keeps_unless : (o f : ℕ) (p : Population) (vs : List Scalar) (e : Option PopulationFault) → Keeps o p (at_object o (unless e (with_values p o f vs)))
 keeps_unless o f p vs None = keeps_ok o p (with_values p o f vs) (with_values_same p o f vs)
 keeps_unless o f p vs (Some e) = keeps_err o p _
 
-keeps-values_put : (o f : ℕ) (ds : List Data) (p : Population) → Keeps o p (values_put o f ds p)
-unfolding values_put
-keeps-values_put o f ds p = search (keeps_found, keeps_unless)
+keeps-put_values : (o f : ℕ) (ds : List Data) (p : Population) → Keeps o p (put_values o f ds p)
+unfolding put_values
+keeps-put_values o f ds p = search (keeps_found, keeps_unless)
 
-keeps-targets_put : (o f : ℕ) (ds : List Data) (p : Population) → Keeps o p (targets_put o f ds p)
-unfolding targets_put
-keeps-targets_put o f ds p = search (keeps_found, keeps_unless)
+keeps-put_targets : (o f : ℕ) (ds : List Data) (p : Population) → Keeps o p (put_targets o f ds p)
+unfolding put_targets
+keeps-put_targets o f ds p = search (keeps_found, keeps_unless)
 
 keeps-left_out : (o f : ℕ) (i : FeatureInfo) (p : Population) → Keeps o p (left_out o f i p)
 keeps-left_out o f i p = search (keeps_either, keeps_err, keeps_ok, same)
 
 keeps-put_by : (role : Role) (o f : ℕ) (v : Option Data) (p : Population) → Keeps o p (put_by role o f v p)
-keeps-put_by Attribute o f v p = search (keeps_either, keeps-left_out, keeps-values_put)
-keeps-put_by (SourceEnd g) o f v p = search (keeps_either, keeps-left_out, keeps-targets_put)
+keeps-put_by Attribute o f v p = search (keeps_either, keeps-left_out, keeps-put_values)
+keeps-put_by (SourceEnd g) o f v p = search (keeps_either, keeps-left_out, keeps-put_targets)
 keeps-put_by (OppositeEnd g) o f v p = search (keeps_either, keeps_err, keeps_ok, same)
 
-keeps-put : (ws : List Written) (o f : ℕ) (p : Population) → Keeps o p (put ws o f p)
-unfolding put
-keeps-put ws o f p = search (keeps_either, keeps-put_by, keeps_ok, same)
+keeps-put_member : (ms : Members) (o f : ℕ) (p : Population) → Keeps o p (put_member o ms f p)
+unfolding put_member
+keeps-put_member ms o f p = search (keeps_either, keeps-put_by, keeps_ok, same)
 
 -- ---- a feature that no member names
 
@@ -135,15 +134,15 @@ where_belongs : (b : Bool) (r : Result Population DeliveryFault) (p : Population
 where_belongs true r p h = h refl
 where_belongs false r p h = refl
 
-put_passed : (ws : List Written) (o f : ℕ) (p : Population) (fs : List ℕ) → IsPassed p.model (class_of p o) (object_at ws o).features fs f → put ws o f p ≡ Ok p
-unfolding put
-put_passed ws o f p fs h =
+put_passed : (ms : Members) (o f : ℕ) (p : Population) (fs : List ℕ) → IsPassed p.model (class_of p o) ms fs f → put_member o ms f p ≡ Ok p
+unfolding put_member
+put_passed ms o f p fs h =
     let m = p.model in
     let c = class_of p o in
     let unasked = or_parts (is_required (written_requirements m) c f) (is_one_of fs f) h.unasked in
     where_belongs (belongs m c f) _ p
     (λ here.
-    let absent = no_member m c f (object_at ws o).features fs h.formed h.below here h.named unasked.1 in
+    let absent = no_member m c f ms fs h.formed h.below here h.named unasked.1 in
     let few = rw here at unasked.0 in
     rw absent (nothing_there (feature_at m f).role o f p few))
 
@@ -154,24 +153,23 @@ named_is m c no_members = refl
 named_is m c (member name d ms) = both_there (feature_number m c name) (named_features m c ms) ∙ ap (λ b. is_some (feature_number m c name) && b) (named_is m c ms)
 
 -- what is put there is what is put at all
-pub walk-featured : (ws : List Written) (o : ℕ) (p : Population) (fs : List ℕ) → IsClassModel p.model → named_features p.model (class_of p o) (object_at ws o).features ≡ Some fs
-    → walk (put ws o) (with_required (written_requirements p.model) (class_of p o) fs) p ≡ featured ws o p
-walk-featured ws o p fs formed named =
+pub walk-put_members : (ms : Members) (o : ℕ) (p : Population) (fs : List ℕ) → IsClassModel p.model → named_features p.model (class_of p o) ms ≡ Some fs
+    → walk (put_member o ms) (with_required (written_requirements p.model) (class_of p o) fs) p ≡ put_members o ms p
+walk-put_members ms o p fs formed named =
     let m = p.model in
     let c = class_of p o in
-    let ms = (object_at ws o).features in
     let names : are_features m c ms ≡ true = sym (named_is m c ms) ∙ ap is_some named in
-    let walked = walk-places (put ws o) (IsSameAt o p)
-    (λ k t u i is. let j = keeps-put ws o k t u is in record { model = j.model ∙ i.model; class = j.class ∙ i.class })
+    let walked = walk-places (put_member o ms) (IsSameAt o p)
+    (λ k t u i is. let j = keeps-put_member ms o k t u is in record { model = j.model ∙ i.model; class = j.class ∙ i.class })
     (λ f. is_required (written_requirements m) c f || is_one_of fs f) (length m.features) p
     (λ k t lt no i.
     let h : IsPassed m c ms fs k = record { formed = formed; below = lt; named = named; unasked = no } in
-    put_passed ws o k t fs (subst (λ (d : ℕ). IsPassed t.model d ms fs k) (sym i.class) (subst (λ (n : Model). IsPassed n c ms fs k) (sym i.model) h)))
+    put_passed ms o k t fs (subst (λ (d : ℕ). IsPassed t.model d ms fs k) (sym i.class) (subst (λ (n : Model). IsPassed n c ms fs k) (sym i.model) h)))
     (same o p) in
-    walked ∙ names_there ws o p names
+    walked ∙ names_there ms o p names
 
-pub unnamed-featured : (ws : List Written) (o : ℕ) (p : Population) → named_features p.model (class_of p o) (object_at ws o).features ≡ None → featured ws o p ≡ Err (UnknownFeature o)
-unfolding featured
-unnamed-featured ws o p none =
-    let names : are_features p.model (class_of p o) (object_at ws o).features ≡ false = sym (named_is p.model (class_of p o) (object_at ws o).features) ∙ ap is_some none in
+pub unnamed-put_members : (ms : Members) (o : ℕ) (p : Population) → named_features p.model (class_of p o) ms ≡ None → put_members o ms p ≡ Err (UnknownFeature o)
+unfolding put_members
+unnamed-put_members ms o p none =
+    let names : are_features p.model (class_of p o) ms ≡ false = sym (named_is p.model (class_of p o) ms) ∙ ap is_some none in
     rw names refl

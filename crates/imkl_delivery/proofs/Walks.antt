@@ -1,11 +1,12 @@
 -- Steps for each number of a list, and when those for some of the numbers below a bound are those for all.
 use Rattle.std.proofs.Common.{◌≡◌, ◌∙◌, ℕ, zero, suc, ◌+◌, ◌<◌, ◌≤◌, Bool, true, false, List, [], ◌∷◌, ◌++◌, length, drop, get_or, Result, Ok, Err, refl, sym, subst, add-one, drop-cons, arith, if◌then◌else◌}
 use Rattle.std.proofs.Math.ListN.{drop_of_length-le}
-use Rattle.imkl_model.specs.Steps.{◌>>=◌}
-use Rattle.imkl_population.specs.Numbers.{places}
+use Rattle.ocl_base.specs.Steps.{◌>>=◌, Fails}
 use Rattle.imkl_delivery.specs.declared.fault.DeliveryFault.{DeliveryFault}
-use Rattle.imkl_delivery.specs.Steps.{steps, Fails}
-use Rattle.imkl_delivery.proofs.Eaches.{fails_as, fails_along}
+use Rattle.ocl_base.specs.Numbers.{places}
+use Rattle.imkl_delivery.specs.Faults.{delivery_fault}
+use Rattle.imkl_delivery.specs.Steps.{steps}
+use Rattle.ocl_base.proofs.ForAbove.{fails_whole}
 
 abbrev pub walk : {S : Type 0} → (ℕ → S → Result S DeliveryFault) → List ℕ → S → Result S DeliveryFault
 walk step [] s = Ok s
@@ -24,9 +25,9 @@ walks_on step ks i k t u whole lt is now so_far =
 
 -- the fault of a step is the fault of the whole
 pub walk_stops : {S : Type 0} (step : ℕ → S → Result S DeliveryFault) (e : DeliveryFault) (ks : List ℕ) (i k : ℕ) (t : S) (whole : Result S DeliveryFault)
-    → i < length ks → k ≡ get_or ks i k → Fails e (step k t) → walk step (drop i ks) t ≡ whole → Fails e whole
+    → i < length ks → k ≡ get_or ks i k → Fails delivery_fault e (step k t) → walk step (drop i ks) t ≡ whole → Fails delivery_fault e whole
 walk_stops step e ks i k t whole lt is failed so_far =
-    fails_along e _ whole (sym (rest_is step ks i k t lt is) ∙ so_far) (fails_as e (step k t) (λ u. walk step (drop (i + 1) ks) u) failed)
+    fails_whole delivery_fault e (step k t) (λ u. walk step (drop (i + 1) ks) u) whole (sym (rest_is step ks i k t lt is) ∙ so_far) failed
 
 pub walk_ends : {S : Type 0} (step : ℕ → S → Result S DeliveryFault) (ks : List ℕ) (i : ℕ) (t : S) (whole : Result S DeliveryFault)
     → length ks ≤ i → walk step (drop i ks) t ≡ whole → whole ≡ Ok t

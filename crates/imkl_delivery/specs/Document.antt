@@ -2,8 +2,8 @@
 use Rattle.std.specs.Prelude.{ℕ, List, Result, Ok, codes}
 use Rattle.serde_json.specs.Data.{Data, Members}
 use Rattle.serde_json.specs.Find.{get, as_str, as_object}
-use Rattle.imkl_model.specs.Trees.{list_of, record_of}
-use Rattle.imkl_model.specs.Steps.{◌>>=◌, found, each}
+use Rattle.ocl_base.specs.Steps.{◌>>=◌, found, each}
+use Rattle.imkl_model.specs.Json.{list_from, record_from}
 use Rattle.imkl_delivery.specs.declared.fault.DeliveryFault.{DeliveryFault}
 use Rattle.imkl_delivery.specs.declared.fault.DeliveryFault.TheVariants.{Shape}
 
@@ -15,39 +15,25 @@ pub record Written : Type 0 where
 
 pub record Document : Type 0 where
   pub model : List ℕ
-  pub objects : List Written
+  pub entries : List Written
 
--- an object of n members
-unfoldable pub record_at : ℕ → Data → Result Members DeliveryFault
-record_at n d = found (record_of n d) Shape
-
-abbrev pub text_at : List ℕ → Data → Result (List ℕ) DeliveryFault
-text_at name d = do
-  v ← found (get name d) Shape
-  found (as_str v) Shape
-
-abbrev pub members_at : List ℕ → Data → Result Members DeliveryFault
-members_at name d = do
-  v ← found (get name d) Shape
-  found (as_object v) Shape
-
-unfoldable pub list_at : List ℕ → Data → Result (List Data) DeliveryFault
-list_at name d = do
-  v ← found (get name d) Shape
-  found (list_of v) Shape
-
-unfoldable pub object_at : Data → Result Written DeliveryFault
-object_at d = do
-  _ ← record_at 3 d
-  id ← text_at (codes "id") d
-  class ← text_at (codes "class") d
-  features ← members_at (codes "features") d
+unfoldable pub entry_from : Data → Result Written DeliveryFault
+entry_from d = do
+  _ ← found (record_from 3 d) Shape
+  i ← found (get (codes "id") d) Shape
+  id ← found (as_str i) Shape
+  c ← found (get (codes "class") d) Shape
+  class ← found (as_str c) Shape
+  f ← found (get (codes "features") d) Shape
+  features ← found (as_object f) Shape
   Ok (record { id = id; class = class; features = features })
 
-unfoldable pub document_at : Data → Result Document DeliveryFault
-document_at d = do
-  _ ← record_at 2 d
-  model ← text_at (codes "model") d
-  ds ← list_at (codes "objects") d
-  objects ← each object_at ds
-  Ok (record { model = model; objects = objects })
+unfoldable pub document_from : Data → Result Document DeliveryFault
+document_from d = do
+  _ ← found (record_from 2 d) Shape
+  m ← found (get (codes "model") d) Shape
+  model ← found (as_str m) Shape
+  os ← found (get (codes "objects") d) Shape
+  ds ← found (list_from os) Shape
+  entries ← each entry_from ds
+  Ok (record { model = model; entries = entries })

@@ -1,9 +1,12 @@
-pub mod FaultNumber
+-- Definitions: what contracts mean.
+pub mod Faults
 pub mod Steps
 pub mod Document
 pub mod Scalars
 pub mod Loading
-pub mod Named
 pub mod Description
+pub mod Described
+-- Bookkeeping: views, layouts, walks and tables that only proofs and private contracts use.
+pub mod Named
 pub mod Seen
 pub mod Targets

@@ -6,18 +6,18 @@ use Rattle.serde_json.specs.Find.{as_bool, as_number, as_i64, as_str}
 use Rattle.imkl_model.specs.declared.feature.ElementType.{ElementType}
 use Rattle.imkl_model.specs.declared.feature.ElementType.TheVariants as element
 use Rattle.imkl_model.specs.ClassModel.{Model, literal_number}
-use Rattle.imkl_model.specs.Trees.{items}
+use Rattle.imkl_model.specs.Json.{elements_of}
 use Rattle.imkl_population.specs.declared.scalar.Scalar.{Scalar}
 use Rattle.imkl_population.specs.declared.scalar.Scalar.TheVariants as scalar
 
 -- null is nothing, a list its elements, anything else a list of one
-abbrev pub listed : Data → List Data
-listed null = []
-listed (boolean b) = boolean b ∷ []
-listed (number n) = number n ∷ []
-listed (string s) = string s ∷ []
-listed (array ds) = items ds
-listed (object ms) = object ms ∷ []
+abbrev pub values_from : Data → List Data
+values_from null = []
+values_from (boolean b) = boolean b ∷ []
+values_from (number n) = number n ∷ []
+values_from (string s) = string s ∷ []
+values_from (array ds) = elements_of ds
+values_from (object ms) = object ms ∷ []
 
 -- no member, or null
 abbrev pub is_absent : Option Data → Bool
@@ -29,17 +29,18 @@ is_absent (Some (string s)) = false
 is_absent (Some (array ds)) = false
 is_absent (Some (object ms)) = false
 
-abbrev pub value_list : Option Data → List Data
-value_list None = []
-value_list (Some d) = listed d
+-- the values that a member writes: none where there is no member
+abbrev pub member_values : Option Data → List Data
+member_values None = []
+member_values (Some d) = values_from d
 
 -- a value of an attribute: true or false, a whole number of 64 bits, a text, or the name of a literal
-abbrev pub scalar_at : Model → ElementType → Data → Option Scalar
-scalar_at m element.Boolean d = option_map scalar.Bool (as_bool d)
-scalar_at m element.Integer d = option_map scalar.Int (option_and_then as_i64 (as_number d))
-scalar_at m element.String d = option_map (λ s. scalar.Text (chars s)) (as_str d)
-scalar_at m (element.Enumeration e) d = option_map (scalar.Literal e) (option_and_then (literal_number m e) (as_str d))
-scalar_at m (element.Class c) d = None
+abbrev pub scalar_from : Model → ElementType → Data → Option Scalar
+scalar_from m element.Boolean d = option_map scalar.Bool (as_bool d)
+scalar_from m element.Integer d = option_map scalar.Int (option_and_then as_i64 (as_number d))
+scalar_from m element.String d = option_map (λ s. scalar.Text (chars s)) (as_str d)
+scalar_from m (element.Enumeration e) d = option_map (scalar.Literal e) (option_and_then (literal_number m e) (as_str d))
+scalar_from m (element.Class c) d = None
 
 -- all of them, or none
 abbrev pub with_first : {A : Type 0} → Option A → Option (List A) → Option (List A)
@@ -47,6 +48,6 @@ with_first None xs = None
 with_first (Some x) None = None
 with_first (Some x) (Some xs) = Some (x ∷ xs)
 
-abbrev pub all_of : {X A : Type 0} → (X → Option A) → List X → Option (List A)
-all_of f [] = Some []
-all_of f (d ∷ ds) = with_first (f d) (all_of f ds)
+abbrev pub all_found : {X A : Type 0} → (X → Option A) → List X → Option (List A)
+all_found f [] = Some []
+all_found f (d ∷ ds) = with_first (f d) (all_found f ds)

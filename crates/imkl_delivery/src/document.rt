@@ -1,14 +1,19 @@
-//! The document of a delivery, as written.
+//! The document of a delivery, as written: one walk over its tree makes its entries.
 
-ghost use Rattle.std.specs.Prelude.{◌≡◌, map, IfOk};
+ghost use Rattle.std.specs.Prelude.{◌≡◌, map};
 ghost use Rattle.serde_json.specs.View.{view, members_view};
-ghost use Rattle.imkl_model.specs.Steps.{each};
-ghost use Rattle.imkl_delivery.specs.Steps.{Gives};
-ghost use Rattle.imkl_delivery.specs.Document.{record_at, text_at, members_at, list_at, object_at, document_at};
-ghost use Rattle.imkl_delivery.specs.Seen.{written_of, all_written, document_of, WritesAll};
+ghost use Rattle.serde_json.specs.Find.{get, as_str, as_object};
+ghost use Rattle.ocl_base.specs.Steps.{Gives, found, each};
+ghost use Rattle.imkl_model.specs.Json.{record_from, list_from};
+ghost use Rattle.imkl_delivery.specs.declared.fault.DeliveryFault.TheVariants.{Shape};
+ghost use Rattle.imkl_delivery.specs.Faults.{delivery_fault};
+ghost use Rattle.imkl_delivery.specs.Document.{entry_from, document_from};
+ghost use Rattle.imkl_delivery.specs.Seen.{written_of, all_written, document_of};
 
 use crate::fault::DeliveryFault;
+use imkl_model::json::{list_of, record_of};
 use serde_json::{Map, Value};
+use std::alloc::Global;
 
 /// An object of a document: its id, the name of its class, and the members of its features.
 #[derive(Clone, Copy, Debug, Drop)]
@@ -18,57 +23,71 @@ pub struct Entry<'v> {
     pub features: &'v Map<String, Value>,
 }
 
-/// A document: the name of its class model, and its objects, each of the shape of one.
-#[derive(Clone, Copy, Drop)]
+/// A document: the name of its class model, and its objects.
+#[derive(Drop)]
 pub struct Document<'v> {
     pub model: &'v str,
-    pub objects: &'v [Value],
+    pub entries: Vec<Entry<'v>>,
 }
 
-/// An object with just so many members.
-#[tactic(auto, using(imkl_model::proofs::Trees::trees), unfolding(crate::specs::Document::record_at))]
-fn record_of(value: &Value, members: usize) -> Result<&Map<String, Value>, DeliveryFault>
-    ensures { Gives (λ ms. members_view ms.now.entries) result (record_at members (view value.now)) }
+/// An object of so many members.
+fn record(value: &Value, members: usize) -> Result<&Map<String, Value>, DeliveryFault>
+    ensures { Gives delivery_fault (λ ms. members_view ms.now.entries) result
+        (found (record_from members (view value.now)) Shape) }
 {
-    match value.as_object() {
-        Some(map) if map.len() == members => Ok(map),
-        _ => Err(DeliveryFault::Shape),
-    }
-}
-
-fn text<'v>(value: &'v Value, name: &str) -> Result<&'v str, DeliveryFault>
-    ensures { Gives (λ s. s.now) result (text_at name.now (view value.now)) }
-{
-    let member = value.get(name).ok_or(DeliveryFault::Shape)?;
-    member.as_str().ok_or(DeliveryFault::Shape)
-}
-
-fn members<'v>(value: &'v Value, name: &str) -> Result<&'v Map<String, Value>, DeliveryFault>
-    ensures { Gives (λ ms. members_view ms.now.entries) result (members_at name.now (view value.now)) }
-{
-    let member = value.get(name).ok_or(DeliveryFault::Shape)?;
-    member.as_object().ok_or(DeliveryFault::Shape)
-}
-
-#[tactic(auto, using(imkl_model::proofs::Trees::trees), unfolding(crate::specs::Document::list_at))]
-fn list<'v>(value: &'v Value, name: &str) -> Result<&'v [Value], DeliveryFault>
-    ensures { Gives (λ vs. map view vs.now) result (list_at name.now (view value.now)) }
-{
-    let member = value.get(name).ok_or(DeliveryFault::Shape)?;
-    match member.as_array() {
-        Some(values) => Ok(values.as_slice()),
+    match record_of(value, members) {
+        Some(map) => Ok(map),
         None => Err(DeliveryFault::Shape),
     }
 }
 
-#[tactic(auto, unfolding(crate::specs::Document::object_at))]
-pub(crate) fn entry_of(value: &Value) -> Result<Entry<'_>, DeliveryFault>
-    ensures { Gives written_of result (object_at (view value.now)) }
+fn member<'v>(value: &'v Value, name: &str) -> Result<&'v Value, DeliveryFault>
+    ensures { Gives delivery_fault (λ v. view v.now) result
+        (found (get name.now (view value.now)) Shape) }
 {
-    record_of(value, 3)?;
-    let id = text(value, "id")?;
-    let class = text(value, "class")?;
-    let features = members(value, "features")?;
+    match value.get(name) {
+        Some(member) => Ok(member),
+        None => Err(DeliveryFault::Shape),
+    }
+}
+
+fn text(value: &Value) -> Result<&str, DeliveryFault>
+    ensures { Gives delivery_fault (λ s. s.now) result (found (as_str (view value.now)) Shape) }
+{
+    match value.as_str() {
+        Some(text) => Ok(text),
+        None => Err(DeliveryFault::Shape),
+    }
+}
+
+fn members(value: &Value) -> Result<&Map<String, Value>, DeliveryFault>
+    ensures { Gives delivery_fault (λ ms. members_view ms.now.entries) result
+        (found (as_object (view value.now)) Shape) }
+{
+    match value.as_object() {
+        Some(map) => Ok(map),
+        None => Err(DeliveryFault::Shape),
+    }
+}
+
+fn list(value: &Value) -> Result<&[Value], DeliveryFault>
+    ensures { Gives delivery_fault (λ vs. map view vs.now) result
+        (found (list_from (view value.now)) Shape) }
+{
+    match list_of(value) {
+        Some(values) => Ok(values),
+        None => Err(DeliveryFault::Shape),
+    }
+}
+
+#[tactic(auto, unfolding(crate::specs::Document::entry_from))]
+fn entry_of(value: &Value) -> Result<Entry<'_>, DeliveryFault>
+    ensures { Gives delivery_fault written_of result (entry_from (view value.now)) }
+{
+    record(value, 3)?;
+    let id = text(member(value, "id")?)?;
+    let class = text(member(value, "class")?)?;
+    let features = members(member(value, "features")?)?;
     Ok(Entry {
         id,
         class,
@@ -76,25 +95,27 @@ pub(crate) fn entry_of(value: &Value) -> Result<Entry<'_>, DeliveryFault>
     })
 }
 
-/// Whether each value has the shape of an object of a document.
-fn are_entries(values: &[Value]) -> Result<(), DeliveryFault>
-    ensures { Gives (λ _. all_written (map view values.now)) result (each object_at (map view values.now)) }
+/// The objects that values write.
+fn entries_of(alloc: Global, values: &[Value]) -> Result<Vec<Entry<'_>>, DeliveryFault>
+    ensures { Gives delivery_fault (λ es. all_written es.items) result
+        (each entry_from (map view values.now)) }
 {
-    'values: for value in values {
-        let _ = entry_of(value)?;
+    let mut entries = Vec::with_capacity(alloc, values.len())?;
+    for value in values {
+        let entry = entry_of(value)?;
+        entries.push(entry)?;
     }
-    Ok(())
+    Ok(entries)
 }
 
 /// The document that a JSON tree writes.
-#[tactic(auto, unfolding(crate::specs::Document::document_at))]
-pub(crate) fn document_of(value: &Value) -> Result<Document<'_>, DeliveryFault>
-    ensures gives { Gives document_of result (document_at (view value.now)) }
-    ensures objects { IfOk result (λ d. WritesAll (document_of d).objects (map view d.objects.now)) }
+#[tactic(auto, unfolding(crate::specs::Document::document_from))]
+pub(crate) fn document_of(alloc: Global, value: &Value) -> Result<Document<'_>, DeliveryFault>
+    ensures { Gives delivery_fault document_of result (document_from (view value.now)) }
 {
-    record_of(value, 2)?;
-    let model = text(value, "model")?;
-    let objects = list(value, "objects")?;
-    are_entries(objects)?;
-    Ok(Document { model, objects })
+    record(value, 2)?;
+    let model = text(member(value, "model")?)?;
+    let objects = list(member(value, "objects")?)?;
+    let entries = entries_of(alloc, objects)?;
+    Ok(Document { model, entries })
 }

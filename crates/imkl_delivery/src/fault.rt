@@ -2,8 +2,9 @@
 
 ghost use Rattle.std.specs.Prelude.{◌≡◌};
 ghost use Rattle.imkl_delivery.specs.declared.fault.DeliveryFault.TheVariants.{OutOfMemory};
-ghost use Rattle.imkl_delivery.specs.FaultNumber.{fault_number};
+ghost use Rattle.imkl_delivery.specs.Faults.{delivery_fault_number, json_delivery_fault};
 
+use imkl_model::json::JsonFault;
 use imkl_population::PopulationFault;
 use std::alloc::{AllocError, AllocFailed};
 use thiserror::Error;
@@ -43,7 +44,7 @@ pub enum DeliveryFault {
     Population {
         /// The object's place.
         object: usize,
-        /// What is wrong with it; never want of memory.
+        /// What is wrong with it; never out of memory.
         fault: PopulationFault,
     },
     /// There is no memory for the population.
@@ -54,7 +55,7 @@ pub enum DeliveryFault {
 impl DeliveryFault {
     /// The fault's number in the documentation, 1 to 8.
     pub fn number(&self) -> u8
-        ensures { result ≡ fault_number self.now }
+        ensures { result ≡ delivery_fault_number self.now }
     {
         match self {
             DeliveryFault::NotJson => 1,
@@ -65,6 +66,17 @@ impl DeliveryFault {
             DeliveryFault::UnknownTarget { .. } => 6,
             DeliveryFault::Population { .. } => 7,
             DeliveryFault::OutOfMemory => 8,
+        }
+    }
+}
+
+impl From<JsonFault> for DeliveryFault {
+    ghost from_gives = { λ f e. e ≡ json_delivery_fault f };
+
+    fn from(fault: JsonFault) -> DeliveryFault {
+        match fault {
+            JsonFault::NotJson => DeliveryFault::NotJson,
+            JsonFault::OutOfMemory => DeliveryFault::OutOfMemory,
         }
     }
 }

@@ -7,22 +7,21 @@ ghost use Rattle.serde_json.specs.View.{view, members_view};
 ghost use Rattle.imkl_model.specs.ClassModel.{feature_at};
 ghost use Rattle.imkl_population.specs.Population.{Population};
 ghost use Rattle.imkl_population.specs.Building.{KeepsObjects};
-ghost use Rattle.imkl_delivery.specs.Steps.{Leaves, told};
-ghost use Rattle.imkl_delivery.specs.Document.{Written};
+ghost use Rattle.imkl_delivery.specs.Steps.{Leaves, placed_fault};
 ghost use Rattle.imkl_delivery.specs.Scalars.{is_absent};
-ghost use Rattle.imkl_delivery.specs.Loading.{object_at, values_put, targets_put, put_by, put, featured};
+ghost use Rattle.imkl_delivery.specs.Loading.{put_values, put_targets, put_by, put_member, put_members};
 ghost use Rattle.imkl_delivery.specs.Named.{named_features, written_requirements};
 
 use crate::fault::DeliveryFault;
-use crate::scalars::{Targets, listed, scalars_of, targets_of};
+use crate::scalars::{Targets, scalars_of, targets_of, values_of};
 use imkl_model::{ClassModel, ClassNo, FeatureInfo, FeatureNo, Role};
 use imkl_population::{ObjectNo, PopulationBuilder, PopulationFault, RequiredFeatures};
 use serde_json::{Map, Value};
 use std::alloc::{AllocError, Global};
 
 /// A fault of the population, at an object.
-pub(crate) fn told(object: usize, fault: PopulationFault) -> DeliveryFault
-    ensures { result ≡ told object fault }
+pub(crate) fn placed_fault(object: usize, fault: PopulationFault) -> DeliveryFault
+    ensures { result ≡ placed_fault object fault }
 {
     match fault {
         PopulationFault::OutOfMemory => DeliveryFault::OutOfMemory,
@@ -31,7 +30,7 @@ pub(crate) fn told(object: usize, fault: PopulationFault) -> DeliveryFault
 }
 
 /// Puts the values of an attribute.
-#[tactic(auto, unfolding(crate::specs::Loading::values_put))]
+#[tactic(auto, unfolding(crate::specs::Loading::put_values))]
 fn put_values(
     builder: &mut PopulationBuilder<'_>,
     alloc: Global,
@@ -41,23 +40,24 @@ fn put_values(
 ) -> Result<(), DeliveryFault>
     requires object { object < length builder.old.objects }
     requires feature { feature < length builder.old.model.features }
-    ensures leaves { Leaves result (values_put object feature (map view values.now) builder.old) builder.new }
+    ensures leaves { Leaves result (put_values object feature (map view values.now) builder.old)
+        builder.new }
     ensures kept { KeepsObjects builder.old builder.new }
 {
     let model = builder.model();
     model.well_formed();
     let info = model.feature_info(feature);
     let Some(scalars) = scalars_of(alloc, model, info, values)? else {
-        return Err(told(object.place(), PopulationFault::WrongKind));
+        return Err(placed_fault(object.index(), PopulationFault::WrongKind));
     };
     match builder.set_value(object, feature, scalars) {
         Ok(()) => Ok(()),
-        Err(fault) => Err(told(object.place(), fault)),
+        Err(fault) => Err(placed_fault(object.index(), fault)),
     }
 }
 
 /// Puts the targets of a source end.
-#[tactic(auto, unfolding(crate::specs::Loading::targets_put))]
+#[tactic(auto, unfolding(crate::specs::Loading::put_targets))]
 fn put_targets(
     builder: &mut PopulationBuilder<'_>,
     alloc: Global,
@@ -67,17 +67,18 @@ fn put_targets(
 ) -> Result<(), DeliveryFault>
     requires object { object < length builder.old.objects }
     requires feature { feature < length builder.old.model.features }
-    ensures leaves { Leaves result (targets_put object feature (map view values.now) builder.old) builder.new }
+    ensures leaves { Leaves result (put_targets object feature (map view values.now)
+        builder.old) builder.new }
     ensures kept { KeepsObjects builder.old builder.new }
 {
     match targets_of(alloc, builder, values)? {
-        Targets::NotTexts => Err(told(object.place(), PopulationFault::WrongKind)),
+        Targets::NotTexts => Err(placed_fault(object.index(), PopulationFault::WrongKind)),
         Targets::Unknown => Err(DeliveryFault::UnknownTarget {
-            object: object.place(),
+            object: object.index(),
         }),
         Targets::Found(targets) => match builder.link(object, feature, &targets) {
             Ok(()) => Ok(()),
-            Err(fault) => Err(told(object.place(), fault)),
+            Err(fault) => Err(placed_fault(object.index(), fault)),
         },
     }
 }
@@ -92,7 +93,8 @@ fn put_written(
 ) -> Result<(), DeliveryFault>
     requires object { object < length builder.old.objects }
     requires feature { feature < length builder.old.model.features }
-    ensures leaves { Leaves result (put_by (feature_at builder.old.model feature).role object feature (option_map (λ v. view v.now) value.entry) builder.old) builder.new }
+    ensures leaves { Leaves result (put_by (feature_at builder.old.model feature).role object
+        feature (option_map (λ v. view v.now) value.entry) builder.old) builder.new }
     ensures kept { KeepsObjects builder.old builder.new }
 {
     let info = builder.model().feature_info(feature);
@@ -101,25 +103,26 @@ fn put_written(
         _ => return left_out(object, feature, info),
     };
     match info.role {
-        Role::Attribute => put_values(builder, alloc, object, feature, listed(value)),
-        Role::SourceEnd { .. } => put_targets(builder, alloc, object, feature, listed(value)),
-        Role::OppositeEnd { .. } => Err(told(object.place(), PopulationFault::Derived)),
+        Role::Attribute => put_values(builder, alloc, object, feature, values_of(value)),
+        Role::SourceEnd { .. } => put_targets(builder, alloc, object, feature, values_of(value)),
+        Role::OppositeEnd { .. } => Err(placed_fault(object.index(), PopulationFault::Derived)),
     }
 }
 
 /// Nothing at a feature that needs values is too few; at an opposite end nothing is written.
 fn left_out(object: ObjectNo, feature: FeatureNo, info: &FeatureInfo) -> Result<(), DeliveryFault>
-    ensures { (p : Population) (v : Option Data) → feature_at p.model feature ≡ info.now → is_absent v ≡ true → Leaves result (put_by info.now.role object feature v p) p }
+    ensures { (p : Population) (v : Option Data) → feature_at p.model feature ≡ info.now →
+        is_absent v ≡ true → Leaves result (put_by info.now.role object feature v p) p }
 {
     if info.role.is_opposite() || info.lower == 0 {
         return Ok(());
     }
-    Err(told(object.place(), PopulationFault::TooFew { object, feature }))
+    Err(placed_fault(object.index(), PopulationFault::TooFew { object, feature }))
 }
 
 /// Puts what the members write at a feature, where it belongs to the object's class.
-#[tactic(auto, unfolding(crate::specs::Loading::put))]
-fn put_feature(
+#[tactic(auto, unfolding(crate::specs::Loading::put_member))]
+fn put_member(
     builder: &mut PopulationBuilder<'_>,
     alloc: Global,
     object: ObjectNo,
@@ -128,7 +131,8 @@ fn put_feature(
 ) -> Result<(), DeliveryFault>
     requires object { object < length builder.old.objects }
     requires feature { feature < length builder.old.model.features }
-    ensures leaves { (ws : List Written) → (object_at ws object).features ≡ members_view members.now.entries → Leaves result (put ws object feature builder.old) builder.new }
+    ensures leaves { Leaves result
+        (put_member object (members_view members.now.entries) feature builder.old) builder.new }
     ensures kept { KeepsObjects builder.old builder.new }
 {
     let model = builder.model();
@@ -141,7 +145,8 @@ fn put_feature(
 
 /// The value of a member.
 fn member<'v>(members: &'v Map<String, Value>, name: &str) -> Option<&'v Value>
-    ensures { option_map (λ v. view v.now) result ≡ get_member name.now (members_view members.now.entries) }
+    ensures { option_map (λ v. view v.now) result ≡
+        get_member name.now (members_view members.now.entries) }
 {
     members.get(name)
 }
@@ -154,11 +159,13 @@ fn named_features(
     members: &Map<String, Value>,
 ) -> Result<Option<Vec<FeatureNo>>, AllocError>
     requires { class < length model.now.classes }
-    ensures named { IfOk result (λ r. option_map (λ v. v.items) r ≡ named_features model.now class (members_view members.now.entries)) }
-    ensures in_range { IfOk result (λ r. IfSome r (λ v. All (λ f. f < length model.now.features) v.items)) }
+    ensures named { IfOk result (λ r. option_map (λ v. v.items) r ≡
+        named_features model.now class (members_view members.now.entries)) }
+    ensures in_range { IfOk result (λ r. IfSome r (λ v. All (λ f.
+        f < length model.now.features) v.items)) }
 {
     let mut features = Vec::with_capacity(alloc, members.len())?;
-    'members: for (name, _) in members {
+    for (name, _) in members {
         match model.feature(class, name.as_str()) {
             Some(feature) => features.push(feature)?,
             None => return Ok(None),
@@ -169,7 +176,7 @@ fn named_features(
 
 /// Puts what is written on an object, in the model's order of features. A feature that no member names and the class does
 /// not require is passed over, since there is nothing to put.
-pub(crate) fn put_features(
+pub(crate) fn put_members(
     builder: &mut PopulationBuilder<'_>,
     alloc: Global,
     object: ObjectNo,
@@ -178,7 +185,8 @@ pub(crate) fn put_features(
 ) -> Result<(), DeliveryFault>
     requires object { object < length builder.old.objects }
     requires required { required.old ≡ written_requirements builder.old.model }
-    ensures leaves { (ws : List Written) → (object_at ws object).features ≡ members_view members.now.entries → Leaves result (featured ws object builder.old) builder.new }
+    ensures leaves { Leaves result
+        (put_members object (members_view members.now.entries) builder.old) builder.new }
     ensures kept { KeepsObjects builder.old builder.new }
     ensures same { required.new ≡ required.old }
 {
@@ -187,12 +195,12 @@ pub(crate) fn put_features(
     let class = builder.class_of(object);
     let Some(named) = named_features(alloc, model, class, members)? else {
         return Err(DeliveryFault::UnknownFeature {
-            object: object.place(),
+            object: object.index(),
         });
     };
     let features = required.with_required(class, named)?;
-    'features: for feature in &features {
-        put_feature(builder, alloc, object, *feature, members)?;
+    for feature in &features {
+        put_member(builder, alloc, object, *feature, members)?;
     }
     Ok(())
 }

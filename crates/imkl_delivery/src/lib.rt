@@ -4,12 +4,9 @@
 mod document;
 mod fault;
 mod features;
+pub mod laws;
 mod loading;
 mod scalars;
-#[cfg(test)]
-mod tests;
 
-pub use document::{Document, Entry};
 pub use fault::DeliveryFault;
 pub use loading::load;
-pub use scalars::Targets;

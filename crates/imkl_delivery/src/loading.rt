@@ -1,67 +1,57 @@
 //! From bytes to a population.
 
-ghost use Rattle.std.specs.Prelude.{◌≡◌, ◌<◌, ◌≤◌, ◌+◌, List, map, length, OnOk, IfOk, IfErr};
+ghost use Rattle.std.specs.Prelude.{◌≡◌, ◌<◌, ◌≤◌, ◌+◌, length, OnOk, IfOk};
 ghost use Rattle.serde_json.specs.View.{view};
-ghost use Rattle.imkl_model.specs.Trees.{IsTree};
+ghost use Rattle.ocl_base.specs.Steps.{Gives};
 ghost use Rattle.imkl_population.specs.Building.{KeepsModel, KeepsObjects};
-ghost use Rattle.imkl_delivery.specs.Steps.{Gives, Leaves, steps, told};
-ghost use Rattle.imkl_delivery.specs.Document.{Written};
-ghost use Rattle.imkl_delivery.specs.Seen.{Writes, WritesAll};
-ghost use Rattle.imkl_delivery.specs.Loading.{named, featured, fault_place, loaded, describes_population};
+ghost use Rattle.imkl_delivery.specs.Faults.{delivery_fault};
+ghost use Rattle.imkl_delivery.specs.Steps.{Leaves, placed_fault};
+ghost use Rattle.imkl_delivery.specs.Seen.{written_of, all_written};
+ghost use Rattle.imkl_delivery.specs.Loading.{add_entry, add_entries, put_members, put_entries, fault_place, population_from, describes_population};
 ghost use Rattle.imkl_delivery.specs.Named.{written_requirements};
-ghost use Rattle.imkl_delivery.specs.Description.{Answers, IsRefusal};
+ghost use Rattle.imkl_delivery.specs.Description.{DeliveryAnswers};
 
-use crate::document::{document_of, entry_of};
+use crate::document::{Entry, document_of};
 use crate::fault::DeliveryFault;
-use crate::features::{put_features, told};
+use crate::features::{placed_fault, put_members};
 use imkl_model::ClassModel;
+use imkl_model::json::tree;
 use imkl_population::{
     ObjectNo, Population, PopulationBuilder, PopulationFault, RequiredFeatures, Side,
 };
 use serde_json::Value;
 use std::alloc::Global;
 
-/// The JSON tree of some bytes.
-fn tree(alloc: Global, bytes: &[u8]) -> Result<Value, DeliveryFault>
-    ensures tree { IfOk result (λ v. IsTree bytes.now (view v)) }
-    ensures fault { IfErr result (λ e. IsRefusal e bytes.now) }
-{
-    match Value::from_slice(alloc, bytes) {
-        Ok(value) => Ok(value),
-        Err(e) if e.is_memory() => Err(DeliveryFault::OutOfMemory),
-        Err(_) => Err(DeliveryFault::NotJson),
-    }
-}
-
 /// Adds an object with its class.
-#[tactic(auto, unfolding(crate::specs::Loading::named))]
+#[tactic(auto, unfolding(crate::specs::Loading::add_entry))]
 fn add(
     builder: &mut PopulationBuilder<'_>,
     place: usize,
-    value: &Value,
+    entry: &Entry<'_>,
 ) -> Result<(), DeliveryFault>
-    ensures leaves { (ws : List Written) → Writes ws place (view value.now) → Leaves result (named ws place builder.old) builder.new }
+    ensures leaves { Leaves result (add_entry place (written_of entry.now) builder.old)
+        builder.new }
     ensures count { OnOk result (length builder.new.objects ≡ length builder.old.objects + 1) }
     ensures model { KeepsModel builder.old builder.new }
 {
-    let entry = entry_of(value)?;
     let Some(class) = builder.model().class(entry.class) else {
         return Err(DeliveryFault::UnknownClass { object: place });
     };
     match builder.add_object(entry.id, class) {
         Ok(_) => Ok(()),
-        Err(fault) => Err(told(place, fault)),
+        Err(fault) => Err(placed_fault(place, fault)),
     }
 }
 
 /// Adds all objects, before anything is written on any.
-fn add_all(builder: &mut PopulationBuilder<'_>, values: &[Value]) -> Result<(), DeliveryFault>
-    ensures leaves { (ws : List Written) → WritesAll ws (map view values.now) → Leaves result (steps (named ws) (length ws) builder.old) builder.new }
-    ensures count { OnOk result (length builder.new.objects ≡ length builder.old.objects + length values.now) }
+fn add_all(builder: &mut PopulationBuilder<'_>, entries: &[Entry<'_>]) -> Result<(), DeliveryFault>
+    ensures leaves { Leaves result (add_entries (all_written entries.now) builder.old) builder.new }
+    ensures count { OnOk result
+        (length builder.new.objects ≡ length builder.old.objects + length entries.now) }
     ensures model { KeepsModel builder.old builder.new }
 {
-    'values: for place in 0..values.len() {
-        let added = add(builder, place, &values[place]);
+    for place in 0..entries.len() {
+        let added = add(builder, place, &entries[place]);
         if added.is_err() {
             return added;
         }
@@ -70,39 +60,39 @@ fn add_all(builder: &mut PopulationBuilder<'_>, values: &[Value]) -> Result<(), 
 }
 
 /// Writes on an object.
-fn write(
+fn put(
     builder: &mut PopulationBuilder<'_>,
     alloc: Global,
     object: ObjectNo,
-    value: &Value,
+    entry: &Entry<'_>,
     required: &mut RequiredFeatures<'_>,
 ) -> Result<(), DeliveryFault>
     requires object { object < length builder.old.objects }
     requires required { required.old ≡ written_requirements builder.old.model }
-    ensures leaves { (ws : List Written) → Writes ws object (view value.now) → Leaves result (featured ws object builder.old) builder.new }
+    ensures leaves { Leaves result
+        (put_members object (written_of entry.now).features builder.old) builder.new }
     ensures kept { KeepsObjects builder.old builder.new }
     ensures same { required.new ≡ required.old }
 {
-    let entry = entry_of(value)?;
-    put_features(builder, alloc, object, entry.features, required)
+    put_members(builder, alloc, object, entry.features, required)
 }
 
 /// Writes on all objects.
-fn write_all(
+fn put_all(
     builder: &mut PopulationBuilder<'_>,
     alloc: Global,
-    values: &[Value],
+    entries: &[Entry<'_>],
     required: &mut RequiredFeatures<'_>,
 ) -> Result<(), DeliveryFault>
-    requires objects { length values.now ≤ length builder.old.objects }
+    requires objects { length entries.now ≤ length builder.old.objects }
     requires required { required.old ≡ written_requirements builder.old.model }
-    ensures leaves { (ws : List Written) → WritesAll ws (map view values.now) → Leaves result (steps (featured ws) (length ws) builder.old) builder.new }
+    ensures leaves { Leaves result (put_entries (all_written entries.now) builder.old) builder.new }
     ensures kept { KeepsObjects builder.old builder.new }
     ensures same { required.new ≡ required.old }
 {
-    'values: for place in 0..values.len() {
+    for place in 0..entries.len() {
         let object = ObjectNo::new(place);
-        let written = write(builder, alloc, object, &values[place], required);
+        let written = put(builder, alloc, object, &entries[place], required);
         if written.is_err() {
             return written;
         }
@@ -112,30 +102,31 @@ fn write_all(
 
 /// A fault of the finished population, at its object.
 fn finished_fault(fault: PopulationFault) -> DeliveryFault
-    ensures { result ≡ told (fault_place fault) fault }
+    ensures { result ≡ placed_fault (fault_place fault) fault }
 {
     match fault {
         PopulationFault::TooFew { object, .. } | PopulationFault::TooMany { object, .. } => {
-            told(object.place(), fault)
+            placed_fault(object.index(), fault)
         }
-        _ => told(0, fault),
+        _ => placed_fault(0, fault),
     }
 }
 
-/// The population of objects as trees write them, or its first fault.
-#[tactic(auto, unfolding(crate::specs::Loading::loaded))]
+/// The population of the objects that entries write, or its first fault.
+#[tactic(auto, unfolding(crate::specs::Loading::population_from))]
 fn population_of<'m>(
     alloc: Global,
-    values: &[Value],
+    entries: &[Entry<'_>],
     model: &'m ClassModel,
 ) -> Result<Population<'m>, DeliveryFault>
-    ensures gives { (ws : List Written) → WritesAll ws (map view values.now) → Gives (λ p. p) result (loaded model.now ws) }
-    ensures model { IfOk result (λ p. p.model ≡ model.now) }
+    ensures gives { Gives delivery_fault (λ p. p.content) result
+        (population_from model.now (all_written entries.now)) }
+    ensures model { IfOk result (λ p. p.content.model ≡ model.now) }
 {
     let mut builder = PopulationBuilder::new(alloc, model);
-    add_all(&mut builder, values)?;
+    add_all(&mut builder, entries)?;
     let mut required = RequiredFeatures::new(alloc, model, Side::Written);
-    write_all(&mut builder, alloc, values, &mut required)?;
+    put_all(&mut builder, alloc, entries, &mut required)?;
     match builder.finish() {
         Ok(population) => Ok(population),
         Err(fault) => Err(finished_fault(fault)),
@@ -149,14 +140,15 @@ fn described_of<'m>(
     value: &Value,
     model: &'m ClassModel,
 ) -> Result<Population<'m>, DeliveryFault>
-    ensures gives { Gives (λ p. p) result (describes_population model.now (view value.now)) }
-    ensures model { IfOk result (λ p. p.model ≡ model.now) }
+    ensures gives { Gives delivery_fault (λ p. p.content) result
+        (describes_population model.now (view value.now)) }
+    ensures model { IfOk result (λ p. p.content.model ≡ model.now) }
 {
-    let document = document_of(value)?;
+    let document = document_of(alloc, value)?;
     if document.model != model.name() {
         return Err(DeliveryFault::OtherModel);
     }
-    population_of(alloc, document.objects, model)
+    population_of(alloc, &document.entries, model)
 }
 
 /// The population that a delivery's bytes describe, or their first fault.
@@ -165,8 +157,8 @@ pub fn load<'m>(
     bytes: &[u8],
     model: &'m ClassModel,
 ) -> Result<Population<'m>, DeliveryFault>
-    ensures model { IfOk result (λ p. p.model ≡ model.now) }
-    ensures exact { Answers model.now bytes.now result }
+    ensures model { IfOk result (λ p. p.content.model ≡ model.now) }
+    ensures exact { DeliveryAnswers model.now bytes.now result }
 {
     let value = tree(alloc, bytes)?;
     described_of(alloc, &value, model)

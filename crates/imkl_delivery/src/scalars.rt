@@ -5,8 +5,8 @@ ghost use Rattle.std.specs.List.{list_all};
 ghost use Rattle.serde_json.specs.View.{view};
 ghost use Rattle.serde_json.specs.Find.{as_str};
 ghost use Rattle.imkl_model.specs.ClassModel.{literal_number};
-ghost use Rattle.imkl_population.specs.Population.{object_of};
-ghost use Rattle.imkl_delivery.specs.Scalars.{listed, scalar_at, all_of};
+ghost use Rattle.imkl_population.specs.Population.{object_number};
+ghost use Rattle.imkl_delivery.specs.Scalars.{values_from, scalar_from, all_found};
 ghost use Rattle.imkl_delivery.specs.Targets.{AreTargets};
 
 use imkl_model::{ClassModel, ElementType, EnumNo, FeatureInfo};
@@ -26,10 +26,10 @@ pub enum Targets {
     Found(Vec<ObjectNo>),
 }
 
-#[tactic(auto, using(imkl_model::proofs::Trees::trees))]
+#[tactic(auto, using(imkl_model::proofs::ForAbove::trees))]
 /// The values that a member writes: null is none, a list its elements, anything else one.
-pub(crate) fn listed(value: &Value) -> &[Value]
-    ensures { map view result.now ≡ listed (view value.now) }
+pub(crate) fn values_of(value: &Value) -> &[Value]
+    ensures { map view result.now ≡ values_from (view value.now) }
 {
     match value {
         Value::Null => &[],
@@ -40,14 +40,15 @@ pub(crate) fn listed(value: &Value) -> &[Value]
 
 fn literal_of(model: &ClassModel, enumeration: EnumNo, value: &Value) -> Option<Scalar>
     requires { enumeration < length model.now.enumerations }
-    ensures { result ≡ scalar_at model.now (ElementType.Enumeration enumeration) (view value.now) }
+    ensures { result ≡ scalar_from model.now (ElementType.Enumeration enumeration)
+        (view value.now) }
 {
     let literal = model.literal(enumeration, value.as_str()?)?;
     Some(Scalar::Literal(enumeration, literal))
 }
 
 fn text_of(alloc: Global, model: &ClassModel, value: &Value) -> Result<Option<Scalar>, AllocError>
-    ensures { IfOk result (λ s. s ≡ scalar_at model.now ElementType.String (view value.now)) }
+    ensures { IfOk result (λ s. s ≡ scalar_from model.now ElementType.String (view value.now)) }
 {
     let Some(text) = value.as_str() else {
         return Ok(None);
@@ -64,7 +65,7 @@ pub(crate) fn scalar_of(
     value: &Value,
 ) -> Result<Option<Scalar>, AllocError>
     requires { (e : ℕ) → element ≡ ElementType.Enumeration e → e < length model.now.enumerations }
-    ensures { IfOk result (λ s. s ≡ scalar_at model.now element (view value.now)) }
+    ensures { IfOk result (λ s. s ≡ scalar_from model.now element (view value.now)) }
 {
     match element {
         ElementType::Boolean => Ok(value.as_bool().map(Scalar::Bool)),
@@ -82,11 +83,13 @@ pub(crate) fn scalars_of(
     info: &FeatureInfo,
     values: &[Value],
 ) -> Result<Option<Vec<Scalar>>, AllocError>
-    requires { (e : ℕ) → info.now.element ≡ ElementType.Enumeration e → e < length model.now.enumerations }
-    ensures { IfOk result (λ r. option_map (λ v. v.items) r ≡ all_of (scalar_at model.now info.now.element) (map view values.now)) }
+    requires { (e : ℕ) → info.now.element ≡ ElementType.Enumeration e →
+        e < length model.now.enumerations }
+    ensures { IfOk result (λ r. option_map (λ v. v.items) r ≡
+        all_found (scalar_from model.now info.now.element) (map view values.now)) }
 {
     let mut scalars = Vec::with_capacity(alloc, values.len())?;
-    'values: for value in values {
+    for value in values {
         match scalar_of(alloc, model, info.element, value)? {
             Some(scalar) => scalars.push(scalar)?,
             None => return Ok(None),
@@ -97,7 +100,7 @@ pub(crate) fn scalars_of(
 
 /// The object whose id a value is, if it is a text and the id of one.
 fn target_of(builder: &PopulationBuilder<'_>, value: &Value) -> Option<ObjectNo>
-    ensures { result ≡ option_and_then (object_of builder.now) (as_str (view value.now)) }
+    ensures { result ≡ option_and_then (object_number builder.now) (as_str (view value.now)) }
 {
     builder.object(value.as_str()?)
 }
@@ -108,10 +111,12 @@ fn objects_of(
     builder: &PopulationBuilder<'_>,
     values: &[Value],
 ) -> Result<Option<Vec<ObjectNo>>, AllocError>
-    ensures { IfOk result (λ r. option_map (λ v. v.items) r ≡ all_of (λ d. option_and_then (object_of builder.now) (as_str d)) (map view values.now)) }
+    ensures { IfOk result (λ r. option_map (λ v. v.items) r ≡
+        all_found (λ d. option_and_then (object_number builder.now) (as_str d)) (map view
+        values.now)) }
 {
     let mut targets = Vec::with_capacity(alloc, values.len())?;
-    'values: for value in values {
+    for value in values {
         match target_of(builder, value) {
             Some(object) => targets.push(object)?,
             None => return Ok(None),

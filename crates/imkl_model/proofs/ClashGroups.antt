@@ -6,18 +6,19 @@ use Rattle.std.proofs.lemmas.Bool.Decides.{eqb_tells}
 use Rattle.std.proofs.lemmas.Slice.Eq.{bytes_eq-Decides}
 use Rattle.imkl_model.specs.Chains.{any_below}
 use Rattle.imkl_model.specs.ClassModel.{Model, supers, feature_at, belongs, is_named, has_clash, IsClash}
-use Rattle.imkl_model.specs.Held.{places}
+use Rattle.ocl_base.specs.Numbers.{places}
 use Rattle.imkl_model.specs.Groups.{group, begins_with, has_other_owner, meets_after, meets, group_meets}
 use Rattle.imkl_model.proofs.Below.{any_found, found_any}
-use Rattle.imkl_model.proofs.Places.{place_of, places_below, places_pass}
+use Rattle.ocl_base.proofs.ForAbove.{place_of, places_below, places_pass}
 use Rattle.imkl_model.proofs.ClashLaws.{joined, unequal, clash_found, found_clash}
-use Rattle.imkl_model.proofs.Warshall.{conforms-decides}
+use Rattle.imkl_model.proofs.Warshall.{is_or_reaches-decides}
 
 -- g is one of the numbers
 abbrev pub IsIn : ℕ → List ℕ → Type 0
 IsIn g xs = (k : ℕ) × (k < length xs) × (get_or xs k 0 ≡ g)
 
-any_of : (p : ℕ → Bool) (xs : List ℕ) → list_any p xs ≡ true → (k : ℕ) × (k < length xs) × (p (get_or xs k 0) ≡ true)
+-- what some element passes, one at an index does
+pub any_of : (p : ℕ → Bool) (xs : List ℕ) → list_any p xs ≡ true → (k : ℕ) × (k < length xs) × (p (get_or xs k 0) ≡ true)
 any_of p [] e = absurd (false≢true e)
 any_of p (x ∷ xs) e =
     elim (or_cases (p x) (list_any p xs) e) [
@@ -122,7 +123,7 @@ grouped m c f g h =
     let some : 0 < length (group m f) = omega (arith, at_f.1) in
     let head = get_or (group m f) 0 0 in
     let a = in_group m f 0 some in
-    let met : meets m c (group m f) ≡ true = meets_at m c (group m f) f g at_f at_g ((conforms-decides (supers m) c (feature_at m f).owner).1 h.first_belongs) ((conforms-decides (supers m) c (feature_at m g).owner).1 h.second_belongs) h.two_owners in
+    let met : meets m c (group m f) ≡ true = meets_at m c (group m f) f g at_f at_g ((is_or_reaches-decides (supers m) c (feature_at m f).owner).1 h.first_belongs) ((is_or_reaches-decides (supers m) c (feature_at m g).owner).1 h.second_belongs) h.two_owners in
     let same : group m f ≡ group m head = same_group m f head a.1 in
     let first_here : begins_with (group m head) head ≡ true = subst (λ (xs : List ℕ). begins_with xs head ≡ true) same (begins (group m f) some) in
     let met_here : any_below (λ k. meets m k (group m head)) (length m.classes) ≡ true = any_found (λ k. meets m k (group m head)) (length m.classes) c h.class (subst (λ (xs : List ℕ). meets m c xs ≡ true) same met) in

@@ -4,7 +4,7 @@ use Rattle.std.proofs.lemmas.Bool.{false≢true, eqb-false, ne_eqb, not-true, no
 use Rattle.std.proofs.lemmas.Slice.Eq.{bytes_eq-Decides}
 use Rattle.imkl_model.specs.Chains.{any_below}
 use Rattle.imkl_model.specs.ClassModel.{Model, supers, feature_at, is_named, belongs, clashes, has_clash, IsClash}
-use Rattle.imkl_model.proofs.Warshall.{conforms-decides}
+use Rattle.imkl_model.proofs.Warshall.{is_or_reaches-decides}
 use Rattle.imkl_model.proofs.Below.{any_found, found_any}
 
 -- the four parts of a clash
@@ -33,15 +33,15 @@ clash_of m c f g lc lf lg h =
       second = lg;
       one_name = (bytes_eq-Decides (feature_at m f).name (feature_at m g).name).0 p.0;
       two_owners = different (feature_at m f).owner (feature_at m g).owner p.1;
-      first_belongs = (conforms-decides (supers m) c (feature_at m f).owner).0 p.2;
-      second_belongs = (conforms-decides (supers m) c (feature_at m g).owner).0 p.3;
+      first_belongs = (is_or_reaches-decides (supers m) c (feature_at m f).owner).0 p.2;
+      second_belongs = (is_or_reaches-decides (supers m) c (feature_at m g).owner).0 p.3;
     }
 
 pub clash_is : (m : Model) (c f g : ℕ) → IsClash m c f g → clashes m c f g ≡ true
 clash_is m c f g h =
     joined (is_named m (feature_at m f).name g) (not (eqb (feature_at m f).owner (feature_at m g).owner)) (belongs m c f) (belongs m c g)
     ((bytes_eq-Decides (feature_at m f).name (feature_at m g).name).1 h.one_name) (unequal (feature_at m f).owner (feature_at m g).owner h.two_owners)
-    ((conforms-decides (supers m) c (feature_at m f).owner).1 h.first_belongs) ((conforms-decides (supers m) c (feature_at m g).owner).1 h.second_belongs)
+    ((is_or_reaches-decides (supers m) c (feature_at m f).owner).1 h.first_belongs) ((is_or_reaches-decides (supers m) c (feature_at m g).owner).1 h.second_belongs)
 
 -- a clash is found where one is
 pub clash_found : (m : Model) (c f g : ℕ) → c < length m.classes → f < length m.features → g < length m.features → clashes m c f g ≡ true → has_clash m ≡ true

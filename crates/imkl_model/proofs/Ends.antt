@@ -7,10 +7,10 @@ use Rattle.imkl_model.specs.declared.written.WrittenAssociation.{WrittenAssociat
 use Rattle.imkl_model.specs.declared.written.Written.{Written}
 use Rattle.imkl_model.specs.declared.feature.Role.{Role}
 use Rattle.imkl_model.specs.declared.feature.Role.TheVariants as role
-use Rattle.imkl_model.specs.WrittenFeatures.{attribute_of, source_end, opposite_end, attributes_of, ends_of, written_features}
+use Rattle.imkl_model.specs.WrittenFeatures.{written_attribute_of, written_source_end, written_opposite_end, written_attributes, written_ends, written_features}
 use Rattle.imkl_model.specs.Features.{is_end}
-use Rattle.imkl_model.specs.Bounds.{AreSmall, HasSmallAttribute, HasSmallAttributes, HasSmallEnds, HasSmallBounds}
-use Rattle.imkl_model.proofs.Steps.{AllOf, from_all, all_joined, all_mapped}
+use Rattle.imkl_model.specs.Spelled.{IsSpelledFeature, IsSpelledAttribute, IsSpelledClass, IsSpelledAssociation, IsSpelled}
+use Rattle.ocl_base.proofs.ForAbove.{AllOf, from_all, all_joined, all_mapped}
 
 abbrev pub no_written : WrittenFeature
 no_written = record { owner = []; name = []; element = []; lower = 0; upper = None; ordered = false; unique = false; role = role.Attribute }
@@ -59,7 +59,7 @@ attribute_opposites : (x : WrittenFeature) (xs : List WrittenFeature) (b : ℕ) 
 attribute_opposites x xs b a h zero g lt e = absurd (opposite_attribute g x.role a e)
 attribute_opposites x xs b a h (suc j) g lt e = let w = h.opposites j g (omega (arith, lt)) e in (suc w.0, ap suc w.1, shifted x xs b w.0 w.2)
 
-first_pair : (n : ℕ) (a : WrittenAssociation) (rest : List WrittenFeature) → PairAt (source_end n a ∷ opposite_end n a ∷ rest) n zero
+first_pair : (n : ℕ) (a : WrittenAssociation) (rest : List WrittenFeature) → PairAt (written_source_end n a ∷ written_opposite_end n a ∷ rest) n zero
 first_pair n a rest = record {
   within = omega arith;
   source = ap (λ (k : ℕ). role.SourceEnd k) (omega arith);
@@ -68,23 +68,23 @@ first_pair n a rest = record {
   back = refl;
 }
 
-end_sources : (n : ℕ) (a : WrittenAssociation) (rest : List WrittenFeature) → ArePairs rest (suc (suc n)) → (j g : ℕ) → j < length (source_end n a ∷ opposite_end n a ∷ rest) → (at (source_end n a ∷ opposite_end n a ∷ rest) j).role ≡ role.SourceEnd g → PairAt (source_end n a ∷ opposite_end n a ∷ rest) n j
+end_sources : (n : ℕ) (a : WrittenAssociation) (rest : List WrittenFeature) → ArePairs rest (suc (suc n)) → (j g : ℕ) → j < length (written_source_end n a ∷ written_opposite_end n a ∷ rest) → (at (written_source_end n a ∷ written_opposite_end n a ∷ rest) j).role ≡ role.SourceEnd g → PairAt (written_source_end n a ∷ written_opposite_end n a ∷ rest) n j
 end_sources n a rest h zero g lt e = first_pair n a rest
 end_sources n a rest h (suc zero) g lt e = absurd (source_opposite n g e)
-end_sources n a rest h (suc (suc j)) g lt e = shifted (source_end n a) (opposite_end n a ∷ rest) n (suc j) (shifted (opposite_end n a) rest (suc n) j (h.sources j g (omega (arith, lt)) e))
+end_sources n a rest h (suc (suc j)) g lt e = shifted (written_source_end n a) (written_opposite_end n a ∷ rest) n (suc j) (shifted (written_opposite_end n a) rest (suc n) j (h.sources j g (omega (arith, lt)) e))
 
-end_opposites : (n : ℕ) (a : WrittenAssociation) (rest : List WrittenFeature) → ArePairs rest (suc (suc n)) → (j g : ℕ) → j < length (source_end n a ∷ opposite_end n a ∷ rest) → (at (source_end n a ∷ opposite_end n a ∷ rest) j).role ≡ role.OppositeEnd g
-    → (i : ℕ) × (j ≡ suc i) × PairAt (source_end n a ∷ opposite_end n a ∷ rest) n i
+end_opposites : (n : ℕ) (a : WrittenAssociation) (rest : List WrittenFeature) → ArePairs rest (suc (suc n)) → (j g : ℕ) → j < length (written_source_end n a ∷ written_opposite_end n a ∷ rest) → (at (written_source_end n a ∷ written_opposite_end n a ∷ rest) j).role ≡ role.OppositeEnd g
+    → (i : ℕ) × (j ≡ suc i) × PairAt (written_source_end n a ∷ written_opposite_end n a ∷ rest) n i
 end_opposites n a rest h zero g lt e = absurd (opposite_source (n + 1) g e)
 end_opposites n a rest h (suc zero) g lt e = (zero, refl, first_pair n a rest)
 end_opposites n a rest h (suc (suc j)) g lt e =
     let w = h.opposites j g (omega (arith, lt)) e in
-    (suc (suc w.0), ap (λ (k : ℕ). suc (suc k)) w.1, shifted (source_end n a) (opposite_end n a ∷ rest) n (suc w.0) (shifted (opposite_end n a) rest (suc n) w.0 w.2))
+    (suc (suc w.0), ap (λ (k : ℕ). suc (suc k)) w.1, shifted (written_source_end n a) (written_opposite_end n a ∷ rest) n (suc w.0) (shifted (written_opposite_end n a) rest (suc n) w.0 w.2))
 
-ends_paired : (as' : List WrittenAssociation) (n : ℕ) → ArePairs (ends_of n as') n
+ends_paired : (as' : List WrittenAssociation) (n : ℕ) → ArePairs (written_ends n as') n
 ends_paired [] n = record { sources = λ j g lt e. absurd (omega (arith, lt)); opposites = λ j g lt e. absurd (omega (arith, lt)) }
 ends_paired (a ∷ as') n =
-    let rest = ends_of (n + 2) as' in
+    let rest = written_ends (n + 2) as' in
     let later : ArePairs rest (suc (suc n)) = subst (ArePairs rest) (omega arith) (ends_paired as' (n + 2)) in
     record { sources = end_sources n a rest later; opposites = end_opposites n a rest later }
 
@@ -98,46 +98,47 @@ all_of_map : {X : Type 0} (Q : WrittenFeature → Type 0) (f : X → WrittenFeat
 all_of_map Q f each [] = tt
 all_of_map Q f each (x ∷ xs) = (each x, all_of_map Q f each xs)
 
-attributes : (cs : List WrittenClass) → AllOf (λ d. d.role ≡ role.Attribute) (attributes_of cs)
+attributes : (cs : List WrittenClass) → AllOf (λ d. d.role ≡ role.Attribute) (written_attributes cs)
 attributes [] = tt
-attributes (c ∷ cs) = all_joined (λ (d : WrittenFeature). d.role ≡ role.Attribute) (map (attribute_of c.name) c.attributes) (attributes_of cs) (all_of_map (λ d. d.role ≡ role.Attribute) (attribute_of c.name) (λ a. refl) c.attributes) (attributes cs)
+attributes (c ∷ cs) = all_joined (λ (d : WrittenFeature). d.role ≡ role.Attribute) (map (written_attribute_of c.name) c.attributes) (written_attributes cs) (all_of_map (λ d. d.role ≡ role.Attribute) (written_attribute_of c.name) (λ a. refl) c.attributes) (attributes cs)
 
 pub paired : (w : Written) → ArePairs (written_features w) 0
 paired w =
-    let xs = attributes_of w.classes in
-    joined xs (attributes w.classes) (ends_of (length xs) w.associations) 0 (length xs) (omega arith) (ends_paired w.associations (length xs))
+    let xs = written_attributes w.classes in
+    joined xs (attributes w.classes) (written_ends (length xs) w.associations) 0 (length xs) (omega arith) (ends_paired w.associations (length xs))
 
 -- ---- ends are unique
 
 abbrev pub IsUniqueEnd : WrittenFeature → Type 0
 IsUniqueEnd d = is_end d.role ≡ true → d.unique ≡ true
 
-attributes_unique : (cs : List WrittenClass) → AllOf IsUniqueEnd (attributes_of cs)
+attributes_unique : (cs : List WrittenClass) → AllOf IsUniqueEnd (written_attributes cs)
 attributes_unique [] = tt
-attributes_unique (c ∷ cs) = all_joined IsUniqueEnd (map (attribute_of c.name) c.attributes) (attributes_of cs) (all_of_map IsUniqueEnd (attribute_of c.name) (λ a e. absurd (false≢true e)) c.attributes) (attributes_unique cs)
+attributes_unique (c ∷ cs) = all_joined IsUniqueEnd (map (written_attribute_of c.name) c.attributes) (written_attributes cs) (all_of_map IsUniqueEnd (written_attribute_of c.name) (λ a e. absurd (false≢true e)) c.attributes) (attributes_unique cs)
 
-ends_unique : (n : ℕ) (as' : List WrittenAssociation) → AllOf IsUniqueEnd (ends_of n as')
+ends_unique : (n : ℕ) (as' : List WrittenAssociation) → AllOf IsUniqueEnd (written_ends n as')
 ends_unique n [] = tt
 ends_unique n (a ∷ as') = (λ e. refl, (λ e. refl, ends_unique (n + 2) as'))
 
 pub all_unique : (w : Written) → AllOf IsUniqueEnd (written_features w)
-all_unique w = all_joined IsUniqueEnd (attributes_of w.classes) (ends_of (length (attributes_of w.classes)) w.associations) (attributes_unique w.classes) (ends_unique (length (attributes_of w.classes)) w.associations)
+all_unique w = all_joined IsUniqueEnd (written_attributes w.classes) (written_ends (length (written_attributes w.classes)) w.associations) (attributes_unique w.classes) (ends_unique (length (written_attributes w.classes)) w.associations)
 
--- ---- bounds are small
+-- ---- names are names, and bounds are small
 
-abbrev pub IsSmall : WrittenFeature → Type 0
-IsSmall d = AreSmall d.lower d.upper
+abbrev pub IsSpelledWritten : WrittenFeature → Type 0
+IsSpelledWritten d = IsSpelledFeature d.name d.lower d.upper
 
-attributes_small : (cs : List WrittenClass) → AllOf HasSmallAttributes cs → AllOf IsSmall (attributes_of cs)
-attributes_small [] h = tt
-attributes_small (c ∷ cs) h =
-    all_joined IsSmall (map (attribute_of c.name) c.attributes) (attributes_of cs) (all_mapped HasSmallAttribute IsSmall (attribute_of c.name) (λ a g. g) c.attributes (from_all HasSmallAttribute c.attributes h.0)) (attributes_small cs h.1)
+attributes_spelled : (cs : List WrittenClass) → AllOf IsSpelledClass cs → AllOf IsSpelledWritten (written_attributes cs)
+attributes_spelled [] h = tt
+attributes_spelled (c ∷ cs) h =
+    all_joined IsSpelledWritten (map (written_attribute_of c.name) c.attributes) (written_attributes cs)
+    (all_mapped IsSpelledAttribute IsSpelledWritten (written_attribute_of c.name) (λ a g. g) c.attributes (from_all IsSpelledAttribute c.attributes h.0.1)) (attributes_spelled cs h.1)
 
-ends_small : (n : ℕ) (as' : List WrittenAssociation) → AllOf HasSmallEnds as' → AllOf IsSmall (ends_of n as')
-ends_small n [] h = tt
-ends_small n (a ∷ as') h = (h.0.0, (h.0.1, ends_small (n + 2) as' h.1))
+ends_spelled : (n : ℕ) (as' : List WrittenAssociation) → AllOf IsSpelledAssociation as' → AllOf IsSpelledWritten (written_ends n as')
+ends_spelled n [] h = tt
+ends_spelled n (a ∷ as') h = (h.0.1, (h.0.2, ends_spelled (n + 2) as' h.1))
 
-pub all_small : (w : Written) → HasSmallBounds w → AllOf IsSmall (written_features w)
-all_small w h =
-    all_joined IsSmall (attributes_of w.classes) (ends_of (length (attributes_of w.classes)) w.associations) (attributes_small w.classes (from_all HasSmallAttributes w.classes h.0))
-    (ends_small (length (attributes_of w.classes)) w.associations (from_all HasSmallEnds w.associations h.1))
+pub all_spelled : (w : Written) → IsSpelled w → AllOf IsSpelledWritten (written_features w)
+all_spelled w h =
+    all_joined IsSpelledWritten (written_attributes w.classes) (written_ends (length (written_attributes w.classes)) w.associations) (attributes_spelled w.classes (from_all IsSpelledClass w.classes h.2))
+    (ends_spelled (length (written_attributes w.classes)) w.associations (from_all IsSpelledAssociation w.associations h.3))

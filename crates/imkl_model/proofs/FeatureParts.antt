@@ -8,10 +8,10 @@ use Rattle.imkl_model.specs.declared.feature.Role.{Role}
 use Rattle.imkl_model.specs.declared.feature.Role.TheVariants as role
 use Rattle.imkl_model.specs.declared.numbering.Scope.{Scope}
 use Rattle.imkl_model.specs.declared.written.WrittenFeature.{WrittenFeature}
-use Rattle.imkl_model.specs.Steps.{◌>>=◌}
-use Rattle.imkl_model.specs.Numbering.{number_in, scalar_type, element_type, collection_kind, feature_of}
+use Rattle.ocl_base.specs.Steps.{◌>>=◌}
+use Rattle.imkl_model.specs.Numbering.{number_in, scalar_type, element_type, collection_kind, feature_in_scope}
 use Rattle.imkl_model.proofs.Parts.{number_is}
-use Rattle.imkl_model.proofs.Steps.{okay, ok_is, both_steps}
+use Rattle.ocl_base.proofs.ForAbove.{okay, ok_is, both_steps}
 
 -- the feature f is the written feature d with numbers for names
 pub record IsFrom (s : Scope) (d : WrittenFeature) (f : FeatureInfo) : Type 0 where
@@ -26,8 +26,8 @@ pub record IsFrom (s : Scope) (d : WrittenFeature) (f : FeatureInfo) : Type 0 wh
 made : WrittenFeature → ℕ → ElementType → FeatureInfo
 made d owner element = record { name = d.name; owner = owner; element = element; lower = d.lower; upper = d.upper; kind = collection_kind d; role = d.role }
 
-pub feature_is : (s : Scope) (d : WrittenFeature) (f : FeatureInfo) → feature_of s d ≡ Ok f → IsFrom s d f
-unfolding feature_of made
+pub feature_is : (s : Scope) (d : WrittenFeature) (f : FeatureInfo) → feature_in_scope s d ≡ Ok f → IsFrom s d f
+unfolding feature_in_scope made
 feature_is s d f e =
     let p = both_steps (number_in s.classes d.owner) (λ owner. element_type s d.role d.element >>= λ element. Ok (made d owner element)) f e in
     let q = both_steps (element_type s d.role d.element) (λ element. Ok (made d p.0 element)) f p.2 in

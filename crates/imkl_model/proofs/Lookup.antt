@@ -1,14 +1,18 @@
 -- The feature of a name that belongs to a class.
-use Rattle.std.proofs.Common.{find, ◌≡◌, ◌∙◌, ◌&&◌, ◌<◌, ℕ, Bool, true, List, length, Option, Some, eqb, refl, sym, ap, subst, IfSome}
+use Rattle.std.proofs.Common.{find, ◌≡◌, ◌∙◌, ◌&&◌, ◌<◌, ℕ, Bool, true, List, length, Option, Some, None, eqb, refl, sym, ap, subst, IfSome}
 use Rattle.std.proofs.lemmas.Bool.{and_from, and_parts}
 use Rattle.std.proofs.lemmas.Bool.Decides.{Decides-eqb}
 use Rattle.std.proofs.lemmas.Slice.Eq.{bytes_eq-Decides}
-use Rattle.imkl_model.specs.Chains.{conforms}
+use Rattle.imkl_model.specs.Chains.{is_or_reaches}
 use Rattle.imkl_model.specs.ClassModel.{Model, supers, is_named, belongs, feature_at, feature_number}
 use Rattle.imkl_model.specs.WellFormed.{IsClassModel}
 use Rattle.imkl_model.specs.Held.{Group, IsGroup, own_in, is_own_in}
-use Rattle.imkl_model.proofs.Warshall.{conforms-decides}
-use Rattle.imkl_model.proofs.Places.{find_places, least_passes, least_is, passes_at}
+use Rattle.imkl_model.proofs.Warshall.{is_or_reaches-decides}
+use Rattle.ocl_base.proofs.ForAbove.{find_places, least_passes, least_is}
+
+passes_at : (o q : Option ℕ) (P Q : ℕ → Type 0) → o ≡ q → ((k : ℕ) → P k → Q k) → IfSome q P → IfSome o Q
+passes_at o None P Q e f h = rw e tt
+passes_at o (Some k) P Q e f h = rw e (f k h)
 
 -- a feature of this name that belongs to the class
 abbrev pub IsFeatureOf : Model → ℕ → List ℕ → ℕ → Type 0
@@ -21,6 +25,14 @@ feature_of : (m : Model) (c : ℕ) (q : List ℕ) (f : ℕ) → f < length m.fea
 feature_of m c q f lt h =
     let p = and_parts (is_named m q f) (belongs m c f) h in
     (lt, p.1, sym ((bytes_eq-Decides q (feature_at m f).name).0 p.0))
+
+-- a feature of the name that belongs to the class is the one found, since no other is
+pub the_feature : (m : Model) (c : ℕ) (q : List ℕ) → IsClassModel m → (f : ℕ) → IsFeatureOf m c q f → feature_number m c q ≡ Some f
+the_feature m c q well f h =
+    let here = and_from (is_named m q f) (belongs m c f) ((bytes_eq-Decides q (feature_at m f).name).1 (sym h.2)) h.1 in
+    least_is (passes m c q) (length m.features) f h.0 here (λ k lt g.
+    let other = feature_of m c q k lt g in
+    well.one_feature c k f lt h.0 other.1 h.1 (other.2 ∙ sym h.2))
 
 -- what is so of the feature that is found
 module _ (m : Model) (c : ℕ) (q : List ℕ) (o : Option ℕ) (is : o ≡ feature_number m c q) where
@@ -45,14 +57,11 @@ module _ (m : Model) (c : ℕ) (q : List ℕ) (g : Group) (group : IsGroup m.fea
   own_passes f h =
       let p = and_parts (is_named m q f) (eqb (feature_at m f).owner c) h in
       let owned : (feature_at m f).owner ≡ c = (Decides-eqb (feature_at m f).owner c).0 p.1 in
-      and_from (is_named m q f) (belongs m c f) p.0 (let here : conforms (supers m) c c ≡ true = (conforms-decides (supers m) c c).1 (0, refl) in ap (conforms (supers m) c) owned ∙ here)
+      and_from (is_named m q f) (belongs m c f) p.0 (let here : is_or_reaches (supers m) c c ≡ true = (is_or_reaches-decides (supers m) c c).1 (0, refl) in ap (is_or_reaches (supers m) c) owned ∙ here)
 
   -- no other feature of the name belongs to a class that has its own
   pub own_is : IsClassModel m → (f : ℕ) → own_in g c ≡ Some f → feature_number m c q ≡ Some f
   own_is well f own =
       let n = length m.features in
       let found : IfSome (Some f) (λ k. (k < n) × (is_own_in m.features q c k ≡ true)) = subst (λ (o : Option ℕ). IfSome o (λ k. (k < n) × (is_own_in m.features q c k ≡ true))) (sym (group.own c) ∙ own) (least_passes (is_own_in m.features q c) n) in
-      let here = feature_of m c q f found.0 (own_passes f found.1) in
-      least_is (passes m c q) n f found.0 (own_passes f found.1) (λ k lt h.
-      let other = feature_of m c q k lt h in
-      well.one_feature c k f lt found.0 other.1 here.1 (other.2 ∙ sym here.2))
+      the_feature m c q well f (feature_of m c q f found.0 (own_passes f found.1))

@@ -7,7 +7,7 @@ use Rattle.std.proofs.lemmas.List.{get_or-set_other, get_or-set_same, length_pus
 use Rattle.std.proofs.lemmas.Grind.{common_steps}
 use Rattle.std.proofs.lemmas.Nat.Bits.{bit_at_or, bit_at_set_same, bit_at_set_other, bit_at-lt, bit_at-zero}
 use Rattle.std.specs.Int.{bit_at}
-use Rattle.imkl_model.specs.Tables.{has, is_marked, marks}
+use Rattle.imkl_model.specs.Tables.{has_mark, is_marked, marks}
 
 pub length-marks : (words : List ℕ) (n : ℕ) → length (marks words n) ≡ n
 length-marks words zero = refl
@@ -16,7 +16,7 @@ length-marks words (suc n) = omega (arith, length_push (marks words n) (is_marke
 get_or_before : (xs : List Bool) (y : Bool) (j : ℕ) → j < length xs → get_or (xs ++ y ∷ []) j false ≡ get_or xs j false
 get_or_before xs y j lt = grind (arith, common_steps)
 
-pub has-marks : (words : List ℕ) (n j : ℕ) → j < n → has (marks words n) j ≡ is_marked words j
+pub has-marks : (words : List ℕ) (n j : ℕ) → j < n → has_mark (marks words n) j ≡ is_marked words j
 has-marks words zero j lt = absurd (omega (arith, lt))
 has-marks words (suc n) j lt =
     elim (leb_tells n j) [
@@ -26,7 +26,7 @@ has-marks words (suc n) j lt =
       | inr less ↦ get_or_before (marks words n) (is_marked words n) j (omega (arith, length-marks words n, less.1)) ∙ has-marks words n j less.1
     ]
 
-pub has-marks_past : (words : List ℕ) (n j : ℕ) → n ≤ j → has (marks words n) j ≡ false
+pub has-marks_past : (words : List ℕ) (n j : ℕ) → n ≤ j → has_mark (marks words n) j ≡ false
 has-marks_past words n j le = get_or_past (marks words n) j false (omega (arith, length-marks words n, le))
 
 one_or : (a b : ℕ) → a < 2 → b < 2 → eqb (max a b) 1 ≡ (eqb a 1 || eqb b 1)
@@ -90,11 +90,11 @@ row_length ws n row e = ap length (sym e) ∙ length-marks ws n
 pub in_words : (ws : List ℕ) (n j : ℕ) (row : List Bool) → marks ws n ≡ row → length ws ≡ n / 64 + 1 → j < length row → j / 64 < length ws
 in_words ws n j row e long lt = omega (arith, row_length ws n row e, long, lt, div-add-mod n 64, div-add-mod j 64)
 
-pub row_has : (ws : List ℕ) (n j : ℕ) (row : List Bool) → marks ws n ≡ row → j < length row → is_marked ws j ≡ has row j
+pub row_has : (ws : List ℕ) (n j : ℕ) (row : List Bool) → marks ws n ≡ row → j < length row → is_marked ws j ≡ has_mark row j
 row_has ws n j row e lt = rw (← e) (sym (has-marks ws n j (omega (arith, lt, row_length ws n row e))))
 
 pub row_joined : (ws us : List ℕ) (n : ℕ) (f : ℕ → Bool) (row : List Bool) → marks ws n ≡ row → ((j : ℕ) → j < n → is_marked us j ≡ (is_marked ws j || f j)) → ((j : ℕ) → n ≤ j → f j ≡ false)
-    → (j : ℕ) → has (marks us n) j ≡ (has row j || f j)
+    → (j : ℕ) → has_mark (marks us n) j ≡ (has_mark row j || f j)
 row_joined ws us n f row e inside outside j =
     rw (← e) (elim (leb_tells n j) [
       | inl le ↦ rw (has-marks_past us n j le.1, has-marks_past ws n j le.1) (sym (outside j le.1))
@@ -104,7 +104,7 @@ row_joined ws us n f row e inside outside j =
 pub apart_past : (number n j : ℕ) → number < n → n ≤ j → eqb number j ≡ false
 apart_past number n j lt le = ne_eqb number j (λ e. absurd (omega (arith, e, lt, le)))
 
-pub row_past : (vs : List ℕ) (n j : ℕ) (row : List Bool) → marks vs n ≡ row → n ≤ j → has row j ≡ false
+pub row_past : (vs : List ℕ) (n j : ℕ) (row : List Bool) → marks vs n ≡ row → n ≤ j → has_mark row j ≡ false
 row_past vs n j row e le = rw (← e) (has-marks_past vs n j le)
 
 abbrev pub zeros : ℕ → List ℕ
@@ -115,7 +115,7 @@ none_marked zero j = refl
 none_marked (suc k) zero = refl
 none_marked (suc k) (suc j) = none_marked k j
 
-pub new_row : (k n j : ℕ) → has (marks (zeros k) n) j ≡ false
+pub new_row : (k n j : ℕ) → has_mark (marks (zeros k) n) j ≡ false
 new_row k n j =
     elim (leb_tells n j) [
       | inl le ↦ has-marks_past (zeros k) n j le.1

@@ -1,20 +1,24 @@
 -- The features of a name.
-use Rattle.std.proofs.Common.{◌≡◌, ℕ, ◌<◌, ◌+◌, ◌&&◌, true, false, List, [], ◌∷◌, ◌++◌, length, get_or, Some, None, refl, sym, subst, ◌∙◌, add-one, cond, bytes_eq, eqb, inl, inr, if◌then◌else◌}
-use Rattle.std.proofs.lemmas.List.{get_or_read}
+use Rattle.std.proofs.Common.{◌≡◌, ℕ, ◌<◌, ◌+◌, ◌&&◌, true, false, List, [], ◌∷◌, ◌++◌, length, get_or, Option, Some, None, refl, sym, subst, ◌∙◌, add-one, cond, bytes_eq, eqb, inl, inr, if◌then◌else◌}
+use Rattle.std.proofs.lemmas.List.{get_or_read, append-nil}
 use Rattle.std.proofs.lemmas.Bool.{cases_Bool}
 use Rattle.std.proofs.lemmas.Slice.Eq.{bytes_eq-Decides}
 use Rattle.std.specs.Cmp.Lexicographic.{nat_list_eq_equiv}
 use Rattle.std.specs.Option.{option_or}
 use Rattle.imkl_model.specs.declared.feature.FeatureInfo.{FeatureInfo}
-use Rattle.imkl_model.specs.ClassModel.{is_named_in, no_feature, least}
-use Rattle.imkl_model.specs.Held.{Group, IsGroup, places, own_in, is_own_in}
-use Rattle.imkl_model.proofs.Places.{option_or-none}
+use Rattle.ocl_base.specs.Numbers.{places, least}
+use Rattle.imkl_model.specs.ClassModel.{is_named_in, no_feature}
+use Rattle.imkl_model.specs.Held.{Group, IsGroup, own_in, is_own_in}
+
+option_or-none : (o : Option ℕ) → o ≡ option_or o None
+option_or-none None = refl
+option_or-none (Some x) = refl
 
 module _ (fs : List FeatureInfo) (n : ℕ) (f : FeatureInfo) (lt : n < length fs) (is : f ≡ get_or fs n f) where
   feature_is : get_or fs n no_feature ≡ f
   feature_is = sym (get_or_read fs n f lt is no_feature)
 
-  places_more : (q : List ℕ) → places (is_named_in fs q) (n + 1) ≡ cond (bytes_eq q f.name) (places (is_named_in fs q) n ++ n ∷ []) (places (is_named_in fs q) n)
+  places_more : (q : List ℕ) → places (is_named_in fs q) (n + 1) ≡ places (is_named_in fs q) n ++ (if bytes_eq q f.name then n ∷ [] else [])
   places_more q = rw (add-one, feature_is) refl
 
   own_more : (q : List ℕ) (c : ℕ) → least (is_own_in fs q c) (n + 1) ≡ option_or (least (is_own_in fs q c) n) (if bytes_eq q f.name && eqb f.owner c then Some n else None)
@@ -32,7 +36,7 @@ module _ (fs : List FeatureInfo) (n : ℕ) (f : FeatureInfo) (lt : n < length fs
   kept : (q : List ℕ) (old : Group) → bytes_eq q f.name ≡ false → IsGroup fs n q old → IsGroup fs (n + 1) q old
   kept q old apart of_q =
       record {
-        numbers = rw (of_q.numbers, places_more q, apart) refl;
+        numbers = rw (of_q.numbers, places_more q, apart) (sym (append-nil (places (is_named_in fs q) n)));
         own = λ c. rw (of_q.own c, own_more q c, apart) (option_or-none (least (is_own_in fs q c) n));
       }
 

@@ -1,5 +1,5 @@
 -- A class model that was numbered and checked keeps what a class model keeps.
-use Rattle.std.proofs.Common.{◌≡◌, ℕ, zero, suc, ◌+◌, ◌<◌, ◌≤◌, ◌&&◌, not, Bool, true, false, List, [], ◌∷◌, length, get_or, map, eqb, leb, Option, Some, Ok, All, IfSome, refl, sym, ap, ◌∙◌, subst, arith, inl, inr, nat_le, nat_lt, if◌then◌else◌}
+use Rattle.std.proofs.Common.{◌≡◌, ℕ, zero, suc, ◌+◌, ◌<◌, ◌≤◌, ◌&&◌, not, Bool, true, false, List, [], ◌∷◌, ◌++◌, length, get_or, map, eqb, leb, Option, Some, Ok, All, IfSome, refl, sym, ap, ◌∙◌, subst, arith, inl, inr, nat_le, nat_lt, if◌then◌else◌, bytes_eq}
 use Rattle.std.specs.List.{list_all, list_any}
 use Rattle.std.proofs.lemmas.Bool.{false≢true, and_parts, or_parts}
 use Rattle.std.proofs.lemmas.Bool.Decides.{eqb_tells, leb_tells}
@@ -8,29 +8,33 @@ use Rattle.std.proofs.lemmas.List.Sums.{AllPass-from_list_all}
 use Rattle.imkl_model.specs.declared.entry.Class.{Class}
 use Rattle.imkl_model.specs.declared.entry.Enumeration.{Enumeration}
 use Rattle.imkl_model.specs.declared.feature.ElementType.TheVariants as element
-use Rattle.imkl_model.specs.declared.feature.CollectionKind.TheVariants as kind
+use Rattle.ocl_base.specs.declared.collection_kind.CollectionKind.TheVariants as kind
 use Rattle.imkl_model.specs.declared.feature.Role.{Role}
 use Rattle.imkl_model.specs.declared.feature.Role.TheVariants as role
 use Rattle.imkl_model.specs.declared.written.Written.{Written}
 use Rattle.imkl_model.specs.declared.written.WrittenEnumeration.{WrittenEnumeration}
 use Rattle.imkl_model.specs.declared.written.WrittenFeature.{WrittenFeature}
-use Rattle.imkl_model.specs.Words.{repeats, qualified}
-use Rattle.imkl_model.specs.Steps.{◌>>=◌, each}
+use Rattle.ocl_base.specs.Lists.{repeats}
+use Rattle.imkl_model.specs.Limits.{type_limit, feature_limit, bound_limit}
+use Rattle.imkl_model.specs.Words.{is_title, is_predefined, qualified}
+use Rattle.ocl_base.specs.Steps.{◌>>=◌, each}
 use Rattle.imkl_model.specs.Checks as checks
 use Rattle.imkl_model.specs.WrittenFeatures.{written_features}
 use Rattle.imkl_model.specs.Scopes.{scope_of}
-use Rattle.imkl_model.specs.Numbering.{number_in, element_type, collection_kind, kind_of, is_one, feature_of, class_of, enumeration_of, numbered}
+use Rattle.imkl_model.specs.Numbering.{number_in, element_type, collection_kind, kind_of, feature_in_scope, class_in_scope, enumeration_as_written, numbered_model}
 use Rattle.imkl_model.specs.Chains as chains
 use Rattle.imkl_model.specs.ClassModel.{Model, supers, class_names, enumeration_names, names_of_enumerations, feature_at, no_feature, has_clash, belongs, is_named}
-use Rattle.imkl_model.specs.Features.{is_end, is_unique_kind}
-use Rattle.imkl_model.specs.WellFormed.{IsClassModel, ArePaired, IsFeature}
+use Rattle.imkl_model.specs.Features.{is_end, is_single}
+use Rattle.ocl_base.specs.CollectionKinds.{is_unique_kind}
+use Rattle.imkl_model.specs.WellFormed.{IsClassModel, ArePaired, IsFeature, IsModelName, type_names}
+use Rattle.imkl_model.specs.Spelled.{IsSpelledClass, IsSpelledEnumeration, IsSpelledAssociation}
 use Rattle.imkl_model.specs.Drafts.{IsNumbered}
-use Rattle.imkl_model.proofs.Steps.{okay, ok_is, both_steps, each_length, each_at, AllOf, all_at, all_mapped}
-use Rattle.imkl_model.proofs.Parts.{differs, classes_differ, enumerations_differ, number_is, class_names_kept, supers_within, enumeration_names_kept}
+use Rattle.ocl_base.proofs.ForAbove.{okay, ok_is, both_steps, each_length, each_at, AllOf, all_at, all_mapped, all_joined, from_all}
+use Rattle.imkl_model.proofs.Parts.{differs, number_is, class_names_kept, supers_within, SupersDiffer, supers_differ, enumeration_names_kept}
 use Rattle.imkl_model.proofs.FeatureParts.{IsFrom, feature_is, attribute_is, source_is, opposite_is, class_within, enumeration_within}
-use Rattle.imkl_model.proofs.Ends.{no_written, at, PairAt, paired, IsUniqueEnd, all_unique, IsSmall, all_small}
+use Rattle.imkl_model.proofs.Ends.{no_written, at, PairAt, paired, IsUniqueEnd, all_unique, IsSpelledWritten, all_spelled}
 use Rattle.imkl_model.proofs.Repeated.{one_place}
-use Rattle.imkl_model.proofs.Warshall.{in_range, conforms-decides}
+use Rattle.imkl_model.proofs.Warshall.{in_range, is_or_reaches-decides}
 use Rattle.imkl_model.proofs.ClashLaws.{clash_found, joined, unequal}
 use Rattle.std.proofs.lemmas.Slice.Eq.{bytes_eq-Decides}
 
@@ -40,45 +44,49 @@ le_of a b e = elim (leb_tells a b) [ inl h ↦ h.1 | inr h ↦ absurd (false≢t
 -- ---- the parts of a class model that was numbered
 
 pub record Made (w : Written) (m : Model) : Type 0 where
-  pub classes : each (class_of (scope_of w)) w.classes ≡ Ok m.classes
-  pub features : each (feature_of (scope_of w)) (written_features w) ≡ Ok m.features
-  pub enumerations : m.enumerations ≡ map enumeration_of w.enumerations
+  pub classes : each (class_in_scope (scope_of w)) w.classes ≡ Ok m.classes
+  pub features : each (feature_in_scope (scope_of w)) (written_features w) ≡ Ok m.features
+  pub enumerations : m.enumerations ≡ map enumeration_as_written w.enumerations
+  pub associations : m.associations ≡ checks.written_association_names w
+  pub name : m.name ≡ w.name
 
-pub made_of : (w : Written) (m : Model) → numbered w ≡ Ok m → Made w m
-unfolding numbered
+pub made_of : (w : Written) (m : Model) → numbered_model w ≡ Ok m → Made w m
+unfolding numbered_model
 made_of w m e =
-    let p = both_steps (each (class_of (scope_of w)) w.classes) (λ classes. each (feature_of (scope_of w)) (written_features w) >>= λ features. Ok (record { name = w.name; enumerations = map enumeration_of w.enumerations; classes = classes; features = features; associations = checks.association_names w })) m e in
-    let q = both_steps (each (feature_of (scope_of w)) (written_features w)) (λ features. Ok (record { name = w.name; enumerations = map enumeration_of w.enumerations; classes = p.0; features = features; associations = checks.association_names w })) m p.2 in
-    let built : Model = record { name = w.name; enumerations = map enumeration_of w.enumerations; classes = p.0; features = q.0; associations = checks.association_names w } in
+    let p = both_steps (each (class_in_scope (scope_of w)) w.classes) (λ classes. each (feature_in_scope (scope_of w)) (written_features w) >>= λ features. Ok (record { name = w.name; enumerations = map enumeration_as_written w.enumerations; classes = classes; features = features; associations = checks.written_association_names w })) m e in
+    let q = both_steps (each (feature_in_scope (scope_of w)) (written_features w)) (λ features. Ok (record { name = w.name; enumerations = map enumeration_as_written w.enumerations; classes = p.0; features = features; associations = checks.written_association_names w })) m p.2 in
+    let built : Model = record { name = w.name; enumerations = map enumeration_as_written w.enumerations; classes = p.0; features = q.0; associations = checks.written_association_names w } in
     let same : built ≡ m = ok_is built m q.2 in
     record {
       classes = p.1 ∙ ap (λ (x : Model). okay x.classes) same;
       features = q.1 ∙ ap (λ (x : Model). okay x.features) same;
       enumerations = ap (λ (x : Model). x.enumerations) (sym same);
+      associations = ap (λ (x : Model). x.associations) (sym same);
+      name = ap (λ (x : Model). x.name) (sym same);
     }
 
 -- ---- counts
 
 pub record IsFew (w : Written) : Type 0 where
-  pub classes : length w.classes ≤ 4096
-  pub enumerations : length w.enumerations ≤ 4096
-  pub literals : list_all (λ e. nat_le (length e.literals) 4096) w.enumerations ≡ true
-  pub features : length (written_features w) ≤ 65535
+  pub classes : length w.classes ≤ type_limit
+  pub enumerations : length w.enumerations ≤ type_limit
+  pub literals : list_all (λ e. nat_le (length e.literals) type_limit) w.enumerations ≡ true
+  pub features : length (written_features w) ≤ feature_limit
 
 few : (w : Written) → checks.is_within_limits w ≡ true → IsFew w
 unfolding checks.is_within_limits
 few w e =
-    let a = nat_le (length w.classes) 4096 in
-    let b = nat_le (length w.enumerations) 4096 in
-    let l = list_all (λ (e : WrittenEnumeration). nat_le (length e.literals) 4096) w.enumerations in
-    let p = and_parts (a && b && l) (nat_le (length (written_features w)) 65535) e in
+    let a = nat_le (length w.classes) type_limit in
+    let b = nat_le (length w.enumerations) type_limit in
+    let l = list_all (λ (e : WrittenEnumeration). nat_le (length e.literals) type_limit) w.enumerations in
+    let p = and_parts (a && b && l) (nat_le (length (written_features w)) feature_limit) e in
     let q = and_parts (a && b) l p.0 in
     let r = and_parts a b q.0 in
     record {
-      classes = le_of (length w.classes) 4096 r.0;
-      enumerations = le_of (length w.enumerations) 4096 r.1;
+      classes = le_of (length w.classes) type_limit r.0;
+      enumerations = le_of (length w.enumerations) type_limit r.1;
       literals = q.1;
-      features = le_of (length (written_features w)) 65535 p.1;
+      features = le_of (length (written_features w)) feature_limit p.1;
     }
 
 -- each enumeration's literals
@@ -95,13 +103,13 @@ along {X} P xs ys e h = subst (λ (zs : List X). All P zs) (sym e) (all_at P xs 
 
 module _ (w : Written) (m : Model) (limits : checks.is_within_limits w ≡ true) (distinct : checks.repeats_name w ≡ false) (parts : Made w m) where
   class_count : length m.classes ≡ length w.classes
-  class_count = each_length (class_of (scope_of w)) w.classes m.classes parts.classes
+  class_count = each_length (class_in_scope (scope_of w)) w.classes m.classes parts.classes
 
   feature_count : length m.features ≡ length (written_features w)
-  feature_count = each_length (feature_of (scope_of w)) (written_features w) m.features parts.features
+  feature_count = each_length (feature_in_scope (scope_of w)) (written_features w) m.features parts.features
 
   enumeration_count : length m.enumerations ≡ length w.enumerations
-  enumeration_count = ap (λ (l : List Enumeration). length l) parts.enumerations ∙ length-map w.enumerations enumeration_of
+  enumeration_count = ap (λ (l : List Enumeration). length l) parts.enumerations ∙ length-map w.enumerations enumeration_as_written
 
   scope_classes : length (scope_of w).classes ≡ length m.classes
   scope_classes = length-map w.classes (λ c. c.name) ∙ sym class_count
@@ -110,7 +118,7 @@ module _ (w : Written) (m : Model) (limits : checks.is_within_limits w ≡ true)
   scope_enumerations = length-map w.enumerations (λ e. e.name) ∙ sym enumeration_count
 
   from : (f : ℕ) → IsFeature m f → IsFrom (scope_of w) (at (written_features w) f) (feature_at m f)
-  from f lt = feature_is (scope_of w) (at (written_features w) f) (feature_at m f) (each_at (feature_of (scope_of w)) (written_features w) m.features f no_written no_feature parts.features (subst (λ (n : ℕ). f < n) feature_count lt))
+  from f lt = feature_is (scope_of w) (at (written_features w) f) (feature_at m f) (each_at (feature_in_scope (scope_of w)) (written_features w) m.features f no_written no_feature parts.features (subst (λ (n : ℕ). f < n) feature_count lt))
 
   within : (f : ℕ) → IsFeature m f → f < length (written_features w)
   within f lt = subst (λ (n : ℕ). f < n) feature_count lt
@@ -118,16 +126,19 @@ module _ (w : Written) (m : Model) (limits : checks.is_within_limits w ≡ true)
   pub owned : (f : ℕ) → IsFeature m f → (feature_at m f).owner < length m.classes
   owned f lt = subst (λ (n : ℕ). (feature_at m f).owner < n) scope_classes (number_is (scope_of w).classes (at (written_features w) f).owner (feature_at m f).owner (from f lt).owner).0
 
-  names_kept : class_names m ≡ checks.class_names w
+  names_kept : class_names m ≡ checks.written_class_names w
   names_kept = class_names_kept (scope_of w) w.classes m.classes parts.classes
 
-  enumerations_kept : enumeration_names m ≡ checks.enumeration_names w
+  enumerations_kept : enumeration_names m ≡ checks.written_enumeration_names w
   enumerations_kept = ap names_of_enumerations parts.enumerations ∙ enumeration_names_kept w.enumerations
+
+  types_kept : type_names m ≡ checks.written_enumeration_names w ++ checks.written_class_names w
+  types_kept = ap (λ (l : List (List ℕ)). l ++ class_names m) enumerations_kept ∙ ap (λ (l : List (List ℕ)). checks.written_enumeration_names w ++ l) names_kept
 
   -- ---- ends
 
   unique_end : (d : WrittenFeature) → d.unique ≡ true → is_unique_kind (collection_kind d) ≡ true
-  unique_end d e = kinds (is_one d.upper) d.ordered d.unique e
+  unique_end d e = kinds (is_single d.upper) d.ordered d.unique e
     where
       kinds : (one ordered unique : Bool) → unique ≡ true → is_unique_kind (if one then kind.Set else kind_of ordered unique) ≡ true
       kinds true o u h = refl
@@ -144,7 +155,7 @@ module _ (w : Written) (m : Model) (limits : checks.is_within_limits w ≡ true)
   pub single_values : (f : ℕ) → IsFeature m f → (feature_at m f).upper ≡ Some 1 → (feature_at m f).kind ≡ kind.Set
   single_values f lt e =
       let d = at (written_features w) f in
-      let one : is_one d.upper ≡ true = ap is_one (sym (from f lt).upper ∙ e) in
+      let one : is_single d.upper ≡ true = ap is_single (sym (from f lt).upper ∙ e) in
       (from f lt).kind ∙ rw one refl
 
   named_class : (name : List ℕ) (a b : ℕ) → number_in (scope_of w).classes name ≡ Ok a → number_in (scope_of w).classes name ≡ Ok b → a ≡ b
@@ -193,9 +204,9 @@ module _ (w : Written) (m : Model) (limits : checks.is_within_limits w ≡ true)
   -- ---- features of a class
 
   class_known : (c f : ℕ) → IsFeature m f → belongs m c f ≡ true → c < length m.classes
-  class_known c f lt e = chained c (feature_at m f).owner (owned f lt) ((conforms-decides (supers m) c (feature_at m f).owner).0 e)
+  class_known c f lt e = chained c (feature_at m f).owner (owned f lt) ((is_or_reaches-decides (supers m) c (feature_at m f).owner).0 e)
     where
-      chained : (x y : ℕ) → y < length m.classes → chains.Conforms (supers m) x y → x < length m.classes
+      chained : (x y : ℕ) → y < length m.classes → chains.IsOrReaches (supers m) x y → x < length m.classes
       chained x y l (zero, h) = subst (λ (n : ℕ). n < length m.classes) (sym h) l
       chained x y l (suc n, h) = subst (λ (k : ℕ). x < k) (length-map m.classes (λ (k : Class). k.supers)) (in_range (supers m) x h.0 h.1)
 
@@ -233,18 +244,25 @@ module _ (w : Written) (m : Model) (limits : checks.is_within_limits w ≡ true)
       let p = and_parts (nat_le lower u) (nat_lt 0 u) (rw h at e) in
       (le_of 1 u p.1, le_of lower u p.0)
 
-  small_upper : (upper : Option ℕ) (u : ℕ) → IfSome upper (λ x. x ≤ 1000000) → upper ≡ Some u → u ≤ 1000000
+  small_upper : (upper : Option ℕ) (u : ℕ) → IfSome upper (λ x. x ≤ bound_limit) → upper ≡ Some u → u ≤ bound_limit
   small_upper upper u e h = rw h at e
 
-  module _ (small : AllOf IsSmall (written_features w)) (bounds : list_all checks.has_multiplicity m.features ≡ true) where
-    pub lower_bounds : (f : ℕ) → IsFeature m f → (feature_at m f).lower ≤ 1000000
-    lower_bounds f lt = subst (λ (n : ℕ). n ≤ 1000000) (sym (from f lt).lower) (all_at IsSmall (written_features w) small f no_written (within f lt)).0
+  module _ (spelled : AllOf IsSpelledWritten (written_features w)) (bounds : list_all checks.has_multiplicity m.features ≡ true) where
+    pub lower_bounds : (f : ℕ) → IsFeature m f → (feature_at m f).lower ≤ bound_limit
+    lower_bounds f lt = subst (λ (n : ℕ). n ≤ bound_limit) (sym (from f lt).lower) (all_at IsSpelledWritten (written_features w) spelled f no_written (within f lt)).1
 
-    pub upper_bounds : (f u : ℕ) → IsFeature m f → (feature_at m f).upper ≡ Some u → (0 < u) × ((feature_at m f).lower ≤ u) × (u ≤ 1000000)
+    pub upper_bounds : (f u : ℕ) → IsFeature m f → (feature_at m f).upper ≡ Some u → (0 < u) × ((feature_at m f).lower ≤ u) × (u ≤ bound_limit)
     upper_bounds f u lt e =
         let p = multiplicity (feature_at m f).lower (feature_at m f).upper u (AllPass-from_list_all checks.has_multiplicity m.features bounds f no_feature lt) e in
-        let s = (all_at IsSmall (written_features w) small f no_written (within f lt)).1 in
+        let s = (all_at IsSpelledWritten (written_features w) spelled f no_written (within f lt)).2 in
         (p.0, p.1, small_upper (at (written_features w) f).upper u s (sym (from f lt).upper ∙ e))
+
+    pub named_features : (f : ℕ) → IsFeature m f → IsModelName (feature_at m f).name
+    named_features f lt = subst IsModelName (sym (from f lt).name) (all_at IsSpelledWritten (written_features w) spelled f no_written (within f lt)).0
+
+-- the names of what is written are names
+names_of : {X : Type 0} (P : X → Type 0) (f : X → List ℕ) (xs : List X) → ((x : X) → P x → IsModelName (f x)) → All P xs → AllOf IsModelName (map f xs)
+names_of P f xs step h = all_mapped P IsModelName f step xs (from_all P xs h)
 
 pub well_formed : (m : Model) → IsNumbered m → chains.is_cyclic (supers m) ≡ false → has_clash m ≡ false → list_all checks.has_multiplicity m.features ≡ true → IsClassModel m
 well_formed m n acyclic free bounds =
@@ -252,18 +270,27 @@ well_formed m n acyclic free bounds =
     let parts = made_of w m n.numbered in
     let counts = few w n.limits in
     let names = differs w n.distinct in
-    let small = all_small w n.small in
+    let spelled = all_spelled w n.spelled in
     let scope = scope_of w in
     record {
       few_classes = omega (arith, class_count w m n.limits n.distinct parts, counts.classes);
       few_enumerations = omega (arith, enumeration_count w m n.limits n.distinct parts, counts.enumerations);
-      few_literals = along (λ (e : Enumeration). length e.literals ≤ 4096) (map enumeration_of w.enumerations) m.enumerations parts.enumerations
-          (all_mapped (λ (e : WrittenEnumeration). nat_le (length e.literals) 4096 ≡ true) (λ (e : Enumeration). length e.literals ≤ 4096) enumeration_of (λ e h. le_of (length e.literals) 4096 h) w.enumerations (of_each (λ e. nat_le (length e.literals) 4096) w.enumerations counts.literals));
+      few_literals = along (λ (e : Enumeration). length e.literals ≤ type_limit) (map enumeration_as_written w.enumerations) m.enumerations parts.enumerations
+          (all_mapped (λ (e : WrittenEnumeration). nat_le (length e.literals) type_limit ≡ true) (λ (e : Enumeration). length e.literals ≤ type_limit) enumeration_as_written (λ e h. le_of (length e.literals) type_limit h) w.enumerations (of_each (λ e. nat_le (length e.literals) type_limit) w.enumerations counts.literals));
       few_features = omega (arith, feature_count w m n.limits n.distinct parts, counts.features);
-      classes_differ = ap repeats (names_kept w m n.limits n.distinct parts) ∙ classes_differ w n.distinct;
-      enumerations_differ = ap repeats (enumerations_kept w m n.limits n.distinct parts) ∙ enumerations_differ w n.distinct;
-      literals_differ = along (λ (e : Enumeration). repeats e.literals ≡ false) (map enumeration_of w.enumerations) m.enumerations parts.enumerations
-          (all_mapped (λ (e : WrittenEnumeration). repeats e.literals ≡ false) (λ (e : Enumeration). repeats e.literals ≡ false) enumeration_of (λ e h. h) w.enumerations (of_none (λ e. repeats e.literals) w.enumerations names.literals));
+      title = ap is_title parts.name ∙ n.spelled.0;
+      named_types = along IsModelName (checks.written_enumeration_names w ++ checks.written_class_names w) (type_names m) (types_kept w m n.limits n.distinct parts)
+          (all_joined IsModelName (checks.written_enumeration_names w) (checks.written_class_names w) (names_of IsSpelledEnumeration (λ e. e.name) w.enumerations (λ e h. h.0) n.spelled.1) (names_of IsSpelledClass (λ c. c.name) w.classes (λ c h. h.0) n.spelled.2));
+      named_literals = along (λ (e : Enumeration). All IsModelName e.literals) (map enumeration_as_written w.enumerations) m.enumerations parts.enumerations
+          (all_mapped IsSpelledEnumeration (λ (e : Enumeration). All IsModelName e.literals) enumeration_as_written (λ e h. h.1) w.enumerations (from_all IsSpelledEnumeration w.enumerations n.spelled.1));
+      named_features = named_features w m n.limits n.distinct parts spelled bounds;
+      named_associations = along IsModelName (checks.written_association_names w) m.associations parts.associations (names_of IsSpelledAssociation (λ a. a.name) w.associations (λ a h. h.0) n.spelled.3);
+      types_differ = ap (repeats bytes_eq) (types_kept w m n.limits n.distinct parts) ∙ names.types;
+      types_defined = ap (list_any is_predefined) (types_kept w m n.limits n.distinct parts) ∙ names.defined;
+      associations_differ = ap (repeats bytes_eq) parts.associations ∙ names.associations;
+      supers_differ = all_at SupersDiffer m.classes (supers_differ scope w.classes m.classes parts.classes names.supers);
+      literals_differ = along (λ (e : Enumeration). repeats bytes_eq e.literals ≡ false) (map enumeration_as_written w.enumerations) m.enumerations parts.enumerations
+          (all_mapped (λ (e : WrittenEnumeration). repeats bytes_eq e.literals ≡ false) (λ (e : Enumeration). repeats bytes_eq e.literals ≡ false) enumeration_as_written (λ e h. h) w.enumerations (of_none (λ e. repeats bytes_eq e.literals) w.enumerations names.literals));
       known_supers = subst (λ (k : ℕ). All (λ (c : Class). All (λ d. d < k) c.supers) m.classes) (scope_classes w m n.limits n.distinct parts) (all_at (λ (c : Class). All (λ d. d < length scope.classes) c.supers) m.classes (supers_within scope w.classes m.classes parts.classes));
       acyclic = acyclic;
       known_owners = owned w m n.limits n.distinct parts;
@@ -273,12 +300,11 @@ well_formed m n acyclic free bounds =
           let a = from w m n.limits n.distinct parts f lt in
           let d = at (written_features w) f in
           (attribute_is scope d.element (feature_at m f).element (subst (λ (x : Role). element_type scope x d.element ≡ okay (feature_at m f).element) (sym a.role ∙ r) a.element)).no_class c e;
-      lower_bounds = lower_bounds w m n.limits n.distinct parts small bounds;
-      upper_bounds = upper_bounds w m n.limits n.distinct parts small bounds;
+      lower_bounds = lower_bounds w m n.limits n.distinct parts spelled bounds;
+      upper_bounds = upper_bounds w m n.limits n.distinct parts spelled bounds;
       unique_ends = unique_ends w m n.limits n.distinct parts;
       single_values = single_values w m n.limits n.distinct parts;
       sources = sources w m n.limits n.distinct parts;
       opposites = opposites w m n.limits n.distinct parts;
       one_feature = one_feature w m n.limits n.distinct parts free;
-      clash_free = free;
     }

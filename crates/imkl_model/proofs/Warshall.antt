@@ -3,7 +3,7 @@ use Rattle.std.proofs.Common.{◌≡◌, ℕ, suc, zero, ◌<◌, ◌≤◌, ◌
 use Rattle.std.proofs.lemmas.Bool.{false≢true, and_from, and_parts, or_cases, or_left, or_right}
 use Rattle.std.proofs.lemmas.Bool.Decides.{Decides-eqb, Decides-or, Decides-like, leb_tells}
 use Rattle.std.specs.List.{list_any}
-use Rattle.imkl_model.specs.Chains.{is_super, Chain, Reaches, Conforms, via, reaches, conforms}
+use Rattle.imkl_model.specs.Chains.{is_super, Chain, Reaches, IsOrReaches, via, reaches, is_or_reaches}
 
 -- ---- tests
 
@@ -73,7 +73,7 @@ sound supers (suc k) c d h =
 pub reaches-decides : (supers : List (List ℕ)) (c d : ℕ) → Decides (reaches supers c d) (Reaches supers c d)
 reaches-decides supers c d = (λ h. sound supers (length supers) c d h, λ h. complete supers h.0 c d h.1)
 
-chain_of : (supers : List (List ℕ)) (c d : ℕ) → (c ≡ d) ⊎ Reaches supers c d → Conforms supers c d
+chain_of : (supers : List (List ℕ)) (c d : ℕ) → (c ≡ d) ⊎ Reaches supers c d → IsOrReaches supers c d
 chain_of supers c d (inl e) = (zero, e)
 chain_of supers c d (inr r) = (suc r.0, r.1)
 
@@ -81,6 +81,6 @@ of_chain : (supers : List (List ℕ)) (n c d : ℕ) → Chain supers n c d → (
 of_chain supers zero c d h = inl h
 of_chain supers (suc n) c d h = inr (n, h)
 
-pub conforms-decides : (supers : List (List ℕ)) (c d : ℕ) → Decides (conforms supers c d) (Conforms supers c d)
-conforms-decides supers c d =
-    Decides-like (conforms supers c d) (chain_of supers c d) (λ h. of_chain supers h.0 c d h.1) (Decides-or (eqb c d) (reaches supers c d) (Decides-eqb c d) (reaches-decides supers c d))
+pub is_or_reaches-decides : (supers : List (List ℕ)) (c d : ℕ) → Decides (is_or_reaches supers c d) (IsOrReaches supers c d)
+is_or_reaches-decides supers c d =
+    Decides-like (is_or_reaches supers c d) (chain_of supers c d) (λ h. of_chain supers h.0 c d h.1) (Decides-or (eqb c d) (reaches supers c d) (Decides-eqb c d) (reaches-decides supers c d))

@@ -3,12 +3,12 @@ use Rattle.std.specs.Prelude.{◌≡◌, ℕ, suc, zero, ◌==◌, ◌||◌, ◌
 use Rattle.std.specs.List.{list_any}
 
 -- the direct superclasses of a class, where each class has a list of their numbers
-abbrev pub supers_of : List (List ℕ) → ℕ → List ℕ
-supers_of supers c = slice_index_or supers c []
+abbrev pub supers_at : List (List ℕ) → ℕ → List ℕ
+supers_at supers c = slice_index_or supers c []
 
 -- d is a direct superclass of c
 abbrev pub is_super : List (List ℕ) → ℕ → ℕ → Bool
-is_super supers c d = list_any (λ e. e == d) (supers_of supers c)
+is_super supers c d = list_any (λ e. e == d) (supers_at supers c)
 
 -- a chain of n superclass steps
 abbrev pub Chain : List (List ℕ) → ℕ → ℕ → ℕ → Type 0
@@ -19,9 +19,9 @@ Chain supers (suc n) c d = (e : ℕ) × (is_super supers c e ≡ true) × Chain 
 abbrev pub Reaches : List (List ℕ) → ℕ → ℕ → Type 0
 Reaches supers c d = (n : ℕ) × Chain supers (suc n) c d
 
--- nought or more steps
-abbrev pub Conforms : List (List ℕ) → ℕ → ℕ → Type 0
-Conforms supers c d = (n : ℕ) × Chain supers n c d
+-- zero or more steps
+abbrev pub IsOrReaches : List (List ℕ) → ℕ → ℕ → Type 0
+IsOrReaches supers c d = (n : ℕ) × Chain supers n c d
 
 -- a class reaches itself
 abbrev pub IsCyclic : List (List ℕ) → Type 0
@@ -35,8 +35,8 @@ via supers (suc k) c d = via supers k c d || (via supers k c k && via supers k k
 abbrev pub reaches : List (List ℕ) → ℕ → ℕ → Bool
 reaches supers c d = via supers (length supers) c d
 
-abbrev pub conforms : List (List ℕ) → ℕ → ℕ → Bool
-conforms supers c d = c == d || reaches supers c d
+abbrev pub is_or_reaches : List (List ℕ) → ℕ → ℕ → Bool
+is_or_reaches supers c d = c == d || reaches supers c d
 
 -- some number below n passes
 abbrev pub any_below : (ℕ → Bool) → ℕ → Bool

@@ -1,49 +1,53 @@
 -- The conditions on a class model as it is written.
-use Rattle.std.specs.Prelude.{ℕ, ◌&&◌, ◌||◌, List, ◌++◌, length, map, Bool, true, nat_le, nat_lt, Option, Some, None}
+use Rattle.std.specs.Prelude.{ℕ, ◌&&◌, ◌||◌, List, ◌++◌, length, map, Bool, true, nat_le, nat_lt, Option, Some, None, bytes_eq}
 use Rattle.std.specs.List.{list_all, list_any}
 use Rattle.imkl_model.specs.declared.written.Written.{Written}
-use Rattle.imkl_model.specs.Words.{repeats, is_predefined, qualified}
+use Rattle.ocl_base.specs.Lists.{repeats}
+use Rattle.imkl_model.specs.Limits.{type_limit, feature_limit}
+use Rattle.imkl_model.specs.Words.{is_predefined, qualified}
 use Rattle.imkl_model.specs.WrittenFeatures.{written_features}
 use Rattle.imkl_model.specs.declared.written.WrittenFeature.{WrittenFeature}
 use Rattle.imkl_model.specs.declared.feature.FeatureInfo.{FeatureInfo}
 
-abbrev pub enumeration_names : Written → List (List ℕ)
-enumeration_names w = map (λ e. e.name) w.enumerations
+abbrev pub written_enumeration_names : Written → List (List ℕ)
+written_enumeration_names w = map (λ e. e.name) w.enumerations
 
-abbrev pub class_names : Written → List (List ℕ)
-class_names w = map (λ c. c.name) w.classes
+abbrev pub written_class_names : Written → List (List ℕ)
+written_class_names w = map (λ c. c.name) w.classes
 
-abbrev pub association_names : Written → List (List ℕ)
-association_names w = map (λ a. a.name) w.associations
+abbrev pub written_association_names : Written → List (List ℕ)
+written_association_names w = map (λ a. a.name) w.associations
 
 abbrev pub feature_names : List WrittenFeature → List (List ℕ)
 feature_names ds = map (λ d. qualified d.owner d.name) ds
 
--- counts: 4,096 classes, 4,096 enumerations, 4,096 literals of each enumeration, 65,535 features
+-- counts of classes, enumerations, literals of each enumeration, and features
 unfoldable pub is_within_limits : Written → Bool
 is_within_limits w =
-    nat_le (length w.classes) 4096 && nat_le (length w.enumerations) 4096 && list_all (λ e. nat_le (length e.literals) 4096) w.enumerations
-    && nat_le (length (written_features w)) 65535
+    nat_le (length w.classes) type_limit && nat_le (length w.enumerations) type_limit
+    && list_all (λ e. nat_le (length e.literals) type_limit) w.enumerations
+    && nat_le (length (written_features w)) feature_limit
 
 -- two classes or enumerations of one name, or one with the name of a predefined type
 unfoldable pub repeats_type : Written → Bool
-repeats_type w = list_any is_predefined (enumeration_names w) || list_any is_predefined (class_names w) || repeats (enumeration_names w ++ class_names w)
+repeats_type w = list_any is_predefined (written_enumeration_names w) || list_any is_predefined (written_class_names w)
+    || repeats bytes_eq (written_enumeration_names w ++ written_class_names w)
 
 -- two literals of one enumeration with one name
 abbrev pub repeats_literal : Written → Bool
-repeats_literal w = list_any (λ e. repeats e.literals) w.enumerations
+repeats_literal w = list_any (λ e. repeats bytes_eq e.literals) w.enumerations
 
 -- two direct superclasses of one class with one name
 abbrev pub repeats_super : Written → Bool
-repeats_super w = list_any (λ c. repeats c.supers) w.classes
+repeats_super w = list_any (λ c. repeats bytes_eq c.supers) w.classes
 
 -- two associations of one name
 abbrev pub repeats_association : Written → Bool
-repeats_association w = repeats (association_names w)
+repeats_association w = repeats bytes_eq (written_association_names w)
 
 -- two features of one owner with one name; owners are compared by their written names
 abbrev pub repeats_feature : Written → Bool
-repeats_feature w = repeats (feature_names (written_features w))
+repeats_feature w = repeats bytes_eq (feature_names (written_features w))
 
 unfoldable pub repeats_name : Written → Bool
 repeats_name w = repeats_type w || repeats_literal w || repeats_super w || repeats_association w || repeats_feature w

@@ -1,15 +1,15 @@
 -- Class models: enumerations, classes with superclasses, features, associations.
-use Rattle.std.specs.Prelude.{◌≡◌, ◌≢◌, ℕ, suc, zero, ◌==◌, ◌&&◌, ◌<◌, Bool, false, not, List, [], length, map, Option, Some, None, position, slice_index_or, bytes_eq, if◌then◌else◌}
-use Rattle.std.specs.Option.{option_or}
+use Rattle.std.specs.Prelude.{◌≡◌, ◌≢◌, ℕ, ◌==◌, ◌&&◌, ◌<◌, Bool, false, not, List, [], length, map, Option, None, position, slice_index_or, bytes_eq}
+use Rattle.ocl_base.specs.Numbers.{least}
 use Rattle.imkl_model.specs.declared.entry.Enumeration.{Enumeration}
 use Rattle.imkl_model.specs.declared.entry.Class.{Class}
 use Rattle.imkl_model.specs.declared.feature.FeatureInfo.{FeatureInfo}
 use Rattle.imkl_model.specs.declared.feature.ElementType.TheVariants as element
-use Rattle.imkl_model.specs.declared.feature.CollectionKind.TheVariants as kind
+use Rattle.ocl_base.specs.declared.collection_kind.CollectionKind.TheVariants as kind
 use Rattle.imkl_model.specs.declared.feature.Role.TheVariants as role
 use Rattle.imkl_model.specs.Chains as chains
 
--- What a class model is. Enumerations, classes, features and associations are numbered by their places. Features stand
+-- What a class model is. Enumerations, classes, features and associations are numbered by their indices. Features stand
 -- in the model's order: attributes class by class as written, then for each association its source end and its
 -- opposite end.
 pub record Model : Type 0 where
@@ -19,10 +19,6 @@ pub record Model : Type 0 where
   pub features : List FeatureInfo
   pub associations : List (List ℕ)
 
--- a class model of these parts
-abbrev pub model_of : List ℕ → List Enumeration → List Class → List FeatureInfo → List (List ℕ) → Model
-model_of name enumerations classes features associations = record { name = name; enumerations = enumerations; classes = classes; features = features; associations = associations }
-
 abbrev pub no_enumeration : Enumeration
 no_enumeration = record { name = []; literals = [] }
 
@@ -30,7 +26,15 @@ abbrev pub no_class : Class
 no_class = record { name = []; is_abstract = false; supers = [] }
 
 abbrev pub no_feature : FeatureInfo
-no_feature = record { name = []; owner = 0; element = element.Boolean; lower = 0; upper = None; kind = kind.Set; role = role.Attribute }
+no_feature = record {
+  name = [];
+  owner = 0;
+  element = element.Boolean;
+  lower = 0;
+  upper = None;
+  kind = kind.Set;
+  role = role.Attribute;
+}
 
 abbrev pub enumeration_at : Model → ℕ → Enumeration
 enumeration_at m e = slice_index_or m.enumerations e no_enumeration
@@ -65,13 +69,13 @@ supers_in classes = map (λ c. c.supers) classes
 abbrev pub supers : Model → List (List ℕ)
 supers m = supers_in m.classes
 
--- c conforms to d: a chain of nought or more superclass steps leads from c to d
+-- c conforms to d: a chain of zero or more superclass steps leads from c to d
 abbrev pub Conforms : Model → ℕ → ℕ → Type 0
-Conforms m c d = chains.Conforms (supers m) c d
+Conforms m c d = chains.IsOrReaches (supers m) c d
 
 -- the same as a test
 abbrev pub conforms : Model → ℕ → ℕ → Bool
-conforms m c d = chains.conforms (supers m) c d
+conforms m c d = chains.is_or_reaches (supers m) c d
 
 -- ---- features of a class
 
@@ -90,11 +94,6 @@ enumeration_number m name = position (bytes_eq name) (enumeration_names m)
 abbrev pub literal_number : Model → ℕ → List ℕ → Option ℕ
 literal_number m e name = position (bytes_eq name) (enumeration_at m e).literals
 
--- the least number below n that passes
-abbrev pub least : (ℕ → Bool) → ℕ → Option ℕ
-least p zero = None
-least p (suc n) = option_or (least p n) (if p n then Some n else None)
-
 abbrev pub is_named_in : List FeatureInfo → List ℕ → ℕ → Bool
 is_named_in features name f = bytes_eq name (feature_in features f).name
 
@@ -109,10 +108,13 @@ feature_number m c name = least (λ f. is_named m name f && belongs m c f) (leng
 
 -- two features of one name and different owners that both belong to a class
 abbrev pub clashes : Model → ℕ → ℕ → ℕ → Bool
-clashes m c f g = is_named m (feature_at m f).name g && not ((feature_at m f).owner == (feature_at m g).owner) && belongs m c f && belongs m c g
+clashes m c f g = is_named m (feature_at m f).name g && not ((feature_at m f).owner == (feature_at m g).owner)
+    && belongs m c f && belongs m c g
 
 abbrev pub has_clash : Model → Bool
-has_clash m = chains.any_below (λ c. chains.any_below (λ f. chains.any_below (λ g. clashes m c f g) (length m.features)) (length m.features)) (length m.classes)
+has_clash m =
+    chains.any_below (λ c. chains.any_below (λ f. chains.any_below (λ g. clashes m c f g) (length m.features))
+    (length m.features)) (length m.classes)
 
 -- the same as a relation
 pub record IsClash (m : Model) (c f g : ℕ) : Type 0 where

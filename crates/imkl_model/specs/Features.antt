@@ -1,7 +1,6 @@
 -- What a feature is by its role, its kind and its upper bound.
 use Rattle.std.specs.Prelude.{ℕ, ◌==◌, ◌&&◌, ◌||◌, Bool, true, false, not, Option, Some, None}
-use Rattle.imkl_model.specs.declared.feature.CollectionKind.{CollectionKind}
-use Rattle.imkl_model.specs.declared.feature.CollectionKind.TheVariants.{Set, OrderedSet, Bag, Sequence}
+use Rattle.ocl_base.specs.CollectionKinds.{is_unique_kind}
 use Rattle.imkl_model.specs.declared.feature.FeatureInfo.{FeatureInfo}
 use Rattle.imkl_model.specs.declared.feature.Role.{Role}
 use Rattle.imkl_model.specs.declared.feature.Role.TheVariants.{Attribute, SourceEnd, OppositeEnd}
@@ -23,12 +22,6 @@ is_end r = not (is_attribute r)
 abbrev pub is_single : Option ℕ → Bool
 is_single None = false
 is_single (Some n) = n == 1
-
-abbrev pub is_unique_kind : CollectionKind → Bool
-is_unique_kind Set = true
-is_unique_kind OrderedSet = true
-is_unique_kind Bag = false
-is_unique_kind Sequence = false
 
 -- a unique feature holds nothing twice: each end is unique, and an attribute as its kind says, but for one with upper bound 1
 abbrev pub is_unique : FeatureInfo → Bool

@@ -3,13 +3,19 @@ use Rattle.std.specs.Prelude.{ℕ, ◌<◌, ◌&&◌, ◌==◌, Bool, false, not
 use Rattle.std.specs.List.{list_any}
 use Rattle.imkl_model.specs.declared.entry.Class.{Class}
 use Rattle.imkl_model.specs.declared.feature.FeatureInfo.{FeatureInfo}
-use Rattle.imkl_model.specs.ClassModel.{Model, model_of, feature_at, feature_in, belongs, is_named}
+use Rattle.imkl_model.specs.ClassModel.{Model, feature_at, feature_in, belongs, is_named}
 use Rattle.imkl_model.specs.Chains.{any_below}
-use Rattle.imkl_model.specs.Held.{places}
+use Rattle.ocl_base.specs.Numbers.{places}
 
 -- classes and features alone
 abbrev pub model_with : List Class → List FeatureInfo → Model
-model_with classes features = model_of [] [] classes features []
+model_with classes features = record {
+  name = [];
+  enumerations = [];
+  classes = classes;
+  features = features;
+  associations = [];
+}
 
 -- the features with the name of feature f
 abbrev pub group : Model → ℕ → List ℕ

@@ -1,24 +1,20 @@
 -- What the tables of a class model keep beside its content, for look-ups.
-use Rattle.std.specs.Prelude.{◌≡◌, ℕ, zero, suc, ◌<◌, ◌==◌, ◌&&◌, ◌++◌, [], ◌∷◌, Bool, List, Option, length, unwrap_or, if◌then◌else◌}
+use Rattle.std.specs.Prelude.{◌≡◌, ℕ, ◌<◌, ◌==◌, ◌&&◌, [], Bool, List, Option, length, unwrap_or}
 use Rattle.std.specs.Map.{lookup}
 use Rattle.std.specs.Ordering.{nat_cmp}
 use Rattle.std.specs.BTreeMap.{is_at}
+use Rattle.ocl_base.specs.Numbers.{places, least}
 use Rattle.imkl_model.specs.declared.entry.Class.{Class}
 use Rattle.imkl_model.specs.declared.feature.FeatureInfo.{FeatureInfo}
-use Rattle.imkl_model.specs.ClassModel.{supers_in, names_of_classes, feature_in, is_named_in, least}
+use Rattle.imkl_model.specs.ClassModel.{supers_in, names_of_classes, feature_in, is_named_in}
 use Rattle.imkl_model.specs.Chains.{reaches}
-use Rattle.imkl_model.specs.Tables.{IsSquare, at}
-
--- the numbers below n that pass, in order
-abbrev pub places : (ℕ → Bool) → ℕ → List ℕ
-places p zero = []
-places p (suc n) = if p n then places p n ++ n ∷ [] else places p n
+use Rattle.imkl_model.specs.Tables.{IsSquare, mark_at}
 
 -- classes, their names in order, and a row of the classes that each class reaches
 pub record ClassesHold (cs : List Class) (ns : List (List ℕ)) (rows : List (List Bool)) : Type 0 where
   pub names : ns ≡ names_of_classes cs
   pub square : IsSquare (length cs) rows
-  pub reached : (i j : ℕ) → i < length cs → at rows i j ≡ reaches (supers_in cs) i j
+  pub reached : (i j : ℕ) → i < length cs → mark_at rows i j ≡ reaches (supers_in cs) i j
 
 -- the features of one name: their numbers in order, and owners with the first that each has
 pub record Group : Type 0 where

@@ -1,20 +1,22 @@
-pub mod Numbers
+-- Definitions: what contracts mean.
+pub mod Limits
 pub mod Words
-pub mod Chains
+pub mod Json
+pub mod Faults
 pub mod Features
+pub mod Chains
 pub mod ClassModel
 pub mod WellFormed
-pub mod Steps
-pub mod Trees
-pub mod Reading
 pub mod Shape
 pub mod WrittenFeatures
 pub mod Checks
 pub mod Scopes
 pub mod Numbering
-pub mod Bounds
-pub mod Drafts
 pub mod Description
+pub mod Laws
+-- Bookkeeping: views, layouts, walks and tables that only proofs and private contracts use.
+pub mod Spelled
+pub mod Drafts
 pub mod Tables
 pub mod Held
 pub mod Groups

@@ -1,5 +1,5 @@
 -- From names to numbers.
-use Rattle.std.specs.Prelude.{ℕ, List, map, Bool, true, false, Option, Some, None, Result, Ok, ◌==◌, position, bytes_eq, if◌then◌else◌, codes}
+use Rattle.std.specs.Prelude.{ℕ, List, map, Bool, true, false, Result, Ok, position, bytes_eq, if◌then◌else◌, codes}
 use Rattle.imkl_model.specs.declared.fault.ModelFault.{ModelFault}
 use Rattle.imkl_model.specs.declared.fault.ModelFault.TheVariants.{UnknownName}
 use Rattle.imkl_model.specs.declared.entry.Enumeration.{Enumeration}
@@ -7,19 +7,20 @@ use Rattle.imkl_model.specs.declared.entry.Class.{Class}
 use Rattle.imkl_model.specs.declared.feature.FeatureInfo.{FeatureInfo}
 use Rattle.imkl_model.specs.declared.feature.ElementType.{ElementType}
 use Rattle.imkl_model.specs.declared.feature.ElementType.TheVariants as element
-use Rattle.imkl_model.specs.declared.feature.CollectionKind.{CollectionKind}
-use Rattle.imkl_model.specs.declared.feature.CollectionKind.TheVariants as kind
+use Rattle.ocl_base.specs.declared.collection_kind.CollectionKind.{CollectionKind}
+use Rattle.ocl_base.specs.declared.collection_kind.CollectionKind.TheVariants as kind
 use Rattle.imkl_model.specs.declared.feature.Role.{Role}
 use Rattle.imkl_model.specs.declared.feature.Role.TheVariants as role
 use Rattle.imkl_model.specs.declared.written.WrittenClass.{WrittenClass}
 use Rattle.imkl_model.specs.declared.written.WrittenEnumeration.{WrittenEnumeration}
 use Rattle.imkl_model.specs.declared.written.Written.{Written}
-use Rattle.imkl_model.specs.Steps.{◌>>=◌, found, each}
+use Rattle.ocl_base.specs.Steps.{◌>>=◌, found, each}
 use Rattle.imkl_model.specs.WrittenFeatures.{written_features}
 use Rattle.imkl_model.specs.declared.written.WrittenFeature.{WrittenFeature}
-use Rattle.imkl_model.specs.Checks.{association_names}
+use Rattle.imkl_model.specs.Checks.{written_association_names}
 use Rattle.imkl_model.specs.declared.numbering.Scope.{Scope}
 use Rattle.imkl_model.specs.Scopes.{scope_of}
+use Rattle.imkl_model.specs.Features.{is_single}
 use Rattle.imkl_model.specs.ClassModel.{Model}
 
 -- the number of a name, else UnknownName
@@ -53,31 +54,41 @@ kind_of true false = kind.Sequence
 kind_of false true = kind.Set
 kind_of false false = kind.Bag
 
-abbrev pub is_one : Option ℕ → Bool
-is_one None = false
-is_one (Some upper) = upper == 1
-
 -- with upper bound 1 what is written of order and uniqueness isn't kept
 abbrev pub collection_kind : WrittenFeature → CollectionKind
-collection_kind d = if is_one d.upper then kind.Set else kind_of d.ordered d.unique
+collection_kind d = if is_single d.upper then kind.Set else kind_of d.ordered d.unique
 
-unfoldable pub feature_of : Scope → WrittenFeature → Result FeatureInfo ModelFault
-feature_of s d = do
+unfoldable pub feature_in_scope : Scope → WrittenFeature → Result FeatureInfo ModelFault
+feature_in_scope s d = do
   owner ← number_in s.classes d.owner
   element ← element_type s d.role d.element
-  Ok (record { name = d.name; owner = owner; element = element; lower = d.lower; upper = d.upper; kind = collection_kind d; role = d.role })
+  Ok (record {
+    name = d.name;
+    owner = owner;
+    element = element;
+    lower = d.lower;
+    upper = d.upper;
+    kind = collection_kind d;
+    role = d.role;
+  })
 
-unfoldable pub class_of : Scope → WrittenClass → Result Class ModelFault
-class_of s c = do
+unfoldable pub class_in_scope : Scope → WrittenClass → Result Class ModelFault
+class_in_scope s c = do
   supers ← each (number_in s.classes) c.supers
   Ok (record { name = c.name; is_abstract = c.is_abstract; supers = supers })
 
-abbrev pub enumeration_of : WrittenEnumeration → Enumeration
-enumeration_of e = record { name = e.name; literals = e.literals }
+abbrev pub enumeration_as_written : WrittenEnumeration → Enumeration
+enumeration_as_written e = record { name = e.name; literals = e.literals }
 
 -- the class model with numbers for names
-unfoldable pub numbered : Written → Result Model ModelFault
-numbered w = do
-  classes ← each (class_of (scope_of w)) w.classes
-  features ← each (feature_of (scope_of w)) (written_features w)
-  Ok (record { name = w.name; enumerations = map enumeration_of w.enumerations; classes = classes; features = features; associations = association_names w })
+unfoldable pub numbered_model : Written → Result Model ModelFault
+numbered_model w = do
+  classes ← each (class_in_scope (scope_of w)) w.classes
+  features ← each (feature_in_scope (scope_of w)) (written_features w)
+  Ok (record {
+    name = w.name;
+    enumerations = map enumeration_as_written w.enumerations;
+    classes = classes;
+    features = features;
+    associations = written_association_names w;
+  })

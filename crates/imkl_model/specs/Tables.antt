@@ -2,11 +2,11 @@
 use Rattle.std.specs.Prelude.{◌≡◌, ℕ, zero, suc, ◌<◌, ◌==◌, ◌/◌, ◌%◌, ◌++◌, ◌∷◌, Bool, false, List, [], length, All, slice_index_or}
 use Rattle.std.specs.Int.{bit_at}
 
-abbrev pub has : List Bool → ℕ → Bool
-has row j = slice_index_or row j false
+abbrev pub has_mark : List Bool → ℕ → Bool
+has_mark row j = slice_index_or row j false
 
-abbrev pub at : List (List Bool) → ℕ → ℕ → Bool
-at rows i j = has (slice_index_or rows i []) j
+abbrev pub mark_at : List (List Bool) → ℕ → ℕ → Bool
+mark_at rows i j = has_mark (slice_index_or rows i []) j
 
 -- n rows of n marks
 abbrev pub IsSquare : ℕ → List (List Bool) → Type 0

@@ -1,19 +1,30 @@
--- What every class model that was read keeps.
-use Rattle.std.specs.Prelude.{◌≡◌, ℕ, suc, ◌<◌, ◌≤◌, true, false, length, All, Some}
+-- What every class model keeps.
+use Rattle.std.specs.Prelude.{◌≡◌, ℕ, suc, ◌<◌, ◌≤◌, ◌++◌, true, false, List, length, nat_eq, All, Some, bytes_eq}
+use Rattle.std.specs.List.{list_any}
+use Rattle.ocl_base.specs.Lists.{repeats}
 use Rattle.imkl_model.specs.declared.feature.ElementType.TheVariants as element
-use Rattle.imkl_model.specs.declared.feature.CollectionKind.TheVariants as kind
+use Rattle.ocl_base.specs.declared.collection_kind.CollectionKind.TheVariants as kind
 use Rattle.imkl_model.specs.declared.feature.Role.TheVariants as role
-use Rattle.imkl_model.specs.Words.{repeats}
+use Rattle.imkl_model.specs.Limits.{type_limit, feature_limit, bound_limit}
+use Rattle.imkl_model.specs.Words.{is_model_name, is_title, is_predefined}
 use Rattle.imkl_model.specs.Chains.{is_cyclic}
-use Rattle.imkl_model.specs.Features.{is_end, is_unique_kind}
-use Rattle.imkl_model.specs.ClassModel.{Model, supers, class_names, enumeration_names, feature_at, has_clash, belongs}
+use Rattle.imkl_model.specs.Features.{is_end}
+use Rattle.ocl_base.specs.CollectionKinds.{is_unique_kind}
+use Rattle.imkl_model.specs.ClassModel.{Model, supers, class_names, enumeration_names, feature_at, belongs}
 
 -- a feature of the model
 abbrev pub IsFeature : Model → ℕ → Type 0
 IsFeature m f = f < length m.features
 
+abbrev pub IsModelName : List ℕ → Type 0
+IsModelName name = is_model_name name ≡ true
+
+-- classes and enumerations are the types of a model
+abbrev pub type_names : Model → List (List ℕ)
+type_names m = enumeration_names m ++ class_names m
+
 -- two features are the source end and the opposite end of one association: each end's elements are objects of the other
--- end's owner, and the opposite end stands right after the source end
+-- end's owner, and the opposite end comes right after the source end
 pub record ArePaired (m : Model) (source opposite : ℕ) : Type 0 where
   pub next : opposite ≡ suc source
   pub within : opposite < length m.features
@@ -24,27 +35,40 @@ pub record ArePaired (m : Model) (source opposite : ℕ) : Type 0 where
 
 pub record IsClassModel (m : Model) : Type 0 where
   -- counts
-  pub few_classes : length m.classes ≤ 4096
-  pub few_enumerations : length m.enumerations ≤ 4096
-  pub few_literals : All (λ e. length e.literals ≤ 4096) m.enumerations
-  pub few_features : length m.features ≤ 65535
-  -- names
-  pub classes_differ : repeats (class_names m) ≡ false
-  pub enumerations_differ : repeats (enumeration_names m) ≡ false
-  pub literals_differ : All (λ e. repeats e.literals ≡ false) m.enumerations
+  pub few_classes : length m.classes ≤ type_limit
+  pub few_enumerations : length m.enumerations ≤ type_limit
+  pub few_literals : All (λ e. length e.literals ≤ type_limit) m.enumerations
+  pub few_features : length m.features ≤ feature_limit
+  -- names are names
+  pub title : is_title m.name ≡ true
+  pub named_types : All IsModelName (type_names m)
+  pub named_literals : All (λ e. All IsModelName e.literals) m.enumerations
+  pub named_features : (f : ℕ) → IsFeature m f → IsModelName (feature_at m f).name
+  pub named_associations : All IsModelName m.associations
+  -- names differ
+  pub types_differ : repeats bytes_eq (type_names m) ≡ false
+  pub types_defined : list_any is_predefined (type_names m) ≡ false
+  pub literals_differ : All (λ e. repeats bytes_eq e.literals ≡ false) m.enumerations
+  pub associations_differ : repeats bytes_eq m.associations ≡ false
   -- superclasses
   pub known_supers : All (λ c. All (λ d. d < length m.classes) c.supers) m.classes
+  pub supers_differ : All (λ c. repeats nat_eq c.supers ≡ false) m.classes
   pub acyclic : is_cyclic (supers m) ≡ false
   -- features
   pub known_owners : (f : ℕ) → IsFeature m f → (feature_at m f).owner < length m.classes
   pub known_classes : (f c : ℕ) → IsFeature m f → (feature_at m f).element ≡ element.Class c → c < length m.classes
-  pub known_enumerations : (f e : ℕ) → IsFeature m f → (feature_at m f).element ≡ element.Enumeration e → e < length m.enumerations
-  pub scalar_attributes : (f c : ℕ) → IsFeature m f → (feature_at m f).role ≡ role.Attribute → (feature_at m f).element ≡ element.Class c → ⊥
-  pub lower_bounds : (f : ℕ) → IsFeature m f → (feature_at m f).lower ≤ 1000000
-  pub upper_bounds : (f u : ℕ) → IsFeature m f → (feature_at m f).upper ≡ Some u → (0 < u) × ((feature_at m f).lower ≤ u) × (u ≤ 1000000)
-  pub unique_ends : (f : ℕ) → IsFeature m f → is_end (feature_at m f).role ≡ true → is_unique_kind (feature_at m f).kind ≡ true
+  pub known_enumerations : (f e : ℕ) → IsFeature m f → (feature_at m f).element ≡ element.Enumeration e
+      → e < length m.enumerations
+  pub scalar_attributes : (f c : ℕ) → IsFeature m f → (feature_at m f).role ≡ role.Attribute
+      → (feature_at m f).element ≡ element.Class c → ⊥
+  pub lower_bounds : (f : ℕ) → IsFeature m f → (feature_at m f).lower ≤ bound_limit
+  pub upper_bounds : (f u : ℕ) → IsFeature m f → (feature_at m f).upper ≡ Some u
+      → (0 < u) × ((feature_at m f).lower ≤ u) × (u ≤ bound_limit)
+  pub unique_ends : (f : ℕ) → IsFeature m f → is_end (feature_at m f).role ≡ true
+      → is_unique_kind (feature_at m f).kind ≡ true
   pub single_values : (f : ℕ) → IsFeature m f → (feature_at m f).upper ≡ Some 1 → (feature_at m f).kind ≡ kind.Set
   pub sources : (f g : ℕ) → IsFeature m f → (feature_at m f).role ≡ role.SourceEnd g → ArePaired m f g
   pub opposites : (f g : ℕ) → IsFeature m f → (feature_at m f).role ≡ role.OppositeEnd g → ArePaired m g f
-  pub one_feature : (c f g : ℕ) → IsFeature m f → IsFeature m g → belongs m c f ≡ true → belongs m c g ≡ true → (feature_at m f).name ≡ (feature_at m g).name → f ≡ g
-  pub clash_free : has_clash m ≡ false
+  -- no two features of a class have one name
+  pub one_feature : (c f g : ℕ) → IsFeature m f → IsFeature m g → belongs m c f ≡ true → belongs m c g ≡ true
+      → (feature_at m f).name ≡ (feature_at m g).name → f ≡ g

@@ -2,7 +2,7 @@
 
 ghost use Rattle.std.specs.Prelude.{◌≡◌, ◌==◌, ℕ, ◌<◌, ◌&&◌, ◌||◌, length, All, IfOk};
 ghost use Rattle.std.specs.List.{list_any};
-ghost use Rattle.imkl_model.specs.Tables.{has, at, IsSquare, AreWithin};
+ghost use Rattle.imkl_model.specs.Tables.{has_mark, mark_at, IsSquare, AreWithin};
 ghost use Rattle.imkl_model.specs.Chains.{any_below, is_super, reaches};
 ghost use Rattle.imkl_model.specs.ClassModel.{supers_in};
 
@@ -13,11 +13,12 @@ use std::alloc::{AllocError, Global};
 
 fn direct_row(alloc: Global, count: usize, supers: &[ClassNo]) -> Result<Row, AllocError>
     requires { All (λ d. d < count) supers.now }
-    ensures { IfOk result (λ r. (length r ≡ count) × ((j : ℕ) → has r j ≡ list_any (λ e. e == j) supers.now)) }
+    ensures { IfOk result (λ r. (length r ≡ count)
+        × ((j : ℕ) → has_mark r j ≡ list_any (λ e. e == j) supers.now)) }
 {
     let mut row = Row::new(alloc, count)?;
     for class in supers {
-        row.add(class.place());
+        row.add(class.index());
     }
     Ok(row)
 }
@@ -25,7 +26,8 @@ fn direct_row(alloc: Global, count: usize, supers: &[ClassNo]) -> Result<Row, Al
 fn direct(alloc: Global, classes: &[Class]) -> Result<Vec<Row>, AllocError>
     requires { AreWithin (length classes.now) (supers_in classes.now) }
     ensures square { IfOk result (λ v. IsSquare (length classes.now) v.items) }
-    ensures steps { IfOk result (λ v. (i j : ℕ) → i < length classes.now → at v.items i j ≡ is_super (supers_in classes.now) i j) }
+    ensures steps { IfOk result (λ v. (i j : ℕ) → i < length classes.now
+        → mark_at v.items i j ≡ is_super (supers_in classes.now) i j) }
 {
     let mut rows = Vec::new(alloc);
     for class in classes {
@@ -40,7 +42,8 @@ fn pass(rows: &mut Vec<Row>, middle: &Row, k: usize)
     requires square { IsSquare (length rows.old.items) rows.old.items }
     requires as_long { length middle.now ≡ length rows.old.items }
     ensures square { IsSquare (length rows.old.items) rows.new.items }
-    ensures joins { (i j : ℕ) → i < length rows.old.items → at rows.new.items i j ≡ (at rows.old.items i j || (at rows.old.items i k && has middle.now j)) }
+    ensures joins { (i j : ℕ) → i < length rows.old.items → mark_at rows.new.items i j
+        ≡ (mark_at rows.old.items i j || (mark_at rows.old.items i k && has_mark middle.now j)) }
 {
     for i in 0..rows.len() {
         let row = &mut rows[i];
@@ -57,17 +60,20 @@ fn round(rows: &mut Vec<Row>, middle: &mut Row, k: usize)
     requires as_long { length middle.old ≡ length rows.old.items }
     ensures square { IsSquare (length rows.old.items) rows.new.items }
     ensures as_long { length middle.new ≡ length rows.old.items }
-    ensures joins { (i j : ℕ) → i < length rows.old.items → at rows.new.items i j ≡ (at rows.old.items i j || (at rows.old.items i k && at rows.old.items k j)) }
+    ensures joins { (i j : ℕ) → i < length rows.old.items → mark_at rows.new.items i j
+        ≡ (mark_at rows.old.items i j
+        || (mark_at rows.old.items i k && mark_at rows.old.items k j)) }
 {
     middle.copy_from(&rows[k]);
     pass(rows, middle, k);
 }
 
 /// The classes that each class reaches by one or more steps.
-pub(crate) fn reached(alloc: Global, classes: &[Class]) -> Result<Vec<Row>, AllocError>
+pub(crate) fn ancestor_rows(alloc: Global, classes: &[Class]) -> Result<Vec<Row>, AllocError>
     requires { AreWithin (length classes.now) (supers_in classes.now) }
     ensures square { IfOk result (λ v. IsSquare (length classes.now) v.items) }
-    ensures reaches { IfOk result (λ v. (i j : ℕ) → i < length classes.now → at v.items i j ≡ reaches (supers_in classes.now) i j) }
+    ensures reaches { IfOk result (λ v. (i j : ℕ) → i < length classes.now
+        → mark_at v.items i j ≡ reaches (supers_in classes.now) i j) }
 {
     let mut rows = direct(alloc, classes)?;
     let mut middle = Row::new(alloc, classes.len())?;
@@ -80,7 +86,7 @@ pub(crate) fn reached(alloc: Global, classes: &[Class]) -> Result<Vec<Row>, Allo
 /// Whether a class is marked in its own row.
 pub(crate) fn reaches_itself(rows: &[Row]) -> bool
     requires { IsSquare (length rows.now) rows.now }
-    ensures { result ≡ any_below (λ c. at rows.now c c) (length rows.now) }
+    ensures { result ≡ any_below (λ c. mark_at rows.now c c) (length rows.now) }
 {
     for (class, row) in rows.iter().enumerate() {
         if row.has(class) {

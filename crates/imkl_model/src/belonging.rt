@@ -19,7 +19,8 @@ pub(crate) fn first_belonging(
     requires numbers { All (λ f. f < length features.now) numbers.now }
     requires owners { AreOwned classes.now features.now }
     ensures within { IfSome result (λ f. f < length features.now) }
-    ensures found { result ≡ find (belongs (model_with classes.now features.now) class) numbers.now }
+    ensures found { result
+        ≡ find (belongs (model_with classes.now features.now) class) numbers.now }
 {
     for number in numbers {
         if classes.conforms(class, features.at(*number).owner) {

@@ -2,6 +2,7 @@
 
 ghost use Rattle.std.specs.Prelude.{◌≡◌, length, nat_le};
 ghost use Rattle.std.specs.List.{list_all};
+ghost use Rattle.imkl_model.specs.Limits.{type_limit};
 ghost use Rattle.imkl_model.specs.Checks.{is_within_limits, is_multiplicity, has_multiplicity};
 ghost use Rattle.imkl_model.specs.WrittenFeatures.{written_features};
 
@@ -9,16 +10,16 @@ use crate::feature::FeatureInfo;
 use crate::written::{Written, WrittenEnumeration, WrittenFeature};
 
 /// The greatest count of classes, of enumerations, and of literals of one enumeration.
-const MOST_NAMES: usize = 4_096;
+const TYPE_LIMIT: usize = 4_096;
 
 /// The greatest count of features.
-const MOST_FEATURES: usize = 65_535;
+const FEATURE_LIMIT: usize = 65_535;
 
 fn few_literals(enumerations: &[WrittenEnumeration]) -> bool
-    ensures { result ≡ list_all (λ e. nat_le (length e.literals) 4096) enumerations.now }
+    ensures { result ≡ list_all (λ e. nat_le (length e.literals) type_limit) enumerations.now }
 {
     for enumeration in enumerations {
-        if enumeration.literals.as_slice().len() > MOST_NAMES {
+        if enumeration.literals.as_slice().len() > TYPE_LIMIT {
             return false;
         }
     }
@@ -33,10 +34,10 @@ pub(crate) fn is_within_limits(written: &Written, features: &[WrittenFeature]) -
 {
     let classes = written.classes.as_slice();
     let enumerations = written.enumerations.as_slice();
-    classes.len() <= MOST_NAMES
-        && enumerations.len() <= MOST_NAMES
+    classes.len() <= TYPE_LIMIT
+        && enumerations.len() <= TYPE_LIMIT
         && few_literals(enumerations)
-        && features.len() <= MOST_FEATURES
+        && features.len() <= FEATURE_LIMIT
 }
 
 fn is_multiplicity(lower: u32, upper: Option<u32>) -> bool

@@ -22,11 +22,12 @@ fn any_other(
     requires class { class < length classes.now }
     requires numbers { All (λ f. f < length features.now) numbers.now }
     requires owners { AreOwned classes.now features.now }
-    ensures { result ≡ list_any (has_other_owner (model_with classes.now features.now) class owner) numbers.now }
+    ensures { result
+        ≡ list_any (has_other_owner (model_with classes.now features.now) class owner) numbers.now }
 {
     for number in numbers {
         let other = features.at(*number).owner;
-        if classes.conforms(class, other) && owner.place() != other.place() {
+        if classes.conforms(class, other) && owner.index() != other.index() {
             return true;
         }
     }
@@ -58,7 +59,8 @@ fn meet(
 fn meet_somewhere(classes: &ClassTable, features: &FeatureTable, numbers: &[FeatureNo]) -> bool
     requires numbers { All (λ f. f < length features.now) numbers.now }
     requires owners { AreOwned classes.now features.now }
-    ensures { result ≡ any_below (λ c. meets (model_with classes.now features.now) c numbers.now) (length classes.now) }
+    ensures { result ≡ any_below (λ c. meets (model_with classes.now features.now) c numbers.now)
+        (length classes.now) }
 {
     for class in 0..classes.len() {
         if meet(classes, features, ClassNo::new(class), numbers) {
@@ -72,7 +74,7 @@ fn begins_with(numbers: &[FeatureNo], number: FeatureNo) -> bool
     ensures { result ≡ begins_with numbers.now number }
 {
     match numbers {
-        [first, ..] => first.place() == number.place(),
+        [first, ..] => first.index() == number.index(),
         [] => false,
     }
 }

@@ -1,11 +1,11 @@
 //! The classes of a class model, with tables for look-ups.
 
 ghost use Rattle.std.specs.Prelude.{◌≡◌, ◌<◌, length, position, bytes_eq, slice_index_or, IfOk};
-ghost use Rattle.imkl_model.specs.Chains.{conforms, is_cyclic};
+ghost use Rattle.imkl_model.specs.Chains.{is_or_reaches, is_cyclic};
 ghost use Rattle.imkl_model.specs.Tables.{AreWithin};
 ghost use Rattle.imkl_model.specs.ClassModel.{supers_in, names_of_classes, no_class};
 
-use crate::ancestors::{reached, reaches_itself};
+use crate::ancestors::{ancestor_rows, reaches_itself};
 use crate::entry::Class;
 use crate::names::Names;
 use crate::numbers::ClassNo;
@@ -44,7 +44,7 @@ impl ClassTable {
         requires supers { AreWithin (length classes.items) (supers_in classes.items) }
         ensures { IfOk result (λ t. t ≡ classes.items) }
     {
-        let reached = reached(alloc, &classes)?;
+        let reached = ancestor_rows(alloc, &classes)?;
         Ok(ClassTable {
             classes,
             names,
@@ -68,14 +68,14 @@ impl ClassTable {
         requires { class < length self.now }
         ensures { result.now ≡ slice_index_or self.now class no_class }
     {
-        &self.classes[class.place()]
+        &self.classes[class.index()]
     }
 
     pub(crate) fn number_of(&self, name: &str) -> Option<ClassNo>
         ensures { result ≡ position (bytes_eq name.now) (names_of_classes self.now) }
     {
         match self.names.number_of(name) {
-            Some(place) => Some(ClassNo::new(place)),
+            Some(index) => Some(ClassNo::new(index)),
             None => None,
         }
     }
@@ -83,10 +83,10 @@ impl ClassTable {
     pub(crate) fn conforms(&self, from: ClassNo, to: ClassNo) -> bool
         requires from { from < length self.now }
         requires to { to < length self.now }
-        ensures { result ≡ conforms (supers_in self.now) from to }
+        ensures { result ≡ is_or_reaches (supers_in self.now) from to }
     {
-        let row = &self.reached[from.place()];
-        from.place() == to.place() || row.has(to.place())
+        let row = &self.reached[from.index()];
+        from.index() == to.index() || row.has(to.index())
     }
 
     /// Whether a class is above itself.

@@ -1,10 +1,11 @@
 //! A class model before its last checks.
 
 ghost use Rattle.std.specs.Prelude.{◌≡◌, false};
-ghost use Rattle.imkl_model.specs.Reading.{Gives};
+ghost use Rattle.ocl_base.specs.Steps.{Gives};
+ghost use Rattle.imkl_model.specs.Faults.{model_fault};
 ghost use Rattle.imkl_model.specs.Checks.{repeats_name};
 ghost use Rattle.imkl_model.specs.WrittenFeatures.{written_features};
-ghost use Rattle.imkl_model.specs.Numbering.{numbered};
+ghost use Rattle.imkl_model.specs.Numbering.{numbered_model};
 ghost use Rattle.imkl_model.specs.Drafts.{model_of_draft};
 
 use crate::class_table::ClassTable;
@@ -28,7 +29,7 @@ pub(crate) struct Draft {
 }
 
 /// The class model that is written, or `UnknownName`.
-#[tactic(auto, unfolding(crate::specs::Numbering::numbered))]
+#[tactic(auto, unfolding(crate::specs::Numbering::numbered_model))]
 pub(crate) fn draft_of(
     alloc: Global,
     written: &Written,
@@ -36,7 +37,7 @@ pub(crate) fn draft_of(
 ) -> Result<Draft, ModelFault>
     requires features { features.now ≡ written_features written.now }
     requires distinct { repeats_name written.now ≡ false }
-    ensures { Gives model_of_draft result (numbered written.now) }
+    ensures { Gives model_fault model_of_draft result (numbered_model written.now) }
 {
     let scope = scope_of(alloc, written)?;
     let classes = classes_of(alloc, &scope, written.classes.as_slice())?;

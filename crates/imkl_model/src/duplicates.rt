@@ -1,8 +1,9 @@
-//! Names that stand twice.
+//! Repeated names.
 
-ghost use Rattle.std.specs.Prelude.{◌≡◌, ◌++◌, ◌∷◌, [], false, map, IfOk};
+ghost use Rattle.std.specs.Prelude.{◌≡◌, ◌++◌, ◌∷◌, [], false, map, IfOk, bytes_eq};
 ghost use Rattle.std.specs.List.{list_any};
-ghost use Rattle.imkl_model.specs.Words.{is_among, repeats, is_predefined, qualified};
+ghost use Rattle.ocl_base.specs.Lists.{is_among, repeats};
+ghost use Rattle.imkl_model.specs.Words.{is_predefined, qualified};
 ghost use Rattle.imkl_model.specs.Checks.{repeats_type, repeats_literal, repeats_super, repeats_association, repeats_feature, repeats_name, feature_names};
 ghost use Rattle.imkl_model.specs.WrittenFeatures.{written_features};
 
@@ -16,16 +17,17 @@ use std::alloc::{AllocError, Global};
 
 /// What has a name of its own.
 pub(crate) trait Named {
-    ghost use Rattle.std.specs.Prelude.{◌≡◌, ◌++◌, ◌∷◌, [], false, List, ℕ, IfOk};
-    ghost use Rattle.imkl_model.specs.Words.{is_among};
+    ghost use Rattle.std.specs.Prelude.{◌≡◌, ◌++◌, ◌∷◌, [], false, List, ℕ, IfOk, bytes_eq};
+    ghost use Rattle.ocl_base.specs.Lists.{is_among};
 
     /// The name's bytes.
     ghost label: { Self → List ℕ };
 
-    /// Adds the name, unless it is there. Answers whether it was.
+    /// Adds the name unless it is there already, and returns whether it was.
     fn add_to(&self, alloc: Global, names: &mut Names) -> Result<bool, AllocError>
-        ensures there { IfOk result (λ b. b ≡ is_among names.old (label self.now)) }
-        ensures added { IfOk result (λ b. b ≡ false → names.new ≡ names.old ++ label self.now ∷ []) };
+        ensures there { IfOk result (λ b. b ≡ is_among bytes_eq names.old (label self.now)) }
+        ensures added { IfOk result (λ b. b ≡ false
+            → names.new ≡ names.old ++ label self.now ∷ []) };
 }
 
 impl Named for Name {
@@ -71,13 +73,13 @@ impl Named for WrittenFeature {
     }
 }
 
-/// Adds names as long as they differ. Answers whether a name stands twice.
+/// Adds names as long as they differ, and returns whether one was there already.
 pub(crate) fn add_all<T: Named>(
     alloc: Global,
     names: &mut Names,
     items: &[T],
 ) -> Result<bool, AllocError>
-    ensures twice { IfOk result (λ b. b ≡ repeats (names.old ++ map T.label items.now)) }
+    ensures twice { IfOk result (λ b. b ≡ repeats bytes_eq (names.old ++ map T.label items.now)) }
     ensures added { IfOk result (λ b. b ≡ false → names.new ≡ names.old ++ map T.label items.now) }
 {
     for item in items {
@@ -89,9 +91,9 @@ pub(crate) fn add_all<T: Named>(
     Ok(false)
 }
 
-/// Whether a name stands twice.
+/// Whether a name is repeated.
 fn any_twice<T: Named>(alloc: Global, items: &[T]) -> Result<bool, AllocError>
-    ensures { IfOk result (λ b. b ≡ repeats (map T.label items.now)) }
+    ensures { IfOk result (λ b. b ≡ repeats bytes_eq (map T.label items.now)) }
 {
     let mut names = Names::new(alloc);
     add_all(alloc, &mut names, items)
@@ -137,7 +139,7 @@ fn repeats_type(alloc: Global, written: &Written) -> Result<bool, AllocError>
 }
 
 fn repeats_literal(alloc: Global, enumerations: &[WrittenEnumeration]) -> Result<bool, AllocError>
-    ensures { IfOk result (λ b. b ≡ list_any (λ e. repeats e.literals) enumerations.now) }
+    ensures { IfOk result (λ b. b ≡ list_any (λ e. repeats bytes_eq e.literals) enumerations.now) }
 {
     for enumeration in enumerations {
         if any_twice(alloc, enumeration.literals.as_slice())? {
@@ -148,7 +150,7 @@ fn repeats_literal(alloc: Global, enumerations: &[WrittenEnumeration]) -> Result
 }
 
 fn repeats_super(alloc: Global, classes: &[WrittenClass]) -> Result<bool, AllocError>
-    ensures { IfOk result (λ b. b ≡ list_any (λ c. repeats c.supers) classes.now) }
+    ensures { IfOk result (λ b. b ≡ list_any (λ c. repeats bytes_eq c.supers) classes.now) }
 {
     for class in classes {
         if any_twice(alloc, class.supers.as_slice())? {
@@ -158,7 +160,7 @@ fn repeats_super(alloc: Global, classes: &[WrittenClass]) -> Result<bool, AllocE
     Ok(false)
 }
 
-/// Whether a name stands twice where names must differ.
+/// Whether a name is repeated where names must differ.
 #[tactic(auto, unfolding(crate::specs::Checks::repeats_name))]
 pub(crate) fn repeats_name(
     alloc: Global,

@@ -55,14 +55,14 @@ impl EnumerationTable {
         requires { enumeration < length self.now }
         ensures { result.now ≡ slice_index_or self.now enumeration no_enumeration }
     {
-        &self.enumerations[enumeration.place()]
+        &self.enumerations[enumeration.index()]
     }
 
     pub(crate) fn number_of(&self, name: &str) -> Option<EnumNo>
         ensures { result ≡ position (bytes_eq name.now) (names_of_enumerations self.now) }
     {
         match self.names.number_of(name) {
-            Some(place) => Some(EnumNo::new(place)),
+            Some(index) => Some(EnumNo::new(index)),
             None => None,
         }
     }

@@ -2,8 +2,9 @@
 
 ghost use Rattle.std.specs.Prelude.{◌≡◌};
 ghost use Rattle.imkl_model.specs.declared.fault.ModelFault.TheVariants.{OutOfMemory};
-ghost use Rattle.imkl_model.specs.Numbers.{fault_number};
+ghost use Rattle.imkl_model.specs.Faults.{model_fault_number, json_model_fault};
 
+use crate::json::JsonFault;
 use std::alloc::{AllocError, AllocFailed};
 use thiserror::Error;
 
@@ -17,7 +18,7 @@ pub enum ModelFault {
     /// name is no identifier or too long, or a bound is above 1,000,000.
     #[error("not the shape of a class model")]
     Shape,
-    /// A name stands twice where names must differ, or a class or enumeration has the name of a predefined type.
+    /// A name is repeated where names must differ, or a class or enumeration has the name of a predefined type.
     #[error("a name stands twice")]
     DuplicateName,
     /// A superclass, an attribute's type or an association's class isn't there.
@@ -43,7 +44,7 @@ pub enum ModelFault {
 impl ModelFault {
     /// The fault's number in texts.
     pub fn number(&self) -> u8
-        ensures { result ≡ fault_number self.now }
+        ensures { result ≡ model_fault_number self.now }
     {
         match self {
             ModelFault::NotJson => 1,
@@ -55,6 +56,17 @@ impl ModelFault {
             ModelFault::BadMultiplicity => 7,
             ModelFault::Limit => 8,
             ModelFault::OutOfMemory => 9,
+        }
+    }
+}
+
+impl From<JsonFault> for ModelFault {
+    ghost from_gives = { λ fault e. e ≡ json_model_fault fault };
+
+    fn from(fault: JsonFault) -> ModelFault {
+        match fault {
+            JsonFault::NotJson => ModelFault::NotJson,
+            JsonFault::OutOfMemory => ModelFault::OutOfMemory,
         }
     }
 }

@@ -1,10 +1,11 @@
 //! Features: attributes and association ends.
 
 ghost use Rattle.std.specs.Prelude.{◌≡◌};
-ghost use Rattle.imkl_model.specs.Features.{is_attribute, is_opposite, is_single, is_unique_kind, is_unique};
+ghost use Rattle.imkl_model.specs.Features.{is_attribute, is_opposite, is_single, is_unique};
 
 use crate::name::Name;
 use crate::numbers::{ClassNo, EnumNo, FeatureNo};
+use ocl_base::CollectionKind;
 
 /// What one element of a feature's value is.
 #[derive(Clone, Copy, PartialEq, Eq, Debug)]
@@ -19,28 +20,6 @@ pub enum ElementType {
     Enumeration(EnumNo),
     /// An object of a class.
     Class(ClassNo),
-}
-
-/// How the values of a feature are collected.
-#[derive(Clone, Copy, PartialEq, Eq, Debug)]
-pub enum CollectionKind {
-    /// Unique and unordered.
-    Set,
-    /// Unique and ordered.
-    OrderedSet,
-    /// Unordered, and a value may stand twice.
-    Bag,
-    /// Ordered, and a value may stand twice.
-    Sequence,
-}
-
-impl CollectionKind {
-    /// Whether a value may stand only once.
-    pub fn is_unique(self) -> bool
-        ensures { result ≡ is_unique_kind self }
-    {
-        matches!(self, CollectionKind::Set | CollectionKind::OrderedSet)
-    }
 }
 
 /// Whether a feature is an attribute, or which end of an association it is.
@@ -100,7 +79,7 @@ impl FeatureInfo {
     pub fn is_single(&self) -> bool
         ensures { result ≡ is_single self.now.upper }
     {
-        self.upper == Some(1)
+        is_single(self.upper)
     }
 
     /// Whether it is a collection in which nothing may stand twice: an end, or an attribute of a unique kind.
@@ -109,4 +88,11 @@ impl FeatureInfo {
     {
         !self.role.is_attribute() || (!self.is_single() && self.kind.is_unique())
     }
+}
+
+/// Whether an upper bound is 1.
+pub(crate) fn is_single(upper: Option<u32>) -> bool
+    ensures { result ≡ is_single upper }
+{
+    upper == Some(1)
 }

@@ -38,10 +38,11 @@ impl FeatureGroup {
     /// Adds a feature after the others.
     pub(crate) fn push(&mut self, owner: ClassNo, number: FeatureNo) -> Result<(), AllocError>
         ensures numbers { OnOk result (self.new.numbers ≡ self.old.numbers ++ number ∷ []) }
-        ensures own { OnOk result ((c : ℕ) → own_in self.new c ≡ option_or (own_in self.old c) (if owner == c then Some number else None)) }
+        ensures own { OnOk result ((c : ℕ) → own_in self.new c
+            ≡ option_or (own_in self.old c) (if owner == c then Some number else None)) }
     {
         self.numbers.push(number)?;
-        self.by_owner.entry(owner.place())?.or_insert(number);
+        self.by_owner.entry(owner.index())?.or_insert(number);
         Ok(())
     }
 
@@ -55,6 +56,6 @@ impl FeatureGroup {
     pub(crate) fn own(&self, class: ClassNo) -> Option<FeatureNo>
         ensures { result ≡ own_in self.now class }
     {
-        self.by_owner.get(&class.place()).copied()
+        self.by_owner.get(&class.index()).copied()
     }
 }

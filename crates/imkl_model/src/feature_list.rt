@@ -1,7 +1,7 @@
 //! The features that a class model writes, in the model's order.
 
 ghost use Rattle.std.specs.Prelude.{◌≡◌, ◌+◌, ◌^◌, ◌<◌, ◌++◌, ◌∷◌, [], length, map, IfOk, OnOk};
-ghost use Rattle.imkl_model.specs.WrittenFeatures.{attribute_of, source_end, opposite_end, attributes_of, ends_of, written_features};
+ghost use Rattle.imkl_model.specs.WrittenFeatures.{written_attribute_of, written_source_end, written_opposite_end, written_attributes, written_ends, written_features};
 
 use crate::feature::Role;
 use crate::name::Name;
@@ -14,7 +14,7 @@ fn attribute(
     owner: &Name,
     attribute: &WrittenAttribute,
 ) -> Result<WrittenFeature, AllocError>
-    ensures { IfOk result (λ f. f ≡ attribute_of owner.now attribute.now) }
+    ensures { IfOk result (λ f. f ≡ written_attribute_of owner.now attribute.now) }
 {
     Ok(WrittenFeature {
         owner: owner.copy(alloc)?,
@@ -28,14 +28,14 @@ fn attribute(
     })
 }
 
-/// The source end, where it is the feature at this place.
+/// The source end, where it is the feature at this index.
 fn source(
     alloc: Global,
-    place: usize,
+    index: usize,
     association: &WrittenAssociation,
 ) -> Result<WrittenFeature, AllocError>
-    requires { place + 1 < 2 ^ 64 }
-    ensures { IfOk result (λ f. f ≡ source_end place association.now) }
+    requires { index + 1 < 2 ^ 64 }
+    ensures { IfOk result (λ f. f ≡ written_source_end index association.now) }
 {
     let end = &association.end;
     Ok(WrittenFeature {
@@ -47,18 +47,18 @@ fn source(
         ordered: end.ordered,
         unique: true,
         role: Role::SourceEnd {
-            opposite: FeatureNo::new(place + 1),
+            opposite: FeatureNo::new(index + 1),
         },
     })
 }
 
-/// The opposite end of the feature at this place.
+/// The opposite end of the feature at this index.
 fn opposite(
     alloc: Global,
-    place: usize,
+    index: usize,
     association: &WrittenAssociation,
 ) -> Result<WrittenFeature, AllocError>
-    ensures { IfOk result (λ f. f ≡ opposite_end place association.now) }
+    ensures { IfOk result (λ f. f ≡ written_opposite_end index association.now) }
 {
     let end = &association.opposite;
     Ok(WrittenFeature {
@@ -70,7 +70,7 @@ fn opposite(
         ordered: end.ordered,
         unique: true,
         role: Role::OppositeEnd {
-            source: FeatureNo::new(place),
+            source: FeatureNo::new(index),
         },
     })
 }
@@ -81,7 +81,8 @@ fn push_attributes(
     owner: &Name,
     attributes: &[WrittenAttribute],
 ) -> Result<(), AllocError>
-    ensures { OnOk result (features.new.items ≡ features.old.items ++ map (attribute_of owner.now) attributes.now) }
+    ensures { OnOk result (features.new.items
+        ≡ features.old.items ++ map (written_attribute_of owner.now) attributes.now) }
 {
     for written in attributes {
         features.push(attribute(alloc, owner, written)?)?;
@@ -94,7 +95,8 @@ fn push_classes(
     features: &mut Vec<WrittenFeature>,
     classes: &[WrittenClass],
 ) -> Result<(), AllocError>
-    ensures { OnOk result (features.new.items ≡ features.old.items ++ attributes_of classes.now) }
+    ensures { OnOk result (features.new.items
+        ≡ features.old.items ++ written_attributes classes.now) }
 {
     for class in classes {
         push_attributes(alloc, features, &class.name, class.attributes.as_slice())?;
@@ -107,12 +109,13 @@ fn push_ends(
     features: &mut Vec<WrittenFeature>,
     association: &WrittenAssociation,
 ) -> Result<(), AllocError>
-    ensures { OnOk result (features.new.items
-        ≡ features.old.items ++ source_end (length features.old.items) association.now ∷ opposite_end (length features.old.items) association.now ∷ []) }
+    ensures { let index = length features.old.items in OnOk result (features.new.items
+        ≡ features.old.items ++ written_source_end index association.now
+        ∷ written_opposite_end index association.now ∷ []) }
 {
-    let place = features.len();
-    features.push(source(alloc, place, association)?)?;
-    features.push(opposite(alloc, place, association)?)?;
+    let index = features.len();
+    features.push(source(alloc, index, association)?)?;
+    features.push(opposite(alloc, index, association)?)?;
     Ok(())
 }
 
@@ -121,7 +124,8 @@ fn push_associations(
     features: &mut Vec<WrittenFeature>,
     associations: &[WrittenAssociation],
 ) -> Result<(), AllocError>
-    ensures { OnOk result (features.new.items ≡ features.old.items ++ ends_of (length features.old.items) associations.now) }
+    ensures { OnOk result (features.new.items
+        ≡ features.old.items ++ written_ends (length features.old.items) associations.now) }
 {
     for association in associations {
         push_ends(alloc, features, association)?;

@@ -30,7 +30,8 @@ impl Model for FeatureTable {
 
     ghost view = { λ t. t.features.items };
 
-    ghost invariant = { λ t. AreGroups t.features.items (length t.features.items) (get_by_text t.groups) };
+    ghost invariant = { λ t. AreGroups t.features.items (length t.features.items)
+        (get_by_text t.groups) };
 }
 
 impl FeatureTable {
@@ -58,12 +59,13 @@ impl FeatureTable {
         requires { feature < length self.now }
         ensures { result.now ≡ feature_in self.now feature }
     {
-        &self.features[feature.place()]
+        &self.features[feature.index()]
     }
 
     /// The group of the features of this name, if there are any.
     pub(crate) fn group(&self, name: &str) -> Option<&FeatureGroup>
-        ensures { IsGroup self.now (length self.now) name.now (unwrap_or (option_copied result) no_group) }
+        ensures { IsGroup self.now (length self.now) name.now
+            (unwrap_or (option_copied result) no_group) }
     {
         self.groups.get(name)
     }

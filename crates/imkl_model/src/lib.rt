@@ -17,6 +17,7 @@ mod feature_group;
 mod feature_list;
 mod feature_table;
 mod items;
+pub mod json;
 pub mod laws;
 mod model;
 mod name;
@@ -31,10 +32,8 @@ mod words;
 mod written;
 
 pub use fault::ModelFault;
-pub use feature::{CollectionKind, ElementType, FeatureInfo, Role};
+pub use feature::{ElementType, FeatureInfo, Role};
 pub use model::ClassModel;
 pub use name::Name;
 pub use numbers::{ClassNo, EnumNo, FeatureNo, LiteralNo};
-
-#[cfg(test)]
-mod tests;
+pub use ocl_base::CollectionKind;

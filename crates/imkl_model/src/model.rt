@@ -3,9 +3,10 @@
 ghost use Rattle.std.specs.Prelude.{◌≡◌, ◌<◌, [], true, length, Decides, IfOk, IfSome, slice_index_or};
 ghost use Rattle.imkl_model.specs.ClassModel.{Conforms, conforms, belongs, enumeration_at, class_at, feature_at, class_number, enumeration_number, literal_number, feature_number};
 ghost use Rattle.imkl_model.specs.WellFormed.{IsClassModel};
-ghost use Rattle.imkl_model.specs.Reading.{Gives};
+ghost use Rattle.ocl_base.specs.Steps.{Gives};
+ghost use Rattle.imkl_model.specs.Faults.{model_fault};
 ghost use Rattle.imkl_model.specs.Drafts.{IsNumbered, model_of_draft};
-ghost use Rattle.imkl_model.specs.Description.{Answers, checked};
+ghost use Rattle.imkl_model.specs.Description.{ModelAnswers, checked_model};
 
 use crate::belonging::first_belonging;
 use crate::checks::have_multiplicities;
@@ -39,14 +40,26 @@ pub struct ClassModel {
 }
 
 impl Model for ClassModel {
-    ghost use Rattle.imkl_model.specs.ClassModel.{Model, model_of};
+    ghost use Rattle.imkl_model.specs.ClassModel.{Model};
     ghost use Rattle.imkl_model.specs.WellFormed.{IsClassModel};
 
     ghost Value = { Model };
 
-    ghost view = { λ m. model_of m.name m.enumerations m.classes m.features m.associations };
+    ghost view = { λ m. record {
+      name = m.name;
+      enumerations = m.enumerations;
+      classes = m.classes;
+      features = m.features;
+      associations = m.associations;
+    } };
 
-    ghost invariant = { λ m. IsClassModel (model_of m.name m.enumerations m.classes m.features m.associations) };
+    ghost invariant = { λ m. IsClassModel (record {
+      name = m.name;
+      enumerations = m.enumerations;
+      classes = m.classes;
+      features = m.features;
+      associations = m.associations;
+    }) };
 }
 
 impl ClassModel {
@@ -114,12 +127,13 @@ impl ClassModel {
     pub fn literal_name(&self, enumeration: EnumNo, literal: LiteralNo) -> &str
         requires enumeration { enumeration < length self.now.enumerations }
         requires literal { literal < length (enumeration_at self.now enumeration).literals }
-        ensures { result.now ≡ slice_index_or (enumeration_at self.now enumeration).literals literal [] }
+        ensures { result.now
+            ≡ slice_index_or (enumeration_at self.now enumeration).literals literal [] }
     {
         self.enumerations
             .at(enumeration)
             .literals
-            .at(literal.place())
+            .at(literal.index())
     }
 
     /// Whether a class is abstract.
@@ -150,15 +164,16 @@ impl ClassModel {
     pub fn literal(&self, enumeration: EnumNo, name: &str) -> Option<LiteralNo>
         requires { enumeration < length self.now.enumerations }
         ensures number { result ≡ literal_number self.now enumeration name.now }
-        ensures in_range { IfSome result (λ l. l < length (enumeration_at self.now enumeration).literals) }
+        ensures in_range { IfSome result
+            (λ l. l < length (enumeration_at self.now enumeration).literals) }
     {
         match self.enumerations.at(enumeration).literals.number_of(name) {
-            Some(place) => Some(LiteralNo::new(place)),
+            Some(index) => Some(LiteralNo::new(index)),
             None => None,
         }
     }
 
-    /// Whether a chain of nought or more superclass steps leads from one class to the other.
+    /// Whether a chain of zero or more superclass steps leads from one class to the other.
     pub fn conforms(&self, from: ClassNo, to: ClassNo) -> bool
         requires from { from < length self.now.classes }
         requires to { to < length self.now.classes }
@@ -213,10 +228,10 @@ impl ClassModel {
     }
 
     /// The class model of a draft, after the checks over numbers.
-    #[tactic(auto, unfolding(crate::specs::Description::checked))]
+    #[tactic(auto, unfolding(crate::specs::Description::checked_model))]
     pub(crate) fn new(draft: Draft) -> Result<ClassModel, ModelFault>
         requires { IsNumbered (model_of_draft draft) }
-        ensures { Gives (λ m. m) result (checked (model_of_draft draft)) }
+        ensures { Gives model_fault (λ m. m) result (checked_model (model_of_draft draft)) }
     {
         if draft.classes.is_cyclic() {
             return Err(ModelFault::Cycle);
@@ -241,7 +256,7 @@ impl ClassModel {
     /// Faults are looked for in the order `NotJson`, `Shape`, `Limit`, `DuplicateName`, `UnknownName`, `Cycle`,
     /// `FeatureClash`, `BadMultiplicity`; `OutOfMemory` may come in place of any answer.
     pub fn read(alloc: Global, bytes: &[u8]) -> Result<ClassModel, ModelFault>
-        ensures answers { Answers bytes.now result }
+        ensures answers { ModelAnswers bytes.now result }
         ensures well_formed { IfOk result IsClassModel }
     {
         read(alloc, bytes)

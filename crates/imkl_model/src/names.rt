@@ -1,7 +1,7 @@
 //! Names that differ, numbered in their order.
 
 ghost use Rattle.std.specs.Prelude.{◌≡◌, ◌<◌, ◌++◌, ◌∷◌, [], false, length, position, bytes_eq, slice_index_or, IfOk, Decides};
-ghost use Rattle.imkl_model.specs.Words.{is_among, repeats};
+ghost use Rattle.ocl_base.specs.Lists.{is_among, repeats};
 
 use indexmap::IndexSet;
 use std::alloc::{AllocError, Global};
@@ -14,14 +14,14 @@ pub struct Names {
 }
 
 impl Model for Names {
-    ghost use Rattle.std.specs.Prelude.{◌≡◌, List, ℕ, map, string_bytes, false};
-    ghost use Rattle.imkl_model.specs.Words.{repeats};
+    ghost use Rattle.std.specs.Prelude.{◌≡◌, List, ℕ, map, string_bytes, bytes_eq, false};
+    ghost use Rattle.ocl_base.specs.Lists.{repeats};
 
     ghost Value = { List (List ℕ) };
 
     ghost view = { λ n. map string_bytes n.texts.keys };
 
-    ghost invariant = { λ n. repeats (map string_bytes n.texts.keys) ≡ false };
+    ghost invariant = { λ n. repeats bytes_eq (map string_bytes n.texts.keys) ≡ false };
 }
 
 impl Names {
@@ -34,9 +34,9 @@ impl Names {
         }
     }
 
-    /// Adds a name, unless it is there. Answers whether it was.
+    /// Adds a name unless it is there already, and returns whether it was.
     pub(crate) fn add(&mut self, alloc: Global, name: &str) -> Result<bool, AllocError>
-        ensures there { IfOk result (λ b. b ≡ is_among self.old name.now) }
+        ensures there { IfOk result (λ b. b ≡ is_among bytes_eq self.old name.now) }
         ensures added { IfOk result (λ b. b ≡ false → self.new ≡ self.old ++ name.now ∷ []) }
     {
         let text = String::from_str(alloc, name)?;
@@ -44,19 +44,19 @@ impl Names {
         Ok(!is_new)
     }
 
-    /// The place of a name.
+    /// The index of a name.
     pub(crate) fn number_of(&self, name: &str) -> Option<usize>
         ensures { result ≡ position (bytes_eq name.now) self.now }
     {
         self.texts.get_index_of(name)
     }
 
-    /// The name at a place.
-    pub(crate) fn at(&self, place: usize) -> &str
-        requires { place < length self.now }
-        ensures { result.now ≡ slice_index_or self.now place [] }
+    /// The name at an index.
+    pub(crate) fn at(&self, index: usize) -> &str
+        requires { index < length self.now }
+        ensures { result.now ≡ slice_index_or self.now index [] }
     {
-        self.texts[place].as_str()
+        self.texts[index].as_str()
     }
 
     /// How many names there are.
@@ -83,7 +83,7 @@ impl Names {
 
     /// The names differ.
     pub(crate) fn distinct(&self)
-        ensures { repeats self.now ≡ false }
+        ensures { repeats bytes_eq self.now ≡ false }
     {
         let _texts = &self.texts;
     }

@@ -1,19 +1,19 @@
 //! From names to numbers.
 
-ghost use Rattle.std.specs.Prelude.{◌≡◌, false, length, map, IfOk};
+ghost use Rattle.std.specs.Prelude.{◌≡◌, false, length, map, IfOk, bytes_eq};
 ghost use Rattle.std.specs.List.{list_any};
-ghost use Rattle.imkl_model.specs.Words.{repeats};
-ghost use Rattle.imkl_model.specs.Steps.{each};
-ghost use Rattle.imkl_model.specs.Reading.{Gives};
-ghost use Rattle.imkl_model.specs.Checks.{class_names, enumeration_names, association_names};
+ghost use Rattle.ocl_base.specs.Lists.{repeats};
+ghost use Rattle.ocl_base.specs.Steps.{each, Gives};
+ghost use Rattle.imkl_model.specs.Faults.{model_fault};
+ghost use Rattle.imkl_model.specs.Checks.{written_class_names, written_enumeration_names, written_association_names};
 ghost use Rattle.imkl_model.specs.WrittenFeatures.{written_features};
 ghost use Rattle.imkl_model.specs.Scopes.{scope_of};
-ghost use Rattle.imkl_model.specs.Numbering.{number_in, scalar_type, element_type, kind_of, is_one, collection_kind, feature_of, class_of, enumeration_of};
+ghost use Rattle.imkl_model.specs.Numbering.{number_in, scalar_type, element_type, kind_of, collection_kind, feature_in_scope, class_in_scope, enumeration_as_written};
 
 use crate::duplicates::add_all;
 use crate::entry::{Class, Enumeration};
 use crate::fault::ModelFault;
-use crate::feature::{CollectionKind, ElementType, FeatureInfo, Role};
+use crate::feature::{ElementType, FeatureInfo, Role, is_single};
 use crate::items::Items;
 use crate::name::Name;
 use crate::names::Names;
@@ -21,6 +21,7 @@ use crate::numbers::{ClassNo, EnumNo};
 use crate::written::{
     Written, WrittenAssociation, WrittenClass, WrittenEnumeration, WrittenFeature,
 };
+use ocl_base::CollectionKind;
 use std::alloc::{AllocError, Global};
 
 /// The names of a class model's classes and enumerations.
@@ -32,8 +33,8 @@ pub struct Scope {
 
 /// The scope of a class model whose classes' names differ, and whose enumerations' names differ.
 pub(crate) fn scope_of(alloc: Global, written: &Written) -> Result<Scope, AllocError>
-    requires classes { repeats (class_names written.now) ≡ false }
-    requires enumerations { repeats (enumeration_names written.now) ≡ false }
+    requires classes { repeats bytes_eq (written_class_names written.now) ≡ false }
+    requires enumerations { repeats bytes_eq (written_enumeration_names written.now) ≡ false }
     ensures { IfOk result (λ s. s ≡ scope_of written.now) }
 {
     let mut classes = Names::new(alloc);
@@ -47,7 +48,7 @@ pub(crate) fn scope_of(alloc: Global, written: &Written) -> Result<Scope, AllocE
 }
 
 fn number_in(names: &Names, name: &Name) -> Result<usize, ModelFault>
-    ensures { Gives (λ n. n) result (number_in names.now name.now) }
+    ensures { Gives model_fault (λ n. n) result (number_in names.now name.now) }
 {
     names
         .number_of(name.as_str())
@@ -55,30 +56,30 @@ fn number_in(names: &Names, name: &Name) -> Result<usize, ModelFault>
 }
 
 fn class_in(scope: &Scope, name: &Name) -> Result<ClassNo, ModelFault>
-    ensures { Gives (λ n. n) result (number_in scope.now.classes name.now) }
+    ensures { Gives model_fault (λ n. n) result (number_in scope.now.classes name.now) }
 {
-    let place = number_in(&scope.classes, name)?;
-    Ok(ClassNo::new(place))
+    let index = number_in(&scope.classes, name)?;
+    Ok(ClassNo::new(index))
 }
 
 #[tactic(auto, unfolding(crate::specs::Numbering::scalar_type))]
 fn scalar_type(scope: &Scope, name: &Name) -> Result<ElementType, ModelFault>
-    ensures { Gives (λ e. e) result (scalar_type scope.now name.now) }
+    ensures { Gives model_fault (λ e. e) result (scalar_type scope.now name.now) }
 {
     match name.as_str() {
         "Boolean" => Ok(ElementType::Boolean),
         "Integer" => Ok(ElementType::Integer),
         "String" => Ok(ElementType::String),
         _ => {
-            let place = number_in(&scope.enumerations, name)?;
-            Ok(ElementType::Enumeration(EnumNo::new(place)))
+            let index = number_in(&scope.enumerations, name)?;
+            Ok(ElementType::Enumeration(EnumNo::new(index)))
         }
     }
 }
 
 #[tactic(auto, unfolding(crate::specs::Numbering::element_type))]
 fn element_type(scope: &Scope, role: Role, name: &Name) -> Result<ElementType, ModelFault>
-    ensures { Gives (λ e. e) result (element_type scope.now role name.now) }
+    ensures { Gives model_fault (λ e. e) result (element_type scope.now role name.now) }
 {
     match role {
         Role::Attribute => scalar_type(scope, name),
@@ -98,32 +99,23 @@ fn kind_of(ordered: bool, unique: bool) -> CollectionKind
     }
 }
 
-fn is_one(upper: Option<u32>) -> bool
-    ensures { result ≡ is_one upper }
-{
-    match upper {
-        None => false,
-        Some(upper) => upper == 1,
-    }
-}
-
 fn collection_kind(feature: &WrittenFeature) -> CollectionKind
     ensures { result ≡ collection_kind feature.now }
 {
-    if is_one(feature.upper) {
+    if is_single(feature.upper) {
         CollectionKind::Set
     } else {
         kind_of(feature.ordered, feature.unique)
     }
 }
 
-#[tactic(auto, unfolding(crate::specs::Numbering::feature_of))]
+#[tactic(auto, unfolding(crate::specs::Numbering::feature_in_scope))]
 fn feature_of(
     alloc: Global,
     scope: &Scope,
     feature: &WrittenFeature,
 ) -> Result<FeatureInfo, ModelFault>
-    ensures { Gives (λ f. f) result (feature_of scope.now feature.now) }
+    ensures { Gives model_fault (λ f. f) result (feature_in_scope scope.now feature.now) }
 {
     let owner = class_in(scope, &feature.owner)?;
     let element = element_type(scope, feature.role, &feature.element)?;
@@ -144,7 +136,8 @@ pub(crate) fn features_of(
     scope: &Scope,
     features: &[WrittenFeature],
 ) -> Result<Vec<FeatureInfo>, ModelFault>
-    ensures { Gives (λ v. v.items) result (each (feature_of scope.now) features.now) }
+    ensures { Gives model_fault (λ v. v.items) result
+        (each (feature_in_scope scope.now) features.now) }
 {
     let mut found = Vec::new(alloc);
     for feature in features {
@@ -154,7 +147,8 @@ pub(crate) fn features_of(
 }
 
 fn supers_of(alloc: Global, scope: &Scope, supers: &[Name]) -> Result<Vec<ClassNo>, ModelFault>
-    ensures { Gives (λ v. v.items) result (each (number_in scope.now.classes) supers.now) }
+    ensures { Gives model_fault (λ v. v.items) result
+        (each (number_in scope.now.classes) supers.now) }
 {
     let mut found = Vec::new(alloc);
     for name in supers {
@@ -163,9 +157,9 @@ fn supers_of(alloc: Global, scope: &Scope, supers: &[Name]) -> Result<Vec<ClassN
     Ok(found)
 }
 
-#[tactic(auto, unfolding(crate::specs::Numbering::class_of))]
+#[tactic(auto, unfolding(crate::specs::Numbering::class_in_scope))]
 fn class_of(alloc: Global, scope: &Scope, class: &WrittenClass) -> Result<Class, ModelFault>
-    ensures { Gives (λ c. c) result (class_of scope.now class.now) }
+    ensures { Gives model_fault (λ c. c) result (class_in_scope scope.now class.now) }
 {
     let supers = supers_of(alloc, scope, class.supers.as_slice())?;
     let name = class.name.copy(alloc)?;
@@ -181,7 +175,8 @@ pub(crate) fn classes_of(
     scope: &Scope,
     classes: &[WrittenClass],
 ) -> Result<Vec<Class>, ModelFault>
-    ensures { Gives (λ v. v.items) result (each (class_of scope.now) classes.now) }
+    ensures { Gives model_fault (λ v. v.items) result
+        (each (class_in_scope scope.now) classes.now) }
 {
     let mut found = Vec::new(alloc);
     for class in classes {
@@ -194,8 +189,8 @@ fn enumeration_of(
     alloc: Global,
     enumeration: &WrittenEnumeration,
 ) -> Result<Enumeration, AllocError>
-    requires { repeats enumeration.now.literals ≡ false }
-    ensures { IfOk result (λ e. e ≡ enumeration_of enumeration.now) }
+    requires { repeats bytes_eq enumeration.now.literals ≡ false }
+    ensures { IfOk result (λ e. e ≡ enumeration_as_written enumeration.now) }
 {
     let name = enumeration.name.copy(alloc)?;
     let mut literals = Names::new(alloc);
@@ -207,8 +202,8 @@ pub(crate) fn enumerations_of(
     alloc: Global,
     enumerations: &[WrittenEnumeration],
 ) -> Result<Vec<Enumeration>, AllocError>
-    requires { list_any (λ e. repeats e.literals) enumerations.now ≡ false }
-    ensures { IfOk result (λ v. v.items ≡ map enumeration_of enumerations.now) }
+    requires { list_any (λ e. repeats bytes_eq e.literals) enumerations.now ≡ false }
+    ensures { IfOk result (λ v. v.items ≡ map enumeration_as_written enumerations.now) }
 {
     let mut found = Vec::new(alloc);
     for enumeration in enumerations {

@@ -1,13 +1,13 @@
-//! Numbers of what a class model lists, each counted from 0.
+//! Numbers of what a class model lists: indices from 0.
 
 ghost use Rattle.std.specs.Prelude.{◌≡◌};
 
 use std::marker::Model;
 
-/// The place of a class among a model's classes.
+/// The index of a class among a model's classes.
 #[derive(Clone, Copy, PartialEq, Eq, PartialOrd, Ord, Debug)]
 pub struct ClassNo {
-    place: usize,
+    index: usize,
 }
 
 impl Model for ClassNo {
@@ -15,31 +15,31 @@ impl Model for ClassNo {
 
     ghost Value = { ℕ };
 
-    ghost view = { λ n. n.place };
+    ghost view = { λ n. n.index };
 
-    ghost inverse = { λ n. record { place = n } };
+    ghost inverse = { λ n. record { index = n } };
 }
 
 impl ClassNo {
-    /// The class at this place.
-    pub fn new(place: usize) -> ClassNo
-        ensures { result ≡ place }
+    /// The class at this index.
+    pub fn new(index: usize) -> ClassNo
+        ensures { result ≡ index }
     {
-        ClassNo { place }
+        ClassNo { index }
     }
 
-    /// Where the class stands.
-    pub fn place(self) -> usize
+    /// The class's index.
+    pub fn index(self) -> usize
         ensures { result ≡ self }
     {
-        self.place
+        self.index
     }
 }
 
-/// The place of an enumeration among a model's enumerations.
+/// The index of an enumeration among a model's enumerations.
 #[derive(Clone, Copy, PartialEq, Eq, PartialOrd, Ord, Debug)]
 pub struct EnumNo {
-    place: usize,
+    index: usize,
 }
 
 impl Model for EnumNo {
@@ -47,31 +47,31 @@ impl Model for EnumNo {
 
     ghost Value = { ℕ };
 
-    ghost view = { λ n. n.place };
+    ghost view = { λ n. n.index };
 
-    ghost inverse = { λ n. record { place = n } };
+    ghost inverse = { λ n. record { index = n } };
 }
 
 impl EnumNo {
-    /// The enumeration at this place.
-    pub fn new(place: usize) -> EnumNo
-        ensures { result ≡ place }
+    /// The enumeration at this index.
+    pub fn new(index: usize) -> EnumNo
+        ensures { result ≡ index }
     {
-        EnumNo { place }
+        EnumNo { index }
     }
 
-    /// Where the enumeration stands.
-    pub fn place(self) -> usize
+    /// The enumeration's index.
+    pub fn index(self) -> usize
         ensures { result ≡ self }
     {
-        self.place
+        self.index
     }
 }
 
-/// The place of a literal among those of its enumeration.
+/// The index of a literal among those of its enumeration.
 #[derive(Clone, Copy, PartialEq, Eq, PartialOrd, Ord, Debug)]
 pub struct LiteralNo {
-    place: usize,
+    index: usize,
 }
 
 impl Model for LiteralNo {
@@ -79,31 +79,31 @@ impl Model for LiteralNo {
 
     ghost Value = { ℕ };
 
-    ghost view = { λ n. n.place };
+    ghost view = { λ n. n.index };
 
-    ghost inverse = { λ n. record { place = n } };
+    ghost inverse = { λ n. record { index = n } };
 }
 
 impl LiteralNo {
-    /// The literal at this place.
-    pub fn new(place: usize) -> LiteralNo
-        ensures { result ≡ place }
+    /// The literal at this index.
+    pub fn new(index: usize) -> LiteralNo
+        ensures { result ≡ index }
     {
-        LiteralNo { place }
+        LiteralNo { index }
     }
 
-    /// Where the literal stands.
-    pub fn place(self) -> usize
+    /// The literal's index.
+    pub fn index(self) -> usize
         ensures { result ≡ self }
     {
-        self.place
+        self.index
     }
 }
 
-/// The place of a feature in the model's order of features.
+/// The index of a feature in the model's order of features.
 #[derive(Clone, Copy, PartialEq, Eq, PartialOrd, Ord, Debug)]
 pub struct FeatureNo {
-    place: usize,
+    index: usize,
 }
 
 impl Model for FeatureNo {
@@ -111,23 +111,23 @@ impl Model for FeatureNo {
 
     ghost Value = { ℕ };
 
-    ghost view = { λ n. n.place };
+    ghost view = { λ n. n.index };
 
-    ghost inverse = { λ n. record { place = n } };
+    ghost inverse = { λ n. record { index = n } };
 }
 
 impl FeatureNo {
-    /// The feature at this place.
-    pub fn new(place: usize) -> FeatureNo
-        ensures { result ≡ place }
+    /// The feature at this index.
+    pub fn new(index: usize) -> FeatureNo
+        ensures { result ≡ index }
     {
-        FeatureNo { place }
+        FeatureNo { index }
     }
 
-    /// Where the feature stands.
-    pub fn place(self) -> usize
+    /// The feature's index.
+    pub fn index(self) -> usize
         ensures { result ≡ self }
     {
-        self.place
+        self.index
     }
 }

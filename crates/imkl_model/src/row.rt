@@ -1,7 +1,7 @@
 //! A set of class numbers, as bits.
 
 ghost use Rattle.std.specs.Prelude.{◌≡◌, ℕ, ◌<◌, ◌==◌, ◌||◌, ◌/◌, false, length, IfOk};
-ghost use Rattle.imkl_model.specs.Tables.{has, is_marked};
+ghost use Rattle.imkl_model.specs.Tables.{has_mark, is_marked};
 
 use std::alloc::{AllocError, Global};
 use std::marker::Model;
@@ -27,7 +27,7 @@ impl Model for Row {
 impl Row {
     /// No marks.
     pub(crate) fn new(alloc: Global, count: usize) -> Result<Row, AllocError>
-        ensures { IfOk result (λ r. (length r ≡ count) × ((j : ℕ) → has r j ≡ false)) }
+        ensures { IfOk result (λ r. (length r ≡ count) × ((j : ℕ) → has_mark r j ≡ false)) }
     {
         let mut words = Vec::new(alloc);
         words.resize(count / 64 + 1, 0)?;
@@ -37,7 +37,7 @@ impl Row {
     /// Whether a number is marked.
     pub(crate) fn has(&self, number: usize) -> bool
         requires { number < length self.now }
-        ensures { result ≡ has self.now number }
+        ensures { result ≡ has_mark self.now number }
     {
         is_marked(self.words.as_slice(), number)
     }
@@ -46,7 +46,7 @@ impl Row {
     pub(crate) fn add(&mut self, number: usize)
         requires { number < length self.old }
         ensures same { length self.new ≡ length self.old }
-        ensures marks { (j : ℕ) → has self.new j ≡ (has self.old j || (number == j)) }
+        ensures marks { (j : ℕ) → has_mark self.new j ≡ (has_mark self.old j || (number == j)) }
     {
         mark(&mut self.words, number);
     }
@@ -55,7 +55,8 @@ impl Row {
     pub(crate) fn merge(&mut self, other: &Row)
         requires { length self.old ≡ length other.now }
         ensures same { length self.new ≡ length self.old }
-        ensures marks { (j : ℕ) → has self.new j ≡ (has self.old j || has other.now j) }
+        ensures marks { (j : ℕ) → has_mark self.new j
+            ≡ (has_mark self.old j || has_mark other.now j) }
     {
         merge(&mut self.words, &other.words);
     }
@@ -79,7 +80,8 @@ fn is_marked(words: &[u64], number: usize) -> bool
 fn mark(words: &mut Vec<u64>, number: usize)
     requires { number / 64 < length words.old.items }
     ensures same { length words.new.items ≡ length words.old.items }
-    ensures marks { (j : ℕ) → is_marked words.new.items j ≡ (is_marked words.old.items j || (number == j)) }
+    ensures marks { (j : ℕ) → is_marked words.new.items j
+        ≡ (is_marked words.old.items j || (number == j)) }
 {
     words[number / 64] |= 1 << (number % 64);
 }
@@ -87,7 +89,8 @@ fn mark(words: &mut Vec<u64>, number: usize)
 fn merge(words: &mut Vec<u64>, more: &Vec<u64>)
     requires { length words.old.items ≡ length more.now.items }
     ensures same { length words.new.items ≡ length words.old.items }
-    ensures marks { (j : ℕ) → is_marked words.new.items j ≡ (is_marked words.old.items j || is_marked more.now.items j) }
+    ensures marks { (j : ℕ) → is_marked words.new.items j
+        ≡ (is_marked words.old.items j || is_marked more.now.items j) }
 {
     for i in 0..words.len() {
         words[i] |= more[i];

@@ -39,7 +39,7 @@ impl Same for Name {
 
 impl Same for ClassNo {
     fn is_same(&self, other: &ClassNo) -> bool {
-        self.place() == other.place()
+        self.index() == other.index()
     }
 }
 

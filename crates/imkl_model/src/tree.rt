@@ -1,70 +1,77 @@
 //! From a JSON tree to the class model that it writes.
 
-ghost use Rattle.std.specs.Prelude.{◌≤◌, map, IfOk, IfSome};
-ghost use Rattle.imkl_model.specs.Bounds.{HasSmallAttribute, HasSmallAttributes, HasSmallEnd, HasSmallEnds, HasSmallBounds};
+ghost use Rattle.std.specs.Prelude.{◌≡◌, ◌≤◌, true, map, IfOk, IfSome};
+ghost use Rattle.imkl_model.specs.Spelled.{IsSpelledAttribute, IsSpelledClass, IsSpelledEnumeration, IsSpelledEnd, IsSpelledAssociation, IsSpelled};
 ghost use Rattle.serde_json.specs.View.{view, members_view};
-ghost use Rattle.imkl_model.specs.Reading.{Gives, record_at, member_at, text_at, truth_at, number_at, list_at};
-ghost use Rattle.imkl_model.specs.Shape.{title_at, name_at, lower_at, upper_at, attribute_at, class_at, enumeration_at, end_at, association_at, written_at};
+ghost use Rattle.serde_json.specs.Find.{get, as_str, as_bool};
+ghost use Rattle.ocl_base.specs.Steps.{Gives, found};
+ghost use Rattle.imkl_model.specs.declared.fault.ModelFault.TheVariants.{Shape};
+ghost use Rattle.imkl_model.specs.Limits.{bound_limit};
+ghost use Rattle.imkl_model.specs.Words.{is_title};
+ghost use Rattle.imkl_model.specs.WellFormed.{IsModelName};
+ghost use Rattle.imkl_model.specs.Faults.{model_fault};
+ghost use Rattle.imkl_model.specs.Json.{list_from, record_from, natural_from};
+ghost use Rattle.imkl_model.specs.Shape.{title_from, name_from, lower_from, upper_from, attribute_from, class_from, enumeration_from, end_from, association_from, written_from};
 
 use crate::each::{Spelled, each_of};
 use crate::fault::ModelFault;
 use crate::items::Items;
+use crate::json::{list_of, record_of};
 use crate::name::Name;
-use crate::words::{is_identifier, is_title};
+use crate::words::{is_model_name, is_title};
 use crate::written::{
     Written, WrittenAssociation, WrittenAttribute, WrittenClass, WrittenEnd, WrittenEnumeration,
 };
 use serde_json::{Map, Value};
 use std::alloc::Global;
 
+/// The greatest bound of a feature.
+const BOUND_LIMIT: u64 = 1_000_000;
+
 /// The members of an object that has so many.
-#[tactic(auto, using(crate::proofs::Trees::trees), unfolding(crate::specs::Reading::record_at))]
-fn record_of(value: &Value, members: usize) -> Result<&Map<String, Value>, ModelFault>
-    ensures { Gives (λ ms. members_view ms.now.entries) result (record_at members (view value.now)) }
+fn record(value: &Value, members: usize) -> Result<&Map<String, Value>, ModelFault>
+    ensures { Gives model_fault (λ ms. members_view ms.now.entries) result
+        (found (record_from members (view value.now)) Shape) }
 {
-    match value.as_object() {
-        Some(map) if map.len() == members => Ok(map),
-        _ => Err(ModelFault::Shape),
-    }
+    record_of(value, members).ok_or(ModelFault::Shape)
 }
 
 fn member<'v>(value: &'v Value, name: &str) -> Result<&'v Value, ModelFault>
-    ensures { Gives (λ v. view v.now) result (member_at name.now (view value.now)) }
+    ensures { Gives model_fault (λ v. view v.now) result
+        (found (get name.now (view value.now)) Shape) }
 {
     value.get(name).ok_or(ModelFault::Shape)
 }
 
 fn text(value: &Value) -> Result<&str, ModelFault>
-    ensures { Gives (λ s. s.now) result (text_at (view value.now)) }
+    ensures { Gives model_fault (λ s. s.now) result (found (as_str (view value.now)) Shape) }
 {
     value.as_str().ok_or(ModelFault::Shape)
 }
 
 fn truth(value: &Value) -> Result<bool, ModelFault>
-    ensures { Gives (λ b. b) result (truth_at (view value.now)) }
+    ensures { Gives model_fault (λ b. b) result (found (as_bool (view value.now)) Shape) }
 {
     value.as_bool().ok_or(ModelFault::Shape)
 }
 
 fn number(value: &Value) -> Result<u64, ModelFault>
-    ensures { Gives (λ n. n) result (number_at (view value.now)) }
+    ensures { Gives model_fault (λ n. n) result (found (natural_from (view value.now)) Shape) }
 {
     value.as_u64().ok_or(ModelFault::Shape)
 }
 
-#[tactic(auto, using(crate::proofs::Trees::trees), unfolding(crate::specs::Reading::list_at))]
 fn list(value: &Value) -> Result<&[Value], ModelFault>
-    ensures { Gives (λ vs. map view vs.now) result (list_at (view value.now)) }
+    ensures { Gives model_fault (λ vs. map view vs.now) result
+        (found (list_from (view value.now)) Shape) }
 {
-    match value.as_array() {
-        Some(values) => Ok(values.as_slice()),
-        None => Err(ModelFault::Shape),
-    }
+    list_of(value).ok_or(ModelFault::Shape)
 }
 
-#[tactic(auto, unfolding(crate::specs::Shape::title_at))]
+#[tactic(auto, unfolding(crate::specs::Shape::title_from))]
 fn title_of(alloc: Global, value: &Value) -> Result<Name, ModelFault>
-    ensures { Gives (λ n. n) result (title_at (view value.now)) }
+    ensures tree { Gives model_fault (λ n. n) result (title_from (view value.now)) }
+    ensures fits { IfOk result (λ n. is_title n ≡ true) }
 {
     let title = text(value)?;
     if !is_title(title) {
@@ -73,33 +80,34 @@ fn title_of(alloc: Global, value: &Value) -> Result<Name, ModelFault>
     Ok(Name::new(String::from_str(alloc, title)?))
 }
 
-#[tactic(auto, unfolding(crate::specs::Shape::name_at))]
+#[tactic(auto, unfolding(crate::specs::Shape::name_from))]
 fn name_of(alloc: Global, value: &Value) -> Result<Name, ModelFault>
-    ensures { Gives (λ n. n) result (name_at (view value.now)) }
+    ensures tree { Gives model_fault (λ n. n) result (name_from (view value.now)) }
+    ensures fits { IfOk result IsModelName }
 {
     let name = text(value)?;
-    if !is_identifier(name) {
+    if !is_model_name(name) {
         return Err(ModelFault::Shape);
     }
     Ok(Name::new(String::from_str(alloc, name)?))
 }
 
-#[tactic(auto, unfolding(crate::specs::Shape::lower_at))]
+#[tactic(auto, unfolding(crate::specs::Shape::lower_from))]
 fn lower_of(value: &Value) -> Result<u32, ModelFault>
-    ensures tree { Gives (λ n. n) result (lower_at (view value.now)) }
-    ensures fits { IfOk result (λ n. n ≤ 1000000) }
+    ensures tree { Gives model_fault (λ n. n) result (lower_from (view value.now)) }
+    ensures fits { IfOk result (λ n. n ≤ bound_limit) }
 {
     let bound = number(value)?;
-    if bound > 1_000_000 {
+    if bound > BOUND_LIMIT {
         return Err(ModelFault::Shape);
     }
     Ok(bound as u32)
 }
 
-#[tactic(auto, unfolding(crate::specs::Shape::upper_at))]
+#[tactic(auto, unfolding(crate::specs::Shape::upper_from))]
 fn upper_of(value: &Value) -> Result<Option<u32>, ModelFault>
-    ensures tree { Gives (λ n. n) result (upper_at (view value.now)) }
-    ensures fits { IfOk result (λ upper. IfSome upper (λ u. u ≤ 1000000)) }
+    ensures tree { Gives model_fault (λ n. n) result (upper_from (view value.now)) }
+    ensures fits { IfOk result (λ upper. IfSome upper (λ u. u ≤ bound_limit)) }
 {
     match value {
         Value::Null => Ok(None),
@@ -107,12 +115,12 @@ fn upper_of(value: &Value) -> Result<Option<u32>, ModelFault>
     }
 }
 
-#[tactic(auto, unfolding(crate::specs::Shape::attribute_at))]
+#[tactic(auto, unfolding(crate::specs::Shape::attribute_from))]
 fn attribute_of(alloc: Global, value: &Value) -> Result<WrittenAttribute, ModelFault>
-    ensures tree { Gives (λ a. a) result (attribute_at (view value.now)) }
-    ensures fits { IfOk result HasSmallAttribute }
+    ensures tree { Gives model_fault (λ a. a) result (attribute_from (view value.now)) }
+    ensures fits { IfOk result IsSpelledAttribute }
 {
-    record_of(value, 6)?;
+    record(value, 6)?;
     let name = name_of(alloc, member(value, "name")?)?;
     let element = name_of(alloc, member(value, "type")?)?;
     let lower = lower_of(member(value, "lower")?)?;
@@ -129,12 +137,12 @@ fn attribute_of(alloc: Global, value: &Value) -> Result<WrittenAttribute, ModelF
     })
 }
 
-#[tactic(auto, unfolding(crate::specs::Shape::class_at))]
+#[tactic(auto, unfolding(crate::specs::Shape::class_from))]
 fn class_of(alloc: Global, value: &Value) -> Result<WrittenClass, ModelFault>
-    ensures tree { Gives (λ c. c) result (class_at (view value.now)) }
-    ensures fits { IfOk result HasSmallAttributes }
+    ensures tree { Gives model_fault (λ c. c) result (class_from (view value.now)) }
+    ensures fits { IfOk result IsSpelledClass }
 {
-    record_of(value, 4)?;
+    record(value, 4)?;
     let name = name_of(alloc, member(value, "name")?)?;
     let is_abstract = truth(member(value, "abstract")?)?;
     let supers = each_of::<Name>(alloc, list(member(value, "supers")?)?)?;
@@ -147,11 +155,12 @@ fn class_of(alloc: Global, value: &Value) -> Result<WrittenClass, ModelFault>
     })
 }
 
-#[tactic(auto, unfolding(crate::specs::Shape::enumeration_at))]
+#[tactic(auto, unfolding(crate::specs::Shape::enumeration_from))]
 fn enumeration_of(alloc: Global, value: &Value) -> Result<WrittenEnumeration, ModelFault>
-    ensures { Gives (λ e. e) result (enumeration_at (view value.now)) }
+    ensures tree { Gives model_fault (λ e. e) result (enumeration_from (view value.now)) }
+    ensures fits { IfOk result IsSpelledEnumeration }
 {
-    record_of(value, 2)?;
+    record(value, 2)?;
     let name = name_of(alloc, member(value, "name")?)?;
     let literals = each_of::<Name>(alloc, list(member(value, "literals")?)?)?;
     Ok(WrittenEnumeration {
@@ -160,12 +169,12 @@ fn enumeration_of(alloc: Global, value: &Value) -> Result<WrittenEnumeration, Mo
     })
 }
 
-#[tactic(auto, unfolding(crate::specs::Shape::end_at))]
+#[tactic(auto, unfolding(crate::specs::Shape::end_from))]
 fn end_of(alloc: Global, value: &Value) -> Result<WrittenEnd, ModelFault>
-    ensures tree { Gives (λ e. e) result (end_at (view value.now)) }
-    ensures fits { IfOk result HasSmallEnd }
+    ensures tree { Gives model_fault (λ e. e) result (end_from (view value.now)) }
+    ensures fits { IfOk result IsSpelledEnd }
 {
-    record_of(value, 4)?;
+    record(value, 4)?;
     let name = name_of(alloc, member(value, "name")?)?;
     let lower = lower_of(member(value, "lower")?)?;
     let upper = upper_of(member(value, "upper")?)?;
@@ -178,12 +187,12 @@ fn end_of(alloc: Global, value: &Value) -> Result<WrittenEnd, ModelFault>
     })
 }
 
-#[tactic(auto, unfolding(crate::specs::Shape::association_at))]
+#[tactic(auto, unfolding(crate::specs::Shape::association_from))]
 fn association_of(alloc: Global, value: &Value) -> Result<WrittenAssociation, ModelFault>
-    ensures tree { Gives (λ a. a) result (association_at (view value.now)) }
-    ensures fits { IfOk result HasSmallEnds }
+    ensures tree { Gives model_fault (λ a. a) result (association_from (view value.now)) }
+    ensures fits { IfOk result IsSpelledAssociation }
 {
-    record_of(value, 5)?;
+    record(value, 5)?;
     let name = name_of(alloc, member(value, "name")?)?;
     let from = name_of(alloc, member(value, "from")?)?;
     let to = name_of(alloc, member(value, "to")?)?;
@@ -199,11 +208,12 @@ fn association_of(alloc: Global, value: &Value) -> Result<WrittenAssociation, Mo
 }
 
 impl Spelled for Name {
-    ghost use Rattle.imkl_model.specs.Shape.{name_at};
+    ghost use Rattle.imkl_model.specs.Shape.{name_from};
+    ghost use Rattle.imkl_model.specs.WellFormed.{IsModelName};
 
-    ghost spelled = { name_at };
+    ghost spelled = { name_from };
 
-    ghost fits = { λ _. Unit {0} };
+    ghost fits = { IsModelName };
 
     fn of(alloc: Global, value: &Value) -> Result<Self, ModelFault> {
         name_of(alloc, value)
@@ -211,12 +221,12 @@ impl Spelled for Name {
 }
 
 impl Spelled for WrittenAttribute {
-    ghost use Rattle.imkl_model.specs.Shape.{attribute_at};
-    ghost use Rattle.imkl_model.specs.Bounds.{HasSmallAttribute};
+    ghost use Rattle.imkl_model.specs.Shape.{attribute_from};
+    ghost use Rattle.imkl_model.specs.Spelled.{IsSpelledAttribute};
 
-    ghost spelled = { attribute_at };
+    ghost spelled = { attribute_from };
 
-    ghost fits = { HasSmallAttribute };
+    ghost fits = { IsSpelledAttribute };
 
     fn of(alloc: Global, value: &Value) -> Result<Self, ModelFault> {
         attribute_of(alloc, value)
@@ -224,12 +234,12 @@ impl Spelled for WrittenAttribute {
 }
 
 impl Spelled for WrittenClass {
-    ghost use Rattle.imkl_model.specs.Shape.{class_at};
-    ghost use Rattle.imkl_model.specs.Bounds.{HasSmallAttributes};
+    ghost use Rattle.imkl_model.specs.Shape.{class_from};
+    ghost use Rattle.imkl_model.specs.Spelled.{IsSpelledClass};
 
-    ghost spelled = { class_at };
+    ghost spelled = { class_from };
 
-    ghost fits = { HasSmallAttributes };
+    ghost fits = { IsSpelledClass };
 
     fn of(alloc: Global, value: &Value) -> Result<Self, ModelFault> {
         class_of(alloc, value)
@@ -237,11 +247,12 @@ impl Spelled for WrittenClass {
 }
 
 impl Spelled for WrittenEnumeration {
-    ghost use Rattle.imkl_model.specs.Shape.{enumeration_at};
+    ghost use Rattle.imkl_model.specs.Shape.{enumeration_from};
+    ghost use Rattle.imkl_model.specs.Spelled.{IsSpelledEnumeration};
 
-    ghost spelled = { enumeration_at };
+    ghost spelled = { enumeration_from };
 
-    ghost fits = { λ _. Unit {0} };
+    ghost fits = { IsSpelledEnumeration };
 
     fn of(alloc: Global, value: &Value) -> Result<Self, ModelFault> {
         enumeration_of(alloc, value)
@@ -249,12 +260,12 @@ impl Spelled for WrittenEnumeration {
 }
 
 impl Spelled for WrittenAssociation {
-    ghost use Rattle.imkl_model.specs.Shape.{association_at};
-    ghost use Rattle.imkl_model.specs.Bounds.{HasSmallEnds};
+    ghost use Rattle.imkl_model.specs.Shape.{association_from};
+    ghost use Rattle.imkl_model.specs.Spelled.{IsSpelledAssociation};
 
-    ghost spelled = { association_at };
+    ghost spelled = { association_from };
 
-    ghost fits = { HasSmallEnds };
+    ghost fits = { IsSpelledAssociation };
 
     fn of(alloc: Global, value: &Value) -> Result<Self, ModelFault> {
         association_of(alloc, value)
@@ -262,12 +273,12 @@ impl Spelled for WrittenAssociation {
 }
 
 /// The class model that a JSON tree writes.
-#[tactic(auto, unfolding(crate::specs::Shape::written_at))]
+#[tactic(auto, unfolding(crate::specs::Shape::written_from))]
 pub(crate) fn written_of(alloc: Global, value: &Value) -> Result<Written, ModelFault>
-    ensures tree { Gives (λ w. w) result (written_at (view value.now)) }
-    ensures fits { IfOk result HasSmallBounds }
+    ensures tree { Gives model_fault (λ w. w) result (written_from (view value.now)) }
+    ensures fits { IfOk result IsSpelled }
 {
-    record_of(value, 4)?;
+    record(value, 4)?;
     let name = title_of(alloc, member(value, "model")?)?;
     let enumerations = each_of::<WrittenEnumeration>(alloc, list(member(value, "enums")?)?)?;
     let classes = each_of::<WrittenClass>(alloc, list(member(value, "classes")?)?)?;

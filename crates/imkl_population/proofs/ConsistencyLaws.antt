@@ -15,35 +15,35 @@ use Rattle.imkl_population.specs.declared.fault.PopulationFault.{PopulationFault
 use Rattle.imkl_population.specs.declared.fault.PopulationFault.TheVariants.{TooFew}
 use Rattle.imkl_population.specs.declared.scalar.Scalar.{Scalar}
 use Rattle.imkl_population.specs.declared.scalar.Scalar.TheVariants as scalar
-use Rattle.imkl_population.specs.Numbers.{first_of}
+use Rattle.imkl_population.specs.Numbers.{first_below}
 use Rattle.imkl_population.specs.Population.{Population, object_at, class_of, written_at, values_of, values_by, opposite_end}
 use Rattle.imkl_model.specs.Features.{is_attribute, is_opposite, is_unique}
-use Rattle.imkl_population.specs.Values.{is_of_type, is_target_of, is_over, repeats}
+use Rattle.imkl_population.specs.Values.{is_of_type, is_target_of, is_over, repeats_value}
 use Rattle.imkl_population.specs.Written.{is_set}
 use Rattle.imkl_population.specs.Building.{bounds_fault}
 use Rattle.imkl_population.specs.Draft.{IsDraft, is_sound}
-use Rattle.imkl_population.specs.Finishing.{gap, end_fault, first_fault}
+use Rattle.imkl_population.specs.Finishing.{gap, end_fault, first_object_fault}
 use Rattle.imkl_population.specs.Consistency.{IsConsistent}
 use Rattle.imkl_population.proofs.EndLaws.{values_written}
 use Rattle.imkl_population.proofs.Holders.{holders_all, holders_apart}
-use Rattle.imkl_population.proofs.Soundness.{AreTargets, sound_in, unset_in, values_sound, targets_sound, end_within}
+use Rattle.imkl_population.proofs.Soundness.{AreTargets, known_in, sound_in, unset_in, values_sound, targets_sound, end_within}
 
 neither : {A : Type 0} (a b : Option A) → option_or a b ≡ None → (a ≡ None) × (b ≡ None)
 neither None b h = (refl, h)
 neither (Some a) b h = absurd (let bad : Some a ≡ None = h in cc)
 
-nothing_below : {A : Type 0} (g : ℕ → Option A) (n : ℕ) → first_of g n ≡ None → (k : ℕ) → k < n → g k ≡ None
+nothing_below : {A : Type 0} (g : ℕ → Option A) (n : ℕ) → first_below g n ≡ None → (k : ℕ) → k < n → g k ≡ None
 nothing_below g zero h k lt = absurd (omega arith)
 nothing_below g (suc n) h k lt =
-    let both = neither (first_of g n) (g n) h in
+    let both = neither (first_below g n) (g n) h in
     elim (leb_tells n k) [
       | inl le ↦ let same : n ≡ k = omega arith in subst (λ (m : ℕ). g m ≡ None) same both.1
       | inr less ↦ nothing_below g n both.0 k less.1
     ]
 
 -- no object has the fault at a feature
-no_fault : (fault : Population → ℕ → ℕ → Option PopulationFault) (p : Population) → first_fault fault p ≡ None → (o f : ℕ) → o < length p.objects → f < length p.model.features → fault p o f ≡ None
-no_fault fault p h o f lt ltf = nothing_below (fault p o) (length p.model.features) (nothing_below (λ k. first_of (fault p k) (length p.model.features)) (length p.objects) h o lt) f ltf
+no_fault : (fault : Population → ℕ → ℕ → Option PopulationFault) (p : Population) → first_object_fault fault p ≡ None → (o f : ℕ) → o < length p.objects → f < length p.model.features → fault p o f ≡ None
+no_fault fault p h o f lt ltf = nothing_below (fault p o) (length p.model.features) (nothing_below (λ k. first_below (fault p k) (length p.model.features)) (length p.objects) h o lt) f ltf
 
 attribute_written : (r : Role) → is_attribute r ≡ true → is_opposite r ≡ false
 attribute_written Attribute h = refl
@@ -59,10 +59,10 @@ none_over : (upper : Option ℕ) → is_over upper 0 ≡ false
 none_over None = refl
 none_over (Some u) = le-ltb u 0 (omega arith)
 
-bounds_nought : (i : FeatureInfo) (o f : ℕ) → nat_lt 0 i.lower ≡ false → bounds_fault i o f 0 ≡ None
-bounds_nought i o f h = rw (h, none_over i.upper) refl
+bounds_zero : (i : FeatureInfo) (o f : ℕ) → nat_lt 0 i.lower ≡ false → bounds_fault i o f 0 ≡ None
+bounds_zero i o f h = rw (h, none_over i.upper) refl
 
-module _ (p : Population) (ids : List ℕ → Option ℕ) (draft : IsDraft p ids) (known : IsClassModel p.model) (gaps : first_fault gap p ≡ None) (ends : first_fault end_fault p ≡ None) where
+module _ (p : Population) (ids : List ℕ → Option ℕ) (draft : IsDraft p ids) (known : IsClassModel p.model) (gaps : first_object_fault gap p ≡ None) (ends : first_object_fault end_fault p ≡ None) where
   written_sound : (o f : ℕ) → o < length p.objects → (written_at p o f ≡ []) ⊎ (is_sound p o (f, written_at p o f) ≡ true)
   written_sound o f lt =
       elim (cases_Bool (is_set (object_at p o).written f)) [
@@ -87,7 +87,7 @@ module _ (p : Population) (ids : List ℕ → Option ℕ) (draft : IsDraft p ids
         | inr s ↦ (values_sound p o f (written_at p o f) a s).typed
       ])
 
-  unique_values : (o f : ℕ) → o < length p.objects → is_attribute (feature_at p.model f).role ≡ true → is_unique (feature_at p.model f) ≡ true → repeats (values_of p o f) ≡ false
+  unique_values : (o f : ℕ) → o < length p.objects → is_attribute (feature_at p.model f).role ≡ true → is_unique (feature_at p.model f) ≡ true → repeats_value (values_of p o f) ≡ false
   unique_values o f lt a u =
       rw (values_written p o f (attribute_written (feature_at p.model f).role a)) (elim (written_sound o f lt) [
         | inl e ↦ rw e refl
@@ -106,7 +106,7 @@ module _ (p : Population) (ids : List ℕ → Option ℕ) (draft : IsDraft p ids
   written_joined : (o f : ℕ) → o < length p.objects → is_attribute (feature_at p.model f).role ≡ false → list_all (is_target_of p (feature_at p.model f).element) (written_at p o f) ≡ true
   written_joined o f lt a = elim (targets_of o f lt a) [ inl e ↦ rw e refl | inr s ↦ s.joined ]
 
-  written_apart : (o f : ℕ) → o < length p.objects → is_attribute (feature_at p.model f).role ≡ false → repeats (written_at p o f) ≡ false
+  written_apart : (o f : ℕ) → o < length p.objects → is_attribute (feature_at p.model f).role ≡ false → repeats_value (written_at p o f) ≡ false
   written_apart o f lt a = elim (targets_of o f lt a) [ inl e ↦ rw e refl | inr s ↦ s.apart ]
 
   -- ---- opposite ends
@@ -131,7 +131,7 @@ module _ (p : Population) (ids : List ℕ → Option ℕ) (draft : IsDraft p ids
       rw (paired.opposite_element, list_all-map test scalar.Object (opposite_end p source o))
       (holders_all (λ k. test (scalar.Object k)) p source o (length p.objects) (λ k inside. holder_conforms k f source inside paired.source_role))
 
-  apart_by : (o f : ℕ) → o < length p.objects → (r : Role) → (feature_at p.model f).role ≡ r → is_attribute r ≡ false → repeats (values_by r p o f) ≡ false
+  apart_by : (o f : ℕ) → o < length p.objects → (r : Role) → (feature_at p.model f).role ≡ r → is_attribute r ≡ false → repeats_value (values_by r p o f) ≡ false
   apart_by o f lt Attribute e h = absurd (false≢true (sym h))
   apart_by o f lt (SourceEnd g) e h = written_apart o f lt (rw e refl)
   apart_by o f lt (OppositeEnd source) e h =
@@ -146,7 +146,7 @@ module _ (p : Population) (ids : List ℕ → Option ℕ) (draft : IsDraft p ids
       let no_gap : gap p o f ≡ None = no_fault gap p gaps o f lt ltf in
       let i : FeatureInfo = feature_at p.model f in
       elim (written_sound o f lt) [
-        | inl e ↦ rw e (bounds_nought i o f (not_few true p o f (nat_lt 0 i.lower) refl (rw (b, n, e) at no_gap)))
+        | inl e ↦ rw e (bounds_zero i o f (not_few true p o f (nat_lt 0 i.lower) refl (rw (b, n, e) at no_gap)))
         | inr s ↦ elim (cases_Bool (is_attribute i.role)) [
           | inl a ↦ (values_sound p o f (written_at p o f) a s).bounded
           | inr a ↦ (targets_sound p o f (written_at p o f) a s).bounded
@@ -163,10 +163,13 @@ module _ (p : Population) (ids : List ℕ → Option ℕ) (draft : IsDraft p ids
 
   pub consistent : IsConsistent p
   consistent = record {
+    limited = draft.limited;
     classed = draft.classed;
     concrete = draft.concrete;
     formed = draft.formed;
     distinct = draft.distinct;
+    mapped = draft.mapped;
+    known = λ o f lt set. known_in (length p.model.features) f (object_at p o).written (draft.known o lt) set;
     owned = λ o f lt set. (set_where o f lt set).0;
     underived = λ o f lt set. (set_where o f lt set).1;
     typed = typed;

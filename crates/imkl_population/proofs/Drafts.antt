@@ -6,6 +6,12 @@ use Rattle.std.proofs.lemmas.List.{get_or_default, get_or-set_same, get_or-set_o
 use Rattle.std.proofs.Math.ListN.{get_or-append}
 use Rattle.std.proofs.Math.Seq.{get_or-append_seam}
 use Rattle.std.specs.List.{list_all}
+use Rattle.std.specs.Prelude.{All}
+use Rattle.std.specs.Option.{option_or}
+use Rattle.std.specs.Map.{keys_of}
+use Rattle.std.specs.List.Sorted.{IsStrictlySortedBy}
+use Rattle.std.proofs.lemmas.List.Elements.{All-nil}
+use Rattle.std.proofs.lemmas.Map.Views.{All-keys-insert_entry}
 use Rattle.std.specs.BTreeMap.{insert_entry}
 use Rattle.std.specs.FinMap.{nat_cmp-IsAntisymmetric}
 use Rattle.std.specs.Ordering.{nat_cmp, match_ordering}
@@ -19,13 +25,19 @@ use Rattle.imkl_population.specs.declared.fault.PopulationFault.TheVariants.{Wro
 use Rattle.imkl_population.specs.declared.object.Object.{Object}
 use Rattle.imkl_population.specs.declared.scalar.Scalar.{Scalar}
 use Rattle.imkl_population.specs.declared.scalar.Scalar.TheVariants as scalar
-use Rattle.imkl_population.specs.Population.{Population, object_at, class_of, no_object, object_of}
+use Rattle.imkl_population.specs.Population.{Population, object_at, class_of, no_object, object_number}
 use Rattle.imkl_model.specs.Features.{is_attribute, is_opposite}
-use Rattle.imkl_population.specs.Values.{is_target_of, repeats}
-use Rattle.imkl_population.specs.Building.{is_id, bounds_fault, with_written}
+use Rattle.imkl_population.specs.Values.{is_target_of, repeats_value}
+use Rattle.imkl_population.specs.Building.{is_id, bounds_fault, with_written, most_objects}
+use Rattle.imkl_population.specs.Written.{IsMap}
 use Rattle.imkl_population.specs.Draft.{IsDraft, is_sound, entry_fault_by}
 use Rattle.imkl_population.proofs.Bools.{list_all-weaker, list_all-none}
-use Rattle.imkl_population.proofs.Ids.{object_of-push, absent_differs, object_from-set}
+use Rattle.imkl_population.proofs.Ids.{object_number-push, absent_differs, object_number_in-set}
+
+-- nothing written is a map
+nothing_mapped : IsMap []
+unfolding IsStrictlySortedBy
+nothing_mapped = tt
 
 abbrev of : Model → List Object → Population
 of m os = record { model = m; objects = os }
@@ -51,8 +63,8 @@ target-kept m os qs k (element.Enumeration e) v h = h
 
 -- the tests of a link's targets, and all before and after them
 link_by : (a b t u : Bool) (r : Option PopulationFault) → (t ≡ true → u ≡ true)
-    → is_none (if not a then Some WrongFeature else (if b then Some Derived else (if not t then Some WrongClass else r))) ≡ true
-    → is_none (if not a then Some WrongFeature else (if b then Some Derived else (if not u then Some WrongClass else r))) ≡ true
+    → is_none (option_or (if not a then Some WrongFeature else (if b then Some Derived else None)) (if not t then Some WrongClass else r)) ≡ true
+    → is_none (option_or (if not a then Some WrongFeature else (if b then Some Derived else None)) (if not u then Some WrongClass else r)) ≡ true
 link_by false b t u r h k = k
 link_by true true t u r h k = k
 link_by true false true u r h k = rw (h refl) k
@@ -64,7 +76,7 @@ sound-kept_by true m os qs k o lt f i vs h = rw (k.classes o lt) h
 sound-kept_by false m os qs k o lt f i vs h =
     rw (k.classes o lt) (link_by (belongs m (class_of (of m os) o) f && not (is_attribute i.role)) (is_opposite i.role)
     (list_all (is_target_of (of m os) i.element) vs) (list_all (is_target_of (of m qs) i.element) vs)
-    (if repeats vs then Some DuplicateTarget else bounds_fault i o f (length vs))
+    (if repeats_value vs then Some DuplicateTarget else bounds_fault i o f (length vs))
     (list_all-weaker (is_target_of (of m os) i.element) (is_target_of (of m qs) i.element) (target-kept m os qs k i.element) vs) h)
 
 -- what is sound stays so where more objects come, and where the objects keep their classes
@@ -94,12 +106,13 @@ module _ (m : Model) (os : List Object) (y : Object) where
         | inr less ↦ subst (P o) (sym (old_object o less.1)) (old o less.1)
       ]
 
-  pub draft-added : (ids new : List ℕ → Option ℕ) → IsDraft (of m os) ids → is_id y.id ≡ true → object_of (of m os) y.id ≡ None → y.class < length m.classes
+  pub draft-added : (ids new : List ℕ → Option ℕ) → IsDraft (of m os) ids → length os < most_objects → is_id y.id ≡ true → object_number (of m os) y.id ≡ None → y.class < length m.classes
       → (class_at m y.class).is_abstract ≡ false → y.written ≡ []
       → ((q : List ℕ) → new q ≡ cond (bytes_eq y.id q) (Some (length os)) (ids q))
       → IsDraft (of m (os ++ y ∷ [])) new
-  draft-added ids new draft formed absent classed concrete unwritten after = record {
-    found = λ q. after q ∙ ap (cond (bytes_eq y.id q) (Some (length os))) (draft.found q) ∙ object_of-push os y q absent;
+  draft-added ids new draft room formed absent classed concrete unwritten after = record {
+    limited = omega (arith, room, length-append os (y ∷ []));
+    found = λ q. after q ∙ ap (cond (bytes_eq y.id q) (Some (length os))) (draft.found q) ∙ object_number-push os y q absent;
     classed = for_all (λ o x. x.class < length m.classes) draft.classed classed;
     concrete = for_all (λ o x. (class_at m x.class).is_abstract ≡ false) draft.concrete concrete;
     formed = for_all (λ o x. is_id x.id ≡ true) draft.formed formed;
@@ -108,6 +121,8 @@ module _ (m : Model) (os : List Object) (y : Object) where
         (λ k inside less. rw (old_object n (omega arith)) (draft.distinct n k less inside))
         (λ less. rw (old_object n less) (absent_differs 0 os y.id n absent less))
         o lto lt;
+    mapped = for_all (λ o x. IsMap x.written) draft.mapped (rw unwritten nothing_mapped);
+    known = for_all (λ o x. All (λ f. f < length m.features) (keys_of x.written)) draft.known (rw unwritten (All-nil (λ f. f < length m.features)));
     sound = for_all (λ o x. list_all (is_sound (of m (os ++ y ∷ [])) o) x.written ≡ true)
         (λ o inside. list_all-weaker (is_sound (of m os) o) (is_sound (of m (os ++ y ∷ [])) o) (sound-kept m os (os ++ y ∷ []) grows o inside) (object_at (of m os) o).written (draft.sound o inside))
         (rw unwritten refl);
@@ -117,16 +132,16 @@ none_of : (o : Option ℕ) (b : Bool) → b ≡ is_some o → b ≡ false → o 
 none_of None b e h = refl
 none_of (Some x) b e h = absurd (false≢true (sym h ∙ e))
 
--- the same, told by the equations that a call gives
-pub draft-pushed : (m : Model) (os new_os : List Object) (y : Object) (id key : List ℕ) (n : ℕ) (there : Bool) (ids new : List ℕ → Option ℕ) → IsDraft (of m os) ids
+-- the same, reported by the equations that a call gives
+pub draft-pushed : (m : Model) (os new_os : List Object) (y : Object) (id key : List ℕ) (n : ℕ) (there : Bool) (ids new : List ℕ → Option ℕ) → IsDraft (of m os) ids → n < most_objects
     → new_os ≡ os ++ y ∷ [] → y.id ≡ id → key ≡ id → n ≡ length os → there ≡ is_some (ids id) → there ≡ false
     → is_id id ≡ true → y.class < length m.classes → (class_at m y.class).is_abstract ≡ false → y.written ≡ []
     → ((q : List ℕ) → new q ≡ cond (bytes_eq key q) (Some n) (ids q)) → IsDraft (of m new_os) new
-draft-pushed m os new_os y id key n there ids new draft items named keyed counted is absent formed classed concrete unwritten after =
-    let none : object_of (of m os) y.id ≡ None = ap (object_of (of m os)) named ∙ sym (draft.found id) ∙ none_of (ids id) there is absent in
+draft-pushed m os new_os y id key n there ids new draft room items named keyed counted is absent formed classed concrete unwritten after =
+    let none : object_number (of m os) y.id ≡ None = ap (object_number (of m os)) named ∙ sym (draft.found id) ∙ none_of (ids id) there is absent in
     let named_so : is_id y.id ≡ true = ap is_id named ∙ formed in
     let key_is : key ≡ y.id = keyed ∙ sym named in
-    rw items (draft-added m os y ids new draft named_so none classed concrete unwritten (λ q. after q ∙ rw (key_is, counted) refl))
+    rw items (draft-added m os y ids new draft (omega (arith, room, counted)) named_so none classed concrete unwritten (λ q. after q ∙ rw (key_is, counted) refl))
 
 -- ---- other values on an object
 
@@ -174,25 +189,29 @@ module _ (m : Model) (os : List Object) (o : ℕ) (y : Object) (inside : o < len
   keeps : Keeps m os (set os o y)
   keeps = record { longer = omega (arith, length-set os o y); classes = λ k lt. same_class k }
 
-  pub draft-changed : (ids : List ℕ → Option ℕ) → IsDraft (of m os) ids → list_all (is_sound (of m os) o) y.written ≡ true → IsDraft (of m (set os o y)) ids
-  draft-changed ids draft sound =
+  pub draft-changed : (ids : List ℕ → Option ℕ) → IsDraft (of m os) ids → IsMap y.written → All (λ f. f < length m.features) (keys_of y.written) → list_all (is_sound (of m os) o) y.written ≡ true → IsDraft (of m (set os o y)) ids
+  draft-changed ids draft mapped known sound =
       let within : (k : ℕ) → k < length (set os o y) → k < length os = λ k lt. omega (arith, length-set os o y) in
       record {
-        found = λ q. draft.found q ∙ sym (object_from-set 0 os o y q named);
+        found = λ q. draft.found q ∙ sym (object_number_in-set 0 os o y q named);
+        limited = omega (arith, draft.limited, length-set os o y);
         classed = λ k lt. rw (same_class k) (draft.classed k (within k lt));
         concrete = λ k lt. rw (same_class k) (draft.concrete k (within k lt));
         formed = λ k lt. rw (same_id k) (draft.formed k (within k lt));
         distinct = λ n k less lt. rw (same_id n, same_id k) (draft.distinct n k less (within k lt));
+        mapped = for_each (λ k x. IsMap x.written) draft.mapped mapped;
+        known = for_each (λ k x. All (λ f. f < length m.features) (keys_of x.written)) draft.known known;
         sound = for_each (λ k x. list_all (is_sound (of m (set os o y)) k) x.written ≡ true)
             (λ k lt. list_all-weaker (is_sound (of m os) k) (is_sound (of m (set os o y)) k) (sound-kept m os (set os o y) keeps k lt) (object_at (of m os) k).written (draft.sound k lt))
             (list_all-weaker (is_sound (of m os) o) (is_sound (of m (set os o y)) o) (sound-kept m os (set os o y) keeps o inside) y.written sound);
       }
 
 -- values are put at a feature
-pub draft-put : (m : Model) (os : List Object) (o f : ℕ) (vs : List Scalar) (ids : List ℕ → Option ℕ) → o < length os → IsDraft (of m os) ids → is_sound (of m os) o (f, vs) ≡ true
+pub draft-put : (m : Model) (os : List Object) (o f : ℕ) (vs : List Scalar) (ids : List ℕ → Option ℕ) → o < length os → f < length m.features → IsDraft (of m os) ids → IsMap (insert_entry nat_cmp (get_or os o no_object).written f vs) → is_sound (of m os) o (f, vs) ≡ true
     → IsDraft (of m (set os o (with_written (get_or os o no_object) f vs))) ids
-draft-put m os o f vs ids inside draft sound =
-    draft-changed m os o (with_written (get_or os o no_object) f vs) inside refl refl ids draft
+draft-put m os o f vs ids inside below draft mapped sound =
+    draft-changed m os o (with_written (get_or os o no_object) f vs) inside refl refl ids draft mapped
+    (All-keys-insert_entry nat_cmp f vs (λ g. g < length m.features) (get_or os o no_object).written (draft.known o inside) below)
     (list_all-insert_entry (is_sound (of m os) o) f vs sound (get_or os o no_object).written (draft.sound o inside))
 
 -- nothing but nothing is at an end without a class
@@ -204,11 +223,11 @@ no_targets p element.String vs none = list_all-none (is_target_of p element.Stri
 no_targets p (element.Enumeration e) vs none = list_all-none (is_target_of p (element.Enumeration e)) (λ v. refl) vs
 
 -- the same, for an object found by its place
-pub draft-written : (m : Model) (os : List Object) (at o f n : ℕ) (vs : List Scalar) (slot : Object) (w : List (ℕ × List Scalar)) (ids : List ℕ → Option ℕ) → at ≡ o → n ≡ f → o < length os
-    → slot ≡ get_or os at slot → w ≡ insert_entry nat_cmp slot.written n vs → IsDraft (of m os) ids → is_sound (of m os) o (f, vs) ≡ true
+pub draft-written : (m : Model) (os : List Object) (at o f n : ℕ) (vs : List Scalar) (slot : Object) (w : List (ℕ × List Scalar)) (ids : List ℕ → Option ℕ) → at ≡ o → n ≡ f → o < length os → f < length m.features
+    → slot ≡ get_or os at slot → w ≡ insert_entry nat_cmp slot.written n vs → IsMap w → IsDraft (of m os) ids → is_sound (of m os) o (f, vs) ≡ true
     → IsDraft (of m (set os at (record { id = slot.id; class = slot.class; written = w }))) ids
-draft-written m os at o f n vs slot w ids here named inside found put draft sound =
+draft-written m os at o f n vs slot w ids here named inside below found put mapped draft sound =
     let stands : slot ≡ get_or os o no_object = found ∙ rw here (get_or_default os o slot no_object inside) in
     let written : w ≡ insert_entry nat_cmp (get_or os o no_object).written f vs = put ∙ rw named (ap (λ (x : Object). insert_entry nat_cmp x.written f vs) stands) in
     let same : record { id = slot.id; class = slot.class; written = w } ≡ with_written (get_or os o no_object) f vs = rw (written, ← stands) refl in
-    rw (here, same) (draft-put m os o f vs ids inside draft sound)
+    rw (here, same) (draft-put m os o f vs ids inside below draft (subst IsMap written mapped) sound)

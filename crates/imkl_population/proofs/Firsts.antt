@@ -4,9 +4,10 @@ use Rattle.std.specs.Option.{option_or}
 use Rattle.std.proofs.lemmas.List.{append-nil, take_more, take-append-drop}
 use Rattle.std.proofs.lemmas.Bool.{false≢true}
 use Rattle.std.proofs.lemmas.Bool.Decides.{leb_tells}
-use Rattle.imkl_population.specs.Numbers.{first_of, places}
+use Rattle.ocl_base.specs.Numbers.{places}
+use Rattle.imkl_population.specs.Numbers.{first_below}
 
-pub first_of-found : {A : Type 0} (g : ℕ → Option A) (n k : ℕ) (a : A) → k < n → first_of g k ≡ None → g k ≡ Some a → first_of g n ≡ Some a
+pub first_of-found : {A : Type 0} (g : ℕ → Option A) (n k : ℕ) (a : A) → k < n → first_below g k ≡ None → g k ≡ Some a → first_below g n ≡ Some a
 first_of-found g zero k a lt none found = absurd (omega arith)
 first_of-found g (suc n) k a lt none found =
     elim (leb_tells n k) [
@@ -14,11 +15,11 @@ first_of-found g (suc n) k a lt none found =
       | inr less ↦ rw (first_of-found g n k a less.1 none found) refl
     ]
 
-pub first_of-more : {A : Type 0} (g : ℕ → Option A) (k : ℕ) → first_of g k ≡ None → g k ≡ None → first_of g (k + 1) ≡ None
+pub first_of-more : {A : Type 0} (g : ℕ → Option A) (k : ℕ) → first_below g k ≡ None → g k ≡ None → first_below g (k + 1) ≡ None
 first_of-more g k none here = rw (add-one, none, here) refl
 
 -- what is found at a number below which nothing is found is the first
-pub first_found : {A : Type 0} (g : ℕ → Option A) (n k : ℕ) (r : Option A) → k < n → first_of g k ≡ None → r ≡ g k → is_some r ≡ true → r ≡ first_of g n
+pub first_found : {A : Type 0} (g : ℕ → Option A) (n k : ℕ) (r : Option A) → k < n → first_below g k ≡ None → r ≡ g k → is_some r ≡ true → r ≡ first_below g n
 first_found g n k None lt none is h = absurd (false≢true h)
 first_found g n k (Some a) lt none is h = sym (first_of-found g n k a lt none (sym is))
 
@@ -46,7 +47,7 @@ one_place g xs n true idle = first_in-append g xs (n ∷ []) ∙ rw (option_or-n
 one_place g xs n false idle = rw (append-nil xs, idle refl) (sym (option_or-none (first_in g xs)))
 
 -- the first of all is the first of those places outside which there is nothing
-pub first_in-places : {A : Type 0} (g : ℕ → Option A) (p : ℕ → Bool) (n : ℕ) → ((k : ℕ) → k < n → p k ≡ false → g k ≡ None) → first_in g (places p n) ≡ first_of g n
+pub first_in-places : {A : Type 0} (g : ℕ → Option A) (p : ℕ → Bool) (n : ℕ) → ((k : ℕ) → k < n → p k ≡ false → g k ≡ None) → first_in g (places p n) ≡ first_below g n
 first_in-places g p zero idle = refl
 first_in-places g p (suc n) idle = one_place g (places p n) n (p n) (idle n (omega arith)) ∙ rw (first_in-places g p n (λ k lt. idle k (omega (arith, lt)))) refl
 

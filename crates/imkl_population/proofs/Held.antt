@@ -14,7 +14,7 @@ use Rattle.imkl_model.specs.WellFormed.{IsClassModel, ArePaired}
 use Rattle.imkl_population.specs.declared.scalar.Scalar.{Scalar}
 use Rattle.imkl_population.specs.declared.scalar.Scalar.TheVariants as scalar
 use Rattle.imkl_population.specs.Building.{as_objects}
-use Rattle.imkl_population.specs.Numbers.{places}
+use Rattle.ocl_base.specs.Numbers.{places}
 use Rattle.imkl_population.specs.Population.{Population, object_at, held_by, holders_of, pairs_below, written_at}
 use Rattle.imkl_population.specs.Required.{is_one_of}
 use Rattle.imkl_model.specs.Features.{is_attribute}
@@ -111,7 +111,7 @@ module _ (p : Population) (wf : IsClassModel p.model) (holder : ℕ) (test : ℕ
       let none : is_one_of (take (i + 1) items) s ≡ is_one_of (take i items) s = rw (grown s, other_end p.model wf f s x end other) (or-false (is_one_of (take i items) s)) in
       b ∙ ap (λ (t : Bool). before ++ (if t then as_objects (held_by holder o (written_at p holder s)) else [])) (sym none)
 
--- where all are met, one holder more is told
+-- where all are met, one holder more is reported
 pub at_end : (p : Population) → IsClassModel p.model → (holder i : ℕ) (items : List ℕ) → items ≡ places (is_set (object_at p holder).written) (length p.model.features) → length items ≤ i
     → (o f s : ℕ) (before after : List Scalar) → (feature_at p.model f).role ≡ OppositeEnd s → before ≡ as_objects (holders_of o (pairs_below p s holder))
     → after ≡ before ++ added p holder o (take i items) s → after ≡ as_objects (holders_of o (pairs_below p s (holder + 1)))

@@ -7,7 +7,7 @@ use Rattle.std.proofs.lemmas.List.Folds.{list_all-append}
 use Rattle.imkl_population.specs.declared.scalar.Scalar.{Scalar}
 use Rattle.imkl_population.specs.declared.scalar.Scalar.TheVariants as scalar
 use Rattle.imkl_population.specs.Building.{as_objects}
-use Rattle.imkl_population.specs.Values.{is_among, repeats}
+use Rattle.imkl_population.specs.Values.{is_value_among, repeats_value}
 use Rattle.imkl_population.specs.Population.{Population, pairs_of, pairs_below, holders_of, held_by, written_at}
 use Rattle.imkl_population.proofs.Pairs.{holders_of-append}
 use Rattle.imkl_population.proofs.Bools.{same_test}
@@ -46,10 +46,10 @@ holders_all test p source o (suc n) h =
 -- ---- none stands twice
 
 -- an object that isn't among the targets has no holder from them
-none_held : (holder o : ℕ) (vs : List Scalar) → is_among vs (scalar.Object o) ≡ false → held_by holder o vs ≡ []
+none_held : (holder o : ℕ) (vs : List Scalar) → is_value_among vs (scalar.Object o) ≡ false → held_by holder o vs ≡ []
 none_held holder o [] h = refl
 none_held holder o (scalar.Object t ∷ vs) h =
-    let parts = or_parts (o == t) (is_among vs (scalar.Object o)) h in
+    let parts = or_parts (o == t) (is_value_among vs (scalar.Object o)) h in
     let apart : (t == o) ≡ false = same_test (t == o) false (λ e. absurd (false≢true (sym parts.0 ∙ eq-eqb o t (sym (eqb-true t o e))))) (λ e. absurd (false≢true e)) in
     held_step false holder o t vs apart ∙ none_held holder o vs parts.1
 none_held holder o (scalar.Bool b ∷ vs) h = none_held holder o vs h
@@ -58,36 +58,36 @@ none_held holder o (scalar.Text s ∷ vs) h = none_held holder o vs h
 none_held holder o (scalar.Literal e l ∷ vs) h = none_held holder o vs h
 
 -- of targets that differ at most one is the object
-held_once_by : (holder o t : ℕ) (vs : List Scalar) (b : Bool) → (t == o) ≡ b → is_among vs (scalar.Object t) ≡ false → (held_by holder o vs ≡ []) ⊎ (held_by holder o vs ≡ holder ∷ [])
+held_once_by : (holder o t : ℕ) (vs : List Scalar) (b : Bool) → (t == o) ≡ b → is_value_among vs (scalar.Object t) ≡ false → (held_by holder o vs ≡ []) ⊎ (held_by holder o vs ≡ holder ∷ [])
     → (held_by holder o (scalar.Object t ∷ vs) ≡ []) ⊎ (held_by holder o (scalar.Object t ∷ vs) ≡ holder ∷ [])
 held_once_by holder o t vs true e apart later =
     let same : t ≡ o = eqb-true t o e in
-    inr (held_step true holder o t vs e ∙ ap (λ (l : List ℕ). holder ∷ l) (none_held holder o vs (subst (λ (n : ℕ). is_among vs (scalar.Object n) ≡ false) same apart)))
+    inr (held_step true holder o t vs e ∙ ap (λ (l : List ℕ). holder ∷ l) (none_held holder o vs (subst (λ (n : ℕ). is_value_among vs (scalar.Object n) ≡ false) same apart)))
 held_once_by holder o t vs false e apart later =
     elim later [
       | inl h ↦ inl (held_step false holder o t vs e ∙ h)
       | inr h ↦ inr (held_step false holder o t vs e ∙ h)
     ]
 
-held_once : (holder o : ℕ) (vs : List Scalar) → repeats vs ≡ false → (held_by holder o vs ≡ []) ⊎ (held_by holder o vs ≡ holder ∷ [])
+held_once : (holder o : ℕ) (vs : List Scalar) → repeats_value vs ≡ false → (held_by holder o vs ≡ []) ⊎ (held_by holder o vs ≡ holder ∷ [])
 held_once holder o [] h = inl refl
 held_once holder o (scalar.Object t ∷ vs) h =
-    let parts = or_parts (is_among vs (scalar.Object t)) (repeats vs) h in
+    let parts = or_parts (is_value_among vs (scalar.Object t)) (repeats_value vs) h in
     held_once_by holder o t vs (t == o) refl parts.0 (held_once holder o vs parts.1)
-held_once holder o (scalar.Bool b ∷ vs) h = held_once holder o vs (or_parts (is_among vs (scalar.Bool b)) (repeats vs) h).1
-held_once holder o (scalar.Int n ∷ vs) h = held_once holder o vs (or_parts (is_among vs (scalar.Int n)) (repeats vs) h).1
-held_once holder o (scalar.Text s ∷ vs) h = held_once holder o vs (or_parts (is_among vs (scalar.Text s)) (repeats vs) h).1
-held_once holder o (scalar.Literal e l ∷ vs) h = held_once holder o vs (or_parts (is_among vs (scalar.Literal e l)) (repeats vs) h).1
+held_once holder o (scalar.Bool b ∷ vs) h = held_once holder o vs (or_parts (is_value_among vs (scalar.Bool b)) (repeats_value vs) h).1
+held_once holder o (scalar.Int n ∷ vs) h = held_once holder o vs (or_parts (is_value_among vs (scalar.Int n)) (repeats_value vs) h).1
+held_once holder o (scalar.Text s ∷ vs) h = held_once holder o vs (or_parts (is_value_among vs (scalar.Text s)) (repeats_value vs) h).1
+held_once holder o (scalar.Literal e l ∷ vs) h = held_once holder o vs (or_parts (is_value_among vs (scalar.Literal e l)) (repeats_value vs) h).1
 
 -- a number above all holders is none of them
-above_all : (n : ℕ) (xs : List ℕ) → list_all (λ x. nat_lt x n) xs ≡ true → is_among (as_objects xs) (scalar.Object n) ≡ false
+above_all : (n : ℕ) (xs : List ℕ) → list_all (λ x. nat_lt x n) xs ≡ true → is_value_among (as_objects xs) (scalar.Object n) ≡ false
 above_all n [] h = refl
 above_all n (x ∷ xs) h =
     let parts = and_parts (nat_lt x n) (list_all (λ y. nat_lt y n) xs) h in
     let less : x < n = ltb-true x n parts.0 in
-    or_from (n == x) (is_among (as_objects xs) (scalar.Object n)) (ne_eqb n x (λ e. absurd (omega arith))) (above_all n xs parts.1)
+    or_from (n == x) (is_value_among (as_objects xs) (scalar.Object n)) (ne_eqb n x (λ e. absurd (omega arith))) (above_all n xs parts.1)
 
-joined : (n : ℕ) (xs ys : List ℕ) → repeats (as_objects xs) ≡ false → list_all (λ x. nat_lt x n) xs ≡ true → (ys ≡ []) ⊎ (ys ≡ n ∷ []) → repeats (as_objects (xs ++ ys)) ≡ false
+joined : (n : ℕ) (xs ys : List ℕ) → repeats_value (as_objects xs) ≡ false → list_all (λ x. nat_lt x n) xs ≡ true → (ys ≡ []) ⊎ (ys ≡ n ∷ []) → repeats_value (as_objects (xs ++ ys)) ≡ false
 joined n xs ys apart below last =
     elim last [
       | inl e ↦ rw (e, append-nil xs) apart
@@ -95,7 +95,7 @@ joined n xs ys apart below last =
     ]
 
 -- the holders of an object differ where each holder's targets differ
-pub holders_apart : (p : Population) (source o n : ℕ) → ((k : ℕ) → k < n → repeats (written_at p k source) ≡ false) → repeats (as_objects (holders_of o (pairs_below p source n))) ≡ false
+pub holders_apart : (p : Population) (source o n : ℕ) → ((k : ℕ) → k < n → repeats_value (written_at p k source) ≡ false) → repeats_value (as_objects (holders_of o (pairs_below p source n))) ≡ false
 holders_apart p source o zero h = refl
 holders_apart p source o (suc n) h =
     let earlier : List ℕ = holders_of o (pairs_below p source n) in

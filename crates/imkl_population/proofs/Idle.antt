@@ -9,7 +9,8 @@ use Rattle.imkl_population.specs.declared.required.Side.TheVariants.{Written, Op
 use Rattle.imkl_population.specs.Building.{bounds_fault}
 use Rattle.imkl_population.specs.Ends.{AreEnds}
 use Rattle.imkl_population.specs.Finishing.{gap, end_fault}
-use Rattle.imkl_population.specs.Numbers.{places, first_of}
+use Rattle.ocl_base.specs.Numbers.{places}
+use Rattle.imkl_population.specs.Numbers.{first_below}
 use Rattle.imkl_population.specs.Population.{Population, class_of, written_at, values_of}
 use Rattle.imkl_population.specs.Required.{Requirements, is_required, is_one_of, with_required}
 use Rattle.imkl_model.specs.Features.{is_opposite}
@@ -63,10 +64,10 @@ no_end_fault p ends are o f held inside within set idle =
     (λ end. ap length (sym (ends_values p ends are o f inside end) ∙ unset_in w f unset))
 
 -- the first gap of an object is the first at what its class requires
-pub first_gap_in : (p : Population) (o : ℕ) (r : Requirements) (c : ℕ) (fs items : List ℕ) → r ≡ written_side p → c ≡ class_of p o → items ≡ with_required r c fs → first_in (gap p o) items ≡ first_of (gap p o) (length p.model.features)
+pub first_gap_in : (p : Population) (o : ℕ) (r : Requirements) (c : ℕ) (fs items : List ℕ) → r ≡ written_side p → c ≡ class_of p o → items ≡ with_required r c fs → first_in (gap p o) items ≡ first_below (gap p o) (length p.model.features)
 first_gap_in p o r c fs items side class are =
-    let listed : items ≡ with_required (written_side p) (class_of p o) fs = are ∙ rw (side, class) refl in
-    rw listed (first_in-places (gap p o) (λ f. is_required (written_side p) (class_of p o) f || is_one_of fs f) (length p.model.features) (λ f lt idle. no_gap p o f fs idle))
+    let list_below : items ≡ with_required (written_side p) (class_of p o) fs = are ∙ rw (side, class) refl in
+    rw list_below (first_in-places (gap p o) (λ f. is_required (written_side p) (class_of p o) f || is_one_of fs f) (length p.model.features) (λ f lt idle. no_gap p o f fs idle))
 
 -- the features with holders, of ends that are found by their place
 pub held_there : (p : Population) (ends : List (List (ℕ × List Scalar))) → AreEnds p ends → (o at count : ℕ) (w : List (ℕ × List Scalar)) (held : List ℕ) → o < length p.objects → at ≡ o → w ≡ get_or ends at w
@@ -78,7 +79,7 @@ held_there p ends ok o at count w held inside here found are all =
 
 -- the first fault of an object's opposite ends is the first at what its class requires and what is held
 pub first_end_fault_in : (p : Population) (ends : List (List (ℕ × List Scalar))) → AreEnds p ends → (o : ℕ) (r : Requirements) (c : ℕ) (held items : List ℕ) → o < length p.objects
-    → held ≡ places (is_set (get_or ends o [])) (length p.model.features) → r ≡ opposite_side p → c ≡ class_of p o → items ≡ with_required r c held → first_in (end_fault p o) items ≡ first_of (end_fault p o) (length p.model.features)
+    → held ≡ places (is_set (get_or ends o [])) (length p.model.features) → r ≡ opposite_side p → c ≡ class_of p o → items ≡ with_required r c held → first_in (end_fault p o) items ≡ first_below (end_fault p o) (length p.model.features)
 first_end_fault_in p ends ok o r c held items inside set side class are =
-    let listed : items ≡ with_required (opposite_side p) (class_of p o) held = are ∙ rw (side, class) refl in
-    rw listed (first_in-places (end_fault p o) (λ f. is_required (opposite_side p) (class_of p o) f || is_one_of held f) (length p.model.features) (λ f lt idle. no_end_fault p ends ok o f held inside lt set idle))
+    let list_below : items ≡ with_required (opposite_side p) (class_of p o) held = are ∙ rw (side, class) refl in
+    rw list_below (first_in-places (end_fault p o) (λ f. is_required (opposite_side p) (class_of p o) f || is_one_of held f) (length p.model.features) (λ f lt idle. no_end_fault p ends ok o f held inside lt set idle))

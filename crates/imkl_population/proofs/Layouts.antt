@@ -9,7 +9,12 @@ use Rattle.imkl_population.specs.Consistency.{IsConsistent}
 use Rattle.imkl_population.specs.Ends.{AreEnds}
 use Rattle.imkl_model.specs.ClassModel.{Model}
 use Rattle.imkl_population.specs.Population.{Population, object_at, no_object}
+use Rattle.imkl_population.specs.FinishedPopulation.{FinishedPopulation}
 use Rattle.imkl_population.specs.Layout.{objects_of, first_map, IsSplit, IsFinished, AreInstances}
+
+-- the content of equal populations
+pub content-is : {a b : FinishedPopulation} → a ≡ b → a.content ≡ b.content
+content-is e = ap (λ (p : FinishedPopulation). p.content) e
 
 pub length-objects_of : (hs : List Head) (ws : List (List (ℕ × List Scalar))) → length (objects_of hs ws) ≡ length hs
 length-objects_of [] ws = refl

@@ -16,11 +16,11 @@ use Rattle.imkl_model.specs.declared.feature.Role.TheVariants.{Attribute, Source
 use Rattle.imkl_model.specs.ClassModel.{Model, feature_at}
 use Rattle.imkl_population.specs.declared.scalar.Scalar.{Scalar}
 use Rattle.imkl_population.specs.declared.store.Entry.{Entry}
-use Rattle.imkl_population.specs.Written.{written_in}
-use Rattle.imkl_population.specs.Store.{IsMap, entry_of, longer, raised, longest_in}
+use Rattle.imkl_population.specs.Written.{written_in, IsMap}
+use Rattle.imkl_population.specs.Store.{entry_of, longer, raised, longest_in}
 use Rattle.imkl_model.specs.Features.{is_attribute, is_opposite}
 use Rattle.imkl_population.specs.Population.{Population, object_at}
-use Rattle.imkl_population.specs.Sizes.{listed, is_unbounded, longest_below}
+use Rattle.imkl_population.specs.Sizes.{list_below, is_unbounded, longest_below}
 use Rattle.imkl_population.specs.declared.population.Head.{Head}
 use Rattle.imkl_population.specs.Layout.{objects_of}
 use Rattle.imkl_population.proofs.Layouts.{length-objects_of, written-at}
@@ -37,7 +37,7 @@ not_behind : (f : ℕ) (w : List (ℕ × List Scalar)) → AllByRecursion (λ g.
 not_behind f [] h = refl
 not_behind f (e ∷ w) h = rw h.0 (not_behind f w h.1)
 
--- an entry at the front of a map
+-- an entry at the start of a map
 raised_by : (b : Bool) (e : ℕ × List Scalar) (w : List (ℕ × List Scalar)) (f n : ℕ) → (e.0 == f) ≡ b → AllByRecursion (λ g. nat_cmp e.0 g ≡ Less) (keys_of w)
     → ((m : ℕ) → raised w f m ≡ max m (length (written_in w f))) → raised (e ∷ w) f n ≡ max n (length (written_in (e ∷ w) f))
 raised_by true e w f n is behind later =
@@ -95,9 +95,9 @@ pub unbounded_written : (i : FeatureInfo) → is_unbounded i ≡ true → is_opp
 unbounded_written i h = attribute_written i.role (and_parts (is_attribute i.role) (is_none i.upper) h).0
 
 -- as many numbers as were asked for
-pub length-listed : (g : ℕ → ℕ) (n : ℕ) → length (listed g n) ≡ n
-length-listed g zero = refl
-length-listed g (suc n) = omega (arith, length-append (listed g n) (g n ∷ []), length-listed g n)
+pub length-list_below : (g : ℕ → ℕ) (n : ℕ) → length (list_below g n) ≡ n
+length-list_below g zero = refl
+length-list_below g (suc n) = omega (arith, length-append (list_below g n) (g n ∷ []), length-list_below g n)
 
 -- a list is what stands before anything that is put behind it
 pub written_back : (new rest : List ℕ) (n : ℕ) → n ≡ length new → take n (new ++ rest) ≡ new

@@ -21,3 +21,5 @@ pub mod Idle
 pub mod SourceEnds
 pub mod Gathering
 pub mod Searches
+pub mod Parts
+pub mod ForAbove

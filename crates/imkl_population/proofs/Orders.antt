@@ -18,12 +18,11 @@ use Rattle.std.proofs.lemmas.Map.Lookups.{btree_set_from_contains}
 use Rattle.std.proofs.lemmas.Map.Views.{Contains-from_any, list_any-from_Contains}
 use Rattle.std.proofs.lemmas.List.Elements.{All-append, All-contains, All-weaker}
 use Rattle.std.proofs.lemmas.Cmp.{nat_cmp_total}
-use Rattle.imkl_population.specs.Numbers.{places}
+use Rattle.ocl_base.specs.Numbers.{places}
 use Rattle.imkl_population.specs.declared.scalar.Scalar.{Scalar}
 use Rattle.imkl_population.specs.Order.{AreInOrder}
 use Rattle.imkl_population.specs.Required.{is_one_of}
-use Rattle.imkl_population.specs.Store.{IsMap}
-use Rattle.imkl_population.specs.Written.{is_set}
+use Rattle.imkl_population.specs.Written.{is_set, IsMap}
 use Rattle.imkl_population.proofs.Bools.{same_test}
 use Rattle.imkl_population.proofs.Encoded.{is_eq-nat_cmp}
 use Rattle.imkl_population.proofs.Places.{Passes, places-pass}
@@ -110,13 +109,13 @@ one_of-contains xs f h = Contains-from_any eqb-true f xs h
 contains-one_of : (xs : List ℕ) (f : ℕ) → Contains xs f → is_one_of xs f ≡ true
 contains-one_of xs f h = list_any-from_Contains eqb_laws f xs h
 
--- the same, as a set tells it
+-- the same, as a set reports it
 abbrev set_of : List ℕ → BTreeSet ℕ
 set_of xs = record { keys = xs }
 
-told : (xs : List ℕ) (f : ℕ) → list_any (is_at (nat_cmp f)) xs ≡ is_one_of xs f
-told [] f = refl
-told (x ∷ xs) f = rw (is_eq-nat_cmp f x, eqb_laws.symm x f, told xs f) refl
+reported : (xs : List ℕ) (f : ℕ) → list_any (is_at (nat_cmp f)) xs ≡ is_one_of xs f
+reported [] f = refl
+reported (x ∷ xs) f = rw (is_eq-nat_cmp f x, eqb_laws.symm x f, reported xs f) refl
 
 -- numbers that ascend are the places of a test, where they are those below the bound that pass
 ascending : (zs : List ℕ) (p : ℕ → Bool) (n : ℕ) → IsStrictlySortedBy nat_cmp zs → ((f : ℕ) → is_one_of zs f ≡ true → (f < n) × (p f ≡ true)) → ((f : ℕ) → f < n → p f ≡ true → is_one_of zs f ≡ true) → zs ≡ places p n
@@ -127,7 +126,7 @@ ascending zs p n sorted each all =
     (λ h.
     let passes : Passes p n f = All-contains (Passes p n) (places p n) f (places-pass p n) (one_of-contains (places p n) f h) in
     all f passes.0 passes.1) in
-    btree_set_from_contains nat_cmp_total (set_of zs) (set_of (places p n)) sorted (places-sorted p n) (λ f. told zs f ∙ same f ∙ sym (told (places p n) f)) nat_cmp-IsAntisymmetric
+    btree_set_from_contains nat_cmp_total (set_of zs) (set_of (places p n)) sorted (places-sorted p n) (λ f. reported zs f ∙ same f ∙ sym (reported (places p n) f)) nat_cmp-IsAntisymmetric
 
 -- the numbers of a list, in order, are the places that are among them
 pub ordered : (xs zs : List ℕ) → AreInOrder nat_cmp eqb xs zs → (n : ℕ) → All (λ f. f < n) xs → zs ≡ places (is_one_of xs) n

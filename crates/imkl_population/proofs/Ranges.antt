@@ -5,7 +5,8 @@ use Rattle.std.proofs.Math.ListN.{get_or-append}
 use Rattle.std.proofs.Math.Seq.{get_or-append_seam}
 use Rattle.imkl_population.specs.declared.store.Segment.{Segment}
 use Rattle.imkl_population.specs.Population.{Population, instances}
-use Rattle.imkl_population.specs.Layout.{AreInstances, no_segment}
+use Rattle.imkl_population.specs.FinishedPopulation.{no_segment}
+use Rattle.imkl_population.specs.Layout.{AreInstances}
 use Rattle.imkl_population.proofs.Stored.{slice_range-more, slice_range-new}
 
 abbrev IsRange : Population → List ℕ → Segment → ℕ → Type 0

@@ -1,7 +1,7 @@
 -- Maps laid out one after another.
 use Rattle.std.proofs.Common.{◌≡◌, ℕ, ◌+◌, ◌-◌, ◌<◌, ◌≤◌, List, [], ◌∷◌, ◌++◌, length, map, drop, get_or, Bool, true, false, cond, Option, Some, None, refl, sym, ap, subst, ◌∙◌, arith, length-append, length-drop, append_assoc, slice_range, All}
 use Rattle.std.proofs.lemmas.List.{append-nil, take-append-le, drop-append-le, map-append, get_or-map, length-map}
-use Rattle.std.proofs.lemmas.List.Elements.{All-nil, All-head, All-tail, All-append, All-push, All-weaker, All-take, All-drop}
+use Rattle.std.proofs.lemmas.List.Elements.{All-map, All-nil, All-head, All-tail, All-append, All-push, All-weaker, All-take, All-drop}
 use Rattle.std.proofs.Math.Seq.{drop-append_seam, take-length}
 use Rattle.imkl_population.specs.declared.scalar.Scalar.{Scalar}
 use Rattle.imkl_population.specs.declared.store.Entry.{Entry}
@@ -11,9 +11,23 @@ use Rattle.std.specs.List.Sorted.{IsStrictlySortedBy}
 use Rattle.std.specs.Ordering.{nat_cmp}
 use Rattle.std.specs.BTreeMap.{is_at}
 use Rattle.imkl_population.specs.declared.store.Segment.{Segment}
-use Rattle.imkl_population.specs.Written.{written_in}
-use Rattle.imkl_population.specs.Store.{entry_of, features_of, shown, IsEntry, IsSegment, IsMap, IsLaidOut, Appended}
+use Rattle.imkl_population.specs.Written.{written_in, IsMap}
+use Rattle.imkl_population.specs.Store.{Stored, entry_of, features_of, shown, range_of, ranges_in, values_in, maps_of, IsEntry, IsSegment, IsLaidOut, Appended}
 use Rattle.imkl_population.proofs.Encoded.{is_eq-nat_cmp}
+
+-- entries give the same map by way of their ranges
+entries-by_range : (scalars : List Scalar) (es : List Entry) → map (values_in scalars) (map range_of es) ≡ map (entry_of scalars) es
+entries-by_range scalars [] = refl
+entries-by_range scalars (e ∷ es) = ap (λ (l : List (ℕ × List Scalar)). entry_of scalars e ∷ l) (entries-by_range scalars es)
+
+-- so the maps are what the segments show
+pub maps-shown : (scalars : List Scalar) (entries : List Entry) (gs : List Segment) → map (map (values_in scalars)) (map (ranges_in entries) gs) ≡ map (shown scalars entries) gs
+maps-shown scalars entries [] = refl
+maps-shown scalars entries (g ∷ gs) = rw (entries-by_range scalars (slice_range entries g.start g.end), maps-shown scalars entries gs) refl
+
+-- the same, of what contracts see
+pub shown-is : (scalars : List Scalar) (entries : List Entry) (gs : List Segment) (s : Stored) → record { scalars = scalars; ranges = map (ranges_in entries) gs } ≡ s → map (shown scalars entries) gs ≡ maps_of s
+shown-is scalars entries gs s view = sym (maps-shown scalars entries gs) ∙ ap maps_of view
 
 -- a range of a list is the same range of a longer one
 pub slice_range-more : {X : Type 0} (xs ys : List X) (start end : ℕ) → start ≤ end → end ≤ length xs → slice_range (xs ++ ys) start end ≡ slice_range xs start end
@@ -150,3 +164,9 @@ features-ascend scalars entries gs place g inside is maps =
     let long : length (map (shown scalars entries) gs) ≡ length gs = length-map gs (shown scalars entries) in
     let here : IsMap (shown scalars entries g) = subst IsMap (shown-at scalars entries gs place g inside is) (maps place [] (omega (arith, long, inside))) in
     subst (IsStrictlySortedBy nat_cmp) (keys_of-entries scalars (slice_range entries g.start g.end)) here
+
+-- the ranges of entries lie within
+pub ranges-within : (n : ℕ) (es : List Entry) (gs : List Segment) → All (IsEntry n) es → All (All (λ r. IsSegment n r.1)) (map (ranges_in es) gs)
+ranges-within n es gs h =
+    let P : ℕ × Segment → Type 0 = λ r. IsSegment n r.1 in
+    All-map (All P) (ranges_in es) gs (λ k d lt. All-map P range_of (slice_range es (get_or gs k d).start (get_or gs k d).end) (range-within n es (get_or gs k d).start (get_or gs k d).end h))

@@ -1,6 +1,7 @@
 -- What each call of a builder does: the population after it, or its fault. The tests stand in the order of the faults.
-use Rattle.std.specs.Prelude.{◌≡◌, ℕ, ◌&&◌, ◌||◌, Bool, not, List, [], ◌∷◌, ◌++◌, Option, Some, None, Result, Ok, Err, length, map, nat_le, nat_lt, is_some, slice_set, if◌then◌else◌}
+use Rattle.std.specs.Prelude.{◌≡◌, ℕ, ◌&&◌, ◌||◌, Bool, true, not, List, [], ◌∷◌, ◌++◌, Option, Some, None, Result, Ok, Err, length, map, nat_le, nat_lt, is_some, slice_set, if◌then◌else◌}
 use Rattle.std.specs.List.{list_all}
+use Rattle.std.specs.Option.{option_or}
 use Rattle.std.specs.Ordering.{nat_cmp}
 use Rattle.std.specs.BTreeMap.{insert_entry}
 use Rattle.imkl_model.specs.declared.feature.FeatureInfo.{FeatureInfo}
@@ -10,29 +11,29 @@ use Rattle.imkl_population.specs.declared.scalar.Scalar.TheVariants as scalar
 use Rattle.imkl_population.specs.declared.fault.PopulationFault.{PopulationFault}
 use Rattle.imkl_population.specs.declared.fault.PopulationFault.TheVariants.{DuplicateId, AbstractClass, WrongFeature, WrongKind, TooFew, TooMany, WrongClass, DuplicateTarget, Derived, Limit, BadId, OutOfMemory}
 use Rattle.imkl_population.specs.declared.object.Object.{Object}
-use Rattle.imkl_population.specs.Population.{Population, object_at, class_of, object_of}
+use Rattle.imkl_population.specs.Population.{Population, object_at, class_of, object_number}
 use Rattle.imkl_model.specs.Features.{is_attribute, is_opposite, is_unique}
-use Rattle.imkl_population.specs.Values.{is_of_type, is_target_of, is_over, repeats}
+use Rattle.imkl_population.specs.Values.{is_of_type, is_target_of, is_over, repeats_value}
 
-abbrev pub fault_number : PopulationFault → ℕ
-fault_number DuplicateId = 1
-fault_number AbstractClass = 2
-fault_number WrongFeature = 3
-fault_number WrongKind = 4
-fault_number (TooFew o f) = 5
-fault_number (TooMany o f) = 6
-fault_number WrongClass = 7
-fault_number DuplicateTarget = 8
-fault_number Derived = 9
-fault_number Limit = 10
-fault_number BadId = 11
-fault_number OutOfMemory = 12
+abbrev pub population_fault_number : PopulationFault → ℕ
+population_fault_number DuplicateId = 1
+population_fault_number AbstractClass = 2
+population_fault_number WrongFeature = 3
+population_fault_number WrongKind = 4
+population_fault_number (TooFew o f) = 5
+population_fault_number (TooMany o f) = 6
+population_fault_number WrongClass = 7
+population_fault_number DuplicateTarget = 8
+population_fault_number Derived = 9
+population_fault_number Limit = 10
+population_fault_number BadId = 11
+population_fault_number OutOfMemory = 12
 
 -- A call answers what its definition gives, and leaves what that gives. Refused, it leaves the builder as it was.
-abbrev pub Answers : {X : Type 0} → Result X PopulationFault → Result Population PopulationFault → Population → Population → Type 0
-Answers (Ok x) given old new = given ≡ Ok new
-Answers (Err OutOfMemory) given old new = new ≡ old
-Answers (Err e) given old new = (given ≡ Err e) × (new ≡ old)
+abbrev pub BuilderAnswers : {X : Type 0} → Result X PopulationFault → Result Population PopulationFault → Population → Population → Type 0
+BuilderAnswers (Ok x) given old new = given ≡ Ok new
+BuilderAnswers (Err OutOfMemory) given old new = new ≡ old
+BuilderAnswers (Err e) given old new = (given ≡ Err e) × (new ≡ old)
 
 -- the class model stays
 abbrev pub KeepsModel : Population → Population → Type 0
@@ -45,12 +46,12 @@ pub record KeepsObjects (old new : Population) : Type 0 where
 
 -- ---- objects
 
-abbrev pub is_between : ℕ → ℕ → ℕ → Bool
-is_between low high b = nat_le low b && nat_le b high
+abbrev pub is_byte_between : ℕ → ℕ → ℕ → Bool
+is_byte_between low high b = nat_le low b && nat_le b high
 
 -- one of `A-Z a-z 0-9 . _ : -`
 abbrev pub is_id_byte : ℕ → Bool
-is_id_byte b = is_between 65 90 b || is_between 97 122 b || is_between 48 57 b || is_between 45 46 b || is_between 95 95 b || is_between 58 58 b
+is_id_byte b = is_byte_between 65 90 b || is_byte_between 97 122 b || is_byte_between 48 57 b || is_byte_between 45 46 b || is_byte_between 95 95 b || is_byte_between 58 58 b
 
 -- 1 to 128 of these
 abbrev pub is_id : List ℕ → Bool
@@ -63,10 +64,10 @@ most_objects = 1000000
 abbrev pub with_object : Population → List ℕ → ℕ → Population
 with_object p id c = record p { objects = p.objects ++ record { id = id; class = c; written = [] } ∷ [] }
 
-abbrev pub added : Population → List ℕ → ℕ → Result Population PopulationFault
-added p id c =
+abbrev pub add_outcome : Population → List ℕ → ℕ → Result Population PopulationFault
+add_outcome p id c =
     if not (is_id id) then Err BadId
-    else (if is_some (object_of p id) then Err DuplicateId
+    else (if is_some (object_number p id) then Err DuplicateId
     else (if (class_at p.model c).is_abstract then Err AbstractClass
     else (if nat_le most_objects (length p.objects) then Err Limit
     else Ok (with_object p id c))))
@@ -77,22 +78,33 @@ added p id c =
 abbrev pub bounds_fault : FeatureInfo → ℕ → ℕ → ℕ → Option PopulationFault
 bounds_fault i o f n = if nat_lt n i.lower then Some (TooFew o f) else (if is_over i.upper n then Some (TooMany o f) else None)
 
+-- a list against the bounds, and before that against holding a value twice, where it may not
+abbrev pub list_fault : Bool → FeatureInfo → ℕ → ℕ → List Scalar → Option PopulationFault
+list_fault unique i o f vs = if unique && repeats_value vs then Some DuplicateTarget else bounds_fault i o f (length vs)
+
+-- what is wrong with the feature or the types of values at an attribute
+abbrev pub attribute_fault : Population → ℕ → ℕ → FeatureInfo → List Scalar → Option PopulationFault
+attribute_fault p o f i vs =
+    if not (belongs p.model (class_of p o) f && is_attribute i.role) then Some WrongFeature
+    else (if not (list_all (is_of_type p.model i.element) vs) then Some WrongKind else None)
+
 -- what is wrong with values at an attribute
 abbrev pub value_fault : Population → ℕ → ℕ → FeatureInfo → List Scalar → Option PopulationFault
-value_fault p o f i vs =
-    if not (belongs p.model (class_of p o) f && is_attribute i.role) then Some WrongFeature
-    else (if not (list_all (is_of_type p.model i.element) vs) then Some WrongKind
-    else (if is_unique i && repeats vs then Some DuplicateTarget
-    else bounds_fault i o f (length vs)))
+value_fault p o f i vs = option_or (attribute_fault p o f i vs) (list_fault (is_unique i) i o f vs)
+
+-- what is wrong with a feature that is linked, whatever the targets
+abbrev pub source_fault : Population → ℕ → ℕ → FeatureInfo → Option PopulationFault
+source_fault p o f i =
+    if not (belongs p.model (class_of p o) f && not (is_attribute i.role)) then Some WrongFeature
+    else (if is_opposite i.role then Some Derived else None)
+
+-- what is wrong with targets at a source end
+abbrev pub targets_fault : Population → ℕ → ℕ → FeatureInfo → List Scalar → Option PopulationFault
+targets_fault p o f i vs = if not (list_all (is_target_of p i.element) vs) then Some WrongClass else list_fault true i o f vs
 
 -- what is wrong with targets at an end
 abbrev pub link_fault : Population → ℕ → ℕ → FeatureInfo → List Scalar → Option PopulationFault
-link_fault p o f i vs =
-    if not (belongs p.model (class_of p o) f && not (is_attribute i.role)) then Some WrongFeature
-    else (if is_opposite i.role then Some Derived
-    else (if not (list_all (is_target_of p i.element) vs) then Some WrongClass
-    else (if repeats vs then Some DuplicateTarget
-    else bounds_fault i o f (length vs))))
+link_fault p o f i vs = option_or (source_fault p o f i) (targets_fault p o f i vs)
 
 abbrev pub with_written : Object → ℕ → List Scalar → Object
 with_written object f vs = record object { written = insert_entry nat_cmp object.written f vs }
@@ -105,11 +117,11 @@ abbrev pub unless : {A : Type 0} → Option PopulationFault → A → Result A P
 unless None a = Ok a
 unless (Some e) a = Err e
 
-abbrev pub value_set : Population → ℕ → ℕ → List Scalar → Result Population PopulationFault
-value_set p o f vs = unless (value_fault p o f (feature_at p.model f) vs) (with_values p o f vs)
+abbrev pub set_outcome : Population → ℕ → ℕ → List Scalar → Result Population PopulationFault
+set_outcome p o f vs = unless (value_fault p o f (feature_at p.model f) vs) (with_values p o f vs)
 
 abbrev pub as_objects : List ℕ → List Scalar
 as_objects os = map scalar.Object os
 
-abbrev pub linked : Population → ℕ → ℕ → List ℕ → Result Population PopulationFault
-linked p o f ts = unless (link_fault p o f (feature_at p.model f) (as_objects ts)) (with_values p o f (as_objects ts))
+abbrev pub link_outcome : Population → ℕ → ℕ → List ℕ → Result Population PopulationFault
+link_outcome p o f ts = unless (link_fault p o f (feature_at p.model f) (as_objects ts)) (with_values p o f (as_objects ts))

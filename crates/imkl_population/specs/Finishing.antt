@@ -4,7 +4,8 @@ use Rattle.std.specs.Option.{option_or}
 use Rattle.imkl_model.specs.ClassModel.{feature_at, belongs}
 use Rattle.imkl_population.specs.declared.fault.PopulationFault.{PopulationFault}
 use Rattle.imkl_population.specs.declared.fault.PopulationFault.TheVariants.{TooFew, OutOfMemory}
-use Rattle.imkl_population.specs.Numbers.{first_of}
+use Rattle.imkl_population.specs.FinishedPopulation.{FinishedPopulation}
+use Rattle.imkl_population.specs.Numbers.{first_below}
 use Rattle.imkl_population.specs.Population.{Population, class_of, written_at, values_of}
 use Rattle.imkl_model.specs.Features.{is_opposite}
 use Rattle.imkl_population.specs.Building.{bounds_fault, unless}
@@ -24,14 +25,14 @@ end_fault p o f =
     else None
 
 -- the first over objects, and in each over the features in the model's order
-abbrev pub first_fault : (Population → ℕ → ℕ → Option PopulationFault) → Population → Option PopulationFault
-first_fault fault p = first_of (λ o. first_of (fault p o) (length p.model.features)) (length p.objects)
+abbrev pub first_object_fault : (Population → ℕ → ℕ → Option PopulationFault) → Population → Option PopulationFault
+first_object_fault fault p = first_below (λ o. first_below (fault p o) (length p.model.features)) (length p.objects)
 
-abbrev pub finished : Population → Result Population PopulationFault
-finished p = unless (option_or (first_fault gap p) (first_fault end_fault p)) p
+abbrev pub finish_outcome : Population → Result Population PopulationFault
+finish_outcome p = unless (option_or (first_object_fault gap p) (first_object_fault end_fault p)) p
 
 -- The end of a building: the population of what was added, or the first fault, unless memory ran out.
-abbrev pub Finishes : Result Population PopulationFault → Result Population PopulationFault → Type 0
-Finishes given (Ok p) = given ≡ Ok p
+abbrev pub Finishes : Result Population PopulationFault → Result FinishedPopulation PopulationFault → Type 0
+Finishes given (Ok p) = given ≡ Ok p.content
 Finishes given (Err OutOfMemory) = Unit {0}
 Finishes given (Err e) = given ≡ Err e

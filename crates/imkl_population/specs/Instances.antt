@@ -1,7 +1,7 @@
 -- The objects of each class as they are gathered.
 use Rattle.std.specs.Prelude.{◌≡◌, ℕ, ◌<◌, ◌==◌, Bool, List, [], Vec, length, map, slice_index_or}
 use Rattle.std.specs.declared.alloc.Global.{Global}
-use Rattle.imkl_population.specs.Numbers.{places}
+use Rattle.ocl_base.specs.Numbers.{places}
 use Rattle.imkl_population.specs.Population.{Population, class_of}
 
 -- an object is directly of one class

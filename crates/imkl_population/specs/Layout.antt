@@ -1,5 +1,6 @@
 -- How a finished population lies in memory.
-use Rattle.std.specs.Prelude.{◌≡◌, ℕ, ◌+◌, ◌<◌, ◌≤◌, List, [], ◌∷◌, length, drop, slice_range, slice_index_or}
+use Rattle.std.specs.Prelude.{◌≡◌, ℕ, ◌+◌, ◌<◌, ◌≤◌, List, [], ◌∷◌, length, take, drop, slice_range, slice_index_or}
+use Rattle.imkl_model.specs.ClassModel.{Model}
 use Rattle.imkl_population.specs.declared.scalar.Scalar.{Scalar}
 use Rattle.imkl_population.specs.declared.object.Object.{Object}
 use Rattle.imkl_population.specs.declared.population.Head.{Head}
@@ -7,6 +8,8 @@ use Rattle.imkl_population.specs.declared.store.Segment.{Segment}
 use Rattle.imkl_population.specs.Population.{Population, instances}
 use Rattle.imkl_population.specs.Consistency.{IsConsistent}
 use Rattle.imkl_population.specs.Ends.{AreEnds}
+use Rattle.imkl_population.specs.Store.{Stored, maps_of}
+use Rattle.imkl_population.specs.FinishedPopulation.{FinishedPopulation, no_segment}
 
 abbrev pub first_map : List (List (ℕ × List Scalar)) → List (ℕ × List Scalar)
 first_map [] = []
@@ -23,8 +26,19 @@ pub record IsSplit (os : List Object) (hs : List Head) (ws : List (List (ℕ × 
   pub maps : length ws ≡ length os
   pub objects : objects_of hs ws ≡ os
 
-abbrev pub no_segment : Segment
-no_segment = record { start = 0; end = 0 }
+abbrev pub stored_content : Model → List Head → Stored → Population
+stored_content m hs s = record { model = m; objects = objects_of hs (maps_of s) }
+
+-- first the maps of what is written on the objects, then those of their opposite ends
+abbrev pub finished_of : Model → List Head → Stored → List ℕ → List Segment → FinishedPopulation
+finished_of m hs s all ranges = record {
+  content = stored_content m hs s;
+  scalars = s.scalars;
+  written_ranges = take (length hs) s.ranges;
+  end_ranges = drop (length hs) s.ranges;
+  instance_list = all;
+  instance_ranges = ranges;
+}
 
 -- the instances of each class below n are the range of their list that the class has
 abbrev pub AreInstances : Population → List ℕ → List Segment → ℕ → Type 0

@@ -1,16 +1,19 @@
-pub mod Numbers
+-- Definitions: what contracts mean.
 pub mod Written
 pub mod Population
 pub mod Values
 pub mod Building
+pub mod Numbers
 pub mod Finishing
 pub mod Consistency
+pub mod FinishedPopulation
 pub mod Required
+pub mod Sizes
+-- Bookkeeping: views, layouts, walks and tables that only proofs and private contracts use.
 pub mod Seen
 pub mod Draft
 pub mod Ends
 pub mod Store
 pub mod Layout
-pub mod Sizes
 pub mod Order
 pub mod Instances

@@ -7,7 +7,7 @@ use Rattle.imkl_model.specs.ClassModel.{Model, feature_at, conforms}
 use Rattle.imkl_population.specs.declared.scalar.Scalar.{Scalar}
 use Rattle.imkl_population.specs.declared.scalar.Scalar.TheVariants as scalar
 use Rattle.imkl_population.specs.declared.object.Object.{Object}
-use Rattle.imkl_population.specs.Numbers.{places}
+use Rattle.ocl_base.specs.Numbers.{places}
 use Rattle.imkl_population.specs.Written.{written_in}
 
 -- An object has an id, a class, and a finite map from attributes and source ends to the values written there.
@@ -87,9 +87,9 @@ abbrev pub instances : Population → ℕ → List ℕ
 instances p c = places (is_instance p c) (length p.objects)
 
 -- the number of the first object that has an id
-abbrev pub object_from : ℕ → List Object → List ℕ → Option ℕ
-object_from n [] id = None
-object_from n (o ∷ os) id = if bytes_eq id o.id then Some n else object_from (suc n) os id
+abbrev pub object_number_in : ℕ → List Object → List ℕ → Option ℕ
+object_number_in n [] id = None
+object_number_in n (o ∷ os) id = if bytes_eq id o.id then Some n else object_number_in (suc n) os id
 
-abbrev pub object_of : Population → List ℕ → Option ℕ
-object_of p id = object_from 0 p.objects id
+abbrev pub object_number : Population → List ℕ → Option ℕ
+object_number p id = object_number_in 0 p.objects id

@@ -5,7 +5,7 @@ use Rattle.imkl_model.specs.declared.feature.Role.{Role}
 use Rattle.imkl_model.specs.ClassModel.{Model, feature_at, belongs}
 use Rattle.imkl_population.specs.declared.required.Side.{Side}
 use Rattle.imkl_population.specs.declared.required.Side.TheVariants.{Written, Opposite}
-use Rattle.imkl_population.specs.Numbers.{places}
+use Rattle.ocl_base.specs.Numbers.{places}
 use Rattle.imkl_model.specs.Features.{is_opposite}
 
 -- for each class of a model, what it requires on one side
@@ -17,7 +17,7 @@ abbrev pub is_on : Side → Role → Bool
 is_on Written role = not (is_opposite role)
 is_on Opposite role = is_opposite role
 
--- a class requires those of its features that have a lower bound above nought
+-- a class requires those of its features that have a lower bound above zero
 abbrev pub is_required : Requirements → ℕ → ℕ → Bool
 is_required r c f = belongs r.model c f && is_on r.side (feature_at r.model f).role && nat_lt 0 (feature_at r.model f).lower
 

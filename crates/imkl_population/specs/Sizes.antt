@@ -12,15 +12,15 @@ pub record Sizes : Type 0 where
   pub longest : List ℕ
 
 -- what is given for each number below n, in order
-abbrev pub listed : (ℕ → ℕ) → ℕ → List ℕ
-listed g zero = []
-listed g (suc n) = listed g n ++ g n ∷ []
+abbrev pub list_below : (ℕ → ℕ) → ℕ → List ℕ
+list_below g zero = []
+list_below g (suc n) = list_below g n ++ g n ∷ []
 
 -- the number of a class's instances, subclasses included
 abbrev pub count_of : Population → ℕ → ℕ
 count_of p c = length (instances p c)
 
--- the greatest length of a feature's value over the objects below n, nought without objects
+-- the greatest length of a feature's value over the objects below n, zero without objects
 abbrev pub longest_below : Population → ℕ → ℕ → ℕ
 longest_below p f zero = 0
 longest_below p f (suc o) = max (longest_below p f o) (length (values_of p o f))
@@ -29,9 +29,9 @@ longest_below p f (suc o) = max (longest_below p f o) (length (values_of p o f))
 abbrev pub is_unbounded : FeatureInfo → Bool
 is_unbounded i = is_attribute i.role && is_none i.upper
 
--- of an attribute without upper bound the greatest length of its value over all objects, of every other feature nought
+-- of an attribute without upper bound the greatest length of its value over all objects, of every other feature zero
 abbrev pub longest_of : Population → ℕ → ℕ
 longest_of p f = if is_unbounded (feature_at p.model f) then longest_below p f (length p.objects) else 0
 
 abbrev pub sizes_of : Population → Sizes
-sizes_of p = record { model = p.model; counts = listed (count_of p) (length p.model.classes); longest = listed (longest_of p) (length p.model.features) }
+sizes_of p = record { model = p.model; counts = list_below (count_of p) (length p.model.classes); longest = list_below (longest_of p) (length p.model.features) }

@@ -1,12 +1,9 @@
--- Finite maps laid out in three lists.
+-- Finite maps in one list of values, and for each map the range of each of its features.
 use Rattle.std.specs.Prelude.{◌≡◌, ℕ, zero, suc, ◌==◌, ◌≤◌, List, [], ◌∷◌, ◌++◌, map, length, max, slice_range, slice_index_or, All, if◌then◌else◌}
-use Rattle.std.specs.List.Sorted.{IsStrictlySortedBy}
-use Rattle.std.specs.Map.{keys_of}
-use Rattle.std.specs.Ordering.{nat_cmp}
 use Rattle.imkl_population.specs.declared.scalar.Scalar.{Scalar}
 use Rattle.imkl_population.specs.declared.store.Entry.{Entry}
 use Rattle.imkl_population.specs.declared.store.Segment.{Segment}
-use Rattle.imkl_population.specs.Written.{written_in}
+use Rattle.imkl_population.specs.Written.{written_in, IsMap}
 
 -- an entry's feature with its values
 abbrev pub entry_of : List Scalar → Entry → ℕ × List Scalar
@@ -15,6 +12,30 @@ entry_of scalars e = (e.feature, slice_range scalars e.start e.end)
 -- the features of entries, in their order
 abbrev pub features_of : List Entry → List ℕ
 features_of entries = map (λ e. e.feature) entries
+
+-- all values, and for each map the range of each feature that is set in it
+pub record Stored : Type 0 where
+  pub scalars : List Scalar
+  pub ranges : List (List (ℕ × Segment))
+
+-- a feature with the values of its range
+abbrev pub values_in : List Scalar → (ℕ × Segment) → ℕ × List Scalar
+values_in scalars r = (r.0, slice_range scalars r.1.start r.1.end)
+
+-- the maps
+abbrev pub maps_in : List Scalar → List (List (ℕ × Segment)) → List (List (ℕ × List Scalar))
+maps_in scalars ranges = map (map (values_in scalars)) ranges
+
+abbrev pub maps_of : Stored → List (List (ℕ × List Scalar))
+maps_of s = maps_in s.scalars s.ranges
+
+-- an entry's feature with its range
+abbrev pub range_of : Entry → ℕ × Segment
+range_of e = (e.feature, record { start = e.start; end = e.end })
+
+-- the ranges of a segment's entries
+abbrev pub ranges_in : List Entry → Segment → List (ℕ × Segment)
+ranges_in entries s = map range_of (slice_range entries s.start s.end)
 
 -- the map of a segment
 abbrev pub shown : List Scalar → List Entry → Segment → List (ℕ × List Scalar)
@@ -25,10 +46,6 @@ IsEntry n e = (e.start ≤ e.end) × (e.end ≤ n)
 
 abbrev pub IsSegment : ℕ → Segment → Type 0
 IsSegment n s = (s.start ≤ s.end) × (s.end ≤ n)
-
--- the features ascend, so each stands once
-abbrev pub IsMap : List (ℕ × List Scalar) → Type 0
-IsMap written = IsStrictlySortedBy nat_cmp (keys_of written)
 
 -- each entry lies within the values, and each segment within the entries, and shows a map
 pub record IsLaidOut (scalars : List Scalar) (entries : List Entry) (segments : List Segment) : Type 0 where
@@ -44,6 +61,10 @@ pub record Appended (old new : List Scalar) (before after : List Entry) (written
   pub entries_are : after ≡ before ++ added
   pub within : All (IsEntry (length new)) added
   pub same : map (entry_of new) added ≡ written
+
+-- each range lies within the values
+abbrev pub AreRangesWithin : Stored → Type 0
+AreRangesWithin s = All (All (λ r. IsSegment (length s.scalars) r.1)) s.ranges
 
 -- a number raised to the length of an entry's values, where the entry is of the feature
 abbrev pub longer : ℕ → (ℕ × List Scalar) → ℕ → ℕ

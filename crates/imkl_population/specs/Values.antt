@@ -1,7 +1,7 @@
 -- Which values may stand at a feature.
 use Rattle.std.specs.Prelude.{ℕ, ◌==◌, ◌&&◌, ◌||◌, Bool, true, false, not, List, [], ◌∷◌, Option, Some, None, nat_lt, bytes_eq, length, if◌then◌else◌}
 use Rattle.std.specs.Ordering.{int_eq}
-use Rattle.std.specs.List.{list_any}
+use Rattle.ocl_base.specs.Lists.{is_among, repeats}
 use Rattle.imkl_model.specs.declared.feature.ElementType.{ElementType}
 use Rattle.imkl_model.specs.declared.feature.ElementType.TheVariants as element
 use Rattle.imkl_model.specs.ClassModel.{Model, enumeration_at, conforms}
@@ -35,13 +35,12 @@ same_scalar (scalar.Literal d a) (scalar.Literal e b) = d == e && a == b
 same_scalar (scalar.Object a) (scalar.Object b) = a == b
 same_scalar v w = false
 
-abbrev pub is_among : List Scalar → Scalar → Bool
-is_among vs w = list_any (λ v. same_scalar w v) vs
+abbrev pub is_value_among : List Scalar → Scalar → Bool
+is_value_among vs w = is_among same_scalar vs w
 
 -- some value stands twice
-abbrev pub repeats : List Scalar → Bool
-repeats [] = false
-repeats (v ∷ vs) = is_among vs v || repeats vs
+abbrev pub repeats_value : List Scalar → Bool
+repeats_value vs = repeats same_scalar vs
 
 -- more than an upper bound
 abbrev pub is_over : Option ℕ → ℕ → Bool

@@ -2,20 +2,21 @@
 
 ghost use Rattle.std.specs.Prelude.{◌≡◌, ◌<◌, [], true, length, ◌+◌, All, IfOk, OnOk, IfSome, Ok};
 ghost use Rattle.imkl_model.specs.ClassModel.{feature_at};
-ghost use Rattle.imkl_population.specs.Numbers.{places};
+ghost use Rattle.ocl_base.specs.Numbers.{places};
 ghost use Rattle.imkl_population.specs.Written.{is_set};
-ghost use Rattle.imkl_population.specs.Population.{object_at, class_of, written_at, object_of};
+ghost use Rattle.imkl_population.specs.Population.{object_at, class_of, written_at, object_number};
 ghost use Rattle.std.specs.List.{list_all};
 ghost use Rattle.imkl_population.specs.Draft.{is_sound};
 ghost use Rattle.imkl_population.specs.Values.{is_target_of};
-ghost use Rattle.imkl_population.specs.Finishing.{finished, Finishes};
-ghost use Rattle.imkl_population.specs.Building.{Answers, KeepsObjects, added, value_set, linked, value_fault, link_fault, with_values, as_objects};
+ghost use Rattle.imkl_population.specs.Finishing.{finish_outcome, Finishes};
+ghost use Rattle.imkl_population.specs.declared.fault.PopulationFault.{PopulationFault};
+ghost use Rattle.imkl_population.specs.Building.{BuilderAnswers, KeepsObjects, add_outcome, set_outcome, link_outcome, attribute_fault, list_fault, source_fault, targets_fault, with_values, as_objects};
 
 use crate::checks::{are_of_type, bounds_fault, is_id};
 use crate::ends::opposite_ends;
 use crate::fault::PopulationFault;
 use crate::finishing::{first_end_fault, first_gap};
-use crate::layout::laid_out;
+use crate::layout::lay_out;
 use crate::numbers::ObjectNo;
 use crate::object::{Id, Object};
 use crate::population::Population;
@@ -46,7 +47,8 @@ impl<'m> Model for PopulationBuilder<'m> {
 
     ghost view = { λ b. record { model = b.model.now; objects = b.objects.items } };
 
-    ghost invariant = { λ b. IsDraft (record { model = b.model.now; objects = b.objects.items }) (get_by_text b.ids) };
+    ghost invariant = { λ b. IsDraft (record { model = b.model.now; objects = b.objects.items })
+        (get_by_text b.ids) };
 }
 
 impl<'m> PopulationBuilder<'m> {
@@ -63,10 +65,13 @@ impl<'m> PopulationBuilder<'m> {
     }
 
     /// Adds an object, and answers its number. Refused with `BadId`, `DuplicateId`, `AbstractClass`
-    /// or `Limit`, in this order; refused, it changes nothing.
+    /// or `Limit`, in this order, before anything is allocated; refused, it changes nothing.
     pub fn add_object(&mut self, id: &str, class: ClassNo) -> Result<ObjectNo, PopulationFault>
         requires { class < length self.old.model.classes }
-        ensures answers { Answers result (added self.old id.now class) self.old self.new }
+        ensures answers { BuilderAnswers result (add_outcome self.old id.now class) self.old
+            self.new }
+        ensures refused { (fault : PopulationFault) →
+            add_outcome self.old id.now class ≡ Err fault → result ≡ Err fault }
         ensures number { IfOk result (λ n. n ≡ length self.old.objects) }
         ensures count { OnOk result (length self.new.objects ≡ length self.old.objects + 1) }
         ensures model { self.new.model ≡ self.old.model }
@@ -102,7 +107,7 @@ impl<'m> PopulationBuilder<'m> {
 
     /// The object that has an id.
     pub fn object(&self, id: &str) -> Option<ObjectNo>
-        ensures number { result ≡ object_of self.now id.now }
+        ensures number { result ≡ object_number self.now id.now }
         ensures known { IfSome result (λ o. o < length self.now.objects) }
     {
         match self.ids.get(id) {
@@ -117,7 +122,7 @@ impl<'m> PopulationBuilder<'m> {
         ensures class { result ≡ class_of self.now object }
         ensures known { result < length self.now.model.classes }
     {
-        self.objects[object.place()].class
+        self.objects[object.index()].class
     }
 
     /// The class model.
@@ -150,41 +155,60 @@ impl<'m> PopulationBuilder<'m> {
         requires { object < length self.now.objects }
         ensures { result.now ≡ written_at self.now object feature }
     {
-        self.objects[object.place()].written.get(feature.place())
+        self.objects[object.index()].written.get(feature.index())
     }
 
     /// The features that are set on an object, in their order.
     pub(crate) fn features(&self, object: ObjectNo) -> Result<Vec<FeatureNo>, AllocError>
         requires { object < length self.now.objects }
-        ensures features { IfOk result (λ v. v.items ≡ places (is_set (object_at self.now object).written) (length self.now.model.features)) }
+        ensures features { IfOk result (λ v. v.items ≡
+            places (is_set (object_at self.now object).written) (length self.now.model.features)) }
         ensures known { IfOk result (λ v. All (λ f. f < length self.now.model.features) v.items) }
     {
-        let written = &self.objects[object.place()].written;
+        let written = &self.objects[object.index()].written;
         written.features(self.alloc, self.model.feature_count())
     }
 
-    /// What is wrong with values at an attribute.
-    fn value_fault(
+    /// What is wrong with the feature or the types of values at an attribute.
+    fn attribute_fault(
         &self,
         object: ObjectNo,
         feature: FeatureNo,
         values: &[Scalar],
-    ) -> Result<Option<PopulationFault>, AllocError>
+    ) -> Option<PopulationFault>
         requires object { object < length self.now.objects }
         requires feature { feature < length self.now.model.features }
-        ensures { IfOk result (λ fault. fault ≡ value_fault self.now object feature (feature_at self.now.model feature) values.now) }
+        ensures { result ≡ attribute_fault self.now object feature (feature_at self.now.model
+            feature)
+            values.now }
     {
         self.model.well_formed();
         let info = self.model.feature_info(feature);
         if !(self.model.belongs(self.class_of(object), feature) && info.role.is_attribute()) {
-            return Ok(Some(PopulationFault::WrongFeature));
+            return Some(PopulationFault::WrongFeature);
         }
         if !are_of_type(self.model, info.element, values) {
-            return Ok(Some(PopulationFault::WrongKind));
+            return Some(PopulationFault::WrongKind);
         }
-        if info.is_unique() && repeats(self.alloc, values)? {
+        None
+    }
+
+    /// What is wrong with a list, which may not hold a value twice if it is unique.
+    fn list_fault(
+        &self,
+        object: ObjectNo,
+        feature: FeatureNo,
+        unique: bool,
+        values: &[Scalar],
+    ) -> Result<Option<PopulationFault>, AllocError>
+        requires { feature < length self.now.model.features }
+        ensures { IfOk result (λ fault. fault ≡
+            list_fault unique (feature_at self.now.model feature) object feature values.now) }
+    {
+        if unique && repeats(self.alloc, values)? {
             return Ok(Some(PopulationFault::DuplicateTarget));
         }
+        let info = self.model.feature_info(feature);
         Ok(bounds_fault(info, object, feature, values.len()))
     }
 
@@ -196,13 +220,14 @@ impl<'m> PopulationBuilder<'m> {
         let Scalar::Object(object) = value else {
             return false;
         };
-        object.place() < self.objects.len() && self.model.conforms(self.class_of(*object), class)
+        object.index() < self.objects.len() && self.model.conforms(self.class_of(*object), class)
     }
 
     /// Whether all values are objects whose classes conform to the feature's class.
     fn are_targets(&self, feature: FeatureNo, values: &[Scalar]) -> bool
         requires { feature < length self.now.model.features }
-        ensures { result ≡ list_all (is_target_of self.now (feature_at self.now.model feature).element) values.now }
+        ensures { result ≡ list_all (is_target_of self.now (feature_at self.now.model
+            feature).element) values.now }
     {
         self.model.well_formed();
         match self.model.feature_info(feature).element {
@@ -211,8 +236,25 @@ impl<'m> PopulationBuilder<'m> {
         }
     }
 
-    /// What is wrong with targets at an end.
-    fn link_fault(
+    /// What is wrong with a feature that is linked, whatever the targets.
+    fn source_fault(&self, object: ObjectNo, feature: FeatureNo) -> Option<PopulationFault>
+        requires object { object < length self.now.objects }
+        requires feature { feature < length self.now.model.features }
+        ensures { result ≡ source_fault self.now object feature (feature_at self.now.model
+            feature) }
+    {
+        let info = self.model.feature_info(feature);
+        if !(self.model.belongs(self.class_of(object), feature) && !info.role.is_attribute()) {
+            return Some(PopulationFault::WrongFeature);
+        }
+        if info.role.is_opposite() {
+            return Some(PopulationFault::Derived);
+        }
+        None
+    }
+
+    /// What is wrong with targets at a source end.
+    fn targets_fault(
         &self,
         object: ObjectNo,
         feature: FeatureNo,
@@ -220,22 +262,13 @@ impl<'m> PopulationBuilder<'m> {
     ) -> Result<Option<PopulationFault>, AllocError>
         requires object { object < length self.now.objects }
         requires feature { feature < length self.now.model.features }
-        ensures { IfOk result (λ fault. fault ≡ link_fault self.now object feature (feature_at self.now.model feature) targets.now) }
+        ensures { IfOk result (λ fault. fault ≡
+            targets_fault self.now object feature (feature_at self.now.model feature) targets.now) }
     {
-        let info = self.model.feature_info(feature);
-        if !(self.model.belongs(self.class_of(object), feature) && !info.role.is_attribute()) {
-            return Ok(Some(PopulationFault::WrongFeature));
-        }
-        if info.role.is_opposite() {
-            return Ok(Some(PopulationFault::Derived));
-        }
         if !self.are_targets(feature, targets) {
             return Ok(Some(PopulationFault::WrongClass));
         }
-        if repeats(self.alloc, targets)? {
-            return Ok(Some(PopulationFault::DuplicateTarget));
-        }
-        Ok(bounds_fault(info, object, feature, targets.len()))
+        self.list_fault(object, feature, true, targets)
     }
 
     /// Puts values at a feature, in the place of those that stood there.
@@ -246,19 +279,21 @@ impl<'m> PopulationBuilder<'m> {
         values: Values,
     ) -> Result<(), PopulationFault>
         requires object { object < length self.old.objects }
+        requires feature { feature < length self.old.model.features }
         requires sound { is_sound self.old object (feature, values) ≡ true }
-        ensures answers { Answers result (Ok (with_values self.old object feature values)) self.old self.new }
+        ensures answers { BuilderAnswers result (Ok (with_values self.old object feature values))
+            self.old self.new }
         ensures kept { KeepsObjects self.old self.new }
     {
-        let place = object.place();
-        let slot = &mut self.objects[place];
-        slot.written.set(feature.place(), values)?;
+        let index = object.index();
+        let slot = &mut self.objects[index];
+        slot.written.set(feature.index(), values)?;
         Ok(())
     }
 
     /// Sets the values of an attribute; a second call replaces the first. Refused with
-    /// `WrongFeature`, `WrongKind`, `DuplicateTarget`, `TooFew` or `TooMany`, in this order;
-    /// refused, it changes nothing and the list is dropped.
+    /// `WrongFeature`, `WrongKind`, `DuplicateTarget`, `TooFew` or `TooMany`, in this order, the
+    /// first two before anything is allocated; refused, it changes nothing and the list is dropped.
     pub fn set_value(
         &mut self,
         object: ObjectNo,
@@ -267,10 +302,17 @@ impl<'m> PopulationBuilder<'m> {
     ) -> Result<(), PopulationFault>
         requires object { object < length self.old.objects }
         requires feature { feature < length self.old.model.features }
-        ensures answers { Answers result (value_set self.old object feature values.items) self.old self.new }
+        ensures answers { BuilderAnswers result (set_outcome self.old object feature values.items)
+            self.old self.new }
+        ensures refused { (fault : PopulationFault) → attribute_fault self.old object feature
+            (feature_at self.old.model feature) values.items ≡ Some fault → result ≡ Err fault }
         ensures kept { KeepsObjects self.old self.new }
     {
-        match self.value_fault(object, feature, &values)? {
+        if let Some(fault) = self.attribute_fault(object, feature, &values) {
+            return Err(fault);
+        }
+        let unique = self.model.feature_info(feature).is_unique();
+        match self.list_fault(object, feature, unique, &values)? {
             Some(fault) => Err(fault),
             None => self.put(object, feature, Values::new(values)),
         }
@@ -278,7 +320,7 @@ impl<'m> PopulationBuilder<'m> {
 
     /// Sets the targets of a source end; a second call replaces the first. Refused with
     /// `WrongFeature`, `Derived`, `WrongClass`, `DuplicateTarget`, `TooFew` or `TooMany`, in this
-    /// order; refused, it changes nothing.
+    /// order, the first two before anything is allocated; refused, it changes nothing.
     pub fn link(
         &mut self,
         object: ObjectNo,
@@ -287,11 +329,17 @@ impl<'m> PopulationBuilder<'m> {
     ) -> Result<(), PopulationFault>
         requires object { object < length self.old.objects }
         requires feature { feature < length self.old.model.features }
-        ensures answers { Answers result (linked self.old object feature targets.now) self.old self.new }
+        ensures answers { BuilderAnswers result (link_outcome self.old object feature targets.now)
+            self.old self.new }
+        ensures refused { (fault : PopulationFault) → source_fault self.old object feature
+            (feature_at self.old.model feature) ≡ Some fault → result ≡ Err fault }
         ensures kept { KeepsObjects self.old self.new }
     {
+        if let Some(fault) = self.source_fault(object, feature) {
+            return Err(fault);
+        }
         let targets = as_objects(self.alloc, targets)?;
-        match self.link_fault(object, feature, &targets)? {
+        match self.targets_fault(object, feature, &targets)? {
             Some(fault) => Err(fault),
             None => self.put(object, feature, Values::new(targets)),
         }
@@ -301,8 +349,8 @@ impl<'m> PopulationBuilder<'m> {
     /// feature, that was never set and needs a value; else with `TooFew` or `TooMany` at the first
     /// object, and its first opposite end, that has too few or too many holders.
     pub fn finish(self) -> Result<Population<'m>, PopulationFault>
-        ensures finished { Finishes (finished self.entry) result }
-        ensures same { IfOk result (λ p. p ≡ self.entry) }
+        ensures finished { Finishes (finish_outcome self.entry) result }
+        ensures same { IfOk result (λ p. p.content ≡ self.entry) }
     {
         self.model.well_formed();
         if let Some(fault) = first_gap(&self)? {
@@ -312,7 +360,7 @@ impl<'m> PopulationBuilder<'m> {
         if let Some(fault) = first_end_fault(&self, &ends)? {
             return Err(fault);
         }
-        Ok(laid_out(self, ends)?)
+        Ok(lay_out(self, ends)?)
     }
 }
 
@@ -321,7 +369,7 @@ fn as_objects(alloc: Global, objects: &[ObjectNo]) -> Result<Vec<Scalar>, AllocE
     ensures { IfOk result (λ v. v.items ≡ as_objects objects.now) }
 {
     let mut values = Vec::with_capacity(alloc, objects.len())?;
-    'objects: for object in objects {
+    for object in objects {
         values.push(Scalar::Object(*object))?;
     }
     Ok(values)

@@ -35,7 +35,7 @@ fn is_literal_of(enumeration: EnumNo, literals: usize, value: &Scalar) -> bool
 {
     match value {
         Scalar::Literal(e, literal) => {
-            e.place() == enumeration.place() && literal.place() < literals
+            e.index() == enumeration.index() && literal.index() < literals
         }
         _ => false,
     }

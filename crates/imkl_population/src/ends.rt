@@ -22,12 +22,15 @@ fn add_holder(
     value: &Scalar,
 ) -> Result<(), AllocError>
     ensures same { length ends.new ≡ length ends.old }
-    ensures added { OnOk result ((o h : ℕ) → o < length ends.old → written_in (slice_index_or ends.new o []) h ≡ written_in (slice_index_or ends.old o []) h ++ (if h == end then as_objects (held_by holder o (value.now ∷ [])) else [])) }
+    ensures added { OnOk result ((o h : ℕ) → o < length ends.old →
+        written_in (slice_index_or ends.new o []) h ≡
+        written_in (slice_index_or ends.old o []) h ++
+        (if h == end then as_objects (held_by holder o (value.now ∷ [])) else [])) }
 {
     if let Scalar::Object(target) = value {
-        let place = target.place();
-        if place < ends.len() {
-            let slot = &mut ends[place];
+        let index = target.index();
+        if index < ends.len() {
+            let slot = &mut ends[index];
             slot.push(alloc, end, Scalar::Object(ObjectNo::new(holder)))?;
         }
     }
@@ -43,9 +46,12 @@ fn add_holders(
     values: &[Scalar],
 ) -> Result<(), AllocError>
     ensures same { length ends.new ≡ length ends.old }
-    ensures added { OnOk result ((o h : ℕ) → o < length ends.old → written_in (slice_index_or ends.new o []) h ≡ written_in (slice_index_or ends.old o []) h ++ (if h == end then as_objects (held_by holder o values.now) else [])) }
+    ensures added { OnOk result ((o h : ℕ) → o < length ends.old →
+        written_in (slice_index_or ends.new o []) h ≡
+        written_in (slice_index_or ends.old o []) h ++
+        (if h == end then as_objects (held_by holder o values.now) else [])) }
 {
-    'values: for value in values {
+    for value in values {
         add_holder(ends, alloc, end, holder, value)?;
     }
     Ok(())
@@ -65,10 +71,10 @@ fn add_holders_of(
     let model = builder.model();
     model.well_formed();
     let features = builder.features(holder)?;
-    'features: for feature in &features {
+    for feature in &features {
         if let Role::SourceEnd { opposite } = model.feature_info(*feature).role {
             let targets = builder.written(holder, *feature);
-            add_holders(ends, alloc, opposite.place(), holder.place(), targets)?;
+            add_holders(ends, alloc, opposite.index(), holder.index(), targets)?;
         }
     }
     Ok(())
@@ -76,10 +82,11 @@ fn add_holders_of(
 
 /// As many objects without ends.
 fn no_ends(alloc: Global, count: usize) -> Result<Vec<Written>, AllocError>
-    ensures { IfOk result (λ v. (length v.items ≡ count) × ((o h : ℕ) → written_in (slice_index_or v.items o []) h ≡ [])) }
+    ensures { IfOk result (λ v. (length v.items ≡ count) × ((o h : ℕ) →
+        written_in (slice_index_or v.items o []) h ≡ [])) }
 {
     let mut ends = Vec::with_capacity(alloc, count)?;
-    'objects: for _ in 0..count {
+    for _ in 0..count {
         ends.push(Written::new(alloc))?;
     }
     Ok(ends)
@@ -93,7 +100,7 @@ pub(crate) fn opposite_ends(
     ensures { IfOk result (λ v. AreEnds builder.now v.items) }
 {
     let mut ends = no_ends(alloc, builder.objects())?;
-    'holders: for holder in 0..builder.objects() {
+    for holder in 0..builder.objects() {
         add_holders_of(&mut ends, alloc, builder, ObjectNo::new(holder))?;
     }
     Ok(ends)

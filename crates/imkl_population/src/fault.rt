@@ -2,7 +2,7 @@
 
 ghost use Rattle.std.specs.Prelude.{◌≡◌};
 ghost use Rattle.imkl_population.specs.declared.fault.PopulationFault.TheVariants.{OutOfMemory};
-ghost use Rattle.imkl_population.specs.Building.{fault_number};
+ghost use Rattle.imkl_population.specs.Building.{population_fault_number};
 
 use crate::numbers::ObjectNo;
 use imkl_model::FeatureNo;
@@ -52,7 +52,7 @@ pub enum PopulationFault {
     /// There are 1,000,000 objects already.
     #[error("too many objects")]
     Limit,
-    /// The id hasn't 1 to 128 characters of `A-Z a-z 0-9 . _ : -`.
+    /// The id doesn't have 1 to 128 characters of `A-Z a-z 0-9 . _ : -`.
     #[error("the id is not well formed")]
     BadId,
     /// There is no memory for what the call adds.
@@ -63,7 +63,7 @@ pub enum PopulationFault {
 impl PopulationFault {
     /// The fault's number in the documentation, 1 to 12.
     pub fn number(&self) -> u8
-        ensures { result ≡ fault_number self.now }
+        ensures { result ≡ population_fault_number self.now }
     {
         match self {
             PopulationFault::DuplicateId => 1,

@@ -1,8 +1,8 @@
 //! What is looked for when a population is finished.
 
 ghost use Rattle.std.specs.Prelude.{◌≡◌, ◌<◌, length, IfOk};
-ghost use Rattle.imkl_population.specs.Numbers.{first_of};
-ghost use Rattle.imkl_population.specs.Finishing.{gap, end_fault, first_fault};
+ghost use Rattle.imkl_population.specs.Numbers.{first_below};
+ghost use Rattle.imkl_population.specs.Finishing.{gap, end_fault, first_object_fault};
 ghost use Rattle.imkl_population.specs.Ends.{AreEnds};
 ghost use Rattle.imkl_population.specs.declared.required.Side.TheVariants as side;
 
@@ -45,12 +45,13 @@ fn first_gap_of(
 ) -> Result<Option<PopulationFault>, AllocError>
     requires object { object < length builder.now.objects }
     requires required { required.old ≡ record { model = builder.now.model; side = side.Written } }
-    ensures first { IfOk result (λ fault. fault ≡ first_of (gap builder.now object) (length builder.now.model.features)) }
+    ensures first { IfOk result (λ fault. fault ≡
+        first_below (gap builder.now object) (length builder.now.model.features)) }
     ensures same { required.new ≡ required.old }
 {
     let class = builder.class_of(object);
     let features = required.with_required(class, Vec::new(builder.alloc()))?;
-    'features: for feature in &features {
+    for feature in &features {
         let found = gap(builder, object, *feature);
         if found.is_some() {
             return Ok(found);
@@ -63,10 +64,10 @@ fn first_gap_of(
 pub(crate) fn first_gap(
     builder: &PopulationBuilder<'_>,
 ) -> Result<Option<PopulationFault>, AllocError>
-    ensures { IfOk result (λ fault. fault ≡ first_fault gap builder.now) }
+    ensures { IfOk result (λ fault. fault ≡ first_object_fault gap builder.now) }
 {
     let mut required = RequiredFeatures::new(builder.alloc(), builder.model(), Side::Written);
-    'objects: for object in 0..builder.objects() {
+    for object in 0..builder.objects() {
         let found = first_gap_of(builder, &mut required, ObjectNo::new(object))?;
         if found.is_some() {
             return Ok(found);
@@ -90,7 +91,7 @@ fn end_fault(
     let model = builder.model();
     let info = model.feature_info(feature);
     if model.belongs(builder.class_of(object), feature) && info.role.is_opposite() {
-        let holders = ends[object.place()].get(feature.place());
+        let holders = ends[object.index()].get(feature.index());
         bounds_fault(info, object, feature, holders.len())
     } else {
         None
@@ -107,14 +108,15 @@ fn first_end_fault_of(
     requires ends { AreEnds builder.now ends.now }
     requires object { object < length builder.now.objects }
     requires required { required.old ≡ record { model = builder.now.model; side = side.Opposite } }
-    ensures first { IfOk result (λ fault. fault ≡ first_of (end_fault builder.now object) (length builder.now.model.features)) }
+    ensures first { IfOk result (λ fault. fault ≡
+        first_below (end_fault builder.now object) (length builder.now.model.features)) }
     ensures same { required.new ≡ required.old }
 {
     let class = builder.class_of(object);
     let count = builder.model().feature_count();
-    let held = ends[object.place()].features(builder.alloc(), count)?;
+    let held = ends[object.index()].features(builder.alloc(), count)?;
     let features = required.with_required(class, held)?;
-    'features: for feature in &features {
+    for feature in &features {
         let found = end_fault(builder, ends, object, *feature);
         if found.is_some() {
             return Ok(found);
@@ -129,10 +131,10 @@ pub(crate) fn first_end_fault(
     ends: &[Written],
 ) -> Result<Option<PopulationFault>, AllocError>
     requires { AreEnds builder.now ends.now }
-    ensures { IfOk result (λ fault. fault ≡ first_fault end_fault builder.now) }
+    ensures { IfOk result (λ fault. fault ≡ first_object_fault end_fault builder.now) }
 {
     let mut required = RequiredFeatures::new(builder.alloc(), builder.model(), Side::Opposite);
-    'objects: for object in 0..builder.objects() {
+    for object in 0..builder.objects() {
         let found = first_end_fault_of(builder, ends, &mut required, ObjectNo::new(object))?;
         if found.is_some() {
             return Ok(found);

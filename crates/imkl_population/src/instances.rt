@@ -19,7 +19,7 @@ fn no_objects(alloc: Global, count: usize) -> Result<Vec<Vec<ObjectNo>>, AllocEr
     ensures { IfOk result (λ v. (length v.items ≡ count) × ((c : ℕ) → list_of v.items c ≡ [])) }
 {
     let mut lists = Vec::with_capacity(alloc, count)?;
-    'classes: for _ in 0..count {
+    for _ in 0..count {
         lists.push(Vec::new(alloc))?;
     }
     Ok(lists)
@@ -33,9 +33,10 @@ fn add_object(
 ) -> Result<(), AllocError>
     requires { class < length lists.old }
     ensures same { length lists.new ≡ length lists.old }
-    ensures added { OnOk result ((c : ℕ) → c < length lists.old → list_of lists.new c ≡ list_of lists.old c ++ (if class == c then object ∷ [] else [])) }
+    ensures added { OnOk result ((c : ℕ) → c < length lists.old →
+        list_of lists.new c ≡ list_of lists.old c ++ (if class == c then object ∷ [] else [])) }
 {
-    lists[class.place()].push(object)?;
+    lists[class.index()].push(object)?;
     Ok(())
 }
 
@@ -47,7 +48,7 @@ fn direct_objects(
     ensures { IfOk result (λ v. AreDirect builder.now (length builder.now.objects) v.items) }
 {
     let mut lists = no_objects(alloc, builder.model().class_count())?;
-    'objects: for object in 0..builder.objects() {
+    for object in 0..builder.objects() {
         let object = ObjectNo::new(object);
         add_object(&mut lists, builder.class_of(object), object)?;
     }
@@ -64,7 +65,8 @@ fn add_conforming(
 ) -> Result<(), AllocError>
     requires from { from < length model.now.classes }
     requires class { class < length model.now.classes }
-    ensures { OnOk result (list.new.items ≡ list.old.items ++ (if conforms model.now from class then objects.now else [])) }
+    ensures { OnOk result (list.new.items ≡ list.old.items ++
+        (if conforms model.now from class then objects.now else [])) }
 {
     if !objects.is_empty() && model.conforms(from, class) {
         list.extend_from_slice(objects)?;
@@ -73,7 +75,7 @@ fn add_conforming(
 }
 
 /// The objects of a class: those directly of each class that conforms to it, class by class.
-fn gathered(
+fn gather(
     alloc: Global,
     builder: &PopulationBuilder<'_>,
     direct: &[Vec<ObjectNo>],
@@ -82,11 +84,12 @@ fn gathered(
     requires class { class < length builder.now.model.classes }
     requires direct { AreDirect builder.now (length builder.now.objects) direct.now }
     ensures known { IfOk result (λ v. All (λ o. o < length builder.now.objects) v.items) }
-    ensures each { IfOk result (λ v. (o : ℕ) → o < length builder.now.objects → is_one_of v.items o ≡ is_instance builder.now class o) }
+    ensures each { IfOk result (λ v. (o : ℕ) → o < length builder.now.objects →
+        is_one_of v.items o ≡ is_instance builder.now class o) }
 {
     let model = builder.model();
     let mut gathered = Vec::new(alloc);
-    'classes: for from in 0..model.class_count() {
+    for from in 0..model.class_count() {
         let objects = direct[from].as_slice();
         add_conforming(&mut gathered, objects, model, ClassNo::new(from), class)?;
     }
@@ -105,7 +108,7 @@ fn add_instances(
     requires direct { AreDirect builder.now (length builder.now.objects) direct.now }
     ensures { OnOk result (list.new.items ≡ list.old.items ++ instances builder.now class) }
 {
-    let mut objects = in_order(gathered(alloc, builder, direct, class)?);
+    let mut objects = in_order(gather(alloc, builder, direct, class)?);
     list.append(&mut objects)?;
     Ok(())
 }
@@ -115,12 +118,13 @@ pub(crate) fn instances(
     alloc: Global,
     builder: &PopulationBuilder<'_>,
 ) -> Result<(Vec<ObjectNo>, Vec<Segment>), AllocError>
-    ensures { IfOk result (λ r. (length r.1.items ≡ length builder.now.model.classes) × AreInstances builder.now r.0.items r.1.items (length builder.now.model.classes)) }
+    ensures { IfOk result (λ r. (length r.1.items ≡ length builder.now.model.classes) ×
+        AreInstances builder.now r.0.items r.1.items (length builder.now.model.classes)) }
 {
     let direct = direct_objects(alloc, builder)?;
     let mut list = Vec::new(alloc);
     let mut ranges = Vec::new(alloc);
-    'classes: for class in 0..builder.model().class_count() {
+    for class in 0..builder.model().class_count() {
         let start = list.len();
         add_instances(&mut list, alloc, builder, &direct, ClassNo::new(class))?;
         let end = list.len();

@@ -3,7 +3,8 @@
 ghost use Rattle.std.specs.Prelude.{◌≡◌, ◌++◌, length, IfOk};
 ghost use Rattle.imkl_population.specs.Consistency.{IsConsistent};
 ghost use Rattle.imkl_population.specs.Ends.{AreEnds};
-ghost use Rattle.imkl_population.specs.Layout.{objects_of, IsSplit};
+ghost use Rattle.imkl_population.specs.Layout.{IsSplit};
+ghost use Rattle.imkl_population.specs.Store.{maps_of};
 
 use crate::builder::PopulationBuilder;
 use crate::instances::instances;
@@ -15,11 +16,11 @@ use std::alloc::{AllocError, Global};
 
 /// The ids and classes of objects, and what is written on them.
 pub(crate) fn split(alloc: Global, objects: Vec<Object>) -> Result<(Vec<Head>, Store), AllocError>
-    ensures { IfOk result (λ r. IsSplit objects.items r.0.items r.1) }
+    ensures { IfOk result (λ r. IsSplit objects.items r.0.items (maps_of r.1)) }
 {
     let mut heads = Vec::with_capacity(alloc, objects.len())?;
     let mut store = Store::new(alloc);
-    'objects: for object in objects {
+    for object in objects {
         let Object { id, class, written } = object;
         heads.push(Head { id, class })?;
         store = store.with(written)?;
@@ -29,23 +30,23 @@ pub(crate) fn split(alloc: Global, objects: Vec<Object>) -> Result<(Vec<Head>, S
 
 /// The opposite ends of all objects behind what is written on them.
 pub(crate) fn with_ends(store: Store, ends: Vec<Written>) -> Result<Store, AllocError>
-    ensures { IfOk result (λ s. s ≡ store ++ ends.items) }
+    ensures { IfOk result (λ s. maps_of s ≡ maps_of store ++ ends.items) }
 {
     let mut store = store;
-    'ends: for end in ends {
+    for end in ends {
         store = store.with(end)?;
     }
     Ok(store)
 }
 
 /// The population of the builder, laid out.
-pub(crate) fn laid_out<'m>(
+pub(crate) fn lay_out<'m>(
     builder: PopulationBuilder<'m>,
     ends: Vec<Written>,
 ) -> Result<Population<'m>, AllocError>
     requires consistent { IsConsistent builder }
     requires ends { AreEnds builder ends.items }
-    ensures { IfOk result (λ p. p ≡ builder.entry) }
+    ensures { IfOk result (λ p. p.content ≡ builder.entry) }
 {
     let alloc = builder.alloc();
     let (instances, ranges) = instances(alloc, &builder)?;

@@ -23,14 +23,7 @@ mod written;
 pub use builder::PopulationBuilder;
 pub use fault::PopulationFault;
 pub use numbers::ObjectNo;
-pub use object::{Id, Object};
-pub use population::{Head, Population};
-pub use repeats::Seen;
-pub use required::{FeatureList, RequiredFeatures, Side};
+pub use population::Population;
+pub use required::{RequiredFeatures, Side};
 pub use scalar::{Scalar, ScalarText};
 pub use sizes::Sizes;
-pub use store::{Entry, Segment};
-pub use written::{Values, Written};
-
-#[cfg(test)]
-mod tests;

@@ -4,10 +4,10 @@ ghost use Rattle.std.specs.Prelude.{◌≡◌};
 
 use std::marker::Model;
 
-/// The place of an object in a population.
+/// The number of an object in a population, from 0.
 #[derive(Clone, Copy, PartialEq, Eq, PartialOrd, Ord, Debug)]
 pub struct ObjectNo {
-    place: usize,
+    index: usize,
 }
 
 impl Model for ObjectNo {
@@ -15,23 +15,23 @@ impl Model for ObjectNo {
 
     ghost Value = { ℕ };
 
-    ghost view = { λ n. n.place };
+    ghost view = { λ n. n.index };
 
-    ghost inverse = { λ n. record { place = n } };
+    ghost inverse = { λ n. record { index = n } };
 }
 
 impl ObjectNo {
-    /// The object at this place.
-    pub fn new(place: usize) -> ObjectNo
-        ensures { result ≡ place }
+    /// The object of this number.
+    pub fn new(index: usize) -> ObjectNo
+        ensures { result ≡ index }
     {
-        ObjectNo { place }
+        ObjectNo { index }
     }
 
-    /// Where the object stands.
-    pub fn place(self) -> usize
+    /// The object's number, from 0 in the order in which objects were added.
+    pub fn index(self) -> usize
         ensures { result ≡ self }
     {
-        self.place
+        self.index
     }
 }

@@ -4,8 +4,9 @@ ghost use Rattle.std.specs.Prelude.{◌≡◌, ◌<◌, ◌≤◌, ℕ, true, fa
 ghost use Rattle.imkl_model.specs.ClassModel.{feature_at, belongs};
 ghost use Rattle.imkl_population.specs.Population.{object_at, class_of, values_of, instances, IsInstance};
 ghost use Rattle.imkl_population.specs.Consistency.{IsConsistent};
+ghost use Rattle.imkl_population.specs.FinishedPopulation.{AreValueRanges, AreInstanceRanges};
 ghost use Rattle.imkl_model.specs.Features.{is_opposite};
-ghost use Rattle.imkl_population.specs.Sizes.{listed, count_of, longest_below, longest_of, sizes_of};
+ghost use Rattle.imkl_population.specs.Sizes.{list_below, count_of, longest_below, longest_of, sizes_of};
 
 use crate::numbers::ObjectNo;
 use crate::object::Id;
@@ -25,8 +26,8 @@ pub struct Head {
     pub class: ClassNo,
 }
 
-/// A consistent population of a class model. Contracts see its objects, with what is written on
-/// them.
+/// A consistent population of a class model. Contracts see its content, which is its objects with what is written on
+/// them, and the two lists that its values and its instances are parts of.
 #[derive(Drop)]
 pub struct Population<'m> {
     pub(crate) model: &'m ClassModel,
@@ -37,54 +38,66 @@ pub struct Population<'m> {
 }
 
 impl<'m> Model for Population<'m> {
-    ghost use Rattle.imkl_population.specs.Population.{Population};
-    ghost use Rattle.imkl_population.specs.Layout.{objects_of, IsFinished};
+    ghost use Rattle.imkl_population.specs.FinishedPopulation.{FinishedPopulation};
+    ghost use Rattle.imkl_population.specs.Store.{maps_of};
+    ghost use Rattle.imkl_population.specs.Layout.{stored_content, finished_of, IsFinished};
 
-    ghost Value = { Population };
+    ghost Value = { FinishedPopulation };
 
-    ghost view = { λ p. record { model = p.model.now; objects = objects_of p.heads.items p.store } };
+    ghost view = { λ p. finished_of p.model.now p.heads.items p.store p.instances.items
+        p.ranges.items };
 
-    ghost invariant = { λ p. IsFinished (record { model = p.model.now; objects = objects_of p.heads.items p.store }) p.store p.instances.items p.ranges.items };
+    ghost invariant = { λ p.
+        IsFinished (stored_content p.model.now p.heads.items p.store) (maps_of p.store)
+        p.instances.items p.ranges.items };
 }
 
 impl<'m> Population<'m> {
     /// Every finished population is consistent.
     pub fn consistent(&self)
-        ensures { IsConsistent self.now }
+        ensures { IsConsistent self.now.content }
     {
         let _heads = &self.heads;
     }
 
+    /// The values of each feature of each object are a part of one list, and the instances of each class a part of another.
+    pub fn ranges(&self)
+        ensures values { AreValueRanges self.now }
+        ensures instances { AreInstanceRanges self.now }
+    {
+        self.store.within();
+    }
+
     /// The class model.
     pub fn model(&self) -> &'m ClassModel
-        ensures { result.now ≡ self.now.model }
+        ensures { result.now ≡ self.now.content.model }
     {
         self.model
     }
 
     /// How many objects there are.
     pub fn objects(&self) -> usize
-        ensures { result ≡ length self.now.objects }
+        ensures { result ≡ length self.now.content.objects }
     {
         self.heads.len()
     }
 
     /// The id of an object.
     pub fn id(&self, object: ObjectNo) -> &str
-        requires { object < length self.now.objects }
-        ensures { result.now ≡ (object_at self.now object).id }
+        requires { object < length self.now.content.objects }
+        ensures { result.now ≡ (object_at self.now.content object).id }
     {
-        let head = &self.heads[object.place()];
+        let head = &self.heads[object.index()];
         head.id.as_str()
     }
 
     /// The class that an object is directly of.
     pub fn class_of(&self, object: ObjectNo) -> ClassNo
-        requires { object < length self.now.objects }
-        ensures class { result ≡ class_of self.now object }
-        ensures known { result < length self.now.model.classes }
+        requires { object < length self.now.content.objects }
+        ensures class { result ≡ class_of self.now.content object }
+        ensures known { result < length self.now.content.model.classes }
     {
-        let head = &self.heads[object.place()];
+        let head = &self.heads[object.index()];
         head.class
     }
 
@@ -92,40 +105,41 @@ impl<'m> Population<'m> {
     /// set, of a source end its targets, of an opposite end the objects that hold this one, in
     /// their order.
     pub fn values(&self, object: ObjectNo, feature: FeatureNo) -> &[Scalar]
-        requires object { object < length self.now.objects }
-        requires feature { feature < length self.now.model.features }
-        requires belongs { belongs self.now.model (class_of self.now object) feature ≡ true }
-        ensures { result.now ≡ values_of self.now object feature }
+        requires object { object < length self.now.content.objects }
+        requires feature { feature < length self.now.content.model.features }
+        requires belongs { belongs self.now.content.model (class_of self.now.content object)
+            feature ≡ true }
+        ensures { result.now ≡ values_of self.now.content object feature }
     {
-        let place = object.place();
+        let index = object.index();
         if self.model.feature_info(feature).role.is_opposite() {
-            self.store.get(self.heads.len() + place, feature.place())
+            self.store.get(self.heads.len() + index, feature.index())
         } else {
-            self.store.get(place, feature.place())
+            self.store.get(index, feature.index())
         }
     }
 
     /// The objects of a class, those of its subclasses included, in their order.
     pub fn instances(&self, class: ClassNo) -> &[ObjectNo]
-        requires { class < length self.now.model.classes }
-        ensures objects { result.now ≡ instances self.now class }
-        ensures each { All (IsInstance self.now class) result.now }
+        requires { class < length self.now.content.model.classes }
+        ensures objects { result.now ≡ instances self.now.content class }
+        ensures each { All (IsInstance self.now.content class) result.now }
     {
         self.range_of(class)
     }
 
     fn range_of(&self, class: ClassNo) -> &[ObjectNo]
-        requires { class < length self.now.model.classes }
-        ensures { result.now ≡ instances self.now class }
+        requires { class < length self.now.content.model.classes }
+        ensures { result.now ≡ instances self.now.content class }
     {
-        let range = self.ranges[class.place()];
+        let range = self.ranges[class.index()];
         objects_in(&self.instances, range)
     }
 
     /// The sizes of the population: how many objects each class has, and how long the values of
     /// each attribute without upper bound are.
     pub fn sizes(&self, alloc: Global) -> Result<Sizes<'m>, AllocError>
-        ensures { IfOk result (λ s. s ≡ sizes_of self.now) }
+        ensures { IfOk result (λ s. s ≡ sizes_of self.now.content) }
     {
         let counts = self.counts(alloc)?;
         let longest = self.longest(alloc)?;
@@ -138,11 +152,12 @@ impl<'m> Population<'m> {
 
     /// How many objects each class has.
     fn counts(&self, alloc: Global) -> Result<Vec<u64>, AllocError>
-        ensures { IfOk result (λ v. v.items ≡ listed (count_of self.now) (length self.now.model.classes)) }
+        ensures { IfOk result (λ v. v.items ≡
+            list_below (count_of self.now.content) (length self.now.content.model.classes)) }
     {
         let classes = self.model().class_count();
         let mut counts = Vec::with_capacity(alloc, classes)?;
-        'classes: for class in 0..classes {
+        for class in 0..classes {
             let count = self.instances(ClassNo::new(class)).len();
             counts.push(count as u64)?;
         }
@@ -151,8 +166,12 @@ impl<'m> Population<'m> {
 
     /// How many values are written at most at each feature of an object.
     fn longest_written(&self, alloc: Global) -> Result<Vec<u64>, AllocError>
-        ensures count { IfOk result (λ v. length v.items ≡ length self.now.model.features) }
-        ensures each { IfOk result (λ v. (f : ℕ) → f < length self.now.model.features → is_opposite (feature_at self.now.model f).role ≡ false → slice_index v.items f ≡ longest_below self.now f (length self.now.objects)) }
+        ensures count { IfOk result (λ v. length v.items ≡ length self.now.content.model.features) }
+        ensures each { IfOk result (λ v. (f : ℕ) →
+            f < length self.now.content.model.features →
+            is_opposite (feature_at self.now.content.model f).role ≡ false →
+            slice_index v.items f ≡ longest_below self.now.content f (length
+            self.now.content.objects)) }
     {
         let features = self.model.feature_count();
         self.store.longest(alloc, self.heads.len(), features)
@@ -160,12 +179,13 @@ impl<'m> Population<'m> {
 
     /// The greatest length of each attribute without upper bound.
     fn longest(&self, alloc: Global) -> Result<Vec<u64>, AllocError>
-        ensures { IfOk result (λ v. v.items ≡ listed (longest_of self.now) (length self.now.model.features)) }
+        ensures { IfOk result (λ v. v.items ≡
+            list_below (longest_of self.now.content) (length self.now.content.model.features)) }
     {
         let written = self.longest_written(alloc)?;
         let model = self.model();
         let mut longest = Vec::with_capacity(alloc, written.len())?;
-        'features: for feature in 0..written.len() {
+        for feature in 0..written.len() {
             let info = model.feature_info(FeatureNo::new(feature));
             let count = if is_unbounded(info) {
                 written[feature]

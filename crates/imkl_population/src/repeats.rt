@@ -2,7 +2,7 @@
 
 ghost use Rattle.std.specs.Prelude.{◌≡◌, ◌||◌, true, false, not, IfOk, OnOk};
 ghost use Rattle.imkl_population.specs.declared.scalar.Scalar.{Scalar};
-ghost use Rattle.imkl_population.specs.Values.{repeats, same_scalar};
+ghost use Rattle.imkl_population.specs.Values.{repeats_value, same_scalar};
 ghost use Rattle.imkl_population.specs.Seen.{has_seen, is_encodable, SeesMore};
 
 use crate::scalar::Scalar;
@@ -50,19 +50,19 @@ fn is_new(seen: &mut Seen, alloc: Global, value: &Scalar) -> Result<bool, AllocE
             Ok(seen.texts.insert(key)?)
         }
         Scalar::Literal(enumeration, literal) => {
-            let key = (enumeration.place(), literal.place());
+            let key = (enumeration.index(), literal.index());
             Ok(seen.literals.insert(key)?)
         }
-        Scalar::Object(object) => Ok(seen.objects.insert(object.place())?),
+        Scalar::Object(object) => Ok(seen.objects.insert(object.index())?),
     }
 }
 
 /// Whether some value stands twice.
 pub(crate) fn repeats(alloc: Global, values: &[Scalar]) -> Result<bool, AllocError>
-    ensures { IfOk result (λ b. b ≡ repeats values.now) }
+    ensures { IfOk result (λ b. b ≡ repeats_value values.now) }
 {
     let mut seen = nothing_seen(alloc);
-    'values: for value in values {
+    for value in values {
         if !is_new(&mut seen, alloc, value)? {
             return Ok(true);
         }

@@ -1,7 +1,7 @@
 //! The features that a class needs values at.
 
 ghost use Rattle.std.specs.Prelude.{◌≡◌, ◌<◌, ◌++◌, ℕ, length, All, IfOk, OnOk};
-ghost use Rattle.imkl_population.specs.Numbers.{places};
+ghost use Rattle.ocl_base.specs.Numbers.{places};
 ghost use Rattle.imkl_population.specs.Required.{is_on, is_required, required, with_required};
 
 use crate::order::in_order;
@@ -47,7 +47,7 @@ impl FeatureList {
     }
 }
 
-/// For each class of a model the features on one side that have a lower bound above nought. A class's are listed when it
+/// For each class of a model the features on one side that have a lower bound above zero. A class's are listed when it
 /// is first asked for.
 #[derive(Drop)]
 pub struct RequiredFeatures<'m> {
@@ -66,7 +66,8 @@ impl<'m> Model for RequiredFeatures<'m> {
 
     ghost view = { λ r. record { model = r.model.now; side = r.side } };
 
-    ghost invariant = { λ r. AreRequired (record { model = r.model.now; side = r.side }) (get nat_cmp r.lists) };
+    ghost invariant = { λ r. AreRequired (record { model = r.model.now; side = r.side }) (get
+        nat_cmp r.lists) };
 }
 
 fn is_on(side: Side, role: Role) -> bool
@@ -106,7 +107,7 @@ impl<'m> RequiredFeatures<'m> {
         ensures { IfOk result (λ v. v.items ≡ required self.now class) }
     {
         let mut required = Vec::new(self.alloc);
-        'features: for feature in 0..self.model.feature_count() {
+        for feature in 0..self.model.feature_count() {
             let feature = FeatureNo::new(feature);
             if self.is_required(class, feature) {
                 required.push(feature)?;
@@ -122,15 +123,16 @@ impl<'m> RequiredFeatures<'m> {
         features: &mut Vec<FeatureNo>,
     ) -> Result<(), AllocError>
         requires { class < length self.old.model.classes }
-        ensures added { OnOk result (features.new.items ≡ features.old.items ++ required self.old class) }
+        ensures added { OnOk result (features.new.items ≡ features.old.items ++
+            required self.old class) }
         ensures same { self.new ≡ self.old }
     {
-        if let Some(list) = self.lists.get(&class.place()) {
+        if let Some(list) = self.lists.get(&class.index()) {
             return features.extend_from_slice(list.as_slice());
         }
         let list = self.required(class)?;
         features.extend_from_slice(&list)?;
-        self.lists.insert(class.place(), FeatureList::new(list))?;
+        self.lists.insert(class.index(), FeatureList::new(list))?;
         Ok(())
     }
 

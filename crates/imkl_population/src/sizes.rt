@@ -21,9 +21,15 @@ impl<'m> Model for Sizes<'m> {
 
     ghost Value = { Sizes };
 
-    ghost view = { λ s. record { model = s.model.now; counts = s.counts.items; longest = s.longest.items } };
+    ghost view = { λ s. record {
+      model = s.model.now;
+      counts = s.counts.items;
+      longest =
+          s.longest.items;
+    } };
 
-    ghost invariant = { λ s. (length s.counts.items ≡ length s.model.now.classes) × (length s.longest.items ≡ length s.model.now.features) };
+    ghost invariant = { λ s. (length s.counts.items ≡ length s.model.now.classes) ×
+        (length s.longest.items ≡ length s.model.now.features) };
 }
 
 impl<'m> Sizes<'m> {
@@ -39,7 +45,7 @@ impl<'m> Sizes<'m> {
         requires { class < length self.now.model.classes }
         ensures { result ≡ slice_index self.now.counts class }
     {
-        self.counts[class.place()]
+        self.counts[class.index()]
     }
 
     /// Of an attribute without upper bound the greatest length of its value over all objects, 0
@@ -48,7 +54,7 @@ impl<'m> Sizes<'m> {
         requires { feature < length self.now.model.features }
         ensures { result ≡ slice_index self.now.longest feature }
     {
-        self.longest[feature.place()]
+        self.longest[feature.index()]
     }
 }
 

@@ -3,8 +3,8 @@
 ghost use Rattle.std.specs.Prelude.{◌≡◌, ◌<◌, ◌≤◌, ◌==◌, ◌++◌, ◌∷◌, ℕ, [], length, map, find, max, All, IfOk, OnOk, slice_index, slice_index_or, slice_range, if◌then◌else◌};
 ghost use Rattle.std.specs.List.Sorted.{IsStrictlySortedBy};
 ghost use Rattle.std.specs.Ordering.{nat_cmp};
-ghost use Rattle.imkl_population.specs.Written.{written_in};
-ghost use Rattle.imkl_population.specs.Store.{Appended, IsEntry, IsSegment, IsMap, entry_of, features_of, raised, longest_in};
+ghost use Rattle.imkl_population.specs.Written.{written_in, IsMap};
+ghost use Rattle.imkl_population.specs.Store.{Appended, IsEntry, IsSegment, AreRangesWithin, entry_of, features_of, raised, longest_in, maps_of};
 
 use crate::scalar::Scalar;
 use crate::written::{Values, Written};
@@ -31,7 +31,8 @@ pub struct Segment {
     pub end: usize,
 }
 
-/// Finite maps in the order in which they were pushed. Contracts see the list of the maps.
+/// Finite maps in the order in which they were pushed. Contracts see the list of all values, and for each map the range of
+/// each feature in it.
 #[derive(Drop)]
 pub struct Store {
     scalars: Vec<Scalar>,
@@ -40,13 +41,16 @@ pub struct Store {
 }
 
 impl Model for Store {
-    ghost use Rattle.std.specs.Prelude.{◌≤◌, List, ℕ, map, length};
-    ghost use Rattle.imkl_population.specs.declared.scalar.Scalar.{Scalar};
-    ghost use Rattle.imkl_population.specs.Store.{shown, IsLaidOut};
+    ghost use Rattle.std.specs.Prelude.{map};
+    ghost use Rattle.imkl_population.specs.Store.{Stored, ranges_in, IsLaidOut};
 
-    ghost Value = { List (List (ℕ × List Scalar)) };
+    ghost Value = { Stored };
 
-    ghost view = { λ s. map (shown s.scalars.items s.entries.items) s.segments.items };
+    ghost view = { λ s. record {
+      scalars = s.scalars.items;
+      ranges = map (ranges_in
+          s.entries.items) s.segments.items;
+    } };
 
     ghost invariant = { λ s. IsLaidOut s.scalars.items s.entries.items s.segments.items };
 }
@@ -57,10 +61,11 @@ fn append(
     entries: &mut Vec<Entry>,
     written: Written,
 ) -> Result<(), AllocError>
-    ensures appended { OnOk result (Appended scalars.old.items scalars.new.items entries.old.items entries.new.items written) }
+    ensures appended { OnOk result (Appended scalars.old.items scalars.new.items
+        entries.old.items entries.new.items written) }
     ensures map { OnOk result (IsMap written) }
 {
-    'entries: for (feature, values) in written.into_entries() {
+    for (feature, values) in written.into_entries() {
         let start = scalars.len();
         let mut values = values.into_items();
         scalars.append(&mut values)?;
@@ -102,7 +107,9 @@ fn values_of(scalars: &[Scalar], entry: Entry) -> &[Scalar]
 /// Raises the number at a place, if there is one, to a length that is greater.
 fn raise(longest: &mut [u64], place: usize, count: usize)
     ensures same { length longest.new ≡ length longest.old }
-    ensures raised { (k : ℕ) → k < length longest.old → slice_index longest.new k ≡ (if place == k then max (slice_index longest.old k) count else slice_index longest.old k) }
+    ensures raised { (k : ℕ) → k < length longest.old →
+        slice_index longest.new k ≡
+        (if place == k then max (slice_index longest.old k) count else slice_index longest.old k) }
 {
     if place < longest.len() {
         longest[place] = longest[place].max(count as u64);
@@ -113,9 +120,11 @@ fn raise(longest: &mut [u64], place: usize, count: usize)
 fn raise_all(longest: &mut [u64], scalars: &[Scalar], entries: &[Entry])
     requires { All (IsEntry (length scalars.now)) entries.now }
     ensures same { length longest.new ≡ length longest.old }
-    ensures raised { (f : ℕ) → f < length longest.old → slice_index longest.new f ≡ raised (map (entry_of scalars.now) entries.now) f (slice_index longest.old f) }
+    ensures raised { (f : ℕ) → f < length longest.old →
+        slice_index longest.new f ≡
+        raised (map (entry_of scalars.now) entries.now) f (slice_index longest.old f) }
 {
-    'entries: for entry in entries {
+    for entry in entries {
         let count = values_of(scalars, *entry).len();
         raise(longest, entry.feature, count);
     }
@@ -124,7 +133,7 @@ fn raise_all(longest: &mut [u64], scalars: &[Scalar], entries: &[Entry])
 impl Store {
     /// No maps.
     pub(crate) fn new(alloc: Global) -> Store
-        ensures { result ≡ [] }
+        ensures { maps_of result ≡ [] }
     {
         Store {
             scalars: Vec::new(alloc),
@@ -133,9 +142,16 @@ impl Store {
         }
     }
 
+    /// Each range lies within the values.
+    pub(crate) fn within(&self)
+        ensures { AreRangesWithin self.now }
+    {
+        let _scalars = &self.scalars;
+    }
+
     /// These maps and one more.
     pub(crate) fn with(self, written: Written) -> Result<Store, AllocError>
-        ensures { IfOk result (λ s. s ≡ self ++ written ∷ []) }
+        ensures { IfOk result (λ s. maps_of s ≡ maps_of self ++ written ∷ []) }
     {
         let Store {
             mut scalars,
@@ -155,8 +171,8 @@ impl Store {
 
     /// The values at a feature in the map at a place.
     pub(crate) fn get(&self, place: usize, feature: usize) -> &[Scalar]
-        requires { place < length self.now }
-        ensures { result.now ≡ written_in (slice_index_or self.now place []) feature }
+        requires { place < length (maps_of self.now) }
+        ensures { result.now ≡ written_in (slice_index_or (maps_of self.now) place []) feature }
     {
         let segment = self.segments[place];
         match find_entry(entries_of(&self.entries, segment), feature) {
@@ -172,12 +188,13 @@ impl Store {
         maps: usize,
         features: usize,
     ) -> Result<Vec<u64>, AllocError>
-        requires { maps ≤ length self.now }
+        requires { maps ≤ length (maps_of self.now) }
         ensures count { IfOk result (λ v. length v.items ≡ features) }
-        ensures each { IfOk result (λ v. (f : ℕ) → f < features → slice_index v.items f ≡ longest_in self.now f maps) }
+        ensures each { IfOk result (λ v. (f : ℕ) → f < features →
+            slice_index v.items f ≡ longest_in (maps_of self.now) f maps) }
     {
         let mut longest = vec![in alloc; 0; features]?;
-        'maps: for place in 0..maps {
+        for place in 0..maps {
             let segment = self.segments[place];
             raise_all(
                 &mut longest,

@@ -3,8 +3,8 @@
 ghost use Rattle.std.specs.Prelude.{◌≡◌, [], ◌∷◌, ◌++◌, ◌==◌, ℕ, IfOk, OnOk, OnErr, if◌then◌else◌};
 ghost use Rattle.std.specs.Ordering.{nat_cmp};
 ghost use Rattle.std.specs.BTreeMap.{insert_entry};
-ghost use Rattle.imkl_population.specs.Numbers.{places};
-ghost use Rattle.imkl_population.specs.Written.{is_set, written_in};
+ghost use Rattle.ocl_base.specs.Numbers.{places};
+ghost use Rattle.imkl_population.specs.Written.{is_set, written_in, IsMap};
 
 use crate::scalar::Scalar;
 use imkl_model::FeatureNo;
@@ -92,6 +92,7 @@ impl Written {
     /// Puts values at a feature, in the place of those that stood there.
     pub(crate) fn set(&mut self, feature: usize, values: Values) -> Result<(), AllocError>
         ensures ok { OnOk result (self.new ≡ insert_entry nat_cmp self.old feature values) }
+        ensures map { OnOk result (IsMap self.new) }
         ensures err { OnErr result (self.new ≡ self.old) }
     {
         self.entries.insert(feature, values)?;
@@ -105,7 +106,9 @@ impl Written {
         feature: usize,
         value: Scalar,
     ) -> Result<(), AllocError>
-        ensures { OnOk result ((h : ℕ) → written_in self.new h ≡ written_in self.old h ++ (if h == feature then value ∷ [] else [])) }
+        ensures { OnOk result ((h : ℕ) →
+            written_in self.new h ≡ written_in self.old h ++
+            (if h == feature then value ∷ [] else [])) }
     {
         if let Some(values) = self.entries.get_mut(&feature) {
             values.push(value)?;
@@ -122,7 +125,7 @@ impl Written {
         ensures { IfOk result (λ v. v.items ≡ places (is_set self.now) count) }
     {
         let mut features = Vec::new(alloc);
-        'entries: for feature in self.entries.keys() {
+        for feature in self.entries.keys() {
             if *feature < count {
                 features.push(FeatureNo::new(*feature))?;
             }

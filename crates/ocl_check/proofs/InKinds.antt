@@ -3,8 +3,8 @@ use Rattle.std.proofs.Common.{◌≡◌, ℕ, Bool, true, false, ◌&&◌, ◌||
 use Rattle.std.specs.Prelude.{nat_lt, if◌then◌else◌, ◌==◌}
 use Rattle.std.specs.List.{list_all}
 use Rattle.std.proofs.lemmas.Bool.{and_from, and_parts}
-use Rattle.imkl_model.specs.declared.feature.CollectionKind.{CollectionKind}
-use Rattle.imkl_model.specs.declared.feature.CollectionKind.TheVariants as collection
+use Rattle.ocl_base.specs.declared.collection_kind.CollectionKind.{CollectionKind}
+use Rattle.ocl_base.specs.declared.collection_kind.CollectionKind.TheVariants as collection
 use Rattle.imkl_model.specs.declared.feature.ElementType.{ElementType}
 use Rattle.imkl_model.specs.declared.feature.ElementType.TheVariants as type
 use Rattle.imkl_model.specs.ClassModel.{conforms, enumeration_at}
@@ -12,38 +12,39 @@ use Rattle.imkl_population.specs.declared.scalar.Scalar.{Scalar}
 use Rattle.imkl_population.specs.declared.scalar.Scalar.TheVariants as scalar
 use Rattle.imkl_population.specs.Population.{Population, class_of}
 use Rattle.imkl_population.specs.Values.{is_of_type, is_target_of}
-use Rattle.ocl_check.specs.declared.verify.kind.ElementKind.{ElementKind}
-use Rattle.ocl_check.specs.declared.verify.kind.ElementKind.TheVariants as element
-use Rattle.ocl_check.specs.declared.verify.kind.Kind.{Kind}
-use Rattle.ocl_check.specs.declared.verify.kind.Kind.TheVariants as kind
-use Rattle.ocl_check.specs.Kinds.{element_fits, is_same_collection, fits, fit, past, element_kind, truth}
-use Rattle.ocl_check.specs.Value.{Value, Invalid, Null, Plain, Collection, is_scalar_in, is_element_in, is_in}
+use Rattle.ocl_kinds.specs.declared.kind.ScalarKind.{ScalarKind}
+use Rattle.ocl_kinds.specs.declared.kind.ScalarKind.TheVariants as element
+use Rattle.ocl_kinds.specs.declared.kind.Kind.{Kind}
+use Rattle.ocl_kinds.specs.declared.kind.Kind.TheVariants as kind
+use Rattle.ocl_check.specs.Kinds.{fit, past, truth}
+use Rattle.ocl_kinds.specs.Kinds.{scalar_fits, is_same_collection, fits, element_kind}
+use Rattle.ocl_check.specs.Value.{Value, Invalid, Null, Single, Collection, is_scalar_in, is_element_in, is_in}
 use Rattle.ocl_check.specs.Operations.{comparison, negation, conjunction, single_value, is_true, is_false}
 use Rattle.ocl_check.specs.Machine.{are_in}
-use Rattle.ocl_check.proofs.Conformance.{conforms-trans}
+use Rattle.imkl_model.proofs.ForAbove.{conforms_along}
 
 eqb-trans : (a b c : ℕ) → (a == b) ≡ true → (b == c) ≡ true → (a == c) ≡ true
 eqb-trans a b c e f = let h : a ≡ b = eqb-true a b e in rw h f
 
 -- what is in a kind is in each that the kind fits
-scalar_fits : (p : Population) (v : Scalar) (a b : ElementKind) → element_fits p.model a b ≡ true → is_scalar_in p v a ≡ true → is_scalar_in p v b ≡ true
-scalar_fits p (scalar.Bool x) element.Boolean element.Boolean f h = h
-scalar_fits p (scalar.Int n) element.Integer element.Integer f h = h
-scalar_fits p (scalar.Text t) element.String element.String f h = h
-scalar_fits p (scalar.Literal d l) (element.Enumeration e) (element.Enumeration g) f h = eqb-trans d e g h f
-scalar_fits p (scalar.Object o) (element.Class c) (element.Class d) f h =
+scalar_fits_in : (p : Population) (v : Scalar) (a b : ScalarKind) → scalar_fits p.model a b ≡ true → is_scalar_in p v a ≡ true → is_scalar_in p v b ≡ true
+scalar_fits_in p (scalar.Bool x) element.Boolean element.Boolean f h = h
+scalar_fits_in p (scalar.Int n) element.Integer element.Integer f h = h
+scalar_fits_in p (scalar.Text t) element.String element.String f h = h
+scalar_fits_in p (scalar.Literal d l) (element.Enumeration e) (element.Enumeration g) f h = eqb-trans d e g h f
+scalar_fits_in p (scalar.Object o) (element.Class c) (element.Class d) f h =
     let there = (and_parts (nat_lt o (length p.objects)) (conforms p.model (class_of p o) c) h).0 in
     let conforming = (and_parts (nat_lt o (length p.objects)) (conforms p.model (class_of p o) c) h).1 in
-    and_from (nat_lt o (length p.objects)) (conforms p.model (class_of p o) d) there (conforms-trans p.model (class_of p o) c d conforming f)
-scalar_fits p (scalar.Object o) (element.Class c) element.AnyObject f h = (and_parts (nat_lt o (length p.objects)) (conforms p.model (class_of p o) c) h).0
-scalar_fits p (scalar.Object o) element.AnyObject element.AnyObject f h = h
-scalar_fits p v a b f h = cc
+    and_from (nat_lt o (length p.objects)) (conforms p.model (class_of p o) d) there (conforms_along p.model (class_of p o) c d conforming f)
+scalar_fits_in p (scalar.Object o) (element.Class c) element.AnyObject f h = (and_parts (nat_lt o (length p.objects)) (conforms p.model (class_of p o) c) h).0
+scalar_fits_in p (scalar.Object o) element.AnyObject element.AnyObject f h = h
+scalar_fits_in p v a b f h = cc
 
-element_fits_in : (p : Population) (v : Option Scalar) (a b : ElementKind) → element_fits p.model a b ≡ true → is_element_in p a v ≡ true → is_element_in p b v ≡ true
+element_fits_in : (p : Population) (v : Option Scalar) (a b : ScalarKind) → scalar_fits p.model a b ≡ true → is_element_in p a v ≡ true → is_element_in p b v ≡ true
 element_fits_in p None a b f h = refl
-element_fits_in p (Some v) a b f h = scalar_fits p v a b f h
+element_fits_in p (Some v) a b f h = scalar_fits_in p v a b f h
 
-elements_fit : (p : Population) (vs : List (Option Scalar)) (a b : ElementKind) → element_fits p.model a b ≡ true → list_all (is_element_in p a) vs ≡ true → list_all (is_element_in p b) vs ≡ true
+elements_fit : (p : Population) (vs : List (Option Scalar)) (a b : ScalarKind) → scalar_fits p.model a b ≡ true → list_all (is_element_in p a) vs ≡ true → list_all (is_element_in p b) vs ≡ true
 elements_fit p [] a b f h = refl
 elements_fit p (v ∷ vs) a b f h =
     let first = (and_parts (is_element_in p a v) (list_all (is_element_in p a) vs) h).0 in
@@ -59,15 +60,15 @@ same_collection-trans a b c f g = cc
 
 pub fits_in : (p : Population) (v : Value) (a b : Kind) → fits p.model a b ≡ true → is_in p v a ≡ true → is_in p v b ≡ true
 fits_in p Invalid a b f h = refl
-fits_in p Null (kind.Single a) (kind.Single b) f h = refl
+fits_in p Null (kind.Scalar a) (kind.Scalar b) f h = refl
 fits_in p Null a b f h = cc
-fits_in p (Plain v) (kind.Single a) (kind.Single b) f h = scalar_fits p v a b f h
-fits_in p (Plain v) a b f h = cc
+fits_in p (Single v) (kind.Scalar a) (kind.Scalar b) f h = scalar_fits_in p v a b f h
+fits_in p (Single v) a b f h = cc
 fits_in p (Collection c vs) (kind.Collection d j) (kind.Collection e k) f h =
     let same = (and_parts (is_same_collection c d) (list_all (is_element_in p j) vs) h).0 in
     let all = (and_parts (is_same_collection c d) (list_all (is_element_in p j) vs) h).1 in
-    let sort = (and_parts (is_same_collection d e) (element_fits p.model j k) f).0 in
-    let fitting = (and_parts (is_same_collection d e) (element_fits p.model j k) f).1 in
+    let sort = (and_parts (is_same_collection d e) (scalar_fits p.model j k) f).0 in
+    let fitting = (and_parts (is_same_collection d e) (scalar_fits p.model j k) f).1 in
     and_from (is_same_collection c e) (list_all (is_element_in p k) vs) (same_collection-trans c d e same sort) (elements_fit p vs j k fitting all)
 fits_in p (Collection c vs) a b f h = cc
 
@@ -95,17 +96,17 @@ past_in p (w ∷ ws) (o ∷ os) (k ∷ ks) f a = past_in p ws os ks (and_parts (
 
 -- the operations give Booleans
 pub comparison_in : (p : Population) (test : ℤ → ℤ → Bool) (v w : Value) → is_in p (comparison test v w) truth ≡ true
-comparison_in p test (Plain (scalar.Int a)) (Plain (scalar.Int b)) = refl
+comparison_in p test (Single (scalar.Int a)) (Single (scalar.Int b)) = refl
 comparison_in p test v w = refl
 
 pub negation_in : (p : Population) (v : Value) → is_in p (negation v) truth ≡ true
-negation_in p (Plain (scalar.Bool b)) = refl
+negation_in p (Single (scalar.Bool b)) = refl
 negation_in p v = refl
 
 pub conjunction_in : (p : Population) (v w : Value) → is_in p (conjunction v w) truth ≡ true
 conjunction_in p v w = by_tests (is_false v || is_false w) (is_true v && is_true w)
   where
-    by_tests : (a b : Bool) → is_in p (if a then Plain (scalar.Bool false) else (if b then Plain (scalar.Bool true) else Invalid)) truth ≡ true
+    by_tests : (a b : Bool) → is_in p (if a then Single (scalar.Bool false) else (if b then Single (scalar.Bool true) else Invalid)) truth ≡ true
     by_tests true b = refl
     by_tests false true = refl
     by_tests false false = refl
@@ -122,12 +123,12 @@ target_in : (p : Population) (t : ElementType) (v : Scalar) → is_target_of p t
 target_in p (type.Class c) (scalar.Object o) h = h
 target_in p t v h = cc
 
-single_in : (p : Population) (t : ElementType) (test : Scalar → Bool) (vs : List Scalar) → ((v : Scalar) → test v ≡ true → is_scalar_in p v (element_kind t) ≡ true) → list_all test vs ≡ true → is_in p (single_value vs) (kind.Single (element_kind t)) ≡ true
+single_in : (p : Population) (t : ElementType) (test : Scalar → Bool) (vs : List Scalar) → ((v : Scalar) → test v ≡ true → is_scalar_in p v (element_kind t) ≡ true) → list_all test vs ≡ true → is_in p (single_value vs) (kind.Scalar (element_kind t)) ≡ true
 single_in p t test [] each h = refl
 single_in p t test (v ∷ vs) each h = each v (and_parts (test v) (list_all test vs) h).0
 
-pub attribute_in : (p : Population) (t : ElementType) (vs : List Scalar) → list_all (is_of_type p.model t) vs ≡ true → is_in p (single_value vs) (kind.Single (element_kind t)) ≡ true
+pub attribute_in : (p : Population) (t : ElementType) (vs : List Scalar) → list_all (is_of_type p.model t) vs ≡ true → is_in p (single_value vs) (kind.Scalar (element_kind t)) ≡ true
 attribute_in p t vs h = single_in p t (is_of_type p.model t) vs (of_type_in p t) h
 
-pub end_in : (p : Population) (t : ElementType) (vs : List Scalar) → list_all (is_target_of p t) vs ≡ true → is_in p (single_value vs) (kind.Single (element_kind t)) ≡ true
+pub end_in : (p : Population) (t : ElementType) (vs : List Scalar) → list_all (is_target_of p t) vs ≡ true → is_in p (single_value vs) (kind.Scalar (element_kind t)) ≡ true
 end_in p t vs h = single_in p t (is_target_of p t) vs (target_in p t) h

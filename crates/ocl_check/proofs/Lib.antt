@@ -1,11 +1,11 @@
 pub mod Writes
-pub mod Conformance
 pub mod InKinds
-pub mod SymbolLaws
 pub mod Runs
 pub mod Takes
 pub mod Walks
+pub mod Beyond
 pub mod Steps
 pub mod Reports
 pub mod Judging
+pub mod Inputs
 pub mod Described

@@ -11,26 +11,28 @@ use Rattle.imkl_population.specs.Consistency.{IsConsistent}
 use Rattle.rule_code.specs.declared.instruction.Instr.{Instr}
 use Rattle.rule_code.specs.declared.instruction.Instr.TheVariants as instrs
 use Rattle.rule_code.specs.Content.{Content, RuleContent}
-use Rattle.ocl_check.specs.declared.verify.kind.Kind.{Kind}
-use Rattle.ocl_check.specs.declared.verify.kind.Kind.TheVariants as kind
-use Rattle.ocl_check.specs.declared.verify.named.Named.{Named}
-use Rattle.ocl_check.specs.declared.verify.named.Named.TheVariants as named
-use Rattle.ocl_check.specs.declared.verify.fault.Flaw.{Flaw}
-use Rattle.ocl_check.specs.declared.verify.fault.Flaw.TheVariants as flaws
+use Rattle.ocl_kinds.specs.declared.kind.Kind.{Kind}
+use Rattle.ocl_kinds.specs.declared.kind.Kind.TheVariants as kind
+use Rattle.rule_verify.specs.declared.named.Named.{Named}
+use Rattle.rule_verify.specs.declared.named.Named.TheVariants as named
+use Rattle.rule_verify.specs.declared.fault.Flaw.{Flaw}
+use Rattle.rule_verify.specs.declared.fault.Flaw.TheVariants as flaws
 use Rattle.ocl_check.specs.CodeTree.{Tree, End, Plain, size, tree_of}
-use Rattle.ocl_check.specs.Symbols.{named_at}
-use Rattle.ocl_check.specs.Known.{IsKnownName}
+use Rattle.rule_verify.specs.Symbols.{named_at}
+use Rattle.rule_verify.specs.Known.{IsKnownName}
 use Rattle.ocl_check.specs.Supported.{names_single, is_supported}
-use Rattle.ocl_check.specs.Kinds.{Refusal, ◌>>=◌, check, found, has, fit, past, takes, gives, holder_of, kind_read, feature_kind, element_kind, object_of, truth, whole_number, most_operands, Scope, scope, effect, kinds, judged, is_one_truth, context_of, rule_judged, first_of, first_fault_from, IsAccepted, rule_at, no_rule}
+use Rattle.ocl_base.specs.Steps.{◌>>=◌, check, found}
+use Rattle.ocl_check.specs.Kinds.{refusal, Refusal, has, fit, past, takes, gives, holder_of, kind_read, object_of, truth, whole_number, most_operands, Scope, scope, effect, kinds, code_checks, is_one_truth, context_of, rule_checks, first_of, first_fault_from, IsAccepted, rule_at, no_rule}
+use Rattle.ocl_kinds.specs.Kinds.{feature_kind, element_kind}
 use Rattle.ocl_check.specs.Value as value
 use Rattle.ocl_check.specs.Value.{Value, is_in}
 use Rattle.ocl_check.specs.Operations.{feature_value, single_value, less_than, at_least, negation, conjunction}
 use Rattle.ocl_check.specs.Machine.{Setting, Sequence, Configuration, configuration, step, run, is_final, are_in, read_from, read_named, result_of, performed_with, performed}
 use Rattle.ocl_check.specs.Verdict.{ended_by, next_or, outcome, verdict_at}
 use Rattle.ocl_check.specs.Laws.{IsTask, setting_of, start_of}
-use Rattle.ocl_check.proofs.Conformance.{conforms-trans}
+use Rattle.imkl_model.proofs.ForAbove.{conforms_along}
 use Rattle.ocl_check.proofs.InKinds.{fits_in, AllIn, fit_in, past_in, comparison_in, negation_in, conjunction_in, attribute_in, end_in}
-use Rattle.ocl_check.proofs.SymbolLaws.{at_some, named_known}
+use Rattle.rule_verify.proofs.ForAbove.{at_some, named_known}
 
 -- ---- what a result says of its parts
 
@@ -38,11 +40,11 @@ pub then_inv : {A B : Type 0} (r : Result A Refusal) (go : A → Result B Refusa
 then_inv (Ok a) go y e = (a, refl, e)
 then_inv (Err f) go y e = cc
 
-check_inv : {B : Type 0} (b : Bool) (f : Flaw) (at : ℕ) (go : Unit {0} → Result B Refusal) (y : B) → (check b f at >>= go) ≡ Ok y → (b ≡ true) × (go tt ≡ Ok y)
+check_inv : {B : Type 0} (b : Bool) (f : Flaw) (at : ℕ) (go : Unit {0} → Result B Refusal) (y : B) → (check b (refusal f at) >>= go) ≡ Ok y → (b ≡ true) × (go tt ≡ Ok y)
 check_inv true f at go y e = (refl, e)
 check_inv false f at go y e = cc
 
-found_inv : {A B : Type 0} (o : Option A) (f : Flaw) (at : ℕ) (go : A → Result B Refusal) (y : B) → (found o f at >>= go) ≡ Ok y → (x : A) × (o ≡ Some x) × (go x ≡ Ok y)
+found_inv : {A B : Type 0} (o : Option A) (f : Flaw) (at : ℕ) (go : A → Result B Refusal) (y : B) → (found o (refusal f at) >>= go) ≡ Ok y → (x : A) × (o ≡ Some x) × (go x ≡ Ok y)
 found_inv (Some x) f at go y e = (x, refl, e)
 found_inv None f at go y e = cc
 
@@ -83,7 +85,7 @@ pub record Gives (u : Content) (p : Population) (context : ℕ) (vs : List Value
 feature_in : (p : Population) (o f : ℕ) → IsConsistent p → o < length p.objects → is_single (feature_at p.model f).upper ≡ true → is_in p (feature_value (feature_at p.model f) (values_of p o f)) (feature_kind (feature_at p.model f)) ≡ true
 feature_in p o f consistent there single = rw single (by_role (is_attribute (feature_at p.model f).role) refl)
   where
-    by_role : (b : Bool) → is_attribute (feature_at p.model f).role ≡ b → is_in p (single_value (values_of p o f)) (kind.Single (element_kind (feature_at p.model f).element)) ≡ true
+    by_role : (b : Bool) → is_attribute (feature_at p.model f).role ≡ b → is_in p (single_value (values_of p o f)) (kind.Scalar (element_kind (feature_at p.model f).element)) ≡ true
     by_role true e = attribute_in p (feature_at p.model f).element (values_of p o f) (consistent.typed o f there e)
     by_role false e = end_in p (feature_at p.model f).element (values_of p o f) (consistent.joined o f there e)
 
@@ -103,10 +105,10 @@ two_there p a b (w ∷ os) h = by_rest os (and_parts (is_in p w a) (are_in p (b 
 reads : (p : Population) (c f : ℕ) (v : Value) → IsConsistent p → belongs p.model c f ≡ true → is_single (feature_at p.model f).upper ≡ true → is_in p v (object_of c) ≡ true → (r : Value) × (read_from p f v ≡ Some r) × (is_in p r (feature_kind (feature_at p.model f)) ≡ true)
 reads p c f value.Invalid consistent belonging single h = (value.Invalid, refl, refl)
 reads p c f value.Null consistent belonging single h = (value.Invalid, refl, refl)
-reads p c f (value.Plain (scalar.Object x)) consistent belonging single h =
+reads p c f (value.Single (scalar.Object x)) consistent belonging single h =
     let there = ltb-true x (length p.objects) (and_parts (nat_lt x (length p.objects)) (conforms p.model (class_of p x) c) h).0 in
     let conforming = (and_parts (nat_lt x (length p.objects)) (conforms p.model (class_of p x) c) h).1 in
-    let its = conforms-trans p.model (class_of p x) c (feature_at p.model f).owner conforming belonging in
+    let its = conforms_along p.model (class_of p x) c (feature_at p.model f).owner conforming belonging in
     (feature_value (feature_at p.model f) (values_of p x f), rw its refl, feature_in p x f consistent there single)
 reads p c f v consistent belonging single h = cc
 
@@ -119,7 +121,7 @@ performed_so s vs i os ws v t are r =
 -- what an accepted instruction gives for operands in their kinds
 module _ (u : Content) (p : Population) (context o : ℕ) (consistent : IsConsistent p) (there : o < length p.objects) (inside : conforms p.model (class_of p o) context ≡ true) where
   abbrev pub variables : List Value
-  variables = value.Plain (scalar.Object o) ∷ []
+  variables = value.Single (scalar.Object o) ∷ []
 
   by_name : (a : ℕ) (os : List Value) (n : Option Named) (ws : List Kind) → named_at p.model u a ≡ n → holder_of n ≡ Some ws → are_in p ws os ≡ true → names_single p.model n ≡ true → (r : Value) × ((v : Value) × (rest : List Value) × (os ≡ v ∷ rest) × (read_named p n v ≡ Some r)) × (is_in p r (kind_read p.model n) ≡ true)
   by_name a os (Some (named.Feature c f)) ws is h are single =
@@ -132,9 +134,9 @@ module _ (u : Content) (p : Population) (context o : ℕ) (consistent : IsConsis
 
   gives_value : (i : Instr) (os : List Value) (ws : List Kind) → takes p.model u i ≡ Some ws → are_in p ws os ≡ true → is_supported p.model u i ≡ true → Gives u p context variables i os
   gives_value instrs.SelfObject os ws t are supported =
-      record { value = value.Plain (scalar.Object o); result_is = refl; in_kind = and_from (nat_lt o (length p.objects)) (conforms p.model (class_of p o) context) (lt-ltb o (length p.objects) there) inside }
-  gives_value (instrs.Int n) os ws t are supported = record { value = value.Plain (scalar.Int n); result_is = refl; in_kind = refl }
-  gives_value (instrs.Bool b) os ws t are supported = record { value = value.Plain (scalar.Bool b); result_is = refl; in_kind = refl }
+      record { value = value.Single (scalar.Object o); result_is = refl; in_kind = and_from (nat_lt o (length p.objects)) (conforms p.model (class_of p o) context) (lt-ltb o (length p.objects) there) inside }
+  gives_value (instrs.Int n) os ws t are supported = record { value = value.Single (scalar.Int n); result_is = refl; in_kind = refl }
+  gives_value (instrs.Bool b) os ws t are supported = record { value = value.Single (scalar.Bool b); result_is = refl; in_kind = refl }
   gives_value instrs.Null os ws t are supported = record { value = value.Null; result_is = refl; in_kind = refl }
   gives_value (instrs.Attr a) os ws t are supported =
       let r = by_name a.0 os (named_at p.model u a.0) ws refl t are supported in
@@ -155,6 +157,7 @@ module _ (u : Content) (p : Population) (context o : ℕ) (consistent : IsConsis
       let same : truth ∷ truth ∷ [] ≡ ws = cc in
       let operands = two_there p truth truth os (subst (λ (l : List Kind). are_in p l os ≡ true) (sym same) are) in
       record { value = conjunction operands.1 operands.0; result_is = ap (result_of (setting_of u p) variables instrs.And) operands.3; in_kind = conjunction_in p operands.1 operands.0 }
+  gives_value i os ws t are supported = cc
 
   -- a sequence that is accepted with these operands
   pub record Going (t : Tree) (os : List Value) : Type 0 where
@@ -244,19 +247,19 @@ module _ (u : Content) (p : Population) (context o : ℕ) (consistent : IsConsis
 
 -- ---- rules
 
-accepted_from : (m : Model) (u : Content) (n : ℕ) (rs : List RuleContent) (r : ℕ) → first_fault_from m u n rs ≡ None → r < length rs → rule_judged m u (get_or rs r no_rule) ≡ Ok tt
+accepted_from : (m : Model) (u : Content) (n : ℕ) (rs : List RuleContent) (r : ℕ) → first_fault_from m u n rs ≡ None → r < length rs → rule_checks m u (get_or rs r no_rule) ≡ Ok tt
 accepted_from m u n [] r e lt = absurd (omega arith)
-accepted_from m u n (x ∷ rs) r e lt = by_result (rule_judged m u x) refl e (λ k later less. accepted_from m u (n + 1) rs k later less)
+accepted_from m u n (x ∷ rs) r e lt = by_result (rule_checks m u x) refl e (λ k later less. accepted_from m u (n + 1) rs k later less)
   where
-    at_place : (r : ℕ) → r < length (x ∷ rs) → rule_judged m u x ≡ Ok tt → ((k : ℕ) → k < length rs → rule_judged m u (get_or rs k no_rule) ≡ Ok tt) → rule_judged m u (get_or (x ∷ rs) r no_rule) ≡ Ok tt
+    at_place : (r : ℕ) → r < length (x ∷ rs) → rule_checks m u x ≡ Ok tt → ((k : ℕ) → k < length rs → rule_checks m u (get_or rs k no_rule) ≡ Ok tt) → rule_checks m u (get_or (x ∷ rs) r no_rule) ≡ Ok tt
     at_place zero lt h others = h
     at_place (suc r) lt h others = others r (omega arith)
 
-    by_result : (j : Result (Unit {0}) Refusal) → rule_judged m u x ≡ j → first_of n j (first_fault_from m u (n + 1) rs) ≡ None → ((k : ℕ) → first_fault_from m u (n + 1) rs ≡ None → k < length rs → rule_judged m u (get_or rs k no_rule) ≡ Ok tt) → rule_judged m u (get_or (x ∷ rs) r no_rule) ≡ Ok tt
+    by_result : (j : Result (Unit {0}) Refusal) → rule_checks m u x ≡ j → first_of n j (first_fault_from m u (n + 1) rs) ≡ None → ((k : ℕ) → first_fault_from m u (n + 1) rs ≡ None → k < length rs → rule_checks m u (get_or rs k no_rule) ≡ Ok tt) → rule_checks m u (get_or (x ∷ rs) r no_rule) ≡ Ok tt
     by_result (Ok tt) is e go = at_place r lt is (λ k less. go k e less)
     by_result (Err refusal) is e go = cc
 
-pub rule_accepted : (m : Model) (u : Content) (r : ℕ) → IsAccepted m u → r < length u.rules → rule_judged m u (rule_at u r) ≡ Ok tt
+pub rule_accepted : (m : Model) (u : Content) (r : ℕ) → IsAccepted m u → r < length u.rules → rule_checks m u (rule_at u r) ≡ Ok tt
 rule_accepted m u r a lt = accepted_from m u 0 u.rules r a lt
 
 -- a rule with its context class
@@ -267,13 +270,13 @@ pub record Judged (m : Model) (u : Content) (x : RuleContent) : Type 0 where
   pub kinds_are : kinds (scope m u context) (tree_of x.code) 0 [] ≡ Ok after
   pub ends : is_one_truth m after ≡ true
 
-pub judged_inv : (m : Model) (u : Content) (x : RuleContent) → rule_judged m u x ≡ Ok tt → Judged m u x
+pub judged_inv : (m : Model) (u : Content) (x : RuleContent) → rule_checks m u x ≡ Ok tt → Judged m u x
 judged_inv m u x e =
-    let a = found_inv (context_of m u x) flaws.NoSuchName 0 (λ c. judged (scope m u c) (tree_of x.code)) tt e in
-    let b = then_inv (kinds (scope m u a.0) (tree_of x.code) 0 []) (λ ks. check (is_one_truth m ks) flaws.LeftOver (size (tree_of x.code))) tt a.2 in
+    let a = found_inv (context_of m u x) flaws.NoSuchName 0 (λ c. code_checks (scope m u c) (tree_of x.code)) tt e in
+    let b = then_inv (kinds (scope m u a.0) (tree_of x.code) 0 []) (λ ks. check (is_one_truth m ks) (refusal flaws.LeftOver (size (tree_of x.code)))) tt a.2 in
     record { context = a.0; context_is = a.1; after = b.0; kinds_are = b.1; ends = passes (is_one_truth m b.0) b.2 }
   where
-    passes : (b : Bool) → check b flaws.LeftOver (size (tree_of x.code)) ≡ Ok tt → b ≡ true
+    passes : (b : Bool) → check b (refusal flaws.LeftOver (size (tree_of x.code))) ≡ Ok tt → b ≡ true
     passes true e = refl
     passes false e = cc
 
@@ -314,4 +317,4 @@ ends_within u p r o t =
     let end = reaches_end u p k.context o t.consistent t.object k.inside (tree_of code) [] g in
     let many = size-tree_of code in
     let verdict = ap outcome (ap (λ (n : ℕ). ended_by n (setting_of u p) (start_of u r o)) (sym many) ∙ end.ended) in
-    (size (tree_of code), configuration [] (value.Plain (scalar.Object o) ∷ []) (end.value ∷ []), omega (arith, many), end.runs, refl, sym verdict)
+    (size (tree_of code), configuration [] (value.Single (scalar.Object o) ∷ []) (end.value ∷ []), omega (arith, many), end.runs, refl, sym verdict)

@@ -10,7 +10,7 @@ use Rattle.imkl_population.specs.Population.{Population, class_of, values_of}
 use Rattle.imkl_model.specs.Features.{is_single}
 use Rattle.rule_code.specs.declared.instruction.Instr.{Instr}
 use Rattle.rule_code.specs.Content.{Content}
-use Rattle.ocl_check.specs.declared.verify.kind.Kind.{Kind}
+use Rattle.ocl_kinds.specs.declared.kind.Kind.{Kind}
 use Rattle.ocl_check.specs.declared.machine.value.Value.{Value as Held}
 use Rattle.ocl_check.specs.CodeTree.{Tree, End, Plain, size, tree_of}
 use Rattle.ocl_check.specs.Kinds.{takes, rule_at, effect, kinds, scope}
@@ -21,7 +21,7 @@ use Rattle.ocl_check.specs.Machine.{Configuration, are_in, read_from, performed}
 use Rattle.ocl_check.specs.Verdict.{verdict_of, ended_by, next_or, outcome, verdict_at}
 use Rattle.ocl_check.specs.Laws.{IsTask, setting_of, start_of}
 use Rattle.ocl_check.specs.Shown.{meant, all_meant, IsHolder, CanPerform}
-use Rattle.ocl_check.proofs.Conformance.{conforms-trans}
+use Rattle.imkl_model.proofs.ForAbove.{conforms_along}
 use Rattle.ocl_check.proofs.InKinds.{fit_in}
 use Rattle.ocl_check.proofs.Runs.{effect_inv, then_inv, Going, goes, one_operand, at_tree, one_step, Task, task_of, size-tree_of}
 
@@ -79,7 +79,7 @@ module _ (u : Content) (p : Population) (r o : ℕ) (code : List Instr) (at : �
       let e = effect_inv (scope p.model u s.context) i g.place g.before a.0 a.1 in
       record { taken = e.taken; takes_is = e.takes_is; are = fit_in p e.taken os g.before e.fitting g.all_in; supported = e.supported }
 
-  pub stands_on : (new : List Value) → performed (setting_of u p) (value.Plain (scalar.Object o) ∷ []) i os ≡ Some new → Standing u p r o code (at + 1) new
+  pub stands_on : (new : List Value) → performed (setting_of u p) (value.Single (scalar.Object o) ∷ []) i os ≡ Some new → Standing u p r o code (at + 1) new
   stands_on new done =
       let gone = goes u p s.context o s.task.consistent s.task.object s.inside i (tree_of (drop (at + 1) code)) os going_at in
       let same : gone.operands ≡ new = same_Some gone.operands new (sym gone.performed_is ∙ done) in
@@ -108,13 +108,13 @@ stands_last u p r o code at os s le =
 -- ---- reading a feature
 
 -- an object among what may hold a feature is there, and the feature belongs to its class
-pub holder_there : (p : Population) (f o : ℕ) → IsHolder p f (value.Plain (scalar.Object o)) → (o < length p.objects) × (belongs p.model (class_of p o) f ≡ true)
+pub holder_there : (p : Population) (f o : ℕ) → IsHolder p f (value.Single (scalar.Object o)) → (o < length p.objects) × (belongs p.model (class_of p o) f ≡ true)
 holder_there p f o h =
     let there = ltb-true o (length p.objects) (and_parts (nat_lt o (length p.objects)) (conforms p.model (class_of p o) h.0) h.1).0 in
     let conforming = (and_parts (nat_lt o (length p.objects)) (conforms p.model (class_of p o) h.0) h.1).1 in
-    (there, conforms-trans p.model (class_of p o) h.0 (feature_at p.model f).owner conforming h.2)
+    (there, conforms_along p.model (class_of p o) h.0 (feature_at p.model f).owner conforming h.2)
 
-pub read_object : (p : Population) (f o : ℕ) (r : Value) → belongs p.model (class_of p o) f ≡ true → is_single (feature_at p.model f).upper ≡ true → r ≡ single_value (values_of p o f) → read_from p f (value.Plain (scalar.Object o)) ≡ Some r
+pub read_object : (p : Population) (f o : ℕ) (r : Value) → belongs p.model (class_of p o) f ≡ true → is_single (feature_at p.model f).upper ≡ true → r ≡ single_value (values_of p o f) → read_from p f (value.Single (scalar.Object o)) ≡ Some r
 read_object p f o r belonging single e =
     let info = feature_at p.model f in
     ap (λ (b : Bool). if b then Some (feature_value info (values_of p o f)) else None) belonging

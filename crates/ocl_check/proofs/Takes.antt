@@ -2,9 +2,10 @@
 use Rattle.std.proofs.Common.{◌≡◌, ℕ, zero, suc, ◌+◌, ◌-◌, ◌<◌, ◌≤◌, true, false, ◌&&◌, List, [], ◌∷◌, length, get_or, drop, refl, sym, ap, ◌∙◌, subst, arith}
 use Rattle.std.proofs.lemmas.List.{drop_more, drop_all}
 use Rattle.imkl_model.specs.ClassModel.{Model}
-use Rattle.ocl_check.specs.declared.verify.kind.Kind.{Kind}
-use Rattle.ocl_check.specs.Kinds.{fits, has, fit, past}
-use Rattle.ocl_check.specs.Known.{IsKnownKind, AreKnownKinds}
+use Rattle.ocl_kinds.specs.declared.kind.Kind.{Kind}
+use Rattle.ocl_check.specs.Kinds.{has, fit, past}
+use Rattle.ocl_kinds.specs.Kinds.{fits, IsKindOf}
+use Rattle.rule_verify.specs.Known.{AreKnownKinds}
 
 pub has_not : (ws ks : List Kind) (n m : ℕ) → n ≡ length ks → m ≡ length ws → n < m → has ws ks ≡ false
 has_not [] ks n m e f lt = absurd (omega arith)
@@ -27,12 +28,12 @@ pub record Taking (m : Model) (ws old : List Kind) (i : ℕ) (ks : List Kind) : 
 pub begins : (m : Model) (ws ks : List Kind) (n : ℕ) → AreKnownKinds m ks → n ≡ length ks → length ws ≤ n → Taking m ws ks 0 ks
 begins m ws ks n known e le = let h = has_all ws ks (omega arith) in record { all_there = h; there = h; fit_is = refl; past_is = refl; known = known }
 
-pub top_known : (m : Model) (ks : List Kind) (k : Kind) (rest : List Kind) → ks ≡ k ∷ rest → AreKnownKinds m ks → IsKnownKind m k × AreKnownKinds m rest
+pub top_known : (m : Model) (ks : List Kind) (k : Kind) (rest : List Kind) → ks ≡ k ∷ rest → AreKnownKinds m ks → IsKindOf m k × AreKnownKinds m rest
 top_known m ks k rest e h = let P : List Kind → Type 0 = λ l. AreKnownKinds m l in subst P e h
 
-pub known_at : (m : Model) (ws : List Kind) (i : ℕ) (w : Kind) → AreKnownKinds m ws → i < length ws → w ≡ get_or ws i w → IsKnownKind m w
+pub known_at : (m : Model) (ws : List Kind) (i : ℕ) (w : Kind) → AreKnownKinds m ws → i < length ws → w ≡ get_or ws i w → IsKindOf m w
 known_at m [] i w h lt e = absurd (omega arith)
-known_at m (v ∷ ws) zero w h lt e = subst (IsKnownKind m) (sym e) h.0
+known_at m (v ∷ ws) zero w h lt e = subst (IsKindOf m) (sym e) h.0
 known_at m (v ∷ ws) (suc i) w h lt e = known_at m ws i w h.1 (omega arith) e
 
 pub one_more : (m : Model) (ws old : List Kind) (i : ℕ) (ks : List Kind) (d k : Kind) (rest : List Kind) → Taking m ws old i ks → i < length ws → ks ≡ k ∷ rest → fits m k (get_or ws i d) ≡ true → Taking m ws old (i + 1) rest

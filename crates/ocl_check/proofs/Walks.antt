@@ -5,16 +5,17 @@ use Rattle.std.proofs.lemmas.List.{drop_more, drop_all}
 use Rattle.std.proofs.lemmas.Option.{get_or_from_slice_get}
 use Rattle.rule_code.specs.declared.instruction.Instr.{Instr}
 use Rattle.rule_code.specs.Content.{Content, RuleContent}
-use Rattle.ocl_check.specs.declared.verify.kind.Kind.{Kind}
-use Rattle.ocl_check.specs.declared.verify.fault.Flaw.{Flaw}
-use Rattle.ocl_check.specs.declared.verify.fault.Flaw.TheVariants as flaws
-use Rattle.ocl_check.specs.declared.verify.fault.Stop.{Stop}
-use Rattle.ocl_check.specs.declared.verify.fault.Stop.TheVariants as stops
+use Rattle.ocl_kinds.specs.declared.kind.Kind.{Kind}
+use Rattle.rule_verify.specs.declared.fault.Flaw.{Flaw}
+use Rattle.rule_verify.specs.declared.fault.Flaw.TheVariants as flaws
+use Rattle.ocl_check.specs.declared.verify.stop.Stop.{Stop}
+use Rattle.ocl_check.specs.declared.verify.stop.Stop.TheVariants as stops
 use Rattle.ocl_check.specs.CodeTree.{size, tree_of}
-use Rattle.ocl_check.specs.Symbols.{named_at}
-use Rattle.ocl_check.specs.Linked.{LinkedUnit}
-use Rattle.ocl_check.specs.Kinds.{Refusal, ◌>>=◌, refuse, check, found, scope, effect, kinds, judged, is_one_truth, class_in, context_of, rule_judged, rule_at, no_rule, first_of, first_fault_from, first_fault, IsAccepted}
-use Rattle.ocl_check.specs.Known.{AreKnownKinds}
+use Rattle.rule_verify.specs.Symbols.{named_at, class_in}
+use Rattle.rule_verify.specs.Linked.{LinkedUnit}
+use Rattle.ocl_base.specs.Steps.{◌>>=◌, check, found}
+use Rattle.ocl_check.specs.Kinds.{Refusal, refusal, scope, effect, kinds, code_checks, is_one_truth, context_of, rule_checks, rule_at, no_rule, first_of, first_fault_from, first_fault, IsAccepted}
+use Rattle.rule_verify.specs.Known.{AreKnownKinds}
 use Rattle.ocl_check.specs.Walk.{Comes, RuleAnswers, stopped_at}
 use Rattle.ocl_check.proofs.Runs.{size-tree_of, rule_accepted}
 
@@ -37,7 +38,7 @@ module _ (v : LinkedUnit) (context : ℕ) (code : List Instr) (at : ℕ) (ks : L
   walk_on i new lt is comes known =
       record { so_far = sym (first i lt is ∙ ap (λ (r : Result (List Kind) Refusal). r >>= kinds (scope v.model v.unit context) (tree_of (drop (at + 1) code)) (at + 1)) (comes at)); known = known }
 
-  pub walk_stops : (i : Instr) (new : List Kind) (flaw : Flaw) → at < length code → get_or code at i ≡ i → Comes (λ a. effect (scope v.model v.unit context) i a ks) (Err (stops.Wrong flaw)) new → kinds (scope v.model v.unit context) (tree_of code) 0 [] ≡ refuse flaw at
+  pub walk_stops : (i : Instr) (new : List Kind) (flaw : Flaw) → at < length code → get_or code at i ≡ i → Comes (λ a. effect (scope v.model v.unit context) i a ks) (Err (stops.Wrong flaw)) new → kinds (scope v.model v.unit context) (tree_of code) 0 [] ≡ Err (refusal flaw at)
   walk_stops i new flaw lt is comes =
       first i lt is ∙ ap (λ (r : Result (List Kind) Refusal). r >>= kinds (scope v.model v.unit context) (tree_of (drop (at + 1) code)) (at + 1)) (comes at)
 
@@ -47,7 +48,7 @@ module _ (v : LinkedUnit) (context : ℕ) (code : List Instr) (at : ℕ) (ks : L
 -- ---- a rule
 
 abbrev pub ends_well : (v : LinkedUnit) → RuleContent → List Kind → Result (Unit {0}) Refusal
-ends_well v x ks = check (is_one_truth v.model ks) flaws.LeftOver (size (tree_of x.code))
+ends_well v x ks = check (is_one_truth v.model ks) (refusal flaws.LeftOver (size (tree_of x.code)))
 
 -- a rule of the unit at a place
 pub record IsRule (v : LinkedUnit) (place : ℕ) (x : RuleContent) : Type 0 where
@@ -59,25 +60,25 @@ pub rule_is : (v : LinkedUnit) (place : ℕ) (x : RuleContent) → IsRule v plac
 rule_is v place x r = ap (λ (u : Content). rule_at u place) (sym r.same) ∙ get_or_from_slice_get r.u.rules place x no_rule r.is
 
 module _ (v : LinkedUnit) (place : ℕ) (x : RuleContent) (r : IsRule v place x) where
-  pub no_context : class_in (named_at v.model v.unit x.context) ≡ None → rule_judged v.model v.unit (rule_at v.unit place) ≡ refuse flaws.NoSuchName 0
+  pub no_context : class_in (named_at v.model v.unit x.context) ≡ None → rule_checks v.model v.unit (rule_at v.unit place) ≡ Err (refusal flaws.NoSuchName 0)
   no_context e =
-      ap (rule_judged v.model v.unit) (rule_is v place x r)
-      ∙ ap (λ (o : Option ℕ). found o flaws.NoSuchName 0 >>= (λ c. judged (scope v.model v.unit c) (tree_of x.code))) e
+      ap (rule_checks v.model v.unit) (rule_is v place x r)
+      ∙ ap (λ (o : Option ℕ). found o (refusal flaws.NoSuchName 0) >>= (λ c. code_checks (scope v.model v.unit c) (tree_of x.code))) e
 
-  in_context : (context : ℕ) → class_in (named_at v.model v.unit x.context) ≡ Some context → rule_judged v.model v.unit (rule_at v.unit place) ≡ (kinds (scope v.model v.unit context) (tree_of x.code) 0 [] >>= ends_well v x)
+  in_context : (context : ℕ) → class_in (named_at v.model v.unit x.context) ≡ Some context → rule_checks v.model v.unit (rule_at v.unit place) ≡ (kinds (scope v.model v.unit context) (tree_of x.code) 0 [] >>= ends_well v x)
   in_context context e =
-      ap (rule_judged v.model v.unit) (rule_is v place x r)
-      ∙ ap (λ (o : Option ℕ). found o flaws.NoSuchName 0 >>= (λ c. judged (scope v.model v.unit c) (tree_of x.code))) e
+      ap (rule_checks v.model v.unit) (rule_is v place x r)
+      ∙ ap (λ (o : Option ℕ). found o (refusal flaws.NoSuchName 0) >>= (λ c. code_checks (scope v.model v.unit c) (tree_of x.code))) e
 
-  pub rule_stops : (context : ℕ) (flaw : Flaw) (at : ℕ) → class_in (named_at v.model v.unit x.context) ≡ Some context → kinds (scope v.model v.unit context) (tree_of x.code) 0 [] ≡ refuse flaw at → rule_judged v.model v.unit (rule_at v.unit place) ≡ refuse flaw at
+  pub rule_stops : (context : ℕ) (flaw : Flaw) (at : ℕ) → class_in (named_at v.model v.unit x.context) ≡ Some context → kinds (scope v.model v.unit context) (tree_of x.code) 0 [] ≡ Err (refusal flaw at) → rule_checks v.model v.unit (rule_at v.unit place) ≡ Err (refusal flaw at)
   rule_stops context flaw at e k = in_context context e ∙ ap (λ (q : Result (List Kind) Refusal). q >>= ends_well v x) k
 
-  pub rule_ends : (context : ℕ) (ks : List Kind) (b : Bool) → class_in (named_at v.model v.unit x.context) ≡ Some context → kinds (scope v.model v.unit context) (tree_of x.code) 0 [] ≡ Ok ks → is_one_truth v.model ks ≡ b → rule_judged v.model v.unit (rule_at v.unit place) ≡ check b flaws.LeftOver (length x.code)
+  pub rule_ends : (context : ℕ) (ks : List Kind) (b : Bool) → class_in (named_at v.model v.unit x.context) ≡ Some context → kinds (scope v.model v.unit context) (tree_of x.code) 0 [] ≡ Ok ks → is_one_truth v.model ks ≡ b → rule_checks v.model v.unit (rule_at v.unit place) ≡ check b (refusal flaws.LeftOver (length x.code))
   rule_ends context ks b e k t =
       in_context context e
       ∙ ap (λ (q : Result (List Kind) Refusal). q >>= ends_well v x) k
-      ∙ ap (λ (c : Bool). check c flaws.LeftOver (size (tree_of x.code))) t
-      ∙ ap (check b flaws.LeftOver) (size-tree_of x.code)
+      ∙ ap (λ (c : Bool). check c (refusal flaws.LeftOver (size (tree_of x.code)))) t
+      ∙ ap (λ (n : ℕ). check b (refusal flaws.LeftOver n)) (size-tree_of x.code)
 
 -- a rule is answered where the walk over its code stops
 pub stops_rule : (v : LinkedUnit) (place : ℕ) (x : RuleContent) (context at : ℕ) (ks : List Kind) (i : Instr) (new : List Kind) (stop : Stop) → IsRule v place x → class_in (named_at v.model v.unit x.context) ≡ Some context → Walked v context x.code at ks → at < length x.code → get_or x.code at i ≡ i → Comes (λ a. effect (scope v.model v.unit context) i a ks) (Err stop) new → RuleAnswers v.model v.unit place (Err (stopped_at stop place at))
@@ -85,7 +86,7 @@ stops_rule v place x context at ks i new (stops.Wrong flaw) r e w lt is comes = 
 stops_rule v place x context at ks i new stops.Memory r e w lt is comes = tt
 
 -- and where it ends
-pub ends_rule : (v : LinkedUnit) (place : ℕ) (x : RuleContent) (context at : ℕ) (ks : List Kind) (b : Bool) → IsRule v place x → class_in (named_at v.model v.unit x.context) ≡ Some context → Walked v context x.code at ks → length x.code ≤ at → is_one_truth v.model ks ≡ b → rule_judged v.model v.unit (rule_at v.unit place) ≡ check b flaws.LeftOver (length x.code)
+pub ends_rule : (v : LinkedUnit) (place : ℕ) (x : RuleContent) (context at : ℕ) (ks : List Kind) (b : Bool) → IsRule v place x → class_in (named_at v.model v.unit x.context) ≡ Some context → Walked v context x.code at ks → length x.code ≤ at → is_one_truth v.model ks ≡ b → rule_checks v.model v.unit (rule_at v.unit place) ≡ check b (refusal flaws.LeftOver (length x.code))
 ends_rule v place x context at ks b r e w le t = rule_ends v place x r context ks b e (walk_ends v context x.code at ks w le) t
 
 -- ---- the rules of a unit
@@ -94,13 +95,13 @@ ends_rule v place x context at ks b r e w le t = rule_ends v place x r context k
 abbrev pub NoneBefore : LinkedUnit → ℕ → Type 0
 NoneBefore v n = first_fault v.model v.unit ≡ first_fault_from v.model v.unit n (drop n v.unit.rules)
 
-fault_first : (v : LinkedUnit) (n : ℕ) → NoneBefore v n → n < length v.unit.rules → first_fault v.model v.unit ≡ first_of n (rule_judged v.model v.unit (rule_at v.unit n)) (first_fault_from v.model v.unit (n + 1) (drop (n + 1) v.unit.rules))
+fault_first : (v : LinkedUnit) (n : ℕ) → NoneBefore v n → n < length v.unit.rules → first_fault v.model v.unit ≡ first_of n (rule_checks v.model v.unit (rule_at v.unit n)) (first_fault_from v.model v.unit (n + 1) (drop (n + 1) v.unit.rules))
 fault_first v n h lt = h ∙ ap (first_fault_from v.model v.unit n) (drop_more v.unit.rules n no_rule lt)
 
-pub one_rule_more : (v : LinkedUnit) (n : ℕ) → NoneBefore v n → n < length v.unit.rules → rule_judged v.model v.unit (rule_at v.unit n) ≡ Ok tt → NoneBefore v (n + 1)
+pub one_rule_more : (v : LinkedUnit) (n : ℕ) → NoneBefore v n → n < length v.unit.rules → rule_checks v.model v.unit (rule_at v.unit n) ≡ Ok tt → NoneBefore v (n + 1)
 one_rule_more v n h lt e = fault_first v n h lt ∙ ap (λ (r : Result (Unit {0}) Refusal). first_of n r (first_fault_from v.model v.unit (n + 1) (drop (n + 1) v.unit.rules))) e
 
-pub fault_here : (v : LinkedUnit) (n : ℕ) (flaw : Flaw) (at : ℕ) → NoneBefore v n → n < length v.unit.rules → rule_judged v.model v.unit (rule_at v.unit n) ≡ refuse flaw at → first_fault v.model v.unit ≡ Some (record { flaw = flaw; rule = n; at = at })
+pub fault_here : (v : LinkedUnit) (n : ℕ) (flaw : Flaw) (at : ℕ) → NoneBefore v n → n < length v.unit.rules → rule_checks v.model v.unit (rule_at v.unit n) ≡ Err (refusal flaw at) → first_fault v.model v.unit ≡ Some (record { flaw = flaw; rule = n; at = at })
 fault_here v n flaw at h lt e = fault_first v n h lt ∙ ap (λ (r : Result (Unit {0}) Refusal). first_of n r (first_fault_from v.model v.unit (n + 1) (drop (n + 1) v.unit.rules))) e
 
 pub no_fault : (v : LinkedUnit) (n : ℕ) → NoneBefore v n → length v.unit.rules ≤ n → first_fault v.model v.unit ≡ None
@@ -118,5 +119,5 @@ has_context v place x r a lt e =
     let fine = rule_accepted v.model v.unit place a lt in
     differ (sym fine ∙ refused)
   where
-    differ : ◌≡◌ {A = Result (Unit {0}) Refusal} (Ok tt) (refuse flaws.NoSuchName 0) → ⊥
+    differ : ◌≡◌ {A = Result (Unit {0}) Refusal} (Ok tt) (Err (refusal flaws.NoSuchName 0)) → ⊥
     differ e = cc

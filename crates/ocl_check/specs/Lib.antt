@@ -1,9 +1,7 @@
+-- Definitions: what contracts mean.
 pub mod Sink
-pub mod FaultNumber
+pub mod Input
 pub mod CodeTree
-pub mod Symbols
-pub mod Linked
-pub mod Known
 pub mod Supported
 pub mod Kinds
 pub mod Value
@@ -11,9 +9,11 @@ pub mod Operations
 pub mod Machine
 pub mod Verdict
 pub mod Laws
-pub mod Walk
 pub mod Verifying
-pub mod Shown
 pub mod Report
 pub mod Reply
 pub mod Answers
+pub mod Judge
+-- Bookkeeping: views, layouts, walks and tables that only proofs and private contracts use.
+pub mod Walk
+pub mod Shown

@@ -7,11 +7,11 @@ use Rattle.imkl_population.specs.Population.{Population, class_of, values_of}
 use Rattle.rule_code.specs.declared.instruction.Instr.{Instr}
 use Rattle.rule_code.specs.declared.instruction.Instr.TheVariants as instrs
 use Rattle.rule_code.specs.Content.{Content}
-use Rattle.ocl_check.specs.declared.verify.kind.Kind.{Kind}
-use Rattle.ocl_check.specs.declared.verify.named.Named.{Named}
-use Rattle.ocl_check.specs.declared.verify.named.Named.TheVariants as named
+use Rattle.ocl_kinds.specs.declared.kind.Kind.{Kind}
+use Rattle.rule_verify.specs.declared.named.Named.{Named}
+use Rattle.rule_verify.specs.declared.named.Named.TheVariants as named
 use Rattle.ocl_check.specs.CodeTree.{Tree, End, Plain}
-use Rattle.ocl_check.specs.Symbols.{named_at}
+use Rattle.rule_verify.specs.Symbols.{named_at}
 use Rattle.ocl_check.specs.Kinds.{takes, past}
 use Rattle.ocl_check.specs.Value as value
 use Rattle.ocl_check.specs.Value.{Value, is_in, truth_value}
@@ -54,7 +54,7 @@ are_in p (w ∷ ws) (o ∷ os) = is_in p o w && are_in p ws os
 
 -- the value of a feature that belongs to an object's class; of null and invalid it is invalid
 abbrev pub read_from : Population → ℕ → Value → Option Value
-read_from p f (value.Plain (scalar.Object o)) =
+read_from p f (value.Single (scalar.Object o)) =
     if belongs p.model (class_of p o) f then Some (feature_value (feature_at p.model f) (values_of p o f)) else None
 read_from p f value.Null = Some value.Invalid
 read_from p f value.Invalid = Some value.Invalid
@@ -67,7 +67,7 @@ read_named p n v = None
 -- what an instruction makes of its operands, the topmost first
 abbrev pub result_of : Setting → List Value → Instr → List Value → Option Value
 result_of s vs instrs.SelfObject os = variable vs 0
-result_of s vs (instrs.Int n) os = Some (value.Plain (scalar.Int n))
+result_of s vs (instrs.Int n) os = Some (value.Single (scalar.Int n))
 result_of s vs (instrs.Bool b) os = Some (truth_value b)
 result_of s vs instrs.Null os = Some value.Null
 result_of s vs (instrs.Attr a) (v ∷ os) = read_named s.population (named_at s.model s.unit a.0) v
@@ -108,4 +108,4 @@ is_final c = has_ended c.pending c.operands
 
 -- a tree is pending, variable 0 is the object, there are no operands
 abbrev pub start : Tree → ℕ → Configuration
-start t o = configuration (Sequence t ∷ []) (value.Plain (scalar.Object o) ∷ []) []
+start t o = configuration (Sequence t ∷ []) (value.Single (scalar.Object o) ∷ []) []

@@ -2,16 +2,16 @@
 use Rattle.std.specs.Prelude.{ℕ, List, [], ◌∷◌, ◌++◌, codes, string_bytes}
 use Rattle.std.specs.Fmt.{decimal}
 use Rattle.imkl_model.specs.declared.fault.ModelFault.{ModelFault}
-use Rattle.imkl_model.specs.Numbers as model
+use Rattle.imkl_model.specs.Faults.{model_fault_number}
 use Rattle.imkl_population.specs.declared.fault.PopulationFault.{PopulationFault}
-use Rattle.imkl_population.specs.Building as population
+use Rattle.imkl_population.specs.Building.{population_fault_number}
 use Rattle.imkl_delivery.specs.declared.fault.DeliveryFault.{DeliveryFault}
 use Rattle.imkl_delivery.specs.declared.fault.DeliveryFault.TheVariants as delivery
-use Rattle.rule_code.specs.CodeFile.{Located}
-use Rattle.rule_code.specs.FaultNumber as code
+use Rattle.rule_code.specs.CodeFile.{CodeFaultAt}
+use Rattle.rule_code.specs.FaultNumber.{code_flaw_number}
 use Rattle.ocl_check.specs.declared.reply.Reply as reply
-use Rattle.ocl_check.specs.Kinds.{Located as Misfit}
-use Rattle.ocl_check.specs.FaultNumber.{flaw_number}
+use Rattle.ocl_check.specs.Kinds.{VerifyFaultAt}
+use Rattle.rule_verify.specs.FaultNumber.{verify_flaw_number}
 
 -- the bytes printed, and the status
 abbrev pub Answer : Type 0
@@ -25,33 +25,33 @@ abbrev pub refused : List ℕ → Answer
 refused line = (line, 2)
 
 abbrev pub refused_model : ModelFault → Answer
-refused_model e = refused (codes "refused model " ++ (decimal (model.fault_number e) ++ 10 ∷ []))
+refused_model e = refused (codes "refused model " ++ (decimal (model_fault_number e) ++ 10 ∷ []))
 
 -- a fault of the whole document, by its number
 abbrev pub delivery_line : ℕ → List ℕ
 delivery_line n = codes "refused delivery " ++ (decimal n ++ 10 ∷ [])
 
 -- a fault at an object
-abbrev pub object_line : ℕ → ℕ → List ℕ
-object_line n o = codes "refused delivery " ++ (decimal n ++ (32 ∷ (decimal o ++ 10 ∷ [])))
+abbrev pub refused_at_object : ℕ → ℕ → List ℕ
+refused_at_object n o = codes "refused delivery " ++ (decimal n ++ (32 ∷ (decimal o ++ 10 ∷ [])))
 
 -- a fault of the population at an object
 abbrev pub population_line : ℕ → PopulationFault → List ℕ
-population_line o e = codes "refused delivery 7 " ++ (decimal o ++ (32 ∷ (decimal (population.fault_number e) ++ 10 ∷ [])))
+population_line o e = codes "refused delivery 7 " ++ (decimal o ++ (32 ∷ (decimal (population_fault_number e) ++ 10 ∷ [])))
 
 abbrev pub refused_delivery : DeliveryFault → Answer
 refused_delivery delivery.NotJson = refused (delivery_line 1)
 refused_delivery delivery.Shape = refused (delivery_line 2)
 refused_delivery delivery.OtherModel = refused (delivery_line 3)
-refused_delivery (delivery.UnknownClass o) = refused (object_line 4 o)
-refused_delivery (delivery.UnknownFeature o) = refused (object_line 5 o)
-refused_delivery (delivery.UnknownTarget o) = refused (object_line 6 o)
+refused_delivery (delivery.UnknownClass o) = refused (refused_at_object 4 o)
+refused_delivery (delivery.UnknownFeature o) = refused (refused_at_object 5 o)
+refused_delivery (delivery.UnknownTarget o) = refused (refused_at_object 6 o)
 refused_delivery (delivery.Population o e) = refused (population_line o e)
 refused_delivery delivery.OutOfMemory = refused (delivery_line 8)
 
-abbrev pub refused_code : Located → Answer
-refused_code l = refused (codes "refused code " ++ (decimal (code.flaw_number l.flaw) ++ (32 ∷ (decimal l.offset ++ 10 ∷ []))))
+abbrev pub refused_code : CodeFaultAt → Answer
+refused_code l = refused (codes "refused code " ++ (decimal (code_flaw_number l.flaw) ++ (32 ∷ (decimal l.offset ++ 10 ∷ []))))
 
-abbrev pub refused_verify : Misfit → Answer
+abbrev pub refused_verify : VerifyFaultAt → Answer
 refused_verify f =
-    refused (codes "refused verify " ++ (decimal (flaw_number f.flaw) ++ (32 ∷ (decimal f.rule ++ (32 ∷ (decimal f.at ++ 10 ∷ []))))))
+    refused (codes "refused verify " ++ (decimal (verify_flaw_number f.flaw) ++ (32 ∷ (decimal f.rule ++ (32 ∷ (decimal f.at ++ 10 ∷ []))))))

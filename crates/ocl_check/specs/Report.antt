@@ -3,7 +3,7 @@ use Rattle.std.specs.Prelude.{ℕ, zero, suc, ◌+◌, Bool, true, false, List, 
 use Rattle.std.specs.List.{flat_map}
 use Rattle.std.specs.Fmt.{decimal}
 use Rattle.imkl_population.specs.Population.{Population, object_at, instances}
-use Rattle.rule_code.specs.Content.{Content, text_of}
+use Rattle.rule_code.specs.Content.{Content, text_at}
 use Rattle.ocl_check.specs.declared.machine.Verdict.{Verdict}
 use Rattle.ocl_check.specs.declared.machine.Verdict.TheVariants.{Holds, Fails, Undecided}
 use Rattle.ocl_check.specs.declared.report.Tally.{Tally}
@@ -24,13 +24,13 @@ verdict_on u p r o = verdict_at u p.model p r o
 abbrev pub verdicts : Content → Population → ℕ → List Verdict
 verdicts u p r = map (verdict_on u p r) (context_objects u p r)
 
--- how many of the verdicts are this one
 abbrev pub is_same : Verdict → Verdict → Bool
 is_same Holds Holds = true
 is_same Fails Fails = true
 is_same Undecided Undecided = true
 is_same v w = false
 
+-- how many of the verdicts are this one
 abbrev pub count : Verdict → List Verdict → ℕ
 count v vs = length (filter (is_same v) vs)
 
@@ -44,7 +44,7 @@ counted t Fails = record { holds = t.holds; fails = suc t.fails; undecided = t.u
 counted t Undecided = record { holds = t.holds; fails = t.fails; undecided = suc t.undecided }
 
 abbrev pub name_of : Content → ℕ → List ℕ
-name_of u r = text_of u.texts (rule_at u r).name
+name_of u r = text_at u.texts (rule_at u r).name
 
 -- the line of an object for which the rule doesn't hold
 abbrev pub line_of : Verdict → List ℕ → List ℕ → List ℕ

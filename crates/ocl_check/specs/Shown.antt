@@ -7,20 +7,20 @@ use Rattle.ocl_check.specs.declared.machine.value.Value.{Value as Held}
 use Rattle.ocl_check.specs.declared.machine.value.Value.TheVariants as held
 use Rattle.rule_code.specs.declared.instruction.Instr.{Instr}
 use Rattle.rule_code.specs.Content.{Content}
-use Rattle.ocl_check.specs.declared.verify.kind.Kind.{Kind}
+use Rattle.ocl_kinds.specs.declared.kind.Kind.{Kind}
 use Rattle.ocl_check.specs.Supported.{is_supported}
 use Rattle.ocl_check.specs.Kinds.{object_of, takes}
-use Rattle.ocl_check.specs.Value.{Value, Invalid, Null, Plain, is_in}
+use Rattle.ocl_check.specs.Value.{Value, Invalid, Null, Single, is_in}
 use Rattle.ocl_check.specs.Machine.{are_in}
 
 abbrev pub meant : Held → Value
 meant held.Invalid = Invalid
 meant held.Null = Null
-meant (held.Bool b) = Plain (scalar.Bool b)
-meant (held.Int n) = Plain (scalar.Int n)
-meant (held.Text t) = Plain (scalar.Text t.now)
-meant (held.Literal e l) = Plain (scalar.Literal e l)
-meant (held.Object o) = Plain (scalar.Object o)
+meant (held.Bool b) = Single (scalar.Bool b)
+meant (held.Int n) = Single (scalar.Int n)
+meant (held.Text t) = Single (scalar.Text t.now)
+meant (held.Literal e l) = Single (scalar.Literal e l)
+meant (held.Object o) = Single (scalar.Object o)
 
 abbrev pub all_meant : List Held → List Value
 all_meant [] = []
@@ -39,4 +39,4 @@ pub record CanPerform (u : Content) (p : Population) (i : Instr) (os : List Valu
 
 -- variable 0 is the object
 abbrev pub object_variable : ℕ → List Value
-object_variable o = Plain (scalar.Object o) ∷ []
+object_variable o = Single (scalar.Object o) ∷ []

@@ -13,6 +13,6 @@ abbrev pub is_failed_write : {E : Type 0} → List ℕ → Result ℕ E → Bool
 is_failed_write bytes (Ok n) = takes_nothing bytes n
 is_failed_write bytes (Err e) = true
 
--- some front of the bytes is written, and nothing else
-abbrev pub WritesFront : Option (List ℕ) → Option (List ℕ) → List ℕ → Type 0
-WritesFront old new bytes = (n : ℕ) × Appends old new (take n bytes)
+-- some prefix of the bytes is written, and nothing else
+abbrev pub WritesPrefix : Option (List ℕ) → Option (List ℕ) → List ℕ → Type 0
+WritesPrefix old new bytes = (n : ℕ) × Appends old new (take n bytes)

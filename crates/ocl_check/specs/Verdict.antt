@@ -8,7 +8,7 @@ use Rattle.ocl_check.specs.declared.machine.Verdict.{Verdict}
 use Rattle.ocl_check.specs.declared.machine.Verdict.TheVariants.{Holds, Fails, Undecided}
 use Rattle.ocl_check.specs.CodeTree.{tree_of}
 use Rattle.ocl_check.specs.Kinds.{rule_at}
-use Rattle.ocl_check.specs.Value.{Value, Plain}
+use Rattle.ocl_check.specs.Value.{Value, Single}
 use Rattle.ocl_check.specs.Machine.{Setting, Configuration, step, is_final, start}
 
 abbrev pub verdict_of_truth : Bool → Verdict
@@ -17,7 +17,7 @@ verdict_of_truth false = Fails
 
 -- true holds, false fails, null and invalid are undecided
 abbrev pub verdict_of : Value → Verdict
-verdict_of (Plain (scalar.Bool b)) = verdict_of_truth b
+verdict_of (Single (scalar.Bool b)) = verdict_of_truth b
 verdict_of v = Undecided
 
 -- the verdict of the operands of a final configuration, which has one

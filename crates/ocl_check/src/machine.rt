@@ -33,19 +33,20 @@ pub fn judge(
     rule: usize,
     object: ObjectNo,
 ) -> Result<Verdict, AllocError>
-    requires one_model { population.now.model ≡ accepted.now.model }
+    requires one_model { population.now.content.model ≡ accepted.now.model }
     requires rule { rule < length accepted.now.unit.rules }
-    requires object { object < length population.now.objects }
-    requires context { IsContextObject accepted.now.unit population.now rule object }
-    ensures { IfOk result (λ v. v ≡ verdict_at accepted.now.unit accepted.now.model population.now rule object) }
+    requires object { object < length population.now.content.objects }
+    requires context { IsContextObject accepted.now.unit population.now.content rule object }
+    ensures { IfOk result (λ v. v ≡ verdict_at accepted.now.unit accepted.now.model
+        population.now.content rule object) }
 {
     accepted.accepted();
     population.consistent();
     let linked = accepted.linked();
-    let judged = linked.unit().rule(rule);
+    let checked = linked.unit().rule(rule);
     let mut operands = Stack::new(alloc);
-    'instructions: for at in 0..judged.code.len() {
-        let value = instruct(linked, population, object, &mut operands, judged.code[at]);
+    for at in 0..checked.code.len() {
+        let value = instruct(linked, population, object, &mut operands, checked.code[at]);
         operands.push(value)?;
     }
     let Some(value) = operands.pop() else {

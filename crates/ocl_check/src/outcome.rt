@@ -1,12 +1,14 @@
 //! How a command ends.
 
-ghost use Rattle.std.specs.Prelude.{◌≡◌, true, false};
+ghost use Rattle.std.specs.Prelude.{◌≡◌, false};
+ghost use Rattle.ocl_check.specs.declared.outcome.Cause.TheVariants.{Memory};
 ghost use Rattle.ocl_check.specs.Reply.{said};
-ghost use Rattle.ocl_check.specs.Answers.{IsAnswered, IsSaid, cause_of};
+ghost use Rattle.ocl_check.specs.Answers.{IsAnswered, fails_write, cause_of, exit_status, failure_line};
 
 use crate::input::InputFault;
 use crate::reply::Reply;
 use crate::sink::{Sink, write_whole};
+use std::alloc::AllocError;
 
 /// What kept a command from its answer.
 #[derive(Clone, Copy, Debug, PartialEq, Eq)]
@@ -28,6 +30,31 @@ pub enum Outcome {
     Failed(Cause),
 }
 
+impl Cause {
+    /// The line on standard error that reports it, without its line feed.
+    pub fn line(self) -> &'static str
+        ensures { result.now ≡ failure_line self }
+    {
+        match self {
+            Cause::Memory => "failed memory",
+            Cause::Read => "failed read",
+            Cause::Write => "failed write",
+        }
+    }
+}
+
+impl Outcome {
+    /// The exit status: 3 where the command failed.
+    pub fn status(self) -> u8
+        ensures { result ≡ exit_status self }
+    {
+        match self {
+            Outcome::Status(status) => status,
+            Outcome::Failed(_) => 3,
+        }
+    }
+}
+
 impl From<InputFault> for Cause {
     ghost from_gives = { λ f c. c ≡ cause_of f };
 
@@ -39,11 +66,20 @@ impl From<InputFault> for Cause {
     }
 }
 
-/// Writes a reply, and hands on what the sink holds back.
+impl From<AllocError> for Cause {
+    ghost from_gives = { λ _ c. c ≡ Memory };
+
+    fn from(_error: AllocError) -> Cause {
+        Cause::Memory
+    }
+}
+
+/// Writes a reply, and flushes what the sink has buffered.
 pub(crate) fn say<S: Sink>(sink: &mut S, reply: &Reply) -> Outcome
     requires { S.has_failed sink.old ≡ false }
-    ensures told { IsAnswered (said reply.now) (S.contents sink.old) (S.contents sink.new) result }
-    ensures cause { IsSaid (S.has_failed sink.new) result }
+    ensures answered { IsAnswered (said reply.now) (S.contents sink.old)
+        (S.contents sink.new) result }
+    ensures sink { S.has_failed sink.new ≡ fails_write result }
 {
     let Ok(()) = write_whole(sink, reply.text.as_bytes()) else {
         return Outcome::Failed(Cause::Write);

@@ -5,9 +5,9 @@ ghost use Rattle.imkl_model.specs.declared.fault.ModelFault.TheVariants as model
 ghost use Rattle.imkl_delivery.specs.declared.fault.DeliveryFault.TheVariants as delivery;
 ghost use Rattle.ocl_check.specs.Reply.{said, refused_model, refused_delivery, refused_code, refused_verify};
 
-use crate::verify::Flaw;
 use imkl_delivery::DeliveryFault;
 use imkl_model::ModelFault;
+use rule_verify::Flaw;
 use std::alloc::{AllocError, Global};
 
 /// The status of a command whose input is refused.
@@ -22,7 +22,7 @@ pub struct Reply {
     pub status: u8,
 }
 
-/// The reply to a class model that is refused. Want of memory is no refusal.
+/// The reply to a class model that is refused. Running out of memory is not a refusal.
 pub(crate) fn refused_model(alloc: Global, fault: &ModelFault) -> Result<Reply, AllocError>
     ensures said { IfOk result (λ r. said r ≡ refused_model fault.now) }
     ensures refused { IfOk result (λ r. fault.now ≢ model.OutOfMemory) }
@@ -56,7 +56,7 @@ fn delivery_line(alloc: Global, fault: &DeliveryFault) -> Result<String, AllocEr
     }
 }
 
-/// The reply to a delivery that is refused. Want of memory is no refusal.
+/// The reply to a delivery that is refused. Running out of memory is not a refusal.
 pub(crate) fn refused_delivery(alloc: Global, fault: &DeliveryFault) -> Result<Reply, AllocError>
     ensures said { IfOk result (λ r. said r ≡ refused_delivery fault.now) }
     ensures refused { IfOk result (λ r. fault.now ≢ delivery.OutOfMemory) }
@@ -92,7 +92,8 @@ pub(crate) fn refused_verify(
     rule: usize,
     at: usize,
 ) -> Result<Reply, AllocError>
-    ensures { IfOk result (λ r. said r ≡ refused_verify (record { flaw = flaw; rule = rule; at = at })) }
+    ensures { IfOk result (λ r. said r ≡ refused_verify
+        (record { flaw = flaw; rule = rule; at = at })) }
 {
     let number = flaw as u8;
     Ok(Reply {

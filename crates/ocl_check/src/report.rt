@@ -41,7 +41,8 @@ impl Tally {
 
 /// Writes the line of an object, if the rule doesn't hold for it.
 fn put_object(out: &mut String, verdict: Verdict, name: &str, id: &str) -> Result<(), AllocError>
-    ensures { OnOk result (string_bytes out.new ≡ string_bytes out.old ++ line_of verdict name.now id.now) }
+    ensures { OnOk result (string_bytes out.new ≡ string_bytes out.old ++
+        line_of verdict name.now id.now) }
 {
     match verdict {
         Verdict::Holds => Ok(()),
@@ -57,7 +58,8 @@ fn put_rule_line(
     objects: usize,
     tally: Tally,
 ) -> Result<(), AllocError>
-    ensures { OnOk result (string_bytes out.new ≡ string_bytes out.old ++ rule_line name.now objects tally) }
+    ensures { OnOk result (string_bytes out.new ≡ string_bytes out.old ++
+        rule_line name.now objects tally) }
 {
     let Tally {
         holds,
@@ -72,7 +74,8 @@ fn put_rule_line(
 
 /// Writes the line at the end.
 fn put_total(out: &mut String, fails: usize, undecided: usize) -> Result<(), AllocError>
-    ensures { OnOk result (string_bytes out.new ≡ string_bytes out.old ++ total_line fails undecided) }
+    ensures { OnOk result (string_bytes out.new ≡ string_bytes out.old ++
+        total_line fails undecided) }
 {
     writeln!(out, "total fails {fails} undecided {undecided}")
 }
@@ -85,10 +88,12 @@ fn put_rule(
     rule: usize,
     out: &mut String,
 ) -> Result<Tally, AllocError>
-    requires one_model { population.now.model ≡ accepted.now.model }
+    requires one_model { population.now.content.model ≡ accepted.now.model }
     requires rule { rule < length accepted.now.unit.rules }
-    ensures text { OnOk result (string_bytes out.new ≡ string_bytes out.old ++ rule_report accepted.now.unit population.now rule) }
-    ensures tally { IfOk result (λ t. t ≡ tally_of (verdicts accepted.now.unit population.now rule)) }
+    ensures text { OnOk result (string_bytes out.new ≡ string_bytes out.old ++
+        rule_report accepted.now.unit population.now.content rule) }
+    ensures tally { IfOk result (λ t. t ≡ tally_of
+        (verdicts accepted.now.unit population.now.content rule)) }
 {
     let name = accepted.rule_name(rule);
     let objects = population.instances(accepted.context(rule));
@@ -98,7 +103,7 @@ fn put_rule(
         fails: 0,
         undecided: 0,
     };
-    'objects: for object in objects {
+    for object in objects {
         let verdict = judge(alloc, accepted, population, rule, *object)?;
         tally.count(verdict);
         put_object(out, verdict, name, population.id(*object))?;
@@ -114,14 +119,16 @@ pub(crate) fn report(
     accepted: &Accepted<'_>,
     population: &Population<'_>,
 ) -> Result<Reply, AllocError>
-    requires one_model { population.now.model ≡ accepted.now.model }
-    ensures text { IfOk result (λ r. string_bytes r.text ≡ report_of accepted.now.unit population.now) }
-    ensures status { IfOk result (λ r. r.status ≡ status_of accepted.now.unit population.now) }
+    requires one_model { population.now.content.model ≡ accepted.now.model }
+    ensures text { IfOk result (λ r. string_bytes r.text ≡
+        report_of accepted.now.unit population.now.content) }
+    ensures status { IfOk result (λ r. r.status ≡
+        status_of accepted.now.unit population.now.content) }
 {
     let mut text = String::new(alloc);
     let mut fails = 0;
     let mut undecided = 0;
-    'rules: for rule in 0..accepted.rules() {
+    for rule in 0..accepted.rules() {
         let tally = put_rule(alloc, accepted, population, rule, &mut text)?;
         fails += tally.fails;
         undecided += tally.undecided;

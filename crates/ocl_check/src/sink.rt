@@ -2,7 +2,7 @@
 
 ghost use Rattle.std.specs.Prelude.{◌≡◌, ◌≤◌, ◌||◌, ℕ, List, Option, Bool, true, false, length, take, OnOk, OnErr, IfOk, is_err};
 ghost use Rattle.std.specs.Io.KnownBytes.{Appends, Keeps, WriteAppends};
-ghost use Rattle.ocl_check.specs.Sink.{is_failed_write, WritesFront};
+ghost use Rattle.ocl_check.specs.Sink.{is_failed_write, WritesPrefix};
 
 use std::io;
 use std::io::Write;
@@ -16,15 +16,17 @@ pub trait Sink {
     /// The bytes that it took, where they are known.
     ghost contents: { Self → Option (List ℕ) };
 
+    /// A write or a flush has failed.
     ghost has_failed: { Self → Bool };
 
-    /// Takes a front of the bytes, and says how many.
+    /// Takes a prefix of the bytes, and says how many.
     fn write(&mut self, bytes: &[u8]) -> io::Result<usize>
         ensures bound { IfOk result (λ n. n ≤ length bytes.now) }
         ensures bytes { WriteAppends (contents self.old) (contents self.new) result bytes.now }
-        ensures failed { has_failed self.new ≡ (has_failed self.old || is_failed_write bytes.now result) };
+        ensures failed { has_failed self.new ≡ (has_failed self.old ||
+            is_failed_write bytes.now result) };
 
-    /// Hands on what it holds back.
+    /// Flushes what is buffered.
     fn flush(&mut self) -> io::Result<()>
         ensures bytes { Keeps (contents self.old) (contents self.new) }
         ensures failed { has_failed self.new ≡ (has_failed self.old || is_err result) };
@@ -106,14 +108,16 @@ impl<W: Write> Sink for Telling<W> {
 #[derive(Clone, Copy, Debug, PartialEq, Eq)]
 pub struct WriteFailed;
 
-/// Writes all the bytes; where that fails, the sink took a front of them and has failed.
+/// Writes all the bytes; where that fails, the sink took a prefix of them and has failed.
 pub fn write_whole<S: Sink>(sink: &mut S, bytes: &[u8]) -> Result<(), WriteFailed>
     requires { S.has_failed sink.old ≡ false }
-    ensures ok { OnOk result (Appends (S.contents sink.old) (S.contents sink.new) bytes.now × (S.has_failed sink.new ≡ false)) }
-    ensures err { OnErr result (WritesFront (S.contents sink.old) (S.contents sink.new) bytes.now × (S.has_failed sink.new ≡ true)) }
+    ensures ok { OnOk result (Appends (S.contents sink.old) (S.contents sink.new) bytes.now ×
+        (S.has_failed sink.new ≡ false)) }
+    ensures err { OnErr result (WritesPrefix (S.contents sink.old) (S.contents sink.new) bytes.now ×
+        (S.has_failed sink.new ≡ true)) }
 {
     let mut at = 0;
-    'pieces: while at < bytes.len() {
+    while at < bytes.len() {
         match sink.write(&bytes[at..]) {
             Ok(0) => return Err(WriteFailed),
             Ok(n) => at += n,

@@ -45,7 +45,8 @@ impl<T: Drop> Stack<T> {
 
     /// Takes the topmost item.
     pub fn pop(&mut self) -> Option<T>
-        ensures { MatchOption result ((self.old ≡ []) × (self.new ≡ [])) (λ x. self.old ≡ x ∷ self.new) }
+        ensures { MatchOption result ((self.old ≡ []) ×
+            (self.new ≡ [])) (λ x. self.old ≡ x ∷ self.new) }
     {
         self.items.pop()
     }

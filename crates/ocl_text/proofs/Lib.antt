@@ -1,10 +1,6 @@
-pub mod Runs
-pub mod Boundaries
-pub mod Lexemes
-pub mod Progress
-pub mod OneReading
 pub mod Decoding
 pub mod Views
+pub mod Names
 pub mod Counts
 pub mod Turns
 pub mod Complete
@@ -22,3 +18,4 @@ pub mod Expressions
 pub mod Contexts
 pub mod Refused
 pub mod Outcomes
+pub mod ForAbove

@@ -1,134 +1,136 @@
 -- What the outcome of parsing says of the text.
-use Rattle.std.proofs.Common.{◌≡◌, ℕ, List, [], length, Bool, true, false, Result, Ok, Err, refl, ap, subst, IfOk}
+use Rattle.std.proofs.Common.{◌≡◌, ℕ, List, [], length, Bool, true, false, Result, Ok, Err, refl, subst, IfOk}
 use Rattle.std.specs.Prelude.{IfErr}
-use Rattle.ocl_text.specs.declared.token.Token.{Token}
-use Rattle.ocl_text.specs.declared.refusal.Refusal.{Refusal}
-use Rattle.ocl_text.specs.declared.refusal.Refusal.TheVariants as r
-use Rattle.ocl_text.specs.Tokens.{Word, words}
-use Rattle.ocl_text.specs.Lexical as l
-use Rattle.ocl_text.specs.Lexical.{Lexes, IsFault, StopsFrom, IsLexicalFault}
-use Rattle.ocl_text.specs.declared.fault.TextFault.{TextFault}
-use Rattle.ocl_text.specs.declared.fault.TextFault.TheVariants as f
+use Rattle.ocl_base.specs.Steps.{Means}
+use Rattle.ocl_tokens.specs.declared.fault.TextFlaw.{TextFlaw}
+use Rattle.ocl_tokens.specs.declared.fault.TextFlaw.TheVariants as w
+use Rattle.ocl_tokens.specs.declared.fault.TextFault.{TextFault}
+use Rattle.ocl_tokens.specs.declared.fault.TextFault.TheVariants as f
+use Rattle.ocl_tokens.specs.Terminals.{Terminal}
+use Rattle.ocl_tokens.specs.Lexical as l
+use Rattle.ocl_tokens.specs.Lexical.{Lexes, IsFlaw, HasFlawFrom, IsLexicalFault}
+use Rattle.ocl_tokens.proofs.ForAbove.{one_token_list}
+use Rattle.ocl_text.specs.declared.cursor.Parser.{Parser}
+use Rattle.ocl_text.specs.declared.cursor.ParseFault.{ParseFault}
+use Rattle.ocl_text.specs.declared.cursor.ParseFault.TheVariants as r
 use Rattle.ocl_text.specs.declared.tree.Expression.{Expression}
-use Rattle.ocl_text.specs.Tree.{Rule, Tree, view}
+use Rattle.ocl_text.specs.Tree.{Rule, SurfaceTree}
+use Rattle.ocl_text.specs.View.{view}
 use Rattle.ocl_text.specs.Grammar.{IsExpr, SpellsExpr, Spells}
-use Rattle.ocl_text.specs.RuleText.{TextSpells, TextSpellsWithin, RepeatsAt, place_of, IsWrong, IsTooDeep, IsRepeated, IfLexical, IfSyntax, IfTooDeep, IfDuplicate}
-use Rattle.ocl_text.specs.Parse.{Stop, syntax, too_deep, Read, expr, all_of}
-use Rattle.ocl_text.specs.Gives.{from, Gives, Fails, Tells, fault_of}
+use Rattle.ocl_text.specs.RuleText.{TextSpells, TextSpellsWithin, RepeatsAt, first_offset, IsWrong, IsTooDeep, IsRepeated, IfLexical, IfSyntax, IfTooDeep, IfDuplicate}
+use Rattle.ocl_text.specs.Parse.{TokensFault, syntax, too_deep, Reading, expr, all_rules}
+use Rattle.ocl_text.specs.Parses.{from, meaning, Parses, UnlessOutOfMemory, text_fault}
 use Rattle.ocl_text.proofs.Complete.{complete_expr}
 use Rattle.ocl_text.proofs.Sound.{sound_expr}
 use Rattle.ocl_text.proofs.Refused.{wrong_at, too_deep_at}
-use Rattle.ocl_text.proofs.OneReading.{one_token_list}
 use Rattle.ocl_text.proofs.Wider.{read_spells, one_expr, one_list}
 
 -- ---- an expression
 
-module _ (chain n : ℕ) (ts : List Token) (at : ℕ) where
-  expr_found : (x : Expression × ℕ) → expr chain n (from ts at) ≡ Ok (view x.0, from ts x.1) → IsExpr chain n (from ts at) (view x.0) (from ts x.1)
-  expr_found x h = subst (λ (r : Read Tree). IfOk r (λ y. IsExpr chain n (from ts at) y.0 y.1)) h (sound_expr chain n (from ts at))
+module _ (chain n : ℕ) (p : Parser) (at : ℕ) where
+  expr_found : (x : Expression × ℕ) → expr chain n (from p at) ≡ Ok (view x.0, from p x.1) → IsExpr chain n (from p at) (view x.0) (from p x.1)
+  expr_found x h = subst (λ (r : Reading SurfaceTree). IfOk r (λ y. IsExpr chain n (from p at) y.0 y.1)) h (sound_expr chain n (from p at))
 
-  pub expr_spells : (x : Result (Expression × ℕ) Refusal) → Gives ts view x (expr chain n (from ts at)) → IfOk x (λ y. IsExpr chain n (from ts at) (view y.0) (from ts y.1))
+  pub expr_spells : (x : Result (Expression × ℕ) ParseFault) → Parses p view x (expr chain n (from p at)) → IfOk x (λ y. IsExpr chain n (from p at) (view y.0) (from p y.1))
   expr_spells (Ok x) h = expr_found x h
   expr_spells (Err e) h = tt
 
-  pub expr_only : (x : Result (Expression × ℕ) Refusal) → Gives ts view x (expr chain n (from ts at))
-      → IfOk x (λ y. (tree : Tree) (rest : List Word) → SpellsExpr (from ts at) tree rest → (tree ≡ view y.0) × (rest ≡ from ts y.1))
-  expr_only (Ok x) h = λ tree rest d. one_expr (from ts at) tree (view x.0) rest (from ts x.1) d (n, chain, expr_found x h)
+  pub expr_only : (x : Result (Expression × ℕ) ParseFault) → Parses p view x (expr chain n (from p at))
+      → IfOk x (λ y. (tree : SurfaceTree) (rest : List Terminal) → SpellsExpr (from p at) tree rest → (tree ≡ view y.0) × (rest ≡ from p y.1))
+  expr_only (Ok x) h = λ tree rest d. one_expr (from p at) tree (view x.0) rest (from p x.1) d (n, chain, expr_found x h)
   expr_only (Err e) h = tt
 
-  no_expr : (s : Stop) → expr chain n (from ts at) ≡ Err s → (tree : Tree) (rest : List Word) → IsExpr chain n (from ts at) tree rest → ⊥
+  no_expr : (s : TokensFault) → expr chain n (from p at) ≡ Err s → (tree : SurfaceTree) (rest : List Terminal) → IsExpr chain n (from p at) tree rest → ⊥
   no_expr s h tree rest d = let e = complete_expr d in cc (h, e)
 
-  pub expr_refused : (x : Result (Expression × ℕ) Refusal) → Gives ts view x (expr chain n (from ts at)) → IfErr x (Tells ((tree : Tree) (rest : List Word) → IsExpr chain n (from ts at) tree rest → ⊥))
+  pub expr_refused : (x : Result (Expression × ℕ) ParseFault) → Parses p view x (expr chain n (from p at)) → IfErr x (UnlessOutOfMemory ((tree : SurfaceTree) (rest : List Terminal) → IsExpr chain n (from p at) tree rest → ⊥))
   expr_refused (Ok x) h = tt
-  expr_refused (Err r.Memory) h = tt
-  expr_refused (Err (r.Syntax at)) h = no_expr _ h
-  expr_refused (Err (r.TooDeep at)) h = no_expr _ h
+  expr_refused (Err r.OutOfMemory) h = tt
+  expr_refused (Err (r.Syntax i)) h = no_expr _ h
+  expr_refused (Err (r.TooDeep i)) h = no_expr _ h
 
 -- ---- a whole text
 
-module _ (nesting chain : ℕ) (text : List ℕ) (ts : List Token) (lexes : Lexes text (words ts)) where
-  pub text_spells : (rules : List Rule) → all_of nesting chain (words ts) ≡ Ok rules → TextSpellsWithin nesting chain text rules
-  text_spells rules h = (words ts, lexes, read_spells nesting chain (words ts) rules h)
+module _ (nesting chain : ℕ) (text : List ℕ) (ts : List Terminal) (lexes : Lexes text ts) where
+  pub text_spells : (rules : List Rule) → all_rules nesting chain ts ≡ Ok rules → TextSpellsWithin nesting chain text rules
+  text_spells rules h = (ts, lexes, read_spells nesting chain ts rules h)
 
-  pub text_only : (rules : List Rule) → all_of nesting chain (words ts) ≡ Ok rules → (others : List Rule) → TextSpells text others → others ≡ rules
+  pub text_only : (rules : List Rule) → all_rules nesting chain ts ≡ Ok rules → (others : List Rule) → TextSpells text others → others ≡ rules
   text_only rules h others (us, reads, spells) =
-      one_list (words ts) others rules (subst (λ (l : List Word). Spells l others) (one_token_list reads (words ts) lexes) spells) (nesting, chain, read_spells nesting chain (words ts) rules h)
+      one_list ts others rules (subst (λ (l : List Terminal). Spells l others) (one_token_list text us ts reads lexes) spells) (nesting, chain, read_spells nesting chain ts rules h)
 
-  pub text_wrong : (s : List Word) → all_of nesting chain (words ts) ≡ Err (syntax s) → IsWrong text (place_of (length text) s)
-  text_wrong s h =
-      let (before, is, begins, cannot) = wrong_at nesting chain (words ts) s h in
-      record { before = before; rest = s; lexes = subst (Lexes text) is lexes; stands = refl; begins = begins; cannot = cannot }
+  text_wrong : (s : List Terminal) → all_rules nesting chain ts ≡ Err (syntax s) → IsWrong text (first_offset (length text) s)
+  text_wrong s h = record { tokens = ts; rest = s; lexes = lexes; stands = refl; wrong = wrong_at nesting chain ts s h }
 
-  pub text_too_deep : (s : List Word) → all_of nesting chain (words ts) ≡ Err (too_deep s) → IsTooDeep nesting chain text (place_of (length text) s)
-  text_too_deep s h =
-      let (before, first, after, same, is, begins, cannot) = too_deep_at nesting chain (words ts) s h in
-      record { before = before; first = first; after = after; lexes = subst (Lexes text) is lexes; stands = ap (place_of (length text)) same; begins = begins; cannot = cannot }
+  text_too_deep : (s : List Terminal) → all_rules nesting chain ts ≡ Err (too_deep s) → IsTooDeep nesting chain text (first_offset (length text) s)
+  text_too_deep s h = record { tokens = ts; rest = s; lexes = lexes; stands = refl; too_deep = too_deep_at nesting chain ts s h }
 
-  pub refused_syntax : (refusal : Refusal) → Fails ts refusal (all_of nesting chain (words ts)) → IfSyntax text (fault_of ts (length text) refusal)
-  refused_syntax r.Memory h = tt
-  refused_syntax (r.Syntax at) h = text_wrong (from ts at) h
-  refused_syntax (r.TooDeep at) h = tt
+  pub refused_syntax : (p : Parser) (fault : ParseFault) → Means (meaning p fault) (all_rules nesting chain ts) → IfSyntax text (text_fault p (length text) fault)
+  refused_syntax p r.OutOfMemory h = tt
+  refused_syntax p (r.Syntax i) h = text_wrong (from p i) h
+  refused_syntax p (r.TooDeep i) h = tt
 
-  pub refused_too_deep : (refusal : Refusal) → Fails ts refusal (all_of nesting chain (words ts)) → IfTooDeep nesting chain text (fault_of ts (length text) refusal)
-  refused_too_deep r.Memory h = tt
-  refused_too_deep (r.Syntax at) h = tt
-  refused_too_deep (r.TooDeep at) h = text_too_deep (from ts at) h
+  pub refused_too_deep : (p : Parser) (fault : ParseFault) → Means (meaning p fault) (all_rules nesting chain ts) → IfTooDeep nesting chain text (text_fault p (length text) fault)
+  refused_too_deep p r.OutOfMemory h = tt
+  refused_too_deep p (r.Syntax i) h = tt
+  refused_too_deep p (r.TooDeep i) h = text_too_deep (from p i) h
 
-  pub text_repeats : (rules : List Rule) (place : ℕ) → all_of nesting chain (words ts) ≡ Ok rules → RepeatsAt [] rules place → IsRepeated nesting chain text place
-  text_repeats rules place h repeats = record { rules = rules; spells = text_spells rules h; repeats = repeats }
+  pub text_repeats : (rules : List Rule) (offset : ℕ) → all_rules nesting chain ts ≡ Ok rules → RepeatsAt [] rules offset → IsRepeated nesting chain text offset
+  text_repeats rules offset h repeats = record { rules = rules; spells = text_spells rules h; repeats = repeats }
 
 -- a refusal of the tokens is no other fault
-pub refused_lexical : (text : List ℕ) (ts : List Token) (end : ℕ) (refusal : Refusal) → IfLexical text (fault_of ts end refusal)
-refused_lexical text ts end r.Memory = tt
-refused_lexical text ts end (r.Syntax at) = tt
-refused_lexical text ts end (r.TooDeep at) = tt
+pub refused_lexical : (text : List ℕ) (p : Parser) (end : ℕ) (fault : ParseFault) → IfLexical text (text_fault p end fault)
+refused_lexical text p end r.OutOfMemory = tt
+refused_lexical text p end (r.Syntax i) = tt
+refused_lexical text p end (r.TooDeep i) = tt
 
-pub refused_duplicate : (nesting chain : ℕ) (text : List ℕ) (ts : List Token) (end : ℕ) (refusal : Refusal) → IfDuplicate nesting chain text (fault_of ts end refusal)
-refused_duplicate nesting chain text ts end r.Memory = tt
-refused_duplicate nesting chain text ts end (r.Syntax at) = tt
-refused_duplicate nesting chain text ts end (r.TooDeep at) = tt
+pub refused_duplicate : (nesting chain : ℕ) (text : List ℕ) (p : Parser) (end : ℕ) (fault : ParseFault) → IfDuplicate nesting chain text (text_fault p end fault)
+refused_duplicate nesting chain text p end r.OutOfMemory = tt
+refused_duplicate nesting chain text p end (r.Syntax i) = tt
+refused_duplicate nesting chain text p end (r.TooDeep i) = tt
 
--- the faults 1 to 5
-abbrev is_lexical : TextFault → Bool
-is_lexical (f.Syntax place) = false
-is_lexical (f.TooDeep place) = false
-is_lexical (f.DuplicateRule place) = false
-is_lexical f.OutOfMemory = false
-is_lexical fault = true
+-- the flaws 1 to 5
+abbrev is_lexical : TextFlaw → Bool
+is_lexical w.Syntax = false
+is_lexical w.TooDeep = false
+is_lexical w.DuplicateRule = false
+is_lexical _ = true
 
-front_lexical : {at : ℕ} {text : List ℕ} {fault : TextFault} → IsFault at text fault → is_lexical fault ≡ true
-front_lexical (l.bad_character a b c) = refl
-front_lexical (l.open_string a) = refl
-front_lexical (l.bad_escape a) = refl
-front_lexical (l.number_too_large a b) = refl
-front_lexical (l.open_comment a) = refl
+ahead_lexical : {from offset : ℕ} {text : List ℕ} {flaw : TextFlaw} → IsFlaw from text flaw offset → is_lexical flaw ≡ true
+ahead_lexical (l.bad_character a b c) = refl
+ahead_lexical (l.open_string a) = refl
+ahead_lexical (l.bad_escape a) = refl
+ahead_lexical (l.number_too_large a b) = refl
+ahead_lexical (l.open_comment a) = refl
 
-only_lexical : {at : ℕ} {text : List ℕ} {fault : TextFault} → StopsFrom at text fault → is_lexical fault ≡ true
-only_lexical (l.here h) = front_lexical h
+only_lexical : {from offset : ℕ} {text : List ℕ} {flaw : TextFlaw} → HasFlawFrom from text flaw offset → is_lexical flaw ≡ true
+only_lexical (l.here h) = ahead_lexical h
 only_lexical (l.past_blank h d) = only_lexical d
 only_lexical (l.past_token h d) = only_lexical d
 
 -- a fault of the tokens is none of the others
 pub stops_lexical : (text : List ℕ) (fault : TextFault) → IsLexicalFault text fault → IfLexical text fault
 stops_lexical text f.OutOfMemory h = tt
-stops_lexical text (f.Syntax place) h = tt
-stops_lexical text (f.TooDeep place) h = tt
-stops_lexical text (f.DuplicateRule place) h = tt
-stops_lexical text (f.BadCharacter place) h = h
-stops_lexical text (f.OpenString place) h = h
-stops_lexical text (f.BadEscape place) h = h
-stops_lexical text (f.NumberTooLarge place) h = h
-stops_lexical text (f.OpenComment place) h = h
+stops_lexical text (f.At w.Syntax offset) h = tt
+stops_lexical text (f.At w.TooDeep offset) h = tt
+stops_lexical text (f.At w.DuplicateRule offset) h = tt
+stops_lexical text (f.At w.BadCharacter offset) h = h
+stops_lexical text (f.At w.OpenString offset) h = h
+stops_lexical text (f.At w.BadEscape offset) h = h
+stops_lexical text (f.At w.NumberTooLarge offset) h = h
+stops_lexical text (f.At w.OpenComment offset) h = h
 
 pub stops_no_syntax : (text : List ℕ) (fault : TextFault) → IsLexicalFault text fault → IfSyntax text fault
-stops_no_syntax text (f.Syntax place) h = let e = only_lexical h in absurd (cc (e))
-stops_no_syntax text _ h = tt
+stops_no_syntax text f.OutOfMemory h = tt
+stops_no_syntax text (f.At w.Syntax offset) h = let e = only_lexical h in absurd (cc (e))
+stops_no_syntax text (f.At _ offset) h = tt
 
 pub stops_no_depth : (nesting chain : ℕ) (text : List ℕ) (fault : TextFault) → IsLexicalFault text fault → IfTooDeep nesting chain text fault
-stops_no_depth nesting chain text (f.TooDeep place) h = let e = only_lexical h in absurd (cc (e))
-stops_no_depth nesting chain text _ h = tt
+stops_no_depth nesting chain text f.OutOfMemory h = tt
+stops_no_depth nesting chain text (f.At w.TooDeep offset) h = let e = only_lexical h in absurd (cc (e))
+stops_no_depth nesting chain text (f.At _ offset) h = tt
 
 pub stops_no_duplicate : (nesting chain : ℕ) (text : List ℕ) (fault : TextFault) → IsLexicalFault text fault → IfDuplicate nesting chain text fault
-stops_no_duplicate nesting chain text (f.DuplicateRule place) h = let e = only_lexical h in absurd (cc (e))
-stops_no_duplicate nesting chain text _ h = tt
+stops_no_duplicate nesting chain text f.OutOfMemory h = tt
+stops_no_duplicate nesting chain text (f.At w.DuplicateRule offset) h = let e = only_lexical h in absurd (cc (e))
+stops_no_duplicate nesting chain text (f.At _ offset) h = tt

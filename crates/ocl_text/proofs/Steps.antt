@@ -1,18 +1,19 @@
 -- Where the steps after a source stop, they can be completed under wider limits.
 use Rattle.std.proofs.Common.{◌≡◌, ℕ, zero, suc, List, [], ◌∷◌, ◌++◌, Option, Some, None, Result, Ok, Err, refl, ap, ◌∙◌, Bool, true, false, inl, inr, ◌⊎◌}
 use Rattle.std.specs.Prelude.{if◌then◌else◌}
-use Rattle.ocl_text.specs.declared.token.TokenKind.{TokenKind}
-use Rattle.ocl_text.specs.declared.token.TokenKind.TheVariants as k
+use Rattle.ocl_tokens.specs.declared.token.TokenKind.{TokenKind}
+use Rattle.ocl_tokens.specs.declared.token.TokenKind.TheVariants as k
+use Rattle.ocl_base.specs.Steps.{◌>>=◌}
 use Rattle.ocl_text.specs.declared.cursor.Mark.TheVariants as m
 use Rattle.ocl_text.specs.declared.tree.IteratorKind.{IteratorKind}
 use Rattle.ocl_text.specs.declared.tree.Navigation.{Navigation}
 use Rattle.ocl_text.specs.declared.tree.Navigation.TheVariants.{Dot, Arrow}
-use Rattle.ocl_text.specs.Tokens.{Word}
-use Rattle.ocl_text.specs.Tree.{Optional, Tree, name, iterate}
+use Rattle.ocl_tokens.specs.Terminals.{Terminal}
+use Rattle.ocl_text.specs.Tree.{Variables, Unnamed, SurfaceTree, Name, Iterate}
 use Rattle.ocl_text.specs.RuleText.{Agrees}
-use Rattle.ocl_text.specs.Grammar.{token, next_is, Next, is_name, ends_variable, begins_variable, steps_on, iterator_of, takes_two}
+use Rattle.ocl_text.specs.Grammar.{is_mark, token, next_is, Next, is_identifier_kind, ends_variable, begins_variable, steps_on, iterator_of, takes_two}
 use Rattle.ocl_text.specs.Parse as p
-use Rattle.ocl_text.specs.Parse.{Stop, syntax, too_deep, Read, Parser, ◌>>=◌, begins, expect, is_mark, level_of, expr, steps, one_step, dotted, called, calling, arrowed, applied, applied_by, iteration, optional_variables, variables, variables_by}
+use Rattle.ocl_text.specs.Parse.{TokensFault, syntax, too_deep, Reading, Reader, begins, expect, level_of, expr, step_list, one_step, dotted, called, calling, arrowed, applied_step, applied_by, iteration, optional_variables, variables, variables_by}
 use Rattle.ocl_text.proofs.Complete.{no_variable_is}
 use Rattle.ocl_text.proofs.Turns.{steps_none, steps_deep, steps_more}
 use Rattle.ocl_text.proofs.Wider.{deeper, longer}
@@ -25,24 +26,24 @@ use Rattle.ocl_text.proofs.Parts.{counts, sees_called, sees_calling}
 -- ---- iterations
 
 -- after the parenthesis: the variables, where there are any, and the body
-abbrev body_after : Parser Tree → List Optional → Parser (List Optional × Tree)
+abbrev body_after : Reader SurfaceTree → Variables → Reader (Variables × SurfaceTree)
 body_after whole vs us = whole us >>= λ x. expect m.Close x.1 >>= λ rest. Ok ((vs, x.0), rest)
 
-abbrev iterated : ℕ → Parser Tree → Bool → Parser (List Optional × Tree)
+abbrev iterated : ℕ → Reader SurfaceTree → Bool → Reader (Variables × SurfaceTree)
 iterated n whole two us = optional_variables n two us >>= λ vs. body_after whole vs.0 vs.1
 
-abbrev unread : Parser (List Optional)
-unread us = Ok ([], us)
+abbrev unread : Reader (Variables)
+unread us = Ok (Unnamed, us)
 
-iteration_is : (n : ℕ) (whole : Parser Tree) (two : Bool) (us : List Word) → iteration n whole two us ≡ (expect m.Open us >>= iterated n whole two)
+iteration_is : (n : ℕ) (whole : Reader SurfaceTree) (two : Bool) (us : List Terminal) → iteration n whole two us ≡ (expect m.Open us >>= iterated n whole two)
 unfolding iteration
 iteration_is n whole two us = by (expect m.Open us)
   where
-    by : (r : Result (List Word) Stop) → (r >>= optional_variables n two >>= λ vs. whole vs.1 >>= λ x. expect m.Close x.1 >>= λ rest. Ok ((vs.0, x.0), rest)) ≡ (r >>= iterated n whole two)
+    by : (r : Result (List Terminal) TokensFault) → (r >>= optional_variables n two >>= λ vs. whole vs.1 >>= λ x. expect m.Close x.1 >>= λ rest. Ok ((vs.0, x.0), rest)) ≡ (r >>= iterated n whole two)
     by (Ok x) = refl
     by (Err e) = refl
 
-count_names : (kind : TokenKind) → counts kind ≡ true → is_name kind ≡ false
+count_names : (kind : TokenKind) → counts kind ≡ true → is_identifier_kind kind ≡ false
 count_names k.Identifier h = absurd (cc)
 count_names (k.Number v) h = refl
 count_names _ h = refl
@@ -50,82 +51,82 @@ count_names _ h = refl
 stop_ends_no_variable : (kind : TokenKind) → stops kind ≡ true → ends_variable kind ≡ false
 stop_ends_no_variable = stop_is (λ kind. ends_variable kind ≡ false) refl refl refl refl refl
 
-no_name_no_variable : (us : List Word) → next_is is_name us ≡ false → begins_variable us ≡ false
+no_name_no_variable : (us : List Terminal) → next_is is_identifier_kind us ≡ false → begins_variable us ≡ false
 no_name_no_variable us h = rw h refl
 
 -- an expression whose first token is a name, which is too deep where none may stand
 abbrev pub SeesName : ℕ → ℕ → ℕ → ℕ → Type 0
-SeesName a b c zero = (at : ℕ) (text : List ℕ) (us : List Word) → expr c zero (token k.Identifier at text ∷ us) ≡ Err (too_deep (token k.Identifier at text ∷ us))
-SeesName a b c (suc n) = (at : ℕ) (text : List ℕ) (us : List Word) → Sees (λ vs. expr c (suc n) (token k.Identifier at text ∷ vs)) (λ vs. expr (longer b c) (suc (deeper a n)) (token k.Identifier at text ∷ vs)) (May stops) (May stops) us
+SeesName a b c zero = (at : ℕ) (text : List ℕ) (us : List Terminal) → expr c zero (token k.Identifier at text ∷ us) ≡ Err (too_deep (token k.Identifier at text ∷ us))
+SeesName a b c (suc n) = (at : ℕ) (text : List ℕ) (us : List Terminal) → Sees (λ vs. expr c (suc n) (token k.Identifier at text ∷ vs)) (λ vs. expr (longer b c) (suc (deeper a n)) (token k.Identifier at text ∷ vs)) (May stops) (May stops) us
 
 module _ (a b c : ℕ) (two : Bool) where
-  module _ (n : ℕ) (sees_whole : (ts : List Word) → Sees (expr c n) (expr (longer b c) (deeper a n)) (May stops) (Next counts) ts) where
-    sees_body : (vs : List Optional) (ts : List Word) → Sees (body_after (expr c n) vs) (body_after (expr (longer b c) (deeper a n)) vs) (May stops) (Next counts) ts
+  module _ (n : ℕ) (sees_whole : (ts : List Terminal) → Sees (expr c n) (expr (longer b c) (deeper a n)) (May stops) (Next counts) ts) where
+    sees_body : (vs : Variables) (ts : List Terminal) → Sees (body_after (expr c n) vs) (body_after (expr (longer b c) (deeper a n)) vs) (May stops) (Next counts) ts
     sees_body vs ts =
         bind (expr c n) (expr (longer b c) (deeper a n)) (λ x us. expect m.Close us >>= λ rest. Ok ((vs, x), rest)) (λ x us. expect m.Close us >>= λ rest. Ok ((vs, x), rest)) (May stops) (May stops) (Next (is_mark m.Close)) (Next counts) ts (mark_may m.Close stops refl) (sees_whole ts)
         (λ x us. sees_expect m.Close _ _ (May stops) (May stops) (λ rest. pass (vs, x) (May stops) rest) us)
 
-    no_variable : (ts : List Word) → ((us : List Word) → Agrees ts us → next_is is_name us ≡ false) → Sees (iterated n (expr c n) two) (iterated (deeper a n) (expr (longer b c) (deeper a n)) two) (May stops) (Next counts) ts
+    no_variable : (ts : List Terminal) → ((us : List Terminal) → Agrees ts us → next_is is_identifier_kind us ≡ false) → Sees (iterated n (expr c n) two) (iterated (deeper a n) (expr (longer b c) (deeper a n)) two) (May stops) (Next counts) ts
     no_variable ts h =
         sees_as _ _ _ _ (May stops) (Next counts) ts
         (λ us w. ap (λ r. r >>= λ vs. body_after (expr c n) vs.0 vs.1) (no_variable_is n two us (here us w)))
         (λ us w. ap (λ r. r >>= λ vs. body_after (expr (longer b c) (deeper a n)) vs.0 vs.1) (no_variable_is (deeper a n) two us (here us w)))
-        (sees_body [] ts)
+        (sees_body Unnamed ts)
       where
-        here : (us : List Word) → Agrees ts us ⊎ Next counts us → begins_variable us ≡ false
+        here : (us : List Terminal) → Agrees ts us ⊎ Next counts us → begins_variable us ≡ false
         here us (inl w) = no_name_no_variable us (h us w)
-        here us (inr w) = no_name_no_variable us (next_not counts is_name count_names us w)
+        here us (inr w) = no_name_no_variable us (next_not counts is_identifier_kind count_names us w)
 
-  if_bind : {A B : Type 0} (t : Bool) (r s : Result A Stop) (f : A → Result B Stop) → ((if t then r else s) >>= f) ≡ (if t then (r >>= f) else (s >>= f))
+  if_bind : {A B : Type 0} (t : Bool) (r s : Result A TokensFault) (f : A → Result B TokensFault) → ((if t then r else s) >>= f) ≡ (if t then (r >>= f) else (s >>= f))
   if_bind true r s f = refl
   if_bind false r s f = refl
 
   -- a name came first
   module _ (n at : ℕ) (text : List ℕ) where
-    abbrev variables_after : (n : ℕ) → Parser Tree → Parser (List Optional × Tree)
+    abbrev variables_after : (n : ℕ) → Reader SurfaceTree → Reader (Variables × SurfaceTree)
     variables_after n whole us = declared_after text (p.a_type (suc n)) us >>= λ v. variables_by (suc n) two v.0 v.1 >>= λ vs. body_after whole vs.0 vs.1
 
-    abbrev body_on : Parser Tree → Parser (List Optional × Tree)
-    body_on whole us = body_after whole [] (token k.Identifier at text ∷ us)
+    abbrev body_on : Reader SurfaceTree → Reader (Variables × SurfaceTree)
+    body_on whole us = body_after whole Unnamed (token k.Identifier at text ∷ us)
 
-    abbrev name_after : (n : ℕ) → Parser Tree → Parser (List Optional × Tree)
+    abbrev name_after : (n : ℕ) → Reader SurfaceTree → Reader (Variables × SurfaceTree)
     name_after n whole us = if next_is ends_variable us then variables_after n whole us else body_on whole us
 
-    name_is : (n : ℕ) (whole : Parser Tree) (us : List Word) → iterated (suc n) whole two (token k.Identifier at text ∷ us) ≡ name_after n whole us
+    name_is : (n : ℕ) (whole : Reader SurfaceTree) (us : List Terminal) → iterated (suc n) whole two (token k.Identifier at text ∷ us) ≡ name_after n whole us
     unfolding optional_variables variables p.a_variable p.identifier
     name_is n whole us =
-        if_bind (next_is ends_variable us) (variables (suc n) two (token k.Identifier at text ∷ us)) (Ok ([], token k.Identifier at text ∷ us)) (λ vs. body_after whole vs.0 vs.1)
+        if_bind (next_is ends_variable us) (variables (suc n) two (token k.Identifier at text ∷ us)) (Ok (Unnamed, token k.Identifier at text ∷ us)) (λ vs. body_after whole vs.0 vs.1)
         ∙ ap (λ r. if next_is ends_variable us then r else body_on whole us) (assoc (declared_after text (p.a_type (suc n)) us) (λ v. variables_by (suc n) two v.0 v.1) (λ vs. body_after whole vs.0 vs.1))
 
-    module _ (sees_whole : (ts : List Word) → Sees (expr c (suc n)) (expr (longer b c) (suc (deeper a n))) (May stops) (Next counts) ts) (sees_name : SeesName a b c (suc n)) where
-      sees_variables_after : (us : List Word) → Sees (variables_after n (expr c (suc n))) (variables_after (deeper a n) (expr (longer b c) (suc (deeper a n)))) (May stops) (Next (is_mark m.Bar)) us
+    module _ (sees_whole : (ts : List Terminal) → Sees (expr c (suc n)) (expr (longer b c) (suc (deeper a n))) (May stops) (Next counts) ts) (sees_name : SeesName a b c (suc n)) where
+      sees_variables_after : (us : List Terminal) → Sees (variables_after n (expr c (suc n))) (variables_after (deeper a n) (expr (longer b c) (suc (deeper a n)))) (May stops) (Next (is_mark m.Bar)) us
       sees_variables_after us =
           bind (declared_after text (p.a_type (suc n))) (declared_after text (p.a_type (suc (deeper a n)))) (λ v vs. variables_by (suc n) two v vs >>= λ ws. body_after (expr c (suc n)) ws.0 ws.1) (λ v vs. variables_by (suc (deeper a n)) two v vs >>= λ ws. body_after (expr (longer b c) (suc (deeper a n))) ws.0 ws.1)
           (Next (is_mark m.Bar)) (May stops) (Next (is_mark m.Bar)) (Next (is_mark m.Bar)) us (λ vs g. g) (sees_declared a (suc n) text us)
           (λ v vs. bind (variables_by (suc n) two v) (variables_by (suc (deeper a n)) two v) (body_after (expr c (suc n))) (body_after (expr (longer b c) (suc (deeper a n))))
           Any (May stops) (Next counts) (Next (is_mark m.Bar)) vs (λ ws g. tt) (sees_variables_by a (suc n) two v vs) (λ ws rest. sees_body (suc n) sees_whole ws rest))
 
-      sees_body_on : (us : List Word) → Sees (body_on (expr c (suc n))) (body_on (expr (longer b c) (suc (deeper a n)))) (May stops) (May stops) us
+      sees_body_on : (us : List Terminal) → Sees (body_on (expr c (suc n))) (body_on (expr (longer b c) (suc (deeper a n)))) (May stops) (May stops) us
       sees_body_on us =
-          bind (λ vs. expr c (suc n) (token k.Identifier at text ∷ vs)) (λ vs. expr (longer b c) (suc (deeper a n)) (token k.Identifier at text ∷ vs)) (λ x vs. expect m.Close vs >>= λ rest. Ok (([], x), rest)) (λ x vs. expect m.Close vs >>= λ rest. Ok (([], x), rest))
+          bind (λ vs. expr c (suc n) (token k.Identifier at text ∷ vs)) (λ vs. expr (longer b c) (suc (deeper a n)) (token k.Identifier at text ∷ vs)) (λ x vs. expect m.Close vs >>= λ rest. Ok ((Unnamed, x), rest)) (λ x vs. expect m.Close vs >>= λ rest. Ok ((Unnamed, x), rest))
           (May stops) (May stops) (Next (is_mark m.Close)) (May stops) us (mark_may m.Close stops refl) (sees_name at text us)
-          (λ x vs. sees_expect m.Close _ _ (May stops) (May stops) (λ rest. pass ([], x) (May stops) rest) vs)
+          (λ x vs. sees_expect m.Close _ _ (May stops) (May stops) (λ rest. pass (Unnamed, x) (May stops) rest) vs)
 
-      by_body : (us : List Word) → ((vs : List Word) → Agrees us vs → next_is ends_variable vs ≡ false) → Sees (name_after n (expr c (suc n))) (name_after (deeper a n) (expr (longer b c) (suc (deeper a n)))) (May stops) (May stops) us
+      by_body : (us : List Terminal) → ((vs : List Terminal) → Agrees us vs → next_is ends_variable vs ≡ false) → Sees (name_after n (expr c (suc n))) (name_after (deeper a n) (expr (longer b c) (suc (deeper a n)))) (May stops) (May stops) us
       by_body us h = sees_as _ _ _ _ (May stops) (May stops) us (λ vs w. rw (here vs w) refl) (λ vs w. rw (here vs w) refl) (sees_body_on us)
         where
-          here : (vs : List Word) → Agrees us vs ⊎ May stops vs → next_is ends_variable vs ≡ false
+          here : (vs : List Terminal) → Agrees us vs ⊎ May stops vs → next_is ends_variable vs ≡ false
           here vs (inl w) = h vs w
           here vs (inr w) = may_not stops ends_variable stop_ends_no_variable vs w
 
-      by_variables : (t : Word) (us : List Word) → ends_variable t.kind ≡ true → Sees (name_after n (expr c (suc n))) (name_after (deeper a n) (expr (longer b c) (suc (deeper a n)))) (May stops) (Next (is_mark m.Bar)) (t ∷ us)
+      by_variables : (t : Terminal) (us : List Terminal) → ends_variable t.kind ≡ true → Sees (name_after n (expr c (suc n))) (name_after (deeper a n) (expr (longer b c) (suc (deeper a n)))) (May stops) (Next (is_mark m.Bar)) (t ∷ us)
       by_variables t us e = sees_as _ _ _ _ (May stops) (Next (is_mark m.Bar)) (t ∷ us) (λ vs w. rw (here vs w) refl) (λ vs w. rw (here vs w) refl) (sees_variables_after (t ∷ us))
         where
-          here : (vs : List Word) → Agrees (t ∷ us) vs ⊎ Next (is_mark m.Bar) vs → next_is ends_variable vs ≡ true
+          here : (vs : List Terminal) → Agrees (t ∷ us) vs ⊎ Next (is_mark m.Bar) vs → next_is ends_variable vs ≡ true
           here vs (inl (more, is)) = rw is e
           here vs (inr w) = mark_next m.Bar ends_variable refl vs w
 
-      sees_name_first : (us : List Word) → Sees (iterated (suc n) (expr c (suc n)) two) (iterated (suc (deeper a n)) (expr (longer b c) (suc (deeper a n))) two) (May stops) (Next counts) (token k.Identifier at text ∷ us)
+      sees_name_first : (us : List Terminal) → Sees (iterated (suc n) (expr c (suc n)) two) (iterated (suc (deeper a n)) (expr (longer b c) (suc (deeper a n))) two) (May stops) (Next counts) (token k.Identifier at text ∷ us)
       sees_name_first [] = skip (token k.Identifier at text) [] _ _ _ _ (May stops) (May stops) (Next counts) (name_is n (expr c (suc n))) (name_is (deeper a n) (expr (longer b c) (suc (deeper a n)))) (by_body [] (λ vs is. rw is refl))
       sees_name_first (t ∷ us) = by (ends_variable t.kind) refl
         where
@@ -133,35 +134,35 @@ module _ (a b c : ℕ) (two : Bool) where
           by true e = skip (token k.Identifier at text) (t ∷ us) _ _ _ _ (May stops) (Next (is_mark m.Bar)) (Next counts) (name_is n (expr c (suc n))) (name_is (deeper a n) (expr (longer b c) (suc (deeper a n)))) (by_variables t us e)
           by false e = skip (token k.Identifier at text) (t ∷ us) _ _ _ _ (May stops) (May stops) (Next counts) (name_is n (expr c (suc n))) (name_is (deeper a n) (expr (longer b c) (suc (deeper a n)))) (by_body (t ∷ us) (λ vs (more, is). rw is e))
 
-  name_too_deep : (at : ℕ) (text : List ℕ) → SeesName a b c zero → (us : List Word) → iterated zero (expr c zero) two (token k.Identifier at text ∷ us) ≡ Err (too_deep (token k.Identifier at text ∷ us))
+  name_too_deep : (at : ℕ) (text : List ℕ) → SeesName a b c zero → (us : List Terminal) → iterated zero (expr c zero) two (token k.Identifier at text ∷ us) ≡ Err (too_deep (token k.Identifier at text ∷ us))
   unfolding optional_variables variables
   name_too_deep at text h us = by (next_is ends_variable us)
     where
       by : (v : Bool) → ((if v then Err (too_deep (token k.Identifier at text ∷ us)) else unread (token k.Identifier at text ∷ us)) >>= λ vs. body_after (expr c zero) vs.0 vs.1) ≡ Err (too_deep (token k.Identifier at text ∷ us))
       by true = refl
-      by false = ap (λ r. r >>= λ x. expect m.Close x.1 >>= λ rest. Ok (([], x.0), rest)) (h at text us)
+      by false = ap (λ r. r >>= λ x. expect m.Close x.1 >>= λ rest. Ok ((Unnamed, x.0), rest)) (h at text us)
 
   name_opened : (at : ℕ) (text : List ℕ) → Opens (iterated (suc (suc (suc a))) (expr (longer b c) (suc (suc (suc a)))) two) (May stops) (token k.Identifier at text)
   unfolding optional_variables expect
-  name_opened at text = (([], name text at), mark_word m.Close ∷ [], λ rest g. ap (λ r. r >>= λ x. expect m.Close x.1 >>= λ rest. Ok (([], x.0), rest)) (name_expr (longer b c) (suc (suc a)) at text (mark_word m.Close ∷ rest) refl))
+  name_opened at text = ((Unnamed, Name text at), mark_word m.Close ∷ [], λ rest g. ap (λ r. r >>= λ x. expect m.Close x.1 >>= λ rest. Ok ((Unnamed, x.0), rest)) (name_expr (longer b c) (suc (suc a)) at text (mark_word m.Close ∷ rest) refl))
 
-  sees_iterated : (n : ℕ) → ((ts : List Word) → Sees (expr c n) (expr (longer b c) (deeper a n)) (May stops) (Next counts) ts) → SeesName a b c n → (ts : List Word)
+  sees_iterated : (n : ℕ) → ((ts : List Terminal) → Sees (expr c n) (expr (longer b c) (deeper a n)) (May stops) (Next counts) ts) → SeesName a b c n → (ts : List Terminal)
       → Sees (iterated n (expr c n) two) (iterated (deeper a n) (expr (longer b c) (deeper a n)) two) (May stops) (Next counts) ts
   sees_iterated n sees_whole sees_name [] = no_variable n sees_whole [] (λ us is. rw is refl)
   sees_iterated zero sees_whole sees_name (t ∷ ts) = by t.kind
     where
-      by : (kind : TokenKind) → Sees (iterated zero (expr c zero) two) (iterated (suc (suc (suc a))) (expr (longer b c) (suc (suc (suc a)))) two) (May stops) (Next counts) (token kind t.at t.text ∷ ts)
-      by k.Identifier = blocked _ _ (May stops) (Next counts) (token k.Identifier t.at t.text) ts (name_too_deep t.at t.text sees_name) (name_opened t.at t.text)
+      by : (kind : TokenKind) → Sees (iterated zero (expr c zero) two) (iterated (suc (suc (suc a))) (expr (longer b c) (suc (suc (suc a)))) two) (May stops) (Next counts) (token kind t.offset t.text ∷ ts)
+      by k.Identifier = blocked _ _ (May stops) (Next counts) (token k.Identifier t.offset t.text) ts (name_too_deep t.offset t.text sees_name) (name_opened t.offset t.text)
       by (k.Number v) = no_variable zero sees_whole _ (λ us (more, is). rw is refl)
       by _ = no_variable zero sees_whole _ (λ us (more, is). rw is refl)
   sees_iterated (suc n) sees_whole sees_name (t ∷ ts) = by t.kind
     where
-      by : (kind : TokenKind) → Sees (iterated (suc n) (expr c (suc n)) two) (iterated (suc (deeper a n)) (expr (longer b c) (suc (deeper a n))) two) (May stops) (Next counts) (token kind t.at t.text ∷ ts)
-      by k.Identifier = sees_name_first n t.at t.text sees_whole sees_name ts
+      by : (kind : TokenKind) → Sees (iterated (suc n) (expr c (suc n)) two) (iterated (suc (deeper a n)) (expr (longer b c) (suc (deeper a n))) two) (May stops) (Next counts) (token kind t.offset t.text ∷ ts)
+      by k.Identifier = sees_name_first n t.offset t.text sees_whole sees_name ts
       by (k.Number v) = no_variable (suc n) sees_whole _ (λ us (more, is). rw is refl)
       by _ = no_variable (suc n) sees_whole _ (λ us (more, is). rw is refl)
 
-  sees_iteration : (n : ℕ) → ((ts : List Word) → Sees (expr c n) (expr (longer b c) (deeper a n)) (May stops) (Next counts) ts) → SeesName a b c n → (ts : List Word)
+  sees_iteration : (n : ℕ) → ((ts : List Terminal) → Sees (expr c n) (expr (longer b c) (deeper a n)) (May stops) (Next counts) ts) → SeesName a b c n → (ts : List Terminal)
       → Sees (iteration n (expr c n) two) (iteration (deeper a n) (expr (longer b c) (deeper a n)) two) (May stops) (Next (is_mark m.Open)) ts
   sees_iteration n sees_whole sees_name ts =
       sees_as _ _ _ _ (May stops) (Next (is_mark m.Open)) ts (λ us w. iteration_is n (expr c n) two us) (λ us w. iteration_is (deeper a n) (expr (longer b c) (deeper a n)) two us)
@@ -169,105 +170,105 @@ module _ (a b c : ℕ) (two : Bool) where
 
 -- ---- single steps
 
-abbrev word_divide : Word
+abbrev word_divide : Terminal
 word_divide = token k.Div 0 []
 
-module _ (a b c n : ℕ) (operand operand' : Parser Tree) (sees : (ts : List Word) → Sees operand operand' (May stops) (Next counts) ts)
-    (shortens : Shortens operand) (shortens' : Shortens operand') (empty : operand [] ≡ Err (syntax [])) (shuts : (ts : List Word) → next_is begins ts ≡ false → operand' ts ≡ Err (syntax ts))
-    (opened : (t : Word) → begins t.kind ≡ true → Opens operand' (May stops) t)
-    (sees_whole : (ts : List Word) → Sees (expr c n) (expr (longer b c) (deeper a n)) (May stops) (Next counts) ts) (sees_name : SeesName a b c n) where
-  abbrev whole : Parser Tree
+module _ (a b c n : ℕ) (operand operand' : Reader SurfaceTree) (sees : (ts : List Terminal) → Sees operand operand' (May stops) (Next counts) ts)
+    (shortens : Shortens operand) (shortens' : Shortens operand') (empty : operand [] ≡ Err (syntax [])) (shuts : (ts : List Terminal) → next_is begins ts ≡ false → operand' ts ≡ Err (syntax ts))
+    (opened : (t : Terminal) → begins t.kind ≡ true → Opens operand' (May stops) t)
+    (sees_whole : (ts : List Terminal) → Sees (expr c n) (expr (longer b c) (deeper a n)) (May stops) (Next counts) ts) (sees_name : SeesName a b c n) where
+  abbrev whole : Reader SurfaceTree
   whole = expr c n
 
-  abbrev whole' : Parser Tree
+  abbrev whole' : Reader SurfaceTree
   whole' = expr (longer b c) (deeper a n)
 
-  arguments_see : (source : Tree) (by : Navigation) (text : List ℕ) (at : ℕ) (ts : List Word) → Sees (calling n operand whole source by text at) (calling (deeper a n) operand' whole' source by text at) (May stops) (Next (is_mark m.Open)) ts
+  arguments_see : (source : SurfaceTree) (by : Navigation) (text : List ℕ) (at : ℕ) (ts : List Terminal) → Sees (calling n operand whole source by text at) (calling (deeper a n) operand' whole' source by text at) (May stops) (Next (is_mark m.Open)) ts
   arguments_see source by text at ts = sees_calling operand operand' sees shortens shortens' empty shuts opened a n whole whole' source by text at ts
 
-  dot_default : (source : Tree) → Completes (dotted (deeper a n) operand' whole' source) (May stops) Any []
+  dot_default : (source : SurfaceTree) → Completes (dotted (deeper a n) operand' whole' source) (May stops) Any []
   unfolding dotted
   dot_default source =
       let (x, more, h) = default_of (calling n operand whole source Dot [] 0) (calling (deeper a n) operand' whole' source Dot [] 0) (May stops) (Next (is_mark m.Open)) (arguments_see source Dot [] 0 []) in
       (x, word_divide ∷ more, λ rest g. (tt, (h rest g).1))
 
-  sees_dotted : (source : Tree) (ts : List Word) → Sees (dotted n operand whole source) (dotted (deeper a n) operand' whole' source) (May stops) Any ts
+  sees_dotted : (source : SurfaceTree) (ts : List Terminal) → Sees (dotted n operand whole source) (dotted (deeper a n) operand' whole' source) (May stops) Any ts
   unfolding dotted
   sees_dotted source [] = stuck _ _ (May stops) Any [] (λ us is. rw is refl) (λ us is. rw is refl) (dot_default source)
   sees_dotted source (t ∷ ts) = by t.kind
     where
-      by : (kind : TokenKind) → Sees (dotted n operand whole source) (dotted (deeper a n) operand' whole' source) (May stops) Any (token kind t.at t.text ∷ ts)
-      by k.Identifier = skip (token k.Identifier t.at t.text) ts _ _ (called n operand whole source t.text t.at) (called (deeper a n) operand' whole' source t.text t.at) (May stops) (May stops) Any (λ us. refl) (λ us. refl) (sees_called operand operand' sees shortens shortens' empty shuts opened a n whole whole' source t.text t.at ts)
-      by k.Div = skip (token k.Div t.at t.text) ts _ _ (calling n operand whole source Dot t.text t.at) (calling (deeper a n) operand' whole' source Dot t.text t.at) (May stops) (Next (is_mark m.Open)) Any (λ us. refl) (λ us. refl) (arguments_see source Dot t.text t.at ts)
-      by k.Mod = skip (token k.Mod t.at t.text) ts _ _ (calling n operand whole source Dot t.text t.at) (calling (deeper a n) operand' whole' source Dot t.text t.at) (May stops) (Next (is_mark m.Open)) Any (λ us. refl) (λ us. refl) (arguments_see source Dot t.text t.at ts)
+      by : (kind : TokenKind) → Sees (dotted n operand whole source) (dotted (deeper a n) operand' whole' source) (May stops) Any (token kind t.offset t.text ∷ ts)
+      by k.Identifier = skip (token k.Identifier t.offset t.text) ts _ _ (called n operand whole source t.text t.offset) (called (deeper a n) operand' whole' source t.text t.offset) (May stops) (May stops) Any (λ us. refl) (λ us. refl) (sees_called operand operand' sees shortens shortens' empty shuts opened a n whole whole' source t.text t.offset ts)
+      by k.Div = skip (token k.Div t.offset t.text) ts _ _ (calling n operand whole source Dot t.text t.offset) (calling (deeper a n) operand' whole' source Dot t.text t.offset) (May stops) (Next (is_mark m.Open)) Any (λ us. refl) (λ us. refl) (arguments_see source Dot t.text t.offset ts)
+      by k.Mod = skip (token k.Mod t.offset t.text) ts _ _ (calling n operand whole source Dot t.text t.offset) (calling (deeper a n) operand' whole' source Dot t.text t.offset) (May stops) (Next (is_mark m.Open)) Any (λ us. refl) (λ us. refl) (arguments_see source Dot t.text t.offset ts)
       by (k.Number v) = stuck _ _ (May stops) Any _ (λ us (more, is). rw is refl) (λ us (more, is). rw is refl) (dot_default source)
       by _ = stuck _ _ (May stops) Any _ (λ us (more, is). rw is refl) (λ us (more, is). rw is refl) (dot_default source)
 
-  sees_applied : (o : Option IteratorKind) (source : Tree) (text : List ℕ) (at : ℕ) (ts : List Word) → Sees (applied_by n operand whole o source text at) (applied_by (deeper a n) operand' whole' o source text at) (May stops) (Next (is_mark m.Open)) ts
+  sees_applied : (o : Option IteratorKind) (source : SurfaceTree) (text : List ℕ) (at : ℕ) (ts : List Terminal) → Sees (applied_by n operand whole o source text at) (applied_by (deeper a n) operand' whole' o source text at) (May stops) (Next (is_mark m.Open)) ts
   sees_applied None source text at ts = arguments_see source Arrow text at ts
   sees_applied (Some kind) source text at ts =
-      bind (iteration n whole (takes_two kind)) (iteration (deeper a n) whole' (takes_two kind)) (λ x us. Ok (iterate source kind x.0 x.1 at, us)) (λ x us. Ok (iterate source kind x.0 x.1 at, us)) (May stops) (May stops) (May stops) (Next (is_mark m.Open)) ts (λ us g. g) (sees_iteration a b c (takes_two kind) n sees_whole sees_name ts)
-      (λ x us. pass (iterate source kind x.0 x.1 at) (May stops) us)
+      bind (iteration n whole (takes_two kind)) (iteration (deeper a n) whole' (takes_two kind)) (λ x us. Ok (Iterate source kind x.0 x.1 at, us)) (λ x us. Ok (Iterate source kind x.0 x.1 at, us)) (May stops) (May stops) (May stops) (Next (is_mark m.Open)) ts (λ us g. g) (sees_iteration a b c (takes_two kind) n sees_whole sees_name ts)
+      (λ x us. pass (Iterate source kind x.0 x.1 at) (May stops) us)
 
-  arrow_default : (source : Tree) → Completes (arrowed (deeper a n) operand' whole' source) (May stops) Any []
-  unfolding arrowed applied
+  arrow_default : (source : SurfaceTree) → Completes (arrowed (deeper a n) operand' whole' source) (May stops) Any []
+  unfolding arrowed applied_step
   arrow_default source =
       let (x, more, h) = default_of (calling n operand whole source Arrow [] 0) (calling (deeper a n) operand' whole' source Arrow [] 0) (May stops) (Next (is_mark m.Open)) (arguments_see source Arrow [] 0 []) in
       (x, name_word ∷ more, λ rest g. (tt, (h rest g).1))
 
-  sees_arrowed : (source : Tree) (ts : List Word) → Sees (arrowed n operand whole source) (arrowed (deeper a n) operand' whole' source) (May stops) Any ts
-  unfolding arrowed applied
+  sees_arrowed : (source : SurfaceTree) (ts : List Terminal) → Sees (arrowed n operand whole source) (arrowed (deeper a n) operand' whole' source) (May stops) Any ts
+  unfolding arrowed applied_step
   sees_arrowed source [] = stuck _ _ (May stops) Any [] (λ us is. rw is refl) (λ us is. rw is refl) (arrow_default source)
   sees_arrowed source (t ∷ ts) = by t.kind
     where
-      by : (kind : TokenKind) → Sees (arrowed n operand whole source) (arrowed (deeper a n) operand' whole' source) (May stops) Any (token kind t.at t.text ∷ ts)
-      by k.Identifier = skip (token k.Identifier t.at t.text) ts _ _ (applied_by n operand whole (iterator_of t.text) source t.text t.at) (applied_by (deeper a n) operand' whole' (iterator_of t.text) source t.text t.at) (May stops) (Next (is_mark m.Open)) Any (λ us. refl) (λ us. refl) (sees_applied (iterator_of t.text) source t.text t.at ts)
+      by : (kind : TokenKind) → Sees (arrowed n operand whole source) (arrowed (deeper a n) operand' whole' source) (May stops) Any (token kind t.offset t.text ∷ ts)
+      by k.Identifier = skip (token k.Identifier t.offset t.text) ts _ _ (applied_by n operand whole (iterator_of t.text) source t.text t.offset) (applied_by (deeper a n) operand' whole' (iterator_of t.text) source t.text t.offset) (May stops) (Next (is_mark m.Open)) Any (λ us. refl) (λ us. refl) (sees_applied (iterator_of t.text) source t.text t.offset ts)
       by (k.Number v) = stuck _ _ (May stops) Any _ (λ us (more, is). rw is refl) (λ us (more, is). rw is refl) (arrow_default source)
       by _ = stuck _ _ (May stops) Any _ (λ us (more, is). rw is refl) (λ us (more, is). rw is refl) (arrow_default source)
 
   -- ---- chains of steps
 
-  no_step_here : (l : ℕ) (source : Tree) (ts : List Word) → ((us : List Word) → Agrees ts us → next_is steps_on us ≡ false) → Sees (steps n operand whole l source) (steps (deeper a n) operand' whole' (longer b l) source) (May stops) (May stops) ts
+  no_step_here : (l : ℕ) (source : SurfaceTree) (ts : List Terminal) → ((us : List Terminal) → Agrees ts us → next_is steps_on us ≡ false) → Sees (step_list n operand whole l source) (step_list (deeper a n) operand' whole' (longer b l) source) (May stops) (May stops) ts
   no_step_here l source ts h =
       sees_as _ _ (λ us. Ok (source, us)) (λ us. Ok (source, us)) (May stops) (May stops) ts
       (λ us w. steps_none n operand whole l source us (none us w)) (λ us w. steps_none (deeper a n) operand' whole' (longer b l) source us (none us w)) (pass source (May stops) ts)
     where
-      none : (us : List Word) → Agrees ts us ⊎ May stops us → next_is steps_on us ≡ false
+      none : (us : List Terminal) → Agrees ts us ⊎ May stops us → next_is steps_on us ≡ false
       none us (inl w) = h us w
       none us (inr w) = may_not stops steps_on stop_steps us w
 
   -- the token, which begins a step, and what reads the step after it
-  module _ (t : Word) (on : steps_on t.kind ≡ true) (source : Tree) (q q' : Parser Tree) (step_is : (us : List Word) → one_step n operand whole source (t ∷ us) ≡ q us) (step_is' : (us : List Word) → one_step (deeper a n) operand' whole' source (t ∷ us) ≡ q' us) (sees_step : (ts : List Word) → Sees q q' (May stops) Any ts) where
-    step_too_long : Opens (steps (deeper a n) operand' whole' (suc b) source) (May stops) t
+  module _ (t : Terminal) (on : steps_on t.kind ≡ true) (source : SurfaceTree) (q q' : Reader SurfaceTree) (step_is : (us : List Terminal) → one_step n operand whole source (t ∷ us) ≡ q us) (step_is' : (us : List Terminal) → one_step (deeper a n) operand' whole' source (t ∷ us) ≡ q' us) (sees_step : (ts : List Terminal) → Sees q q' (May stops) Any ts) where
+    step_too_long : Opens (step_list (deeper a n) operand' whole' (suc b) source) (May stops) t
     step_too_long =
         let (x, more, h) = default_of q q' (May stops) Any (sees_step []) in
         (x, more, λ rest g. steps_more (deeper a n) operand' whole' (suc b) source (t ∷ (more ++ rest)) x rest on (λ z. cc (z)) (step_is' (more ++ rest) ∙ (h rest g).1) ∙ steps_done _ (deeper a n) operand' whole' x rest g)
 
-    last_step : (ts : List Word) → Sees (steps n operand whole zero source) (steps (deeper a n) operand' whole' (suc b) source) (May stops) (May stops) (t ∷ ts)
+    last_step : (ts : List Terminal) → Sees (step_list n operand whole zero source) (step_list (deeper a n) operand' whole' (suc b) source) (May stops) (May stops) (t ∷ ts)
     last_step ts = blocked _ _ (May stops) (May stops) t ts (λ us. steps_deep n operand whole zero source (t ∷ us) on refl) step_too_long
 
-    next_step : (l : ℕ) → ((source : Tree) (ts : List Word) → Sees (steps n operand whole l source) (steps (deeper a n) operand' whole' (longer b l) source) (May stops) (May stops) ts) → (ts : List Word) → Sees (steps n operand whole (suc l) source) (steps (deeper a n) operand' whole' (suc (longer b l)) source) (May stops) (May stops) (t ∷ ts)
-    unfolding steps
+    next_step : (l : ℕ) → ((source : SurfaceTree) (ts : List Terminal) → Sees (step_list n operand whole l source) (step_list (deeper a n) operand' whole' (longer b l) source) (May stops) (May stops) ts) → (ts : List Terminal) → Sees (step_list n operand whole (suc l) source) (step_list (deeper a n) operand' whole' (suc (longer b l)) source) (May stops) (May stops) (t ∷ ts)
+    unfolding step_list
     next_step l more ts =
-        skip t ts _ _ (λ us. q us >>= λ x. steps n operand whole l x.0 x.1) (λ us. q' us >>= λ x. steps (deeper a n) operand' whole' (longer b l) x.0 x.1) (May stops) Any (May stops)
-        (λ us. rw on (ap (λ r. r >>= λ x. steps n operand whole l x.0 x.1) (step_is us))) (λ us. rw on (ap (λ r. r >>= λ x. steps (deeper a n) operand' whole' (longer b l) x.0 x.1) (step_is' us)))
-        (bind q q' (steps n operand whole l) (steps (deeper a n) operand' whole' (longer b l)) (May stops) (May stops) (May stops) Any ts (λ us g. g) (sees_step ts) (λ x rest. more x rest))
+        skip t ts _ _ (λ us. q us >>= λ x. step_list n operand whole l x.0 x.1) (λ us. q' us >>= λ x. step_list (deeper a n) operand' whole' (longer b l) x.0 x.1) (May stops) Any (May stops)
+        (λ us. rw on (ap (λ r. r >>= λ x. step_list n operand whole l x.0 x.1) (step_is us))) (λ us. rw on (ap (λ r. r >>= λ x. step_list (deeper a n) operand' whole' (longer b l) x.0 x.1) (step_is' us)))
+        (bind q q' (step_list n operand whole l) (step_list (deeper a n) operand' whole' (longer b l)) (May stops) (May stops) (May stops) Any ts (λ us g. g) (sees_step ts) (λ x rest. more x rest))
 
-  pub sees_steps : (l : ℕ) (source : Tree) (ts : List Word) → Sees (steps n operand whole l source) (steps (deeper a n) operand' whole' (longer b l) source) (May stops) (May stops) ts
+  pub sees_steps : (l : ℕ) (source : SurfaceTree) (ts : List Terminal) → Sees (step_list n operand whole l source) (step_list (deeper a n) operand' whole' (longer b l) source) (May stops) (May stops) ts
   unfolding one_step
   sees_steps l source [] = no_step_here l source [] (λ us is. rw is refl)
   sees_steps zero source (t ∷ ts) = by t.kind
     where
-      by : (kind : TokenKind) → Sees (steps n operand whole zero source) (steps (deeper a n) operand' whole' (suc b) source) (May stops) (May stops) (token kind t.at t.text ∷ ts)
-      by k.Dot = last_step (token k.Dot t.at t.text) refl source (dotted n operand whole source) (dotted (deeper a n) operand' whole' source) (λ us. refl) (λ us. refl) (sees_dotted source) ts
-      by k.Arrow = last_step (token k.Arrow t.at t.text) refl source (arrowed n operand whole source) (arrowed (deeper a n) operand' whole' source) (λ us. refl) (λ us. refl) (sees_arrowed source) ts
+      by : (kind : TokenKind) → Sees (step_list n operand whole zero source) (step_list (deeper a n) operand' whole' (suc b) source) (May stops) (May stops) (token kind t.offset t.text ∷ ts)
+      by k.Dot = last_step (token k.Dot t.offset t.text) refl source (dotted n operand whole source) (dotted (deeper a n) operand' whole' source) (λ us. refl) (λ us. refl) (sees_dotted source) ts
+      by k.Arrow = last_step (token k.Arrow t.offset t.text) refl source (arrowed n operand whole source) (arrowed (deeper a n) operand' whole' source) (λ us. refl) (λ us. refl) (sees_arrowed source) ts
       by (k.Number v) = no_step_here zero source _ (λ us (more, is). rw is refl)
       by _ = no_step_here zero source _ (λ us (more, is). rw is refl)
   sees_steps (suc l) source (t ∷ ts) = by t.kind (sees_steps l)
     where
-      by : (kind : TokenKind) → ((source : Tree) (ts : List Word) → Sees (steps n operand whole l source) (steps (deeper a n) operand' whole' (longer b l) source) (May stops) (May stops) ts)
-          → Sees (steps n operand whole (suc l) source) (steps (deeper a n) operand' whole' (suc (longer b l)) source) (May stops) (May stops) (token kind t.at t.text ∷ ts)
-      by k.Dot more = next_step (token k.Dot t.at t.text) refl source (dotted n operand whole source) (dotted (deeper a n) operand' whole' source) (λ us. refl) (λ us. refl) (sees_dotted source) l more ts
-      by k.Arrow more = next_step (token k.Arrow t.at t.text) refl source (arrowed n operand whole source) (arrowed (deeper a n) operand' whole' source) (λ us. refl) (λ us. refl) (sees_arrowed source) l more ts
+      by : (kind : TokenKind) → ((source : SurfaceTree) (ts : List Terminal) → Sees (step_list n operand whole l source) (step_list (deeper a n) operand' whole' (longer b l) source) (May stops) (May stops) ts)
+          → Sees (step_list n operand whole (suc l) source) (step_list (deeper a n) operand' whole' (suc (longer b l)) source) (May stops) (May stops) (token kind t.offset t.text ∷ ts)
+      by k.Dot more = next_step (token k.Dot t.offset t.text) refl source (dotted n operand whole source) (dotted (deeper a n) operand' whole' source) (λ us. refl) (λ us. refl) (sees_dotted source) l more ts
+      by k.Arrow more = next_step (token k.Arrow t.offset t.text) refl source (arrowed n operand whole source) (arrowed (deeper a n) operand' whole' source) (λ us. refl) (λ us. refl) (sees_arrowed source) l more ts
       by (k.Number v) more = no_step_here (suc l) source _ (λ us (more, is). rw is refl)
       by _ more = no_step_here (suc l) source _ (λ us (more, is). rw is refl)

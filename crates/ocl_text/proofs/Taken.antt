@@ -1,5 +1,5 @@
 -- The names that the rules so far have taken.
-use Rattle.std.proofs.Common.{◌≡◌, ℕ, ◌+◌, ◌<◌, Bool, true, false, not, cond, ◌||◌, List, [], ◌∷◌, ◌++◌, length, map, take, drop, get_or, refl, sym, ap, ◌∙◌, subst, string_bytes}
+use Rattle.std.proofs.Common.{◌≡◌, ℕ, ◌+◌, ◌<◌, Bool, true, false, not, cond, ◌||◌, List, [], ◌∷◌, ◌++◌, length, map, take, drop, get_or, refl, sym, ap, ◌∙◌, subst}
 use Rattle.std.proofs.lemmas.Bool.{false≢true}
 use Rattle.std.proofs.lemmas.List.{take_more, drop_more, map-append}
 use Rattle.std.proofs.lemmas.List.Folds.{list_any-append}
@@ -8,8 +8,9 @@ use Rattle.std.specs.Cmp.Lexicographic.{slice_cmp}
 use Rattle.std.specs.Ordering.{is_eq, nat_cmp}
 use Rattle.std.specs.Str.{bytes_eq}
 use Rattle.ocl_text.specs.declared.tree.SurfaceRule.{SurfaceRule}
-use Rattle.ocl_text.specs.RuleText.{is_taken, AreNamedApart, RepeatsAt, here, later}
-use Rattle.ocl_text.specs.Tree.{Rule, rule_of}
+use Rattle.ocl_text.specs.RuleText.{has_name, AreNamedApart, RepeatsAt, here, later}
+use Rattle.ocl_text.specs.Tree.{Rule}
+use Rattle.ocl_text.specs.View.{rule_of}
 
 pub is_free : (inserted held taken : Bool) → inserted ≡ not held → inserted ≡ true → held ≡ taken → taken ≡ false
 is_free true held taken e t s = by held e s
@@ -40,27 +41,27 @@ module _ (xs : List SurfaceRule) (i : ℕ) (r : SurfaceRule) (is : r ≡ get_or 
   left_more : map rule_of (drop i xs) ≡ rule_of r ∷ map rule_of (drop (i + 1) xs)
   left_more = ap (map rule_of) (drop_more xs i r within ∙ ap (λ x. x ∷ drop (i + 1) xs) (sym is))
 
-  pub still_apart : is_taken (map rule_of (take i xs)) (string_bytes r.name) ≡ false
+  pub still_apart : has_name (map rule_of (take i xs)) r.name ≡ false
       → (AreNamedApart (map rule_of (take i xs)) (map rule_of (drop i xs)) → AreNamedApart [] (map rule_of xs))
       → AreNamedApart (map rule_of (take (i + 1) xs)) (map rule_of (drop (i + 1) xs)) → AreNamedApart [] (map rule_of xs)
   still_apart free so_far rest = so_far (subst (λ (l : List Rule). AreNamedApart (map rule_of (take i xs)) l) (sym left_more) (free, subst (λ (l : List Rule). AreNamedApart l (map rule_of (drop (i + 1) xs))) taken_more rest))
 
-  pub still_repeated : is_taken (map rule_of (take i xs)) (string_bytes r.name) ≡ false
+  pub still_repeated : has_name (map rule_of (take i xs)) r.name ≡ false
       → ((place : ℕ) → RepeatsAt (map rule_of (take i xs)) (map rule_of (drop i xs)) place → RepeatsAt [] (map rule_of xs) place)
       → (place : ℕ) → RepeatsAt (map rule_of (take (i + 1) xs)) (map rule_of (drop (i + 1) xs)) place → RepeatsAt [] (map rule_of xs) place
   still_repeated free so_far place rest = so_far place (subst (λ (l : List Rule). RepeatsAt (map rule_of (take i xs)) l place) (sym left_more) (later free (subst (λ (l : List Rule). RepeatsAt l (map rule_of (drop (i + 1) xs)) place) taken_more rest)))
 
-  pub repeated_here : is_taken (map rule_of (take i xs)) (string_bytes r.name) ≡ true
+  pub repeated_here : has_name (map rule_of (take i xs)) r.name ≡ true
       → ((place : ℕ) → RepeatsAt (map rule_of (take i xs)) (map rule_of (drop i xs)) place → RepeatsAt [] (map rule_of xs) place)
-      → RepeatsAt [] (map rule_of xs) r.place
-  repeated_here held so_far = so_far r.place (subst (λ (l : List Rule). RepeatsAt (map rule_of (take i xs)) l r.place) (sym left_more) (here held))
+      → RepeatsAt [] (map rule_of xs) r.offset
+  repeated_here held so_far = so_far r.offset (subst (λ (l : List Rule). RepeatsAt (map rule_of (take i xs)) l r.offset) (sym left_more) (here held))
 
-  pub still_seen : (name q : List ℕ) (before after : Bool) → name ≡ string_bytes r.name → before ≡ is_taken (map rule_of (take i xs)) q → after ≡ cond (is_eq (slice_cmp nat_cmp name q)) true before → after ≡ is_taken (map rule_of (take (i + 1) xs)) q
+  pub still_seen : (name q : List ℕ) (before after : Bool) → name ≡ r.name → before ≡ has_name (map rule_of (take i xs)) q → after ≡ cond (is_eq (slice_cmp nat_cmp name q)) true before → after ≡ has_name (map rule_of (take (i + 1) xs)) q
   still_seen name q before after named old new =
       new
       ∙ ap (λ (b : Bool). cond b true before) (is_eq-slice_cmp name q ∙ ap (λ n. bytes_eq n q) named)
-      ∙ or_swapped before (bytes_eq (string_bytes r.name) q)
-      ∙ ap (λ (b : Bool). b || bytes_eq (string_bytes r.name) q) old
-      ∙ ap (λ (b : Bool). is_taken (map rule_of (take i xs)) q || b) (sym (or_false (bytes_eq (string_bytes r.name) q)))
+      ∙ or_swapped before (bytes_eq r.name q)
+      ∙ ap (λ (b : Bool). b || bytes_eq r.name q) old
+      ∙ ap (λ (b : Bool). has_name (map rule_of (take i xs)) q || b) (sym (or_false (bytes_eq r.name q)))
       ∙ sym (list_any-append (λ (x : Rule). bytes_eq x.name q) (map rule_of (take i xs)) (rule_of r ∷ []))
-      ∙ ap (λ (l : List Rule). is_taken l q) (sym taken_more)
+      ∙ ap (λ (l : List Rule). has_name l q) (sym taken_more)

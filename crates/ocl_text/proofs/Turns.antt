@@ -1,56 +1,53 @@
 -- One turn of each loop.
 use Rattle.std.proofs.Common.{◌≡◌, ◌≢◌, ℕ, zero, suc, ◌-◌, ◌+◌, ◌<◌, ◌≤◌, List, [], ◌∷◌, ◌++◌, length, drop, Some, None, Result, Ok, Err, refl, arith, true, false}
-use Rattle.ocl_text.specs.declared.token.TokenKind.{TokenKind}
-use Rattle.ocl_text.specs.declared.token.TokenKind.TheVariants as k
-use Rattle.ocl_text.specs.declared.token.Token.{Token}
-use Rattle.ocl_text.specs.declared.refusal.Refusal.{Refusal}
-use Rattle.ocl_text.specs.declared.refusal.Refusal.TheVariants as r
-use Rattle.ocl_text.specs.Gives.{Fails}
-use Rattle.ocl_text.specs.Tokens.{Word}
-use Rattle.ocl_text.specs.Tree.{Rule, Tree, binary}
+use Rattle.ocl_tokens.specs.declared.token.TokenKind.{TokenKind}
+use Rattle.ocl_tokens.specs.declared.token.TokenKind.TheVariants as k
+use Rattle.ocl_base.specs.Steps.{FaultMeaning, fault, out_of_memory, never, Means}
+use Rattle.ocl_tokens.specs.Terminals.{Terminal}
+use Rattle.ocl_text.specs.Tree.{Rule, SurfaceTree, Binary}
 use Rattle.ocl_text.specs.Grammar.{top, steps_on, separates, begins_invariant, next_is}
-use Rattle.ocl_text.specs.Parse.{Stop, syntax, too_deep, Parser, Link, link, chain, one_step, steps, items, invariant, invariants, context, contexts, is_done, expr, expr_over, expr_by, unary, unary_over, unary_by, post, level_of}
+use Rattle.ocl_text.specs.Parse.{TokensFault, syntax, too_deep, Reader, Link, link, chain, one_step, step_list, items, invariant, invariants, context, contexts, is_done, expr, expr_over, expr_by, unary, unary_over, unary_by, post, level_of}
 
-module _ (p : Parser Tree) (level : ℕ) where
-  pub chain_none : (c : ℕ) (left : Tree) (ts : List Word) → link (suc level) ts ≡ None → chain p level c left ts ≡ Ok (left, ts)
+module _ (p : Reader SurfaceTree) (level : ℕ) where
+  pub chain_none : (c : ℕ) (left : SurfaceTree) (ts : List Terminal) → link (suc level) ts ≡ None → chain p level c left ts ≡ Ok (left, ts)
   unfolding chain
   chain_none zero left ts h = rw h refl
   chain_none (suc c) left ts h = rw h refl
 
-  pub chain_deep : (c : ℕ) (left : Tree) (ts : List Word) (l : Link) → link (suc level) ts ≡ Some l → c ≡ 0 → chain p level c left ts ≡ Err (too_deep ts)
+  pub chain_deep : (c : ℕ) (left : SurfaceTree) (ts : List Terminal) (l : Link) → link (suc level) ts ≡ Some l → c ≡ 0 → chain p level c left ts ≡ Err (too_deep ts)
   unfolding chain
   chain_deep zero left ts l h z = rw h refl
   chain_deep (suc c) left ts l h z = absurd (cc)
 
-  pub chain_err : (c : ℕ) (left : Tree) (ts : List Word) (l : Link) (s : Stop) → link (suc level) ts ≡ Some l → c ≢ 0 → p l.2 ≡ Err s → chain p level c left ts ≡ Err s
+  pub chain_err : (c : ℕ) (left : SurfaceTree) (ts : List Terminal) (l : Link) (s : TokensFault) → link (suc level) ts ≡ Some l → c ≢ 0 → p l.2 ≡ Err s → chain p level c left ts ≡ Err s
   unfolding chain
   chain_err zero left ts l s h z e = absurd (z refl)
   chain_err (suc c) left ts l s h z e = rw (h, e) refl
 
-  pub chain_next : (c : ℕ) (left next : Tree) (ts : List Word) (l : Link) (right : Tree) (rest : List Word) (here : ℕ) → here ≡ suc level → link here ts ≡ Some l → c ≢ 0 → p l.2 ≡ Ok (right, rest) → next ≡ binary l.0 left right l.1
+  pub chain_next : (c : ℕ) (left next : SurfaceTree) (ts : List Terminal) (l : Link) (right : SurfaceTree) (rest : List Terminal) (here : ℕ) → here ≡ suc level → link here ts ≡ Some l → c ≢ 0 → p l.2 ≡ Ok (right, rest) → next ≡ Binary l.0 left right l.1
       → chain p level c left ts ≡ chain p level (c - 1) next rest
   unfolding chain
   chain_next zero left next ts l right rest here i h z e v = absurd (z refl)
   chain_next (suc c) left next ts l right rest here i h z e v = let d : suc c - 1 ≡ c = omega arith in rw (v, d) (rw (rw i at h, e) refl)
 
-module _ (n : ℕ) (p whole : Parser Tree) where
-  pub steps_none : (c : ℕ) (source : Tree) (ts : List Word) → next_is steps_on ts ≡ false → steps n p whole c source ts ≡ Ok (source, ts)
-  unfolding steps
+module _ (n : ℕ) (p whole : Reader SurfaceTree) where
+  pub steps_none : (c : ℕ) (source : SurfaceTree) (ts : List Terminal) → next_is steps_on ts ≡ false → step_list n p whole c source ts ≡ Ok (source, ts)
+  unfolding step_list
   steps_none zero source ts h = rw h refl
   steps_none (suc c) source ts h = rw h refl
 
-  pub steps_deep : (c : ℕ) (source : Tree) (ts : List Word) → next_is steps_on ts ≡ true → c ≡ 0 → steps n p whole c source ts ≡ Err (too_deep ts)
-  unfolding steps
+  pub steps_deep : (c : ℕ) (source : SurfaceTree) (ts : List Terminal) → next_is steps_on ts ≡ true → c ≡ 0 → step_list n p whole c source ts ≡ Err (too_deep ts)
+  unfolding step_list
   steps_deep zero source ts h z = rw h refl
   steps_deep (suc c) source ts h z = absurd (cc)
 
-  pub steps_err : (c : ℕ) (source : Tree) (ts : List Word) (s : Stop) → next_is steps_on ts ≡ true → c ≢ 0 → one_step n p whole source ts ≡ Err s → steps n p whole c source ts ≡ Err s
-  unfolding steps
+  pub steps_err : (c : ℕ) (source : SurfaceTree) (ts : List Terminal) (s : TokensFault) → next_is steps_on ts ≡ true → c ≢ 0 → one_step n p whole source ts ≡ Err s → step_list n p whole c source ts ≡ Err s
+  unfolding step_list
   steps_err zero source ts s h z e = absurd (z refl)
   steps_err (suc c) source ts s h z e = rw (h, e) refl
 
-  pub steps_more : (c : ℕ) (source : Tree) (ts : List Word) (next : Tree) (rest : List Word) → next_is steps_on ts ≡ true → c ≢ 0 → one_step n p whole source ts ≡ Ok (next, rest) → steps n p whole c source ts ≡ steps n p whole (c - 1) next rest
-  unfolding steps
+  pub steps_more : (c : ℕ) (source : SurfaceTree) (ts : List Terminal) (next : SurfaceTree) (rest : List Terminal) → next_is steps_on ts ≡ true → c ≢ 0 → one_step n p whole source ts ≡ Ok (next, rest) → step_list n p whole c source ts ≡ step_list n p whole (c - 1) next rest
+  unfolding step_list
   steps_more zero source ts next rest h z e = absurd (z refl)
   steps_more (suc c) source ts next rest h z e = let d : suc c - 1 ≡ c = omega arith in rw (h, e, d) refl
 
@@ -58,86 +55,86 @@ module _ (n : ℕ) (p whole : Parser Tree) where
 pred : (m i : ℕ) → i < m → m - i ≡ suc (m - (i + 1))
 pred m i h = omega arith
 
-module _ {A : Type 0} (p : Parser A) where
-  pub items_over : (m i : ℕ) (found : List A) (ts : List Word) → m ≤ i → items p (m - i) found ts ≡ Err (syntax ts)
+module _ {A : Type 0} (p : Reader A) where
+  pub items_over : (m i : ℕ) (found : List A) (ts : List Terminal) → m ≤ i → items p (m - i) found ts ≡ Err (syntax ts)
   unfolding items
   items_over m i found ts h = let z : m - i ≡ 0 = omega arith in rw z refl
 
-  pub items_err : (m i : ℕ) (found : List A) (ts : List Word) (s : Stop) → i < m → p ts ≡ Err s → items p (m - i) found ts ≡ Err s
+  pub items_err : (m i : ℕ) (found : List A) (ts : List Terminal) (s : TokensFault) → i < m → p ts ≡ Err s → items p (m - i) found ts ≡ Err s
   unfolding items
   items_err m i found ts s h e = rw (pred m i h, e) refl
 
-  pub items_last : (m i : ℕ) (found all : List A) (ts : List Word) (x : A) (rest : List Word) → i < m → p ts ≡ Ok (x, rest) → next_is separates rest ≡ false → all ≡ found ++ x ∷ [] → items p (m - i) found ts ≡ Ok (all, rest)
+  pub items_last : (m i : ℕ) (found all : List A) (ts : List Terminal) (x : A) (rest : List Terminal) → i < m → p ts ≡ Ok (x, rest) → next_is separates rest ≡ false → all ≡ found ++ x ∷ [] → items p (m - i) found ts ≡ Ok (all, rest)
   unfolding items
   items_last m i found all ts x rest h e c a = rw a (rw (pred m i h, e, c) refl)
 
-  pub items_more : (m i : ℕ) (found all : List A) (ts : List Word) (x : A) (rest next : List Word) → i < m → p ts ≡ Ok (x, rest) → next_is separates rest ≡ true → all ≡ found ++ x ∷ [] → drop 1 rest ≡ next → items p (m - i) found ts ≡ items p (m - (i + 1)) all next
+  pub items_more : (m i : ℕ) (found all : List A) (ts : List Terminal) (x : A) (rest next : List Terminal) → i < m → p ts ≡ Ok (x, rest) → next_is separates rest ≡ true → all ≡ found ++ x ∷ [] → drop 1 rest ≡ next → items p (m - i) found ts ≡ items p (m - (i + 1)) all next
   unfolding items
   items_more m i found all ts x rest next h e c a d = rw (a, ← d) (rw (pred m i h, e, c) refl)
 
-module _ (p : Parser Tree) (class : List ℕ × ℕ) where
-  pub invariants_over : (m i : ℕ) (found : List Rule) (ts : List Word) → m ≤ i → invariants p class (m - i) found ts ≡ Err (syntax ts)
+module _ (p : Reader SurfaceTree) (class : List ℕ × ℕ) where
+  pub invariants_over : (m i : ℕ) (found : List Rule) (ts : List Terminal) → m ≤ i → invariants p class (m - i) found ts ≡ Err (syntax ts)
   unfolding invariants
   invariants_over m i found ts h = let z : m - i ≡ 0 = omega arith in rw z refl
 
-  pub invariants_err : (m i n : ℕ) (found : List Rule) (ts : List Word) (s : Stop) → i < m → n ≡ suc (length found) → invariant p class n ts ≡ Err s → invariants p class (m - i) found ts ≡ Err s
+  pub invariants_err : (m i n : ℕ) (found : List Rule) (ts : List Terminal) (s : TokensFault) → i < m → n ≡ suc (length found) → invariant p class n ts ≡ Err s → invariants p class (m - i) found ts ≡ Err s
   unfolding invariants
   invariants_err m i n found ts s h c e = rw (pred m i h, ← c, e) refl
 
-  pub invariants_last : (m i n : ℕ) (found all : List Rule) (ts : List Word) (x : Rule) (rest : List Word) → i < m → n ≡ suc (length found) → invariant p class n ts ≡ Ok (x, rest) → next_is begins_invariant rest ≡ false → all ≡ found ++ x ∷ [] → invariants p class (m - i) found ts ≡ Ok (all, rest)
+  pub invariants_last : (m i n : ℕ) (found all : List Rule) (ts : List Terminal) (x : Rule) (rest : List Terminal) → i < m → n ≡ suc (length found) → invariant p class n ts ≡ Ok (x, rest) → next_is begins_invariant rest ≡ false → all ≡ found ++ x ∷ [] → invariants p class (m - i) found ts ≡ Ok (all, rest)
   unfolding invariants
   invariants_last m i n found all ts x rest h k e c a = rw a (rw (pred m i h, ← k, e, c) refl)
 
-  pub invariants_more : (m i n : ℕ) (found all : List Rule) (ts : List Word) (x : Rule) (rest : List Word) → i < m → n ≡ suc (length found) → invariant p class n ts ≡ Ok (x, rest) → next_is begins_invariant rest ≡ true → all ≡ found ++ x ∷ [] → invariants p class (m - i) found ts ≡ invariants p class (m - (i + 1)) all rest
+  pub invariants_more : (m i n : ℕ) (found all : List Rule) (ts : List Terminal) (x : Rule) (rest : List Terminal) → i < m → n ≡ suc (length found) → invariant p class n ts ≡ Ok (x, rest) → next_is begins_invariant rest ≡ true → all ≡ found ++ x ∷ [] → invariants p class (m - i) found ts ≡ invariants p class (m - (i + 1)) all rest
   unfolding invariants
   invariants_more m i n found all ts x rest h k e c a = rw a (rw (pred m i h, ← k, e, c) refl)
 
-module _ (p : Parser Tree) where
-  pub contexts_done : (f : ℕ) (found : List Rule) (ts : List Word) → is_done ts ≡ true → contexts p f found ts ≡ Ok found
+module _ (p : Reader SurfaceTree) where
+  pub contexts_done : (f : ℕ) (found : List Rule) (ts : List Terminal) → is_done ts ≡ true → contexts p f found ts ≡ Ok found
   unfolding contexts
   contexts_done zero found ts h = rw h refl
   contexts_done (suc f) found ts h = rw h refl
 
-  pub contexts_over : (m i : ℕ) (found : List Rule) (ts : List Word) → m ≤ i → is_done ts ≡ false → contexts p (m - i) found ts ≡ Err (syntax ts)
+  pub contexts_over : (m i : ℕ) (found : List Rule) (ts : List Terminal) → m ≤ i → is_done ts ≡ false → contexts p (m - i) found ts ≡ Err (syntax ts)
   unfolding contexts
   contexts_over m i found ts h d = let z : m - i ≡ 0 = omega arith in rw z (rw d refl)
 
-  pub contexts_err : (m i : ℕ) (found : List Rule) (ts : List Word) (s : Stop) → i < m → is_done ts ≡ false → context ts ≡ Err s → contexts p (m - i) found ts ≡ Err s
+  pub contexts_err : (m i : ℕ) (found : List Rule) (ts : List Terminal) (s : TokensFault) → i < m → is_done ts ≡ false → context ts ≡ Err s → contexts p (m - i) found ts ≡ Err s
   unfolding contexts
   contexts_err m i found ts s h d e = rw (pred m i h) (rw (d, e) refl)
 
-  pub contexts_wrong : (m i : ℕ) (found : List Rule) (ts us : List Word) (class : List ℕ × ℕ) (s : Stop) → i < m → is_done ts ≡ false → context ts ≡ Ok (class, us) → invariants p class (length us) found us ≡ Err s → contexts p (m - i) found ts ≡ Err s
+  pub contexts_wrong : (m i : ℕ) (found : List Rule) (ts us : List Terminal) (class : List ℕ × ℕ) (s : TokensFault) → i < m → is_done ts ≡ false → context ts ≡ Ok (class, us) → invariants p class (length us) found us ≡ Err s → contexts p (m - i) found ts ≡ Err s
   unfolding contexts
   contexts_wrong m i found ts us class s h d e f = rw (pred m i h) (rw (d, e, f) refl)
 
-  pub contexts_more : (m i : ℕ) (found all : List Rule) (ts us rest : List Word) (class : List ℕ × ℕ) → i < m → is_done ts ≡ false → context ts ≡ Ok (class, us) → invariants p class (length us) found us ≡ Ok (all, rest) → contexts p (m - i) found ts ≡ contexts p (m - (i + 1)) all rest
+  pub contexts_more : (m i : ℕ) (found all : List Rule) (ts us rest : List Terminal) (class : List ℕ × ℕ) → i < m → is_done ts ≡ false → context ts ≡ Ok (class, us) → invariants p class (length us) found us ≡ Ok (all, rest) → contexts p (m - i) found ts ≡ contexts p (m - (i + 1)) all rest
   unfolding contexts
   contexts_more m i found all ts us rest class h d e f = rw (pred m i h) (rw (d, e, f) refl)
 
 -- what a part refuses, the whole refuses
-pub fails_as : {A B : Type 0} (all : List Token) (e : Refusal) (r : Result A Stop) (s : Result B Stop) → ((x : Stop) → r ≡ Err x → s ≡ Err x) → Fails all e r → Fails all e s
-fails_as all r.Memory r s f h = tt
-fails_as all (r.Syntax at) r s f h = f _ h
-fails_as all (r.TooDeep at) r s f h = f _ h
+pub fails_as : {A B F : Type 0} (m : FaultMeaning F) (r : Result A F) (s : Result B F) → ((x : F) → r ≡ Err x → s ≡ Err x) → Means m r → Means m s
+fails_as (fault x) r s f h = f x h
+fails_as out_of_memory r s f h = tt
+fails_as never r s f h = h
 
 -- ---- what none of the tests picks out
-expr_other : (here : Parser Tree) (n : ℕ) (operand whole : Parser Tree) (kind : TokenKind) (at : ℕ) (all ts : List Word) → (kind ≡ k.Let → ⊥) → expr_by here n operand whole kind at all ts ≡ here all
+expr_other : (here : Reader SurfaceTree) (n : ℕ) (operand whole : Reader SurfaceTree) (kind : TokenKind) (at : ℕ) (all ts : List Terminal) → (kind ≡ k.Let → ⊥) → expr_by here n operand whole kind at all ts ≡ here all
 expr_other here n operand whole k.Let at all ts h = absurd (h refl)
 expr_other here n operand whole (k.Number v) at all ts h = refl
 expr_other here n operand whole _ at all ts h = refl
 
-pub expr_plain : (most n : ℕ) (ts : List Word) (t : Word) (us : List Word) → n ≢ 0 → ts ≡ t ∷ us → (t.kind ≡ k.Let → ⊥) → expr most n ts ≡ level_of most n top ts
+pub expr_plain : (most n : ℕ) (ts : List Terminal) (t : Terminal) (us : List Terminal) → n ≢ 0 → ts ≡ t ∷ us → (t.kind ≡ k.Let → ⊥) → expr most n ts ≡ level_of most n top ts
 unfolding expr unary expr_over
 expr_plain most zero ts t us z e h = absurd (z refl)
-expr_plain most (suc n) ts t us z e h = rw e (expr_other (level_of most (suc n) top) n (level_of most n top) (expr most n) t.kind t.at (t ∷ us) us h)
+expr_plain most (suc n) ts t us z e h = rw e (expr_other (level_of most (suc n) top) n (level_of most n top) (expr most n) t.kind t.offset (t ∷ us) us h)
 
-unary_other : (most n : ℕ) (operand whole below : Parser Tree) (kind : TokenKind) (at : ℕ) (all ts : List Word) → (kind ≡ k.Minus → ⊥) → (kind ≡ k.Not → ⊥) → unary_by most n operand whole below kind at all ts ≡ post most n operand whole all
+unary_other : (most n : ℕ) (operand whole below : Reader SurfaceTree) (kind : TokenKind) (at : ℕ) (all ts : List Terminal) → (kind ≡ k.Minus → ⊥) → (kind ≡ k.Not → ⊥) → unary_by most n operand whole below kind at all ts ≡ post most n operand whole all
 unary_other most n operand whole below k.Minus at all ts g h = absurd (g refl)
 unary_other most n operand whole below k.Not at all ts g h = absurd (h refl)
 unary_other most n operand whole below (k.Number v) at all ts g h = refl
 unary_other most n operand whole below _ at all ts g h = refl
 
-pub unary_plain : (most n : ℕ) (ts : List Word) (t : Word) (us : List Word) → n ≢ 0 → ts ≡ t ∷ us → (t.kind ≡ k.Minus → ⊥) → (t.kind ≡ k.Not → ⊥) → unary most n ts ≡ post most (n - 1) (level_of most (n - 1) top) (expr most (n - 1)) ts
+pub unary_plain : (most n : ℕ) (ts : List Terminal) (t : Terminal) (us : List Terminal) → n ≢ 0 → ts ≡ t ∷ us → (t.kind ≡ k.Minus → ⊥) → (t.kind ≡ k.Not → ⊥) → unary most n ts ≡ post most (n - 1) (level_of most (n - 1) top) (expr most (n - 1)) ts
 unfolding unary unary_over
 unary_plain most zero ts t us z e g h = absurd (z refl)
-unary_plain most (suc n) ts t us z e g h = let d : suc n - 1 ≡ n = omega arith in rw (e, d) (unary_other most n (level_of most n top) (expr most n) (unary most n) t.kind t.at (t ∷ us) us g h)
+unary_plain most (suc n) ts t us z e g h = let d : suc n - 1 ≡ n = omega arith in rw (e, d) (unary_other most n (level_of most n top) (expr most n) (unary most n) t.kind t.offset (t ∷ us) us g h)

@@ -1,10 +1,10 @@
 -- What is spelled within limits is spelled within wider ones, and a list spells at most one list of rules.
 use Rattle.std.proofs.Common.{◌≡◌, ℕ, zero, suc, ◌+◌, List, [], length, Result, Ok, ap, ◌∙◌, subst, Bool, arith, IfOk}
-use Rattle.ocl_text.specs.Tokens.{Word}
-use Rattle.ocl_text.specs.Tree.{Shape, Optional, Bound, Rule, Tree}
+use Rattle.ocl_tokens.specs.Terminals.{Terminal}
+use Rattle.ocl_text.specs.Tree.{TypeTree, VariableTree, Variables, Bound, Rule, SurfaceTree}
 use Rattle.ocl_text.specs.Grammar as g
 use Rattle.ocl_text.specs.Grammar.{IsExpr, IsBinds, MoreBinds, IsUnary, IsPrim, IsLevel, GoesOn, IsSteps, IsArguments, IsItems, MoreItems, IsIteration, IsType, IsVariable, IsInvariant, IsInvariants, MoreInvariants, IsContexts, SpellsExpr, Spells, SpellsWithin}
-use Rattle.ocl_text.specs.Parse.{Stop, all_of}
+use Rattle.ocl_text.specs.Parse.{TokensFault, all_rules}
 use Rattle.ocl_text.proofs.Complete.{complete_expr, complete_contexts}
 use Rattle.ocl_text.proofs.Sound.{sound_contexts}
 
@@ -23,49 +23,49 @@ deeper a n = plus n (suc (suc (suc a)))
 abbrev pub longer : ℕ → ℕ → ℕ
 longer b c = plus c (suc b)
 
-wider_type : (a : ℕ) {n : ℕ} {ts rest : List Word} {s : Shape} → IsType n ts s rest → IsType (plus n a) ts s rest
+wider_type : (a : ℕ) {n : ℕ} {ts rest : List Terminal} {s : TypeTree} → IsType n ts s rest → IsType (plus n a) ts s rest
 wider_type a (g.a_plain_type h) = g.a_plain_type h
 wider_type a (g.a_type_of d) = g.a_type_of (wider_type a d)
 
-wider_variable : (a : ℕ) {n : ℕ} {ts rest : List Word} {v : Optional} → IsVariable n ts v rest → IsVariable (plus n a) ts v rest
+wider_variable : (a : ℕ) {n : ℕ} {ts rest : List Terminal} {v : VariableTree} → IsVariable n ts v rest → IsVariable (plus n a) ts v rest
 wider_variable a (g.untyped h) = g.untyped h
 wider_variable a (g.typed d) = g.typed (wider_type a d)
 
 mutual
-  wider_expr : (a b : ℕ) {c n : ℕ} {ts rest : List Word} {tree : Tree} → IsExpr c n ts tree rest → IsExpr (plus c b) (plus n a) ts tree rest
-  wider_expr a b (g.let_in d e) = g.let_in (wider_binds a b d) (wider_expr a b e)
+  wider_expr : (a b : ℕ) {c n : ℕ} {ts rest : List Terminal} {tree : SurfaceTree} → IsExpr c n ts tree rest → IsExpr (plus c b) (plus n a) ts tree rest
+  wider_expr a b (g.let_expression d e) = g.let_expression (wider_binds a b d) (wider_expr a b e)
   wider_expr a b (g.plain d) = g.plain (wider_level a b d)
 
-  wider_binds : (a b : ℕ) {c n : ℕ} {found all : List Bound} {ts rest : List Word} → IsBinds c n found ts all rest → IsBinds (plus c b) (plus n a) found ts all rest
+  wider_binds : (a b : ℕ) {c n : ℕ} {found all : List Bound} {ts rest : List Terminal} → IsBinds c n found ts all rest → IsBinds (plus c b) (plus n a) found ts all rest
   wider_binds a b (g.a_bind y d e) = g.a_bind (wider_type a y) (wider_level a b d) (wider_more_binds a b e)
 
-  wider_more_binds : (a b : ℕ) {c n : ℕ} {found all : List Bound} {ts rest : List Word} → MoreBinds c n found ts all rest → MoreBinds (plus c b) (plus n a) found ts all rest
+  wider_more_binds : (a b : ℕ) {c n : ℕ} {found all : List Bound} {ts rest : List Terminal} → MoreBinds c n found ts all rest → MoreBinds (plus c b) (plus n a) found ts all rest
   wider_more_binds a b (g.no_more_binds h) = g.no_more_binds h
   wider_more_binds a b (g.next_bind d) = g.next_bind (wider_binds a b d)
 
-  wider_unary : (a b : ℕ) {c n : ℕ} {ts rest : List Word} {tree : Tree} → IsUnary c n ts tree rest → IsUnary (plus c b) (plus n a) ts tree rest
+  wider_unary : (a b : ℕ) {c n : ℕ} {ts rest : List Terminal} {tree : SurfaceTree} → IsUnary c n ts tree rest → IsUnary (plus c b) (plus n a) ts tree rest
   wider_unary a b (g.minus d) = g.minus (wider_unary a b d)
   wider_unary a b (g.not d) = g.not (wider_unary a b d)
   wider_unary a b (g.post d e) = g.post (wider_prim a b d) (wider_steps a b e)
 
-  wider_prim : (a b : ℕ) {c n : ℕ} {ts rest : List Word} {tree : Tree} → IsPrim c n ts tree rest → IsPrim (plus c b) (plus n a) ts tree rest
+  wider_prim : (a b : ℕ) {c n : ℕ} {ts rest : List Terminal} {tree : SurfaceTree} → IsPrim c n ts tree rest → IsPrim (plus c b) (plus n a) ts tree rest
   wider_prim a b g.a_number = g.a_number
   wider_prim a b (g.a_name h) = g.a_name h
   wider_prim a b g.a_string = g.a_string
   wider_prim a b (g.a_keyword h) = g.a_keyword h
-  wider_prim a b g.a_qualified = g.a_qualified
+  wider_prim a b g.an_enumeration_literal = g.an_enumeration_literal
   wider_prim a b (g.parentheses d) = g.parentheses (wider_expr a b d)
-  wider_prim a b (g.if_then d e f) = g.if_then (wider_level a b d) (wider_expr a b e) (wider_expr a b f)
+  wider_prim a b (g.if_expression d e f) = g.if_expression (wider_level a b d) (wider_expr a b e) (wider_expr a b f)
 
-  wider_level : (a b : ℕ) {c n level : ℕ} {ts rest : List Word} {tree : Tree} → IsLevel c n level ts tree rest → IsLevel (plus c b) (plus n a) level ts tree rest
+  wider_level : (a b : ℕ) {c n level : ℕ} {ts rest : List Terminal} {tree : SurfaceTree} → IsLevel c n level ts tree rest → IsLevel (plus c b) (plus n a) level ts tree rest
   wider_level a b (g.unary d) = g.unary (wider_unary a b d)
   wider_level a b (g.chained d e) = g.chained (wider_level a b d) (wider_chain a b e)
 
-  wider_chain : (a b : ℕ) {c n level m : ℕ} {left : Tree} {ts rest : List Word} {tree : Tree} → GoesOn c n level m left ts tree rest → GoesOn (plus c b) (plus n a) level (plus m b) left ts tree rest
+  wider_chain : (a b : ℕ) {c n level m : ℕ} {left : SurfaceTree} {ts rest : List Terminal} {tree : SurfaceTree} → GoesOn c n level m left ts tree rest → GoesOn (plus c b) (plus n a) level (plus m b) left ts tree rest
   wider_chain a b (g.ends h) = g.ends h
   wider_chain a b (g.more h d e) = g.more h (wider_level a b d) (wider_chain a b e)
 
-  wider_steps : (a b : ℕ) {c n m : ℕ} {source : Tree} {ts rest : List Word} {tree : Tree} → IsSteps c n m source ts tree rest → IsSteps (plus c b) (plus n a) (plus m b) source ts tree rest
+  wider_steps : (a b : ℕ) {c n m : ℕ} {source : SurfaceTree} {ts rest : List Terminal} {tree : SurfaceTree} → IsSteps c n m source ts tree rest → IsSteps (plus c b) (plus n a) (plus m b) source ts tree rest
   wider_steps a b (g.no_step h) = g.no_step h
   wider_steps a b (g.dot h e) = g.dot h (wider_steps a b e)
   wider_steps a b (g.dot_call d e) = g.dot_call (wider_arguments a b d) (wider_steps a b e)
@@ -73,35 +73,35 @@ mutual
   wider_steps a b (g.arrow_call h d e) = g.arrow_call h (wider_arguments a b d) (wider_steps a b e)
   wider_steps a b (g.arrow_iterate h d e) = g.arrow_iterate h (wider_iteration a b d) (wider_steps a b e)
 
-  wider_arguments : (a b : ℕ) {c n : ℕ} {ts rest : List Word} {all : List Tree} → IsArguments c n ts all rest → IsArguments (plus c b) (plus n a) ts all rest
+  wider_arguments : (a b : ℕ) {c n : ℕ} {ts rest : List Terminal} {all : List SurfaceTree} → IsArguments c n ts all rest → IsArguments (plus c b) (plus n a) ts all rest
   wider_arguments a b g.no_argument = g.no_argument
   wider_arguments a b (g.arguments d) = g.arguments (wider_items a b d)
 
-  wider_items : (a b : ℕ) {c n : ℕ} {found all : List Tree} {ts rest : List Word} → IsItems c n found ts all rest → IsItems (plus c b) (plus n a) found ts all rest
+  wider_items : (a b : ℕ) {c n : ℕ} {found all : List SurfaceTree} {ts rest : List Terminal} → IsItems c n found ts all rest → IsItems (plus c b) (plus n a) found ts all rest
   wider_items a b (g.an_item d e) = g.an_item (wider_level a b d) (wider_more_items a b e)
 
-  wider_more_items : (a b : ℕ) {c n : ℕ} {found all : List Tree} {ts rest : List Word} → MoreItems c n found ts all rest → MoreItems (plus c b) (plus n a) found ts all rest
+  wider_more_items : (a b : ℕ) {c n : ℕ} {found all : List SurfaceTree} {ts rest : List Terminal} → MoreItems c n found ts all rest → MoreItems (plus c b) (plus n a) found ts all rest
   wider_more_items a b (g.no_more_items h) = g.no_more_items h
   wider_more_items a b (g.next_item d) = g.next_item (wider_items a b d)
 
-  wider_iteration : (a b : ℕ) {c n : ℕ} {two : Bool} {ts rest : List Word} {vs : List Optional} {body : Tree} → IsIteration c n two ts vs body rest → IsIteration (plus c b) (plus n a) two ts vs body rest
+  wider_iteration : (a b : ℕ) {c n : ℕ} {two : Bool} {ts rest : List Terminal} {vs : Variables} {body : SurfaceTree} → IsIteration c n two ts vs body rest → IsIteration (plus c b) (plus n a) two ts vs body rest
   wider_iteration a b (g.body_alone h d) = g.body_alone h (wider_expr a b d)
   wider_iteration a b (g.one_variable h v d) = g.one_variable h (wider_variable a v) (wider_expr a b d)
   wider_iteration a b (g.two_variables h v w d) = g.two_variables h (wider_variable a v) (wider_variable a w) (wider_expr a b d)
 
-wider_invariant : (a b : ℕ) {nesting c n class_at : ℕ} {class : List ℕ} {ts rest : List Word} {rule : Rule} → IsInvariant nesting c n class class_at ts rule rest → IsInvariant (plus nesting a) (plus c b) n class class_at ts rule rest
+wider_invariant : (a b : ℕ) {nesting c n class_at : ℕ} {class : List ℕ} {ts rest : List Terminal} {rule : Rule} → IsInvariant nesting c n class class_at ts rule rest → IsInvariant (plus nesting a) (plus c b) n class class_at ts rule rest
 wider_invariant a b (g.named d) = g.named (wider_expr a b d)
 wider_invariant a b (g.unnamed d) = g.unnamed (wider_expr a b d)
 
 mutual
-  wider_invariants : (a b : ℕ) {nesting c class_at : ℕ} {class : List ℕ} {found all : List Rule} {ts rest : List Word} → IsInvariants nesting c class class_at found ts all rest → IsInvariants (plus nesting a) (plus c b) class class_at found ts all rest
+  wider_invariants : (a b : ℕ) {nesting c class_at : ℕ} {class : List ℕ} {found all : List Rule} {ts rest : List Terminal} → IsInvariants nesting c class class_at found ts all rest → IsInvariants (plus nesting a) (plus c b) class class_at found ts all rest
   wider_invariants a b (g.an_invariant d e) = g.an_invariant (wider_invariant a b d) (wider_more_invariants a b e)
 
-  wider_more_invariants : (a b : ℕ) {nesting c class_at : ℕ} {class : List ℕ} {found all : List Rule} {ts rest : List Word} → MoreInvariants nesting c class class_at found ts all rest → MoreInvariants (plus nesting a) (plus c b) class class_at found ts all rest
+  wider_more_invariants : (a b : ℕ) {nesting c class_at : ℕ} {class : List ℕ} {found all : List Rule} {ts rest : List Terminal} → MoreInvariants nesting c class class_at found ts all rest → MoreInvariants (plus nesting a) (plus c b) class class_at found ts all rest
   wider_more_invariants a b (g.no_more_invariants h) = g.no_more_invariants h
   wider_more_invariants a b (g.next_invariant h d) = g.next_invariant h (wider_invariants a b d)
 
-wider_contexts : (a b : ℕ) {nesting c : ℕ} {found all : List Rule} {ts : List Word} → IsContexts nesting c found ts all → IsContexts (plus nesting a) (plus c b) found ts all
+wider_contexts : (a b : ℕ) {nesting c : ℕ} {found all : List Rule} {ts : List Terminal} → IsContexts nesting c found ts all → IsContexts (plus nesting a) (plus c b) found ts all
 wider_contexts a b g.no_context = g.no_context
 wider_contexts a b (g.a_context d e) = g.a_context (wider_invariants a b d) (wider_contexts a b e)
 
@@ -110,31 +110,31 @@ plus_swap a b = plus_is a b ∙ (let e = plus_is b a in omega arith)
 
 -- ---- what is read of a whole list
 
-pub read_spells : (nesting chain : ℕ) (ts : List Word) (rules : List Rule) → all_of nesting chain ts ≡ Ok rules → SpellsWithin nesting chain ts rules
-unfolding all_of
-read_spells nesting chain ts rules e = subst (λ (r : Result (List Rule) Stop). IfOk r (λ all. IsContexts nesting chain [] ts all)) e (sound_contexts nesting chain (length ts) [] ts)
+pub read_spells : (nesting chain : ℕ) (ts : List Terminal) (rules : List Rule) → all_rules nesting chain ts ≡ Ok rules → SpellsWithin nesting chain ts rules
+unfolding all_rules
+read_spells nesting chain ts rules e = subst (λ (r : Result (List Rule) TokensFault). IfOk r (λ all. IsContexts nesting chain [] ts all)) e (sound_contexts nesting chain (length ts) [] ts)
 
-pub spelled_read : (nesting chain : ℕ) (ts : List Word) (rules : List Rule) → SpellsWithin nesting chain ts rules → all_of nesting chain ts ≡ Ok rules
-unfolding all_of
+pub spelled_read : (nesting chain : ℕ) (ts : List Terminal) (rules : List Rule) → SpellsWithin nesting chain ts rules → all_rules nesting chain ts ≡ Ok rules
+unfolding all_rules
 spelled_read nesting chain ts rules d = complete_contexts d (length ts) (omega arith)
 
-pub wider : (nesting chain a b : ℕ) (ts : List Word) (rules : List Rule) → SpellsWithin nesting chain ts rules → SpellsWithin (plus nesting a) (plus chain b) ts rules
+pub wider : (nesting chain a b : ℕ) (ts : List Terminal) (rules : List Rule) → SpellsWithin nesting chain ts rules → SpellsWithin (plus nesting a) (plus chain b) ts rules
 wider nesting chain a b ts rules d = wider_contexts a b d
 
-pub one_expr : (ts : List Word) (some others : Tree) (left remains : List Word) → SpellsExpr ts some left → SpellsExpr ts others remains → (some ≡ others) × (left ≡ remains)
+pub one_expr : (ts : List Terminal) (some others : SurfaceTree) (left remains : List Terminal) → SpellsExpr ts some left → SpellsExpr ts others remains → (some ≡ others) × (left ≡ remains)
 one_expr ts some others left remains (n, c, d) (m, e, f) =
     let x = complete_expr (wider_expr m e d) in
     let y = complete_expr (wider_expr n c f) in
     let z = rw (plus_swap m n, plus_swap e c) at y in
     let same : (some, left) ≡ (others, remains) = cc (x, z) in
-    (ap (λ (p : Tree × List Word). p.0) same, ap (λ (p : Tree × List Word). p.1) same)
+    (ap (λ (p : SurfaceTree × List Terminal). p.0) same, ap (λ (p : SurfaceTree × List Terminal). p.1) same)
 
-pub one_list : (ts : List Word) (some others : List Rule) → Spells ts some → Spells ts others → some ≡ others
+pub one_list : (ts : List Terminal) (some others : List Rule) → Spells ts some → Spells ts others → some ≡ others
 one_list ts some others (n, c, d) (m, e, f) =
     let x = spelled_read (plus n m) (plus c e) ts some (wider n c m e ts some d) in
     let y = spelled_read (plus m n) (plus e c) ts others (wider m e n c ts others f) in
     let z = rw (plus_swap m n, plus_swap e c) at y in
     cc (x, z)
 
-pub wider_sum : (nesting chain a b : ℕ) (ts : List Word) (rules : List Rule) → SpellsWithin nesting chain ts rules → SpellsWithin (nesting + a) (chain + b) ts rules
+pub wider_sum : (nesting chain a b : ℕ) (ts : List Terminal) (rules : List Rule) → SpellsWithin nesting chain ts rules → SpellsWithin (nesting + a) (chain + b) ts rules
 wider_sum nesting chain a b ts rules d = rw (← plus_is nesting a, ← plus_is chain b) (wider nesting chain a b ts rules d)

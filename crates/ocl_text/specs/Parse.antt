@@ -1,9 +1,13 @@
--- The parser, as a function on lists.
+-- The parser, as functions on lists.
 use Rattle.std.specs.Prelude.{ℕ, zero, suc, Bool, true, false, if◌then◌else◌, List, [], ◌∷◌, ◌++◌, length, drop, Option, Some, None, Result, Ok, Err, ◌&&◌}
-use Rattle.ocl_text.specs.declared.token.TokenKind.{TokenKind}
-use Rattle.ocl_text.specs.declared.token.TokenKind.TheVariants as k
+use Rattle.ocl_base.specs.Steps.{◌>>=◌}
+use Rattle.ocl_tokens.specs.declared.token.TokenKind.{TokenKind}
+use Rattle.ocl_tokens.specs.declared.token.TokenKind.TheVariants as k
+use Rattle.ocl_tokens.specs.Terminals.{Terminal}
 use Rattle.ocl_text.specs.declared.cursor.Mark.{Mark}
 use Rattle.ocl_text.specs.declared.cursor.Mark.TheVariants as m
+use Rattle.ocl_text.specs.declared.cursor.Start.{Start}
+use Rattle.ocl_text.specs.declared.cursor.Start.TheVariants as start
 use Rattle.ocl_text.specs.declared.tree.BinaryOperator.{BinaryOperator}
 use Rattle.ocl_text.specs.declared.tree.IteratorKind.{IteratorKind}
 use Rattle.ocl_text.specs.declared.tree.Keyword.TheVariants as key
@@ -11,26 +15,20 @@ use Rattle.ocl_text.specs.declared.tree.Navigation.{Navigation}
 use Rattle.ocl_text.specs.declared.tree.Navigation.TheVariants.{Dot, Arrow}
 use Rattle.ocl_text.specs.declared.tree.PrefixOperator.TheVariants.{Negate, Not}
 use Rattle.ocl_text.specs.Strings.{string_value}
-use Rattle.ocl_text.specs.Tokens.{Word}
 use Rattle.ocl_text.specs.Tree as t
-use Rattle.ocl_text.specs.Tree.{Shape, Optional, Declared, Bound, Rule, Tree, number, name, string, keyword, qualified, prefixed, binary, property, call, iterate, bind, choose, trees_of, bindings_of}
-use Rattle.ocl_text.specs.Grammar.{operator, top, steps_on, opens, closes, separates, qualifies, next_is, begins_variable, begins_invariant, declares, is_name, iterator_of, takes_two, numbered}
+use Rattle.ocl_text.specs.Tree.{TypeTree, VariableTree, Variables, Unnamed, Single, Pair, Bound, binding, lets_at, Rule, SurfaceTree, Number, Name, String, Keyword, EnumerationLiteral, Prefix, Binary, Property, Call, Iterate, If, trees_of}
+use Rattle.ocl_text.specs.Grammar.{operator, top, steps_on, is_mark, opens, closes, separates, qualifies, next_is, begins_variable, begins_invariant, declares, is_identifier_kind, iterator_of, takes_two, numbered}
 
--- why nothing was read, and the tokens from the refused one on
-pub data Stop : Type 0 where
-  syntax : (rest : List Word) → Stop
-  too_deep : (rest : List Word) → Stop
+-- why a list of tokens is refused: the tokens from the refused one on
+pub data TokensFault : Type 0 where
+  syntax : (rest : List Terminal) → TokensFault
+  too_deep : (rest : List Terminal) → TokensFault
 
-abbrev pub Read : Type 0 → Type 0
-Read A = Result (A × List Word) Stop
+abbrev pub Reading : Type 0 → Type 0
+Reading A = Result (A × List Terminal) TokensFault
 
-abbrev pub Parser : Type 0 → Type 0
-Parser A = List Word → Read A
-
-infixl 10 ◌>>=◌
-abbrev pub ◌>>=◌ : {A B : Type 0} → Result A Stop → (A → Result B Stop) → Result B Stop
-(Ok x) >>= f = f x
-(Err s) >>= f = Err s
+abbrev pub Reader : Type 0 → Type 0
+Reader A = List Terminal → Reading A
 
 -- ---- single tokens
 
@@ -41,7 +39,7 @@ begins k.Minus = true
 begins k.Not = true
 begins k.Open = true
 begins k.If = true
-begins k.Text = true
+begins k.String = true
 begins k.True = true
 begins k.False = true
 begins k.Null = true
@@ -58,267 +56,261 @@ abbrev pub begins_argument : TokenKind → Bool
 begins_argument k.Close = true
 begins_argument kind = begins kind
 
--- a place where no construct may begin any more
-unfoldable pub too_deep_at : {A : Type 0} → (TokenKind → Bool) → Parser A
+-- what may begin here
+abbrev pub may_begin : Start → TokenKind → Bool
+may_begin start.Operand = begins
+may_begin start.Expression = begins_expr
+may_begin start.Argument = begins_argument
+may_begin start.Name = is_identifier_kind
+
+-- no construct may begin here any more
+unfoldable pub too_deep_at : {A : Type 0} → (TokenKind → Bool) → Reader A
 too_deep_at test ts = if next_is test ts then Err (too_deep ts) else Err (syntax ts)
 
-abbrev pub is_mark : Mark → TokenKind → Bool
-is_mark m.Open k.Open = true
-is_mark m.Close k.Close = true
-is_mark m.Bar k.Bar = true
-is_mark m.Equal k.Equal = true
-is_mark m.Colon k.Colon = true
-is_mark m.In k.In = true
-is_mark m.Then k.Then = true
-is_mark m.Else k.Else = true
-is_mark m.Endif k.Endif = true
-is_mark m.Context k.Context = true
-is_mark _ _ = false
-
-unfoldable pub expect : Mark → List Word → Result (List Word) Stop
+unfoldable pub expect : Mark → List Terminal → Result (List Terminal) TokensFault
 expect mark [] = Err (syntax [])
 expect mark (t ∷ ts) = if is_mark mark t.kind then Ok ts else Err (syntax (t ∷ ts))
 
-abbrev pub identifier_by : TokenKind → List ℕ → List Word → List Word → Read (List ℕ)
+abbrev pub identifier_by : TokenKind → List ℕ → List Terminal → List Terminal → Reading (List ℕ)
 identifier_by k.Identifier text all ts = Ok (text, ts)
 identifier_by _ text all ts = Err (syntax all)
 
-unfoldable pub identifier : Parser (List ℕ)
+unfoldable pub identifier : Reader (List ℕ)
 identifier [] = Err (syntax [])
 identifier (t ∷ ts) = identifier_by t.kind t.text (t ∷ ts) ts
 
+-- a name and its offset
+abbrev pub placed_by : TokenKind → List ℕ → ℕ → List Terminal → List Terminal → Reading (List ℕ × ℕ)
+placed_by k.Identifier text offset all ts = Ok ((text, offset), ts)
+placed_by _ text offset all ts = Err (syntax all)
+
+unfoldable pub placed_name : Reader (List ℕ × ℕ)
+placed_name [] = Err (syntax [])
+placed_name (t ∷ ts) = placed_by t.kind t.text t.offset (t ∷ ts) ts
+
 -- ---- types and variables
 
-abbrev pub type_by : Parser Shape → TokenKind → List ℕ → ℕ → List Word → List Word → Read Shape
-type_by below k.Identifier text at all ts = if next_is opens ts then (below (drop 1 ts) >>= λ x. expect m.Close x.1 >>= λ rest. Ok (t.of text x.0 at, rest)) else Ok (t.plain text at, ts)
-type_by below _ text at all ts = Err (syntax all)
+abbrev pub type_by : Reader TypeTree → TokenKind → List ℕ → ℕ → List Terminal → List Terminal → Reading TypeTree
+type_by below k.Identifier text offset all ts = if next_is opens ts then (below (drop 1 ts) >>= λ x. expect m.Close x.1 >>= λ rest. Ok (t.Collection text x.0 offset, rest)) else Ok (t.Named text offset, ts)
+type_by below _ text offset all ts = Err (syntax all)
 
-unfoldable pub type_over : Parser Shape → Parser Shape
+unfoldable pub type_over : Reader TypeTree → Reader TypeTree
 type_over below [] = Err (syntax [])
-type_over below (t ∷ ts) = type_by below t.kind t.text t.at (t ∷ ts) ts
+type_over below (t ∷ ts) = type_by below t.kind t.text t.offset (t ∷ ts) ts
 
-unfoldable pub a_type : ℕ → Parser Shape
-a_type zero = too_deep_at is_name
+unfoldable pub a_type : ℕ → Reader TypeTree
+a_type zero = too_deep_at is_identifier_kind
 a_type (suc n) = type_over (a_type n)
 
-unfoldable pub a_variable : ℕ → Parser Optional
+unfoldable pub a_variable : ℕ → Reader VariableTree
 a_variable n ts = identifier ts >>= λ v. if next_is declares v.1 then (a_type n (drop 1 v.1) >>= λ s. Ok ((v.0, Some s.0), s.1)) else Ok ((v.0, None), v.1)
 
 -- ---- binary operators
 
 abbrev pub Link : Type 0
-Link = BinaryOperator × ℕ × List Word
+Link = BinaryOperator × ℕ × List Terminal
 
-abbrev pub link_by : Option BinaryOperator → ℕ → List Word → Option Link
-link_by None at ts = None
-link_by (Some op) at ts = Some (op, at, ts)
+abbrev pub link_by : Option BinaryOperator → ℕ → List Terminal → Option Link
+link_by None offset ts = None
+link_by (Some op) offset ts = Some (op, offset, ts)
 
-unfoldable pub link : ℕ → List Word → Option Link
+unfoldable pub link : ℕ → List Terminal → Option Link
 link level [] = None
-link level (t ∷ ts) = link_by (operator level t.kind) t.at ts
+link level (t ∷ ts) = link_by (operator level t.kind) t.offset ts
 
-abbrev pub linked : {A L : Type 0} → Option L → A → (L → A) → A
-linked None ends goes_on = ends
-linked (Some l) ends goes_on = goes_on l
+abbrev pub on_link : {A L : Type 0} → Option L → A → (L → A) → A
+on_link None ends goes_on = ends
+on_link (Some l) ends goes_on = goes_on l
 
-module _ (operand : Parser Tree) (level : ℕ) where
-  unfoldable pub chain : ℕ → Tree → Parser Tree
-  chain zero left ts = linked (link (suc level) ts) (Ok (left, ts)) (λ l. Err (too_deep ts))
-  chain (suc c) left ts = linked (link (suc level) ts) (Ok (left, ts)) (λ l. operand l.2 >>= λ right. chain c (binary l.0 left right.0 l.1) right.1)
+module _ (operand : Reader SurfaceTree) (level : ℕ) where
+  unfoldable pub chain : ℕ → SurfaceTree → Reader SurfaceTree
+  chain zero left ts = on_link (link (suc level) ts) (Ok (left, ts)) (λ l. Err (too_deep ts))
+  chain (suc c) left ts = on_link (link (suc level) ts) (Ok (left, ts)) (λ l. operand l.2 >>= λ right. chain c (Binary l.0 left right.0 l.1) right.1)
 
-unfoldable pub levels : ℕ → Parser Tree → ℕ → Parser Tree
+unfoldable pub levels : ℕ → Reader SurfaceTree → ℕ → Reader SurfaceTree
 levels most unary zero = unary
 levels most unary (suc level) = λ ts. levels most unary level ts >>= λ left. chain (levels most unary level) level most left.0 left.1
 
 -- ---- what stands inside a construct: `operand` reads a level top, `whole` an expression, and n - 1 constructs may be opened
 
 -- One item or more, with commas between. The number bounds the turns: each takes a token, so the count of tokens is enough.
-module _ {A : Type 0} (item : Parser A) where
-  unfoldable pub items : ℕ → List A → Parser (List A)
+module _ {A : Type 0} (item : Reader A) where
+  unfoldable pub items : ℕ → List A → Reader (List A)
   items zero found ts = Err (syntax ts)
   items (suc f) found ts = item ts >>= λ x. if next_is separates x.1 then items f (found ++ x.0 ∷ []) (drop 1 x.1) else Ok (found ++ x.0 ∷ [], x.1)
 
-module _ (operand : Parser Tree) where
-  unfoldable pub arguments_in : ℕ → Parser (List Tree)
+module _ (operand : Reader SurfaceTree) where
+  unfoldable pub arguments_in : ℕ → Reader (List SurfaceTree)
   arguments_in zero us = too_deep_at begins_argument us
   arguments_in (suc n) us = if next_is closes us then Ok ([], drop 1 us) else (items operand (length us) [] us >>= λ x. expect m.Close x.1 >>= λ rest. Ok (x.0, rest))
 
-  unfoldable pub arguments : ℕ → Parser (List Tree)
+  unfoldable pub arguments : ℕ → Reader (List SurfaceTree)
   arguments n ts = expect m.Open ts >>= arguments_in n
 
-unfoldable pub a_bind : ℕ → Parser Tree → Parser Bound
-a_bind n operand ts = identifier ts >>= λ v. expect m.Colon v.1 >>= a_type n >>= λ s. expect m.Equal s.1 >>= operand >>= λ x. Ok (((v.0, s.0), x.0), x.1)
+unfoldable pub a_bind : ℕ → Reader SurfaceTree → Reader Bound
+a_bind n operand ts = placed_name ts >>= λ v. expect m.Colon v.1 >>= a_type n >>= λ s. expect m.Equal s.1 >>= operand >>= λ x. Ok (binding v.0 s.0 x.0, x.1)
 
-abbrev pub has_second : Bool → List Word → Bool
+abbrev pub has_second : Bool → List Terminal → Bool
 has_second two ts = two && next_is separates ts
 
-unfoldable pub variables_by : ℕ → Bool → Optional → List Word → Read (List Optional)
-variables_by n two v ts = if has_second two ts then (a_variable n (drop 1 ts) >>= λ w. expect m.Bar w.1 >>= λ rest. Ok (v ∷ w.0 ∷ [], rest)) else (expect m.Bar ts >>= λ rest. Ok (v ∷ [], rest))
+unfoldable pub variables_by : ℕ → Bool → VariableTree → List Terminal → Reading (Variables)
+variables_by n two v ts = if has_second two ts then (a_variable n (drop 1 ts) >>= λ w. expect m.Bar w.1 >>= λ rest. Ok (Pair v w.0, rest)) else (expect m.Bar ts >>= λ rest. Ok (Single v, rest))
 
-unfoldable pub variables : ℕ → Bool → Parser (List Optional)
+unfoldable pub variables : ℕ → Bool → Reader (Variables)
 variables zero two ts = Err (too_deep ts)
 variables (suc n) two ts = a_variable (suc n) ts >>= λ v. variables_by (suc n) two v.0 v.1
 
-unfoldable pub optional_variables : ℕ → Bool → Parser (List Optional)
-optional_variables n two ts = if begins_variable ts then variables n two ts else Ok ([], ts)
+unfoldable pub optional_variables : ℕ → Bool → Reader (Variables)
+optional_variables n two ts = if begins_variable ts then variables n two ts else Ok (Unnamed, ts)
 
-unfoldable pub iteration : ℕ → Parser Tree → Bool → Parser (List Optional × Tree)
+unfoldable pub iteration : ℕ → Reader SurfaceTree → Bool → Reader (Variables × SurfaceTree)
 iteration n whole two ts = expect m.Open ts >>= optional_variables n two >>= λ vs. whole vs.1 >>= λ x. expect m.Close x.1 >>= λ rest. Ok ((vs.0, x.0), rest)
 
-unfoldable pub conditional : Parser Tree → Parser Tree → ℕ → Parser Tree
-conditional operand whole at ts = operand ts >>= λ x. expect m.Then x.1 >>= whole >>= λ y. expect m.Else y.1 >>= whole >>= λ z. expect m.Endif z.1 >>= λ rest. Ok (choose x.0 y.0 z.0 at, rest)
+unfoldable pub if_expression : Reader SurfaceTree → Reader SurfaceTree → ℕ → Reader SurfaceTree
+if_expression operand whole offset ts = operand ts >>= λ x. expect m.Then x.1 >>= whole >>= λ y. expect m.Else y.1 >>= whole >>= λ z. expect m.Endif z.1 >>= λ rest. Ok (If x.0 y.0 z.0 offset, rest)
 
-unfoldable pub let_in : ℕ → Parser Tree → Parser Tree → ℕ → Parser Tree
-let_in zero operand whole at ts = too_deep_at is_name ts
-let_in (suc n) operand whole at ts = items (a_bind (suc n) operand) (length ts) [] ts >>= λ x. expect m.In x.1 >>= whole >>= λ y. Ok (bind (bindings_of x.0) y.0 at, y.1)
+unfoldable pub let_expression : ℕ → Reader SurfaceTree → Reader SurfaceTree → ℕ → Reader SurfaceTree
+let_expression zero operand whole offset ts = too_deep_at is_identifier_kind ts
+let_expression (suc n) operand whole offset ts = items (a_bind (suc n) operand) (length ts) [] ts >>= λ x. expect m.In x.1 >>= whole >>= λ y. Ok (lets_at offset x.0 y.0, y.1)
 
-module _ (n : ℕ) (operand whole : Parser Tree) where
+module _ (n : ℕ) (operand whole : Reader SurfaceTree) where
   -- a call, by its arguments
-  unfoldable pub calling : Tree → Navigation → List ℕ → ℕ → Parser Tree
-  calling source by text at ts = arguments operand n ts >>= λ x. Ok (call source by text (trees_of x.0) at, x.1)
+  unfoldable pub calling : SurfaceTree → Navigation → List ℕ → ℕ → Reader SurfaceTree
+  calling source by text offset ts = arguments operand n ts >>= λ x. Ok (Call source by text (trees_of x.0) offset, x.1)
 
   -- a call, or a property where no parenthesis opens
-  unfoldable pub called : Tree → List ℕ → ℕ → Parser Tree
-  called source text at ts = if next_is opens ts then calling source Dot text at ts else Ok (property source text at, ts)
+  unfoldable pub called : SurfaceTree → List ℕ → ℕ → Reader SurfaceTree
+  called source text offset ts = if next_is opens ts then calling source Dot text offset ts else Ok (Property source text offset, ts)
 
-  abbrev pub dotted_by : Tree → TokenKind → List ℕ → ℕ → List Word → List Word → Read Tree
-  dotted_by source k.Identifier text at all ts = called source text at ts
-  dotted_by source k.Div text at all ts = calling source Dot text at ts
-  dotted_by source k.Mod text at all ts = calling source Dot text at ts
-  dotted_by source _ text at all ts = Err (syntax all)
+  abbrev pub dotted_by : SurfaceTree → TokenKind → List ℕ → ℕ → List Terminal → List Terminal → Reading SurfaceTree
+  dotted_by source k.Identifier text offset all ts = called source text offset ts
+  dotted_by source k.Div text offset all ts = calling source Dot text offset ts
+  dotted_by source k.Mod text offset all ts = calling source Dot text offset ts
+  dotted_by source _ text offset all ts = Err (syntax all)
 
-  unfoldable pub dotted : Tree → Parser Tree
+  unfoldable pub dotted : SurfaceTree → Reader SurfaceTree
   dotted source [] = Err (syntax [])
-  dotted source (t ∷ ts) = dotted_by source t.kind t.text t.at (t ∷ ts) ts
+  dotted source (t ∷ ts) = dotted_by source t.kind t.text t.offset (t ∷ ts) ts
 
   -- an iteration, or a call by any other name
-  abbrev pub applied_by : Option IteratorKind → Tree → List ℕ → ℕ → Parser Tree
-  applied_by None source text at ts = calling source Arrow text at ts
-  applied_by (Some kind) source text at ts = iteration n whole (takes_two kind) ts >>= λ x. Ok (iterate source kind x.0.0 x.0.1 at, x.1)
+  abbrev pub applied_by : Option IteratorKind → SurfaceTree → List ℕ → ℕ → Reader SurfaceTree
+  applied_by None source text offset ts = calling source Arrow text offset ts
+  applied_by (Some kind) source text offset ts = iteration n whole (takes_two kind) ts >>= λ x. Ok (Iterate source kind x.0.0 x.0.1 offset, x.1)
 
-  unfoldable pub applied : Tree → List ℕ → ℕ → Parser Tree
-  applied source text at ts = applied_by (iterator_of text) source text at ts
+  unfoldable pub applied_step : SurfaceTree → List ℕ → ℕ → Reader SurfaceTree
+  applied_step source text offset ts = applied_by (iterator_of text) source text offset ts
 
-  abbrev pub arrowed_by : Tree → TokenKind → List ℕ → ℕ → List Word → List Word → Read Tree
-  arrowed_by source k.Identifier text at all ts = applied source text at ts
-  arrowed_by source _ text at all ts = Err (syntax all)
+  abbrev pub arrowed_by : SurfaceTree → TokenKind → List ℕ → ℕ → List Terminal → List Terminal → Reading SurfaceTree
+  arrowed_by source k.Identifier text offset all ts = applied_step source text offset ts
+  arrowed_by source _ text offset all ts = Err (syntax all)
 
-  unfoldable pub arrowed : Tree → Parser Tree
+  unfoldable pub arrowed : SurfaceTree → Reader SurfaceTree
   arrowed source [] = Err (syntax [])
-  arrowed source (t ∷ ts) = arrowed_by source t.kind t.text t.at (t ∷ ts) ts
+  arrowed source (t ∷ ts) = arrowed_by source t.kind t.text t.offset (t ∷ ts) ts
 
-  abbrev pub step_by : Tree → TokenKind → List Word → List Word → Read Tree
+  abbrev pub step_by : SurfaceTree → TokenKind → List Terminal → List Terminal → Reading SurfaceTree
   step_by source k.Dot all ts = dotted source ts
   step_by source k.Arrow all ts = arrowed source ts
   step_by source _ all ts = Err (syntax all)
 
   -- a step, which has begun
-  unfoldable pub one_step : Tree → Parser Tree
+  unfoldable pub one_step : SurfaceTree → Reader SurfaceTree
   one_step source [] = Err (syntax [])
   one_step source (t ∷ ts) = step_by source t.kind (t ∷ ts) ts
 
-  unfoldable pub steps : ℕ → Tree → Parser Tree
-  steps zero source ts = if next_is steps_on ts then Err (too_deep ts) else Ok (source, ts)
-  steps (suc c) source ts = if next_is steps_on ts then (one_step source ts >>= λ x. steps c x.0 x.1) else Ok (source, ts)
+  unfoldable pub step_list : ℕ → SurfaceTree → Reader SurfaceTree
+  step_list zero source ts = if next_is steps_on ts then Err (too_deep ts) else Ok (source, ts)
+  step_list (suc c) source ts = if next_is steps_on ts then (one_step source ts >>= λ x. step_list c x.0 x.1) else Ok (source, ts)
 
-unfoldable pub named : List ℕ → ℕ → Parser Tree
-named text at ts = if next_is qualifies ts then (identifier (drop 1 ts) >>= λ v. Ok (qualified text v.0 at, v.1)) else Ok (name text at, ts)
+unfoldable pub name_or_literal : List ℕ → ℕ → Reader SurfaceTree
+name_or_literal text offset ts = if next_is qualifies ts then (identifier (drop 1 ts) >>= λ v. Ok (EnumerationLiteral text v.0 offset, v.1)) else Ok (Name text offset, ts)
 
-abbrev pub prim_by : Parser Tree → Parser Tree → TokenKind → ℕ → List ℕ → List Word → List Word → Read Tree
-prim_by operand whole (k.Number value) at text all ts = Ok (number value at, ts)
-prim_by operand whole k.Identifier at text all ts = named text at ts
-prim_by operand whole k.Text at text all ts = Ok (string (string_value text) at, ts)
-prim_by operand whole k.True at text all ts = Ok (keyword key.True at, ts)
-prim_by operand whole k.False at text all ts = Ok (keyword key.False at, ts)
-prim_by operand whole k.Null at text all ts = Ok (keyword key.Null at, ts)
-prim_by operand whole k.Invalid at text all ts = Ok (keyword key.Invalid at, ts)
-prim_by operand whole k.SelfObject at text all ts = Ok (keyword key.SelfObject at, ts)
-prim_by operand whole k.Open at text all ts = whole ts >>= λ x. expect m.Close x.1 >>= λ rest. Ok (x.0, rest)
-prim_by operand whole k.If at text all ts = conditional operand whole at ts
-prim_by operand whole _ at text all ts = Err (syntax all)
+abbrev pub prim_by : Reader SurfaceTree → Reader SurfaceTree → TokenKind → ℕ → List ℕ → List Terminal → List Terminal → Reading SurfaceTree
+prim_by operand whole (k.Number value) offset text all ts = Ok (Number value offset, ts)
+prim_by operand whole k.Identifier offset text all ts = name_or_literal text offset ts
+prim_by operand whole k.String offset text all ts = Ok (String (string_value text) offset, ts)
+prim_by operand whole k.True offset text all ts = Ok (Keyword key.True offset, ts)
+prim_by operand whole k.False offset text all ts = Ok (Keyword key.False offset, ts)
+prim_by operand whole k.Null offset text all ts = Ok (Keyword key.Null offset, ts)
+prim_by operand whole k.Invalid offset text all ts = Ok (Keyword key.Invalid offset, ts)
+prim_by operand whole k.SelfObject offset text all ts = Ok (Keyword key.SelfObject offset, ts)
+prim_by operand whole k.Open offset text all ts = whole ts >>= λ x. expect m.Close x.1 >>= λ rest. Ok (x.0, rest)
+prim_by operand whole k.If offset text all ts = if_expression operand whole offset ts
+prim_by operand whole _ offset text all ts = Err (syntax all)
 
-unfoldable pub prim : Parser Tree → Parser Tree → Parser Tree
+unfoldable pub prim : Reader SurfaceTree → Reader SurfaceTree → Reader SurfaceTree
 prim operand whole [] = Err (syntax [])
-prim operand whole (t ∷ ts) = prim_by operand whole t.kind t.at t.text (t ∷ ts) ts
+prim operand whole (t ∷ ts) = prim_by operand whole t.kind t.offset t.text (t ∷ ts) ts
 
-unfoldable pub post : ℕ → ℕ → Parser Tree → Parser Tree → Parser Tree
-post most n operand whole ts = prim operand whole ts >>= λ x. steps n operand whole most x.0 x.1
+unfoldable pub post : ℕ → ℕ → Reader SurfaceTree → Reader SurfaceTree → Reader SurfaceTree
+post most n operand whole ts = prim operand whole ts >>= λ x. step_list n operand whole most x.0 x.1
 
-abbrev pub unary_by : ℕ → ℕ → Parser Tree → Parser Tree → Parser Tree → TokenKind → ℕ → List Word → List Word → Read Tree
-unary_by most n operand whole below k.Minus at all ts = below ts >>= λ x. Ok (prefixed Negate x.0 at, x.1)
-unary_by most n operand whole below k.Not at all ts = below ts >>= λ x. Ok (prefixed Not x.0 at, x.1)
-unary_by most n operand whole below _ at all ts = post most n operand whole all
+abbrev pub unary_by : ℕ → ℕ → Reader SurfaceTree → Reader SurfaceTree → Reader SurfaceTree → TokenKind → ℕ → List Terminal → List Terminal → Reading SurfaceTree
+unary_by most n operand whole below k.Minus offset all ts = below ts >>= λ x. Ok (Prefix Negate x.0 offset, x.1)
+unary_by most n operand whole below k.Not offset all ts = below ts >>= λ x. Ok (Prefix Not x.0 offset, x.1)
+unary_by most n operand whole below _ offset all ts = post most n operand whole all
 
-unfoldable pub unary_over : ℕ → ℕ → Parser Tree → Parser Tree → Parser Tree → Parser Tree
+unfoldable pub unary_over : ℕ → ℕ → Reader SurfaceTree → Reader SurfaceTree → Reader SurfaceTree → Reader SurfaceTree
 unary_over most n operand whole below [] = Err (syntax [])
-unary_over most n operand whole below (t ∷ ts) = unary_by most n operand whole below t.kind t.at (t ∷ ts) ts
+unary_over most n operand whole below (t ∷ ts) = unary_by most n operand whole below t.kind t.offset (t ∷ ts) ts
 
-abbrev pub expr_by : Parser Tree → ℕ → Parser Tree → Parser Tree → TokenKind → ℕ → List Word → List Word → Read Tree
-expr_by here n operand whole k.Let at all ts = let_in n operand whole at ts
-expr_by here n operand whole _ at all ts = here all
+abbrev pub expr_by : Reader SurfaceTree → ℕ → Reader SurfaceTree → Reader SurfaceTree → TokenKind → ℕ → List Terminal → List Terminal → Reading SurfaceTree
+expr_by here n operand whole k.Let offset all ts = let_expression n operand whole offset ts
+expr_by here n operand whole _ offset all ts = here all
 
-unfoldable pub expr_over : Parser Tree → ℕ → Parser Tree → Parser Tree → Parser Tree
+unfoldable pub expr_over : Reader SurfaceTree → ℕ → Reader SurfaceTree → Reader SurfaceTree → Reader SurfaceTree
 expr_over here n operand whole [] = here []
-expr_over here n operand whole (t ∷ ts) = expr_by here n operand whole t.kind t.at (t ∷ ts) ts
+expr_over here n operand whole (t ∷ ts) = expr_by here n operand whole t.kind t.offset (t ∷ ts) ts
 
 -- n - 1 constructs may be opened; at 0 no token may stand here
 unfoldable mutual
-  pub unary : ℕ → ℕ → Parser Tree
+  pub unary : ℕ → ℕ → Reader SurfaceTree
   unary most zero = too_deep_at begins
   unary most (suc n) = unary_over most n (levels most (unary most n) top) (expr most n) (unary most n)
 
-  pub expr : ℕ → ℕ → Parser Tree
+  pub expr : ℕ → ℕ → Reader SurfaceTree
   expr most zero = too_deep_at begins_expr
   expr most (suc n) = expr_over (levels most (unary_over most n (levels most (unary most n) top) (expr most n) (unary most n)) top) n (levels most (unary most n) top) (expr most n)
 
-abbrev pub level_of : ℕ → ℕ → ℕ → Parser Tree
+abbrev pub level_of : ℕ → ℕ → ℕ → Reader SurfaceTree
 level_of most n level = levels most (unary most n) level
 
 -- ---- rules
 
 -- the name that comes next, or the one that the number makes
-unfoldable pub rule_name : ℕ → Parser (List ℕ)
-rule_name n ts = if next_is is_name ts then identifier ts else Ok (numbered n, ts)
+unfoldable pub rule_name : ℕ → Reader (List ℕ)
+rule_name n ts = if next_is is_identifier_kind ts then identifier ts else Ok (numbered n, ts)
 
--- the name of a class, and its place
-abbrev pub class_by : TokenKind → List ℕ → ℕ → List Word → List Word → Read (List ℕ × ℕ)
-class_by k.Identifier text at all ts = Ok ((text, at), ts)
-class_by _ text at all ts = Err (syntax all)
+unfoldable pub context : Reader (List ℕ × ℕ)
+context ts = expect m.Context ts >>= placed_name
 
-unfoldable pub class_name : Parser (List ℕ × ℕ)
-class_name [] = Err (syntax [])
-class_name (t ∷ ts) = class_by t.kind t.text t.at (t ∷ ts) ts
+module _ (body : Reader SurfaceTree) (class : List ℕ × ℕ) where
+  -- after the `inv` at this offset
+  unfoldable pub invariant_at : ℕ → ℕ → Reader Rule
+  invariant_at n offset ts = rule_name n ts >>= λ v. expect m.Colon v.1 >>= body >>= λ x. Ok (record { name = v.0; context = class.0; offset = offset; context_offset = class.1; tree = x.0 }, x.1)
 
-unfoldable pub context : Parser (List ℕ × ℕ)
-context ts = expect m.Context ts >>= class_name
+  abbrev pub invariant_by : ℕ → TokenKind → ℕ → List Terminal → List Terminal → Reading Rule
+  invariant_by n k.Inv offset all ts = invariant_at n offset ts
+  invariant_by n _ offset all ts = Err (syntax all)
 
-module _ (body : Parser Tree) (class : List ℕ × ℕ) where
-  -- after the `inv` at this place
-  unfoldable pub invariant_at : ℕ → ℕ → Parser Rule
-  invariant_at n at ts = rule_name n ts >>= λ v. expect m.Colon v.1 >>= body >>= λ x. Ok (record { name = v.0; context = class.0; at = at; context_at = class.1; tree = x.0 }, x.1)
-
-  abbrev pub invariant_by : ℕ → TokenKind → ℕ → List Word → List Word → Read Rule
-  invariant_by n k.Inv at all ts = invariant_at n at ts
-  invariant_by n _ at all ts = Err (syntax all)
-
-  unfoldable pub invariant : ℕ → Parser Rule
+  unfoldable pub invariant : ℕ → Reader Rule
   invariant n [] = Err (syntax [])
-  invariant n (t ∷ ts) = invariant_by n t.kind t.at (t ∷ ts) ts
+  invariant n (t ∷ ts) = invariant_by n t.kind t.offset (t ∷ ts) ts
 
   -- as with items, the number bounds the turns
-  unfoldable pub invariants : ℕ → List Rule → Parser (List Rule)
+  unfoldable pub invariants : ℕ → List Rule → Reader (List Rule)
   invariants zero found ts = Err (syntax ts)
   invariants (suc f) found ts = invariant (suc (length found)) ts >>= λ x. if next_is begins_invariant x.1 then invariants f (found ++ x.0 ∷ []) x.1 else Ok (found ++ x.0 ∷ [], x.1)
 
-abbrev pub is_done : List Word → Bool
+abbrev pub is_done : List Terminal → Bool
 is_done [] = true
 is_done (t ∷ ts) = false
 
-module _ (body : Parser Tree) where
-  unfoldable pub contexts : ℕ → List Rule → List Word → Result (List Rule) Stop
+module _ (body : Reader SurfaceTree) where
+  unfoldable pub contexts : ℕ → List Rule → List Terminal → Result (List Rule) TokensFault
   contexts zero found ts = if is_done ts then Ok found else Err (syntax ts)
   contexts (suc f) found ts = if is_done ts then Ok found else (context ts >>= λ c. invariants body c.0 (length c.1) found c.1 >>= λ x. contexts f x.0 x.1)
 
 -- all the tokens
-unfoldable pub all_of : ℕ → ℕ → List Word → Result (List Rule) Stop
-all_of nesting most ts = contexts (expr most (suc nesting)) (length ts) [] ts
+unfoldable pub all_rules : ℕ → ℕ → List Terminal → Result (List Rule) TokensFault
+all_rules nesting most ts = contexts (expr most (suc nesting)) (length ts) [] ts

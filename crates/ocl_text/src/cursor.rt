@@ -1,49 +1,106 @@
-//! Single tokens, by their place in the list.
+//! Single tokens, by their index in the list.
 
-ghost use Rattle.std.specs.Prelude.{◌≡◌, ◌<◌, ◌+◌, [], ◌∷◌, List, length, MatchOption, Option, Some, None, option_map, true, string_bytes, drop};
+ghost use Rattle.std.specs.Prelude.{◌≡◌, ◌<◌, ◌+◌, [], ◌∷◌, List, length, MatchOption, Option, Some, None, option_map, true, drop, IfOk};
+ghost use Rattle.ocl_base.specs.Steps.{Fails};
+ghost use Rattle.ocl_tokens.specs.Terminals.{terminal};
+ghost use Rattle.ocl_text.specs.declared.cursor.ParseFault.TheVariants.{OutOfMemory};
 ghost use Rattle.ocl_text.specs.Grammar as grammar;
 ghost use Rattle.ocl_text.specs.Parse as spec;
-ghost use Rattle.ocl_text.specs.Tokens.{word};
-ghost use Rattle.ocl_text.specs.Tree.{Shape, Tree};
-ghost use Rattle.ocl_text.specs.Gives.{Gives, Fails, Passes, from};
+ghost use Rattle.ocl_text.specs.Parses.{Parses, Passes, from, meaning};
+ghost use Rattle.ocl_text.specs.Tree.{SurfaceTree, TypeTree};
 
-use crate::refusal::Refusal;
-use crate::token::{Token, TokenKind};
+use crate::name::Name;
 use crate::tree::{BinaryOperator, IteratorKind};
-use std::alloc::Global;
+use ocl_tokens::{Token, TokenKind};
+use std::alloc::{AllocError, AllocFailed, Global};
 
-/// A token that has to stand in one place.
+/// The tokens that are read, and how many links one chain may have.
+#[derive(Clone, Copy, Debug)]
+pub(crate) struct Parser<'t> {
+    pub(crate) tokens: &'t [Token<'t>],
+    pub(crate) chain: usize,
+}
+
+/// Why nothing was read, with the index of the refused token, or the count of tokens.
+#[derive(Debug, Drop)]
+pub(crate) enum ParseFault {
+    Syntax(usize),
+    TooDeep(usize),
+    OutOfMemory,
+}
+
+impl From<AllocError> for ParseFault {
+    ghost from_gives = { λ _ e. e ≡ OutOfMemory };
+
+    fn from(_error: AllocError) -> Self {
+        ParseFault::OutOfMemory
+    }
+}
+
+impl<T: Drop> From<AllocFailed<T>> for ParseFault {
+    ghost from_gives = { λ _ e. e ≡ OutOfMemory };
+
+    fn from(_error: AllocFailed<T>) -> Self {
+        ParseFault::OutOfMemory
+    }
+}
+
+/// A token that is asked for by its kind.
 #[derive(Clone, Copy, Debug)]
 pub(crate) enum Mark {
+    Identifier,
     Open,
     Close,
     Bar,
+    Comma,
     Equal,
     Colon,
+    ColonColon,
     In,
     Then,
     Else,
     Endif,
     Context,
+    Inv,
 }
 
-/// The token at this place.
-pub(crate) fn peek<'a>(tokens: &[Token<'a>], at: usize) -> Option<Token<'a>>
-    ensures { MatchOption result (from tokens.now at ≡ []) (λ t. (from tokens.now at ≡ word t ∷ from tokens.now (at + 1)) × (at < length tokens.now)) }
+/// What may begin at a token.
+#[derive(Clone, Copy, Debug)]
+pub(crate) enum Start {
+    Operand,
+    Expression,
+    /// An argument, or the end of the arguments.
+    Argument,
+    Name,
+}
+
+/// A name, and where it stands in the text.
+#[derive(Debug, Drop)]
+pub(crate) struct PlacedName {
+    pub(crate) name: Name,
+    /// The name, in bytes from 0.
+    pub(crate) offset: usize,
+}
+
+/// The token at this index.
+pub(crate) fn peek<'t>(parser: &Parser<'t>, index: usize) -> Option<Token<'t>>
+    ensures tokens { MatchOption result (from parser.now index ≡ [])
+        (λ t. from parser.now index ≡ terminal t ∷ from parser.now (index + 1)) }
+    ensures within { MatchOption result (Unit {0}) (λ _. index < length parser.now.tokens.now) }
 {
-    if at < tokens.len() {
-        Some(tokens[at])
+    if index < parser.tokens.len() {
+        Some(parser.tokens[index])
     } else {
         None
     }
 }
 
-/// How many tokens there are from this place on.
+/// How many tokens there are from this index on.
 #[tactic(auto, using(crate::proofs::Counts::length_from))]
-pub(crate) fn count(tokens: &[Token<'_>], at: usize) -> usize
-    ensures { result ≡ length (from tokens.now at) }
+pub(crate) fn count(parser: &Parser<'_>, index: usize) -> usize
+    ensures { result ≡ length (from parser.now index) }
 {
-    tokens.len().saturating_sub(at)
+    parser.tokens.len().saturating_sub(index)
 }
 
 fn operator(level: usize, kind: TokenKind) -> Option<BinaryOperator>
@@ -69,46 +126,68 @@ fn operator(level: usize, kind: TokenKind) -> Option<BinaryOperator>
     }
 }
 
-/// The operator of this level that comes next, and its place in the text.
+/// The operator of this level that comes next, and its offset in the text.
 #[tactic(auto, unfolding(crate::specs::Parse::link))]
-pub(crate) fn link(level: usize, tokens: &[Token<'_>], at: usize) -> Option<(BinaryOperator, usize)>
-    ensures value { option_map (λ x. (x.0, x.1, from tokens.now (at + 1))) result ≡ spec.link level (from tokens.now at) }
-    ensures within { MatchOption result (Unit {0}) (λ _. at < length tokens.now) }
+pub(crate) fn link(
+    level: usize,
+    parser: &Parser<'_>,
+    index: usize,
+) -> Option<(BinaryOperator, usize)>
+    ensures value { option_map (λ x. (x.0, x.1, from parser.now (index + 1))) result
+        ≡ spec.link level (from parser.now index) }
+    ensures within { MatchOption result (Unit {0}) (λ _. index < length parser.now.tokens.now) }
 {
-    let t = peek(tokens, at)?;
+    let t = peek(parser, index)?;
     Some((operator(level, t.kind)?, t.span.start))
 }
 
 fn is_mark(mark: Mark, kind: TokenKind) -> bool
-    ensures { result ≡ spec.is_mark mark kind }
+    ensures { result ≡ grammar.is_mark mark kind }
 {
     match (mark, kind) {
+        (Mark::Identifier, TokenKind::Identifier) => true,
         (Mark::Open, TokenKind::Open) => true,
         (Mark::Close, TokenKind::Close) => true,
         (Mark::Bar, TokenKind::Bar) => true,
+        (Mark::Comma, TokenKind::Comma) => true,
         (Mark::Equal, TokenKind::Equal) => true,
         (Mark::Colon, TokenKind::Colon) => true,
+        (Mark::ColonColon, TokenKind::ColonColon) => true,
         (Mark::In, TokenKind::In) => true,
         (Mark::Then, TokenKind::Then) => true,
         (Mark::Else, TokenKind::Else) => true,
         (Mark::Endif, TokenKind::Endif) => true,
         (Mark::Context, TokenKind::Context) => true,
+        (Mark::Inv, TokenKind::Inv) => true,
         _ => false,
     }
 }
 
-/// The place after a token that has to stand here.
-#[tactic(auto, unfolding(crate::specs::Parse::expect))]
-pub(crate) fn expect(mark: Mark, tokens: &[Token<'_>], at: usize) -> Result<usize, Refusal>
-    ensures { Passes tokens.now result (spec.expect mark (from tokens.now at)) }
+/// Whether a token of this kind comes next.
+#[tactic(auto, using(crate::proofs::Counts::drop_from))]
+pub(crate) fn next_is(mark: Mark, parser: &Parser<'_>, index: usize) -> bool
+    ensures value { result ≡ grammar.next_is (grammar.is_mark mark) (from parser.now index) }
+    ensures within { result ≡ true → index < length parser.now.tokens.now }
+    ensures after { drop 1 (from parser.now index) ≡ from parser.now (index + 1) }
 {
-    let Some(t) = peek(tokens, at) else {
-        return Err(Refusal::Syntax(at));
+    match peek(parser, index) {
+        None => false,
+        Some(t) => is_mark(mark, t.kind),
+    }
+}
+
+/// The index after a token of this kind, which has to stand here.
+#[tactic(auto, unfolding(crate::specs::Parse::expect))]
+pub(crate) fn expect(mark: Mark, parser: &Parser<'_>, index: usize) -> Result<usize, ParseFault>
+    ensures { Passes parser.now result (spec.expect mark (from parser.now index)) }
+{
+    let Some(t) = peek(parser, index) else {
+        return Err(ParseFault::Syntax(index));
     };
     if is_mark(mark, t.kind) {
-        Ok(at + 1)
+        Ok(index + 1)
     } else {
-        Err(Refusal::Syntax(at))
+        Err(ParseFault::Syntax(index))
     }
 }
 
@@ -116,165 +195,86 @@ pub(crate) fn expect(mark: Mark, tokens: &[Token<'_>], at: usize) -> Result<usiz
 #[tactic(auto, unfolding(crate::specs::Parse::identifier))]
 pub(crate) fn identifier(
     alloc: Global,
-    tokens: &[Token<'_>],
-    at: usize,
-) -> Result<(String, usize), Refusal>
-    ensures { Gives tokens.now string_bytes result (spec.identifier (from tokens.now at)) }
+    parser: &Parser<'_>,
+    index: usize,
+) -> Result<(Name, usize), ParseFault>
+    ensures { Parses parser.now (λ n. n) result (spec.identifier (from parser.now index)) }
 {
-    let Some(t) = peek(tokens, at) else {
-        return Err(Refusal::Syntax(at));
+    let Some(t) = peek(parser, index) else {
+        return Err(ParseFault::Syntax(index));
     };
     match t.kind {
-        TokenKind::Identifier => Ok((String::from_str(alloc, t.text)?, at + 1)),
-        _ => Err(Refusal::Syntax(at)),
+        TokenKind::Identifier => Ok((Name::new(alloc, t.text)?, index + 1)),
+        _ => Err(ParseFault::Syntax(index)),
     }
 }
 
-pub(crate) fn begins_step(tokens: &[Token<'_>], at: usize) -> bool
-    ensures { result ≡ grammar.next_is grammar.steps_on (from tokens.now at) }
+/// The name that has to stand here, with its offset.
+#[tactic(auto, unfolding(crate::specs::Parse::placed_name))]
+pub(crate) fn placed_name(
+    alloc: Global,
+    parser: &Parser<'_>,
+    index: usize,
+) -> Result<(PlacedName, usize), ParseFault>
+    ensures { Parses parser.now (λ n. (n.name, n.offset)) result
+        (spec.placed_name (from parser.now index)) }
 {
-    match peek(tokens, at) {
+    let Some(t) = peek(parser, index) else {
+        return Err(ParseFault::Syntax(index));
+    };
+    match t.kind {
+        TokenKind::Identifier => {
+            let name = Name::new(alloc, t.text)?;
+            let offset = t.span.start;
+            Ok((PlacedName { name, offset }, index + 1))
+        }
+        _ => Err(ParseFault::Syntax(index)),
+    }
+}
+
+/// Whether a dot or an arrow comes next.
+pub(crate) fn begins_step(parser: &Parser<'_>, index: usize) -> bool
+    ensures { result ≡ grammar.next_is grammar.steps_on (from parser.now index) }
+{
+    match peek(parser, index) {
         None => false,
         Some(t) => matches!(t.kind, TokenKind::Dot | TokenKind::Arrow),
     }
 }
 
-#[tactic(auto, using(crate::proofs::Counts::drop_from))]
-pub(crate) fn opens(tokens: &[Token<'_>], at: usize) -> bool
-    ensures value { result ≡ grammar.next_is grammar.opens (from tokens.now at) }
-    ensures within { result ≡ true → at < length tokens.now }
-    ensures after { drop 1 (from tokens.now at) ≡ from tokens.now (at + 1) }
+fn ends_variable(parser: &Parser<'_>, index: usize) -> bool
+    ensures { result ≡ grammar.next_is grammar.ends_variable (from parser.now index) }
 {
-    match peek(tokens, at) {
-        None => false,
-        Some(t) => matches!(t.kind, TokenKind::Open),
-    }
-}
-
-#[tactic(auto, using(crate::proofs::Counts::drop_from))]
-pub(crate) fn closes(tokens: &[Token<'_>], at: usize) -> bool
-    ensures value { result ≡ grammar.next_is grammar.closes (from tokens.now at) }
-    ensures within { result ≡ true → at < length tokens.now }
-    ensures after { drop 1 (from tokens.now at) ≡ from tokens.now (at + 1) }
-{
-    match peek(tokens, at) {
-        None => false,
-        Some(t) => matches!(t.kind, TokenKind::Close),
-    }
-}
-
-#[tactic(auto, using(crate::proofs::Counts::drop_from))]
-pub(crate) fn separates(tokens: &[Token<'_>], at: usize) -> bool
-    ensures value { result ≡ grammar.next_is grammar.separates (from tokens.now at) }
-    ensures within { result ≡ true → at < length tokens.now }
-    ensures after { drop 1 (from tokens.now at) ≡ from tokens.now (at + 1) }
-{
-    match peek(tokens, at) {
-        None => false,
-        Some(t) => matches!(t.kind, TokenKind::Comma),
-    }
-}
-
-#[tactic(auto, using(crate::proofs::Counts::drop_from))]
-pub(crate) fn qualifies(tokens: &[Token<'_>], at: usize) -> bool
-    ensures value { result ≡ grammar.next_is grammar.qualifies (from tokens.now at) }
-    ensures within { result ≡ true → at < length tokens.now }
-    ensures after { drop 1 (from tokens.now at) ≡ from tokens.now (at + 1) }
-{
-    match peek(tokens, at) {
-        None => false,
-        Some(t) => matches!(t.kind, TokenKind::ColonColon),
-    }
-}
-
-#[tactic(auto, using(crate::proofs::Counts::drop_from))]
-pub(crate) fn declares(tokens: &[Token<'_>], at: usize) -> bool
-    ensures value { result ≡ grammar.next_is grammar.declares (from tokens.now at) }
-    ensures within { result ≡ true → at < length tokens.now }
-    ensures after { drop 1 (from tokens.now at) ≡ from tokens.now (at + 1) }
-{
-    match peek(tokens, at) {
-        None => false,
-        Some(t) => matches!(t.kind, TokenKind::Colon),
-    }
-}
-
-fn ends_variable(tokens: &[Token<'_>], at: usize) -> bool
-    ensures { result ≡ grammar.next_is grammar.ends_variable (from tokens.now at) }
-{
-    match peek(tokens, at) {
+    match peek(parser, index) {
         None => false,
         Some(t) => matches!(t.kind, TokenKind::Comma | TokenKind::Bar | TokenKind::Colon),
     }
 }
 
-pub(crate) fn begins_variable(tokens: &[Token<'_>], at: usize) -> bool
-    ensures { result ≡ grammar.begins_variable (from tokens.now at) }
+/// Whether an iteration's variable comes next.
+pub(crate) fn begins_variable(parser: &Parser<'_>, index: usize) -> bool
+    ensures { result ≡ grammar.begins_variable (from parser.now index) }
 {
-    let Some(t) = peek(tokens, at) else {
+    let Some(t) = peek(parser, index) else {
         return false;
     };
     match t.kind {
-        TokenKind::Identifier => ends_variable(tokens, at + 1),
+        TokenKind::Identifier => ends_variable(parser, index + 1),
         _ => false,
     }
 }
 
-#[tactic(auto, unfolding(crate::specs::Parse::too_deep_at))]
-pub(crate) fn too_deep_unary(tokens: &[Token<'_>], at: usize) -> Refusal
-    ensures { Fails tokens.now result (spec.too_deep_at {A = Tree} spec.begins (from tokens.now at)) }
+/// Whether a second variable comes next, where there may be two.
+#[tactic(auto, using(crate::proofs::Counts::drop_from))]
+pub(crate) fn has_second(two: bool, parser: &Parser<'_>, index: usize) -> bool
+    ensures value { result ≡ spec.has_second two (from parser.now index) }
+    ensures within { result ≡ true → index < length parser.now.tokens.now }
+    ensures after { drop 1 (from parser.now index) ≡ from parser.now (index + 1) }
 {
-    let Some(t) = peek(tokens, at) else {
-        return Refusal::Syntax(at);
-    };
-    if begins(t.kind) {
-        Refusal::TooDeep(at)
-    } else {
-        Refusal::Syntax(at)
-    }
+    two && next_is(Mark::Comma, parser, index)
 }
 
-#[tactic(auto, unfolding(crate::specs::Parse::too_deep_at))]
-pub(crate) fn too_deep_expr(tokens: &[Token<'_>], at: usize) -> Refusal
-    ensures { Fails tokens.now result (spec.too_deep_at {A = Tree} spec.begins_expr (from tokens.now at)) }
-{
-    let Some(t) = peek(tokens, at) else {
-        return Refusal::Syntax(at);
-    };
-    if begins_expr(t.kind) {
-        Refusal::TooDeep(at)
-    } else {
-        Refusal::Syntax(at)
-    }
-}
-
-#[tactic(auto, unfolding(crate::specs::Parse::too_deep_at))]
-pub(crate) fn too_deep_name(tokens: &[Token<'_>], at: usize) -> Refusal
-    ensures { Fails tokens.now result (spec.too_deep_at {A = Tree} grammar.is_name (from tokens.now at)) }
-{
-    let Some(t) = peek(tokens, at) else {
-        return Refusal::Syntax(at);
-    };
-    match t.kind {
-        TokenKind::Identifier => Refusal::TooDeep(at),
-        _ => Refusal::Syntax(at),
-    }
-}
-
-#[tactic(auto, unfolding(crate::specs::Parse::too_deep_at))]
-pub(crate) fn too_deep_type(tokens: &[Token<'_>], at: usize) -> Refusal
-    ensures { Fails tokens.now result (spec.too_deep_at {A = Shape} grammar.is_name (from tokens.now at)) }
-{
-    let Some(t) = peek(tokens, at) else {
-        return Refusal::Syntax(at);
-    };
-    match t.kind {
-        TokenKind::Identifier => Refusal::TooDeep(at),
-        _ => Refusal::Syntax(at),
-    }
-}
-
-fn begins(kind: TokenKind) -> bool
+fn begins_operand(kind: TokenKind) -> bool
     ensures { result ≡ spec.begins kind }
 {
     matches!(
@@ -285,7 +285,7 @@ fn begins(kind: TokenKind) -> bool
             | TokenKind::Not
             | TokenKind::Open
             | TokenKind::If
-            | TokenKind::Text
+            | TokenKind::String
             | TokenKind::True
             | TokenKind::False
             | TokenKind::Null
@@ -294,12 +294,35 @@ fn begins(kind: TokenKind) -> bool
     )
 }
 
-fn begins_expr(kind: TokenKind) -> bool
-    ensures { result ≡ spec.begins_expr kind }
+fn may_begin(start: Start, kind: TokenKind) -> bool
+    ensures { result ≡ spec.may_begin start kind }
 {
-    match kind {
-        TokenKind::Let => true,
-        _ => begins(kind),
+    match (start, kind) {
+        (Start::Expression, TokenKind::Let) => true,
+        (Start::Argument, TokenKind::Close) => true,
+        (Start::Name, TokenKind::Identifier) => true,
+        (Start::Name, _) => false,
+        _ => begins_operand(kind),
+    }
+}
+
+/// The fault at a token round which no construct may be opened any more.
+#[tactic(auto, unfolding(crate::specs::Parse::too_deep_at))]
+pub(crate) fn too_deep(start: Start, parser: &Parser<'_>, index: usize) -> ParseFault
+    ensures tree { Fails (meaning parser.now) result
+        (spec.too_deep_at {A = SurfaceTree} (spec.may_begin start) (from parser.now index)) }
+    ensures declared { Fails (meaning parser.now) result
+        (spec.too_deep_at {A = TypeTree} (spec.may_begin start) (from parser.now index)) }
+    ensures trees { Fails (meaning parser.now) result
+        (spec.too_deep_at {A = List SurfaceTree} (spec.may_begin start) (from parser.now index)) }
+{
+    let Some(t) = peek(parser, index) else {
+        return ParseFault::Syntax(index);
+    };
+    if may_begin(start, t.kind) {
+        ParseFault::TooDeep(index)
+    } else {
+        ParseFault::Syntax(index)
     }
 }
 
@@ -320,73 +343,18 @@ pub(crate) fn iterator_of(text: &str) -> Option<IteratorKind>
 }
 
 /// Whether an iteration may have two variables.
-pub(crate) fn takes_two(kind: IteratorKind) -> bool
-    ensures { result ≡ grammar.takes_two kind }
+pub(crate) fn takes_two(iterator: IteratorKind) -> bool
+    ensures { result ≡ grammar.takes_two iterator }
 {
-    match kind {
+    match iterator {
         IteratorKind::ForAll | IteratorKind::Exists => true,
         _ => false,
     }
 }
 
 /// Whether no token is left.
-pub(crate) fn is_done(tokens: &[Token<'_>], at: usize) -> bool
-    ensures { result ≡ spec.is_done (from tokens.now at) }
+pub(crate) fn is_done(parser: &Parser<'_>, index: usize) -> bool
+    ensures { result ≡ spec.is_done (from parser.now index) }
 {
-    match peek(tokens, at) {
-        None => true,
-        Some(_) => false,
-    }
-}
-
-/// Whether a name comes next.
-pub(crate) fn names(tokens: &[Token<'_>], at: usize) -> bool
-    ensures { result ≡ grammar.next_is grammar.is_name (from tokens.now at) }
-{
-    match peek(tokens, at) {
-        None => false,
-        Some(t) => matches!(t.kind, TokenKind::Identifier),
-    }
-}
-
-/// Whether an invariant comes next.
-pub(crate) fn begins_invariant(tokens: &[Token<'_>], at: usize) -> bool
-    ensures { result ≡ grammar.next_is grammar.begins_invariant (from tokens.now at) }
-{
-    match peek(tokens, at) {
-        None => false,
-        Some(t) => matches!(t.kind, TokenKind::Inv),
-    }
-}
-
-fn begins_argument(kind: TokenKind) -> bool
-    ensures { result ≡ spec.begins_argument kind }
-{
-    match kind {
-        TokenKind::Close => true,
-        _ => begins(kind),
-    }
-}
-
-#[tactic(auto, unfolding(crate::specs::Parse::too_deep_at))]
-pub(crate) fn too_deep_argument(tokens: &[Token<'_>], at: usize) -> Refusal
-    ensures { Fails tokens.now result (spec.too_deep_at {A = List Tree} spec.begins_argument (from tokens.now at)) }
-{
-    let Some(t) = peek(tokens, at) else {
-        return Refusal::Syntax(at);
-    };
-    if begins_argument(t.kind) {
-        Refusal::TooDeep(at)
-    } else {
-        Refusal::Syntax(at)
-    }
-}
-
-#[tactic(auto, using(crate::proofs::Counts::drop_from))]
-pub(crate) fn has_second(two: bool, tokens: &[Token<'_>], at: usize) -> bool
-    ensures value { result ≡ spec.has_second two (from tokens.now at) }
-    ensures within { result ≡ true → at < length tokens.now }
-    ensures after { drop 1 (from tokens.now at) ≡ from tokens.now (at + 1) }
-{
-    two && separates(tokens, at)
+    peek(parser, index).is_none()
 }

@@ -1,60 +1,71 @@
 //! Each kind of node, in a box where it needs one.
 
-ghost use Rattle.std.specs.Prelude.{◌≡◌, IfOk, string_bytes, map};
+ghost use Rattle.std.specs.Prelude.{◌≡◌, ◌≤◌, ◌<◌, true, IfOk, map, vec_len};
+ghost use Rattle.ocl_base.specs.Words.{is_name};
+ghost use Rattle.ocl_text.specs.Names.{is_operation_name};
 ghost use Rattle.ocl_text.specs.Strings.{string_value};
-ghost use Rattle.ocl_text.specs.Tree as spec;
+ghost use Rattle.ocl_text.specs.Tree as tree;
+ghost use Rattle.ocl_text.specs.View as spec;
 
+use crate::cursor::PlacedName;
+use crate::name::{Name, OperationName, WholeNumber};
 use crate::strings;
 use crate::tree::{
-    BinaryOperator, Binding, DeclaredType, Expression, IteratorKind, Keyword, Navigation,
-    PrefixOperator, Variable,
+    BinaryOperator, Binding, DeclaredType, Expression, IteratorKind, Keyword, Link, Navigation,
+    PrefixOperator, Variables,
 };
+use ocl_tokens::MAX_NUMBER;
 use std::alloc::{AllocError, Global};
 
 #[tactic(auto, using(crate::proofs::Views::views))]
-pub(crate) fn number(value: u64, place: usize) -> Expression
-    ensures { spec.view result ≡ spec.number value place }
+pub(crate) fn number(value: u64, offset: usize) -> Expression
+    requires { value ≤ MAX_NUMBER }
+    ensures { spec.view result ≡ tree.Number value offset }
 {
-    Expression::Number { value, place }
+    let value = WholeNumber::new(value);
+    Expression::Number { value, offset }
 }
 
 #[tactic(auto, using(crate::proofs::Views::views))]
-pub(crate) fn string(alloc: Global, spelling: &str, place: usize) -> Result<Expression, AllocError>
-    ensures { IfOk result (λ e. spec.view e ≡ spec.string (string_value spelling.now) place) }
+pub(crate) fn string(alloc: Global, spelling: &str, offset: usize) -> Result<Expression, AllocError>
+    ensures { IfOk result (λ e. spec.view e ≡ tree.String (string_value spelling.now) offset) }
 {
     let value = strings::string_value(alloc, spelling)?;
-    Ok(Expression::Text { value, place })
+    Ok(Expression::String { value, offset })
 }
 
 #[tactic(auto, using(crate::proofs::Views::views))]
-pub(crate) fn keyword(keyword: Keyword, place: usize) -> Expression
-    ensures { spec.view result ≡ spec.keyword keyword place }
+pub(crate) fn keyword(keyword: Keyword, offset: usize) -> Expression
+    ensures { spec.view result ≡ tree.Keyword keyword offset }
 {
-    Expression::Keyword { keyword, place }
+    Expression::Keyword { keyword, offset }
 }
 
 #[tactic(auto, using(crate::proofs::Views::views))]
-pub(crate) fn name(alloc: Global, text: &str, place: usize) -> Result<Expression, AllocError>
-    ensures { IfOk result (λ e. spec.view e ≡ spec.name text.now place) }
+pub(crate) fn name(alloc: Global, text: &str, offset: usize) -> Result<Expression, AllocError>
+    requires { is_name text.now ≡ true }
+    ensures { IfOk result (λ e. spec.view e ≡ tree.Name text.now offset) }
 {
-    let name = String::from_str(alloc, text)?;
-    Ok(Expression::Name { name, place })
+    let name = Name::new(alloc, text)?;
+    Ok(Expression::Name { name, offset })
 }
 
 #[tactic(auto, using(crate::proofs::Views::views))]
-pub(crate) fn qualified(
+pub(crate) fn enumeration_literal(
     alloc: Global,
-    first: &str,
-    literal: String,
-    place: usize,
+    enumeration: &str,
+    literal: Name,
+    offset: usize,
 ) -> Result<Expression, AllocError>
-    ensures { IfOk result (λ e. spec.view e ≡ spec.qualified first.now (string_bytes literal) place) }
+    requires { is_name enumeration.now ≡ true }
+    ensures { IfOk result (λ e. spec.view e ≡ tree.EnumerationLiteral enumeration.now literal
+        offset) }
 {
-    let enumeration = String::from_str(alloc, first)?;
+    let enumeration = Name::new(alloc, enumeration)?;
     Ok(Expression::EnumerationLiteral {
         enumeration,
         literal,
-        place,
+        offset,
     })
 }
 
@@ -63,16 +74,36 @@ pub(crate) fn prefix(
     alloc: Global,
     operator: PrefixOperator,
     operand: Expression,
-    place: usize,
+    offset: usize,
 ) -> Result<Expression, AllocError>
-    ensures { IfOk result (λ e. spec.view e ≡ spec.prefixed operator (spec.view operand) place) }
+    ensures { IfOk result (λ e. spec.view e ≡ tree.Prefix operator (spec.view operand) offset) }
 {
     let operand = Box::new(alloc, operand)?;
     Ok(Expression::Prefix {
         operator,
         operand,
-        place,
+        offset,
     })
+}
+
+/// What stands left of a link, with the link.
+#[tactic(auto, using(crate::proofs::Views::views))]
+fn linked(alloc: Global, left: Expression, link: Link) -> Result<Expression, AllocError>
+    ensures { IfOk result (λ e. spec.view e ≡ spec.link_of link (spec.view left)) }
+{
+    match left {
+        Expression::Spine { first, links } => {
+            let mut links = links;
+            links.push(link)?;
+            Ok(Expression::Spine { first, links })
+        }
+        operand => {
+            let mut links = Vec::new(alloc);
+            links.push(link)?;
+            let first = Box::new(alloc, operand)?;
+            Ok(Expression::Spine { first, links })
+        }
+    }
 }
 
 #[tactic(auto, using(crate::proofs::Views::views))]
@@ -81,18 +112,17 @@ pub(crate) fn binary(
     operator: BinaryOperator,
     left: Expression,
     right: Expression,
-    place: usize,
+    offset: usize,
 ) -> Result<Expression, AllocError>
-    ensures { IfOk result (λ e. spec.view e ≡ spec.binary operator (spec.view left) (spec.view right) place) }
+    ensures { IfOk result (λ e. spec.view e
+        ≡ tree.Binary operator (spec.view left) (spec.view right) offset) }
 {
-    let left = Box::new(alloc, left)?;
-    let right = Box::new(alloc, right)?;
-    Ok(Expression::Binary {
+    let link = Link::Binary {
         operator,
-        left,
         right,
-        place,
-    })
+        offset,
+    };
+    linked(alloc, left, link)
 }
 
 #[tactic(auto, using(crate::proofs::Views::views))]
@@ -100,17 +130,13 @@ pub(crate) fn property(
     alloc: Global,
     source: Expression,
     text: &str,
-    place: usize,
+    offset: usize,
 ) -> Result<Expression, AllocError>
-    ensures { IfOk result (λ e. spec.view e ≡ spec.property (spec.view source) text.now place) }
+    requires { is_name text.now ≡ true }
+    ensures { IfOk result (λ e. spec.view e ≡ tree.Property (spec.view source) text.now offset) }
 {
-    let source = Box::new(alloc, source)?;
-    let name = String::from_str(alloc, text)?;
-    Ok(Expression::Property {
-        source,
-        name,
-        place,
-    })
+    let name = Name::new(alloc, text)?;
+    linked(alloc, source, Link::Property { name, offset })
 }
 
 #[tactic(auto, using(crate::proofs::Views::views))]
@@ -120,19 +146,21 @@ pub(crate) fn call(
     navigation: Navigation,
     text: &str,
     arguments: Vec<Expression>,
-    place: usize,
+    offset: usize,
 ) -> Result<Expression, AllocError>
-    ensures { IfOk result (λ e. spec.view e ≡ spec.call (spec.view source) navigation text.now (spec.trees_of (map spec.view arguments.items)) place) }
+    requires { is_operation_name text.now ≡ true }
+    ensures { IfOk result (λ e. spec.view e
+        ≡ tree.Call (spec.view source) navigation text.now
+        (tree.trees_of (map spec.view arguments.items)) offset) }
 {
-    let source = Box::new(alloc, source)?;
-    let name = String::from_str(alloc, text)?;
-    Ok(Expression::Call {
-        source,
+    let name = OperationName::new(alloc, text)?;
+    let link = Link::Call {
         navigation,
         name,
         arguments,
-        place,
-    })
+        offset,
+    };
+    linked(alloc, source, link)
 }
 
 #[tactic(auto, using(crate::proofs::Views::views))]
@@ -140,68 +168,78 @@ pub(crate) fn iterate(
     alloc: Global,
     source: Expression,
     iterator: IteratorKind,
-    variables: Vec<Variable>,
+    variables: Variables,
     body: Expression,
-    place: usize,
+    offset: usize,
 ) -> Result<Expression, AllocError>
-    ensures { IfOk result (λ e. spec.view e ≡ spec.iterate (spec.view source) iterator (map spec.variable_of variables.items) (spec.view body) place) }
+    ensures { IfOk result (λ e. spec.view e
+        ≡ tree.Iterate (spec.view source) iterator (spec.view_variables variables)
+        (spec.view body) offset) }
 {
-    let source = Box::new(alloc, source)?;
-    let body = Box::new(alloc, body)?;
-    Ok(Expression::Iterate {
-        source,
+    let link = Link::Iterate {
         iterator,
         variables,
         body,
-        place,
-    })
+        offset,
+    };
+    linked(alloc, source, link)
 }
 
 #[tactic(auto, using(crate::proofs::Views::views))]
-pub(crate) fn binding(name: String, declared: DeclaredType, value: Expression) -> Binding
-    ensures { spec.bound_of result ≡ ((string_bytes name, spec.shape declared), spec.view value) }
+pub(crate) fn binding(placed: PlacedName, declared: DeclaredType, value: Expression) -> Binding
+    ensures { spec.bound_of result
+        ≡ tree.binding (placed.name, placed.offset) (spec.view_type declared) (spec.view value) }
 {
+    let PlacedName { name, offset } = placed;
     Binding {
         name,
         declared,
         value,
+        offset,
     }
 }
 
+/// The bindings, one or more, round a body.
 #[tactic(auto, using(crate::proofs::Views::views))]
-pub(crate) fn bind(
+pub(crate) fn let_expression(
     alloc: Global,
     bindings: Vec<Binding>,
     body: Expression,
-    place: usize,
+    offset: usize,
 ) -> Result<Expression, AllocError>
-    ensures { IfOk result (λ e. spec.view e ≡ spec.bind (spec.bindings_of (map spec.bound_of bindings.items)) (spec.view body) place) }
+    requires { 0 < vec_len bindings }
+    ensures { IfOk result (λ e. spec.view e
+        ≡ tree.lets_at offset (map spec.bound_of bindings.items) (spec.view body)) }
 {
+    let mut others = bindings;
+    let first = Box::new(alloc, others.remove(0))?;
     let body = Box::new(alloc, body)?;
     Ok(Expression::Let {
-        bindings,
+        first,
+        others,
         body,
-        place,
+        offset,
     })
 }
 
 #[tactic(auto, using(crate::proofs::Views::views))]
-pub(crate) fn choose(
+pub(crate) fn if_expression(
     alloc: Global,
     condition: Expression,
-    chosen: Expression,
-    other: Expression,
-    place: usize,
+    then_branch: Expression,
+    else_branch: Expression,
+    offset: usize,
 ) -> Result<Expression, AllocError>
-    ensures { IfOk result (λ e. spec.view e ≡ spec.choose (spec.view condition) (spec.view chosen) (spec.view other) place) }
+    ensures { IfOk result (λ e. spec.view e
+        ≡ tree.If (spec.view condition) (spec.view then_branch) (spec.view else_branch) offset) }
 {
     let condition = Box::new(alloc, condition)?;
-    let chosen = Box::new(alloc, chosen)?;
-    let other = Box::new(alloc, other)?;
+    let then_branch = Box::new(alloc, then_branch)?;
+    let else_branch = Box::new(alloc, else_branch)?;
     Ok(Expression::If {
         condition,
-        chosen,
-        other,
-        place,
+        then_branch,
+        else_branch,
+        offset,
     })
 }

@@ -1,37 +1,41 @@
-//! Expressions, by recursive descent.
+//! Expressions, by recursive descent. Round a token there are fewer open constructs than the depth.
 
-ghost use Rattle.std.specs.Prelude.{◌≡◌, ◌≤◌, ◌<◌, ◌+◌, [], ◌∷◌, true, length, List, map, string_bytes, IfOk, IfErr};
+ghost use Rattle.std.specs.Prelude.{◌≡◌, ◌≤◌, ◌<◌, ◌+◌, [], ◌∷◌, true, length, List, map, vec_len, IfOk, IfErr};
+ghost use Rattle.ocl_base.specs.Words.{is_name};
+ghost use Rattle.ocl_tokens.specs.Terminals.{Terminal};
+ghost use Rattle.ocl_text.specs.Names.{is_operation_name};
 ghost use Rattle.ocl_text.specs.Parse as spec;
-ghost use Rattle.ocl_text.specs.Tree.{Tree, view, bound_of, variable_of};
-ghost use Rattle.ocl_text.specs.Tokens.{Word};
+ghost use Rattle.ocl_text.specs.Parses.{Parses, UnlessOutOfMemory, from, operand, whole};
 ghost use Rattle.ocl_text.specs.Grammar.{IsExpr, SpellsExpr};
-ghost use Rattle.ocl_text.specs.Gives.{Gives, Fails, Tells, from};
+ghost use Rattle.ocl_text.specs.Tree.{SurfaceTree};
+ghost use Rattle.ocl_text.specs.View.{view, bound_of, view_variables};
 
-use crate::cursor::Mark;
-use crate::refusal::Refusal;
-use crate::token::{Token, TokenKind};
-use crate::tree::{Binding, Expression, Keyword, Navigation, PrefixOperator, Variable};
+use crate::cursor::{Mark, ParseFault, Parser, Start};
+use crate::tree::{Binding, Expression, Keyword, Navigation, PrefixOperator, Variables};
 use crate::{cursor, nodes, types};
+use ocl_tokens::{Token, TokenKind};
 use std::alloc::Global;
 
 /// The loosest level of operators.
 const TOP: usize = 8;
 
-/// The expression that begins at this token, and the place after it. Round a token there may be fewer open constructs than the
-/// depth, and a chain may have so many links.
+/// The expression that begins at this token, and the index after it.
 pub(crate) fn expression(
     alloc: Global,
-    most: usize,
+    parser: &Parser<'_>,
     depth: usize,
-    tokens: &[Token<'_>],
-    at: usize,
-) -> Result<(Expression, usize), Refusal>
-    ensures gives { Gives tokens.now view result (spec.expr most depth (from tokens.now at)) }
-    ensures spells { IfOk result (λ x. IsExpr most depth (from tokens.now at) (view x.0) (from tokens.now x.1)) }
-    ensures only { IfOk result (λ x. (tree : Tree) (rest : List Word) → SpellsExpr (from tokens.now at) tree rest → (tree ≡ view x.0) × (rest ≡ from tokens.now x.1)) }
-    ensures refused { IfErr result (Tells ((tree : Tree) (rest : List Word) → IsExpr most depth (from tokens.now at) tree rest → ⊥)) }
+    index: usize,
+) -> Result<(Expression, usize), ParseFault>
+    ensures gives { Parses parser.now view result (whole parser.now depth (from parser.now index)) }
+    ensures spells { IfOk result (λ x.
+        IsExpr parser.now.chain depth (from parser.now index) (view x.0) (from parser.now x.1)) }
+    ensures only { IfOk result (λ x. (tree : SurfaceTree) (rest : List Terminal)
+        → SpellsExpr (from parser.now index) tree rest
+        → (tree ≡ view x.0) × (rest ≡ from parser.now x.1)) }
+    ensures refused { IfErr result (UnlessOutOfMemory ((tree : SurfaceTree) (rest : List Terminal)
+        → IsExpr parser.now.chain depth (from parser.now index) tree rest → ⊥)) }
 {
-    expr(alloc, most, depth, tokens, at)
+    expr(alloc, parser, depth, index)
 }
 
 /// An expression: a `let`, or operands with binary operators. No token may stand where the depth is 0.
@@ -39,45 +43,45 @@ pub(crate) fn expression(
 #[tactic(auto, unfolding(crate::specs::Parse::unary, crate::specs::Parse::expr, crate::specs::Parse::expr_over))]
 fn expr(
     alloc: Global,
-    most: usize,
+    parser: &Parser<'_>,
     depth: usize,
-    tokens: &[Token<'_>],
-    at: usize,
-) -> Result<(Expression, usize), Refusal>
-    ensures { Gives tokens.now view result (spec.expr most depth (from tokens.now at)) }
+    index: usize,
+) -> Result<(Expression, usize), ParseFault>
+    ensures { Parses parser.now view result (whole parser.now depth (from parser.now index)) }
 {
     if depth == 0 {
-        return Err(cursor::too_deep_expr(tokens, at));
+        return Err(cursor::too_deep(Start::Expression, parser, index));
     }
-    let Some(t) = cursor::peek(tokens, at) else {
-        return level(alloc, most, depth, TOP, tokens, at);
+    let Some(t) = cursor::peek(parser, index) else {
+        return level(alloc, parser, depth, TOP, index);
     };
     match t.kind {
-        TokenKind::Let => let_in(alloc, most, depth - 1, t.span.start, tokens, at + 1),
-        _ => level(alloc, most, depth, TOP, tokens, at),
+        TokenKind::Let => let_expression(alloc, parser, depth - 1, t.span.start, index + 1),
+        _ => level(alloc, parser, depth, TOP, index),
     }
 }
 
-/// What follows a `let` at this place in the text.
+/// What follows a `let` at this offset in the text.
 #[cycle(parser)]
-#[tactic(auto, unfolding(crate::specs::Parse::let_in))]
-fn let_in(
+#[tactic(auto, unfolding(crate::specs::Parse::let_expression))]
+fn let_expression(
     alloc: Global,
-    most: usize,
+    parser: &Parser<'_>,
     depth: usize,
-    place: usize,
-    tokens: &[Token<'_>],
-    at: usize,
-) -> Result<(Expression, usize), Refusal>
-    ensures { Gives tokens.now view result (spec.let_in depth (spec.level_of most depth 8) (spec.expr most depth) place (from tokens.now at)) }
+    offset: usize,
+    index: usize,
+) -> Result<(Expression, usize), ParseFault>
+    ensures { Parses parser.now view result
+        (spec.let_expression depth (operand parser.now depth) (whole parser.now depth) offset
+        (from parser.now index)) }
 {
     if depth == 0 {
-        return Err(cursor::too_deep_name(tokens, at));
+        return Err(cursor::too_deep(Start::Name, parser, index));
     }
-    let (bindings, at) = bindings(alloc, most, depth, tokens, at)?;
-    let at = cursor::expect(Mark::In, tokens, at)?;
-    let (body, at) = expr(alloc, most, depth, tokens, at)?;
-    Ok((nodes::bind(alloc, bindings, body, place)?, at))
+    let (bindings, index) = bindings(alloc, parser, depth, index)?;
+    let index = cursor::expect(Mark::In, parser, index)?;
+    let (body, index) = expr(alloc, parser, depth, index)?;
+    Ok((nodes::let_expression(alloc, bindings, body, offset)?, index))
 }
 
 /// A bound name with its type and its value.
@@ -85,19 +89,19 @@ fn let_in(
 #[tactic(auto, unfolding(crate::specs::Parse::a_bind))]
 fn a_bind(
     alloc: Global,
-    most: usize,
+    parser: &Parser<'_>,
     depth: usize,
-    tokens: &[Token<'_>],
-    at: usize,
-) -> Result<(Binding, usize), Refusal>
-    ensures { Gives tokens.now bound_of result (spec.a_bind depth (spec.level_of most depth 8) (from tokens.now at)) }
+    index: usize,
+) -> Result<(Binding, usize), ParseFault>
+    ensures { Parses parser.now bound_of result
+        (spec.a_bind depth (operand parser.now depth) (from parser.now index)) }
 {
-    let (name, at) = cursor::identifier(alloc, tokens, at)?;
-    let at = cursor::expect(Mark::Colon, tokens, at)?;
-    let (declared, at) = types::a_type(alloc, depth, tokens, at)?;
-    let at = cursor::expect(Mark::Equal, tokens, at)?;
-    let (value, at) = level(alloc, most, depth, TOP, tokens, at)?;
-    Ok((nodes::binding(name, declared, value), at))
+    let (name, index) = cursor::placed_name(alloc, parser, index)?;
+    let index = cursor::expect(Mark::Colon, parser, index)?;
+    let (declared, index) = types::a_type(alloc, parser, depth, index)?;
+    let index = cursor::expect(Mark::Equal, parser, index)?;
+    let (value, index) = level(alloc, parser, depth, TOP, index)?;
+    Ok((nodes::binding(name, declared, value), index))
 }
 
 /// One binding or more, with commas between.
@@ -105,25 +109,27 @@ fn a_bind(
 #[tactic(auto, using(crate::proofs::Turns::items_over))]
 fn bindings(
     alloc: Global,
-    most: usize,
+    parser: &Parser<'_>,
     depth: usize,
-    tokens: &[Token<'_>],
     start: usize,
-) -> Result<(Vec<Binding>, usize), Refusal>
-    ensures { Gives tokens.now (λ v. map bound_of v.items) result (spec.items (spec.a_bind depth (spec.level_of most depth 8)) (length (from tokens.now start)) [] (from tokens.now start)) }
+) -> Result<(Vec<Binding>, usize), ParseFault>
+    ensures all { Parses parser.now (λ v. map bound_of v.items) result
+        (spec.items (spec.a_bind depth (operand parser.now depth))
+        (length (from parser.now start)) [] (from parser.now start)) }
+    ensures some { IfOk result (λ x. 0 < vec_len x.0) }
 {
     let mut all = Vec::new(alloc);
-    let mut at = start;
-    let left = cursor::count(tokens, start);
+    let mut index = start;
+    let left = cursor::count(parser, start);
     'bindings: for _turn in 0..left {
-        let (binding, following) = a_bind(alloc, most, depth, tokens, at)?;
+        let (binding, following) = a_bind(alloc, parser, depth, index)?;
         all.push(binding)?;
-        if !cursor::separates(tokens, following) {
+        if !cursor::next_is(Mark::Comma, parser, following) {
             return Ok((all, following));
         }
-        at = following + 1;
+        index = following + 1;
     }
-    Err(Refusal::Syntax(at))
+    Err(ParseFault::Syntax(index))
 }
 
 /// An operand with the prefix operators before it.
@@ -131,35 +137,31 @@ fn bindings(
 #[tactic(auto, unfolding(crate::specs::Parse::unary, crate::specs::Parse::unary_over))]
 fn unary(
     alloc: Global,
-    most: usize,
+    parser: &Parser<'_>,
     depth: usize,
-    tokens: &[Token<'_>],
-    at: usize,
-) -> Result<(Expression, usize), Refusal>
-    ensures { Gives tokens.now view result (spec.unary most depth (from tokens.now at)) }
+    index: usize,
+) -> Result<(Expression, usize), ParseFault>
+    ensures { Parses parser.now view result
+        (spec.unary parser.now.chain depth (from parser.now index)) }
 {
     if depth == 0 {
-        return Err(cursor::too_deep_unary(tokens, at));
+        return Err(cursor::too_deep(Start::Operand, parser, index));
     }
-    let Some(t) = cursor::peek(tokens, at) else {
-        return Err(Refusal::Syntax(at));
+    let Some(t) = cursor::peek(parser, index) else {
+        return Err(ParseFault::Syntax(index));
     };
     match t.kind {
         TokenKind::Minus => {
-            let (operand, at) = unary(alloc, most, depth - 1, tokens, at + 1)?;
-            Ok((
-                nodes::prefix(alloc, PrefixOperator::Negate, operand, t.span.start)?,
-                at,
-            ))
+            let (inner, index) = unary(alloc, parser, depth - 1, index + 1)?;
+            let node = nodes::prefix(alloc, PrefixOperator::Negate, inner, t.span.start)?;
+            Ok((node, index))
         }
         TokenKind::Not => {
-            let (operand, at) = unary(alloc, most, depth - 1, tokens, at + 1)?;
-            Ok((
-                nodes::prefix(alloc, PrefixOperator::Not, operand, t.span.start)?,
-                at,
-            ))
+            let (inner, index) = unary(alloc, parser, depth - 1, index + 1)?;
+            let node = nodes::prefix(alloc, PrefixOperator::Not, inner, t.span.start)?;
+            Ok((node, index))
         }
-        _ => post(alloc, most, depth - 1, tokens, at),
+        _ => post(alloc, parser, depth - 1, index),
     }
 }
 
@@ -168,90 +170,97 @@ fn unary(
 #[tactic(auto, unfolding(crate::specs::Parse::post))]
 fn post(
     alloc: Global,
-    most: usize,
+    parser: &Parser<'_>,
     depth: usize,
-    tokens: &[Token<'_>],
-    at: usize,
-) -> Result<(Expression, usize), Refusal>
-    ensures { Gives tokens.now view result (spec.post most depth (spec.level_of most depth 8) (spec.expr most depth) (from tokens.now at)) }
+    index: usize,
+) -> Result<(Expression, usize), ParseFault>
+    ensures { Parses parser.now view result
+        (spec.post parser.now.chain depth (operand parser.now depth) (whole parser.now depth)
+        (from parser.now index)) }
 {
-    let (source, at) = prim(alloc, most, depth, tokens, at)?;
-    steps(alloc, most, depth, source, tokens, at)
+    let (source, index) = prim(alloc, parser, depth, index)?;
+    steps(alloc, parser, depth, source, index)
 }
 
-/// A name that began at `place`, alone or qualified.
-#[tactic(auto, unfolding(crate::specs::Parse::named))]
+/// A name at this offset in the text, alone or qualified.
+#[tactic(auto, unfolding(crate::specs::Parse::name_or_literal))]
 fn named(
     alloc: Global,
+    parser: &Parser<'_>,
     text: &str,
-    place: usize,
-    tokens: &[Token<'_>],
-    at: usize,
-) -> Result<(Expression, usize), Refusal>
-    ensures { Gives tokens.now view result (spec.named text.now place (from tokens.now at)) }
+    offset: usize,
+    index: usize,
+) -> Result<(Expression, usize), ParseFault>
+    requires { is_name text.now ≡ true }
+    ensures { Parses parser.now view result (spec.name_or_literal text.now offset
+        (from parser.now index)) }
 {
-    if cursor::qualifies(tokens, at) {
-        let (second, at) = cursor::identifier(alloc, tokens, at + 1)?;
-        Ok((nodes::qualified(alloc, text, second, place)?, at))
+    if cursor::next_is(Mark::ColonColon, parser, index) {
+        let (literal, index) = cursor::identifier(alloc, parser, index + 1)?;
+        let node = nodes::enumeration_literal(alloc, text, literal, offset)?;
+        Ok((node, index))
     } else {
-        Ok((nodes::name(alloc, text, place)?, at))
+        Ok((nodes::name(alloc, text, offset)?, index))
     }
 }
 
 /// A first operand.
 #[cycle(parser)]
-#[tactic(auto, unfolding(crate::specs::Parse::prim))]
+#[tactic(auto, unfolding(crate::specs::Parse::prim), using(crate::proofs::Names::token_name, crate::proofs::Names::token_number))]
 fn prim(
     alloc: Global,
-    most: usize,
+    parser: &Parser<'_>,
     depth: usize,
-    tokens: &[Token<'_>],
-    at: usize,
-) -> Result<(Expression, usize), Refusal>
-    ensures { Gives tokens.now view result (spec.prim (spec.level_of most depth 8) (spec.expr most depth) (from tokens.now at)) }
+    index: usize,
+) -> Result<(Expression, usize), ParseFault>
+    ensures { Parses parser.now view result
+        (spec.prim (operand parser.now depth) (whole parser.now depth) (from parser.now index)) }
 {
-    let Some(t) = cursor::peek(tokens, at) else {
-        return Err(Refusal::Syntax(at));
+    let Some(t) = cursor::peek(parser, index) else {
+        return Err(ParseFault::Syntax(index));
     };
+    let offset = t.span.start;
     match t.kind {
-        TokenKind::Number(value) => Ok((nodes::number(value, t.span.start), at + 1)),
-        TokenKind::Identifier => named(alloc, t.text, t.span.start, tokens, at + 1),
-        TokenKind::Text => Ok((nodes::string(alloc, t.text, t.span.start)?, at + 1)),
-        TokenKind::True => Ok((nodes::keyword(Keyword::True, t.span.start), at + 1)),
-        TokenKind::False => Ok((nodes::keyword(Keyword::False, t.span.start), at + 1)),
-        TokenKind::Null => Ok((nodes::keyword(Keyword::Null, t.span.start), at + 1)),
-        TokenKind::Invalid => Ok((nodes::keyword(Keyword::Invalid, t.span.start), at + 1)),
-        TokenKind::SelfObject => Ok((nodes::keyword(Keyword::SelfObject, t.span.start), at + 1)),
+        TokenKind::Number(value) => Ok((nodes::number(value, offset), index + 1)),
+        TokenKind::Identifier => named(alloc, parser, t.text, offset, index + 1),
+        TokenKind::String => Ok((nodes::string(alloc, t.text, offset)?, index + 1)),
+        TokenKind::True => Ok((nodes::keyword(Keyword::True, offset), index + 1)),
+        TokenKind::False => Ok((nodes::keyword(Keyword::False, offset), index + 1)),
+        TokenKind::Null => Ok((nodes::keyword(Keyword::Null, offset), index + 1)),
+        TokenKind::Invalid => Ok((nodes::keyword(Keyword::Invalid, offset), index + 1)),
+        TokenKind::SelfObject => Ok((nodes::keyword(Keyword::SelfObject, offset), index + 1)),
         TokenKind::Open => {
-            let (inner, at) = expr(alloc, most, depth, tokens, at + 1)?;
-            let at = cursor::expect(Mark::Close, tokens, at)?;
-            Ok((inner, at))
+            let (inner, index) = expr(alloc, parser, depth, index + 1)?;
+            let index = cursor::expect(Mark::Close, parser, index)?;
+            Ok((inner, index))
         }
-        TokenKind::If => conditional(alloc, most, depth, t.span.start, tokens, at + 1),
-        _ => Err(Refusal::Syntax(at)),
+        TokenKind::If => if_expression(alloc, parser, depth, offset, index + 1),
+        _ => Err(ParseFault::Syntax(index)),
     }
 }
 
-/// What follows an `if` at this place in the text.
+/// What follows an `if` at this offset in the text.
 #[cycle(parser)]
-#[tactic(auto, unfolding(crate::specs::Parse::conditional))]
-fn conditional(
+#[tactic(auto, unfolding(crate::specs::Parse::if_expression))]
+fn if_expression(
     alloc: Global,
-    most: usize,
+    parser: &Parser<'_>,
     depth: usize,
-    place: usize,
-    tokens: &[Token<'_>],
-    at: usize,
-) -> Result<(Expression, usize), Refusal>
-    ensures { Gives tokens.now view result (spec.conditional (spec.level_of most depth 8) (spec.expr most depth) place (from tokens.now at)) }
+    offset: usize,
+    index: usize,
+) -> Result<(Expression, usize), ParseFault>
+    ensures { Parses parser.now view result
+        (spec.if_expression (operand parser.now depth) (whole parser.now depth) offset
+        (from parser.now index)) }
 {
-    let (condition, at) = level(alloc, most, depth, TOP, tokens, at)?;
-    let at = cursor::expect(Mark::Then, tokens, at)?;
-    let (chosen, at) = expr(alloc, most, depth, tokens, at)?;
-    let at = cursor::expect(Mark::Else, tokens, at)?;
-    let (other, at) = expr(alloc, most, depth, tokens, at)?;
-    let at = cursor::expect(Mark::Endif, tokens, at)?;
-    Ok((nodes::choose(alloc, condition, chosen, other, place)?, at))
+    let (condition, index) = level(alloc, parser, depth, TOP, index)?;
+    let index = cursor::expect(Mark::Then, parser, index)?;
+    let (then_branch, index) = expr(alloc, parser, depth, index)?;
+    let index = cursor::expect(Mark::Else, parser, index)?;
+    let (else_branch, index) = expr(alloc, parser, depth, index)?;
+    let index = cursor::expect(Mark::Endif, parser, index)?;
+    let node = nodes::if_expression(alloc, condition, then_branch, else_branch, offset)?;
+    Ok((node, index))
 }
 
 /// Operands of the level below with the operators of this one; of level 0, one operand.
@@ -259,20 +268,20 @@ fn conditional(
 #[tactic(auto, unfolding(crate::specs::Parse::levels))]
 fn level(
     alloc: Global,
-    most: usize,
+    parser: &Parser<'_>,
     depth: usize,
     height: usize,
-    tokens: &[Token<'_>],
-    at: usize,
-) -> Result<(Expression, usize), Refusal>
+    index: usize,
+) -> Result<(Expression, usize), ParseFault>
     requires { height ≤ 8 }
-    ensures { Gives tokens.now view result (spec.level_of most depth height (from tokens.now at)) }
+    ensures { Parses parser.now view result
+        (spec.level_of parser.now.chain depth height (from parser.now index)) }
 {
     if height == 0 {
-        return unary(alloc, most, depth, tokens, at);
+        return unary(alloc, parser, depth, index);
     }
-    let (left, at) = level(alloc, most, depth, height - 1, tokens, at)?;
-    chain(alloc, most, depth, height - 1, left, tokens, at)
+    let (left, index) = level(alloc, parser, depth, height - 1, index)?;
+    chain(alloc, parser, depth, height - 1, left, index)
 }
 
 /// The operators of a level after its first operand; they group to the left.
@@ -280,29 +289,30 @@ fn level(
 #[tactic(auto, using(crate::proofs::Turns::chain_none, crate::proofs::Turns::chain_deep, crate::proofs::Turns::chain_err))]
 fn chain(
     alloc: Global,
-    most: usize,
+    parser: &Parser<'_>,
     depth: usize,
     height: usize,
     first: Expression,
-    tokens: &[Token<'_>],
     start: usize,
-) -> Result<(Expression, usize), Refusal>
+) -> Result<(Expression, usize), ParseFault>
     requires { height ≤ 7 }
-    ensures { Gives tokens.now view result (spec.chain (spec.level_of most depth height) height most (view first) (from tokens.now start)) }
+    ensures { Parses parser.now view result
+        (spec.chain (spec.level_of parser.now.chain depth height) height parser.now.chain
+        (view first) (from parser.now start)) }
 {
     let mut left = first;
-    let mut at = start;
-    let mut links = most;
-    'chain: while let Some((op, place)) = cursor::link(height + 1, tokens, at) {
+    let mut index = start;
+    let mut links = parser.chain;
+    'chain: while let Some((operator, offset)) = cursor::link(height + 1, parser, index) {
         if links == 0 {
-            return Err(Refusal::TooDeep(at));
+            return Err(ParseFault::TooDeep(index));
         }
-        let (right, following) = level(alloc, most, depth, height, tokens, at + 1)?;
-        left = nodes::binary(alloc, op, left, right, place)?;
-        at = following;
+        let (right, following) = level(alloc, parser, depth, height, index + 1)?;
+        left = nodes::binary(alloc, operator, left, right, offset)?;
+        index = following;
         links -= 1;
     }
-    Ok((left, at))
+    Ok((left, index))
 }
 
 /// The steps by dots and arrows after a source.
@@ -310,27 +320,28 @@ fn chain(
 #[tactic(auto, using(crate::proofs::Turns::steps_none, crate::proofs::Turns::steps_deep, crate::proofs::Turns::steps_err, crate::proofs::Turns::steps_more))]
 fn steps(
     alloc: Global,
-    most: usize,
+    parser: &Parser<'_>,
     depth: usize,
     first: Expression,
-    tokens: &[Token<'_>],
     start: usize,
-) -> Result<(Expression, usize), Refusal>
-    ensures { Gives tokens.now view result (spec.steps depth (spec.level_of most depth 8) (spec.expr most depth) most (view first) (from tokens.now start)) }
+) -> Result<(Expression, usize), ParseFault>
+    ensures { Parses parser.now view result
+        (spec.step_list depth (operand parser.now depth) (whole parser.now depth) parser.now.chain
+        (view first) (from parser.now start)) }
 {
     let mut source = first;
-    let mut at = start;
-    let mut left = most;
-    'steps: while cursor::begins_step(tokens, at) {
+    let mut index = start;
+    let mut left = parser.chain;
+    'steps: while cursor::begins_step(parser, index) {
         if left == 0 {
-            return Err(Refusal::TooDeep(at));
+            return Err(ParseFault::TooDeep(index));
         }
-        let (next, following) = step(alloc, most, depth, source, tokens, at)?;
+        let (next, following) = step(alloc, parser, depth, source, index)?;
         source = next;
-        at = following;
+        index = following;
         left -= 1;
     }
-    Ok((source, at))
+    Ok((source, index))
 }
 
 /// One step, which has begun.
@@ -338,21 +349,22 @@ fn steps(
 #[tactic(auto, unfolding(crate::specs::Parse::one_step))]
 fn step(
     alloc: Global,
-    most: usize,
+    parser: &Parser<'_>,
     depth: usize,
     source: Expression,
-    tokens: &[Token<'_>],
-    at: usize,
-) -> Result<(Expression, usize), Refusal>
-    ensures { Gives tokens.now view result (spec.one_step depth (spec.level_of most depth 8) (spec.expr most depth) (view source) (from tokens.now at)) }
+    index: usize,
+) -> Result<(Expression, usize), ParseFault>
+    ensures { Parses parser.now view result
+        (spec.one_step depth (operand parser.now depth) (whole parser.now depth) (view source)
+        (from parser.now index)) }
 {
-    let Some(t) = cursor::peek(tokens, at) else {
-        return Err(Refusal::Syntax(at));
+    let Some(t) = cursor::peek(parser, index) else {
+        return Err(ParseFault::Syntax(index));
     };
     match t.kind {
-        TokenKind::Dot => dotted(alloc, most, depth, source, tokens, at + 1),
-        TokenKind::Arrow => arrowed(alloc, most, depth, source, tokens, at + 1),
-        _ => Err(Refusal::Syntax(at)),
+        TokenKind::Dot => dotted(alloc, parser, depth, source, index + 1),
+        TokenKind::Arrow => arrowed(alloc, parser, depth, source, index + 1),
+        _ => Err(ParseFault::Syntax(index)),
     }
 }
 
@@ -361,112 +373,93 @@ fn step(
 #[tactic(auto, unfolding(crate::specs::Parse::calling))]
 fn calling(
     alloc: Global,
-    most: usize,
+    parser: &Parser<'_>,
     depth: usize,
     source: Expression,
     navigation: Navigation,
     name: &Token<'_>,
-    tokens: &[Token<'_>],
-    at: usize,
-) -> Result<(Expression, usize), Refusal>
-    ensures { Gives tokens.now view result (spec.calling depth (spec.level_of most depth 8) (spec.expr most depth) (view source) navigation name.now.text.now name.now.span.start (from tokens.now at)) }
+    index: usize,
+) -> Result<(Expression, usize), ParseFault>
+    requires { is_operation_name name.now.text.now ≡ true }
+    ensures { Parses parser.now view result
+        (spec.calling depth (operand parser.now depth) (whole parser.now depth) (view source)
+        navigation name.now.text.now name.now.span.start (from parser.now index)) }
 {
-    let (all, at) = arguments(alloc, most, depth, tokens, at)?;
+    let (all, index) = arguments(alloc, parser, depth, index)?;
     let call = nodes::call(alloc, source, navigation, name.text, all, name.span.start)?;
-    Ok((call, at))
+    Ok((call, index))
 }
 
 /// The step after a dot.
 #[cycle(parser)]
-#[tactic(auto, unfolding(crate::specs::Parse::dotted, crate::specs::Parse::called))]
+#[tactic(auto, unfolding(crate::specs::Parse::dotted, crate::specs::Parse::called), using(crate::proofs::Names::token_name, crate::proofs::Names::token_operation))]
 fn dotted(
     alloc: Global,
-    most: usize,
+    parser: &Parser<'_>,
     depth: usize,
     source: Expression,
-    tokens: &[Token<'_>],
-    at: usize,
-) -> Result<(Expression, usize), Refusal>
-    ensures { Gives tokens.now view result (spec.dotted depth (spec.level_of most depth 8) (spec.expr most depth) (view source) (from tokens.now at)) }
+    index: usize,
+) -> Result<(Expression, usize), ParseFault>
+    ensures { Parses parser.now view result
+        (spec.dotted depth (operand parser.now depth) (whole parser.now depth) (view source)
+        (from parser.now index)) }
 {
-    let Some(t) = cursor::peek(tokens, at) else {
-        return Err(Refusal::Syntax(at));
+    let Some(t) = cursor::peek(parser, index) else {
+        return Err(ParseFault::Syntax(index));
     };
     match t.kind {
         TokenKind::Identifier => {
-            if cursor::opens(tokens, at + 1) {
-                calling(
-                    alloc,
-                    most,
-                    depth,
-                    source,
-                    Navigation::Dot,
-                    &t,
-                    tokens,
-                    at + 1,
-                )
+            if cursor::next_is(Mark::Open, parser, index + 1) {
+                calling(alloc, parser, depth, source, Navigation::Dot, &t, index + 1)
             } else {
-                Ok((
-                    nodes::property(alloc, source, t.text, t.span.start)?,
-                    at + 1,
-                ))
+                let node = nodes::property(alloc, source, t.text, t.span.start)?;
+                Ok((node, index + 1))
             }
         }
         TokenKind::Div | TokenKind::Mod => {
-            calling(
-                alloc,
-                most,
-                depth,
-                source,
-                Navigation::Dot,
-                &t,
-                tokens,
-                at + 1,
-            )
+            calling(alloc, parser, depth, source, Navigation::Dot, &t, index + 1)
         }
-        _ => Err(Refusal::Syntax(at)),
+        _ => Err(ParseFault::Syntax(index)),
     }
 }
 
 /// The step after an arrow: an iteration by its name, else a call.
 #[cycle(parser)]
-#[tactic(auto, unfolding(crate::specs::Parse::arrowed, crate::specs::Parse::applied))]
+#[tactic(auto, unfolding(crate::specs::Parse::arrowed, crate::specs::Parse::applied_step), using(crate::proofs::Names::token_operation))]
 fn arrowed(
     alloc: Global,
-    most: usize,
+    parser: &Parser<'_>,
     depth: usize,
     source: Expression,
-    tokens: &[Token<'_>],
-    at: usize,
-) -> Result<(Expression, usize), Refusal>
-    ensures { Gives tokens.now view result (spec.arrowed depth (spec.level_of most depth 8) (spec.expr most depth) (view source) (from tokens.now at)) }
+    index: usize,
+) -> Result<(Expression, usize), ParseFault>
+    ensures { Parses parser.now view result
+        (spec.arrowed depth (operand parser.now depth) (whole parser.now depth) (view source)
+        (from parser.now index)) }
 {
-    let Some(t) = cursor::peek(tokens, at) else {
-        return Err(Refusal::Syntax(at));
+    let Some(t) = cursor::peek(parser, index) else {
+        return Err(ParseFault::Syntax(index));
     };
     match t.kind {
         TokenKind::Identifier => match cursor::iterator_of(t.text) {
-            Some(kind) => {
-                let two = cursor::takes_two(kind);
-                let ((variables, body), at) = iteration(alloc, most, depth, two, tokens, at + 1)?;
-                let place = t.span.start;
-                Ok((
-                    nodes::iterate(alloc, source, kind, variables, body, place)?,
-                    at,
-                ))
+            Some(iterator) => {
+                let two = cursor::takes_two(iterator);
+                let ((variables, body), index) = iteration(alloc, parser, depth, two, index + 1)?;
+                let offset = t.span.start;
+                let node = nodes::iterate(alloc, source, iterator, variables, body, offset)?;
+                Ok((node, index))
             }
             None => calling(
                 alloc,
-                most,
+                parser,
                 depth,
                 source,
                 Navigation::Arrow,
                 &t,
-                tokens,
-                at + 1,
+                index + 1,
             ),
         },
-        _ => Err(Refusal::Syntax(at)),
+        _ => Err(ParseFault::Syntax(index)),
     }
 }
 
@@ -475,19 +468,19 @@ fn arrowed(
 #[tactic(auto, unfolding(crate::specs::Parse::iteration))]
 fn iteration(
     alloc: Global,
-    most: usize,
+    parser: &Parser<'_>,
     depth: usize,
     two: bool,
-    tokens: &[Token<'_>],
-    at: usize,
-) -> Result<((Vec<Variable>, Expression), usize), Refusal>
-    ensures { Gives tokens.now (λ x. (map variable_of x.0.items, view x.1)) result (spec.iteration depth (spec.expr most depth) two (from tokens.now at)) }
+    index: usize,
+) -> Result<((Variables, Expression), usize), ParseFault>
+    ensures { Parses parser.now (λ x. (view_variables x.0, view x.1)) result
+        (spec.iteration depth (whole parser.now depth) two (from parser.now index)) }
 {
-    let at = cursor::expect(Mark::Open, tokens, at)?;
-    let (names, at) = types::optional_variables(alloc, depth, two, tokens, at)?;
-    let (body, at) = expr(alloc, most, depth, tokens, at)?;
-    let at = cursor::expect(Mark::Close, tokens, at)?;
-    Ok(((names, body), at))
+    let index = cursor::expect(Mark::Open, parser, index)?;
+    let (names, index) = types::optional_variables(alloc, parser, depth, two, index)?;
+    let (body, index) = expr(alloc, parser, depth, index)?;
+    let index = cursor::expect(Mark::Close, parser, index)?;
+    Ok(((names, body), index))
 }
 
 /// The arguments of a call.
@@ -495,23 +488,23 @@ fn iteration(
 #[tactic(auto, unfolding(crate::specs::Parse::arguments, crate::specs::Parse::arguments_in))]
 fn arguments(
     alloc: Global,
-    most: usize,
+    parser: &Parser<'_>,
     depth: usize,
-    tokens: &[Token<'_>],
-    at: usize,
-) -> Result<(Vec<Expression>, usize), Refusal>
-    ensures { Gives tokens.now (λ v. map view v.items) result (spec.arguments (spec.level_of most depth 8) depth (from tokens.now at)) }
+    index: usize,
+) -> Result<(Vec<Expression>, usize), ParseFault>
+    ensures { Parses parser.now (λ v. map view v.items) result
+        (spec.arguments (operand parser.now depth) depth (from parser.now index)) }
 {
-    let at = cursor::expect(Mark::Open, tokens, at)?;
+    let index = cursor::expect(Mark::Open, parser, index)?;
     if depth == 0 {
-        return Err(cursor::too_deep_argument(tokens, at));
+        return Err(cursor::too_deep(Start::Argument, parser, index));
     }
-    if cursor::closes(tokens, at) {
-        Ok((Vec::new(alloc), at + 1))
+    if cursor::next_is(Mark::Close, parser, index) {
+        Ok((Vec::new(alloc), index + 1))
     } else {
-        let (all, at) = items(alloc, most, depth, tokens, at)?;
-        let at = cursor::expect(Mark::Close, tokens, at)?;
-        Ok((all, at))
+        let (all, index) = items(alloc, parser, depth, index)?;
+        let index = cursor::expect(Mark::Close, parser, index)?;
+        Ok((all, index))
     }
 }
 
@@ -520,23 +513,24 @@ fn arguments(
 #[tactic(auto, using(crate::proofs::Turns::items_over))]
 fn items(
     alloc: Global,
-    most: usize,
+    parser: &Parser<'_>,
     depth: usize,
-    tokens: &[Token<'_>],
     start: usize,
-) -> Result<(Vec<Expression>, usize), Refusal>
-    ensures { Gives tokens.now (λ v. map view v.items) result (spec.items (spec.level_of most depth 8) (length (from tokens.now start)) [] (from tokens.now start)) }
+) -> Result<(Vec<Expression>, usize), ParseFault>
+    ensures { Parses parser.now (λ v. map view v.items) result
+        (spec.items (operand parser.now depth) (length (from parser.now start)) []
+        (from parser.now start)) }
 {
     let mut all = Vec::new(alloc);
-    let mut at = start;
-    let left = cursor::count(tokens, start);
+    let mut index = start;
+    let left = cursor::count(parser, start);
     'items: for _turn in 0..left {
-        let (item, following) = level(alloc, most, depth, TOP, tokens, at)?;
+        let (item, following) = level(alloc, parser, depth, TOP, index)?;
         all.push(item)?;
-        if !cursor::separates(tokens, following) {
+        if !cursor::next_is(Mark::Comma, parser, following) {
             return Ok((all, following));
         }
-        at = following + 1;
+        index = following + 1;
     }
-    Err(Refusal::Syntax(at))
+    Err(ParseFault::Syntax(index))
 }

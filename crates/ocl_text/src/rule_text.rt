@@ -1,19 +1,17 @@
 //! A text as rules.
 
 ghost use Rattle.std.specs.Prelude.{◌≡◌, List, IfOk, IfErr, map};
-ghost use Rattle.ocl_text.specs.Gives as spec;
-ghost use Rattle.ocl_text.specs.Gives.{from};
-ghost use Rattle.ocl_text.specs.RuleText.{TextSpells, TextSpellsWithin, NamesDiffer, IfLexical, IfSyntax, IfTooDeep, IfDuplicate, place_of};
-ghost use Rattle.ocl_text.specs.Tree.{Rule, rule_of};
+ghost use Rattle.ocl_text.specs.Parses as spec;
+ghost use Rattle.ocl_text.specs.Parses.{from};
+ghost use Rattle.ocl_text.specs.RuleText.{TextSpells, TextSpellsWithin, NamesDiffer, IfLexical, IfSyntax, IfTooDeep, IfDuplicate, first_offset};
+ghost use Rattle.ocl_text.specs.Tree.{Rule};
+ghost use Rattle.ocl_text.specs.View.{rule_of};
 
-use crate::cursor::peek;
+use crate::cursor::{ParseFault, Parser, peek};
 use crate::duplicates::repeated;
-use crate::fault::TextFault;
-use crate::refusal::Refusal;
 use crate::rules::rules_of;
-use crate::scan::tokens;
-use crate::token::Token;
 use crate::tree::SurfaceRule;
+use ocl_tokens::{TextFault, TextFlaw, tokens};
 use std::alloc::Global;
 
 /// How many constructs may be open round a token: parentheses of every sort, `if`, `let` and prefix operators.
@@ -23,25 +21,28 @@ pub const MAX_NESTING: usize = 64;
 pub const MAX_CHAIN: usize = 256;
 
 /// The byte at which this token begins, or the end.
-fn place_at(tokens: &[Token<'_>], at: usize, end: usize) -> usize
-    ensures { result ≡ place_of end (from tokens.now at) }
+fn offset_at(parser: &Parser<'_>, end: usize, index: usize) -> usize
+    ensures { result ≡ first_offset end (from parser.now index) }
 {
-    match peek(tokens, at) {
+    match peek(parser, index) {
         Some(token) => token.span.start,
         None => end,
     }
 }
 
-fn fault_of(refusal: Refusal, tokens: &[Token<'_>], end: usize) -> TextFault
-    ensures { result ≡ spec.fault_of tokens.now end refusal }
+/// The fault of a text of this length.
+fn text_fault(parser: &Parser<'_>, end: usize, fault: ParseFault) -> TextFault
+    ensures { result ≡ spec.text_fault parser.now end fault }
 {
-    match refusal {
-        Refusal::Memory => TextFault::OutOfMemory,
-        Refusal::Syntax(at) => TextFault::Syntax {
-            place: place_at(tokens, at, end),
+    match fault {
+        ParseFault::OutOfMemory => TextFault::OutOfMemory,
+        ParseFault::Syntax(index) => TextFault::At {
+            flaw: TextFlaw::Syntax,
+            offset: offset_at(parser, end, index),
         },
-        Refusal::TooDeep(at) => TextFault::TooDeep {
-            place: place_at(tokens, at, end),
+        ParseFault::TooDeep(index) => TextFault::At {
+            flaw: TextFlaw::TooDeep,
+            offset: offset_at(parser, end, index),
         },
     }
 }
@@ -50,21 +51,30 @@ fn fault_of(refusal: Refusal, tokens: &[Token<'_>], end: usize) -> TextFault
 ///
 /// Faults 1 to 5 come before 6 and 7, and those before 8.
 pub fn parse_rules(alloc: Global, text: &str) -> Result<Vec<SurfaceRule>, TextFault>
-    ensures spells { IfOk result (λ rules. TextSpellsWithin 64 256 text.now (map rule_of rules.items)) }
-    ensures only { IfOk result (λ rules. (others : List Rule) → TextSpells text.now others → others ≡ map rule_of rules.items) }
+    ensures spells { IfOk result (λ rules.
+        TextSpellsWithin MAX_NESTING MAX_CHAIN text.now (map rule_of rules.items)) }
+    ensures only { IfOk result (λ rules.
+        (others : List Rule) → TextSpells text.now others → others ≡ map rule_of rules.items) }
     ensures names { IfOk result (λ rules. NamesDiffer (map rule_of rules.items)) }
     ensures lexical { IfErr result (IfLexical text.now) }
     ensures syntax { IfErr result (IfSyntax text.now) }
-    ensures too_deep { IfErr result (IfTooDeep 64 256 text.now) }
-    ensures duplicate { IfErr result (IfDuplicate 64 256 text.now) }
+    ensures too_deep { IfErr result (IfTooDeep MAX_NESTING MAX_CHAIN text.now) }
+    ensures duplicate { IfErr result (IfDuplicate MAX_NESTING MAX_CHAIN text.now) }
 {
-    let words = tokens(alloc, text)?;
-    let rules = match rules_of(alloc, MAX_NESTING, MAX_CHAIN, &words) {
+    let all = tokens(alloc, text)?;
+    let parser = Parser {
+        tokens: &all,
+        chain: MAX_CHAIN,
+    };
+    let rules = match rules_of(alloc, &parser, MAX_NESTING) {
         Ok(rules) => rules,
-        Err(refusal) => return Err(fault_of(refusal, &words, text.len())),
+        Err(fault) => return Err(text_fault(&parser, text.len(), fault)),
     };
     match repeated(alloc, &rules)? {
         None => Ok(rules),
-        Some(place) => Err(TextFault::DuplicateRule { place }),
+        Some(offset) => Err(TextFault::At {
+            flaw: TextFlaw::DuplicateRule,
+            offset,
+        }),
     }
 }

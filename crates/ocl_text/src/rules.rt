@@ -1,130 +1,111 @@
 //! Contexts and their invariants.
 
-ghost use Rattle.std.specs.Prelude.{◌≡◌, ◌<◌, ◌+◌, suc, [], length, map, string_bytes};
+ghost use Rattle.std.specs.Prelude.{◌≡◌, ◌<◌, ◌+◌, suc, [], length, map, string_bytes, IfOk};
+ghost use Rattle.ocl_tokens.specs.Terminals.{terminals};
+ghost use Rattle.ocl_text.specs.Grammar.{numbered};
 ghost use Rattle.ocl_text.specs.Parse as spec;
-ghost use Rattle.ocl_text.specs.Tokens.{words};
-ghost use Rattle.ocl_text.specs.Tree.{rule_of};
-ghost use Rattle.ocl_text.specs.Context.{class_of};
-ghost use Rattle.ocl_text.specs.Gives.{Gives, GivesAll, from};
+ghost use Rattle.ocl_text.specs.Parses.{Parses, ParsesAll, from, whole};
+ghost use Rattle.ocl_text.specs.View.{rule_of};
 
-use crate::cursor::Mark;
-use crate::refusal::Refusal;
-use crate::token::{Token, TokenKind};
+use crate::cursor::{Mark, ParseFault, Parser, PlacedName};
+use crate::name::Name;
 use crate::tree::SurfaceRule;
 use crate::{cursor, parser};
-use std::alloc::Global;
+use ocl_tokens::TokenKind;
+use std::alloc::{AllocError, Global};
 
-/// The class of a context.
-#[derive(Debug, Drop)]
-struct ContextClass {
-    name: String,
-    /// The name, in bytes from 0.
-    place: usize,
+/// The name that the invariant of this number gets.
+#[tactic(auto, using(crate::proofs::Names::numbered_name))]
+fn numbered_name(alloc: Global, number: usize) -> Result<Name, AllocError>
+    ensures { IfOk result (λ n. n ≡ numbered number) }
+{
+    let text = format!(in alloc; "inv{number}")?;
+    Name::new(alloc, text.as_str())
 }
 
-/// The name of the invariant of this number.
+/// The name of the invariant of this number: its own, or the one that it gets.
 #[tactic(auto, unfolding(crate::specs::Parse::rule_name))]
 fn rule_name(
     alloc: Global,
+    tokens: &Parser<'_>,
     number: usize,
-    tokens: &[Token<'_>],
-    at: usize,
-) -> Result<(String, usize), Refusal>
-    ensures { Gives tokens.now string_bytes result (spec.rule_name number (from tokens.now at)) }
+    index: usize,
+) -> Result<(Name, usize), ParseFault>
+    ensures { Parses tokens.now (λ n. n) result (spec.rule_name number (from tokens.now index)) }
 {
-    if cursor::names(tokens, at) {
-        cursor::identifier(alloc, tokens, at)
+    if cursor::next_is(Mark::Identifier, tokens, index) {
+        cursor::identifier(alloc, tokens, index)
     } else {
-        Ok((format!(in alloc; "inv{number}")?, at))
-    }
-}
-
-/// The name of a class, and its place in the text.
-#[tactic(auto, unfolding(crate::specs::Parse::class_name))]
-fn class_name(
-    alloc: Global,
-    tokens: &[Token<'_>],
-    at: usize,
-) -> Result<(ContextClass, usize), Refusal>
-    ensures { Gives tokens.now class_of result (spec.class_name (from tokens.now at)) }
-{
-    let Some(t) = cursor::peek(tokens, at) else {
-        return Err(Refusal::Syntax(at));
-    };
-    match t.kind {
-        TokenKind::Identifier => {
-            let name = String::from_str(alloc, t.text)?;
-            Ok((
-                ContextClass {
-                    name,
-                    place: t.span.start,
-                },
-                at + 1,
-            ))
-        }
-        _ => Err(Refusal::Syntax(at)),
+        Ok((numbered_name(alloc, number)?, index))
     }
 }
 
 /// A context, up to its class.
 #[tactic(auto, unfolding(crate::specs::Parse::context))]
-fn context(alloc: Global, tokens: &[Token<'_>], at: usize) -> Result<(ContextClass, usize), Refusal>
-    ensures { Gives tokens.now class_of result (spec.context (from tokens.now at)) }
+fn context(
+    alloc: Global,
+    tokens: &Parser<'_>,
+    index: usize,
+) -> Result<(PlacedName, usize), ParseFault>
+    ensures { Parses tokens.now (λ n. (n.name, n.offset)) result
+        (spec.context (from tokens.now index)) }
 {
-    let at = cursor::expect(Mark::Context, tokens, at)?;
-    class_name(alloc, tokens, at)
+    let index = cursor::expect(Mark::Context, tokens, index)?;
+    cursor::placed_name(alloc, tokens, index)
 }
 
-/// An invariant, after the `inv` at this place in the text.
+/// An invariant, after the `inv` at this offset in the text.
 #[tactic(auto, unfolding(crate::specs::Parse::invariant_at))]
 fn invariant_at(
     alloc: Global,
-    most: usize,
+    tokens: &Parser<'_>,
     depth: usize,
-    class: &ContextClass,
+    class: &PlacedName,
     number: usize,
-    place: usize,
-    tokens: &[Token<'_>],
-    at: usize,
-) -> Result<(SurfaceRule, usize), Refusal>
-    ensures { Gives tokens.now rule_of result (spec.invariant_at (spec.expr most depth) (class_of class.now) number place (from tokens.now at)) }
+    offset: usize,
+    index: usize,
+) -> Result<(SurfaceRule, usize), ParseFault>
+    ensures { Parses tokens.now rule_of result
+        (spec.invariant_at (whole tokens.now depth) (class.now.name, class.now.offset) number
+        offset (from tokens.now index)) }
 {
-    let (name, at) = rule_name(alloc, number, tokens, at)?;
-    let at = cursor::expect(Mark::Colon, tokens, at)?;
-    let (expression, at) = parser::expression(alloc, most, depth, tokens, at)?;
-    let context = class.name.clone()?;
+    let (name, index) = rule_name(alloc, tokens, number, index)?;
+    let index = cursor::expect(Mark::Colon, tokens, index)?;
+    let (expression, index) = parser::expression(alloc, tokens, depth, index)?;
+    let context = Name::new(alloc, class.name.as_str())?;
     let rule = SurfaceRule {
         name,
         context,
-        place,
-        context_place: class.place,
+        offset,
+        context_offset: class.offset,
         expression,
     };
-    Ok((rule, at))
+    Ok((rule, index))
 }
 
 /// The invariant of this number.
 #[tactic(auto, unfolding(crate::specs::Parse::invariant))]
 fn invariant(
     alloc: Global,
-    most: usize,
+    tokens: &Parser<'_>,
     depth: usize,
-    class: &ContextClass,
+    class: &PlacedName,
     number: usize,
-    tokens: &[Token<'_>],
-    at: usize,
-) -> Result<(SurfaceRule, usize), Refusal>
-    ensures { Gives tokens.now rule_of result (spec.invariant (spec.expr most depth) (class_of class.now) number (from tokens.now at)) }
+    index: usize,
+) -> Result<(SurfaceRule, usize), ParseFault>
+    ensures { Parses tokens.now rule_of result
+        (spec.invariant (whole tokens.now depth) (class.now.name, class.now.offset) number
+        (from tokens.now index)) }
 {
-    let Some(t) = cursor::peek(tokens, at) else {
-        return Err(Refusal::Syntax(at));
+    let Some(t) = cursor::peek(tokens, index) else {
+        return Err(ParseFault::Syntax(index));
     };
     match t.kind {
         TokenKind::Inv => {
-            let place = t.span.start;
-            invariant_at(alloc, most, depth, class, number, place, tokens, at + 1)
+            let offset = t.span.start;
+            invariant_at(alloc, tokens, depth, class, number, offset, index + 1)
         }
-        _ => Err(Refusal::Syntax(at)),
+        _ => Err(ParseFault::Syntax(index)),
     }
 }
 
@@ -132,69 +113,71 @@ fn invariant(
 #[tactic(auto, using(crate::proofs::Turns::invariants_over))]
 fn invariants(
     alloc: Global,
-    most: usize,
+    tokens: &Parser<'_>,
     depth: usize,
-    class: &ContextClass,
+    class: &PlacedName,
     before: Vec<SurfaceRule>,
-    tokens: &[Token<'_>],
     start: usize,
-) -> Result<(Vec<SurfaceRule>, usize), Refusal>
-    ensures { Gives tokens.now (λ v. map rule_of v.items) result (spec.invariants (spec.expr most depth) (class_of class.now) (length (from tokens.now start)) (map rule_of before.items) (from tokens.now start)) }
+) -> Result<(Vec<SurfaceRule>, usize), ParseFault>
+    ensures { Parses tokens.now (λ v. map rule_of v.items) result
+        (spec.invariants (whole tokens.now depth) (class.now.name, class.now.offset)
+        (length (from tokens.now start)) (map rule_of before.items) (from tokens.now start)) }
 {
     let mut all = before;
-    let mut at = start;
+    let mut index = start;
     let left = cursor::count(tokens, start);
     'invariants: for _turn in 0..left {
         let number = all.len() + 1;
-        let (rule, following) = invariant(alloc, most, depth, class, number, tokens, at)?;
+        let (rule, following) = invariant(alloc, tokens, depth, class, number, index)?;
         all.push(rule)?;
-        if !cursor::begins_invariant(tokens, following) {
+        if !cursor::next_is(Mark::Inv, tokens, following) {
             return Ok((all, following));
         }
-        at = following;
+        index = following;
     }
-    Err(Refusal::Syntax(at))
+    Err(ParseFault::Syntax(index))
 }
 
 /// The rules of all the tokens.
 #[tactic(auto, using(crate::proofs::Turns::contexts_done))]
 fn contexts(
     alloc: Global,
-    most: usize,
+    tokens: &Parser<'_>,
     depth: usize,
-    tokens: &[Token<'_>],
-) -> Result<Vec<SurfaceRule>, Refusal>
-    ensures { GivesAll tokens.now (λ v. map rule_of v.items) result (spec.contexts (spec.expr most depth) (length (words tokens.now)) [] (words tokens.now)) }
+) -> Result<Vec<SurfaceRule>, ParseFault>
+    ensures { ParsesAll tokens.now (λ v. map rule_of v.items) result
+        (spec.contexts (whole tokens.now depth) (length (from tokens.now 0)) []
+        (from tokens.now 0)) }
 {
     let mut all = Vec::new(alloc);
-    let mut at = 0;
+    let mut index = 0;
     let left = cursor::count(tokens, 0);
     'contexts: for _turn in 0..left {
-        if cursor::is_done(tokens, at) {
+        if cursor::is_done(tokens, index) {
             return Ok(all);
         }
-        let (class, following) = context(alloc, tokens, at)?;
-        let (more, next) = invariants(alloc, most, depth, &class, all, tokens, following)?;
+        let (class, following) = context(alloc, tokens, index)?;
+        let (more, next) = invariants(alloc, tokens, depth, &class, all, following)?;
         all = more;
-        at = next;
+        index = next;
     }
-    if cursor::is_done(tokens, at) {
+    if cursor::is_done(tokens, index) {
         Ok(all)
     } else {
-        Err(Refusal::Syntax(at))
+        Err(ParseFault::Syntax(index))
     }
 }
 
-/// The rules of all the tokens, with so many constructs open round a token and so many links in a chain.
-#[tactic(auto, unfolding(crate::specs::Parse::all_of))]
+/// The rules of all the tokens, with so many constructs open round a token.
+#[tactic(auto, unfolding(crate::specs::Parse::all_rules))]
 pub(crate) fn rules_of(
     alloc: Global,
+    tokens: &Parser<'_>,
     nesting: usize,
-    most: usize,
-    tokens: &[Token<'_>],
-) -> Result<Vec<SurfaceRule>, Refusal>
+) -> Result<Vec<SurfaceRule>, ParseFault>
     requires { nesting < 1000 }
-    ensures { GivesAll tokens.now (λ v. map rule_of v.items) result (spec.all_of nesting most (words tokens.now)) }
+    ensures { ParsesAll tokens.now (λ v. map rule_of v.items) result
+        (spec.all_rules nesting tokens.now.chain (terminals tokens.now.tokens.now)) }
 {
-    contexts(alloc, most, nesting + 1, tokens)
+    contexts(alloc, tokens, nesting + 1)
 }

@@ -1,40 +1,44 @@
 //! Declared types, and the variables of iterations.
 
-ghost use Rattle.std.specs.Prelude.{◌≡◌, ◌+◌, length, true, drop, string_bytes, map, IfOk};
+ghost use Rattle.std.specs.Prelude.{◌≡◌, ◌+◌, length, true, drop, IfOk};
+ghost use Rattle.ocl_base.specs.Words.{is_name};
 ghost use Rattle.ocl_text.specs.Parse as spec;
-ghost use Rattle.ocl_text.specs.Tree.{shape, variable_of, plain, of};
-ghost use Rattle.ocl_text.specs.Gives.{Gives, Fails, from};
+ghost use Rattle.ocl_text.specs.Parses.{Parses, from};
+ghost use Rattle.ocl_text.specs.Tree.{Named, Collection};
+ghost use Rattle.ocl_text.specs.View.{view_type, view_variable, view_variables};
 
 use crate::cursor;
-use crate::cursor::Mark;
-use crate::refusal::Refusal;
-use crate::token::{Token, TokenKind};
-use crate::tree::{DeclaredType, Variable};
+use crate::cursor::{Mark, ParseFault, Parser, Start};
+use crate::name::Name;
+use crate::tree::{DeclaredType, Variable, Variables};
+use ocl_tokens::TokenKind;
 use std::alloc::{AllocError, Global};
 
-#[tactic(auto, using(crate::proofs::Views::shapes))]
-fn named(alloc: Global, text: &str, place: usize) -> Result<DeclaredType, AllocError>
-    ensures { IfOk result (λ t. shape t ≡ plain text.now place) }
+#[tactic(auto, using(crate::proofs::Views::type_views))]
+fn named(alloc: Global, text: &str, offset: usize) -> Result<DeclaredType, AllocError>
+    requires { is_name text.now ≡ true }
+    ensures { IfOk result (λ t. view_type t ≡ Named text.now offset) }
 {
-    Ok(DeclaredType::Named {
-        name: String::from_str(alloc, text)?,
-        place,
-    })
+    let name = Name::new(alloc, text)?;
+    Ok(DeclaredType::Named { name, offset })
 }
 
-#[tactic(auto, using(crate::proofs::Views::shapes))]
+#[tactic(auto, using(crate::proofs::Views::type_views))]
 fn collection(
     alloc: Global,
     text: &str,
     element: DeclaredType,
-    place: usize,
+    offset: usize,
 ) -> Result<DeclaredType, AllocError>
-    ensures { IfOk result (λ t. shape t ≡ of text.now (shape element) place) }
+    requires { is_name text.now ≡ true }
+    ensures { IfOk result (λ t. view_type t ≡ Collection text.now (view_type element) offset) }
 {
+    let name = Name::new(alloc, text)?;
+    let element = Box::new(alloc, element)?;
     Ok(DeclaredType::Collection {
-        name: String::from_str(alloc, text)?,
-        element: Box::new(alloc, element)?,
-        place,
+        name,
+        element,
+        offset,
     })
 }
 
@@ -42,72 +46,64 @@ fn collection(
 #[tactic(auto, unfolding(crate::specs::Parse::a_type))]
 pub(crate) fn a_type(
     alloc: Global,
+    parser: &Parser<'_>,
     depth: usize,
-    tokens: &[Token<'_>],
-    at: usize,
-) -> Result<(DeclaredType, usize), Refusal>
-    ensures { Gives tokens.now shape result (spec.a_type depth (from tokens.now at)) }
+    index: usize,
+) -> Result<(DeclaredType, usize), ParseFault>
+    ensures { Parses parser.now view_type result (spec.a_type depth (from parser.now index)) }
 {
     if depth == 0 {
-        return Err(cursor::too_deep_type(tokens, at));
+        return Err(cursor::too_deep(Start::Name, parser, index));
     }
-    type_over(alloc, depth - 1, tokens, at)
+    type_over(alloc, parser, depth - 1, index)
 }
 
 #[cycle(types)]
-#[tactic(auto, unfolding(crate::specs::Parse::type_over))]
+#[tactic(auto, unfolding(crate::specs::Parse::type_over), using(crate::proofs::Names::token_name))]
 fn type_over(
     alloc: Global,
+    parser: &Parser<'_>,
     depth: usize,
-    tokens: &[Token<'_>],
-    at: usize,
-) -> Result<(DeclaredType, usize), Refusal>
-    ensures { Gives tokens.now shape result (spec.type_over (spec.a_type depth) (from tokens.now at)) }
+    index: usize,
+) -> Result<(DeclaredType, usize), ParseFault>
+    ensures { Parses parser.now view_type result
+        (spec.type_over (spec.a_type depth) (from parser.now index)) }
 {
-    let Some(t) = cursor::peek(tokens, at) else {
-        return Err(Refusal::Syntax(at));
+    let Some(t) = cursor::peek(parser, index) else {
+        return Err(ParseFault::Syntax(index));
     };
     match t.kind {
         TokenKind::Identifier => {
-            if cursor::opens(tokens, at + 1) {
-                let (inner, at) = a_type(alloc, depth, tokens, at + 2)?;
-                let at = cursor::expect(Mark::Close, tokens, at)?;
-                Ok((collection(alloc, t.text, inner, t.span.start)?, at))
+            if cursor::next_is(Mark::Open, parser, index + 1) {
+                let (inner, index) = a_type(alloc, parser, depth, index + 2)?;
+                let index = cursor::expect(Mark::Close, parser, index)?;
+                Ok((collection(alloc, t.text, inner, t.span.start)?, index))
             } else {
-                Ok((named(alloc, t.text, t.span.start)?, at + 1))
+                Ok((named(alloc, t.text, t.span.start)?, index + 1))
             }
         }
-        _ => Err(Refusal::Syntax(at)),
+        _ => Err(ParseFault::Syntax(index)),
     }
 }
 
 #[tactic(auto, unfolding(crate::specs::Parse::a_variable))]
 fn a_variable(
     alloc: Global,
+    parser: &Parser<'_>,
     depth: usize,
-    tokens: &[Token<'_>],
-    at: usize,
-) -> Result<(Variable, usize), Refusal>
-    ensures { Gives tokens.now variable_of result (spec.a_variable depth (from tokens.now at)) }
+    index: usize,
+) -> Result<(Variable, usize), ParseFault>
+    ensures { Parses parser.now view_variable result
+        (spec.a_variable depth (from parser.now index)) }
 {
-    let (name, at) = cursor::identifier(alloc, tokens, at)?;
-    if cursor::declares(tokens, at) {
-        let (declared, at) = a_type(alloc, depth, tokens, at + 1)?;
-        Ok((
-            Variable {
-                name,
-                declared: Some(declared),
-            },
-            at,
-        ))
+    let (name, index) = cursor::identifier(alloc, parser, index)?;
+    if cursor::next_is(Mark::Colon, parser, index) {
+        let (declared, index) = a_type(alloc, parser, depth, index + 1)?;
+        let declared = Some(declared);
+        Ok((Variable { name, declared }, index))
     } else {
-        Ok((
-            Variable {
-                name,
-                declared: None,
-            },
-            at,
-        ))
+        let declared = None;
+        Ok((Variable { name, declared }, index))
     }
 }
 
@@ -115,58 +111,58 @@ fn a_variable(
 #[tactic(auto, unfolding(crate::specs::Parse::variables_by))]
 fn variables_after(
     alloc: Global,
+    parser: &Parser<'_>,
     depth: usize,
     two: bool,
     first: Variable,
-    tokens: &[Token<'_>],
-    at: usize,
-) -> Result<(Vec<Variable>, usize), Refusal>
-    ensures { Gives tokens.now (λ v. map variable_of v.items) result (spec.variables_by depth two (variable_of first) (from tokens.now at)) }
+    index: usize,
+) -> Result<(Variables, usize), ParseFault>
+    ensures { Parses parser.now view_variables result
+        (spec.variables_by depth two (view_variable first) (from parser.now index)) }
 {
-    let mut all = Vec::new(alloc);
-    all.push(first)?;
-    if cursor::has_second(two, tokens, at) {
-        let (second, at) = a_variable(alloc, depth, tokens, at + 1)?;
-        let at = cursor::expect(Mark::Bar, tokens, at)?;
-        all.push(second)?;
-        Ok((all, at))
+    if cursor::has_second(two, parser, index) {
+        let (second, index) = a_variable(alloc, parser, depth, index + 1)?;
+        let index = cursor::expect(Mark::Bar, parser, index)?;
+        Ok((Variables::Pair(first, second), index))
     } else {
-        let at = cursor::expect(Mark::Bar, tokens, at)?;
-        Ok((all, at))
+        let index = cursor::expect(Mark::Bar, parser, index)?;
+        Ok((Variables::Single(first), index))
     }
 }
 
 #[tactic(auto, unfolding(crate::specs::Parse::variables))]
 fn variables(
     alloc: Global,
+    parser: &Parser<'_>,
     depth: usize,
     two: bool,
-    tokens: &[Token<'_>],
-    at: usize,
-) -> Result<(Vec<Variable>, usize), Refusal>
-    ensures { Gives tokens.now (λ v. map variable_of v.items) result (spec.variables depth two (from tokens.now at)) }
+    index: usize,
+) -> Result<(Variables, usize), ParseFault>
+    ensures { Parses parser.now view_variables result
+        (spec.variables depth two (from parser.now index)) }
 {
     if depth == 0 {
-        return Err(Refusal::TooDeep(at));
+        return Err(ParseFault::TooDeep(index));
     }
-    let (first, at) = a_variable(alloc, depth, tokens, at)?;
-    variables_after(alloc, depth, two, first, tokens, at)
+    let (first, index) = a_variable(alloc, parser, depth, index)?;
+    variables_after(alloc, parser, depth, two, first, index)
 }
 
 /// The variables of an iteration, where there are any.
 #[tactic(auto, unfolding(crate::specs::Parse::optional_variables))]
 pub(crate) fn optional_variables(
     alloc: Global,
+    parser: &Parser<'_>,
     depth: usize,
     two: bool,
-    tokens: &[Token<'_>],
-    at: usize,
-) -> Result<(Vec<Variable>, usize), Refusal>
-    ensures { Gives tokens.now (λ v. map variable_of v.items) result (spec.optional_variables depth two (from tokens.now at)) }
+    index: usize,
+) -> Result<(Variables, usize), ParseFault>
+    ensures { Parses parser.now view_variables result
+        (spec.optional_variables depth two (from parser.now index)) }
 {
-    if cursor::begins_variable(tokens, at) {
-        variables(alloc, depth, two, tokens, at)
+    if cursor::begins_variable(parser, index) {
+        variables(alloc, parser, depth, two, index)
     } else {
-        Ok((Vec::new(alloc), at))
+        Ok((Variables::Unnamed, index))
     }
 }

@@ -14,12 +14,14 @@ use Rattle.rule_code.specs.declared.fault.Flaw.TheVariants as flaws
 use Rattle.rule_code.specs.declared.symbol.Symbol.{Symbol}
 use Rattle.rule_code.specs.declared.symbol.SymbolTag.{SymbolTag}
 use Rattle.rule_code.specs.SymbolTag.{is_symbol_of}
-use Rattle.rule_code.specs.Spelling.{number, text}
+use Rattle.rule_code.specs.Spelling.{text}
+use Rattle.rule_code.specs.NumberBytes.{number_bytes}
 use Rattle.rule_code.specs.WellFormed.{IsTextOfUnit}
-use Rattle.rule_code.specs.Reading.{at, number_at, count_at, text_number_at, symbol_number_at, text_bytes_at}
-use Rattle.rule_code.specs.Opcodes.{integer_at, boolean_at}
-use Rattle.rule_code.specs.Parts.{text_at}
-use Rattle.rule_code.proofs.Bytes.{IsBytes, IsBytes-drop, IsBytes-take, IsBytes-rest, bind_ok, guard_ok, pass_ok, go_on, ok_is, Takes, Takes-then}
+use Rattle.rule_code.specs.Reading.{wrong, number_from, count_from, text_number_from, symbol_number_from, text_bytes_from}
+use Rattle.rule_code.specs.Opcodes.{integer_from, boolean_from}
+use Rattle.rule_code.specs.Parts.{text_from}
+use Rattle.ocl_base.proofs.ForAbove.{both_steps, ok_is}
+use Rattle.rule_code.proofs.Bytes.{IsBytes, IsBytes-drop, IsBytes-take, IsBytes-rest, guard_ok, pass_ok, go_on, Takes, Takes-then}
 use Rattle.rule_code.proofs.Codec.{IsCodec}
 
 -- ---- numbers of fixed width
@@ -47,7 +49,7 @@ wide64 = record {
       omega (arith, fits.small 0, fits.small 1, fits.small 2, fits.small 3, fits.small 4, fits.small 5, fits.small 6, fits.small 7);
 }
 
-pub wide_codec : (w : Width) (limit : ℕ) → IsWide w limit → IsCodec (to_be_bytes w) (λ n. n < limit) (number_at w)
+pub wide_codec : (w : Width) (limit : ℕ) → IsWide w limit → IsCodec (to_be_bytes w) (λ n. n < limit) (number_from w)
 wide_codec w limit wide = record {
   takes = λ bytes x fits e.
       let g = guard_ok (ltb (length bytes) (byte_len w)) (record { flaw = flaws.Truncated; left = length bytes }) (from_be_bytes w (take (byte_len w) bytes), drop (byte_len w) bytes) x e in
@@ -61,30 +63,30 @@ wide_codec w limit wide = record {
       rw (long, take_at (to_be_bytes w n) rest (byte_len w) len, drop_at (to_be_bytes w n) rest (byte_len w) len, wide.again n lt) refl;
 }
 
-pub number_codec : IsCodec number (λ n. n < 2 ^ 16) (number_at w16)
+pub number_codec : IsCodec number_bytes (λ n. n < 2 ^ 16) (number_from w16)
 number_codec = wide_codec w16 (2 ^ 16) wide16
 
-pub count_codec : (limit : ℕ) → limit < 2 ^ 16 → IsCodec number (λ n. n ≤ limit) (count_at limit)
-unfolding count_at
+pub count_codec : (limit : ℕ) → limit < 2 ^ 16 → IsCodec number_bytes (λ n. n ≤ limit) (count_from limit)
+unfolding count_from
 count_codec limit small = record {
   takes = λ bytes x fits e.
-      let a = bind_ok (number_at w16 bytes) (λ n. cond (ltb limit n.0) (at flaws.Limit bytes) (Ok n)) x e in
+      let a = both_steps (number_from w16 bytes) (λ n. cond (ltb limit n.0) (wrong flaws.Limit bytes) (Ok n)) x e in
       let g = guard_ok (ltb limit a.0.0) (record { flaw = flaws.Limit; left = length bytes }) a.0 x a.2 in
       let t = number_codec.takes bytes a.0 fits a.1 in
-      subst (λ (p : ℕ × List ℕ). Takes bytes (number p.0) p.1 × (p.0 ≤ limit)) g.1 (t.0, ltb-false _ _ g.0);
+      subst (λ (p : ℕ × List ℕ). Takes bytes (number_bytes p.0) p.1 × (p.0 ≤ limit)) g.1 (t.0, ltb-false _ _ g.0);
   again = λ n rest le.
       let fine : ltb limit n ≡ false = le-ltb _ _ le in
       rw (number_codec.again n rest (omega arith), fine) refl;
 }
 
-pub text_number_codec : (texts : ℕ) → texts < 2 ^ 16 → IsCodec number (λ n. n < texts) (text_number_at texts)
-unfolding text_number_at
+pub text_number_codec : (texts : ℕ) → texts < 2 ^ 16 → IsCodec number_bytes (λ n. n < texts) (text_number_from texts)
+unfolding text_number_from
 text_number_codec texts few = record {
   takes = λ bytes x fits e.
-      let a = bind_ok (number_at w16 bytes) (λ n. cond (ltb n.0 texts) (Ok n) (at flaws.BadNumber bytes)) x e in
+      let a = both_steps (number_from w16 bytes) (λ n. cond (ltb n.0 texts) (Ok n) (wrong flaws.BadNumber bytes)) x e in
       let g = pass_ok (ltb a.0.0 texts) (record { flaw = flaws.BadNumber; left = length bytes }) a.0 x a.2 in
       let t = number_codec.takes bytes a.0 fits a.1 in
-      subst (λ (p : ℕ × List ℕ). Takes bytes (number p.0) p.1 × (p.0 < texts)) g.1 (t.0, ltb-true _ _ g.0);
+      subst (λ (p : ℕ × List ℕ). Takes bytes (number_bytes p.0) p.1 × (p.0 < texts)) g.1 (t.0, ltb-true _ _ g.0);
   again = λ n rest lt.
       let below : ltb n texts ≡ true = lt-ltb _ _ lt in
       rw (number_codec.again n rest (omega arith), below) refl;
@@ -96,14 +98,14 @@ is_symbol_of-lt tag [] n e = absurd (false≢true e)
 is_symbol_of-lt tag (s ∷ symbols) zero e = omega arith
 is_symbol_of-lt tag (s ∷ symbols) (suc n) e = let below = is_symbol_of-lt tag symbols n e in omega arith
 
-pub symbol_number_codec : (tag : SymbolTag) (symbols : List Symbol) → length symbols < 2 ^ 16 → IsCodec number (λ n. is_symbol_of tag symbols n ≡ true) (symbol_number_at tag symbols)
-unfolding symbol_number_at
+pub symbol_number_codec : (tag : SymbolTag) (symbols : List Symbol) → length symbols < 2 ^ 16 → IsCodec number_bytes (λ n. is_symbol_of tag symbols n ≡ true) (symbol_number_from tag symbols)
+unfolding symbol_number_from
 symbol_number_codec tag symbols few = record {
   takes = λ bytes x fits e.
-      let a = bind_ok (number_at w16 bytes) (λ n. cond (is_symbol_of tag symbols n.0) (Ok n) (at flaws.BadNumber bytes)) x e in
+      let a = both_steps (number_from w16 bytes) (λ n. cond (is_symbol_of tag symbols n.0) (Ok n) (wrong flaws.BadNumber bytes)) x e in
       let g = pass_ok (is_symbol_of tag symbols a.0.0) (record { flaw = flaws.BadNumber; left = length bytes }) a.0 x a.2 in
       let t = number_codec.takes bytes a.0 fits a.1 in
-      subst (λ (p : ℕ × List ℕ). Takes bytes (number p.0) p.1 × (is_symbol_of tag symbols p.0 ≡ true)) g.1 (t.0, g.0);
+      subst (λ (p : ℕ × List ℕ). Takes bytes (number_bytes p.0) p.1 × (is_symbol_of tag symbols p.0 ≡ true)) g.1 (t.0, g.0);
   again = λ n rest is.
       let below = is_symbol_of-lt tag symbols n is in
       rw (number_codec.again n rest (omega arith), is) refl;
@@ -117,11 +119,11 @@ integer n = to_be_bytes w64 (cast_unsigned w64 n)
 cast_unsigned-lt : (n : ℤ) → FitsSigned w64 n → cast_unsigned w64 n < 2 ^ 64
 cast_unsigned-lt n fits = let h : Fits w64 (cast_unsigned w64 n) = Fits-of_z fits in omega (arith, h)
 
-pub integer_codec : IsCodec integer (FitsSigned w64) integer_at
-unfolding integer_at
+pub integer_codec : IsCodec integer (FitsSigned w64) integer_from
+unfolding integer_from
 integer_codec = record {
   takes = λ bytes x fits e.
-      let a = bind_ok (number_at w64 bytes) (λ n. Ok (cast_signed w64 n.0, n.1)) x e in
+      let a = both_steps (number_from w64 bytes) (λ n. Ok (cast_signed w64 n.0, n.1)) x e in
       let t = (wide_codec w64 (2 ^ 64) wide64).takes bytes a.0 fits a.1 in
       let back : cast_unsigned w64 (cast_signed w64 a.0.0) ≡ a.0.0 = of_z-to_z w64 a.0.0 t.1 in
       subst (λ (y : ℤ × List ℕ). Takes bytes (integer y.0) y.1 × FitsSigned w64 y.0) (ok_is (cast_signed w64 a.0.0, a.0.1) x a.2)
@@ -132,8 +134,8 @@ integer_codec = record {
 abbrev pub boolean : Bool → List ℕ
 boolean b = (if b then 1 else 0) ∷ []
 
-boolean_takes : (bytes : List ℕ) (x : Bool × List ℕ) → IsBytes bytes → boolean_at bytes ≡ Ok x → Takes bytes (boolean x.0) x.1 × Unit {0}
-unfolding boolean_at
+boolean_takes : (bytes : List ℕ) (x : Bool × List ℕ) → IsBytes bytes → boolean_from bytes ≡ Ok x → Takes bytes (boolean x.0) x.1 × Unit {0}
+unfolding boolean_from
 boolean_takes [] x fits e = absurd cc
 boolean_takes (zero ∷ bytes) x fits e =
     subst (λ (y : Bool × List ℕ). Takes (0 ∷ bytes) (boolean y.0) y.1 × Unit {0}) (ok_is (false, bytes) x e) (record { parts = refl; rest_fits = IsBytes-rest 0 bytes fits }, tt)
@@ -141,36 +143,36 @@ boolean_takes (suc zero ∷ bytes) x fits e =
     subst (λ (y : Bool × List ℕ). Takes (1 ∷ bytes) (boolean y.0) y.1 × Unit {0}) (ok_is (true, bytes) x e) (record { parts = refl; rest_fits = IsBytes-rest 1 bytes fits }, tt)
 boolean_takes (suc (suc b) ∷ bytes) x fits e = absurd cc
 
-boolean_again : (b : Bool) (rest : List ℕ) → Unit {0} → boolean_at (boolean b ++ rest) ≡ Ok (b, rest)
-unfolding boolean_at
+boolean_again : (b : Bool) (rest : List ℕ) → Unit {0} → boolean_from (boolean b ++ rest) ≡ Ok (b, rest)
+unfolding boolean_from
 boolean_again true rest fits = refl
 boolean_again false rest fits = refl
 
-pub boolean_codec : IsCodec boolean (λ b. Unit {0}) boolean_at
+pub boolean_codec : IsCodec boolean (λ b. Unit {0}) boolean_from
 boolean_codec = record { takes = boolean_takes; again = boolean_again }
 
 -- ---- texts
 
-pub text_codec : IsCodec text IsTextOfUnit text_at
-unfolding text_at text_bytes_at
+pub text_codec : IsCodec text IsTextOfUnit text_from
+unfolding text_from text_bytes_from
 text_codec = record {
   takes = λ bytes x fits e.
-      let a = bind_ok (count_at 4096 bytes) (λ n. text_bytes_at n.0 n.1) x e in
+      let a = both_steps (count_from 4096 bytes) (λ n. text_bytes_from n.0 n.1) x e in
       let n = a.0.0 in
       let rest = a.0.1 in
       let t = (count_codec 4096 (omega arith)).takes bytes a.0 fits a.1 in
-      let k = go_on (ltb (length rest) n) (cond (is_utf8 (take n rest)) (Ok (take n rest, drop n rest)) (at flaws.BadText rest)) (record { flaw = flaws.Truncated; left = length rest }) x a.2 in
+      let k = go_on (ltb (length rest) n) (cond (is_utf8 (take n rest)) (Ok (take n rest, drop n rest)) (wrong flaws.BadText rest)) (record { flaw = flaws.Truncated; left = length rest }) x a.2 in
       let g = pass_ok (is_utf8 (take n rest)) (record { flaw = flaws.BadText; left = length rest }) (take n rest, drop n rest) x k.1 in
       let long : n ≤ length rest = ltb-false _ _ k.0 in
       let len : length (take n rest) ≡ n = omega (arith, length-take n rest) in
       let second : Takes rest (take n rest) (drop n rest) = record { parts = sym (take-append-drop n rest); rest_fits = IsBytes-drop n rest t.0.rest_fits } in
-      let both = Takes-then bytes (number n) rest (take n rest) (drop n rest) t.0 second in
-      let whole : Takes bytes (text (take n rest)) (drop n rest) = subst (λ (k : ℕ). Takes bytes (number k ++ take n rest) (drop n rest)) (sym len) both in
+      let both = Takes-then bytes (number_bytes n) rest (take n rest) (drop n rest) t.0 second in
+      let whole : Takes bytes (text (take n rest)) (drop n rest) = subst (λ (k : ℕ). Takes bytes (number_bytes k ++ take n rest) (drop n rest)) (sym len) both in
       subst (λ (p : List ℕ × List ℕ). Takes bytes (text p.0) p.1 × IsTextOfUnit p.0) g.1 (whole, (omega (arith, t.1), g.0));
   again = λ bytes rest fits.
-      let regrouped : text bytes ++ rest ≡ number (length bytes) ++ (bytes ++ rest) = append_assoc (number (length bytes)) bytes rest in
+      let regrouped : text bytes ++ rest ≡ number_bytes (length bytes) ++ (bytes ++ rest) = append_assoc (number_bytes (length bytes)) bytes rest in
       let long : ltb (length (bytes ++ rest)) (length bytes) ≡ false = le-ltb _ _ (omega (arith, length-append bytes rest)) in
       let one = take_at bytes rest (length bytes) refl in
       let two = drop_at bytes rest (length bytes) refl in
-      ap text_at regrouped ∙ rw ((count_codec 4096 (omega arith)).again (length bytes) (bytes ++ rest) fits.0, long, one, two, fits.1) refl;
+      ap text_from regrouped ∙ rw ((count_codec 4096 (omega arith)).again (length bytes) (bytes ++ rest) fits.0, long, one, two, fits.1) refl;
 }

@@ -1,88 +1,201 @@
 -- Instructions: an opcode, then the fields of its row in the table.
-use Rattle.std.proofs.Common.{◌≡◌, ℕ, ℤ, ◌^◌, ◌<◌, Bool, true, eqb, List, [], ◌∷◌, ◌++◌, length, Ok, refl, sym, subst, inl, inr}
-use Rattle.std.specs.Int.{w64}
-use Rattle.std.specs.Int.RustNames.{FitsSigned}
+use Rattle.std.proofs.Common.{◌≡◌, ℕ, ℤ, ◌^◌, ◌<◌, Bool, List, [], ◌∷◌, ◌++◌, length, Option, Some, None, Ok, refl, sym, ap, subst, ◌∙◌, append_assoc}
+use Rattle.std.specs.Int.{w16}
 use Rattle.std.specs.List.{AllByRecursion}
-use Rattle.std.proofs.lemmas.Bool.{eqb-true}
+use Rattle.std.proofs.lemmas.List.{append-nil}
+use Rattle.ocl_base.specs.declared.collection_kind.CollectionKind.{CollectionKind}
+use Rattle.ocl_base.specs.Steps.{◌>>=◌}
+use Rattle.ocl_base.proofs.ForAbove.{both_steps, ok_is}
 use Rattle.rule_code.specs.declared.fault.Flaw.TheVariants as flaws
 use Rattle.rule_code.specs.declared.instruction.Instr.{Instr}
 use Rattle.rule_code.specs.declared.instruction.Instr.TheVariants as instrs
+use Rattle.rule_code.specs.declared.kind.WrittenScalar.{WrittenScalar}
+use Rattle.rule_code.specs.declared.kind.WrittenKind.{WrittenKind}
 use Rattle.rule_code.specs.declared.symbol.Symbol.{Symbol}
 use Rattle.rule_code.specs.declared.symbol.SymbolNumber.{SymbolNumber}
-use Rattle.rule_code.specs.declared.symbol.SymbolTag.TheVariants as tags
-use Rattle.rule_code.specs.SymbolTag.{is_symbol_of}
-use Rattle.rule_code.specs.Spelling.{number, instr}
-use Rattle.rule_code.specs.WellFormed.{InstrFits}
-use Rattle.rule_code.specs.Reading.{at, symbol_number_at}
-use Rattle.rule_code.specs.Opcodes.{Fields, nothing, integer, boolean, symbol, opcodes, integer_at, boolean_at, fields_at, behind, instr_at}
-use Rattle.rule_code.proofs.Bytes.{IsBytes, IsBytes-rest, bind_ok, chosen, ok_is, Takes, Takes-behind}
+use Rattle.rule_code.specs.declared.symbol.TextNumber.{TextNumber}
+use Rattle.rule_code.specs.InstrRows.{FieldValue, integer_field, boolean_field, number_field, text_field, symbol_field, scalar_field, collection_field, kind_field, instr_row, row_of}
+use Rattle.rule_code.specs.Spelling.{field_bytes, fields_bytes, instr}
+use Rattle.rule_code.specs.WellFormed.{FieldFits, InstrFits}
+use Rattle.rule_code.specs.Reading.{FieldRead, wrong, number_from, text_number_from, symbol_number_from}
+use Rattle.rule_code.specs.KindReading.{row_numbered, single_kind_from, collection_kind_from, kind_from}
+use Rattle.rule_code.specs.Opcodes.{Fields, made, integer, boolean, number, text, symbol, scalar, collection, kind, plain_opcodes, value_opcodes, operation_opcodes, block_opcodes, opcodes, integer_from, boolean_from, fields_from, behind, instr_from}
+use Rattle.rule_code.proofs.Bytes.{IsBytes, IsBytes-rest, Takes, Takes-then, Takes-behind}
 use Rattle.rule_code.proofs.Codec.{IsCodec}
-use Rattle.rule_code.proofs.Fields as fields
+use Rattle.rule_code.proofs.Fields.{number_codec, integer_codec, boolean_codec, text_number_codec, symbol_number_codec}
+use Rattle.rule_code.proofs.KindFields.{numbered_right, scalar_codec, collection_codec, kind_codec}
 
-module _ (symbols : List Symbol) (few : length symbols < 2 ^ 16) where
-  -- the row's instructions are spelled with its opcode and fields, and fit where the fields do
-  abbrev IsRight : ℕ → Fields → Type 0
-  IsRight opcode (nothing i) = (instr i ≡ opcode ∷ []) × InstrFits symbols i
-  IsRight opcode (integer make) = (n : ℤ) → (instr (make n) ≡ opcode ∷ fields.integer n) × (FitsSigned w64 n → InstrFits symbols (make n))
-  IsRight opcode (boolean make) = (b : Bool) → (instr (make b) ≡ opcode ∷ fields.boolean b) × InstrFits symbols (make b)
-  IsRight opcode (symbol tag make) = (s : SymbolNumber) → (instr (make s) ≡ opcode ∷ number s.0) × (is_symbol_of tag symbols s.0 ≡ true → InstrFits symbols (make s))
+-- ---- what is read is spelled so
 
-  abbrev AreRight : List (ℕ × Fields) → Type 0
-  AreRight = AllByRecursion (λ row. IsRight row.0 row.1)
+-- the instructions that a row makes have this opcode and, behind these fields, the row's own
+abbrev IsRight : ℕ → List FieldValue → Fields → Type 0
+IsRight opcode before (made i) = row_of i ≡ instr_row opcode before
+IsRight opcode before (integer next) = (n : ℤ) → IsRight opcode (before ++ integer_field n ∷ []) (next n)
+IsRight opcode before (boolean next) = (b : Bool) → IsRight opcode (before ++ boolean_field b ∷ []) (next b)
+IsRight opcode before (number next) = (n : ℕ) → IsRight opcode (before ++ number_field n ∷ []) (next n)
+IsRight opcode before (text next) = (t : TextNumber) → IsRight opcode (before ++ text_field t.0 ∷ []) (next t)
+IsRight opcode before (symbol tag next) = (s : SymbolNumber) → IsRight opcode (before ++ symbol_field tag s.0 ∷ []) (next s)
+IsRight opcode before (scalar next) = (k : WrittenScalar) → IsRight opcode (before ++ scalar_field k ∷ []) (next k)
+IsRight opcode before (collection next) = (c : CollectionKind) (k : WrittenScalar) → IsRight opcode (before ++ collection_field c k ∷ []) (next c k)
+IsRight opcode before (kind next) = (k : WrittenKind) → IsRight opcode (before ++ kind_field k ∷ []) (next k)
 
-  opcodes_right : AreRight opcodes
-  opcodes_right =
-      ((refl, tt), ((λ n. (refl, λ fits. fits)), ((λ b. (refl, tt)), ((refl, tt), ((λ s. (refl, λ is. is)), ((refl, tt), ((refl, tt), ((refl, tt), ((refl, tt), tt)))))))))
+abbrev AreRight : List (ℕ × Fields) → Type 0
+AreRight rows = AllByRecursion (λ row. IsRight row.0 [] row.1) rows
 
-  -- an instruction that is read behind its opcode
-  abbrev Behind : ℕ → List ℕ → Instr × List ℕ → Type 0
-  Behind opcode rest x = Takes (opcode ∷ rest) (instr x.0) x.1 × InstrFits symbols x.0
+right_with : (rows more : List (ℕ × Fields)) → AreRight rows → AreRight more → AreRight (rows ++ more)
+right_with [] more right others = others
+right_with (row ∷ rows) more right others = (right.0, right_with rows more right.1 others)
 
-  fields_takes : (opcode : ℕ) (row : Fields) → IsRight opcode row → (rest : List ℕ) (x : Instr × List ℕ) → IsBytes rest → fields_at symbols row rest ≡ Ok x → Behind opcode rest x
-  fields_takes opcode (nothing i) right rest x fits e =
-      subst (λ (y : Instr × List ℕ). Behind opcode rest y) (ok_is (i, rest) x e) (rw right.0 (record { parts = refl; rest_fits = fits }), right.1)
-  fields_takes opcode (integer make) right rest x fits e =
-      let a = bind_ok (integer_at rest) (λ n. Ok (make n.0, n.1)) x e in
-      let t = fields.integer_codec.takes rest a.0 fits a.1 in
-      let r = right a.0.0 in
-      subst (λ (y : Instr × List ℕ). Behind opcode rest y) (ok_is (make a.0.0, a.0.1) x a.2) (rw r.0 (Takes-behind opcode rest (fields.integer a.0.0) a.0.1 t.0), r.1 t.1)
-  fields_takes opcode (boolean make) right rest x fits e =
-      let a = bind_ok (boolean_at rest) (λ b. Ok (make b.0, b.1)) x e in
-      let t = fields.boolean_codec.takes rest a.0 fits a.1 in
-      let r = right a.0.0 in
-      subst (λ (y : Instr × List ℕ). Behind opcode rest y) (ok_is (make a.0.0, a.0.1) x a.2) (rw r.0 (Takes-behind opcode rest (fields.boolean a.0.0) a.0.1 t.0), r.1)
-  fields_takes opcode (symbol tag make) right rest x fits e =
-      let a = bind_ok (symbol_number_at tag symbols rest) (λ s. Ok (make (record { 0 = s.0 }), s.1)) x e in
-      let t = (fields.symbol_number_codec tag symbols few).takes rest a.0 fits a.1 in
-      let s : SymbolNumber = record { 0 = a.0.0 } in
-      let r = right s in
-      subst (λ (y : Instr × List ℕ). Behind opcode rest y) (ok_is (make s, a.0.1) x a.2) (rw r.0 (Takes-behind opcode rest (number a.0.0) a.0.1 t.0), r.1 t.1)
+plain_right : AreRight plain_opcodes
+plain_right =
+    (refl, (refl, (refl, (refl, (refl, (refl, (refl, (refl, (refl, (refl, (refl, (refl, (refl, (refl, (refl, (refl, (refl, (refl, (refl, (refl, (refl, (refl, (refl, (refl, (refl, (refl, (refl, (refl, (refl, tt)))))))))))))))))))))))))))))
 
-  behind_takes : (rows : List (ℕ × Fields)) → AreRight rows → (opcode : ℕ) (rest : List ℕ) (x : Instr × List ℕ) → IsBytes rest → behind symbols rows opcode rest ≡ Ok x → Behind opcode rest x
-  behind_takes [] right opcode rest x fits e = absurd (let bad : at flaws.BadOpcode (opcode ∷ rest) ≡ Ok x = e in cc)
-  behind_takes (row ∷ rows) right opcode rest x fits e =
-      let at_opcode : ℕ → Type 0 = λ k. Behind k rest x in
-      elim (chosen (eqb opcode row.0) (fields_at symbols row.1 rest) (behind symbols rows opcode rest) (Ok x) e) [
-        | inl h ↦ subst at_opcode (sym (eqb-true opcode row.0 h.0)) (fields_takes row.0 row.1 right.0 rest x fits h.1)
-        | inr h ↦ behind_takes rows right.1 opcode rest x fits h.1
-      ]
+value_right : AreRight value_opcodes
+value_right =
+    ((λ n. refl), ((λ n. refl), ((λ b. refl), ((λ t. refl), ((λ s. refl), ((λ s. refl), ((λ s. refl), ((λ c k. refl), ((λ s. refl), ((λ s. refl), ((λ s. refl), tt)))))))))))
 
-  instr_takes : (bytes : List ℕ) (x : Instr × List ℕ) → IsBytes bytes → instr_at symbols bytes ≡ Ok x → Takes bytes (instr x.0) x.1 × InstrFits symbols x.0
-  unfolding instr_at
+operation_right : AreRight operation_opcodes
+operation_right =
+    ((λ k. refl), ((λ k. refl), ((λ k. refl), ((λ k. refl), ((λ k. refl), ((λ k. refl), tt))))))
+
+block_right : AreRight block_opcodes
+block_right =
+    ((λ n. refl), ((λ k n m. refl), ((λ n. refl), ((λ n. refl), ((λ n. refl), ((λ n. refl), ((λ n. refl), ((λ n. refl), ((λ n. refl), ((λ k n. refl), tt))))))))))
+
+opcodes_right : AreRight opcodes
+opcodes_right =
+    right_with plain_opcodes (value_opcodes ++ operation_opcodes ++ block_opcodes) plain_right
+    (right_with value_opcodes (operation_opcodes ++ block_opcodes) value_right (right_with operation_opcodes block_opcodes operation_right block_right))
+
+module _ (texts : ℕ) (symbols : List Symbol) (few_texts : texts < 2 ^ 16) (few : length symbols < 2 ^ 16) where
+  -- an instruction that was read behind its opcode and some of its fields
+  record Found (opcode : ℕ) (before : List FieldValue) (rest : List ℕ) (x : Instr × List ℕ) : Type 0 where
+    pub fields : List FieldValue
+    pub row : row_of x.0 ≡ instr_row opcode (before ++ fields)
+    pub taken : Takes rest (fields_bytes fields) x.1
+    pub fit : AllByRecursion (FieldFits texts symbols) fields
+
+  -- one field more
+  field_then : (opcode : ℕ) (before : List FieldValue) (f : FieldValue) (rest after : List ℕ) (x : Instr × List ℕ) → Takes rest (field_bytes f) after → FieldFits texts symbols f → Found opcode (before ++ f ∷ []) after x → Found opcode before rest x
+  field_then opcode before f rest after x first fits others = record {
+    fields = f ∷ others.fields;
+    row = others.row ∙ ap (instr_row opcode) (append_assoc before (f ∷ []) others.fields);
+    taken = Takes-then rest (field_bytes f) after (fields_bytes others.fields) x.1 first others.taken;
+    fit = (fits, others.fit);
+  }
+
+  fields_takes : (opcode : ℕ) (before : List FieldValue) (row : Fields) → IsRight opcode before row → (rest : List ℕ) (x : Instr × List ℕ) → IsBytes rest → fields_from texts symbols row rest ≡ Ok x → Found opcode before rest x
+  fields_takes opcode before (made i) right rest x fits e =
+      subst (λ (y : Instr × List ℕ). Found opcode before rest y) (ok_is (i, rest) x e)
+      (record { fields = []; row = right ∙ ap (instr_row opcode) (sym (append-nil before)); taken = record { parts = refl; rest_fits = fits }; fit = tt })
+  fields_takes opcode before (integer next) right rest x fits e =
+      let a = both_steps (integer_from rest) (λ n. fields_from texts symbols (next n.0) n.1) x e in
+      let t = integer_codec.takes rest a.0 fits a.1 in
+      field_then opcode before (integer_field a.0.0) rest a.0.1 x t.0 t.1 (fields_takes opcode (before ++ integer_field a.0.0 ∷ []) (next a.0.0) (right a.0.0) a.0.1 x t.0.rest_fits a.2)
+  fields_takes opcode before (boolean next) right rest x fits e =
+      let a = both_steps (boolean_from rest) (λ n. fields_from texts symbols (next n.0) n.1) x e in
+      let t = boolean_codec.takes rest a.0 fits a.1 in
+      field_then opcode before (boolean_field a.0.0) rest a.0.1 x t.0 t.1 (fields_takes opcode (before ++ boolean_field a.0.0 ∷ []) (next a.0.0) (right a.0.0) a.0.1 x t.0.rest_fits a.2)
+  fields_takes opcode before (number next) right rest x fits e =
+      let a = both_steps (number_from w16 rest) (λ n. fields_from texts symbols (next n.0) n.1) x e in
+      let t = number_codec.takes rest a.0 fits a.1 in
+      field_then opcode before (number_field a.0.0) rest a.0.1 x t.0 t.1 (fields_takes opcode (before ++ number_field a.0.0 ∷ []) (next a.0.0) (right a.0.0) a.0.1 x t.0.rest_fits a.2)
+  fields_takes opcode before (text next) right rest x fits e =
+      let a = both_steps (text_number_from texts rest) (λ n. fields_from texts symbols (next (record { 0 = n.0 })) n.1) x e in
+      let t = (text_number_codec texts few_texts).takes rest a.0 fits a.1 in
+      field_then opcode before (text_field a.0.0) rest a.0.1 x t.0 t.1 (fields_takes opcode (before ++ text_field a.0.0 ∷ []) (next (record { 0 = a.0.0 })) (right (record { 0 = a.0.0 })) a.0.1 x t.0.rest_fits a.2)
+  fields_takes opcode before (symbol tag next) right rest x fits e =
+      let a = both_steps (symbol_number_from tag symbols rest) (λ n. fields_from texts symbols (next (record { 0 = n.0 })) n.1) x e in
+      let t = (symbol_number_codec tag symbols few).takes rest a.0 fits a.1 in
+      field_then opcode before (symbol_field tag a.0.0) rest a.0.1 x t.0 t.1 (fields_takes opcode (before ++ symbol_field tag a.0.0 ∷ []) (next (record { 0 = a.0.0 })) (right (record { 0 = a.0.0 })) a.0.1 x t.0.rest_fits a.2)
+  fields_takes opcode before (scalar next) right rest x fits e =
+      let a = both_steps (single_kind_from symbols rest) (λ n. fields_from texts symbols (next n.0) n.1) x e in
+      let t = (scalar_codec symbols few).takes rest a.0 fits a.1 in
+      field_then opcode before (scalar_field a.0.0) rest a.0.1 x t.0 t.1 (fields_takes opcode (before ++ scalar_field a.0.0 ∷ []) (next a.0.0) (right a.0.0) a.0.1 x t.0.rest_fits a.2)
+  fields_takes opcode before (collection next) right rest x fits e =
+      let a = both_steps (collection_kind_from symbols rest) (λ n. fields_from texts symbols (next n.0.0 n.0.1) n.1) x e in
+      let t = (collection_codec symbols few).takes rest a.0 fits a.1 in
+      field_then opcode before (collection_field a.0.0.0 a.0.0.1) rest a.0.1 x t.0 t.1 (fields_takes opcode (before ++ collection_field a.0.0.0 a.0.0.1 ∷ []) (next a.0.0.0 a.0.0.1) (right a.0.0.0 a.0.0.1) a.0.1 x t.0.rest_fits a.2)
+  fields_takes opcode before (kind next) right rest x fits e =
+      let a = both_steps (kind_from symbols rest) (λ n. fields_from texts symbols (next n.0) n.1) x e in
+      let t = (kind_codec symbols few).takes rest a.0 fits a.1 in
+      field_then opcode before (kind_field a.0.0) rest a.0.1 x t.0 t.1 (fields_takes opcode (before ++ kind_field a.0.0 ∷ []) (next a.0.0) (right a.0.0) a.0.1 x t.0.rest_fits a.2)
+
+  behind_takes : (opcode : ℕ) (row : Option Fields) → ((r : Fields) → row ≡ Some r → IsRight opcode [] r) → (here rest : List ℕ) (x : Instr × List ℕ) → IsBytes rest → behind texts symbols row here rest ≡ Ok x → Found opcode [] rest x
+  behind_takes opcode None right here rest x fits e = absurd (let bad : wrong flaws.BadOpcode here ≡ Ok x = e in cc)
+  behind_takes opcode (Some row) right here rest x fits e = fields_takes opcode [] row (right row refl) rest x fits e
+
+  instr_takes : (bytes : List ℕ) (x : Instr × List ℕ) → IsBytes bytes → instr_from texts symbols bytes ≡ Ok x → Takes bytes (instr x.0) x.1 × InstrFits texts symbols x.0
+  unfolding instr_from
   instr_takes [] x fits e = absurd cc
-  instr_takes (opcode ∷ rest) x fits e = behind_takes opcodes opcodes_right opcode rest x (IsBytes-rest opcode rest fits) e
+  instr_takes (opcode ∷ rest) x fits e =
+      let f = behind_takes opcode (row_numbered opcodes opcode) (λ r found. numbered_right (λ n row. IsRight n [] row) opcodes opcodes_right opcode r found) (opcode ∷ rest) rest x (IsBytes-rest opcode rest fits) e in
+      (rw f.row (Takes-behind opcode rest (fields_bytes f.fields) x.1 f.taken), rw f.row f.fit)
 
-  instr_again : (x : Instr) (rest : List ℕ) → InstrFits symbols x → instr_at symbols (instr x ++ rest) ≡ Ok (x, rest)
-  unfolding instr_at
-  instr_again instrs.SelfObject rest fits = refl
-  instr_again (instrs.Int n) rest fits = rw (fields.integer_codec.again n rest fits) refl
-  instr_again (instrs.Bool b) rest fits = rw (fields.boolean_codec.again b rest tt) refl
-  instr_again instrs.Null rest fits = refl
-  instr_again (instrs.Attr s) rest fits = rw ((fields.symbol_number_codec tags.Feature symbols few).again s.0 rest fits) refl
-  instr_again instrs.Lt rest fits = refl
-  instr_again instrs.Ge rest fits = refl
-  instr_again instrs.Not rest fits = refl
-  instr_again instrs.And rest fits = refl
+  -- ---- what is spelled so is read
 
-  pub instr_codec : IsCodec instr (InstrFits symbols) (instr_at symbols)
+  -- a row makes this instruction of these fields
+  abbrev Makes : Fields → List FieldValue → Instr → Type 0
+  Makes (made i) [] x = i ≡ x
+  Makes (integer next) (integer_field n ∷ fs) x = Makes (next n) fs x
+  Makes (boolean next) (boolean_field b ∷ fs) x = Makes (next b) fs x
+  Makes (number next) (number_field n ∷ fs) x = Makes (next n) fs x
+  Makes (text next) (text_field n ∷ fs) x = Makes (next (record { 0 = n })) fs x
+  Makes (symbol tag next) (symbol_field other n ∷ fs) x = (other ≡ tag) × Makes (next (record { 0 = n })) fs x
+  Makes (scalar next) (scalar_field k ∷ fs) x = Makes (next k) fs x
+  Makes (collection next) (collection_field c k ∷ fs) x = Makes (next c k) fs x
+  Makes (kind next) (kind_field k ∷ fs) x = Makes (next k) fs x
+  Makes row fs x = ⊥
+
+  -- a field is read, then the others
+  then_again : {A : Type 0} (f : List ℕ → FieldRead A) (go : A × List ℕ → FieldRead Instr) (bytes others rest : List ℕ) (a : A) (x : Instr) → f (bytes ++ (others ++ rest)) ≡ Ok (a, others ++ rest) → go (a, others ++ rest) ≡ Ok (x, rest) → (f ((bytes ++ others) ++ rest) >>= go) ≡ Ok (x, rest)
+  then_again {A} f go bytes others rest a x first second =
+      ap (λ (all : List ℕ). f all >>= go) (append_assoc bytes others rest) ∙ ap (λ (r : FieldRead A). r >>= go) first ∙ second
+
+  fields_again : (row : Fields) (fs : List FieldValue) (x : Instr) → Makes row fs x → AllByRecursion (FieldFits texts symbols) fs → (rest : List ℕ) → fields_from texts symbols row (fields_bytes fs ++ rest) ≡ Ok (x, rest)
+  fields_again (made i) [] x makes fits rest = ap (λ (j : Instr). Ok (j, rest)) makes
+  fields_again (integer next) (integer_field n ∷ fs) x makes fits rest =
+      then_again integer_from (λ n. fields_from texts symbols (next n.0) n.1) (field_bytes (integer_field n)) (fields_bytes fs) rest n x (integer_codec.again n (fields_bytes fs ++ rest) fits.0) (fields_again (next n) fs x makes fits.1 rest)
+  fields_again (boolean next) (boolean_field n ∷ fs) x makes fits rest =
+      then_again boolean_from (λ n. fields_from texts symbols (next n.0) n.1) (field_bytes (boolean_field n)) (fields_bytes fs) rest n x (boolean_codec.again n (fields_bytes fs ++ rest) fits.0) (fields_again (next n) fs x makes fits.1 rest)
+  fields_again (number next) (number_field n ∷ fs) x makes fits rest =
+      then_again (number_from w16) (λ n. fields_from texts symbols (next n.0) n.1) (field_bytes (number_field n)) (fields_bytes fs) rest n x (number_codec.again n (fields_bytes fs ++ rest) fits.0) (fields_again (next n) fs x makes fits.1 rest)
+  fields_again (text next) (text_field n ∷ fs) x makes fits rest =
+      then_again (text_number_from texts) (λ n. fields_from texts symbols (next (record { 0 = n.0 })) n.1) (field_bytes (text_field n)) (fields_bytes fs) rest n x ((text_number_codec texts few_texts).again n (fields_bytes fs ++ rest) fits.0) (fields_again (next (record { 0 = n })) fs x makes fits.1 rest)
+  fields_again (scalar next) (scalar_field n ∷ fs) x makes fits rest =
+      then_again (single_kind_from symbols) (λ n. fields_from texts symbols (next n.0) n.1) (field_bytes (scalar_field n)) (fields_bytes fs) rest n x ((scalar_codec symbols few).again n (fields_bytes fs ++ rest) fits.0) (fields_again (next n) fs x makes fits.1 rest)
+  fields_again (kind next) (kind_field n ∷ fs) x makes fits rest =
+      then_again (kind_from symbols) (λ n. fields_from texts symbols (next n.0) n.1) (field_bytes (kind_field n)) (fields_bytes fs) rest n x ((kind_codec symbols few).again n (fields_bytes fs ++ rest) fits.0) (fields_again (next n) fs x makes fits.1 rest)
+  fields_again (symbol tag next) (symbol_field other n ∷ fs) x makes fits rest =
+      let there = rw makes.0 at fits.0 in
+      then_again (symbol_number_from tag symbols) (λ n. fields_from texts symbols (next (record { 0 = n.0 })) n.1) (field_bytes (symbol_field other n)) (fields_bytes fs) rest n x ((symbol_number_codec tag symbols few).again n (fields_bytes fs ++ rest) there)
+      (fields_again (next (record { 0 = n })) fs x makes.1 fits.1 rest)
+  fields_again (collection next) (collection_field c k ∷ fs) x makes fits rest =
+      then_again (collection_kind_from symbols) (λ n. fields_from texts symbols (next n.0.0 n.0.1) n.1) (field_bytes (collection_field c k)) (fields_bytes fs) rest (c, k) x ((collection_codec symbols few).again (c, k) (fields_bytes fs ++ rest) fits.0)
+      (fields_again (next c k) fs x makes fits.1 rest)
+  fields_again row fs x makes fits rest = absurd makes
+
+  -- the row of an instruction's opcode makes it of its fields
+  abbrev RowMakes : Option Fields → Instr → Type 0
+  RowMakes None x = ⊥
+  RowMakes (Some row) x = Makes row (row_of x).fields x
+
+  row_makes : (x : Instr) → RowMakes (row_numbered opcodes (row_of x).opcode) x
+  row_makes (instrs.Enum s) = (refl, refl)
+  row_makes (instrs.Attr s) = (refl, refl)
+  row_makes (instrs.All s) = (refl, refl)
+  row_makes (instrs.KindOf s) = (refl, refl)
+  row_makes (instrs.TypeOf s) = (refl, refl)
+  row_makes (instrs.AsType s) = (refl, refl)
+  row_makes x = refl
+
+  behind_again : (row : Option Fields) (x : Instr) → RowMakes row x → InstrFits texts symbols x → (here rest : List ℕ) → behind texts symbols row here (fields_bytes (row_of x).fields ++ rest) ≡ Ok (x, rest)
+  behind_again None x makes fits here rest = absurd makes
+  behind_again (Some row) x makes fits here rest = fields_again row (row_of x).fields x makes fits rest
+
+  instr_again : (x : Instr) (rest : List ℕ) → InstrFits texts symbols x → instr_from texts symbols (instr x ++ rest) ≡ Ok (x, rest)
+  unfolding instr_from
+  instr_again x rest fits = behind_again (row_numbered opcodes (row_of x).opcode) x (row_makes x) fits (instr x ++ rest) rest
+
+  pub instr_codec : IsCodec instr (InstrFits texts symbols) (instr_from texts symbols)
   instr_codec = record { takes = instr_takes; again = instr_again }

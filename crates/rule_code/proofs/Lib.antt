@@ -4,6 +4,9 @@ pub mod Bytes
 pub mod Codec
 pub mod Fields
 pub mod Symbols
+pub mod KindFields
 pub mod Instructions
 pub mod Units
-pub mod Held
+pub mod ForAbove
+pub mod FieldFaults
+pub mod FirstFault

@@ -12,13 +12,13 @@ use Rattle.std.proofs.lemmas.Map.Text.{is_eq-slice_cmp}
 use Rattle.std.proofs.lemmas.List.{map_push}
 use Rattle.std.proofs.lemmas.Cmp.{nat_list_eq_equiv}
 use mathlib.Core.Path.{fun_ext}
-use Rattle.rule_code.specs.Content.{RuleContent, text_of, names_of}
-use Rattle.rule_code.specs.Names.{is_among}
-use Rattle.rule_code.specs.Taken.{is_taken}
+use Rattle.rule_code.specs.Content.{RuleContent, text_at, names_of}
+use Rattle.ocl_base.specs.Lists.{is_among}
+use Rattle.rule_code.specs.Taken.{is_name_taken}
 
 -- the text of a number is the text that stands there
-pub text_of-map : (texts : List (String Global)) (n : ℕ) (t : String Global) → n < length texts → t ≡ get_or texts n t → text_of (map string_bytes texts) n ≡ string_bytes t
-text_of-map texts n t lt is = get_or-map string_bytes texts n t [] lt ∙ ap string_bytes (sym is)
+pub text_at-map : (texts : List (String Global)) (n : ℕ) (t : String Global) → n < length texts → t ≡ get_or texts n t → text_at (map string_bytes texts) n ≡ string_bytes t
+text_at-map texts n t lt is = get_or-map string_bytes texts n t [] lt ∙ ap string_bytes (sym is)
 
 same_either_way : (x y : List ℕ) → (bytes_eq x y || false) ≡ (bytes_eq y x || false)
 same_either_way x y = ap (λ (b : Bool). b || false) (nat_list_eq_equiv.symm x y)
@@ -33,25 +33,25 @@ one_more true c = refl
 one_more false c = refl
 
 -- after a name was put into the set
-pub is_taken-insert : (name : List ℕ) (old new : sets.BTreeSet (Bor (List ℕ))) → sets.UpdatesBy (λ x y. slice_cmp nat_cmp x.now y.now) (λ k. slice_cmp nat_cmp name k.now) old new true
-    → (s : List ℕ) → is_taken new s ≡ (bytes_eq name s || is_taken old s)
-unfolding is_taken
-is_taken-insert name old new h s =
-    h.0 (record { ref_ptr = (0, 0); now = s }) ∙ ap (λ (b : Bool). cond b true (is_taken old s)) (is_eq-slice_cmp name s) ∙ one_more (bytes_eq name s) (is_taken old s)
+pub is_name_taken-insert : (name : List ℕ) (old new : sets.BTreeSet (Bor (List ℕ))) → sets.UpdatesBy (λ x y. slice_cmp nat_cmp x.now y.now) (λ k. slice_cmp nat_cmp name k.now) old new true
+    → (s : List ℕ) → is_name_taken new s ≡ (bytes_eq name s || is_name_taken old s)
+unfolding is_name_taken
+is_name_taken-insert name old new h s =
+    h.0 (record { ref_ptr = (0, 0); now = s }) ∙ ap (λ (b : Bool). cond b true (is_name_taken old s)) (is_eq-slice_cmp name s) ∙ one_more (bytes_eq name s) (is_name_taken old s)
 
 -- one more name, at the end
-pub is_among-push : (words : List (List ℕ)) (w s : List ℕ) → is_among (words ++ w ∷ []) s ≡ (bytes_eq w s || is_among words s)
+pub is_among-push : (words : List (List ℕ)) (w s : List ℕ) → is_among bytes_eq (words ++ w ∷ []) s ≡ (bytes_eq w s || is_among bytes_eq words s)
 is_among-push [] w s = same_either_way s w
-is_among-push (x ∷ words) w s = ap (λ (b : Bool). bytes_eq s x || b) (is_among-push words w s) ∙ or_swap (bytes_eq s x) (bytes_eq w s) (is_among words s)
+is_among-push (x ∷ words) w s = ap (λ (b : Bool). bytes_eq s x || b) (is_among-push words w s) ∙ or_swap (bytes_eq s x) (bytes_eq w s) (is_among bytes_eq words s)
 
 -- the set of the names so far is the list of them, with the name of one more rule
-pub is_taken-push : (texts : List (List ℕ)) (before : List RuleContent) (r : RuleContent) (old new : List ℕ → Bool) → old ≡ is_among (names_of texts before)
-    → ((s : List ℕ) → new s ≡ (bytes_eq (text_of texts r.name) s || old s)) → new ≡ is_among (names_of texts (before ++ r ∷ []))
-is_taken-push texts before r old new h more =
-    fun_ext (λ s. more s ∙ ap (λ (f : List ℕ → Bool). bytes_eq (text_of texts r.name) s || f s) h ∙ sym (is_among-push (names_of texts before) (text_of texts r.name) s)
-    ∙ sym (ap (λ (ws : List (List ℕ)). is_among ws s) (map_push (λ (r : RuleContent). text_of texts r.name) before r)))
+pub is_name_taken-push : (texts : List (List ℕ)) (before : List RuleContent) (r : RuleContent) (old new : List ℕ → Bool) → old ≡ is_among bytes_eq (names_of texts before)
+    → ((s : List ℕ) → new s ≡ (bytes_eq (text_at texts r.name) s || old s)) → new ≡ is_among bytes_eq (names_of texts (before ++ r ∷ []))
+is_name_taken-push texts before r old new h more =
+    fun_ext (λ s. more s ∙ ap (λ (f : List ℕ → Bool). bytes_eq (text_at texts r.name) s || f s) h ∙ sym (is_among-push (names_of texts before) (text_at texts r.name) s)
+    ∙ sym (ap (λ (ws : List (List ℕ)). is_among bytes_eq ws s) (map_push (λ (r : RuleContent). text_at texts r.name) before r)))
 
 -- a set of no names
-pub is_taken-empty : (names : sets.BTreeSet (Bor (List ℕ))) → sets.IsEmpty names → is_taken names ≡ is_among []
-unfolding is_taken
-is_taken-empty names empty = fun_ext (λ s. ap (λ (ks : List (Bor (List ℕ))). list_any (λ k. is_eq (slice_cmp nat_cmp s k.now)) ks) empty)
+pub is_name_taken-empty : (names : sets.BTreeSet (Bor (List ℕ))) → sets.IsEmpty names → is_name_taken names ≡ is_among bytes_eq []
+unfolding is_name_taken
+is_name_taken-empty names empty = fun_ext (λ s. ap (λ (ks : List (Bor (List ℕ))). list_any (λ k. is_eq (slice_cmp nat_cmp s k.now)) ks) empty)

@@ -8,15 +8,19 @@ use Rattle.std.proofs.lemmas.Slice.Eq.{bytes_eq-Decides}
 use Rattle.rule_code.specs.declared.fault.Flaw.TheVariants as flaws
 use Rattle.rule_code.specs.declared.symbol.Symbol.{Symbol}
 use Rattle.rule_code.specs.declared.symbol.SymbolTag.TheVariants as tags
-use Rattle.rule_code.specs.Names.{is_name, is_among}
-use Rattle.rule_code.specs.Content.{RuleContent, Content, text_of, names_of}
-use Rattle.rule_code.specs.Spelling.{number, counted, text, symbol, instr, rule, magic, spelling}
+use Rattle.ocl_base.specs.Lists.{is_among}
+use Rattle.ocl_base.specs.Words.{is_name}
+use Rattle.rule_code.specs.Content.{RuleContent, Content, text_at, names_of}
+use Rattle.rule_code.specs.NumberBytes.{number_bytes}
+use Rattle.rule_code.specs.Spelling.{counted_bytes, text, symbol, instr, rule, magic, spelling}
 use Rattle.rule_code.specs.WellFormed.{EachFits, IsTextOfUnit, SymbolFits, InstrFits, RuleFits, IsUnit}
-use Rattle.rule_code.specs.Reading.{Fault, ◌>>=◌, Read, at, number_at, count_at, text_number_at, symbol_number_at}
-use Rattle.rule_code.specs.Opcodes.{instr_at}
-use Rattle.rule_code.specs.Parts.{text_at, symbol_at, name_at, code_at, rule_at, next_rule_at}
-use Rattle.rule_code.specs.CodeFile.{head_at, texts_at, symbols_at, rules_at, ended, whole_at, with_offset, unit_of}
-use Rattle.rule_code.proofs.Bytes.{IsBytes, IsBytes-drop, bind_ok, pass_ok, pass_on, done, ok_is, Takes, Takes-then}
+use Rattle.ocl_base.specs.Steps.{◌>>=◌}
+use Rattle.rule_code.specs.Reading.{Fault, FieldRead, wrong, number_from, count_from, text_number_from, symbol_number_from}
+use Rattle.rule_code.specs.Opcodes.{instr_from}
+use Rattle.rule_code.specs.Parts.{text_from, symbol_from, rule_name_from, code_from, rule_from, next_rule_from}
+use Rattle.rule_code.specs.CodeFile.{head_from, texts_from, symbols_from, rules_from, ended, whole_from, with_offset, unit_of}
+use Rattle.ocl_base.proofs.ForAbove.{both_steps, okay, ok_is}
+use Rattle.rule_code.proofs.Bytes.{IsBytes, IsBytes-drop, pass_ok, pass_on, Takes, Takes-then}
 use Rattle.rule_code.proofs.Codec.{IsCodec, counted_codec, AllByRecursion-from_each, EachFits-from_all}
 use Rattle.rule_code.proofs.Fields.{number_codec, count_codec, text_number_codec, symbol_number_codec, text_codec}
 use Rattle.rule_code.proofs.Symbols.{symbol_codec}
@@ -26,156 +30,157 @@ use Rattle.rule_code.proofs.Instructions.{instr_codec}
 
 -- what a name keeps
 abbrev NameFits : List (List ℕ) → (List ℕ → Bool) → ℕ → Type 0
-NameFits texts is_taken n = (n < length texts) × (is_name (text_of texts n) ≡ true) × (is_taken (text_of texts n) ≡ false)
+NameFits texts is_name_taken n = (n < length texts) × (is_name (text_at texts n) ≡ true) × (is_name_taken (text_at texts n) ≡ false)
 
 both_true : (a b : Bool) → (a && not b) ≡ true → (a ≡ true) × (b ≡ false)
 both_true true true e = absurd cc
 both_true true false e = (refl, refl)
 both_true false b e = absurd cc
 
-name_codec : (texts : List (List ℕ)) (is_taken : List ℕ → Bool) → length texts < 2 ^ 16 → IsCodec number (NameFits texts is_taken) (name_at texts is_taken)
-unfolding name_at
-name_codec texts is_taken few = record {
+name_codec : (texts : List (List ℕ)) (is_name_taken : List ℕ → Bool) → length texts < 2 ^ 16 → IsCodec number_bytes (NameFits texts is_name_taken) (rule_name_from texts is_name_taken)
+unfolding rule_name_from
+name_codec texts is_name_taken few = record {
   takes = λ bytes x fits e.
-      let a = bind_ok (text_number_at (length texts) bytes) (λ n. cond (is_name (text_of texts n.0) && not (is_taken (text_of texts n.0))) (Ok n) (at flaws.BadText bytes)) x e in
-      let g = pass_ok (is_name (text_of texts a.0.0) && not (is_taken (text_of texts a.0.0))) (record { flaw = flaws.BadText; left = length bytes }) a.0 x a.2 in
+      let a = both_steps (text_number_from (length texts) bytes) (λ n. cond (is_name (text_at texts n.0) && not (is_name_taken (text_at texts n.0))) (Ok n) (wrong flaws.BadText bytes)) x e in
+      let g = pass_ok (is_name (text_at texts a.0.0) && not (is_name_taken (text_at texts a.0.0))) (record { flaw = flaws.BadText; left = length bytes }) a.0 x a.2 in
       let t = (text_number_codec (length texts) few).takes bytes a.0 fits a.1 in
-      let b = both_true (is_name (text_of texts a.0.0)) (is_taken (text_of texts a.0.0)) g.0 in
-      subst (λ (p : ℕ × List ℕ). Takes bytes (number p.0) p.1 × NameFits texts is_taken p.0) g.1 (t.0, (t.1, b.0, b.1));
+      let b = both_true (is_name (text_at texts a.0.0)) (is_name_taken (text_at texts a.0.0)) g.0 in
+      subst (λ (p : ℕ × List ℕ). Takes bytes (number_bytes p.0) p.1 × NameFits texts is_name_taken p.0) g.1 (t.0, (t.1, b.0, b.1));
   again = λ n rest fits. rw ((text_number_codec (length texts) few).again n rest fits.0, fits.1, fits.2) refl;
 }
 
 -- ---- lists behind their counts
 
-code_codec : (symbols : List Symbol) → length symbols < 2 ^ 16 → IsCodec (counted instr) (λ code. (length code < 2 ^ 16) × EachFits (λ before. InstrFits symbols) [] code) (code_at symbols)
-unfolding code_at
-code_codec symbols few = counted_codec instr (λ before. InstrFits symbols) (λ before. instr_at symbols) (λ before. instr_codec symbols few) (λ n. n < 2 ^ 16) (number_at w16) number_codec
+code_codec : (texts : ℕ) (symbols : List Symbol) → texts < 2 ^ 16 → length symbols < 2 ^ 16 → IsCodec (counted_bytes instr) (λ code. (length code < 2 ^ 16) × EachFits (λ before. InstrFits texts symbols) [] code) (code_from texts symbols)
+unfolding code_from
+code_codec texts symbols few_texts few =
+    counted_codec instr (λ before. InstrFits texts symbols) (λ before. instr_from texts symbols) (λ before. instr_codec texts symbols few_texts few) (λ n. n < 2 ^ 16) (number_from w16) number_codec
 
-texts_codec : IsCodec (counted text) (λ texts. (length texts < 2 ^ 16) × EachFits (λ before. IsTextOfUnit) [] texts) texts_at
-unfolding texts_at
-texts_codec = counted_codec text (λ before. IsTextOfUnit) (λ before. text_at) (λ before. text_codec) (λ n. n < 2 ^ 16) (number_at w16) number_codec
+texts_codec : IsCodec (counted_bytes text) (λ texts. (length texts < 2 ^ 16) × EachFits (λ before. IsTextOfUnit) [] texts) texts_from
+unfolding texts_from
+texts_codec = counted_codec text (λ before. IsTextOfUnit) (λ before. text_from) (λ before. text_codec) (λ n. n < 2 ^ 16) (number_from w16) number_codec
 
-symbols_codec : (texts : ℕ) → texts < 2 ^ 16 → IsCodec (counted symbol) (λ symbols. (length symbols < 2 ^ 16) × EachFits (λ before. SymbolFits texts) [] symbols) (symbols_at texts)
-unfolding symbols_at
-symbols_codec texts few = counted_codec symbol (λ before. SymbolFits texts) (λ before. symbol_at texts) (λ before. symbol_codec texts few) (λ n. n < 2 ^ 16) (number_at w16) number_codec
+symbols_codec : (texts : ℕ) → texts < 2 ^ 16 → IsCodec (counted_bytes symbol) (λ symbols. (length symbols < 2 ^ 16) × EachFits (λ before. SymbolFits texts) [] symbols) (symbols_from texts)
+unfolding symbols_from
+symbols_codec texts few = counted_codec symbol (λ before. SymbolFits texts) (λ before. symbol_from texts) (λ before. symbol_codec texts few) (λ n. n < 2 ^ 16) (number_from w16) number_codec
 
 -- ---- rules
 
 rule_codec : (texts : List (List ℕ)) (symbols : List Symbol) → length texts < 2 ^ 16 → length symbols < 2 ^ 16 → (before : List RuleContent)
-    → IsCodec rule (RuleFits texts symbols before) (next_rule_at texts symbols before)
-unfolding rule_at
+    → IsCodec rule (RuleFits texts symbols before) (next_rule_from texts symbols before)
+unfolding rule_from
 rule_codec texts symbols few_texts few_symbols before =
-    let is_taken = is_among (names_of texts before) in
+    let is_name_taken = is_among bytes_eq (names_of texts before) in
     record {
       takes = λ bytes x fits e.
-          let a = bind_ok (name_at texts is_taken bytes) (λ name. symbol_number_at tags.Class symbols name.1 >>= λ context. code_at symbols context.1 >>= λ code. Ok (record { name = name.0; context = context.0; code = code.0 }, code.1)) x e in
-          let b = bind_ok (symbol_number_at tags.Class symbols a.0.1) (λ context. code_at symbols context.1 >>= λ code. Ok (record { name = a.0.0; context = context.0; code = code.0 }, code.1)) x a.2 in
-          let d = bind_ok (code_at symbols b.0.1) (λ code. Ok (record { name = a.0.0; context = b.0.0; code = code.0 }, code.1)) x b.2 in
-          let t0 = (name_codec texts is_taken few_texts).takes bytes a.0 fits a.1 in
+          let a = both_steps (rule_name_from texts is_name_taken bytes) (λ name. symbol_number_from tags.Class symbols name.1 >>= λ context. code_from (length texts) symbols context.1 >>= λ code. Ok (record { name = name.0; context = context.0; code = code.0 }, code.1)) x e in
+          let b = both_steps (symbol_number_from tags.Class symbols a.0.1) (λ context. code_from (length texts) symbols context.1 >>= λ code. Ok (record { name = a.0.0; context = context.0; code = code.0 }, code.1)) x a.2 in
+          let d = both_steps (code_from (length texts) symbols b.0.1) (λ code. Ok (record { name = a.0.0; context = b.0.0; code = code.0 }, code.1)) x b.2 in
+          let t0 = (name_codec texts is_name_taken few_texts).takes bytes a.0 fits a.1 in
           let t1 = (symbol_number_codec tags.Class symbols few_symbols).takes a.0.1 b.0 t0.0.rest_fits b.1 in
-          let t2 = (code_codec symbols few_symbols).takes b.0.1 d.0 t1.0.rest_fits d.1 in
-          let first = Takes-then bytes (number a.0.0) a.0.1 (number b.0.0) b.0.1 t0.0 t1.0 in
-          let all = Takes-then bytes (number a.0.0 ++ number b.0.0) b.0.1 (counted instr d.0.0) d.0.1 first t2.0 in
+          let t2 = (code_codec (length texts) symbols few_texts few_symbols).takes b.0.1 d.0 t1.0.rest_fits d.1 in
+          let first = Takes-then bytes (number_bytes a.0.0) a.0.1 (number_bytes b.0.0) b.0.1 t0.0 t1.0 in
+          let all = Takes-then bytes (number_bytes a.0.0 ++ number_bytes b.0.0) b.0.1 (counted_bytes instr d.0.0) d.0.1 first t2.0 in
           let made : RuleContent × List ℕ = (record { name = a.0.0; context = b.0.0; code = d.0.0 }, d.0.1) in
           subst (λ (y : RuleContent × List ℕ). Takes bytes (rule y.0) y.1 × RuleFits texts symbols before y.0) (ok_is made x d.2)
-          (all, record { name = t0.1.0; is_name = t0.1.1; is_new = t0.1.2; context = t1.1; len = t2.1.0; code = AllByRecursion-from_each (InstrFits symbols) [] d.0.0 t2.1.1 });
+          (all, record { name = t0.1.0; is_name = t0.1.1; is_new = t0.1.2; context = t1.1; len = t2.1.0; code = AllByRecursion-from_each (InstrFits (length texts) symbols) [] d.0.0 t2.1.1 });
       again = λ r rest fits.
-          let regrouped : rule r ++ rest ≡ number r.name ++ (number r.context ++ (counted instr r.code ++ rest)) = append_assoc (number r.name ++ number r.context) (counted instr r.code) rest ∙ append_assoc (number r.name) (number r.context) (counted instr r.code ++ rest) in
-          ap (rule_at texts symbols is_taken) regrouped
-          ∙ rw ((name_codec texts is_taken few_texts).again r.name (number r.context ++ (counted instr r.code ++ rest)) (fits.name, fits.is_name, fits.is_new), (symbol_number_codec tags.Class symbols few_symbols).again r.context (counted instr r.code ++ rest) fits.context, (code_codec symbols few_symbols).again r.code rest (fits.len, EachFits-from_all (InstrFits symbols) [] r.code fits.code)) refl;
+          let regrouped : rule r ++ rest ≡ number_bytes r.name ++ (number_bytes r.context ++ (counted_bytes instr r.code ++ rest)) = append_assoc (number_bytes r.name ++ number_bytes r.context) (counted_bytes instr r.code) rest ∙ append_assoc (number_bytes r.name) (number_bytes r.context) (counted_bytes instr r.code ++ rest) in
+          ap (rule_from texts symbols is_name_taken) regrouped
+          ∙ rw ((name_codec texts is_name_taken few_texts).again r.name (number_bytes r.context ++ (counted_bytes instr r.code ++ rest)) (fits.name, fits.is_name, fits.is_new), (symbol_number_codec tags.Class symbols few_symbols).again r.context (counted_bytes instr r.code ++ rest) fits.context, (code_codec (length texts) symbols few_texts few_symbols).again r.code rest (fits.len, EachFits-from_all (InstrFits (length texts) symbols) [] r.code fits.code)) refl;
     }
 
 rules_codec : (texts : List (List ℕ)) (symbols : List Symbol) → length texts < 2 ^ 16 → length symbols < 2 ^ 16
-    → IsCodec (counted rule) (λ rules. (length rules ≤ 4096) × EachFits (RuleFits texts symbols) [] rules) (rules_at texts symbols)
-unfolding rules_at
+    → IsCodec (counted_bytes rule) (λ rules. (length rules ≤ 4096) × EachFits (RuleFits texts symbols) [] rules) (rules_from texts symbols)
+unfolding rules_from
 rules_codec texts symbols few_texts few_symbols =
-    counted_codec rule (RuleFits texts symbols) (next_rule_at texts symbols) (rule_codec texts symbols few_texts few_symbols) (λ n. n ≤ 4096) (count_at 4096) (count_codec 4096 (omega arith))
+    counted_codec rule (RuleFits texts symbols) (next_rule_from texts symbols) (rule_codec texts symbols few_texts few_symbols) (λ n. n ≤ 4096) (count_from 4096) (count_codec 4096 (omega arith))
 
 -- ---- the whole file
 
 -- what stands before the texts
 abbrev head : List ℕ
-head = magic ++ number 1
+head = magic ++ number_bytes 1
 
-head_takes : (bytes rest : List ℕ) → IsBytes bytes → head_at bytes ≡ Ok rest → Takes bytes head rest
-unfolding head_at
+head_takes : (bytes rest : List ℕ) → IsBytes bytes → head_from bytes ≡ Ok rest → Takes bytes head rest
+unfolding head_from
 head_takes bytes rest fits e =
-    let versioned = number_at w16 (drop 4 bytes) >>= λ v. cond (eqb v.0 1) (Ok v.1) (at flaws.Version (drop 4 bytes)) in
+    let versioned = number_from w16 (drop 4 bytes) >>= λ v. cond (eqb v.0 1) (Ok v.1) (wrong flaws.Version (drop 4 bytes)) in
     let h = pass_on (bytes_eq (take 4 bytes) magic) versioned (record { flaw = flaws.Magic; left = length bytes }) rest e in
     let here : take 4 bytes ≡ magic = (bytes_eq-Decides (take 4 bytes) magic).0 h.0 in
     let first : Takes bytes magic (drop 4 bytes) = record { parts = sym (take-append-drop 4 bytes) ∙ ap (λ (t : List ℕ). t ++ drop 4 bytes) here; rest_fits = IsBytes-drop 4 bytes fits } in
-    let a = bind_ok (number_at w16 (drop 4 bytes)) (λ v. cond (eqb v.0 1) (Ok v.1) (at flaws.Version (drop 4 bytes))) rest h.1 in
+    let a = both_steps (number_from w16 (drop 4 bytes)) (λ v. cond (eqb v.0 1) (Ok v.1) (wrong flaws.Version (drop 4 bytes))) rest h.1 in
     let g = pass_ok (eqb a.0.0 1) (record { flaw = flaws.Version; left = length (drop 4 bytes) }) a.0.1 rest a.2 in
     let t = number_codec.takes (drop 4 bytes) a.0 first.rest_fits a.1 in
-    let one : Takes (drop 4 bytes) (number 1) a.0.1 = subst (λ (v : ℕ). Takes (drop 4 bytes) (number v) a.0.1) (eqb-true a.0.0 1 g.0) t.0 in
-    subst (λ (r : List ℕ). Takes bytes head r) g.1 (Takes-then bytes magic (drop 4 bytes) (number 1) a.0.1 first one)
+    let one : Takes (drop 4 bytes) (number_bytes 1) a.0.1 = subst (λ (v : ℕ). Takes (drop 4 bytes) (number_bytes v) a.0.1) (eqb-true a.0.0 1 g.0) t.0 in
+    subst (λ (r : List ℕ). Takes bytes head r) g.1 (Takes-then bytes magic (drop 4 bytes) (number_bytes 1) a.0.1 first one)
 
-head_again : (rest : List ℕ) → head_at (head ++ rest) ≡ Ok rest
-unfolding head_at
+head_again : (rest : List ℕ) → head_from (head ++ rest) ≡ Ok rest
+unfolding head_from
 head_again rest =
     let one = number_codec.again 1 rest (omega arith) in
-    ap (λ (r : Read ℕ). r >>= λ v. cond (eqb v.0 1) (Ok v.1) (at flaws.Version (number 1 ++ rest))) one
+    ap (λ (r : FieldRead ℕ). r >>= λ v. cond (eqb v.0 1) (Ok v.1) (wrong flaws.Version (number_bytes 1 ++ rest))) one
 
-regrouped : (u : Content) (rest : List ℕ) → spelling u ++ rest ≡ head ++ (counted text u.texts ++ (counted symbol u.symbols ++ (counted rule u.rules ++ rest)))
+regrouped : (u : Content) (rest : List ℕ) → spelling u ++ rest ≡ head ++ (counted_bytes text u.texts ++ (counted_bytes symbol u.symbols ++ (counted_bytes rule u.rules ++ rest)))
 regrouped u rest =
-    append_assoc (head ++ counted text u.texts ++ counted symbol u.symbols) (counted rule u.rules) rest
-    ∙ append_assoc (head ++ counted text u.texts) (counted symbol u.symbols) (counted rule u.rules ++ rest)
-    ∙ append_assoc head (counted text u.texts) (counted symbol u.symbols ++ (counted rule u.rules ++ rest))
+    append_assoc (head ++ counted_bytes text u.texts ++ counted_bytes symbol u.symbols) (counted_bytes rule u.rules) rest
+    ∙ append_assoc (head ++ counted_bytes text u.texts) (counted_bytes symbol u.symbols) (counted_bytes rule u.rules ++ rest)
+    ∙ append_assoc head (counted_bytes text u.texts) (counted_bytes symbol u.symbols ++ (counted_bytes rule u.rules ++ rest))
 
 ended_ok : (u v : Content) (rest : List ℕ) → ended u rest ≡ Ok v → (rest ≡ []) × (u ≡ v)
 ended_ok u v [] e = (refl, cc)
-ended_ok u v (b ∷ rest) e = absurd (let bad : at flaws.Trailing (b ∷ rest) ≡ Ok v = e in cc)
+ended_ok u v (b ∷ rest) e = absurd (let bad : wrong flaws.Trailing (b ∷ rest) ≡ Ok v = e in cc)
 
-pub whole_takes : (bytes : List ℕ) (u : Content) → IsBytes bytes → whole_at bytes ≡ Ok u → IsUnit u × (bytes ≡ spelling u)
-unfolding whole_at
+pub whole_takes : (bytes : List ℕ) (u : Content) → IsBytes bytes → whole_from bytes ≡ Ok u → IsUnit u × (bytes ≡ spelling u)
+unfolding whole_from
 whole_takes bytes u fits e =
-    let a = bind_ok (head_at bytes) (λ rest. texts_at rest >>= λ texts. symbols_at (length texts.0) texts.1 >>= λ symbols. rules_at texts.0 symbols.0 symbols.1 >>= λ rules. ended (record { texts = texts.0; symbols = symbols.0; rules = rules.0 }) rules.1) u e in
-    let b = bind_ok (texts_at a.0) (λ texts. symbols_at (length texts.0) texts.1 >>= λ symbols. rules_at texts.0 symbols.0 symbols.1 >>= λ rules. ended (record { texts = texts.0; symbols = symbols.0; rules = rules.0 }) rules.1) u a.2 in
-    let d = bind_ok (symbols_at (length b.0.0) b.0.1) (λ symbols. rules_at b.0.0 symbols.0 symbols.1 >>= λ rules. ended (record { texts = b.0.0; symbols = symbols.0; rules = rules.0 }) rules.1) u b.2 in
-    let f = bind_ok (rules_at b.0.0 d.0.0 d.0.1) (λ rules. ended (record { texts = b.0.0; symbols = d.0.0; rules = rules.0 }) rules.1) u d.2 in
+    let a = both_steps (head_from bytes) (λ rest. texts_from rest >>= λ texts. symbols_from (length texts.0) texts.1 >>= λ symbols. rules_from texts.0 symbols.0 symbols.1 >>= λ rules. ended (record { texts = texts.0; symbols = symbols.0; rules = rules.0 }) rules.1) u e in
+    let b = both_steps (texts_from a.0) (λ texts. symbols_from (length texts.0) texts.1 >>= λ symbols. rules_from texts.0 symbols.0 symbols.1 >>= λ rules. ended (record { texts = texts.0; symbols = symbols.0; rules = rules.0 }) rules.1) u a.2 in
+    let d = both_steps (symbols_from (length b.0.0) b.0.1) (λ symbols. rules_from b.0.0 symbols.0 symbols.1 >>= λ rules. ended (record { texts = b.0.0; symbols = symbols.0; rules = rules.0 }) rules.1) u b.2 in
+    let f = both_steps (rules_from b.0.0 d.0.0 d.0.1) (λ rules. ended (record { texts = b.0.0; symbols = d.0.0; rules = rules.0 }) rules.1) u d.2 in
     let made : Content = record { texts = b.0.0; symbols = d.0.0; rules = f.0.0 } in
     let g = ended_ok made u f.0.1 f.2 in
     let t0 = head_takes bytes a.0 fits a.1 in
     let t1 = texts_codec.takes a.0 b.0 t0.rest_fits b.1 in
     let t2 = (symbols_codec (length b.0.0) t1.1.0).takes b.0.1 d.0 t1.0.rest_fits d.1 in
     let t3 = (rules_codec b.0.0 d.0.0 t1.1.0 t2.1.0).takes d.0.1 f.0 t2.0.rest_fits f.1 in
-    let two = Takes-then bytes head a.0 (counted text b.0.0) b.0.1 t0 t1.0 in
-    let three = Takes-then bytes (head ++ counted text b.0.0) b.0.1 (counted symbol d.0.0) d.0.1 two t2.0 in
-    let four = Takes-then bytes (head ++ counted text b.0.0 ++ counted symbol d.0.0) d.0.1 (counted rule f.0.0) f.0.1 three t3.0 in
+    let two = Takes-then bytes head a.0 (counted_bytes text b.0.0) b.0.1 t0 t1.0 in
+    let three = Takes-then bytes (head ++ counted_bytes text b.0.0) b.0.1 (counted_bytes symbol d.0.0) d.0.1 two t2.0 in
+    let four = Takes-then bytes (head ++ counted_bytes text b.0.0 ++ counted_bytes symbol d.0.0) d.0.1 (counted_bytes rule f.0.0) f.0.1 three t3.0 in
     let whole : bytes ≡ spelling made = four.parts ∙ ap (λ (r : List ℕ). spelling made ++ r) g.0 ∙ append-nil (spelling made) in
     subst (λ (v : Content). IsUnit v × (bytes ≡ spelling v)) g.1
     (record { text_count = t1.1.0; texts = AllByRecursion-from_each IsTextOfUnit [] b.0.0 t1.1.1; symbol_count = t2.1.0; symbols = AllByRecursion-from_each (SymbolFits (length b.0.0)) [] d.0.0 t2.1.1; rule_count = t3.1.0; rules = t3.1.1 }, whole)
 
 -- whatever follows a unit, its parts are read
-whole_again_then : (u : Content) (rest : List ℕ) → IsUnit u → whole_at (spelling u ++ rest) ≡ ended u rest
-unfolding whole_at
+whole_again_then : (u : Content) (rest : List ℕ) → IsUnit u → whole_from (spelling u ++ rest) ≡ ended u rest
+unfolding whole_from
 whole_again_then u rest fits =
-    let three : List ℕ = counted rule u.rules ++ rest in
-    let two : List ℕ = counted symbol u.symbols ++ three in
-    let one : List ℕ = counted text u.texts ++ two in
-    ap whole_at (regrouped u rest)
+    let three : List ℕ = counted_bytes rule u.rules ++ rest in
+    let two : List ℕ = counted_bytes symbol u.symbols ++ three in
+    let one : List ℕ = counted_bytes text u.texts ++ two in
+    ap whole_from (regrouped u rest)
     ∙ rw (head_again one, texts_codec.again u.texts two (fits.text_count, EachFits-from_all IsTextOfUnit [] u.texts fits.texts), (symbols_codec (length u.texts) fits.text_count).again u.symbols three (fits.symbol_count, EachFits-from_all (SymbolFits (length u.texts)) [] u.symbols fits.symbols), (rules_codec u.texts u.symbols fits.text_count fits.symbol_count).again u.rules rest (fits.rule_count, fits.rules)) refl
 
-pub whole_again : (u : Content) → IsUnit u → whole_at (spelling u) ≡ Ok u
-whole_again u fits = ap whole_at (sym (append-nil (spelling u))) ∙ whole_again_then u [] fits
+pub whole_again : (u : Content) → IsUnit u → whole_from (spelling u) ≡ Ok u
+whole_again u fits = ap whole_from (sym (append-nil (spelling u))) ∙ whole_again_then u [] fits
 
 pub no_beginning : (u v : Content) (rest : List ℕ) → IsUnit u → IsUnit v → spelling v ≡ spelling u ++ rest → (rest ≡ []) × (u ≡ v)
-no_beginning u v rest fits more e = ended_ok u v rest (sym (whole_again_then u rest fits) ∙ ap whole_at (sym e) ∙ whole_again v more)
+no_beginning u v rest fits more e = ended_ok u v rest (sym (whole_again_then u rest fits) ∙ ap whole_from (sym e) ∙ whole_again v more)
 
 abbrev refused : Fault → Result Content Fault
 refused fault = Err fault
 
 -- bytes of a unit are read as it, and as nothing else
-whole_is : (bytes : List ℕ) (u : Content) (read : Result Content Fault) → IsUnit u → bytes ≡ spelling u → whole_at bytes ≡ read → read ≡ Ok u
-whole_is bytes u read fits e is = sym is ∙ ap whole_at e ∙ whole_again u fits
+whole_is : (bytes : List ℕ) (u : Content) (read : Result Content Fault) → IsUnit u → bytes ≡ spelling u → whole_from bytes ≡ read → read ≡ Ok u
+whole_is bytes u read fits e is = sym is ∙ ap whole_from e ∙ whole_again u fits
 
-no_fault : (u : Content) (fault : Fault) → refused fault ≡ done u → ⊥
+no_fault : (u : Content) (fault : Fault) → refused fault ≡ okay u → ⊥
 no_fault u fault e = cc
 
-pub read_is : (bytes : List ℕ) (u v : Content) → IsUnit u → bytes ≡ spelling u → whole_at bytes ≡ Ok v → v ≡ u
+pub read_is : (bytes : List ℕ) (u v : Content) → IsUnit u → bytes ≡ spelling u → whole_from bytes ≡ Ok v → v ≡ u
 read_is bytes u v fits e is = ok_is v u (whole_is bytes u (Ok v) fits e is)
 
-pub never_refused : (bytes : List ℕ) (u : Content) (fault : Fault) → IsUnit u → bytes ≡ spelling u → whole_at bytes ≡ Err fault → ⊥
+pub never_refused : (bytes : List ℕ) (u : Content) (fault : Fault) → IsUnit u → bytes ≡ spelling u → whole_from bytes ≡ Err fault → ⊥
 never_refused bytes u fault fits e is = no_fault u fault (whole_is bytes u (Err fault) fits e is)
 
 with_offset_ok : (size : ℕ) (read : Result Content Fault) (u : Content) → with_offset size read ≡ Ok u → read ≡ Ok u
@@ -184,6 +189,6 @@ with_offset_ok size (Err fault) u e = absurd cc
 
 pub unit_of-iff : (bytes : List ℕ) (u : Content) → ((i : ℕ) → get_or bytes i 0 < 256) → (unit_of bytes ≡ Ok u) ↔ (IsUnit u × (bytes ≡ spelling u))
 unit_of-iff bytes u small = (
-  λ e. whole_takes bytes u (record { small = small }) (with_offset_ok (length bytes) (whole_at bytes) u e),
-  λ h. ap (with_offset (length bytes)) (ap whole_at h.1 ∙ whole_again u h.0),
+  λ e. whole_takes bytes u (record { small = small }) (with_offset_ok (length bytes) (whole_from bytes) u e),
+  λ h. ap (with_offset (length bytes)) (ap whole_from h.1 ∙ whole_again u h.0),
 )

@@ -23,9 +23,9 @@ abbrev pub content_of : List (String Global) → List Symbol → List Rule → C
 content_of texts symbols rules = record { texts = map string_bytes texts; symbols = symbols; rules = map rule_content rules }
 
 -- the text of a number
-abbrev pub text_of : List (List ℕ) → ℕ → List ℕ
-text_of texts n = slice_index_or texts n []
+abbrev pub text_at : List (List ℕ) → ℕ → List ℕ
+text_at texts n = slice_index_or texts n []
 
 -- the names of rules
 abbrev pub names_of : List (List ℕ) → List RuleContent → List (List ℕ)
-names_of texts rules = map (λ r. text_of texts r.name) rules
+names_of texts rules = map (λ r. text_at texts r.name) rules

@@ -5,21 +5,21 @@ use Rattle.rule_code.specs.declared.fault.Flaw.TheVariants.{Magic, Version, Trun
 use Rattle.rule_code.specs.declared.fault.CodeFault.{CodeFault}
 use Rattle.rule_code.specs.declared.fault.CodeFault.TheVariants.{At, OutOfMemory}
 
-abbrev pub flaw_number : Flaw → ℕ
-flaw_number Magic = 1
-flaw_number Version = 2
-flaw_number Truncated = 3
-flaw_number BadOpcode = 4
-flaw_number BadText = 5
-flaw_number BadNumber = 6
-flaw_number Limit = 7
-flaw_number Trailing = 8
+abbrev pub code_flaw_number : Flaw → ℕ
+code_flaw_number Magic = 1
+code_flaw_number Version = 2
+code_flaw_number Truncated = 3
+code_flaw_number BadOpcode = 4
+code_flaw_number BadText = 5
+code_flaw_number BadNumber = 6
+code_flaw_number Limit = 7
+code_flaw_number Trailing = 8
 
-abbrev pub fault_number : CodeFault → ℕ
-fault_number (At flaw offset) = flaw_number flaw
-fault_number OutOfMemory = 9
+abbrev pub code_fault_number : CodeFault → ℕ
+code_fault_number (At flaw offset) = code_flaw_number flaw
+code_fault_number OutOfMemory = 9
 
 -- where the wrong field begins
-abbrev pub fault_offset : CodeFault → Option ℕ
-fault_offset (At flaw offset) = Some offset
-fault_offset OutOfMemory = None
+abbrev pub code_fault_offset : CodeFault → Option ℕ
+code_fault_offset (At flaw offset) = Some offset
+code_fault_offset OutOfMemory = None

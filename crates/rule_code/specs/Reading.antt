@@ -1,11 +1,12 @@
 -- Reading fields from left to right, up to the first that is wrong.
-use Rattle.std.specs.Prelude.{◌≡◌, ℕ, zero, suc, List, [], ◌∷◌, ◌++◌, length, take, drop, Result, Ok, Err, nat_lt, if◌then◌else◌}
+use Rattle.std.specs.Prelude.{ℕ, zero, suc, List, [], ◌∷◌, ◌++◌, length, take, drop, Result, Ok, Err, nat_lt, if◌then◌else◌}
 use Rattle.std.specs.Int.{Width, w16, byte_len, from_be_bytes}
 use Rattle.std.specs.Str.{is_utf8}
+use Rattle.ocl_base.specs.Steps.{◌>>=◌, FaultMeaning, fault, out_of_memory, Gives}
 use Rattle.rule_code.specs.declared.fault.Flaw.{Flaw}
 use Rattle.rule_code.specs.declared.fault.Flaw.TheVariants as flaws
-use Rattle.rule_code.specs.declared.fault.Stop.{Stop}
-use Rattle.rule_code.specs.declared.fault.Stop.TheVariants as stops
+use Rattle.rule_code.specs.declared.fault.FieldFault.{FieldFault}
+use Rattle.rule_code.specs.declared.fault.FieldFault.TheVariants as faults
 use Rattle.rule_code.specs.declared.symbol.Symbol.{Symbol}
 use Rattle.rule_code.specs.declared.symbol.SymbolTag.{SymbolTag}
 use Rattle.rule_code.specs.SymbolTag.{is_symbol_of}
@@ -16,58 +17,53 @@ pub record Fault : Type 0 where
   pub left : ℕ
 
 -- what a field gives: its value and the bytes after it, or the fault
-abbrev pub Read : Type 0 → Type 0
-Read A = Result (A × List ℕ) Fault
-
-infixl 10 ◌>>=◌
-abbrev pub ◌>>=◌ : {A B : Type 0} → Result A Fault → (A → Result B Fault) → Result B Fault
-(Ok x) >>= f = f x
-(Err e) >>= f = Err e
+abbrev pub FieldRead : Type 0 → Type 0
+FieldRead A = Result (A × List ℕ) Fault
 
 -- the fault of the field that begins at these bytes
-abbrev pub at : {A : Type 0} → Flaw → List ℕ → Result A Fault
-at flaw bytes = Err (record { flaw = flaw; left = length bytes })
+abbrev pub wrong : {A : Type 0} → Flaw → List ℕ → Result A Fault
+wrong flaw bytes = Err (record { flaw = flaw; left = length bytes })
 
 -- a number of fixed width, the high byte first
-abbrev pub number_at : Width → List ℕ → Read ℕ
-number_at w bytes = if nat_lt (length bytes) (byte_len w) then at flaws.Truncated bytes else Ok (from_be_bytes w (take (byte_len w) bytes), drop (byte_len w) bytes)
+abbrev pub number_from : Width → List ℕ → FieldRead ℕ
+number_from w bytes = if nat_lt (length bytes) (byte_len w) then wrong flaws.Truncated bytes else Ok (from_be_bytes w (take (byte_len w) bytes), drop (byte_len w) bytes)
 
 -- a count, no more than the limit
-unfoldable pub count_at : ℕ → List ℕ → Read ℕ
-count_at limit bytes = do
-  n ← number_at w16 bytes
-  if nat_lt limit n.0 then at flaws.Limit bytes else Ok n
+unfoldable pub count_from : ℕ → List ℕ → FieldRead ℕ
+count_from limit bytes = do
+  n ← number_from w16 bytes
+  if nat_lt limit n.0 then wrong flaws.Limit bytes else Ok n
 
 -- the number of one of the texts
-unfoldable pub text_number_at : ℕ → List ℕ → Read ℕ
-text_number_at texts bytes = do
-  n ← number_at w16 bytes
-  if nat_lt n.0 texts then Ok n else at flaws.BadNumber bytes
+unfoldable pub text_number_from : ℕ → List ℕ → FieldRead ℕ
+text_number_from texts bytes = do
+  n ← number_from w16 bytes
+  if nat_lt n.0 texts then Ok n else wrong flaws.BadNumber bytes
 
 -- the number of a symbol of that sort
-unfoldable pub symbol_number_at : SymbolTag → List Symbol → List ℕ → Read ℕ
-symbol_number_at tag symbols bytes = do
-  n ← number_at w16 bytes
-  if is_symbol_of tag symbols n.0 then Ok n else at flaws.BadNumber bytes
+unfoldable pub symbol_number_from : SymbolTag → List Symbol → List ℕ → FieldRead ℕ
+symbol_number_from tag symbols bytes = do
+  n ← number_from w16 bytes
+  if is_symbol_of tag symbols n.0 then Ok n else wrong flaws.BadNumber bytes
 
 -- the bytes of a text, n of them
-unfoldable pub text_bytes_at : ℕ → List ℕ → Read (List ℕ)
-text_bytes_at n bytes =
-    if nat_lt (length bytes) n then at flaws.Truncated bytes else (if is_utf8 (take n bytes) then Ok (take n bytes, drop n bytes) else at flaws.BadText bytes)
+unfoldable pub text_bytes_from : ℕ → List ℕ → FieldRead (List ℕ)
+text_bytes_from n bytes =
+    if nat_lt (length bytes) n then wrong flaws.Truncated bytes else (if is_utf8 (take n bytes) then Ok (take n bytes, drop n bytes) else wrong flaws.BadText bytes)
 
 -- n things one after another, each read knowing those before it
-unfoldable pub many_at : {A : Type 0} → (List A → List ℕ → Read A) → List A → ℕ → List ℕ → Read (List A)
-many_at item_at before zero bytes = Ok ([], bytes)
-many_at item_at before (suc n) bytes = do
-  first ← item_at before bytes
-  others ← many_at item_at (before ++ first.0 ∷ []) n first.1
+unfoldable pub many_from : {A : Type 0} → (List A → List ℕ → FieldRead A) → List A → ℕ → List ℕ → FieldRead (List A)
+many_from item_from before zero bytes = Ok ([], bytes)
+many_from item_from before (suc n) bytes = do
+  first ← item_from before bytes
+  others ← many_from item_from (before ++ first.0 ∷ []) n first.1
   Ok (first.0 ∷ others.0, others.1)
 
--- What a function returned, seen by view, is what reading gives, unless memory ran out.
-abbrev pub Fails : {Y : Type 0} → Stop → Result Y Fault → Type 0
-Fails stops.Memory read = Unit {0}
-Fails (stops.Fault flaw left) read = read ≡ Err (record { flaw = flaw; left = left })
+-- what a fault that a reader returned means
+abbrev pub field_fault_meaning : FieldFault → FaultMeaning Fault
+field_fault_meaning (faults.At flaw left) = fault (record { flaw = flaw; left = left })
+field_fault_meaning faults.OutOfMemory = out_of_memory
 
-abbrev pub Gives : {X Y : Type 0} → (X → Y) → Result X Stop → Result Y Fault → Type 0
-Gives view (Ok x) read = read ≡ Ok (view x)
-Gives view (Err e) read = Fails e read
+-- what a reader returned, seen by a view, is what reading gives, unless memory ran out
+abbrev pub Reads : {X Y : Type 0} → (X → Y) → Result X FieldFault → Result Y Fault → Type 0
+Reads view result given = Gives field_fault_meaning view result given

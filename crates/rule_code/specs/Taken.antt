@@ -6,5 +6,5 @@ use Rattle.std.specs.BTreeSet.{BTreeSet, contains_by}
 use denote.Ref.{Bor}
 
 -- whether the set has a text of these bytes
-unfoldable pub is_taken : BTreeSet (Bor (List ℕ)) → List ℕ → Bool
-is_taken names s = contains_by (λ k. slice_cmp nat_cmp s k.now) names
+unfoldable pub is_name_taken : BTreeSet (Bor (List ℕ)) → List ℕ → Bool
+is_name_taken names s = contains_by (λ k. slice_cmp nat_cmp s k.now) names

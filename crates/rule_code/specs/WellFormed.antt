@@ -1,26 +1,43 @@
--- The rules of the file that each unit keeps.
-use Rattle.std.specs.Prelude.{ℕ, ◌<◌, ◌≤◌, ◌^◌, ◌≡◌, List, [], ◌∷◌, ◌++◌, length, true, false}
+-- The conditions of the format, which every unit satisfies.
+use Rattle.std.specs.Prelude.{bytes_eq, ℕ, ◌<◌, ◌≤◌, ◌^◌, ◌≡◌, List, [], ◌∷◌, ◌++◌, length, true, false}
 use Rattle.std.specs.List.{AllByRecursion}
 use Rattle.std.specs.Int.{w64}
 use Rattle.std.specs.Str.{is_utf8}
 use Rattle.std.specs.Int.RustNames.{FitsSigned}
 use Rattle.rule_code.specs.declared.instruction.Instr.{Instr}
-use Rattle.rule_code.specs.declared.instruction.Instr.TheVariants as instrs
+use Rattle.rule_code.specs.declared.kind.WrittenScalar.{WrittenScalar}
+use Rattle.rule_code.specs.declared.kind.WrittenScalar.TheVariants as scalars
+use Rattle.rule_code.specs.declared.kind.WrittenKind.{WrittenKind}
+use Rattle.rule_code.specs.declared.kind.WrittenKind.TheVariants as kinds
 use Rattle.rule_code.specs.declared.symbol.Symbol.{Symbol}
 use Rattle.rule_code.specs.declared.symbol.Symbol.TheVariants as symbols
 use Rattle.rule_code.specs.declared.symbol.SymbolTag.TheVariants as tags
 use Rattle.rule_code.specs.SymbolTag.{is_symbol_of}
-use Rattle.rule_code.specs.Names.{is_name, is_among}
-use Rattle.rule_code.specs.Content.{RuleContent, Content, text_of, names_of}
+use Rattle.ocl_base.specs.Lists.{is_among}
+use Rattle.ocl_base.specs.Words.{is_name}
+use Rattle.rule_code.specs.Content.{RuleContent, Content, text_at, names_of}
+use Rattle.rule_code.specs.InstrRows.{FieldValue, integer_field, boolean_field, number_field, text_field, symbol_field, scalar_field, collection_field, kind_field, row_of}
+
+-- ---- limits
+
+-- the greatest number of bytes in a text
+abbrev pub most_text_bytes : ℕ
+most_text_bytes = 4096
+
+-- the greatest number of rules
+abbrev pub most_rules : ℕ
+most_rules = 4096
+
+-- ---- what fits
 
 -- each of the things fits, given those before it
 abbrev pub EachFits : {A : Type 0} → (List A → A → Type 0) → List A → List A → Type 0
 EachFits Fits before [] = Unit {0}
 EachFits Fits before (x ∷ xs) = Fits before x × EachFits Fits (before ++ x ∷ []) xs
 
--- at most 4,096 bytes of UTF-8
+-- so many bytes at most, in UTF-8
 abbrev pub IsTextOfUnit : List ℕ → Type 0
-IsTextOfUnit bytes = (length bytes ≤ 4096) × (is_utf8 bytes ≡ true)
+IsTextOfUnit bytes = (length bytes ≤ most_text_bytes) × (is_utf8 bytes ≡ true)
 
 -- a symbol names texts that are there
 abbrev pub SymbolFits : ℕ → Symbol → Type 0
@@ -29,25 +46,44 @@ SymbolFits texts (symbols.Enumeration e) = e.0 < texts
 SymbolFits texts (symbols.Feature c f) = (c.0 < texts) × (f.0 < texts)
 SymbolFits texts (symbols.Literal e l) = (e.0 < texts) × (l.0 < texts)
 
--- an Integer has 64 bits, a feature's symbol is there
-abbrev pub InstrFits : List Symbol → Instr → Type 0
-InstrFits symbols (instrs.Int n) = FitsSigned w64 n
-InstrFits symbols (instrs.Attr s) = is_symbol_of tags.Feature symbols s.0 ≡ true
-InstrFits symbols i = Unit {0}
+-- the symbol of a kind is there
+abbrev pub ScalarKindFits : List Symbol → WrittenScalar → Type 0
+ScalarKindFits symbols (scalars.Enumeration s) = is_symbol_of tags.Enumeration symbols s.0 ≡ true
+ScalarKindFits symbols (scalars.Class s) = is_symbol_of tags.Class symbols s.0 ≡ true
+ScalarKindFits symbols k = Unit {0}
+
+abbrev pub KindFits : List Symbol → WrittenKind → Type 0
+KindFits symbols (kinds.Scalar k) = ScalarKindFits symbols k
+KindFits symbols (kinds.Collection c k) = ScalarKindFits symbols k
+
+-- an Integer has 64 bits, a number 16, and each text and each symbol is there
+abbrev pub FieldFits : ℕ → List Symbol → FieldValue → Type 0
+FieldFits texts symbols (integer_field n) = FitsSigned w64 n
+FieldFits texts symbols (boolean_field b) = Unit {0}
+FieldFits texts symbols (number_field n) = n < 2 ^ 16
+FieldFits texts symbols (text_field n) = n < texts
+FieldFits texts symbols (symbol_field tag n) = is_symbol_of tag symbols n ≡ true
+FieldFits texts symbols (scalar_field k) = ScalarKindFits symbols k
+FieldFits texts symbols (collection_field c k) = ScalarKindFits symbols k
+FieldFits texts symbols (kind_field k) = KindFits symbols k
+
+-- what an instruction has in its fields fits them
+abbrev pub InstrFits : ℕ → List Symbol → Instr → Type 0
+InstrFits texts symbols i = AllByRecursion (FieldFits texts symbols) (row_of i).fields
 
 -- a rule, given the rules before it
 pub record RuleFits (texts : List (List ℕ)) (symbols : List Symbol) (before : List RuleContent) (r : RuleContent) : Type 0 where
   pub name : r.name < length texts
-  pub is_name : is_name (text_of texts r.name) ≡ true
-  pub is_new : is_among (names_of texts before) (text_of texts r.name) ≡ false
+  pub is_name : is_name (text_at texts r.name) ≡ true
+  pub is_new : is_among bytes_eq (names_of texts before) (text_at texts r.name) ≡ false
   pub context : is_symbol_of tags.Class symbols r.context ≡ true
   pub len : length r.code < 2 ^ 16
-  pub code : AllByRecursion (InstrFits symbols) r.code
+  pub code : AllByRecursion (InstrFits (length texts) symbols) r.code
 
 pub record IsUnit (u : Content) : Type 0 where
   pub text_count : length u.texts < 2 ^ 16
   pub texts : AllByRecursion IsTextOfUnit u.texts
   pub symbol_count : length u.symbols < 2 ^ 16
   pub symbols : AllByRecursion (SymbolFits (length u.texts)) u.symbols
-  pub rule_count : length u.rules ≤ 4096
+  pub rule_count : length u.rules ≤ most_rules
   pub rules : EachFits (RuleFits u.texts u.symbols) [] u.rules

@@ -1,7 +1,7 @@
 //! Why a code file could not be read.
 
 ghost use Rattle.std.specs.Prelude.{◌≡◌};
-ghost use Rattle.rule_code.specs.declared.fault.Stop.TheVariants.{Memory};
+ghost use Rattle.rule_code.specs.declared.fault.FieldFault.TheVariants as field;
 ghost use Rattle.rule_code.specs.declared.fault.CodeFault.TheVariants.{OutOfMemory};
 
 use std::alloc::{AllocError, AllocFailed};
@@ -21,8 +21,8 @@ pub enum Flaw {
     /// A text is not UTF-8, or a rule's name is no identifier, is a reserved word or is the name of
     /// an earlier rule.
     BadText = 5,
-    /// A number names no text, or no symbol of the kind that is asked, or a byte is no symbol's tag
-    /// or no Boolean.
+    /// A number names no text, or no symbol with the required tag, or a byte is no symbol's tag,
+    /// no Boolean, or no kind of the required sort.
     BadNumber = 6,
     /// There are more than 4,096 rules, or a text is longer than 4,096 bytes.
     Limit = 7,
@@ -42,11 +42,11 @@ pub enum CodeFault {
 }
 
 impl CodeFault {
-    ghost use Rattle.rule_code.specs.FaultNumber.{fault_number, fault_offset};
+    ghost use Rattle.rule_code.specs.FaultNumber.{code_fault_number, code_fault_offset};
 
     /// The documented number of the fault, 1 to 9.
     pub fn number(&self) -> u8
-        ensures { result ≡ fault_number self.now }
+        ensures { result ≡ code_fault_number self.now }
     {
         match self {
             CodeFault::At { flaw, .. } => *flaw as u8,
@@ -56,7 +56,7 @@ impl CodeFault {
 
     /// The byte at which the wrong field begins, from 0, if the bytes are at fault.
     pub fn offset(&self) -> Option<usize>
-        ensures { result ≡ fault_offset self.now }
+        ensures { result ≡ code_fault_offset self.now }
     {
         match self {
             CodeFault::At { offset, .. } => Some(*offset),
@@ -65,26 +65,26 @@ impl CodeFault {
     }
 }
 
-/// Why reading stopped: for want of memory, or at a field that begins with `left` bytes left.
+/// Why a field could not be read. Its place is how many bytes are left where it begins.
 #[derive(Debug, Drop)]
-pub(crate) enum Stop {
-    Fault { flaw: Flaw, left: usize },
-    Memory,
+pub(crate) enum FieldFault {
+    At { flaw: Flaw, left: usize },
+    OutOfMemory,
 }
 
-impl From<AllocError> for Stop {
-    ghost from_gives = { λ _ e. e ≡ Memory };
+impl From<AllocError> for FieldFault {
+    ghost from_gives = { λ _ e. e ≡ field.OutOfMemory };
 
-    fn from(_e: AllocError) -> Stop {
-        Stop::Memory
+    fn from(_e: AllocError) -> FieldFault {
+        FieldFault::OutOfMemory
     }
 }
 
-impl<T: Drop> From<AllocFailed<T>> for Stop {
-    ghost from_gives = { λ _ e. e ≡ Memory };
+impl<T: Drop> From<AllocFailed<T>> for FieldFault {
+    ghost from_gives = { λ _ e. e ≡ field.OutOfMemory };
 
-    fn from(_e: AllocFailed<T>) -> Stop {
-        Stop::Memory
+    fn from(_e: AllocFailed<T>) -> FieldFault {
+        FieldFault::OutOfMemory
     }
 }
 

@@ -5,13 +5,22 @@ ghost use Rattle.rule_code.specs.Content.{Content};
 ghost use Rattle.rule_code.specs.Spelling.{spelling};
 ghost use Rattle.rule_code.specs.WellFormed.{IsUnit};
 ghost use Rattle.rule_code.specs.CodeFile.{unit_of};
+ghost use Rattle.rule_code.specs.Laws.{FaultsAreOfFields};
 
-/// No unit's bytes begin another's, so each unit has one spelling and each spelling one unit.
+/// No unit's spelling begins another's, so no two units share one.
 pub fn one_spelling()
-    ensures { (u v : Content) (rest : List ℕ) → IsUnit u → IsUnit v → spelling v ≡ spelling u ++ rest → (rest ≡ []) × (u ≡ v) }
+    ensures { (u v : Content) (rest : List ℕ) → IsUnit u → IsUnit v → spelling v ≡ spelling u ++
+        rest → (rest ≡ []) × (u ≡ v) }
 {}
 
 /// The unit that bytes are read as is the unit whose spelling they are.
 pub fn reading_undoes_spelling()
-    ensures { (bytes : List ℕ) (u : Content) → ((i : ℕ) → slice_index_or bytes i 0 < 256) → (unit_of bytes ≡ Ok u) ↔ (IsUnit u × (bytes ≡ spelling u)) }
+    ensures { (bytes : List ℕ) (u : Content) → ((i : ℕ) → slice_index_or bytes i 0 < 256) →
+        (unit_of bytes ≡ Ok u) ↔ (IsUnit u × (bytes ≡ spelling u)) }
+{}
+
+/// The first fault's field begins in the file or at its end, and files that agree through that field
+/// have the same first fault, unless the file's end cuts that field off.
+pub fn faults_are_of_fields()
+    ensures { FaultsAreOfFields }
 {}

@@ -3,8 +3,8 @@
 
 mod fault;
 mod instruction;
+mod kind;
 pub mod laws;
-mod names;
 mod reading;
 mod symbol;
 mod unit;
@@ -12,10 +12,8 @@ mod writing;
 
 pub use fault::{CodeFault, Flaw};
 pub use instruction::Instr;
+pub use kind::{WrittenKind, WrittenScalar};
 pub use reading::read_unit;
 pub use symbol::{Symbol, SymbolNumber, SymbolTag, TextNumber};
 pub use unit::{Rule, Unit};
 pub use writing::write_unit;
-
-#[cfg(test)]
-mod tests;

@@ -5,13 +5,18 @@ ghost use Rattle.std.specs.List.{flat_map};
 ghost use Rattle.std.specs.declared.alloc.Global.{Global};
 ghost use Rattle.rule_code.specs.declared.unit.Rule.{Rule};
 ghost use Rattle.rule_code.specs.Content.{rule_content};
-ghost use Rattle.rule_code.specs.Spelling.{spelling, counted, number as number_bytes, text, symbol, instr, rule};
+ghost use Rattle.rule_code.specs.InstrRows.{row_of};
+ghost use Rattle.rule_code.specs.NumberBytes.{number_bytes};
+ghost use Rattle.rule_code.specs.WrittenKinds.{scalar_number, collection_number, scalar_symbol, scalar_bytes, collection_bytes, kind_bytes};
+ghost use Rattle.rule_code.specs.Spelling.{spelling, counted_bytes, text, symbol, fields_bytes, instr, rule};
 ghost use Rattle.rule_code.specs.View.{content};
 
 use crate::fault::CodeFault;
 use crate::instruction::Instr;
+use crate::kind::{WrittenKind, WrittenScalar};
 use crate::symbol::Symbol;
 use crate::unit::{Rule, Unit};
+use ocl_base::CollectionKind;
 use std::alloc::{AllocError, Global};
 
 fn put_number(out: &mut Vec<u8>, number: u16) -> Result<(), AllocError>
@@ -48,32 +53,177 @@ fn put_symbol(out: &mut Vec<u8>, s: Symbol) -> Result<(), AllocError>
     }
 }
 
+/// The opcode of an instruction.
+fn opcode_of(i: Instr) -> u8
+    ensures { result ≡ (row_of i).opcode }
+{
+    match i {
+        Instr::SelfObject => 0x01,
+        Instr::Get(_) => 0x02,
+        Instr::Int(_) => 0x03,
+        Instr::Bool(_) => 0x04,
+        Instr::Text(_) => 0x05,
+        Instr::Enum(_) => 0x06,
+        Instr::Null => 0x07,
+        Instr::Invalid => 0x08,
+        Instr::Attr(_) => 0x09,
+        Instr::All(_) => 0x0a,
+        Instr::AsColl(_, _) => 0x0b,
+        Instr::KindOf(_) => 0x0c,
+        Instr::TypeOf(_) => 0x0d,
+        Instr::AsType(_) => 0x0e,
+        Instr::Add => 0x10,
+        Instr::Sub => 0x11,
+        Instr::Mul => 0x12,
+        Instr::Div => 0x13,
+        Instr::Mod => 0x14,
+        Instr::Neg => 0x15,
+        Instr::Abs => 0x16,
+        Instr::Min => 0x17,
+        Instr::Max => 0x18,
+        Instr::Lt => 0x19,
+        Instr::Le => 0x1a,
+        Instr::Gt => 0x1b,
+        Instr::Ge => 0x1c,
+        Instr::Not => 0x20,
+        Instr::And => 0x21,
+        Instr::Or => 0x22,
+        Instr::Xor => 0x23,
+        Instr::Implies => 0x24,
+        Instr::Eq(_) => 0x28,
+        Instr::Eqx => 0x29,
+        Instr::Undef => 0x2a,
+        Instr::IsInv => 0x2b,
+        Instr::TLen => 0x2c,
+        Instr::SubStr => 0x2d,
+        Instr::Size => 0x30,
+        Instr::IsEmpty => 0x31,
+        Instr::Includes(_) => 0x32,
+        Instr::Count(_) => 0x33,
+        Instr::IncAll(_) => 0x34,
+        Instr::ExcAll(_) => 0x35,
+        Instr::Sum => 0x36,
+        Instr::AsSet(_) => 0x37,
+        Instr::Let(_) => 0x40,
+        Instr::If(_, _, _) => 0x41,
+        Instr::ForAll(_) => 0x42,
+        Instr::Exists(_) => 0x43,
+        Instr::One(_) => 0x44,
+        Instr::Select(_) => 0x45,
+        Instr::Reject(_) => 0x46,
+        Instr::Collect(_) => 0x47,
+        Instr::CollectFlat(_) => 0x48,
+        Instr::IsUnique(_, _) => 0x49,
+    }
+}
+
+/// The low half of a kind's byte.
+fn scalar_number(k: WrittenScalar) -> u8
+    ensures number { result ≡ scalar_number k }
+    ensures small { result ≤ 6 }
+{
+    match k {
+        WrittenScalar::Void => 0,
+        WrittenScalar::Boolean => 1,
+        WrittenScalar::Integer => 2,
+        WrittenScalar::String => 3,
+        WrittenScalar::Enumeration(_) => 4,
+        WrittenScalar::Class(_) => 5,
+        WrittenScalar::AnyObject => 6,
+    }
+}
+
+/// The high half of a kind's byte.
+fn collection_number(c: CollectionKind) -> u8
+    ensures number { result ≡ collection_number c }
+    ensures small { result ≤ 4 }
+{
+    match c {
+        CollectionKind::Set => 1,
+        CollectionKind::OrderedSet => 2,
+        CollectionKind::Bag => 3,
+        CollectionKind::Sequence => 4,
+    }
+}
+
+/// The symbol behind a kind's byte.
+fn put_scalar_symbol(out: &mut Vec<u8>, k: WrittenScalar) -> Result<(), AllocError>
+    ensures { OnOk result (out.new.items ≡ out.old.items ++ scalar_symbol k) }
+{
+    match k {
+        WrittenScalar::Enumeration(s) | WrittenScalar::Class(s) => put_number(out, s.0),
+        WrittenScalar::Void => Ok(()),
+        WrittenScalar::Boolean => Ok(()),
+        WrittenScalar::Integer => Ok(()),
+        WrittenScalar::String => Ok(()),
+        WrittenScalar::AnyObject => Ok(()),
+    }
+}
+
+fn put_scalar(out: &mut Vec<u8>, k: WrittenScalar) -> Result<(), AllocError>
+    ensures { OnOk result (out.new.items ≡ out.old.items ++ scalar_bytes k) }
+{
+    out.push(scalar_number(k))?;
+    put_scalar_symbol(out, k)
+}
+
+fn put_collection(out: &mut Vec<u8>, c: CollectionKind, k: WrittenScalar) -> Result<(), AllocError>
+    ensures { OnOk result (out.new.items ≡ out.old.items ++ collection_bytes c k) }
+{
+    out.push(collection_number(c) * 16 + scalar_number(k))?;
+    put_scalar_symbol(out, k)
+}
+
+fn put_kind(out: &mut Vec<u8>, k: WrittenKind) -> Result<(), AllocError>
+    ensures { OnOk result (out.new.items ≡ out.old.items ++ kind_bytes k) }
+{
+    match k {
+        WrittenKind::Scalar(element) => put_scalar(out, element),
+        WrittenKind::Collection(collection, element) => put_collection(out, collection, element),
+    }
+}
+
+/// The fields of an instruction.
+fn put_fields(out: &mut Vec<u8>, i: Instr) -> Result<(), AllocError>
+    ensures { OnOk result (out.new.items ≡ out.old.items ++ fields_bytes (row_of i).fields) }
+{
+    match i {
+        Instr::Int(n) => out.extend_from_slice(&n.to_be_bytes()),
+        Instr::Bool(b) => out.extend_from_slice(&[b as u8]),
+        Instr::Text(t) => put_number(out, t.0),
+        Instr::Get(n) | Instr::Let(n) => put_number(out, n),
+        Instr::ForAll(n) | Instr::Exists(n) | Instr::One(n) => put_number(out, n),
+        Instr::Select(n) | Instr::Reject(n) => put_number(out, n),
+        Instr::Collect(n) | Instr::CollectFlat(n) => put_number(out, n),
+        Instr::Enum(s) | Instr::Attr(s) | Instr::All(s) => put_number(out, s.0),
+        Instr::KindOf(s) | Instr::TypeOf(s) | Instr::AsType(s) => put_number(out, s.0),
+        Instr::AsColl(collection, element) => put_collection(out, collection, element),
+        Instr::Eq(kind) => put_kind(out, kind),
+        Instr::Includes(k) | Instr::Count(k) | Instr::AsSet(k) => put_scalar(out, k),
+        Instr::IncAll(k) | Instr::ExcAll(k) => put_scalar(out, k),
+        Instr::If(kind, first, second) => {
+            put_kind(out, kind)?;
+            put_number(out, first)?;
+            put_number(out, second)
+        }
+        Instr::IsUnique(kind, body) => {
+            put_scalar(out, kind)?;
+            put_number(out, body)
+        }
+        _ => Ok(()),
+    }
+}
+
 fn put_instr(out: &mut Vec<u8>, i: Instr) -> Result<(), AllocError>
     ensures { OnOk result (out.new.items ≡ out.old.items ++ instr i) }
 {
-    match i {
-        Instr::SelfObject => out.push(0x01)?,
-        Instr::Int(n) => {
-            out.push(0x03)?;
-            out.extend_from_slice(&n.to_be_bytes())?;
-        }
-        Instr::Bool(b) => out.extend_from_slice(&[0x04, b as u8])?,
-        Instr::Null => out.push(0x07)?,
-        Instr::Attr(s) => {
-            out.push(0x09)?;
-            put_number(out, s.0)?;
-        }
-        Instr::Lt => out.push(0x19)?,
-        Instr::Ge => out.push(0x1c)?,
-        Instr::Not => out.push(0x20)?,
-        Instr::And => out.push(0x21)?,
-    }
-    Ok(())
+    out.push(opcode_of(i))?;
+    put_fields(out, i)
 }
 
 fn put_code(out: &mut Vec<u8>, code: &[Instr]) -> Result<(), AllocError>
     requires { length code.now < 2 ^ 16 }
-    ensures { OnOk result (out.new.items ≡ out.old.items ++ counted instr code.now) }
+    ensures { OnOk result (out.new.items ≡ out.old.items ++ counted_bytes instr code.now) }
 {
     put_number(out, code.len() as u16)?;
     for i in code {
@@ -93,8 +243,10 @@ fn put_rule(out: &mut Vec<u8>, r: &Rule) -> Result<(), AllocError>
 
 fn put_texts(out: &mut Vec<u8>, texts: &[String]) -> Result<(), AllocError>
     requires few { length texts.now < 2 ^ 16 }
-    requires short { (i : ℕ) (d : String Global) → i < length texts.now → length (string_bytes (slice_index_or texts.now i d)) < 2 ^ 16 }
-    ensures { OnOk result (out.new.items ≡ out.old.items ++ counted text (map string_bytes texts.now)) }
+    requires short { (i : ℕ) (d : String Global) → i < length texts.now →
+        length (string_bytes (slice_index_or texts.now i d)) < 2 ^ 16 }
+    ensures { OnOk result (out.new.items ≡ out.old.items ++
+        counted_bytes text (map string_bytes texts.now)) }
 {
     put_number(out, texts.len() as u16)?;
     for words in texts {
@@ -105,7 +257,7 @@ fn put_texts(out: &mut Vec<u8>, texts: &[String]) -> Result<(), AllocError>
 
 fn put_symbols(out: &mut Vec<u8>, symbols: &[Symbol]) -> Result<(), AllocError>
     requires { length symbols.now < 2 ^ 16 }
-    ensures { OnOk result (out.new.items ≡ out.old.items ++ counted symbol symbols.now) }
+    ensures { OnOk result (out.new.items ≡ out.old.items ++ counted_bytes symbol symbols.now) }
 {
     put_number(out, symbols.len() as u16)?;
     for s in symbols {
@@ -116,8 +268,10 @@ fn put_symbols(out: &mut Vec<u8>, symbols: &[Symbol]) -> Result<(), AllocError>
 
 fn put_rules(out: &mut Vec<u8>, rules: &[Rule]) -> Result<(), AllocError>
     requires few { length rules.now < 2 ^ 16 }
-    requires short { (i : ℕ) (d : Rule) → i < length rules.now → length (slice_index_or rules.now i d).code.items < 2 ^ 16 }
-    ensures { OnOk result (out.new.items ≡ out.old.items ++ counted rule (map rule_content rules.now)) }
+    requires short { (i : ℕ) (d : Rule) → i < length rules.now →
+        length (slice_index_or rules.now i d).code.items < 2 ^ 16 }
+    ensures { OnOk result (out.new.items ≡ out.old.items ++
+        counted_bytes rule (map rule_content rules.now)) }
 {
     put_number(out, rules.len() as u16)?;
     for r in rules {
@@ -126,7 +280,7 @@ fn put_rules(out: &mut Vec<u8>, rules: &[Rule]) -> Result<(), AllocError>
     Ok(())
 }
 
-/// The one spelling of the unit. Only want of memory refuses it.
+/// The one spelling of the unit. Only running out of memory refuses it.
 pub fn write_unit(alloc: Global, unit: &Unit) -> Result<Vec<u8>, CodeFault>
     ensures ok { IfOk result (λ v. v.items ≡ spelling (content unit.now)) }
     ensures err { IfErr result (λ e. e ≡ CodeFault.OutOfMemory) }

@@ -4,7 +4,7 @@ ghost use Rattle.std.specs.Prelude.{◌≡◌, ◌<◌, ◌≤◌, List, [], ◌
 ghost use Rattle.imkl_model.specs.ClassModel.{feature_at};
 ghost use Rattle.imkl_model.specs.Features.{is_single};
 ghost use Rattle.rule_code.specs.declared.instruction.Instr.TheVariants.{Attr};
-ghost use Rattle.ocl_check.specs.Value.{Value as Operand, Plain};
+ghost use Rattle.ocl_check.specs.Value.{Value as Operand, Single};
 ghost use Rattle.ocl_check.specs.Operations.{single_value};
 ghost use Rattle.ocl_check.specs.Machine.{read_from, performed};
 ghost use Rattle.ocl_check.specs.Laws.{setting_of};
@@ -13,14 +13,14 @@ ghost use Rattle.ocl_check.specs.Shown.{meant, all_meant, IsHolder, CanPerform, 
 
 use super::value::{Value, at_least, conjunction, less_than, negation};
 use crate::stack::Stack;
-use crate::verify::{Linked, Named};
 use imkl_model::FeatureNo;
 use imkl_population::{ObjectNo, Population, Scalar};
 use rule_code::{Instr, SymbolNumber};
+use rule_verify::{Linked, Named};
 
 /// A single value as an operand.
 fn operand(scalar: &Scalar) -> Value<'_>
-    ensures { meant result ≡ Plain scalar.now }
+    ensures { meant result ≡ Single scalar.now }
 {
     match scalar {
         Scalar::Bool(b) => Value::Bool(*b),
@@ -43,10 +43,10 @@ fn single(values: &[Scalar]) -> Value<'_>
 
 /// The value of a feature with upper bound 1, of what may hold it.
 fn read<'p>(population: &'p Population<'_>, feature: FeatureNo, holder: &Value<'p>) -> Value<'p>
-    requires holder { IsHolder population.now feature (meant holder.now) }
-    requires feature { feature < length population.now.model.features }
-    requires single { is_single (feature_at population.now.model feature).upper ≡ true }
-    ensures { read_from population.now feature (meant holder.now) ≡ Some (meant result) }
+    requires holder { IsHolder population.now.content feature (meant holder.now) }
+    requires feature { feature < length population.now.content.model.features }
+    requires single { is_single (feature_at population.now.content.model feature).upper ≡ true }
+    ensures { read_from population.now.content feature (meant holder.now) ≡ Some (meant result) }
 {
     match holder {
         Value::Object(object) => single(population.values(*object, feature)),
@@ -91,10 +91,12 @@ fn read_feature<'p>(
     operands: &mut Stack<Value<'p>>,
     symbol: SymbolNumber,
 ) -> Value<'p>
-    requires one_model { population.now.model ≡ linked.now.model }
+    requires one_model { population.now.content.model ≡ linked.now.model }
     requires symbol { symbol.0 < length linked.now.unit.symbols }
-    requires can { CanPerform linked.now.unit population.now (Attr symbol) (all_meant operands.old) }
-    ensures { (vs : List Operand) → performed (setting_of linked.now.unit population.now) vs (Attr symbol) (all_meant operands.old) ≡ Some (meant result ∷ all_meant operands.new) }
+    requires can { CanPerform linked.now.unit population.now.content (Attr symbol)
+        (all_meant operands.old) }
+    ensures { (vs : List Operand) → performed (setting_of linked.now.unit population.now.content) vs
+        (Attr symbol) (all_meant operands.old) ≡ Some (meant result ∷ all_meant operands.new) }
 {
     let Some(name) = linked.named(symbol) else {
         unreachable!()
@@ -118,10 +120,13 @@ pub(super) fn instruct<'p>(
     operands: &mut Stack<Value<'p>>,
     instr: Instr,
 ) -> Value<'p>
-    requires one_model { population.now.model ≡ linked.now.model }
+    requires one_model { population.now.content.model ≡ linked.now.model }
     requires symbol { HasSymbol linked.now.unit instr }
-    requires can { CanPerform linked.now.unit population.now instr (all_meant operands.old) }
-    ensures { performed (setting_of linked.now.unit population.now) (object_variable object) instr (all_meant operands.old) ≡ Some (meant result ∷ all_meant operands.new) }
+    requires can { CanPerform linked.now.unit population.now.content instr
+        (all_meant operands.old) }
+    ensures { performed (setting_of linked.now.unit population.now.content)
+        (object_variable object) instr (all_meant operands.old) ≡
+        Some (meant result ∷ all_meant operands.new) }
 {
     match instr {
         Instr::SelfObject => Value::Object(object),
@@ -142,5 +147,6 @@ pub(super) fn instruct<'p>(
             let (second, first) = two(operands);
             conjunction(&first, &second)
         }
+        _ => unreachable!(),
     }
 }

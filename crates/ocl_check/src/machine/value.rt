@@ -28,7 +28,7 @@ pub enum Value<'p> {
     Object(ObjectNo),
 }
 
-/// Whether the first is below the second.
+/// Whether the first is less than the second; invalid unless both are Integers.
 pub(super) fn less_than<'p>(v: &Value<'p>, w: &Value<'p>) -> Value<'p>
     ensures { meant result ≡ less_than (meant v.now) (meant w.now) }
 {
@@ -38,7 +38,7 @@ pub(super) fn less_than<'p>(v: &Value<'p>, w: &Value<'p>) -> Value<'p>
     }
 }
 
-/// Whether the first is at least the second.
+/// Whether the first is at least the second; invalid unless both are Integers.
 pub(super) fn at_least<'p>(v: &Value<'p>, w: &Value<'p>) -> Value<'p>
     ensures { meant result ≡ at_least (meant v.now) (meant w.now) }
 {
@@ -48,6 +48,7 @@ pub(super) fn at_least<'p>(v: &Value<'p>, w: &Value<'p>) -> Value<'p>
     }
 }
 
+/// The negation of a Boolean, else invalid.
 pub(super) fn negation<'p>(v: &Value<'p>) -> Value<'p>
     ensures { meant result ≡ negation (meant v.now) }
 {

@@ -1,13 +1,13 @@
 //! Accepted units.
 
 ghost use Rattle.std.specs.Prelude.{◌≡◌, ◌<◌, length, Some};
-ghost use Rattle.rule_code.specs.Content.{text_of};
+ghost use Rattle.rule_code.specs.Content.{text_at};
 ghost use Rattle.rule_code.specs.View.{content};
 ghost use Rattle.ocl_check.specs.Kinds.{IsAccepted, context_of, rule_at};
 
-use super::linked::Linked;
 use imkl_model::{ClassModel, ClassNo};
 use rule_code::Unit;
+use rule_verify::Linked;
 use std::marker::Model;
 
 /// A unit whose code is accepted in a class model. No read takes memory. Rules are numbered by
@@ -18,7 +18,7 @@ pub struct Accepted<'m> {
 }
 
 impl<'m> Model for Accepted<'m> {
-    ghost use Rattle.ocl_check.specs.Linked.{LinkedUnit};
+    ghost use Rattle.rule_verify.specs.Linked.{LinkedUnit};
     ghost use Rattle.ocl_check.specs.Kinds.{IsAccepted};
 
     ghost Value = { LinkedUnit };
@@ -75,7 +75,7 @@ impl<'m> Accepted<'m> {
     /// The name of a rule.
     pub fn rule_name(&self, rule: usize) -> &str
         requires { rule < length self.now.unit.rules }
-        ensures { result.now ≡ text_of self.now.unit.texts (rule_at self.now.unit rule).name }
+        ensures { result.now ≡ text_at self.now.unit.texts (rule_at self.now.unit rule).name }
     {
         let unit = self.linked.unit();
         unit.text(unit.rule(rule).name)
@@ -84,7 +84,8 @@ impl<'m> Accepted<'m> {
     /// The context class of a rule.
     pub fn context(&self, rule: usize) -> ClassNo
         requires { rule < length self.now.unit.rules }
-        ensures class { context_of self.now.model self.now.unit (rule_at self.now.unit rule) ≡ Some result }
+        ensures class { context_of self.now.model self.now.unit (rule_at self.now.unit rule) ≡
+            Some result }
         ensures in_range { result < length self.now.model.classes }
     {
         let rule = self.linked.unit().rule(rule);

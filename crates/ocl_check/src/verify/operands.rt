@@ -3,15 +3,16 @@
 ghost use Rattle.std.specs.Prelude.{◌≡◌, List, length, OnOk, OnErr, slice_get, Some};
 ghost use Rattle.imkl_model.specs.ClassModel.{feature_at};
 ghost use Rattle.imkl_model.specs.Features.{is_single};
-ghost use Rattle.ocl_check.specs.Kinds.{truth, whole_number, object_of, element_kind, feature_kind, applied, effect, scope, is_one_truth};
-ghost use Rattle.ocl_check.specs.Known.{IsKnownElement, IsKnownKind, AreKnownKinds};
+ghost use Rattle.ocl_check.specs.Kinds.{truth, whole_number, object_of, applied, effect, scope, is_one_truth};
+ghost use Rattle.ocl_kinds.specs.Kinds.{element_kind, feature_kind, IsScalarKindOf, IsKindOf};
+ghost use Rattle.rule_verify.specs.Known.{AreKnownKinds};
 ghost use Rattle.ocl_check.specs.Walk.{TakenAs, Comes, HasSymbol};
 
-use super::fault::{Flaw, Stop};
-use super::fitting::fits;
-use super::kind::{ElementKind, Kind};
+use super::stop::Stop;
 use crate::stack::Stack;
 use imkl_model::ClassModel;
+use ocl_kinds::{Kind, ScalarKind, fits};
+use rule_verify::Flaw;
 
 /// The greatest number of operands.
 const MOST_OPERANDS: usize = 1024;
@@ -30,7 +31,7 @@ fn take(model: &ClassModel, operands: &mut Stack<Kind>, wanted: &[Kind]) -> Opti
         match operands.pop() {
             None => return Some(Flaw::MissingOperand),
             Some(kind) => {
-                if !fits(model, kind, *want) {
+                if !fits(model, &kind, want) {
                     return Some(Flaw::WrongKind);
                 }
             }
@@ -49,8 +50,9 @@ pub(super) fn apply(
 ) -> Result<(), Stop>
     requires operands { AreKnownKinds model.now operands.old }
     requires wanted { AreKnownKinds model.now wanted.now }
-    requires given { IsKnownKind model.now given }
-    ensures comes { Comes (applied model.now wanted.now is_allowed given operands.old) result operands.new }
+    requires given { IsKindOf model.now given }
+    ensures comes { Comes (applied model.now wanted.now is_allowed given operands.old) result
+        operands.new }
     ensures known { OnOk result (AreKnownKinds model.now operands.new) }
 {
     if let Some(flaw) = take(model, operands, wanted) {
@@ -76,6 +78,6 @@ pub(super) fn is_one_truth(model: &ClassModel, operands: &mut Stack<Kind>) -> bo
     }
     match operands.pop() {
         None => false,
-        Some(kind) => fits(model, kind, Kind::Single(ElementKind::Boolean)),
+        Some(kind) => fits(model, &kind, &Kind::Scalar(ScalarKind::Boolean)),
     }
 }

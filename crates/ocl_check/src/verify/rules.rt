@@ -1,48 +1,26 @@
-//! Judging the rules of a unit by their kinds.
+//! Checking the rules of a unit by their kinds.
 
 ghost use Rattle.std.specs.Prelude.{◌≡◌, ◌<◌, ℕ, length, OnOk, slice_get, Some};
 ghost use Rattle.rule_code.specs.declared.instruction.Instr.TheVariants.{Attr};
-ghost use Rattle.ocl_check.specs.Kinds.{element_kind, feature_kind, effect, scope};
-ghost use Rattle.ocl_check.specs.Known.{AreKnownKinds};
+ghost use Rattle.ocl_check.specs.Kinds.{effect, scope};
+ghost use Rattle.ocl_kinds.specs.Kinds.{element_kind, feature_kind};
+ghost use Rattle.rule_verify.specs.Known.{AreKnownKinds};
 ghost use Rattle.ocl_check.specs.Walk.{Comes, HasSymbol, RuleAnswers, UnitAnswers};
 
-use super::fault::{Flaw, Stop, VerifyFault};
-use super::kind::{ElementKind, Kind};
-use super::linked::Linked;
-use super::named::Named;
 use super::operands::{apply, is_one_truth};
+use super::stop::Stop;
 use crate::stack::Stack;
-use imkl_model::{ClassNo, ElementType, FeatureInfo};
+use imkl_model::ClassNo;
+use ocl_kinds::{Kind, ScalarKind, feature_kind};
 use rule_code::{Instr, SymbolNumber};
+use rule_verify::{Flaw, Linked, Named, VerifyFault};
 use std::alloc::Global;
 
-const VOID: Kind = Kind::Single(ElementKind::Void);
+const VOID: Kind = Kind::Scalar(ScalarKind::Void);
 
-const TRUTH: Kind = Kind::Single(ElementKind::Boolean);
+const TRUTH: Kind = Kind::Scalar(ScalarKind::Boolean);
 
-const WHOLE_NUMBER: Kind = Kind::Single(ElementKind::Integer);
-
-fn element_kind(element: ElementType) -> ElementKind
-    ensures { result ≡ element_kind element }
-{
-    match element {
-        ElementType::Boolean => ElementKind::Boolean,
-        ElementType::Integer => ElementKind::Integer,
-        ElementType::String => ElementKind::String,
-        ElementType::Enumeration(enumeration) => ElementKind::Enumeration(enumeration),
-        ElementType::Class(class) => ElementKind::Class(class),
-    }
-}
-
-fn feature_kind(feature: &FeatureInfo) -> Kind
-    ensures { result ≡ feature_kind feature.now }
-{
-    if feature.is_single() {
-        Kind::Single(element_kind(feature.element))
-    } else {
-        Kind::Collection(feature.kind, element_kind(feature.element))
-    }
-}
+const WHOLE_NUMBER: Kind = Kind::Scalar(ScalarKind::Integer);
 
 /// The operands after a feature is read.
 fn read_feature(
@@ -52,7 +30,9 @@ fn read_feature(
 ) -> Result<(), Stop>
     requires operands { AreKnownKinds linked.now.model operands.old }
     requires symbol { symbol.0 < length linked.now.unit.symbols }
-    ensures comes { (context : ℕ) → Comes (λ at. effect (scope linked.now.model linked.now.unit context) (Attr symbol) at operands.old) result operands.new }
+    ensures comes { (context : ℕ) → Comes (λ at. effect
+        (scope linked.now.model linked.now.unit context) (Attr symbol) at operands.old) result
+        operands.new }
     ensures known { OnOk result (AreKnownKinds linked.now.model operands.new) }
 {
     let Some(name) = linked.named(symbol) else {
@@ -63,7 +43,7 @@ fn read_feature(
             let model = linked.model();
             model.well_formed();
             let info = model.feature_info(feature);
-            let holder = Kind::Single(ElementKind::Class(class));
+            let holder = Kind::Scalar(ScalarKind::Class(class));
             apply(
                 model,
                 operands,
@@ -86,13 +66,14 @@ fn instruct(
     requires operands { AreKnownKinds linked.now.model operands.old }
     requires context { context < length linked.now.model.classes }
     requires symbol { HasSymbol linked.now.unit instr }
-    ensures comes { Comes (λ at. effect (scope linked.now.model linked.now.unit context) instr at operands.old) result operands.new }
+    ensures comes { Comes (λ at. effect (scope linked.now.model linked.now.unit context) instr at
+        operands.old) result operands.new }
     ensures known { OnOk result (AreKnownKinds linked.now.model operands.new) }
 {
     let model = linked.model();
     match instr {
         Instr::SelfObject => {
-            let object = Kind::Single(ElementKind::Class(context));
+            let object = Kind::Scalar(ScalarKind::Class(context));
             apply(model, operands, &[], true, object)
         }
         Instr::Int(_) => apply(model, operands, &[], true, WHOLE_NUMBER),
@@ -103,26 +84,27 @@ fn instruct(
         Instr::Ge => apply(model, operands, &[WHOLE_NUMBER, WHOLE_NUMBER], true, TRUTH),
         Instr::Not => apply(model, operands, &[TRUTH], true, TRUTH),
         Instr::And => apply(model, operands, &[TRUTH, TRUTH], true, TRUTH),
+        _ => apply(model, operands, &[], false, VOID),
     }
 }
 
 /// Whether a rule has kinds, else its first fault.
-fn check_rule(alloc: Global, linked: &Linked<'_>, place: usize) -> Result<(), VerifyFault>
-    requires { place < length linked.now.unit.rules }
-    ensures { RuleAnswers linked.now.model linked.now.unit place result }
+fn check_rule(alloc: Global, linked: &Linked<'_>, index: usize) -> Result<(), VerifyFault>
+    requires { index < length linked.now.unit.rules }
+    ensures { RuleAnswers linked.now.model linked.now.unit index result }
 {
-    let rule = linked.unit().rule(place);
+    let rule = linked.unit().rule(index);
     let Some(context) = linked.class(rule.context) else {
         return Err(VerifyFault::At {
             flaw: Flaw::NoSuchName,
-            rule: place,
+            rule: index,
             at: 0,
         });
     };
     let mut operands = Stack::new(alloc);
-    'instructions: for at in 0..rule.code.len() {
+    for at in 0..rule.code.len() {
         if let Err(stop) = instruct(linked, context, &mut operands, rule.code[at]) {
-            return Err(stop.at(place, at));
+            return Err(stop.at(index, at));
         }
     }
     if is_one_truth(linked.model(), &mut operands) {
@@ -130,7 +112,7 @@ fn check_rule(alloc: Global, linked: &Linked<'_>, place: usize) -> Result<(), Ve
     } else {
         Err(VerifyFault::At {
             flaw: Flaw::LeftOver,
-            rule: place,
+            rule: index,
             at: rule.code.len(),
         })
     }
@@ -140,8 +122,8 @@ fn check_rule(alloc: Global, linked: &Linked<'_>, place: usize) -> Result<(), Ve
 pub(super) fn check_rules(alloc: Global, linked: &Linked<'_>) -> Result<(), VerifyFault>
     ensures { UnitAnswers linked.now.model linked.now.unit result }
 {
-    'rules: for place in 0..linked.unit().rules.len() {
-        check_rule(alloc, linked, place)?;
+    for index in 0..linked.unit().rules.len() {
+        check_rule(alloc, linked, index)?;
     }
     Ok(())
 }

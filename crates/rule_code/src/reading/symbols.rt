@@ -1,39 +1,39 @@
 //! Reading the symbols of a code file.
 
 ghost use Rattle.std.specs.Prelude.{◌≡◌, List, []};
-ghost use Rattle.rule_code.specs.Reading.{Gives, many_at};
-ghost use Rattle.rule_code.specs.Parts.{symbol_at};
-ghost use Rattle.rule_code.specs.CodeFile.{symbols_at};
+ghost use Rattle.rule_code.specs.Reading.{Reads, many_from};
+ghost use Rattle.rule_code.specs.Parts.{symbol_from};
+ghost use Rattle.rule_code.specs.CodeFile.{symbols_from};
 
-use super::field::{text_number_at, u16_at, wrong};
-use crate::fault::{Flaw, Stop};
+use super::field::{text_number_from, u16_from, wrong};
+use crate::fault::{FieldFault, Flaw};
 use crate::symbol::Symbol;
 use std::alloc::Global;
 
-#[tactic(auto, unfolding(crate::specs::Parts::symbol_at))]
-fn symbol_of(texts: usize, bytes: &[u8]) -> Result<(Symbol, &[u8]), Stop>
-    ensures { Gives (λ x. (x.0, x.1.now)) result (symbol_at texts bytes.now) }
+#[tactic(auto, unfolding(crate::specs::Parts::symbol_from))]
+fn symbol_from(texts: usize, bytes: &[u8]) -> Result<(Symbol, &[u8]), FieldFault>
+    ensures { Reads (λ x. (x.0, x.1.now)) result (symbol_from texts bytes.now) }
 {
     let [tag, rest @ ..] = bytes else {
         return Err(wrong(Flaw::Truncated, bytes));
     };
     match *tag {
         1 => {
-            let (class, rest) = text_number_at(texts, rest)?;
+            let (class, rest) = text_number_from(texts, rest)?;
             Ok((Symbol::Class(class), rest))
         }
         2 => {
-            let (enumeration, rest) = text_number_at(texts, rest)?;
+            let (enumeration, rest) = text_number_from(texts, rest)?;
             Ok((Symbol::Enumeration(enumeration), rest))
         }
         3 => {
-            let (class, rest) = text_number_at(texts, rest)?;
-            let (feature, rest) = text_number_at(texts, rest)?;
+            let (class, rest) = text_number_from(texts, rest)?;
+            let (feature, rest) = text_number_from(texts, rest)?;
             Ok((Symbol::Feature { class, feature }, rest))
         }
         4 => {
-            let (enumeration, rest) = text_number_at(texts, rest)?;
-            let (literal, rest) = text_number_at(texts, rest)?;
+            let (enumeration, rest) = text_number_from(texts, rest)?;
+            let (literal, rest) = text_number_from(texts, rest)?;
             Ok((
                 Symbol::Literal {
                     enumeration,
@@ -52,27 +52,28 @@ fn many_symbols(
     texts: usize,
     count: u16,
     bytes: &[u8],
-) -> Result<(Vec<Symbol>, &[u8]), Stop>
-    ensures { Gives (λ x. (x.0.items, x.1.now)) result (many_at (λ before. symbol_at texts) [] count bytes.now) }
+) -> Result<(Vec<Symbol>, &[u8]), FieldFault>
+    ensures { Reads (λ x. (x.0.items, x.1.now)) result
+        (many_from (λ before. symbol_from texts) [] count bytes.now) }
 {
     let mut symbols = Vec::new(alloc);
     let mut rest = bytes;
     for _ in 0..count {
-        let (symbol, after) = symbol_of(texts, rest)?;
+        let (symbol, after) = symbol_from(texts, rest)?;
         symbols.push(symbol)?;
         rest = after;
     }
     Ok((symbols, rest))
 }
 
-#[tactic(auto, unfolding(crate::specs::CodeFile::symbols_at))]
-pub(super) fn symbols_of(
+#[tactic(auto, unfolding(crate::specs::CodeFile::symbols_from))]
+pub(super) fn symbols_from(
     alloc: Global,
     texts: usize,
     bytes: &[u8],
-) -> Result<(Vec<Symbol>, &[u8]), Stop>
-    ensures { Gives (λ x. (x.0.items, x.1.now)) result (symbols_at texts bytes.now) }
+) -> Result<(Vec<Symbol>, &[u8]), FieldFault>
+    ensures { Reads (λ x. (x.0.items, x.1.now)) result (symbols_from texts bytes.now) }
 {
-    let (count, rest) = u16_at(bytes)?;
+    let (count, rest) = u16_from(bytes)?;
     many_symbols(alloc, texts, count, rest)
 }

@@ -1,41 +1,45 @@
 //! Reading the texts of a code file.
 
 ghost use Rattle.std.specs.Prelude.{◌≡◌, List, [], map, string_bytes};
-ghost use Rattle.rule_code.specs.Reading.{Gives, many_at};
-ghost use Rattle.rule_code.specs.Parts.{text_at};
-ghost use Rattle.rule_code.specs.CodeFile.{texts_at};
+ghost use Rattle.rule_code.specs.Reading.{Reads, many_from};
+ghost use Rattle.rule_code.specs.Parts.{text_from};
+ghost use Rattle.rule_code.specs.CodeFile.{texts_from};
 
-use super::field::{count_at, text_bytes_at, u16_at};
-use crate::fault::Stop;
+use super::field::{count_from, text_bytes_from, u16_from};
+use crate::fault::FieldFault;
 use std::alloc::Global;
 
-#[tactic(auto, unfolding(crate::specs::Parts::text_at))]
-fn text_of(alloc: Global, bytes: &[u8]) -> Result<(String, &[u8]), Stop>
-    ensures { Gives (λ x. (string_bytes x.0, x.1.now)) result (text_at bytes.now) }
+/// The greatest number of bytes in a text.
+const MOST_TEXT_BYTES: u16 = 4_096;
+
+#[tactic(auto, unfolding(crate::specs::Parts::text_from))]
+fn text_from(alloc: Global, bytes: &[u8]) -> Result<(String, &[u8]), FieldFault>
+    ensures { Reads (λ x. (string_bytes x.0, x.1.now)) result (text_from bytes.now) }
 {
-    let (len, rest) = count_at(4096, bytes)?;
-    let (text, after) = text_bytes_at(usize::from(len), rest)?;
+    let (len, rest) = count_from(MOST_TEXT_BYTES, bytes)?;
+    let (text, after) = text_bytes_from(usize::from(len), rest)?;
     Ok((String::from_str(alloc, text)?, after))
 }
 
 #[tactic(auto, using(crate::proofs::Loop::begins))]
-fn many_texts(alloc: Global, count: u16, bytes: &[u8]) -> Result<(Vec<String>, &[u8]), Stop>
-    ensures { Gives (λ x. (map string_bytes x.0.items, x.1.now)) result (many_at (λ before. text_at) [] count bytes.now) }
+fn many_texts(alloc: Global, count: u16, bytes: &[u8]) -> Result<(Vec<String>, &[u8]), FieldFault>
+    ensures { Reads (λ x. (map string_bytes x.0.items, x.1.now)) result
+        (many_from (λ before. text_from) [] count bytes.now) }
 {
     let mut texts = Vec::new(alloc);
     let mut rest = bytes;
     for _ in 0..count {
-        let (text, after) = text_of(alloc, rest)?;
+        let (text, after) = text_from(alloc, rest)?;
         texts.push(text)?;
         rest = after;
     }
     Ok((texts, rest))
 }
 
-#[tactic(auto, unfolding(crate::specs::CodeFile::texts_at))]
-pub(super) fn texts_of(alloc: Global, bytes: &[u8]) -> Result<(Vec<String>, &[u8]), Stop>
-    ensures { Gives (λ x. (map string_bytes x.0.items, x.1.now)) result (texts_at bytes.now) }
+#[tactic(auto, unfolding(crate::specs::CodeFile::texts_from))]
+pub(super) fn texts_from(alloc: Global, bytes: &[u8]) -> Result<(Vec<String>, &[u8]), FieldFault>
+    ensures { Reads (λ x. (map string_bytes x.0.items, x.1.now)) result (texts_from bytes.now) }
 {
-    let (count, rest) = u16_at(bytes)?;
+    let (count, rest) = u16_from(bytes)?;
     many_texts(alloc, count, rest)
 }

@@ -1,6 +1,6 @@
 use Rattle.std.proofs.Common.{length}
 use Rattle.imkl_model.specs.ClassModel.{is_named_in}
-use Rattle.imkl_model.proofs.Places.{places_below}
+use Rattle.ocl_base.proofs.ForAbove.{places_below}
 use Rattle.imkl_model.proofs.clash.group_meets.Goals as goal
 
 pub meet_somewhere-requires-clause-numbers : goal.meet_somewhere-requires-clause-numbers

@@ -2,16 +2,16 @@ use Rattle.std.proofs.Common.{map}
 use Rattle.std.proofs.lemmas.Result.{err_from_is_err_and}
 use Rattle.std.proofs.lemmas.List.Elements.{All-push}
 use Rattle.serde_json.specs.View.{view}
-use Rattle.imkl_model.specs.Steps.{each}
-use Rattle.imkl_model.proofs.Lists.{goes_on, is_done}
-use Rattle.imkl_model.proofs.Faults.{ends}
+use Rattle.ocl_base.specs.Steps.{each}
+use Rattle.ocl_base.proofs.ForAbove.{goes_on, is_done, ends}
+use Rattle.imkl_model.specs.Faults.{model_fault}
 use Rattle.imkl_model.proofs.each.each_of.Goals as goal
 
 pub returns-in_err-of-clause-trees : goal.returns-in_err-of-clause-trees
 returns-in_err-of-clause-trees g c =
     let p = err_from_is_err_and c.from_residual.result c.from_residual.ensures.1 in
     let total = each g.T.Spelled.spelled (map view c.args.values.now) in
-    rw (p.1, p.2) (ends g.T.Spelled.spelled view c.in_err-of.field-0.0 c.loop-value.found.items c.args.values.now c.loop-value.value-index c.value-item.result total c.loop-value-test.true c.value-item.is c.in_err-of.ensures.tree c.loop-value.invariant.read)
+    rw (p.1, p.2) (ends model_fault g.T.Spelled.spelled view c.in_err-of.field-0.0 c.loop-value.found.items c.args.values.now c.loop-value.value-index c.value-item.result total c.loop-value-test.true c.value-item.is c.in_err-of.ensures.tree c.loop-value.invariant.read)
 
 pub loop-value-preserved : goal.loop-value-preserved
 loop-value-preserved g c =

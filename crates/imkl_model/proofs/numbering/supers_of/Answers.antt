@@ -1,8 +1,8 @@
 use Rattle.std.proofs.lemmas.Result.{err_from_is_err_and}
-use Rattle.imkl_model.specs.Steps.{each}
+use Rattle.ocl_base.specs.Steps.{each}
 use Rattle.imkl_model.specs.Numbering.{number_in}
-use Rattle.imkl_model.proofs.Lists.{goes_on_plain, is_done_plain}
-use Rattle.imkl_model.proofs.Faults.{ends_plain}
+use Rattle.ocl_base.proofs.ForAbove.{goes_on_plain, is_done_plain, ends_plain}
+use Rattle.imkl_model.specs.Faults.{model_fault}
 use Rattle.imkl_model.proofs.numbering.supers_of.Goals as goal
 
 pub returns-in_err-class_in : goal.returns-in_err-class_in
@@ -10,7 +10,7 @@ returns-in_err-class_in c =
     let p = err_from_is_err_and c.from_residual.result c.from_residual.ensures.1 in
     let f = (number_in c.args.scope.now.classes) in
     let xs = c.args.supers.now in
-    rw (p.1, p.2) (ends_plain f c.in_err-class_in.field-0.0 c.loop-name.found.items xs c.loop-name.name-index c.name-item.result (each f xs) c.loop-name-test.true c.name-item.is c.in_err-class_in.ensures c.loop-name.invariant)
+    rw (p.1, p.2) (ends_plain model_fault f c.in_err-class_in.field-0.0 c.loop-name.found.items xs c.loop-name.name-index c.name-item.result (each f xs) c.loop-name-test.true c.name-item.is c.in_err-class_in.ensures c.loop-name.invariant)
 
 pub loop-name-preserved : goal.loop-name-preserved
 loop-name-preserved c =

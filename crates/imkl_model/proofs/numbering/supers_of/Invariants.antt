@@ -1,7 +1,7 @@
 use Rattle.std.proofs.Common.{◌≡◌, drop}
-use Rattle.imkl_model.specs.Steps.{each}
+use Rattle.ocl_base.specs.Steps.{each}
 use Rattle.imkl_model.specs.Numbering.{number_in}
-use Rattle.imkl_model.proofs.Lists.{with_front}
+use Rattle.ocl_base.proofs.ForAbove.{with_front}
 use Rattle.imkl_model.proofs.numbering.supers_of.Given as goal
 
 abbrev pub invariant-loop-name : goal.invariant-loop-name

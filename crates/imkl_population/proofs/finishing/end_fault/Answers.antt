@@ -21,8 +21,8 @@ returns-then-is_opposite c =
     sym (c.belongs.ensures ∙ ap (λ (m : Model). belongs m c.class_of.result f) c.model-model.ensures ∙ ap (λ (k : ℕ). belongs p.model k f) c.class_of.ensures.class) ∙ c.if-belongs.true in
     let is_end : is_opposite (feature_at p.model f).role ≡ true = sym (c.is_opposite.ensures ∙ ap (λ (i : FeatureInfo). is_opposite i.role) info_is) ∙ c.if-is_opposite.true in
     let inside : o < length ends = subst (λ (n : ℕ). o < n) (sym c.requires.ends.count) c.requires.object in
-    let stands : c.index-ends-place.result ≡ get_or ends o [] = c.index-ends-place.is ∙ ap (λ (k : ℕ). get_or ends k c.index-ends-place.result) c.place.ensures ∙ get_or_default ends o c.index-ends-place.result [] inside in
+    let stands : c.index-ends-index.result ≡ get_or ends o [] = c.index-ends-index.is ∙ ap (λ (k : ℕ). get_or ends k c.index-ends-index.result) c.index.ensures ∙ get_or_default ends o c.index-ends-index.result [] inside in
     let holders : c.get-holders.result.now ≡ written_in (get_or ends o []) f =
-    c.get-holders.ensures ∙ ap (λ (w : List (ℕ × List Scalar)). written_in w c.place-then-is_opposite.result) stands ∙ ap (written_in (get_or ends o [])) c.place-then-is_opposite.ensures in
+    c.get-holders.ensures ∙ ap (λ (w : List (ℕ × List Scalar)). written_in w c.index-then-is_opposite.result) stands ∙ ap (written_in (get_or ends o [])) c.index-then-is_opposite.ensures in
     c.bounds_fault.ensures ∙ ap (λ (i : FeatureInfo). bounds_fault i o f (length c.get-holders.result.now)) info_is
     ∙ end_fault-counted p ends c.requires.ends o f (length c.get-holders.result.now) c.requires.object belongs_so is_end (ap length holders)

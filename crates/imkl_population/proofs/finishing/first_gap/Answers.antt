@@ -1,5 +1,5 @@
 use Rattle.std.proofs.Common.{◌∙◌, ℕ, sym, ap, arith, length}
-use Rattle.imkl_population.specs.Numbers.{first_of}
+use Rattle.imkl_population.specs.Numbers.{first_below}
 use Rattle.imkl_population.specs.Finishing.{gap}
 use Rattle.imkl_population.proofs.Firsts.{first_found}
 use Rattle.imkl_population.proofs.finishing.first_gap.Goals as goal
@@ -7,5 +7,5 @@ use Rattle.imkl_population.proofs.finishing.first_gap.Goals as goal
 pub returns-then-is_some : goal.returns-then-is_some
 returns-then-is_some c =
     let p = c.args.builder.now in
-    let g = λ (o : ℕ). first_of (gap p o) (length p.model.features) in
-    first_found g (length p.objects) c.objects.object c.in_ok-found.found (omega arith) c.objects.invariant.none (c.in_ok-found.ensures.first ∙ ap g c.new.ensures) (sym c.if-is_some.ensures)
+    let g = λ (o : ℕ). first_below (gap p o) (length p.model.features) in
+    first_found g (length p.objects) c.loop-object.object c.in_ok-found.found (omega arith) c.loop-object.invariant.none (c.in_ok-found.ensures.first ∙ ap g c.new.ensures) (sym c.if-is_some.ensures)

@@ -5,6 +5,6 @@ use Rattle.imkl_population.proofs.instances.add_object.Goals as goal
 
 pub returns-clause-added : goal.returns-clause-added
 returns-clause-added c = λ k lt.
-    rw c.place.ensures
-    (list_more c.args.lists.now c.args.class k c.index-lists-place.result c.push.new.self c.args.object c.requires (rw c.place.ensures at c.index-lists-place.is)
-    (c.in_ok-push.ensures.items ∙ ap (λ (v : Vec ℕ Global). v.items ++ c.args.object ∷ []) (sym c.index-lists-place.is)))
+    rw c.index.ensures
+    (list_more c.args.lists.now c.args.class k c.index-lists-index.result c.push.new.self c.args.object c.requires (rw c.index.ensures at c.index-lists-index.is)
+    (c.in_ok-push.ensures.items ∙ ap (λ (v : Vec ℕ Global). v.items ++ c.args.object ∷ []) (sym c.index-lists-index.is)))

@@ -4,11 +4,11 @@ use Rattle.imkl_population.specs.Population.{instances}
 use Rattle.imkl_population.proofs.Ranges.{class_more}
 use Rattle.imkl_population.proofs.instances.instances.Goals as goal
 
-pub classes-preserved : goal.classes-preserved
-classes-preserved c =
+pub loop-class-preserved : goal.loop-class-preserved
+loop-class-preserved c =
     let p = c.args.builder.now in
     record {
-      so_long = omega (arith, c.classes.invariant.so_long, ap length c.in_ok-push.ensures.items, length-append {A = Segment});
-      parts = class_more p c.classes.list.items (instances p c.new.result) c.add_instances.new.list.items c.classes.ranges.items c.push.new.self.items c.classes.class c.len-start.result c.len-end.result
-          c.classes.invariant.so_long c.classes.invariant.parts (ap (instances p) c.new.ensures) c.in_ok-add_instances.ensures (omega (arith, c.len-start.ensures)) (omega (arith, c.len-end.ensures)) c.in_ok-push.ensures.items;
+      so_long = omega (arith, c.loop-class.invariant.so_long, ap length c.in_ok-push.ensures.items, length-append {A = Segment});
+      parts = class_more p c.loop-class.list.items (instances p c.new.result) c.add_instances.new.list.items c.loop-class.ranges.items c.push.new.self.items c.loop-class.class c.len-start.result c.len-end.result
+          c.loop-class.invariant.so_long c.loop-class.invariant.parts (ap (instances p) c.new.ensures) c.in_ok-add_instances.ensures (omega (arith, c.len-start.ensures)) (omega (arith, c.len-end.ensures)) c.in_ok-push.ensures.items;
     }

@@ -2,8 +2,8 @@ use Rattle.std.proofs.Common.{◌≡◌, length}
 use Rattle.imkl_population.specs.Layout.{AreInstances}
 use Rattle.imkl_population.proofs.instances.instances.Given as goal
 
-abbrev pub invariant-classes : goal.invariant-classes
-invariant-classes l = record {
+abbrev pub invariant-loop-class : goal.invariant-loop-class
+invariant-loop-class l = record {
   so_long : length l.ranges.items ≡ l.class;
   parts : AreInstances l.builder l.list.items l.ranges.items l.class;
 }

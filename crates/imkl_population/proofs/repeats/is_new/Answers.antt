@@ -22,4 +22,4 @@ returns-in_ok-insert-in-Text-clause-more c =
 
 pub returns-in_ok-insert-in-Literal-clause-more : goal.returns-in_ok-insert-in-Literal-clause-more
 returns-in_ok-insert-in-Literal-clause-more c =
-    rw c.in-Literal.is (literal_more c.args.seen.now (record c.args.seen.now { literals = c.insert-in-Literal.new.self }) _ _ _ _ c.place.ensures c.place-in-Literal.ensures c.in_ok-insert-in-Literal.ensures.updates.0)
+    rw c.in-Literal.is (literal_more c.args.seen.now (record c.args.seen.now { literals = c.insert-in-Literal.new.self }) _ _ _ _ c.index.ensures c.index-in-Literal.ensures c.in_ok-insert-in-Literal.ensures.updates.0)

@@ -3,8 +3,8 @@ use Rattle.std.specs.List.{flat_map}
 use Rattle.ocl_check.specs.Report.{object_line, verdict_on, tally_of}
 use Rattle.ocl_check.proofs.report.put_rule.Given as goal
 
-abbrev pub invariant-objects : goal.invariant-objects
-invariant-objects l = record {
-  text : string_bytes l.out ≡ string_bytes l.initial.out ++ flat_map (object_line l.accepted.unit l.population l.rule) (take l.object-index l.objects);
-  tally : l.tally ≡ tally_of (map (verdict_on l.accepted.unit l.population l.rule) (take l.object-index l.objects));
+abbrev pub invariant-loop-object : goal.invariant-loop-object
+invariant-loop-object l = record {
+  text : string_bytes l.out ≡ string_bytes l.initial.out ++ flat_map (object_line l.accepted.unit l.population.content l.rule) (take l.object-index l.objects);
+  tally : l.tally ≡ tally_of (map (verdict_on l.accepted.unit l.population.content l.rule) (take l.object-index l.objects));
 }

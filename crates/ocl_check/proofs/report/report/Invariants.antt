@@ -2,9 +2,9 @@ use Rattle.std.proofs.Common.{◌≡◌, string_bytes}
 use Rattle.ocl_check.specs.Report.{reports_below, fails_below, undecided_below}
 use Rattle.ocl_check.proofs.report.report.Given as goal
 
-abbrev pub invariant-rules : goal.invariant-rules
-invariant-rules l = record {
-  text : string_bytes l.text ≡ reports_below l.accepted.unit l.population l.rule;
-  fails : l.fails ≡ fails_below l.accepted.unit l.population l.rule;
-  undecided : l.undecided ≡ undecided_below l.accepted.unit l.population l.rule;
+abbrev pub invariant-loop-rule : goal.invariant-loop-rule
+invariant-loop-rule l = record {
+  text : string_bytes l.text ≡ reports_below l.accepted.unit l.population.content l.rule;
+  fails : l.fails ≡ fails_below l.accepted.unit l.population.content l.rule;
+  undecided : l.undecided ≡ undecided_below l.accepted.unit l.population.content l.rule;
 }

@@ -6,15 +6,15 @@ use Rattle.std.proofs.KnownBytes.{Appends-trans}
 use Rattle.ocl_check.proofs.Writes.{takes_some}
 use Rattle.ocl_check.proofs.sink.write_whole.Goals as goal
 
-pub pieces-preserved : goal.pieces-preserved
-pieces-preserved g c =
-    let at = c.pieces.at in
+pub loop-at-preserved : goal.loop-at-preserved
+loop-at-preserved g c =
+    let at = c.loop-at.at in
     let bs : List ℕ = c.args.bytes.now in
     let more = c.in-Ok.ensures in
     let rest : take (length bs - at) (drop at bs) ≡ drop at bs = take_rest bs at in
     let parts : take at bs ++ take c.in-Ok.n (take (length bs - at) (drop at bs)) ≡ take (at + c.in-Ok.n) bs = rw rest (sym (take-add at c.in-Ok.n bs)) in
     record {
       within = omega (arith, more.bound, ap length rest, length-drop at bs);
-      written = subst (λ (xs : List ℕ). Appends (g.S.Sink.contents c.args.sink.now) (g.S.Sink.contents c.write.new.self) xs) parts (Appends-trans _ (g.S.Sink.contents c.pieces.sink) _ (take at bs) _ c.pieces.invariant.written more.bytes);
-      well = more.failed ∙ rw (c.pieces.invariant.well, takes_some (take (length bs - at) (drop at bs)) c.in-Ok.n c.in-Ok.n-test.1) refl;
+      written = subst (λ (xs : List ℕ). Appends (g.S.Sink.contents c.args.sink.now) (g.S.Sink.contents c.write.new.self) xs) parts (Appends-trans _ (g.S.Sink.contents c.loop-at.sink) _ (take at bs) _ c.loop-at.invariant.written more.bytes);
+      well = more.failed ∙ rw (c.loop-at.invariant.well, takes_some (take (length bs - at) (drop at bs)) c.in-Ok.n c.in-Ok.n-test.1) refl;
     }

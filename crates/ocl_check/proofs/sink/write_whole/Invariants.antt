@@ -2,12 +2,12 @@ use Rattle.std.proofs.Common.{length, ◌-◌, ◌≡◌, ◌≤◌, false, take
 use Rattle.std.specs.Io.KnownBytes.{Appends}
 use Rattle.ocl_check.proofs.sink.write_whole.Given as goal
 
-abbrev pub invariant-pieces : goal.invariant-pieces
-invariant-pieces g l = record {
+abbrev pub invariant-loop-at : goal.invariant-loop-at
+invariant-loop-at g l = record {
   within : l.at ≤ length l.bytes;
   written : Appends (g.S.Sink.contents l.initial.sink) (g.S.Sink.contents l.sink) (take l.at l.bytes);
   well : g.S.Sink.has_failed l.sink ≡ false;
 }
 
-abbrev pub decreases-pieces : goal.decreases-pieces
-decreases-pieces g l = length l.bytes - l.at
+abbrev pub decreases-loop-at : goal.decreases-loop-at
+decreases-loop-at g l = length l.bytes - l.at

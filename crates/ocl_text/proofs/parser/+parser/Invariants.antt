@@ -1,6 +1,6 @@
 use Rattle.std.proofs.Common.{◌≡◌, ◌-◌, ◌+◌, ◌*◌, length, map, []}
-use Rattle.ocl_text.specs.Tree.{view, bound_of}
-use Rattle.ocl_text.specs.Gives.{from}
+use Rattle.ocl_text.specs.View.{view, bound_of}
+use Rattle.ocl_text.specs.Parses.{from, operand, whole}
 use Rattle.ocl_text.specs.Parse as spec
 use Rattle.ocl_text.proofs.parser.+parser.Given as goal
 
@@ -40,8 +40,8 @@ decreases-step l = 40 * l.depth + 25
 abbrev pub decreases-steps : goal.decreases-steps
 decreases-steps l = 40 * l.depth + 26
 
-abbrev pub decreases-conditional : goal.decreases-conditional
-decreases-conditional l = 40 * l.depth + 21
+abbrev pub decreases-if_expression : goal.decreases-if_expression
+decreases-if_expression l = 40 * l.depth + 21
 
 abbrev pub decreases-prim : goal.decreases-prim
 decreases-prim l = 40 * l.depth + 22
@@ -55,31 +55,31 @@ decreases-a_bind l = 40 * l.depth + 21
 abbrev pub decreases-bindings : goal.decreases-bindings
 decreases-bindings l = 40 * l.depth + 22
 
-abbrev pub decreases-let_in : goal.decreases-let_in
-decreases-let_in l = 40 * l.depth + 23
+abbrev pub decreases-let_expression : goal.decreases-let_expression
+decreases-let_expression l = 40 * l.depth + 23
 
 abbrev pub invariant-chain-chain : goal.invariant-chain-chain
 invariant-chain-chain l =
-    spec.chain (spec.level_of l.most l.depth l.height) l.height l.most (view l.fn.first) (from l.tokens l.start)
-    ≡ spec.chain (spec.level_of l.most l.depth l.height) l.height l.links (view l.left) (from l.tokens l.at)
+    spec.chain (spec.level_of l.parser.chain l.depth l.height) l.height l.parser.chain (view l.fn.first) (from l.parser l.start)
+    ≡ spec.chain (spec.level_of l.parser.chain l.depth l.height) l.height l.links (view l.left) (from l.parser l.index)
 
 abbrev pub decreases-chain-chain : goal.decreases-chain-chain
 decreases-chain-chain l = l.links
 
 abbrev pub invariant-steps-steps : goal.invariant-steps-steps
 invariant-steps-steps l =
-    spec.steps l.depth (spec.level_of l.most l.depth 8) (spec.expr l.most l.depth) l.most (view l.fn.first) (from l.tokens l.start)
-    ≡ spec.steps l.depth (spec.level_of l.most l.depth 8) (spec.expr l.most l.depth) l.left (view l.source) (from l.tokens l.at)
+    spec.step_list l.depth (operand l.parser l.depth) (whole l.parser l.depth) l.parser.chain (view l.fn.first) (from l.parser l.start)
+    ≡ spec.step_list l.depth (operand l.parser l.depth) (whole l.parser l.depth) l.left (view l.source) (from l.parser l.index)
 
 abbrev pub decreases-steps-steps : goal.decreases-steps-steps
 decreases-steps-steps l = l.left
 
 abbrev pub invariant-items-items : goal.invariant-items-items
 invariant-items-items l =
-    spec.items (spec.level_of l.most l.depth 8) (length (from l.tokens l.start)) [] (from l.tokens l.start)
-    ≡ spec.items (spec.level_of l.most l.depth 8) (length (from l.tokens l.start) - l._turn) (map view l.all.items) (from l.tokens l.at)
+    spec.items (operand l.parser l.depth) (length (from l.parser l.start)) [] (from l.parser l.start)
+    ≡ spec.items (operand l.parser l.depth) (length (from l.parser l.start) - l._turn) (map view l.all.items) (from l.parser l.index)
 
 abbrev pub invariant-bindings-bindings : goal.invariant-bindings-bindings
 invariant-bindings-bindings l =
-    spec.items (spec.a_bind l.depth (spec.level_of l.most l.depth 8)) (length (from l.tokens l.start)) [] (from l.tokens l.start)
-    ≡ spec.items (spec.a_bind l.depth (spec.level_of l.most l.depth 8)) (length (from l.tokens l.start) - l._turn) (map bound_of l.all.items) (from l.tokens l.at)
+    spec.items (spec.a_bind l.depth (operand l.parser l.depth)) (length (from l.parser l.start)) [] (from l.parser l.start)
+    ≡ spec.items (spec.a_bind l.depth (operand l.parser l.depth)) (length (from l.parser l.start) - l._turn) (map bound_of l.all.items) (from l.parser l.index)

@@ -12,7 +12,7 @@ returns-in-Ok-clause-found c = (whole_takes c.args.bytes.now (content_of c.in-Ok
 pub returns-in-Ok-clause-only : goal.returns-in-Ok-clause-only
 returns-in-Ok-clause-only c = λ u fits e. read_is c.args.bytes.now u (content_of c.in-Ok.texts.items c.in-Ok.symbols.items c.in-Ok.rules.items) fits e c.in-Ok.ensures
 
-pub returns-in-Err-Fault-clause-only : goal.returns-in-Err-Fault-clause-only
-returns-in-Err-Fault-clause-only c = λ u fits e.
-    let refused = rw c.in-Err-Fault.field-0-is at c.in-Err-Fault.ensures in
-    absurd (never_refused c.args.bytes.now u (record { flaw = c.in-Err-Fault.flaw; left = c.in-Err-Fault.left }) fits e refused)
+pub returns-in-Err-At-clause-only : goal.returns-in-Err-At-clause-only
+returns-in-Err-At-clause-only c = λ u fits e.
+    let refused = rw c.in-Err-At.field-0-is at c.in-Err-At.ensures in
+    absurd (never_refused c.args.bytes.now u (record { flaw = c.in-Err-At.flaw; left = c.in-Err-At.left }) fits e refused)

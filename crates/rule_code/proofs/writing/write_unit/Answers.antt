@@ -1,4 +1,4 @@
-use Rattle.rule_code.proofs.Held.{text_small, rule_small, texts_few, symbols_few, rules_few}
+use Rattle.rule_code.proofs.ForAbove.{text_small, rule_small, texts_few, symbols_few, rules_few}
 use Rattle.rule_code.proofs.writing.write_unit.Goals as goal
 
 pub put_texts-requires-clause-few : goal.put_texts-requires-clause-few

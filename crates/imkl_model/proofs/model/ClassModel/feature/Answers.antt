@@ -2,7 +2,7 @@ use Rattle.std.proofs.Common.{◌≡◌, ◌∙◌, Some, length, sym, subst}
 use Rattle.imkl_model.specs.ClassModel.{Model, is_named, feature_number}
 use Rattle.imkl_model.specs.contracts.model.ClassModel.{the_view}
 use Rattle.imkl_model.specs.Held.{no_group}
-use Rattle.imkl_model.proofs.Places.{places_below}
+use Rattle.ocl_base.proofs.ForAbove.{places_below}
 use Rattle.imkl_model.proofs.Lookup.{first_is, own_is, found_in_range, found_belongs, found_named}
 use Rattle.imkl_model.proofs.model.ClassModel.feature.Goals as goal
 

@@ -1,5 +1,5 @@
 use Rattle.std.proofs.Common.{◌≡◌, ℕ, ◌∙◌, ◌+◌, ◌/◌, ◌<◌, Bool, List, length, ap, sym, subst}
-use Rattle.imkl_model.specs.Tables.{has, is_marked, marks}
+use Rattle.imkl_model.specs.Tables.{has_mark, is_marked, marks}
 use Rattle.imkl_model.proofs.Marks.{length-marks, row_length, row_joined, row_past, row_has}
 use Rattle.imkl_model.proofs.row.Row.merge.Goals as goal
 
@@ -21,5 +21,5 @@ returns-clause-marks c =
     let n = c.self.inside.count in
     let same = same_count ws vs n c.other.inside.count c.args.self.now c.args.other.now c.self.view_is c.other.view_is c.requires in
     let other : marks vs n ≡ c.args.other.now = ap (marks vs) same ∙ c.other.view_is in
-    let here : (j : ℕ) → j < n → is_marked vs j ≡ has c.args.other.now j = λ j lt. row_has vs n j c.args.other.now other (subst (λ (k : ℕ). j < k) (sym (row_length vs n c.args.other.now other)) lt) in
-    row_joined ws c.merge.new.words.items n (has c.args.other.now) c.args.self.now c.self.view_is (λ j lt. rw (← here j lt) (c.merge.ensures.marks j)) (λ j le. row_past vs n j c.args.other.now other le)
+    let here : (j : ℕ) → j < n → is_marked vs j ≡ has_mark c.args.other.now j = λ j lt. row_has vs n j c.args.other.now other (subst (λ (k : ℕ). j < k) (sym (row_length vs n c.args.other.now other)) lt) in
+    row_joined ws c.merge.new.words.items n (has_mark c.args.other.now) c.args.self.now c.self.view_is (λ j lt. rw (← here j lt) (c.merge.ensures.marks j)) (λ j le. row_past vs n j c.args.other.now other le)

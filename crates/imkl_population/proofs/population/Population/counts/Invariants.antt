@@ -1,6 +1,6 @@
 use Rattle.std.proofs.Common.{◌≡◌}
-use Rattle.imkl_population.specs.Sizes.{listed, count_of}
+use Rattle.imkl_population.specs.Sizes.{list_below, count_of}
 use Rattle.imkl_population.proofs.population.Population.counts.Given as goal
 
-abbrev pub invariant-classes : goal.invariant-classes
-invariant-classes l = l.counts.items ≡ listed (count_of l.self) l.class
+abbrev pub invariant-loop-class : goal.invariant-loop-class
+invariant-loop-class l = l.counts.items ≡ list_below (count_of l.self.content) l.class

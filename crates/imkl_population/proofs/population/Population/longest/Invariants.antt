@@ -1,6 +1,6 @@
 use Rattle.std.proofs.Common.{◌≡◌}
-use Rattle.imkl_population.specs.Sizes.{listed, longest_of}
+use Rattle.imkl_population.specs.Sizes.{list_below, longest_of}
 use Rattle.imkl_population.proofs.population.Population.longest.Given as goal
 
-abbrev pub invariant-features : goal.invariant-features
-invariant-features l = l.longest.items ≡ listed (longest_of l.self) l.feature
+abbrev pub invariant-loop-feature : goal.invariant-loop-feature
+invariant-loop-feature l = l.longest.items ≡ list_below (longest_of l.self.content) l.feature

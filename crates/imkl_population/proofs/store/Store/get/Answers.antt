@@ -6,9 +6,9 @@ use Rattle.std.specs.Ordering.{nat_cmp}
 use Rattle.imkl_population.specs.declared.scalar.Scalar.{Scalar}
 use Rattle.imkl_population.specs.declared.store.Entry.{Entry}
 use Rattle.imkl_population.specs.declared.store.Segment.{Segment}
-use Rattle.imkl_population.specs.Store.{shown, entry_of, features_of}
+use Rattle.imkl_population.specs.Store.{shown, entry_of, features_of, maps_of}
 use Rattle.imkl_population.specs.Written.{written_in}
-use Rattle.imkl_population.proofs.Stored.{features-ascend, find-lookup, find-within, range-within, shown-at, value_of}
+use Rattle.imkl_population.proofs.Stored.{features-ascend, find-lookup, find-within, range-within, shown-at, shown-is, value_of}
 use Rattle.imkl_population.proofs.store.Store.get.Goals as goal
 
 -- what the search among a segment's entries comes to, in the map at the place
@@ -25,7 +25,7 @@ pub find_entry-requires : goal.find_entry-requires
 find_entry-requires c =
     let i = c.self.inside in
     let g = c.index-segment.result.now in
-    let inside : c.args.place < length i.segments.items = omega (arith, c.requires, ap length c.self.view_is, length-map i.segments.items (shown i.scalars.items i.entries.items)) in
+    let inside : c.args.place < length i.segments.items = omega (arith, c.requires, ap length (shown-is i.scalars.items i.entries.items i.segments.items c.args.self.now c.self.view_is), length-map i.segments.items (shown i.scalars.items i.entries.items)) in
     let part_is = c.entries_of.ensures ∙ ap (λ (l : List Entry). slice_range l g.start g.end) c.deref.ensures.value in
     subst (λ (l : List Entry). IsStrictlySortedBy nat_cmp (features_of l)) (sym part_is) (features-ascend i.scalars.items i.entries.items i.segments.items c.args.place g inside c.index-segment.ensures c.self.invariant.maps)
 
@@ -42,14 +42,14 @@ values_of-requires c =
 pub returns-in-Some : goal.returns-in-Some
 returns-in-Some c =
     let i = c.self.inside in
-    let inside : c.args.place < length i.segments.items = omega (arith, c.requires, ap length c.self.view_is, length-map i.segments.items (shown i.scalars.items i.entries.items)) in
+    let inside : c.args.place < length i.segments.items = omega (arith, c.requires, ap length (shown-is i.scalars.items i.entries.items i.segments.items c.args.self.now c.self.view_is), length-map i.segments.items (shown i.scalars.items i.entries.items)) in
     c.values_of.ensures ∙ ap (λ (l : List Scalar). slice_range l c.in-Some.entry.start c.in-Some.entry.end) c.deref-in-Some.ensures.value
-    ∙ looked_up i.scalars.items i.entries.items c.entries_of.result.now c.deref.result.now i.segments.items c.args.place c.args.feature c.index-segment.result.now (Some c.in-Some.entry) c.args.self.now
-    inside c.index-segment.ensures c.self.view_is c.deref.ensures.value c.entries_of.ensures c.in-Some.ensures
+    ∙ looked_up i.scalars.items i.entries.items c.entries_of.result.now c.deref.result.now i.segments.items c.args.place c.args.feature c.index-segment.result.now (Some c.in-Some.entry) (maps_of c.args.self.now)
+    inside c.index-segment.ensures (shown-is i.scalars.items i.entries.items i.segments.items c.args.self.now c.self.view_is) c.deref.ensures.value c.entries_of.ensures c.in-Some.ensures
 
 pub returns-in-None : goal.returns-in-None
 returns-in-None c =
     let i = c.self.inside in
-    let inside : c.args.place < length i.segments.items = omega (arith, c.requires, ap length c.self.view_is, length-map i.segments.items (shown i.scalars.items i.entries.items)) in
-    looked_up i.scalars.items i.entries.items c.entries_of.result.now c.deref.result.now i.segments.items c.args.place c.args.feature c.index-segment.result.now None c.args.self.now
-    inside c.index-segment.ensures c.self.view_is c.deref.ensures.value c.entries_of.ensures c.in-None.ensures
+    let inside : c.args.place < length i.segments.items = omega (arith, c.requires, ap length (shown-is i.scalars.items i.entries.items i.segments.items c.args.self.now c.self.view_is), length-map i.segments.items (shown i.scalars.items i.entries.items)) in
+    looked_up i.scalars.items i.entries.items c.entries_of.result.now c.deref.result.now i.segments.items c.args.place c.args.feature c.index-segment.result.now None (maps_of c.args.self.now)
+    inside c.index-segment.ensures (shown-is i.scalars.items i.entries.items i.segments.items c.args.self.now c.self.view_is) c.deref.ensures.value c.entries_of.ensures c.in-None.ensures

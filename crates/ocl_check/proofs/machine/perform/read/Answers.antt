@@ -7,12 +7,12 @@ use Rattle.ocl_check.proofs.machine.perform.read.Goals as goal
 
 pub values-requires-clause-belongs : goal.values-requires-clause-belongs
 values-requires-clause-belongs c =
-    let P : Value → Type 0 = λ v. IsHolder c.args.population.now c.args.feature (meant v) in
-    (holder_there c.args.population.now c.args.feature c.in-Object.object (subst P c.in-Object.is c.requires.holder)).1
+    let P : Value → Type 0 = λ v. IsHolder c.args.population.now.content c.args.feature (meant v) in
+    (holder_there c.args.population.now.content c.args.feature c.in-Object.object (subst P c.in-Object.is c.requires.holder)).1
 
 pub returns-in-Object : goal.returns-in-Object
 returns-in-Object c =
-    let p = c.args.population.now in
+    let p = c.args.population.now.content in
     let P : Value → Type 0 = λ v. IsHolder p c.args.feature (meant v) in
     let there = holder_there p c.args.feature c.in-Object.object (subst P c.in-Object.is c.requires.holder) in
     let Q : Value → Type 0 = λ v. read_from p c.args.feature (meant v) ≡ Some (meant c.single.result) in

@@ -1,7 +1,7 @@
 use Rattle.std.specs.Prelude.{map, string_bytes}
-use Rattle.rule_code.specs.Parts.{text_at}
+use Rattle.rule_code.specs.Parts.{text_from}
 use Rattle.rule_code.proofs.Loop.{HasRead}
 use Rattle.rule_code.proofs.reading.texts.many_texts.Given as goal
 
 abbrev pub invariant-loop : goal.invariant-loop
-invariant-loop l = HasRead (λ before. text_at) l.count l.bytes l.counter (map string_bytes l.texts.items) l.rest
+invariant-loop l = HasRead (λ before. text_from) l.count l.bytes l.counter (map string_bytes l.texts.items) l.rest

@@ -1,5 +1,5 @@
 use Rattle.rule_code.specs.View.{content}
-use Rattle.rule_code.proofs.Held.{symbol_at_number, symbol_fits}
+use Rattle.rule_code.proofs.ForAbove.{symbol_at_number, symbol_fits}
 use Rattle.rule_code.proofs.unit.Unit.symbol.Goals as goal
 
 pub returns-clause-names : goal.returns-clause-names

@@ -1,7 +1,7 @@
 use Rattle.std.proofs.Common.{◌≡◌, ◌<◌, Some, sym, subst, length, ◌∙◌}
 use Rattle.rule_code.specs.Content.{rule_content}
 use Rattle.rule_code.specs.View.{content}
-use Rattle.ocl_check.specs.Linked.{LinkedUnit}
+use Rattle.rule_verify.specs.Linked.{LinkedUnit}
 use Rattle.ocl_check.specs.Kinds.{context_of, rule_at}
 use Rattle.ocl_check.proofs.Walks.{context_is, has_context}
 use Rattle.ocl_check.proofs.verify.accepted.Accepted.context.Goals as goal

@@ -1,0 +1,38 @@
+-- What is known of a class model as it is written: names are names, and bounds are within the limit.
+use Rattle.std.specs.Prelude.{◌≡◌, ℕ, ◌≤◌, List, true, All, Option, IfSome}
+use Rattle.imkl_model.specs.Limits.{bound_limit}
+use Rattle.imkl_model.specs.Words.{is_title}
+use Rattle.imkl_model.specs.WellFormed.{IsModelName}
+use Rattle.imkl_model.specs.declared.written.WrittenAttribute.{WrittenAttribute}
+use Rattle.imkl_model.specs.declared.written.WrittenClass.{WrittenClass}
+use Rattle.imkl_model.specs.declared.written.WrittenEnumeration.{WrittenEnumeration}
+use Rattle.imkl_model.specs.declared.written.WrittenEnd.{WrittenEnd}
+use Rattle.imkl_model.specs.declared.written.WrittenAssociation.{WrittenAssociation}
+use Rattle.imkl_model.specs.declared.written.Written.{Written}
+
+abbrev pub IsSmallUpper : Option ℕ → Type 0
+IsSmallUpper upper = IfSome upper (λ u. u ≤ bound_limit)
+
+-- a feature's name and bounds
+abbrev pub IsSpelledFeature : List ℕ → ℕ → Option ℕ → Type 0
+IsSpelledFeature name lower upper = IsModelName name × (lower ≤ bound_limit) × IsSmallUpper upper
+
+abbrev pub IsSpelledAttribute : WrittenAttribute → Type 0
+IsSpelledAttribute a = IsSpelledFeature a.name a.lower a.upper
+
+abbrev pub IsSpelledClass : WrittenClass → Type 0
+IsSpelledClass c = IsModelName c.name × All IsSpelledAttribute c.attributes
+
+abbrev pub IsSpelledEnumeration : WrittenEnumeration → Type 0
+IsSpelledEnumeration e = IsModelName e.name × All IsModelName e.literals
+
+abbrev pub IsSpelledEnd : WrittenEnd → Type 0
+IsSpelledEnd e = IsSpelledFeature e.name e.lower e.upper
+
+abbrev pub IsSpelledAssociation : WrittenAssociation → Type 0
+IsSpelledAssociation a = IsModelName a.name × IsSpelledEnd a.end × IsSpelledEnd a.opposite
+
+abbrev pub IsSpelled : Written → Type 0
+IsSpelled w =
+    (is_title w.name ≡ true) × All IsSpelledEnumeration w.enumerations × All IsSpelledClass w.classes
+    × All IsSpelledAssociation w.associations

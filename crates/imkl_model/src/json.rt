@@ -1,0 +1,65 @@
+//! JSON trees, for readers with faults of their own: the tree of some bytes, records and lists.
+
+ghost use Rattle.std.specs.Prelude.{◌≡◌, map, option_map, IfOk, IfErr};
+ghost use Rattle.serde_json.specs.View.{view, members_view};
+ghost use Rattle.imkl_model.specs.Json.{IsTree, IsJsonFault, list_from, record_from, member_count};
+
+use serde_json::{Map, Value};
+use std::alloc::Global;
+use thiserror::Error;
+
+/// Why bytes have no JSON tree.
+#[derive(Clone, Copy, PartialEq, Eq, Debug, Error)]
+pub enum JsonFault {
+    /// The bytes are no JSON text.
+    #[error("not JSON")]
+    NotJson,
+    /// Memory ran out.
+    #[error("out of memory")]
+    OutOfMemory,
+}
+
+/// The JSON tree of some bytes.
+pub fn tree(alloc: Global, bytes: &[u8]) -> Result<Value, JsonFault>
+    ensures tree { IfOk result (λ v. IsTree bytes.now (view v)) }
+    ensures fault { IfErr result (λ e. IsJsonFault e bytes.now) }
+{
+    match Value::from_slice(alloc, bytes) {
+        Ok(value) => Ok(value),
+        Err(e) if e.is_memory() => Err(JsonFault::OutOfMemory),
+        Err(_) => Err(JsonFault::NotJson),
+    }
+}
+
+/// The members of an object that has so many.
+#[tactic(auto, using(crate::proofs::Trees::trees), unfolding(crate::specs::Json::record_from))]
+pub fn record_of(value: &Value, members: usize) -> Option<&Map<String, Value>>
+    ensures { option_map (λ ms. members_view ms.now.entries) result
+        ≡ record_from members (view value.now) }
+{
+    match value.as_object() {
+        Some(map) if map.len() == members => Some(map),
+        _ => None,
+    }
+}
+
+/// The values of a list.
+#[tactic(auto, using(crate::proofs::Trees::trees), unfolding(crate::specs::Json::list_from))]
+pub fn list_of(value: &Value) -> Option<&[Value]>
+    ensures { option_map (λ vs. map view vs.now) result ≡ list_from (view value.now) }
+{
+    match value.as_array() {
+        Some(values) => Some(values.as_slice()),
+        None => None,
+    }
+}
+
+/// How many members of this name an object has, one or none: an object with an optional member has as many more.
+pub fn member_count(value: &Value, name: &str) -> usize
+    ensures { result ≡ member_count name.now (view value.now) }
+{
+    match value.get(name) {
+        Some(_) => 1,
+        None => 0,
+    }
+}

@@ -1,0 +1,18 @@
+//! The commands of `ocl_check`, each over its inputs and a sink.
+#![tactic(auto)]
+
+mod commands;
+mod input;
+pub mod laws;
+mod machine;
+mod outcome;
+mod reply;
+mod report;
+mod sink;
+mod stack;
+mod verify;
+
+pub use commands::judge::run_judge;
+pub use input::{InputFault, read_input};
+pub use outcome::{Cause, Outcome};
+pub use sink::{Sink, Telling};

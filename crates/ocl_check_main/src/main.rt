@@ -1,0 +1,62 @@
+//! The program `ocl_check`: its command line, its files, its standard streams and its status.
+#![tactic(auto)]
+
+mod command_line;
+mod opening;
+
+use clap::error::{Error, ErrorKind};
+use command_line::{JudgeFiles, judge_files};
+use ocl_check::{Cause, Outcome, Telling, run_judge};
+use opening::Opening;
+use std::process::ExitCode;
+use std::{env, io};
+
+/// The exit status of an outcome; a failure is reported on standard error.
+fn ended(rt: &impl Eprint, outcome: Outcome) -> ExitCode {
+    if let Outcome::Failed(cause) = outcome {
+        let _ = rt.eprintln(cause.line());
+    }
+    ExitCode::from(outcome.status())
+}
+
+/// Reports why the words are no command. Help is asked for in the same way, and has status 0.
+fn refused(rt: &HostRuntime, error: &Error) -> ExitCode {
+    if error.kind() == ErrorKind::OutOfMemory {
+        return ended(rt, Outcome::Failed(Cause::Memory));
+    }
+    let is_help = error.exit_code() == 0;
+    if error.print(rt).is_err() && is_help {
+        return ended(rt, Outcome::Failed(Cause::Write));
+    }
+    ExitCode::from(if is_help { 0 } else { 2 })
+}
+
+fn judge(rt: &HostRuntime, files: JudgeFiles<'_>) -> Outcome {
+    run_judge(
+        rt.alloc(),
+        &mut Opening::new(rt, files.model),
+        &mut Opening::new(rt, files.delivery),
+        &mut Opening::new(rt, files.code),
+        &mut Telling::new(io::writer(rt)),
+    )
+}
+
+fn main(rt: HostRuntime) -> ExitCode {
+    let args = match env::args(&rt) {
+        Ok(args) => args,
+        Err(error) if error.kind() == io::ErrorKind::OutOfMemory => {
+            return ended(&rt, Outcome::Failed(Cause::Memory));
+        }
+        Err(_) => {
+            let _ = rt.eprintln("error: an argument isn't UTF-8 text");
+            return ExitCode::from(2);
+        }
+    };
+    let Ok(words) = args.collect::<Vec<String>>(rt.alloc()) else {
+        return ended(&rt, Outcome::Failed(Cause::Memory));
+    };
+    match judge_files(rt.alloc(), words.as_slice()) {
+        Ok(files) => ended(&rt, judge(&rt, files)),
+        Err(error) => refused(&rt, &error),
+    }
+}

@@ -1,0 +1,37 @@
+//! Files that are opened when they are first read.
+
+use std::fs::File;
+use std::io::Read;
+use std::{fs, io};
+
+/// A file that is opened at its first read, so that no file is opened before the inputs named earlier have ended: a writer that
+/// feeds several pipes in turn is not kept waiting. A file that can't be opened is a failed read.
+#[derive(Drop)]
+pub struct Opening<'a> {
+    rt: &'a HostRuntime,
+    path: &'a str,
+    file: Option<File>,
+}
+
+impl<'a> Opening<'a> {
+    /// The file of this path, not opened yet.
+    pub fn new(rt: &'a HostRuntime, path: &'a str) -> Opening<'a> {
+        Opening {
+            rt,
+            path,
+            file: None,
+        }
+    }
+}
+
+impl Read for Opening<'_> {
+    fn read(&mut self, piece: &mut [u8]) -> io::Result<usize> {
+        if let Some(file) = &mut self.file {
+            return file.read(piece);
+        }
+        let mut file = fs::open(self.rt, self.path)?;
+        let read = file.read(piece);
+        self.file = Some(file);
+        read
+    }
+}

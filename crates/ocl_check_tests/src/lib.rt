@@ -1,0 +1,11 @@
+//! Tests of `ocl_check`, by its public functions.
+#![tactic(auto)]
+
+#[cfg(test)]
+mod files;
+#[cfg(test)]
+mod inputs;
+#[cfg(test)]
+mod judge;
+#[cfg(test)]
+mod outputs;

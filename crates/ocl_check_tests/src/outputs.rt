@@ -1,0 +1,104 @@
+//! Writers that fail, and how an outcome is reported.
+
+use crate::files::{DEPTH, MODEL, NO_OBJECTS};
+use ocl_check::{Cause, Outcome, Telling, run_judge};
+use std::alloc::Global;
+use std::io;
+use std::io::{Error, ErrorKind, Write};
+use std::test::*;
+
+/// The report on a delivery of no objects.
+const REPORT: &str =
+    "rule diepteMin checked 0 holds 0 fails 0 undecided 0\ntotal fails 0 undecided 0\n";
+
+/// A writer that takes a few bytes, and then fails or takes nothing; its flush may fail.
+#[derive(Drop)]
+struct Narrow {
+    taken: Vec<u8>,
+    left: usize,
+    is_silent: bool,
+    flushes: bool,
+}
+
+impl Write for Narrow {
+    fn write(&mut self, buf: &[u8]) -> io::Result<usize> {
+        let count = buf.len().min(self.left);
+        if count == 0 && self.is_silent {
+            return Ok(0);
+        }
+        if count == 0 || self.taken.extend_from_slice(&buf[..count]).is_err() {
+            return Err(Error::from(ErrorKind::Other));
+        }
+        self.left -= count;
+        Ok(count)
+    }
+
+    fn flush(&mut self) -> io::Result<()> {
+        if self.flushes {
+            Ok(())
+        } else {
+            Err(Error::from(ErrorKind::Other))
+        }
+    }
+}
+
+/// How `judge` ends over a writer that takes so many bytes, and what it took.
+fn judged_into(alloc: Global, left: usize, is_silent: bool, flushes: bool) -> (Outcome, Vec<u8>) {
+    let mut model = MODEL.as_bytes();
+    let mut delivery = NO_OBJECTS.as_bytes();
+    let mut code = DEPTH.as_slice();
+    let mut sink = Telling::new(Narrow {
+        taken: Vec::new(alloc),
+        left,
+        is_silent,
+        flushes,
+    });
+    let outcome = run_judge(alloc, &mut model, &mut delivery, &mut code, &mut sink);
+    (outcome, sink.into_inner().taken)
+}
+
+/// Whether a writer that fails after so many bytes has taken just the beginning of the report.
+fn fails_after(alloc: Global, left: usize, is_silent: bool) -> bool {
+    let (outcome, bytes) = judged_into(alloc, left, is_silent, true);
+    outcome == Outcome::Failed(Cause::Write)
+        && bytes.len() == left
+        && REPORT.as_bytes().starts_with(&bytes)
+}
+
+#[test]
+fn fails_where_a_write_does(rt: HostRuntime) {
+    for left in 0..REPORT.len() {
+        assert!(rt; fails_after(rt.alloc(), left, false));
+        assert!(rt; fails_after(rt.alloc(), left, true));
+    }
+}
+
+#[test]
+fn fails_where_the_flush_does(rt: HostRuntime) {
+    let (outcome, bytes) = judged_into(rt.alloc(), 1_000, false, false);
+    assert!(rt; outcome == Outcome::Failed(Cause::Write));
+    assert!(rt; bytes.as_slice() == REPORT.as_bytes());
+}
+
+#[test]
+fn writes_the_report_whole(rt: HostRuntime) {
+    let (outcome, bytes) = judged_into(rt.alloc(), REPORT.len(), false, true);
+    assert!(rt; outcome == Outcome::Status(0));
+    assert!(rt; bytes.as_slice() == REPORT.as_bytes());
+}
+
+#[test]
+fn reports_how_it_ended(rt: HostRuntime) {
+    for status in 0..3 {
+        assert!(rt; Outcome::Status(status).status() == status);
+    }
+    let lines = [
+        (Cause::Memory, "failed memory"),
+        (Cause::Read, "failed read"),
+        (Cause::Write, "failed write"),
+    ];
+    for (cause, line) in lines {
+        assert!(rt; Outcome::Failed(cause).status() == 3);
+        assert!(rt; cause.line() == line);
+    }
+}

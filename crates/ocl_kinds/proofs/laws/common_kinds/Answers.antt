@@ -1,0 +1,8 @@
+use Rattle.ocl_kinds.proofs.ForAbove.{both_fit_common, common_commutes}
+use Rattle.ocl_kinds.proofs.laws.common_kinds.Goals as goal
+
+pub returns-clause-fit : goal.returns-clause-fit
+returns-clause-fit c = both_fit_common
+
+pub returns-clause-commutes : goal.returns-clause-commutes
+returns-clause-commutes c = common_commutes

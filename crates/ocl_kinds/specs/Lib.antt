@@ -1,0 +1,3 @@
+-- Definitions: what contracts mean.
+pub mod Kinds
+pub mod Laws

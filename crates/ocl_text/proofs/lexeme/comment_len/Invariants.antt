@@ -1,6 +1,0 @@
-use Rattle.std.proofs.Common.{◌≡◌, drop}
-use Rattle.ocl_text.specs.Front as spec
-use Rattle.ocl_text.proofs.lexeme.comment_len.Given as goal
-
-abbrev pub invariant-loop-at : goal.invariant-loop-at
-invariant-loop-at l = spec.comment_from l.at (drop l.at l.bytes) ≡ spec.comment_from 0 l.bytes

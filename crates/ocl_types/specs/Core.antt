@@ -1,0 +1,60 @@
+-- Core trees and rules, without where they lie in memory.
+use Rattle.std.specs.Prelude.{ℕ, Bool, List, [], ◌∷◌}
+use Rattle.ocl_base.specs.declared.collection_kind.CollectionKind.{CollectionKind}
+use Rattle.ocl_kinds.specs.declared.kind.ScalarKind.{ScalarKind}
+use Rattle.ocl_kinds.specs.declared.kind.Kind.{Kind}
+use Rattle.ocl_types.specs.declared.operator.Operator.{Operator}
+use Rattle.ocl_types.specs.declared.core_tree.Iteration.{Iteration}
+
+-- a value that stands in the text
+pub data Constant : Type 0 where
+  Boolean : (value : Bool) → Constant
+  Integer : (value : ℕ) → Constant
+  Text : (value : List ℕ) → Constant
+  Literal : (enumeration literal : ℕ) → Constant
+  Null : Constant
+  Invalid : Constant
+
+-- Variables are numbered by nesting: the object of the context class is variable 0, and each `let` and each iteration
+-- binds the next one in its body.
+mutual
+  pub data CoreTree : Type 0 where
+    Value : (value : Constant) → CoreTree
+    Variable : (number : ℕ) → CoreTree
+    AllInstances : (class : ℕ) → CoreTree
+    Feature : (source : CoreTree) (feature : ℕ) → CoreTree
+    Operation : (operator : Operator) (first : CoreTree) (others : CoreTrees) → CoreTree
+    AsCollection : (collection : CollectionKind) (element : ScalarKind) (source : CoreTree) → CoreTree
+    Iterate : (iteration : Iteration) (source body : CoreTree) → CoreTree
+    Let : (value body : CoreTree) → CoreTree
+    If : (kind : Kind) (condition then_branch else_branch : CoreTree) → CoreTree
+
+  pub data CoreTrees : Type 0 where
+    no_core : CoreTrees
+    one_core : (first : CoreTree) (rest : CoreTrees) → CoreTrees
+
+abbrev pub cores_of : List CoreTree → CoreTrees
+cores_of [] = no_core
+cores_of (c ∷ cs) = one_core c (cores_of cs)
+
+-- a core tree, and the kind of its value
+pub record TypedTree : Type 0 where
+  pub core : CoreTree
+  pub kind : Kind
+
+abbrev pub typed : CoreTree → Kind → TypedTree
+typed core kind = record { core = core; kind = kind }
+
+-- several of them
+pub record TypedTrees : Type 0 where
+  pub cores : List CoreTree
+  pub kinds : List Kind
+
+abbrev pub typed_trees : List CoreTree → List Kind → TypedTrees
+typed_trees cores kinds = record { cores = cores; kinds = kinds }
+
+-- a rule: its name, its context class and its expression
+pub record CheckedRule : Type 0 where
+  pub name : List ℕ
+  pub context : ℕ
+  pub tree : CoreTree

@@ -1,0 +1,13 @@
+-- Definitions: what contracts mean.
+pub mod Faults
+pub mod Core
+pub mod Operators
+pub mod Scope
+pub mod Elaboration
+pub mod Typing
+pub mod CoreView
+-- Bookkeeping: views, layouts, walks and tables that only proofs and private contracts use.
+pub mod TableView
+pub mod ScopeView
+pub mod GatheredView
+pub mod CallView

@@ -1,0 +1,144 @@
+//! Core trees: what a rule's expression stands for, with names resolved and everything written out.
+
+use crate::operator::Operator;
+use imkl_model::{ClassNo, CollectionKind, EnumNo, FeatureNo, LiteralNo};
+use ocl_kinds::{Kind, ScalarKind};
+use ocl_text::{Name, WholeNumber};
+
+/// A value that stands in the text.
+#[derive(Debug, Drop)]
+pub enum ConstantValue {
+    /// A truth value.
+    Boolean(bool),
+    /// A whole number.
+    Integer(WholeNumber),
+    /// A text.
+    Text(String),
+    /// A literal of an enumeration.
+    Literal(EnumNo, LiteralNo),
+    /// `null`
+    Null,
+    /// `invalid`
+    Invalid,
+}
+
+/// An iteration over the elements of a collection.
+#[derive(Clone, Copy, Debug)]
+pub enum Iteration {
+    /// Whether the body is true of each element.
+    ForAll,
+    /// Whether it is true of some element.
+    Exists,
+    /// Whether it is true of exactly one.
+    One,
+    /// The elements of which it is true.
+    Select,
+    /// The elements of which it is false.
+    Reject,
+    /// The values of the body.
+    Collect,
+    /// The elements of the collections that the body gives.
+    CollectFlat,
+    /// Whether the body's values, compared as values of this kind, all differ.
+    IsUnique(ScalarKind),
+}
+
+/// What goes on after a first operand.
+#[cycle(core)]
+#[derive(Debug, Drop)]
+pub enum CoreLink {
+    /// A feature of the object on the left.
+    Feature {
+        /// The feature, which belongs to the object's class.
+        feature: FeatureNo,
+    },
+    /// An operation on what stands on the left.
+    Operation {
+        /// What it does.
+        operator: Operator,
+        /// Its operands after the first.
+        others: Vec<Core>,
+    },
+    /// The single value on the left as the only element of a collection; `null` as an empty one.
+    AsCollection {
+        /// The kind of the collection.
+        collection: CollectionKind,
+        /// The kind of its elements.
+        element: ScalarKind,
+    },
+    /// An iteration over the collection on the left.
+    Iterate {
+        /// What it asks.
+        iteration: Iteration,
+        /// What is evaluated for each element, which is one more variable.
+        body: Core,
+    },
+}
+
+/// A core tree. Variables are numbered by nesting: the object of the context class is variable 0, and each `let` and each
+/// iteration binds the next one in its body.
+///
+/// What is applied to a first operand stands in one list after it, the one applied last at its end: so a tree's depth in
+/// memory is bounded as that of the text's tree is.
+#[cycle(core)]
+#[derive(Debug, Drop)]
+pub enum Core {
+    /// A value.
+    Constant {
+        /// Which.
+        value: ConstantValue,
+    },
+    /// A variable.
+    Variable {
+        /// Its number.
+        number: usize,
+    },
+    /// All objects of a class and of those that conform to it, as a set.
+    AllInstances {
+        /// The class.
+        class: ClassNo,
+    },
+    /// A first operand with what is applied to it, in order.
+    Spine {
+        /// The first operand.
+        first: Box<Core>,
+        /// What is applied.
+        links: Vec<CoreLink>,
+    },
+    /// A value as a variable of a body.
+    Let {
+        /// The value.
+        value: Box<Core>,
+        /// What sees it.
+        body: Box<Core>,
+    },
+    /// One of two branches.
+    If {
+        /// The kind of both.
+        kind: Kind,
+        /// The condition.
+        condition: Box<Core>,
+        /// The value where the condition is true.
+        then_branch: Box<Core>,
+        /// The value where the condition is false.
+        else_branch: Box<Core>,
+    },
+}
+
+/// A core tree with the kind of its value.
+#[derive(Debug, Drop)]
+pub(crate) struct Typed {
+    pub(crate) core: Core,
+    pub(crate) kind: Kind,
+}
+
+/// A rule whose types are checked.
+#[derive(Debug, Drop)]
+pub struct CoreRule {
+    /// Its name.
+    pub name: Name,
+    /// Its context class.
+    pub context: ClassNo,
+    /// Its expression.
+    pub tree: Core,
+}

@@ -1,0 +1,22 @@
+//! Types of rules: surface trees elaborated to core trees.
+#![tactic(auto)]
+
+mod arguments;
+mod branches;
+mod calls;
+mod collecting;
+mod core_tree;
+mod declared;
+mod fault;
+mod iterations;
+mod names;
+mod nodes;
+mod operator;
+mod operators;
+mod scope;
+mod table;
+mod wanted;
+
+pub use core_tree::{ConstantValue, Core, CoreLink, CoreRule, Iteration};
+pub use fault::{TypeFault, TypeFlaw};
+pub use operator::{BasicType, ClassOperator, ElementOperator, Operator, PlainOperator};

@@ -1,0 +1,122 @@
+//! Names, words and features.
+
+ghost use Rattle.std.specs.Prelude.{◌≡◌, ◌<◌, length, IfOk};
+ghost use Rattle.imkl_model.specs.ClassModel.{Model, feature_at};
+ghost use Rattle.ocl_base.specs.Steps.{Gives};
+ghost use Rattle.ocl_kinds.specs.Kinds.{IsKindOf, feature_kind};
+ghost use Rattle.ocl_types.specs.Core as tree;
+ghost use Rattle.ocl_types.specs.CoreView.{core_view, typed_of};
+ghost use Rattle.ocl_types.specs.Elaboration as spec;
+ghost use Rattle.ocl_types.specs.Faults.{type_fault};
+ghost use Rattle.ocl_types.specs.ScopeView.{scope_view, AreKnownVariables};
+
+use crate::core_tree::{ConstantValue, Core, Typed};
+use crate::fault::{TypeFault, TypeFlaw};
+use crate::nodes;
+use crate::scope::{ScopeVariable, feature_named, variable_named};
+use imkl_model::{ClassModel, ClassNo, FeatureNo};
+use ocl_kinds::{Kind, ScalarKind, feature_kind};
+use ocl_text::Keyword;
+use std::alloc::{AllocError, Global};
+
+/// What a word stands for in a rule of this context class.
+#[tactic(auto, unfolding(crate::specs::Elaboration::keyword_value))]
+pub(crate) fn keyword_value(context: ClassNo, keyword: Keyword) -> Typed
+    ensures value { typed_of result ≡ spec.keyword_value context keyword }
+    ensures known { (m : Model) → context < length m.classes → IsKindOf m result.kind }
+{
+    let (core, kind) = match keyword {
+        Keyword::True => (
+            nodes::constant(ConstantValue::Boolean(true)),
+            ScalarKind::Boolean,
+        ),
+        Keyword::False => (
+            nodes::constant(ConstantValue::Boolean(false)),
+            ScalarKind::Boolean,
+        ),
+        Keyword::Null => (nodes::constant(ConstantValue::Null), ScalarKind::Void),
+        Keyword::Invalid => (nodes::constant(ConstantValue::Invalid), ScalarKind::Void),
+        Keyword::SelfObject => (nodes::variable(0), ScalarKind::Class(context)),
+    };
+    Typed {
+        core,
+        kind: Kind::Scalar(kind),
+    }
+}
+
+/// A feature of an object.
+#[tactic(auto, using(ocl_kinds::proofs::ForAbove::features_have_kinds))]
+pub(crate) fn feature_value(
+    alloc: Global,
+    model: &ClassModel,
+    source: Core,
+    feature: FeatureNo,
+) -> Result<Typed, AllocError>
+    requires { feature < length model.now.features }
+    ensures value { IfOk result (λ t. typed_of t
+        ≡ tree.typed (tree.Feature (core_view source) feature)
+        (feature_kind (feature_at model.now feature))) }
+    ensures known { IfOk result (λ t. IsKindOf model.now t.kind) }
+{
+    model.well_formed();
+    let kind = feature_kind(model.feature_info(feature));
+    let core = nodes::feature(alloc, source, feature)?;
+    Ok(Typed { core, kind })
+}
+
+/// What a bare name stands for: a variable, or else a feature of one that needn't be named.
+#[tactic(auto, unfolding(crate::specs::Elaboration::name_value))]
+pub(crate) fn name_value(
+    alloc: Global,
+    model: &ClassModel,
+    scope: &[ScopeVariable],
+    name: &str,
+    offset: usize,
+) -> Result<Typed, TypeFault>
+    requires { AreKnownVariables model.now scope.now }
+    ensures gives { Gives type_fault typed_of result
+        (spec.name_value model.now (scope_view scope.now) name.now offset) }
+    ensures known { IfOk result (λ t. IsKindOf model.now t.kind) }
+{
+    if let Some((number, kind)) = variable_named(scope, name) {
+        let core = nodes::variable(number);
+        return Ok(Typed { core, kind });
+    }
+    match feature_named(model, scope, name) {
+        Some((number, feature)) => {
+            let source = nodes::variable(number);
+            Ok(feature_value(alloc, model, source, feature)?)
+        }
+        None => Err(TypeFault::At {
+            flaw: TypeFlaw::UnknownName,
+            offset,
+        }),
+    }
+}
+
+/// A literal of an enumeration.
+#[tactic(auto, unfolding(crate::specs::Elaboration::literal_value))]
+pub(crate) fn literal_value(
+    model: &ClassModel,
+    enumeration: &str,
+    literal: &str,
+    offset: usize,
+) -> Result<Typed, TypeFault>
+    ensures gives { Gives type_fault typed_of result
+        (spec.literal_value model.now enumeration.now literal.now offset) }
+    ensures known { IfOk result (λ t. IsKindOf model.now t.kind) }
+{
+    let unknown = TypeFault::At {
+        flaw: TypeFlaw::UnknownName,
+        offset,
+    };
+    let Some(number) = model.enumeration(enumeration) else {
+        return Err(unknown);
+    };
+    let Some(literal) = model.literal(number, literal) else {
+        return Err(unknown);
+    };
+    let core = nodes::constant(ConstantValue::Literal(number, literal));
+    let kind = Kind::Scalar(ScalarKind::Enumeration(number));
+    Ok(Typed { core, kind })
+}

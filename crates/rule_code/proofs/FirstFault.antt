@@ -1,0 +1,410 @@
+-- The first fault of a code file is that of its field.
+use Rattle.std.proofs.Common.{◌≡◌, ◌⊎◌, ℕ, zero, suc, ◌+◌, ◌-◌, ◌/◌, ◌%◌, ◌≤◌, ◌&&◌, not, Bool, true, false, cond, ltb, eqb, List, [], ◌∷◌, ◌++◌, length, take, drop, Result, Ok, Err, Option, Some, None, refl, sym, ap, subst, ◌∙◌, append_assoc, append-nil, inl, inr, arith}
+use Rattle.std.specs.Prelude.{bytes_eq}
+use Rattle.std.specs.Int.{w16, w64, cast_signed}
+use Rattle.std.specs.Str.{is_utf8}
+use Rattle.std.proofs.lemmas.Bool.{ltb-false, cases_lt}
+use Rattle.std.proofs.lemmas.Slice.Eq.{bytes_eq-Decides}
+use Rattle.std.proofs.lemmas.List.{take_at, drop_at, take-append-drop, length-append, length-take}
+use Rattle.ocl_base.specs.Steps.{◌>>=◌}
+use Rattle.ocl_base.specs.Words.{is_name}
+use Rattle.ocl_base.proofs.ForAbove.{both_steps, ok_is}
+use Rattle.rule_code.specs.declared.fault.Flaw.{Flaw}
+use Rattle.rule_code.specs.declared.fault.Flaw.TheVariants as flaws
+use Rattle.ocl_base.specs.declared.collection_kind.CollectionKind.{CollectionKind}
+use Rattle.rule_code.specs.declared.kind.WrittenKind.TheVariants as kinds
+use Rattle.rule_code.specs.declared.symbol.Symbol.{Symbol}
+use Rattle.rule_code.specs.declared.symbol.Symbol.TheVariants as symbols
+use Rattle.rule_code.specs.declared.symbol.SymbolTag.{SymbolTag}
+use Rattle.rule_code.specs.declared.symbol.SymbolTag.TheVariants as tags
+use Rattle.rule_code.specs.SymbolTag.{is_symbol_of}
+use Rattle.rule_code.specs.Content.{RuleContent, Content, text_at}
+use Rattle.rule_code.specs.Spelling.{magic}
+use Rattle.rule_code.specs.Reading.{Fault, FieldRead, wrong, number_from, count_from, text_number_from, symbol_number_from, text_bytes_from, many_from}
+use Rattle.rule_code.specs.KindReading.{row_numbered, ScalarSort, itself, of_symbol, scalar_sorts, collection_sorts, sort_from, element_from, single_kind_from, elements_from, collection_kind_from, kind_from}
+use Rattle.rule_code.specs.Opcodes.{Fields, made, integer, boolean, number, text, symbol, scalar, collection, kind, opcodes, integer_from, boolean_from, fields_from, behind, instr_from}
+use Rattle.rule_code.specs.Parts.{text_from, named_once_from, named_twice_from, symbol_from, rule_name_from, code_from, rule_from, next_rule_from}
+use Rattle.rule_code.specs.CodeFile.{head_from, texts_from, symbols_from, rules_from, ended, whole_from, code_fault_at, with_offset, fault_part, CodeFaultAt}
+use Rattle.rule_code.specs.Laws.{most_field_bytes, FaultsAreOfFields}
+use Rattle.rule_code.proofs.FieldFaults.{Stopped, fault_of, Stops, IsReader, then, stops_then, reader_given, reader_then, reader_of, reader_map, IsShort, tested, reader_tested, short_tested, piece, reader_piece, short_piece, reader_number, short_number, reader_byte, reader_many}
+
+-- ---- fields
+
+wide : 2 ≤ most_field_bytes
+wide = omega arith
+
+number_reader : IsReader (number_from w16)
+number_reader = reader_number w16 wide
+
+number_short : IsShort (number_from w16)
+number_short = short_number w16 wide
+
+abbrev within : ℕ → ℕ → Bool
+within limit n = not (ltb limit n)
+
+-- a test that goes on where it is false
+flipped : {A : Type 0} (b : Bool) (x y : A) → cond b y x ≡ cond (not b) x y
+flipped true x y = refl
+flipped false x y = refl
+
+-- two readers that give the same
+pub reader_same : {A : Type 0} (f g : List ℕ → FieldRead A) → ((bytes : List ℕ) → g bytes ≡ f bytes) → IsReader f → IsReader g
+reader_same f g same r = record {
+  passes = λ bytes x h. let p = r.passes bytes x (sym (same bytes) ∙ h) in record { used = p.used; parts = p.parts; again = λ more. same (p.used ++ more) ∙ p.again more };
+  stops = λ bytes e h.
+      let s = r.stops bytes e (sym (same bytes) ∙ h) in
+      record {
+        through = s.through;
+        rest = s.rest;
+        at = s.at;
+        parts = s.parts;
+        begins = s.begins;
+        within = s.within;
+        short = s.short;
+        stays = elim s.stays [
+          | inl cut ↦ inl cut
+          | inr on ↦ inr (λ more left is. same (s.through ++ more) ∙ on more left is)
+        ];
+      };
+}
+
+-- a count is tested against its limit
+count_is : (limit : ℕ) (bytes : List ℕ) → count_from limit bytes ≡ tested (number_from w16) (within limit) flaws.Limit bytes
+unfolding count_from
+count_is limit bytes = by_read (number_from w16 bytes)
+  where
+    by_read : (r : FieldRead ℕ) → (r >>= λ n. cond (ltb limit n.0) (wrong flaws.Limit bytes) (Ok n)) ≡ (r >>= λ n. cond (within limit n.0) (Ok n) (wrong flaws.Limit bytes))
+    by_read (Ok n) = flipped (ltb limit n.0) (Ok n) (wrong flaws.Limit bytes)
+    by_read (Err e) = refl
+
+count_reader : (limit : ℕ) → IsReader (count_from limit)
+count_reader limit = reader_same (tested (number_from w16) (within limit) flaws.Limit) (count_from limit) (count_is limit) (reader_tested (number_from w16) (within limit) flaws.Limit number_reader number_short)
+
+count_within : (limit : ℕ) (bytes : List ℕ) (x : ℕ × List ℕ) → count_from limit bytes ≡ Ok x → x.0 ≤ limit
+unfolding count_from
+count_within limit bytes x h =
+    let a = both_steps (number_from w16 bytes) (λ n. cond (ltb limit n.0) (wrong flaws.Limit bytes) (Ok n)) x h in
+    by_test (ltb limit a.0.0) refl a.2
+  where
+    by_test : (b : Bool) → ltb limit (both_steps (number_from w16 bytes) (λ n. cond (ltb limit n.0) (wrong flaws.Limit bytes) (Ok n)) x h).0.0 ≡ b → cond b (wrong flaws.Limit bytes) (Ok (both_steps (number_from w16 bytes) (λ n. cond (ltb limit n.0) (wrong flaws.Limit bytes) (Ok n)) x h).0) ≡ Ok x → x.0 ≤ limit
+    by_test true e g = absurd cc
+    by_test false e g = let same = ok_is _ x g in subst (λ (y : ℕ × List ℕ). y.0 ≤ limit) same (ltb-false _ _ e)
+
+text_number_reader : (texts : ℕ) → IsReader (text_number_from texts)
+unfolding text_number_from
+text_number_reader texts = reader_tested (number_from w16) (λ n. ltb n texts) flaws.BadNumber number_reader number_short
+
+text_number_short : (texts : ℕ) → IsShort (text_number_from texts)
+unfolding text_number_from
+text_number_short texts = short_tested (number_from w16) (λ n. ltb n texts) flaws.BadNumber number_short
+
+symbol_number_reader : (tag : SymbolTag) (symbols : List Symbol) → IsReader (symbol_number_from tag symbols)
+unfolding symbol_number_from
+symbol_number_reader tag symbols = reader_tested (number_from w16) (is_symbol_of tag symbols) flaws.BadNumber number_reader number_short
+
+-- the bytes of a text that isn't too long
+text_bytes_is : (n : ℕ) (bytes : List ℕ) → text_bytes_from n bytes ≡ tested (piece n (λ t. t)) is_utf8 flaws.BadText bytes
+unfolding text_bytes_from
+text_bytes_is n bytes = by_test (ltb (length bytes) n)
+  where
+    given : FieldRead (List ℕ)
+    given = Ok (take n bytes, drop n bytes)
+
+    by_test : (b : Bool) → cond b (wrong flaws.Truncated bytes) (cond (is_utf8 (take n bytes)) given (wrong flaws.BadText bytes)) ≡ (cond b (wrong flaws.Truncated bytes) given >>= λ x. cond (is_utf8 x.0) (Ok x) (wrong flaws.BadText bytes))
+    by_test true = refl
+    by_test false = refl
+
+text_bytes_reader : (n : ℕ) → n ≤ most_field_bytes → IsReader (text_bytes_from n)
+text_bytes_reader n few =
+    reader_same (tested (piece n (λ t. t)) is_utf8 flaws.BadText) (text_bytes_from n) (text_bytes_is n)
+    (reader_tested (piece n (λ t. t)) is_utf8 flaws.BadText (reader_piece n (λ t. t) few) (short_piece n (λ t. t) few))
+
+text_reader : IsReader text_from
+unfolding text_from
+text_reader = reader_given (count_from 4096) text_bytes_from (count_reader 4096) (λ bytes x h. text_bytes_reader x.0 (count_within 4096 bytes x h))
+
+-- ---- symbols
+
+once_reader : (texts : ℕ) (make : ℕ → Symbol) → IsReader (named_once_from texts make)
+once_reader texts make = reader_map (text_number_from texts) make (text_number_reader texts)
+
+twice_reader : (texts : ℕ) (make : ℕ → ℕ → Symbol) → IsReader (named_twice_from texts make)
+twice_reader texts make =
+    reader_then (text_number_from texts) (λ m bytes. text_number_from texts bytes >>= λ n. Ok (make m n.0, n.1)) (text_number_reader texts)
+    (λ m. reader_map (text_number_from texts) (make m) (text_number_reader texts))
+
+symbol_reader : (texts : ℕ) → IsReader (symbol_from texts)
+unfolding symbol_from
+symbol_reader texts = reader_byte (symbol_from texts) refl (λ tag. record { leads = leads tag (eqb tag 1) refl (eqb tag 2) refl (eqb tag 3) refl (eqb tag 4) refl })
+  where
+    leads : (tag : ℕ) (a : Bool) → eqb tag 1 ≡ a → (b : Bool) → eqb tag 2 ≡ b → (c : Bool) → eqb tag 3 ≡ c → (d : Bool) → eqb tag 4 ≡ d
+        → ((g : List ℕ → FieldRead Symbol) × IsReader g × ((rest : List ℕ) → symbol_from texts (tag ∷ rest) ≡ g rest)) ⊎ ((flaw : Flaw) × ((rest : List ℕ) → symbol_from texts (tag ∷ rest) ≡ wrong flaw (tag ∷ rest)))
+    leads tag true e b f c g d h = inl (named_once_from texts (λ n. symbols.Class (record { 0 = n })), once_reader texts (λ n. symbols.Class (record { 0 = n })), λ rest. rw e refl)
+    leads tag false e true f c g d h = inl (named_once_from texts (λ n. symbols.Enumeration (record { 0 = n })), once_reader texts (λ n. symbols.Enumeration (record { 0 = n })), λ rest. rw (e, f) refl)
+    leads tag false e false f true g d h = inl (named_twice_from texts (λ m n. symbols.Feature (record { 0 = m }) (record { 0 = n })), twice_reader texts (λ m n. symbols.Feature (record { 0 = m }) (record { 0 = n })), λ rest. rw (e, f, g) refl)
+    leads tag false e false f false g true h = inl (named_twice_from texts (λ m n. symbols.Literal (record { 0 = m }) (record { 0 = n })), twice_reader texts (λ m n. symbols.Literal (record { 0 = m }) (record { 0 = n })), λ rest. rw (e, f, g, h) refl)
+    leads tag false e false f false g false h = inr (flaws.BadNumber, λ rest. rw (e, f, g, h) refl)
+
+-- ---- instructions
+
+integer_reader : IsReader integer_from
+unfolding integer_from
+integer_reader = reader_map (number_from w64) (cast_signed w64) (reader_number w64 (omega arith))
+
+boolean_reader : IsReader boolean_from
+unfolding boolean_from
+boolean_reader = reader_byte boolean_from refl (λ b. record { leads = leads b })
+  where
+    leads : (b : ℕ) → ((g : List ℕ → FieldRead Bool) × IsReader g × ((rest : List ℕ) → boolean_from (b ∷ rest) ≡ g rest)) ⊎ ((flaw : Flaw) × ((rest : List ℕ) → boolean_from (b ∷ rest) ≡ wrong flaw (b ∷ rest)))
+    leads zero = inl ((λ rest. Ok (false, rest)), reader_of false, λ rest. refl)
+    leads (suc zero) = inl ((λ rest. Ok (true, rest)), reader_of true, λ rest. refl)
+    leads (suc (suc b)) = inr (flaws.BadNumber, λ rest. refl)
+
+-- what follows a byte: a reader, or the fault of the byte
+abbrev Goes : {A : Type 0} → (List ℕ → FieldRead A) → ℕ → Type 0
+Goes {A} f b = ((g : List ℕ → FieldRead A) × IsReader g × ((rest : List ℕ) → f rest ≡ g rest)) ⊎ ((flaw : Flaw) × ((rest : List ℕ) → f rest ≡ wrong flaw (b ∷ rest)))
+
+goes_map : {A B : Type 0} (f : List ℕ → FieldRead A) (make : A → B) (b : ℕ) → Goes f b → Goes (λ rest. f rest >>= λ x. Ok (make x.0, x.1)) b
+goes_map {A} f make b goes = elim goes [
+  | inl r ↦ inl (then r.0 (λ a bytes. Ok (make a, bytes)), reader_map r.0 make r.1, λ rest. ap (λ (x : FieldRead A). x >>= λ y. Ok (make y.0, y.1)) (r.2 rest))
+  | inr w ↦ inr (w.0, λ rest. ap (λ (x : FieldRead A). x >>= λ y. Ok (make y.0, y.1)) (w.1 rest))
+]
+
+sort_goes : (symbols : List Symbol) (sort : Option ScalarSort) (b : ℕ) → Goes (λ rest. sort_from symbols sort (b ∷ rest) rest) b
+sort_goes symbols None b = inr (flaws.BadNumber, λ rest. refl)
+sort_goes symbols (Some (itself k)) b = inl ((λ rest. Ok (k, rest)), reader_of k, λ rest. refl)
+sort_goes symbols (Some (of_symbol tag make)) b =
+    inl (then (symbol_number_from tag symbols) (λ n bytes. Ok (make (record { 0 = n }), bytes)), reader_map (symbol_number_from tag symbols) (λ n. make (record { 0 = n })) (symbol_number_reader tag symbols), λ rest. refl)
+
+elements_goes : (symbols : List Symbol) (c : Option CollectionKind) (n b : ℕ) → Goes (λ rest. elements_from symbols c n (b ∷ rest) rest) b
+elements_goes symbols None n b = inr (flaws.BadNumber, λ rest. refl)
+elements_goes symbols (Some c) n b = goes_map (λ rest. element_from symbols n (b ∷ rest) rest) (λ k. (c, k)) b (sort_goes symbols (row_numbered scalar_sorts n) b)
+
+scalar_reader : (symbols : List Symbol) → IsReader (single_kind_from symbols)
+unfolding single_kind_from
+scalar_reader symbols = reader_byte (single_kind_from symbols) refl (λ b. record { leads = sort_goes symbols (row_numbered scalar_sorts b) b })
+
+collection_reader : (symbols : List Symbol) → IsReader (collection_kind_from symbols)
+unfolding collection_kind_from
+collection_reader symbols = reader_byte (collection_kind_from symbols) refl (λ b. record { leads = elements_goes symbols (row_numbered collection_sorts (b / 16)) (b % 16) b })
+
+kind_reader : (symbols : List Symbol) → IsReader (kind_from symbols)
+unfolding kind_from single_kind_from collection_kind_from
+kind_reader symbols = reader_byte (kind_from symbols) refl (λ b. record { leads = leads b (ltb b 16) })
+  where
+    leads : (b : ℕ) (low : Bool) → Goes (λ rest. cond low (single_kind_from symbols (b ∷ rest) >>= λ k. Ok (kinds.Scalar k.0, k.1)) (collection_kind_from symbols (b ∷ rest) >>= λ k. Ok (kinds.Collection k.0.0 k.0.1, k.1))) b
+    leads b true = goes_map (λ rest. single_kind_from symbols (b ∷ rest)) (λ k. kinds.Scalar k) b (sort_goes symbols (row_numbered scalar_sorts b) b)
+    leads b false = goes_map (λ rest. collection_kind_from symbols (b ∷ rest)) (λ k. kinds.Collection k.0 k.1) b (elements_goes symbols (row_numbered collection_sorts (b / 16)) (b % 16) b)
+
+fields_reader : (texts : ℕ) (symbols : List Symbol) (row : Fields) → IsReader (fields_from texts symbols row)
+fields_reader texts symbols (made i) = reader_of i
+fields_reader texts symbols (integer next) = reader_then integer_from (λ n bytes. fields_from texts symbols (next n) bytes) integer_reader (λ n. fields_reader texts symbols (next n))
+fields_reader texts symbols (boolean next) = reader_then boolean_from (λ b bytes. fields_from texts symbols (next b) bytes) boolean_reader (λ b. fields_reader texts symbols (next b))
+fields_reader texts symbols (number next) = reader_then (number_from w16) (λ n bytes. fields_from texts symbols (next n) bytes) number_reader (λ n. fields_reader texts symbols (next n))
+fields_reader texts symbols (text next) =
+    reader_then (text_number_from texts) (λ t bytes. fields_from texts symbols (next (record { 0 = t })) bytes) (text_number_reader texts) (λ t. fields_reader texts symbols (next (record { 0 = t })))
+fields_reader texts symbols (symbol tag next) =
+    reader_then (symbol_number_from tag symbols) (λ s bytes. fields_from texts symbols (next (record { 0 = s })) bytes) (symbol_number_reader tag symbols) (λ s. fields_reader texts symbols (next (record { 0 = s })))
+fields_reader texts symbols (scalar next) = reader_then (single_kind_from symbols) (λ k bytes. fields_from texts symbols (next k) bytes) (scalar_reader symbols) (λ k. fields_reader texts symbols (next k))
+fields_reader texts symbols (collection next) =
+    reader_then (collection_kind_from symbols) (λ p bytes. fields_from texts symbols (next p.0 p.1) bytes) (collection_reader symbols) (λ p. fields_reader texts symbols (next p.0 p.1))
+fields_reader texts symbols (kind next) = reader_then (kind_from symbols) (λ k bytes. fields_from texts symbols (next k) bytes) (kind_reader symbols) (λ k. fields_reader texts symbols (next k))
+
+opcode_goes : (texts : ℕ) (symbols : List Symbol) (row : Option Fields) (opcode : ℕ) → Goes (λ rest. behind texts symbols row (opcode ∷ rest) rest) opcode
+opcode_goes texts symbols None opcode = inr (flaws.BadOpcode, λ rest. refl)
+opcode_goes texts symbols (Some row) opcode = inl (fields_from texts symbols row, fields_reader texts symbols row, λ rest. refl)
+
+instr_reader : (texts : ℕ) (symbols : List Symbol) → IsReader (instr_from texts symbols)
+unfolding instr_from
+instr_reader texts symbols = reader_byte (instr_from texts symbols) refl (λ opcode. record { leads = opcode_goes texts symbols (row_numbered opcodes opcode) opcode })
+
+-- ---- rules
+
+rule_name_reader : (texts : List (List ℕ)) (is_name_taken : List ℕ → Bool) → IsReader (rule_name_from texts is_name_taken)
+unfolding rule_name_from
+rule_name_reader texts is_name_taken =
+    reader_tested (text_number_from (length texts)) (λ n. is_name (text_at texts n) && not (is_name_taken (text_at texts n))) flaws.BadText (text_number_reader (length texts)) (text_number_short (length texts))
+
+code_reader : (texts : ℕ) (symbols : List Symbol) → IsReader (code_from texts symbols)
+unfolding code_from
+code_reader texts symbols =
+    reader_then (number_from w16) (λ n bytes. many_from (λ before. instr_from texts symbols) [] n bytes) number_reader (λ n. reader_many (λ before. instr_from texts symbols) (λ before. instr_reader texts symbols) [] n)
+
+rule_reader : (texts : List (List ℕ)) (symbols : List Symbol) (is_name_taken : List ℕ → Bool) → IsReader (rule_from texts symbols is_name_taken)
+unfolding rule_from
+rule_reader texts symbols is_name_taken =
+    let behind_context : ℕ → ℕ → List ℕ → FieldRead RuleContent = λ name context bytes. code_from (length texts) symbols bytes >>= λ code. Ok (record { name = name; context = context; code = code.0 }, code.1) in
+    let behind_name : ℕ → List ℕ → FieldRead RuleContent = λ name bytes. symbol_number_from tags.Class symbols bytes >>= λ context. behind_context name context.0 context.1 in
+    reader_then (rule_name_from texts is_name_taken) behind_name (rule_name_reader texts is_name_taken)
+    (λ name. reader_then (symbol_number_from tags.Class symbols) (behind_context name) (symbol_number_reader tags.Class symbols)
+    (λ context. reader_map (code_from (length texts) symbols) (λ code. record { name = name; context = context; code = code }) (code_reader (length texts) symbols)))
+
+-- ---- the file
+
+texts_reader : IsReader texts_from
+unfolding texts_from
+texts_reader = reader_then (number_from w16) (λ n bytes. many_from (λ before. text_from) [] n bytes) number_reader (λ n. reader_many (λ before. text_from) (λ before. text_reader) [] n)
+
+symbols_reader : (texts : ℕ) → IsReader (symbols_from texts)
+unfolding symbols_from
+symbols_reader texts = reader_then (number_from w16) (λ n bytes. many_from (λ before. symbol_from texts) [] n bytes) number_reader (λ n. reader_many (λ before. symbol_from texts) (λ before. symbol_reader texts) [] n)
+
+rules_reader : (texts : List (List ℕ)) (symbols : List Symbol) → IsReader (rules_from texts symbols)
+unfolding rules_from
+rules_reader texts symbols =
+    reader_then (count_from 4096) (λ n bytes. many_from (next_rule_from texts symbols) [] n bytes) (count_reader 4096)
+    (λ n. reader_many (next_rule_from texts symbols) (λ before. rule_reader texts symbols _) [] n)
+
+ended_stops : (u : Content) → Stops (ended u)
+ended_stops u [] e h = absurd cc
+ended_stops u (b ∷ rest) e h =
+    let same : fault_of flaws.Trailing (suc (length rest)) ≡ e = cc in
+    subst (λ (d : Fault). Stopped (ended u) (b ∷ rest) d) same (record {
+      through = b ∷ [];
+      rest = rest;
+      at = 0;
+      parts = refl;
+      begins = omega arith;
+      within = omega arith;
+      short = omega arith;
+      stays = inr (λ more left is. ap (λ (k : ℕ). Err (fault_of flaws.Trailing k)) (omega (arith, is)));
+    })
+
+-- what stands behind the magic and the version
+abbrev body_from : List ℕ → Result Content Fault
+body_from bytes = do
+  texts ← texts_from bytes
+  symbols ← symbols_from (length texts.0) texts.1
+  rules ← rules_from texts.0 symbols.0 symbols.1
+  ended (record { texts = texts.0; symbols = symbols.0; rules = rules.0 }) rules.1
+
+body_stops : Stops body_from
+body_stops =
+    stops_then texts_from (λ texts bytes. symbols_from (length texts) bytes >>= λ symbols. rules_from texts symbols.0 symbols.1 >>= λ rules. ended (record { texts = texts; symbols = symbols.0; rules = rules.0 }) rules.1) texts_reader (λ bytes texts h.
+    stops_then (symbols_from (length texts.0)) (λ symbols bytes. rules_from texts.0 symbols bytes >>= λ rules. ended (record { texts = texts.0; symbols = symbols; rules = rules.0 }) rules.1) (symbols_reader (length texts.0)) (λ bytes symbols h.
+    stops_then (rules_from texts.0 symbols.0) (λ rules. ended (record { texts = texts.0; symbols = symbols.0; rules = rules })) (rules_reader texts.0 symbols.0) (λ bytes rules h.
+    ended_stops (record { texts = texts.0; symbols = symbols.0; rules = rules.0 }))))
+
+-- the version
+version_reader : IsReader (tested (number_from w16) (λ n. eqb n 1) flaws.Version)
+version_reader = reader_tested (number_from w16) (λ n. eqb n 1) flaws.Version number_reader number_short
+
+-- all that follows the magic
+abbrev after_magic : List ℕ → Result Content Fault
+after_magic = then (tested (number_from w16) (λ n. eqb n 1) flaws.Version) (λ n. body_from)
+
+after_magic_stops : Stops after_magic
+after_magic_stops = stops_then (tested (number_from w16) (λ n. eqb n 1) flaws.Version) (λ n. body_from) version_reader (λ bytes x h. body_stops)
+
+-- the file by its magic
+whole_is : (bytes : List ℕ) → whole_from bytes ≡ cond (bytes_eq (take 4 bytes) magic) (after_magic (drop 4 bytes)) (wrong flaws.Magic bytes)
+unfolding whole_from head_from
+whole_is bytes = by_test (bytes_eq (take 4 bytes) magic)
+  where
+    by_version : (r : FieldRead ℕ) → ((r >>= λ v. cond (eqb v.0 1) (Ok v.1) (wrong flaws.Version (drop 4 bytes))) >>= body_from) ≡ ((r >>= λ v. cond (eqb v.0 1) (Ok v) (wrong flaws.Version (drop 4 bytes))) >>= λ v. body_from v.1)
+    by_version (Ok v) = by_number (eqb v.0 1)
+      where
+        by_number : (b : Bool) → (cond b (Ok v.1) (wrong flaws.Version (drop 4 bytes)) >>= body_from) ≡ (cond b (Ok v) (wrong flaws.Version (drop 4 bytes)) >>= λ w. body_from w.1)
+        by_number true = refl
+        by_number false = refl
+    by_version (Err e) = refl
+
+    by_test : (b : Bool) → (cond b (number_from w16 (drop 4 bytes) >>= λ v. cond (eqb v.0 1) (Ok v.1) (wrong flaws.Version (drop 4 bytes))) (wrong flaws.Magic bytes) >>= body_from) ≡ cond b (after_magic (drop 4 bytes)) (wrong flaws.Magic bytes)
+    by_test true = by_version (number_from w16 (drop 4 bytes))
+    by_test false = refl
+
+-- the magic is there: what follows it is read
+after_stops : (bytes : List ℕ) (e : Fault) → bytes_eq (take 4 bytes) magic ≡ true → after_magic (drop 4 bytes) ≡ Err e → Stopped whole_from bytes e
+after_stops bytes e is h =
+    let s = after_magic_stops (drop 4 bytes) e h in
+    let four : length (take 4 bytes) ≡ 4 = ap length ((bytes_eq-Decides (take 4 bytes) magic).0 is) in
+    let len : length bytes ≡ 4 + length (drop 4 bytes) = omega (arith, four, ap length (take-append-drop 4 bytes), length-append (take 4 bytes) (drop 4 bytes)) in
+    let all : length (take 4 bytes ++ s.through) ≡ 4 + length s.through = omega (arith, four, length-append (take 4 bytes) s.through) in
+    record {
+      through = take 4 bytes ++ s.through;
+      rest = s.rest;
+      at = 4 + s.at;
+      parts = sym (take-append-drop 4 bytes) ∙ ap (λ (t : List ℕ). take 4 bytes ++ t) s.parts ∙ sym (append_assoc (take 4 bytes) s.through s.rest);
+      begins = omega (arith, len, s.begins);
+      within = omega (arith, all, s.within);
+      short = omega (arith, all, s.short);
+      stays = elim s.stays [
+        | inl cut ↦ inl cut
+        | inr on ↦ inr (λ more left at_left.
+            let regrouped : (take 4 bytes ++ s.through) ++ more ≡ take 4 bytes ++ (s.through ++ more) = append_assoc (take 4 bytes) s.through more in
+            let whole_length : (4 + s.at) + left ≡ length (take 4 bytes ++ (s.through ++ more)) = at_left ∙ ap length regrouped in
+            let here : s.at + left ≡ length (s.through ++ more) = omega (arith, whole_length, four, length-append (take 4 bytes) (s.through ++ more)) in
+            ap whole_from regrouped ∙ whole_is (take 4 bytes ++ (s.through ++ more))
+            ∙ rw (take_at (take 4 bytes) (s.through ++ more) 4 four, drop_at (take 4 bytes) (s.through ++ more) 4 four, is) (on more left here))
+      ];
+    }
+
+-- the magic is not there
+magic_stops : (bytes : List ℕ) → bytes_eq (take 4 bytes) magic ≡ false → Stopped whole_from bytes (fault_of flaws.Magic (length bytes))
+magic_stops bytes not_there =
+    elim (cases_lt (length bytes) 4) [
+      | inl few ↦ record {
+        through = bytes;
+        rest = [];
+        at = 0;
+        parts = sym (append-nil bytes);
+        begins = omega arith;
+        within = omega arith;
+        short = omega arith;
+        stays = inl (refl, refl);
+      }
+      | inr enough ↦
+          let four : length (take 4 bytes) ≡ 4 = omega (arith, length-take 4 bytes) in
+          record {
+            through = take 4 bytes;
+            rest = drop 4 bytes;
+            at = 0;
+            parts = sym (take-append-drop 4 bytes);
+            begins = omega arith;
+            within = omega arith;
+            short = omega (arith, four);
+            stays = inr (λ more left at_left.
+                whole_is (take 4 bytes ++ more) ∙ rw (take_at (take 4 bytes) more 4 four, not_there) (ap (λ (n : ℕ). Err (fault_of flaws.Magic n)) (omega (arith, at_left))));
+          }
+    ]
+
+whole_stops : Stops whole_from
+whole_stops bytes e h = by_test (bytes_eq (take 4 bytes) magic) refl
+  where
+    by_test : (b : Bool) → bytes_eq (take 4 bytes) magic ≡ b → Stopped whole_from bytes e
+    by_test true is = after_stops bytes e is (let chosen : cond (bytes_eq (take 4 bytes) magic) (after_magic (drop 4 bytes)) (wrong flaws.Magic bytes) ≡ Err e = sym (whole_is bytes) ∙ h in rw is at chosen)
+    by_test false is =
+        let chosen : cond (bytes_eq (take 4 bytes) magic) (after_magic (drop 4 bytes)) (wrong flaws.Magic bytes) ≡ Err e = sym (whole_is bytes) ∙ h in
+        let wrong_magic : wrong {A = Content} flaws.Magic bytes ≡ Err e = rw is at chosen in
+        let same : fault_of flaws.Magic (length bytes) ≡ e = cc in
+        subst (λ (d : Fault). Stopped whole_from bytes d) same (magic_stops bytes is)
+
+-- ---- the law
+
+-- a fault is that of the file read
+fault_is : (r : Result Content Fault) (size : ℕ) (fault : CodeFaultAt) → fault_part (with_offset size r) ≡ Some fault → (e : Fault) × (r ≡ Err e) × (code_fault_at size e ≡ fault)
+fault_is (Ok u) size fault h = absurd cc
+fault_is (Err e) size fault h = (e, refl, cc)
+
+pub faults_are_of_fields : FaultsAreOfFields
+faults_are_of_fields bytes fault h =
+    let f = fault_is (whole_from bytes) (length bytes) fault h in
+    let s = whole_stops bytes f.0 f.1 in
+    let flaw_is : f.0.flaw ≡ fault.flaw = ap (λ (c : CodeFaultAt). c.flaw) f.2 in
+    let offset_is : length bytes - f.0.left ≡ fault.offset = ap (λ (c : CodeFaultAt). c.offset) f.2 in
+    let at_offset : s.at ≡ fault.offset = omega (arith, offset_is, s.begins) in (
+      s.through,
+      s.rest,
+      s.parts,
+      omega (arith, at_offset, s.within),
+      omega (arith, at_offset, s.short),
+      elim s.stays [
+        | inl cut ↦ inl (rw flaw_is at cut.0, cut.1)
+        | inr on ↦ inr (λ more.
+            let size = length (s.through ++ more) in
+            let left_is : s.at + (size - s.at) ≡ size = omega (arith, s.within, length-append s.through more) in
+            let again : whole_from (s.through ++ more) ≡ Err (fault_of f.0.flaw (size - s.at)) = on more (size - s.at) left_is in
+            let offset_again : size - (size - s.at) ≡ fault.offset = omega (arith, at_offset, s.within, length-append s.through more) in
+            ap (λ (r : Result Content Fault). fault_part (with_offset size r)) again ∙ ap (λ (n : ℕ). Some (record { flaw = f.0.flaw; offset = n })) offset_again ∙ ap (λ (w : Flaw). Some (record { flaw = w; offset = fault.offset })) flaw_is)
+      ],
+    )

@@ -1,0 +1,11 @@
+//! Tests of `rule_code`, by its public functions.
+#![tactic(auto)]
+
+#[cfg(test)]
+mod faults;
+#[cfg(test)]
+mod hex;
+#[cfg(test)]
+mod opcodes;
+#[cfg(test)]
+mod units;

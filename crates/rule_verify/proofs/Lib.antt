@@ -1,0 +1,2 @@
+pub mod ForAbove
+pub mod SymbolLaws

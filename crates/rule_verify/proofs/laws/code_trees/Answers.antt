@@ -1,0 +1,5 @@
+use Rattle.rule_verify.proofs.ForAbove.{code_tree_count}
+use Rattle.rule_verify.proofs.laws.code_trees.Goals as goal
+
+pub returns : goal.returns
+returns c = code_tree_count

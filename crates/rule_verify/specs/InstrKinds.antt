@@ -1,0 +1,273 @@
+-- What each instruction takes and gives. An instruction has its row in each table.
+use Rattle.std.specs.Prelude.{ℕ, ◌==◌, Bool, true, false, List, [], ◌∷◌, ◌++◌, length, Option, Some, None, is_some, if◌then◌else◌}
+use Rattle.std.specs.List.{list_all}
+use Rattle.ocl_base.specs.declared.collection_kind.CollectionKind.{CollectionKind}
+use Rattle.ocl_base.specs.declared.collection_kind.CollectionKind.TheVariants as collection
+use Rattle.imkl_model.specs.ClassModel.{Model, feature_at}
+use Rattle.ocl_kinds.specs.declared.kind.ScalarKind.{ScalarKind}
+use Rattle.ocl_kinds.specs.declared.kind.ScalarKind.TheVariants as element
+use Rattle.ocl_kinds.specs.declared.kind.Kind.{Kind}
+use Rattle.ocl_kinds.specs.declared.kind.Kind.TheVariants.{Scalar, Collection}
+use Rattle.ocl_kinds.specs.Kinds.{feature_kind}
+use Rattle.rule_code.specs.declared.instruction.Instr.{Instr}
+use Rattle.rule_code.specs.declared.instruction.Instr.TheVariants as instrs
+use Rattle.rule_code.specs.declared.kind.WrittenScalar.{WrittenScalar}
+use Rattle.rule_code.specs.declared.kind.WrittenScalar.TheVariants as written
+use Rattle.rule_code.specs.declared.kind.WrittenKind.{WrittenKind}
+use Rattle.rule_code.specs.declared.kind.WrittenKind.TheVariants as kinds
+use Rattle.rule_code.specs.InstrRows.{FieldValue, symbol_field, scalar_field, collection_field, kind_field, row_of}
+use Rattle.rule_code.specs.Content.{Content}
+use Rattle.rule_verify.specs.declared.named.Named.{Named}
+use Rattle.rule_verify.specs.declared.named.Named.TheVariants as named
+use Rattle.rule_verify.specs.declared.pattern.Pattern.{Pattern}
+use Rattle.rule_verify.specs.declared.pattern.Pattern.TheVariants.{Fitting, Anything, AnySingle, AnyCollection, CollectionOf}
+use Rattle.rule_verify.specs.Patterns.{a_boolean, an_integer, a_string, an_object}
+use Rattle.rule_verify.specs.Symbols.{named_at}
+
+-- what the code of a rule is judged by: a class model, the unit, the rule's context class
+pub record Surroundings : Type 0 where
+  pub model : Model
+  pub unit : Content
+  pub context : ℕ
+
+abbrev pub surroundings : Model → Content → ℕ → Surroundings
+surroundings m u c = record { model = m; unit = u; context = c }
+
+-- ---- names
+
+abbrev pub scalar_symbols : WrittenScalar → List ℕ
+scalar_symbols (written.Enumeration s) = s.0 ∷ []
+scalar_symbols (written.Class s) = s.0 ∷ []
+scalar_symbols k = []
+
+abbrev pub kind_symbols : WrittenKind → List ℕ
+kind_symbols (kinds.Scalar k) = scalar_symbols k
+kind_symbols (kinds.Collection c k) = scalar_symbols k
+
+abbrev pub field_symbols : FieldValue → List ℕ
+field_symbols (symbol_field tag s) = s ∷ []
+field_symbols (scalar_field k) = scalar_symbols k
+field_symbols (collection_field c k) = scalar_symbols k
+field_symbols (kind_field k) = kind_symbols k
+field_symbols f = []
+
+abbrev pub fields_symbols : List FieldValue → List ℕ
+fields_symbols [] = []
+fields_symbols (f ∷ fs) = field_symbols f ++ fields_symbols fs
+
+-- the symbols that an instruction uses, in the order of its fields
+abbrev pub symbols_used : Instr → List ℕ
+symbols_used i = fields_symbols (row_of i).fields
+
+-- each of them names something of the class model
+abbrev pub has_names : Surroundings → Instr → Bool
+has_names s i = list_all (λ n. is_some (named_at s.model s.unit n)) (symbols_used i)
+
+-- ---- kinds of the file, in the class model
+
+abbrev pub class_kind : Option Named → ScalarKind
+class_kind (Some (named.Class c)) = element.Class c
+class_kind n = element.Void
+
+abbrev pub enumeration_kind : Option Named → ScalarKind
+enumeration_kind (Some (named.Enumeration e)) = element.Enumeration e
+enumeration_kind n = element.Void
+
+abbrev pub literal_kind : Option Named → ScalarKind
+literal_kind (Some (named.Literal e l)) = element.Enumeration e
+literal_kind n = element.Void
+
+-- the class that a feature's symbol names
+abbrev pub owner_kind : Option Named → ScalarKind
+owner_kind (Some (named.Feature c f)) = element.Class c
+owner_kind n = element.Void
+
+abbrev pub feature_read : Model → Option Named → Kind
+feature_read m (Some (named.Feature c f)) = feature_kind (feature_at m f)
+feature_read m n = Scalar element.Void
+
+-- the kind that a kind of the file means; its names are there (`has_names`)
+abbrev pub scalar_meant : Surroundings → WrittenScalar → ScalarKind
+scalar_meant s written.Void = element.Void
+scalar_meant s written.Boolean = element.Boolean
+scalar_meant s written.Integer = element.Integer
+scalar_meant s written.String = element.String
+scalar_meant s (written.Enumeration e) = enumeration_kind (named_at s.model s.unit e.0)
+scalar_meant s (written.Class c) = class_kind (named_at s.model s.unit c.0)
+scalar_meant s written.AnyObject = element.AnyObject
+
+abbrev pub kind_meant : Surroundings → WrittenKind → Kind
+kind_meant s (kinds.Scalar k) = Scalar (scalar_meant s k)
+kind_meant s (kinds.Collection c k) = Collection c (scalar_meant s k)
+
+-- ---- operands
+
+-- the operands that an instruction takes, the topmost first
+abbrev pub operands_of : Surroundings → Instr → List Pattern
+operands_of s (instrs.Attr a) = Fitting (Scalar (owner_kind (named_at s.model s.unit a.0))) ∷ []
+operands_of s (instrs.AsColl c k) = Fitting (Scalar (scalar_meant s k)) ∷ []
+operands_of s (instrs.KindOf c) = an_object ∷ []
+operands_of s (instrs.TypeOf c) = an_object ∷ []
+operands_of s (instrs.AsType c) = an_object ∷ []
+operands_of s instrs.Add = an_integer ∷ an_integer ∷ []
+operands_of s instrs.Sub = an_integer ∷ an_integer ∷ []
+operands_of s instrs.Mul = an_integer ∷ an_integer ∷ []
+operands_of s instrs.Div = an_integer ∷ an_integer ∷ []
+operands_of s instrs.Mod = an_integer ∷ an_integer ∷ []
+operands_of s instrs.Neg = an_integer ∷ []
+operands_of s instrs.Abs = an_integer ∷ []
+operands_of s instrs.Min = an_integer ∷ an_integer ∷ []
+operands_of s instrs.Max = an_integer ∷ an_integer ∷ []
+operands_of s instrs.Lt = an_integer ∷ an_integer ∷ []
+operands_of s instrs.Le = an_integer ∷ an_integer ∷ []
+operands_of s instrs.Gt = an_integer ∷ an_integer ∷ []
+operands_of s instrs.Ge = an_integer ∷ an_integer ∷ []
+operands_of s instrs.Not = a_boolean ∷ []
+operands_of s instrs.And = a_boolean ∷ a_boolean ∷ []
+operands_of s instrs.Or = a_boolean ∷ a_boolean ∷ []
+operands_of s instrs.Xor = a_boolean ∷ a_boolean ∷ []
+operands_of s instrs.Implies = a_boolean ∷ a_boolean ∷ []
+operands_of s (instrs.Eq k) = Fitting (kind_meant s k) ∷ Fitting (kind_meant s k) ∷ []
+operands_of s instrs.Eqx = Anything ∷ Anything ∷ []
+operands_of s instrs.Undef = Anything ∷ []
+operands_of s instrs.IsInv = Anything ∷ []
+operands_of s instrs.TLen = a_string ∷ []
+operands_of s instrs.SubStr = an_integer ∷ an_integer ∷ a_string ∷ []
+operands_of s instrs.Size = AnyCollection ∷ []
+operands_of s instrs.IsEmpty = AnyCollection ∷ []
+operands_of s (instrs.Includes k) = Fitting (Scalar (scalar_meant s k)) ∷ CollectionOf (scalar_meant s k) ∷ []
+operands_of s (instrs.Count k) = Fitting (Scalar (scalar_meant s k)) ∷ CollectionOf (scalar_meant s k) ∷ []
+operands_of s (instrs.IncAll k) = CollectionOf (scalar_meant s k) ∷ CollectionOf (scalar_meant s k) ∷ []
+operands_of s (instrs.ExcAll k) = CollectionOf (scalar_meant s k) ∷ CollectionOf (scalar_meant s k) ∷ []
+operands_of s instrs.Sum = CollectionOf element.Integer ∷ []
+operands_of s (instrs.AsSet k) = CollectionOf (scalar_meant s k) ∷ []
+operands_of s (instrs.Let n) = Anything ∷ []
+operands_of s (instrs.If k n m) = a_boolean ∷ []
+operands_of s (instrs.ForAll n) = AnyCollection ∷ []
+operands_of s (instrs.Exists n) = AnyCollection ∷ []
+operands_of s (instrs.One n) = AnyCollection ∷ []
+operands_of s (instrs.Select n) = AnyCollection ∷ []
+operands_of s (instrs.Reject n) = AnyCollection ∷ []
+operands_of s (instrs.Collect n) = AnyCollection ∷ []
+operands_of s (instrs.CollectFlat n) = AnyCollection ∷ []
+operands_of s (instrs.IsUnique k n) = AnyCollection ∷ []
+operands_of s i = []
+
+-- ---- variables
+
+-- the variable of this number, where the newest comes first and the oldest has number 0
+abbrev pub variable_kind : List Kind → ℕ → Option Kind
+variable_kind [] n = None
+variable_kind (k ∷ ks) n = if n == length ks then Some k else variable_kind ks n
+
+-- the variable that an instruction reads is there
+abbrev pub has_variable : List Kind → Instr → Bool
+has_variable vars (instrs.Get n) = is_some (variable_kind vars n)
+has_variable vars i = true
+
+-- ---- results
+
+abbrev pub element_of : Kind → ScalarKind
+element_of (Scalar k) = k
+element_of (Collection c k) = k
+
+abbrev pub topmost : List Kind → Kind
+topmost [] = Scalar element.Void
+topmost (k ∷ ks) = k
+
+abbrev pub or_void : Option Kind → Kind
+or_void None = Scalar element.Void
+or_void (Some k) = k
+
+-- what an instruction without a body gives, by the variables and by the operands before it
+abbrev pub result_kind : Surroundings → List Kind → Instr → List Kind → Kind
+result_kind s vars instrs.SelfObject ks = Scalar (element.Class s.context)
+result_kind s vars (instrs.Get n) ks = or_void (variable_kind vars n)
+result_kind s vars (instrs.Int n) ks = Scalar element.Integer
+result_kind s vars (instrs.Bool b) ks = Scalar element.Boolean
+result_kind s vars (instrs.Text t) ks = Scalar element.String
+result_kind s vars (instrs.Enum l) ks = Scalar (literal_kind (named_at s.model s.unit l.0))
+result_kind s vars (instrs.Attr a) ks = feature_read s.model (named_at s.model s.unit a.0)
+result_kind s vars (instrs.All c) ks = Collection collection.Set (class_kind (named_at s.model s.unit c.0))
+result_kind s vars (instrs.AsColl c k) ks = Collection c (scalar_meant s k)
+result_kind s vars (instrs.KindOf c) ks = Scalar element.Boolean
+result_kind s vars (instrs.TypeOf c) ks = Scalar element.Boolean
+result_kind s vars (instrs.AsType c) ks = Scalar (class_kind (named_at s.model s.unit c.0))
+result_kind s vars instrs.Add ks = Scalar element.Integer
+result_kind s vars instrs.Sub ks = Scalar element.Integer
+result_kind s vars instrs.Mul ks = Scalar element.Integer
+result_kind s vars instrs.Div ks = Scalar element.Integer
+result_kind s vars instrs.Mod ks = Scalar element.Integer
+result_kind s vars instrs.Neg ks = Scalar element.Integer
+result_kind s vars instrs.Abs ks = Scalar element.Integer
+result_kind s vars instrs.Min ks = Scalar element.Integer
+result_kind s vars instrs.Max ks = Scalar element.Integer
+result_kind s vars instrs.Lt ks = Scalar element.Boolean
+result_kind s vars instrs.Le ks = Scalar element.Boolean
+result_kind s vars instrs.Gt ks = Scalar element.Boolean
+result_kind s vars instrs.Ge ks = Scalar element.Boolean
+result_kind s vars instrs.Not ks = Scalar element.Boolean
+result_kind s vars instrs.And ks = Scalar element.Boolean
+result_kind s vars instrs.Or ks = Scalar element.Boolean
+result_kind s vars instrs.Xor ks = Scalar element.Boolean
+result_kind s vars instrs.Implies ks = Scalar element.Boolean
+result_kind s vars (instrs.Eq k) ks = Scalar element.Boolean
+result_kind s vars instrs.Eqx ks = Scalar element.Boolean
+result_kind s vars instrs.Undef ks = Scalar element.Boolean
+result_kind s vars instrs.IsInv ks = Scalar element.Boolean
+result_kind s vars instrs.TLen ks = Scalar element.Integer
+result_kind s vars instrs.SubStr ks = Scalar element.String
+result_kind s vars instrs.Size ks = Scalar element.Integer
+result_kind s vars instrs.IsEmpty ks = Scalar element.Boolean
+result_kind s vars (instrs.Includes k) ks = Scalar element.Boolean
+result_kind s vars (instrs.Count k) ks = Scalar element.Integer
+result_kind s vars (instrs.IncAll k) ks = Scalar element.Boolean
+result_kind s vars (instrs.ExcAll k) ks = Scalar element.Boolean
+result_kind s vars instrs.Sum ks = Scalar element.Integer
+result_kind s vars (instrs.AsSet k) ks = Collection collection.Set (element_of (topmost ks))
+result_kind s vars i ks = Scalar element.Void
+
+-- ---- blocks
+
+-- the variable that a block with one body binds, by the operand that it takes
+abbrev pub binds : Instr → Kind → Kind
+binds (instrs.Let n) k = k
+binds i k = Scalar (element_of k)
+
+-- what the bodies of a block end with
+abbrev pub ends_with : Surroundings → Instr → Pattern
+ends_with s (instrs.Let n) = Anything
+ends_with s (instrs.If k n m) = Fitting (kind_meant s k)
+ends_with s (instrs.Collect n) = AnySingle
+ends_with s (instrs.CollectFlat n) = AnyCollection
+ends_with s (instrs.IsUnique k n) = Fitting (Scalar (scalar_meant s k))
+ends_with s i = a_boolean
+
+-- what is collected of a collection: a Bag of a Set or a Bag, a Sequence of the others
+abbrev pub collected : Kind → CollectionKind
+collected (Collection collection.OrderedSet k) = collection.Sequence
+collected (Collection collection.Sequence k) = collection.Sequence
+collected k = collection.Bag
+
+-- what a block gives, by the operand that it takes and by what its body ends with
+abbrev pub yields : Surroundings → Instr → Kind → Kind → Kind
+yields s (instrs.Let n) k r = r
+yields s (instrs.If w n m) k r = kind_meant s w
+yields s (instrs.Select n) k r = k
+yields s (instrs.Reject n) k r = k
+yields s (instrs.Collect n) k r = Collection (collected k) (element_of r)
+yields s (instrs.CollectFlat n) k r = Collection (collected k) (element_of r)
+yields s i k r = Scalar element.Boolean
+
+-- ---- memory
+
+-- an instruction that may take memory when it is run
+abbrev pub may_take_memory : Instr → Bool
+may_take_memory (instrs.AsColl c k) = true
+may_take_memory (instrs.AsSet k) = true
+may_take_memory (instrs.Select n) = true
+may_take_memory (instrs.Reject n) = true
+may_take_memory (instrs.Collect n) = true
+may_take_memory (instrs.CollectFlat n) = true
+may_take_memory (instrs.IsUnique k n) = true
+may_take_memory i = false

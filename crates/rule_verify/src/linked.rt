@@ -1,0 +1,147 @@
+//! Units whose symbols have been looked up in a class model.
+
+ghost use Rattle.std.specs.Prelude.{◌≡◌, ◌<◌, length, map, IfOk, IfErr, IfSome, Some};
+ghost use Rattle.imkl_model.specs.ClassModel.{belongs};
+ghost use Rattle.rule_code.specs.View.{content};
+ghost use Rattle.rule_code.specs.WellFormed.{SymbolFits};
+ghost use Rattle.rule_verify.specs.Symbols.{named_by, named_at, class_in};
+ghost use Rattle.rule_verify.specs.Known.{IsKnownName};
+
+use crate::named::Named;
+use imkl_model::{ClassModel, ClassNo};
+use rule_code::{Symbol, SymbolNumber, Unit};
+use std::alloc::{AllocError, Global};
+use std::marker::Model;
+
+/// A unit, with what each of its symbols names in a class model.
+#[derive(Drop)]
+pub struct Linked<'m> {
+    model: &'m ClassModel,
+    unit: Unit,
+    names: Vec<Option<Named>>,
+}
+
+impl<'m> Model for Linked<'m> {
+    ghost use Rattle.std.specs.Prelude.{◌≡◌, map};
+    ghost use Rattle.rule_verify.specs.Linked.{LinkedUnit};
+    ghost use Rattle.rule_verify.specs.Symbols.{named_by};
+    ghost use Rattle.rule_code.specs.View.{content};
+
+    ghost Value = { LinkedUnit };
+
+    ghost view = { λ l. record { model = l.model.now; unit = content l.unit } };
+
+    ghost invariant = { λ l. l.names.items ≡
+        map (named_by l.model.now (content l.unit).texts) (content l.unit).symbols };
+}
+
+/// What a symbol of a unit names in a class model, if it is there.
+pub fn look_up(model: &ClassModel, unit: &Unit, symbol: Symbol) -> Option<Named>
+    requires { SymbolFits (length (content unit.now).texts) symbol }
+    ensures { result ≡ named_by model.now (content unit.now).texts symbol }
+{
+    match symbol {
+        Symbol::Class(class) => {
+            let class = model.class(unit.text(class))?;
+            Some(Named::Class(class))
+        }
+        Symbol::Enumeration(enumeration) => {
+            let enumeration = model.enumeration(unit.text(enumeration))?;
+            Some(Named::Enumeration(enumeration))
+        }
+        Symbol::Feature { class, feature } => {
+            let class = model.class(unit.text(class))?;
+            let feature = model.feature(class, unit.text(feature))?;
+            Some(Named::Feature(class, feature))
+        }
+        Symbol::Literal {
+            enumeration,
+            literal,
+        } => {
+            let enumeration = model.enumeration(unit.text(enumeration))?;
+            let literal = model.literal(enumeration, unit.text(literal))?;
+            Some(Named::Literal(enumeration, literal))
+        }
+    }
+}
+
+/// What each symbol of a unit names, if it is there.
+fn names_of(
+    alloc: Global,
+    model: &ClassModel,
+    unit: &Unit,
+) -> Result<Vec<Option<Named>>, AllocError>
+    ensures { IfOk result (λ v. v.items ≡ map (named_by model.now (content unit.now).texts)
+        (content unit.now).symbols) }
+{
+    let mut names = Vec::new(alloc);
+    for symbol in unit.symbols.as_slice() {
+        names.push(look_up(model, unit, *symbol))?;
+    }
+    Ok(names)
+}
+
+/// Looks up what each symbol of a unit names, each once. Where memory runs out the unit comes back.
+pub fn link<'m>(
+    alloc: Global,
+    model: &'m ClassModel,
+    unit: Unit,
+) -> Result<Linked<'m>, (AllocError, Unit)>
+    ensures model { IfOk result (λ l. l.model ≡ model.entry.now) }
+    ensures unit { IfOk result (λ l. l.unit ≡ content unit) }
+    ensures refused { IfErr result (λ r. content r.1 ≡ content unit) }
+{
+    match names_of(alloc, model, &unit) {
+        Ok(names) => Ok(Linked { model, unit, names }),
+        Err(refused) => Err((refused, unit)),
+    }
+}
+
+impl<'m> Linked<'m> {
+    /// The unit again.
+    pub fn into_unit(self) -> Unit
+        ensures { content result ≡ self.entry.unit }
+    {
+        let Linked {
+            model: _,
+            unit,
+            names: _,
+        } = self;
+        unit
+    }
+
+    /// The class model.
+    pub fn model(&self) -> &'m ClassModel
+        ensures { result.now ≡ self.now.model }
+    {
+        self.model
+    }
+
+    /// The unit.
+    pub fn unit(&self) -> &Unit
+        ensures { content result.now ≡ self.now.unit }
+    {
+        &self.unit
+    }
+
+    /// What a symbol names, if it is there.
+    pub fn named(&self, symbol: SymbolNumber) -> Option<Named>
+        requires { symbol.0 < length self.now.unit.symbols }
+        ensures name { result ≡ named_at self.now.model self.now.unit symbol.0 }
+        ensures known { IfSome result (IsKnownName self.now.model) }
+    {
+        self.names[usize::from(symbol.0)]
+    }
+
+    /// The class that a symbol names, if it names one that is there.
+    pub fn class(&self, symbol: SymbolNumber) -> Option<ClassNo>
+        requires { symbol.0 < length self.now.unit.symbols }
+        ensures class { result ≡ class_in (named_at self.now.model self.now.unit symbol.0) }
+        ensures in_range { IfSome result (λ c. c < length self.now.model.classes) }
+    {
+        match self.named(symbol)? {
+            Named::Class(class) => Some(class),
+            _ => None,
+        }
+    }
+}
