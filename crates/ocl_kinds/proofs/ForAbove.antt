@@ -136,7 +136,8 @@ wider_commutes m well j k = wider_by (fits m j k) (fits m k j) j k (fits_one_way
 
 -- ---- the kind that two have in common
 
-fits_comparable : (m : Model) (k : ScalarKind) → scalar_fits m k (comparable k) ≡ true
+-- a kind fits the one that its values are compared as
+pub fits_comparable : (m : Model) (k : ScalarKind) → scalar_fits m k (comparable k) ≡ true
 fits_comparable m (Class c) = refl
 fits_comparable m (Enumeration e) = eq-eqb e e refl
 fits_comparable m k = refl

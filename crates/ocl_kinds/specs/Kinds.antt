@@ -63,6 +63,20 @@ element_kind (type.Class c) = Class c
 abbrev pub feature_kind : FeatureInfo → Kind
 feature_kind f = if is_single f.upper then Scalar (element_kind f.element) else Collection f.kind (element_kind f.element)
 
+-- ---- collections
+
+-- the kind of a collection's elements, or of a single value
+abbrev pub elements_kind : Kind → ScalarKind
+elements_kind (Scalar k) = k
+elements_kind (Collection c k) = k
+
+-- what is collected from a unique unordered or ordered collection may repeat; order stays
+abbrev pub collected_kind : CollectionKind → CollectionKind
+collected_kind collection.Set = collection.Bag
+collected_kind collection.OrderedSet = collection.Sequence
+collected_kind collection.Bag = collection.Bag
+collected_kind collection.Sequence = collection.Sequence
+
 -- ---- two kinds
 
 -- the wider of two kinds: the one that the other fits

@@ -1,7 +1,8 @@
 //! Kinds, and the kinds of features.
 
 ghost use Rattle.std.specs.Prelude.{◌≡◌};
-ghost use Rattle.ocl_kinds.specs.Kinds.{element_kind, feature_kind};
+ghost use Rattle.imkl_model.specs.ClassModel.{Model};
+ghost use Rattle.ocl_kinds.specs.Kinds.{IsScalarKindOf, IsKindOf, element_kind, feature_kind, elements_kind, collected_kind};
 
 use imkl_model::{ClassNo, CollectionKind, ElementType, EnumNo, FeatureInfo};
 
@@ -55,5 +56,25 @@ pub fn feature_kind(feature: &FeatureInfo) -> Kind
         Kind::Scalar(element)
     } else {
         Kind::Collection(feature.kind, element)
+    }
+}
+
+/// The kind of a collection's elements, or of a single value.
+pub fn elements_kind(kind: &Kind) -> ScalarKind
+    ensures value { result ≡ elements_kind kind.now }
+    ensures known { (m : Model) → IsKindOf m kind.now → IsScalarKindOf m result }
+{
+    match kind {
+        Kind::Scalar(element) | Kind::Collection(_, element) => *element,
+    }
+}
+
+/// The kind of what is collected from a collection of a kind.
+pub fn collected_kind(source: CollectionKind) -> CollectionKind
+    ensures { result ≡ collected_kind source }
+{
+    match source {
+        CollectionKind::Set | CollectionKind::Bag => CollectionKind::Bag,
+        CollectionKind::OrderedSet | CollectionKind::Sequence => CollectionKind::Sequence,
     }
 }

@@ -1,5 +1,6 @@
 -- What the crates above cite: how each kind of node is seen, so that they open a node by these equations alone.
 use Rattle.ocl_text.proofs.Views as v
+pub use Rattle.ocl_text.proofs.Views.{view-Spine, view-Let, link_of-Binary, link_of-Property, link_of-Call, link_of-Iterate}
 
 pub ruleset type_views = (v.view_type-Named, v.view_type-Collection)
 

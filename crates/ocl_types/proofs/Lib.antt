@@ -5,3 +5,10 @@ pub mod Accepted
 pub mod Scopes
 pub mod Links
 pub mod Several
+pub mod Bindings
+pub mod TypedSteps
+pub mod TypedScopes
+pub mod TypedTypes
+pub mod TypedOperations
+pub mod TypedIterations
+pub mod TypedWalk

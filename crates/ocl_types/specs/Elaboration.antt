@@ -11,7 +11,7 @@ use Rattle.ocl_kinds.specs.declared.kind.ScalarKind.{ScalarKind}
 use Rattle.ocl_kinds.specs.declared.kind.ScalarKind.TheVariants as element
 use Rattle.ocl_kinds.specs.declared.kind.Kind.{Kind}
 use Rattle.ocl_kinds.specs.declared.kind.Kind.TheVariants.{Scalar, Collection}
-use Rattle.ocl_kinds.specs.Kinds.{is_same_collection, fits, wider_kind, comparable, common_kind}
+use Rattle.ocl_kinds.specs.Kinds.{is_same_collection, fits, elements_kind, collected_kind, wider_kind, comparable, common_kind}
 use Rattle.ocl_text.specs.declared.tree.BinaryOperator.{BinaryOperator}
 use Rattle.ocl_text.specs.declared.tree.PrefixOperator.{PrefixOperator}
 use Rattle.ocl_text.specs.declared.tree.PrefixOperator.TheVariants as prefix
@@ -208,13 +208,6 @@ binary_of m operator x y right offset = binary_by m (binary operator) x y right 
 
 -- ---- the shorthand on collections
 
--- what is collected from a unique unordered or ordered collection may repeat; order stays
-abbrev pub collected_kind : CollectionKind → CollectionKind
-collected_kind collection.Set = collection.Bag
-collected_kind collection.OrderedSet = collection.Sequence
-collected_kind collection.Bag = collection.Bag
-collected_kind collection.Sequence = collection.Sequence
-
 abbrev pub collect_by : CoreTree → CollectionKind → CoreTree → Kind → TypedTree
 collect_by source c body (Scalar e) = typed (tree.Iterate iteration.Collect source body) (Collection (collected_kind c) e)
 collect_by source c body (Collection d e) =
@@ -315,10 +308,6 @@ class_call x operator classes offset = do
   _ ← check (is_object x.kind) (type_fault_at UnknownOperation offset)
   c ← found (one_class classes) (type_fault_at WrongArgumentCount offset)
   Ok (typed (plainly (OfClass operator c) x.core []) (class_result operator c))
-
-abbrev pub elements_kind : Kind → ScalarKind
-elements_kind (Scalar e) = e
-elements_kind (Collection c e) = e
 
 abbrev pub scalar_argument : List Kind → Option ScalarKind
 scalar_argument (Scalar d ∷ []) = Some d

@@ -11,3 +11,4 @@ pub mod TableView
 pub mod ScopeView
 pub mod GatheredView
 pub mod CallView
+pub mod Walk

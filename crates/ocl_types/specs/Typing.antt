@@ -9,7 +9,7 @@ use Rattle.ocl_kinds.specs.declared.kind.ScalarKind.{ScalarKind}
 use Rattle.ocl_kinds.specs.declared.kind.ScalarKind.TheVariants as element
 use Rattle.ocl_kinds.specs.declared.kind.Kind.{Kind}
 use Rattle.ocl_kinds.specs.declared.kind.Kind.TheVariants.{Scalar, Collection}
-use Rattle.ocl_kinds.specs.Kinds.{IsScalarKindOf, IsKindOf, scalar_fits, fits, feature_kind}
+use Rattle.ocl_kinds.specs.Kinds.{IsScalarKindOf, IsKindOf, scalar_fits, fits, feature_kind, collected_kind}
 use Rattle.ocl_types.specs.declared.operator.BasicType.{BasicType}
 use Rattle.ocl_types.specs.declared.operator.BasicType.TheVariants as type
 use Rattle.ocl_types.specs.declared.operator.PlainOperator.{PlainOperator}
@@ -23,7 +23,7 @@ use Rattle.ocl_types.specs.declared.core_tree.Iteration.TheVariants as iteration
 use Rattle.ocl_types.specs.Core as tree
 use Rattle.ocl_types.specs.Core.{Constant, CoreTree, CoreTrees, CheckedRule}
 use Rattle.ocl_types.specs.Operators.{basic, basic_kind}
-use Rattle.ocl_types.specs.Elaboration.{truth_kind, collected_kind, class_result, element_result}
+use Rattle.ocl_types.specs.Elaboration.{truth_kind, class_result, element_result}
 
 -- ---- constants
 

@@ -20,7 +20,7 @@ use crate::operator::{BasicType, ClassOperator, ElementOperator, Operator};
 use crate::table::{Effect, row_for};
 use crate::wanted::{Gathered, is_of};
 use imkl_model::{ClassModel, ClassNo, CollectionKind};
-use ocl_kinds::{Kind, ScalarKind, common_kind, comparable};
+use ocl_kinds::{Kind, ScalarKind, common_kind, comparable, elements_kind};
 use std::alloc::Global;
 
 /// Values as the arguments of a call.
@@ -112,15 +112,6 @@ fn accepts(model: &ClassModel, parameters: &[BasicType], kinds: &[Kind]) -> bool
         }
     }
     true
-}
-
-fn elements_kind(kind: &Kind) -> ScalarKind
-    ensures value { result ≡ spec.elements_kind kind.now }
-    ensures known { (m : Model) → IsKindOf m kind.now → IsScalarKindOf m result }
-{
-    match kind {
-        Kind::Scalar(element) | Kind::Collection(_, element) => *element,
-    }
 }
 
 fn scalar_argument(kinds: &[Kind]) -> Option<ScalarKind>

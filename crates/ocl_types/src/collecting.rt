@@ -14,18 +14,8 @@ use crate::names::feature_value;
 use crate::nodes;
 use crate::scope::feature_of;
 use imkl_model::{ClassModel, CollectionKind};
-use ocl_kinds::Kind;
+use ocl_kinds::{Kind, collected_kind};
 use std::alloc::{AllocError, Global};
-
-/// The kind of what is collected from a collection of a kind.
-fn collected_kind(source: CollectionKind) -> CollectionKind
-    ensures { result ≡ spec.collected_kind source }
-{
-    match source {
-        CollectionKind::Set | CollectionKind::Bag => CollectionKind::Bag,
-        CollectionKind::OrderedSet | CollectionKind::Sequence => CollectionKind::Sequence,
-    }
-}
 
 /// The values of a body for each element; a body that is a collection is flattened.
 pub(crate) fn collect_of(

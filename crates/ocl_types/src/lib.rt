@@ -9,14 +9,18 @@ mod core_tree;
 mod declared;
 mod fault;
 mod iterations;
+mod lets;
 mod names;
 mod nodes;
 mod operator;
 mod operators;
+mod rules;
 mod scope;
 mod table;
+mod walk;
 mod wanted;
 
 pub use core_tree::{ConstantValue, Core, CoreLink, CoreRule, Iteration};
 pub use fault::{TypeFault, TypeFlaw};
 pub use operator::{BasicType, ClassOperator, ElementOperator, Operator, PlainOperator};
+pub use rules::check;

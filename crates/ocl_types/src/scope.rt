@@ -8,7 +8,7 @@ ghost use Rattle.ocl_types.specs.Core.{CoreTree};
 ghost use Rattle.ocl_types.specs.Scope as spec;
 ghost use Rattle.ocl_types.specs.ScopeView.{binder_view, scope_view, AreKnownVariables, typed_variable, typed_feature};
 
-use imkl_model::{ClassModel, FeatureNo};
+use imkl_model::{ClassModel, ClassNo, FeatureNo};
 use ocl_kinds::{Kind, ScalarKind};
 use ocl_text::Name;
 use std::alloc::{AllocError, Global};
@@ -59,6 +59,20 @@ pub(crate) fn copied(
         copy.push(variable.copy(alloc)?)?;
     }
     Ok(copy)
+}
+
+/// The object of the context class alone: its features can be named without it.
+pub(crate) fn outermost(alloc: Global, context: ClassNo) -> Result<Vec<ScopeVariable>, AllocError>
+    ensures value { IfOk result (λ v. scope_view v.items ≡ spec.outermost context) }
+    ensures known { (m : Model) → context < length m.classes
+        → IfOk result (λ v. AreKnownVariables m v.items) }
+{
+    let mut scope = Vec::new(alloc);
+    scope.push(ScopeVariable {
+        binder: Binder::Implicit,
+        kind: Kind::Scalar(ScalarKind::Class(context)),
+    })?;
+    Ok(scope)
 }
 
 fn has_name(binder: &Binder, name: &str) -> bool

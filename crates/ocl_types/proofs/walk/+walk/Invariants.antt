@@ -1,0 +1,31 @@
+use Rattle.std.proofs.Common.{◌≡◌, map, drop, All}
+use Rattle.ocl_kinds.specs.Kinds.{IsKindOf}
+use Rattle.ocl_text.specs.Tree.{SurfaceTree, trees_of}
+use Rattle.ocl_text.specs.View.{view, bound_of}
+use Rattle.ocl_types.specs.Core.{typed_trees}
+use Rattle.ocl_types.specs.CoreView.{core_view, typed_of}
+use Rattle.ocl_types.specs.Walk as walk
+use Rattle.ocl_types.specs.Walk.{IsLeft}
+use Rattle.ocl_types.specs.ScopeView.{scope_view, AreKnownVariables}
+use Rattle.ocl_types.specs.Elaboration as spec
+use Rattle.ocl_types.proofs.Bindings.{after_bound}
+use Rattle.ocl_types.proofs.Several.{after_values}
+use Rattle.ocl_types.proofs.walk.+walk.Given as goal
+
+abbrev pub invariant-elaborate_all-arguments : goal.invariant-elaborate_all-arguments
+invariant-elaborate_all-arguments l =
+    (after_values (typed_trees (map core_view l.cores.items) l.kinds.items) (spec.elaborates l.model l.context (scope_view l.scope) (trees_of (map view (drop l.argument-index l.arguments))))
+    ≡ spec.elaborates l.model l.context (scope_view l.scope) (trees_of (map view l.arguments)))
+    × All (IsKindOf l.model) l.kinds.items
+
+abbrev pub invariant-links_after-links : goal.invariant-links_after-links
+invariant-links_after-links l =
+    ((tree : SurfaceTree) → IsLeft l.model l.context (scope_view l.scope) tree (drop l.from l.links) (typed_of l.fn.left) l.fn.left_offset
+    → IsLeft l.model l.context (scope_view l.scope) tree (drop l.i l.links) (typed_of l.value) l.offset)
+    × IsKindOf l.model l.value.kind
+
+abbrev pub invariant-bind_all-bindings : goal.invariant-bind_all-bindings
+invariant-bind_all-bindings l =
+    (after_bound (map core_view l.values.items) (walk.bind_all l.model l.context (scope_view l.inner.items) (map bound_of (drop l.binding-index l.bindings)))
+    ≡ walk.bind_all l.model l.context (scope_view l.fn.scope.items) (map bound_of l.bindings))
+    × AreKnownVariables l.model l.inner.items

@@ -1,0 +1,116 @@
+-- The walk in the steps that the code makes.
+use Rattle.std.specs.Prelude.{◌≡◌, ℕ, List, [], ◌∷◌, map, length, Option, None, Result, Ok}
+use Rattle.imkl_model.specs.ClassModel.{Model}
+use Rattle.ocl_base.specs.Steps.{◌>>=◌}
+use Rattle.ocl_text.specs.declared.tree.BinaryOperator.{BinaryOperator}
+use Rattle.ocl_text.specs.declared.tree.IteratorKind.{IteratorKind}
+use Rattle.ocl_text.specs.declared.tree.Navigation.{Navigation}
+use Rattle.ocl_text.specs.declared.tree.Link.{Link}
+use Rattle.ocl_text.specs.Tree as t
+use Rattle.ocl_text.specs.Tree.{Variables, SurfaceTree, Trees, Bound, offset_of, type_offset}
+use Rattle.ocl_text.specs.View.{link_of, spine_of}
+use Rattle.ocl_types.specs.declared.lets.BoundCore as declared
+use Rattle.ocl_types.specs.declared.lets.BoundCores as declared_all
+use Rattle.ocl_types.specs.Core as tree
+use Rattle.ocl_types.specs.Core.{CoreTree, TypedTree, typed}
+use Rattle.ocl_types.specs.CoreView.{core_view}
+use Rattle.ocl_types.specs.Faults.{TypeFaultAt}
+use Rattle.ocl_types.specs.Operators.{class_operator}
+use Rattle.ocl_types.specs.Scope.{VariableScope, Named, scope_variable, inside}
+use Rattle.ocl_types.specs.ScopeView.{scope_view}
+use Rattle.ocl_types.specs.Elaboration.{Elaborated, Receiver, class_before, left_of, binary_of, arguments_of, classes_of_arguments, seen_by_arguments, instances_call, call_of, source_of_arrow, inner_scope, iterate_of, declared_kind, bound_value, elaborate, elaborates}
+
+-- the name of the class in `C.allInstances(..)`, with its offset
+abbrev pub class_of_call : SurfaceTree → Option (List ℕ × ℕ)
+class_of_call (t.Call source navigation name arguments offset) = class_before source navigation name
+class_of_call tree = None
+
+-- the same of an operand with its first link
+abbrev pub class_before_links : SurfaceTree → List Link → Option (List ℕ × ℕ)
+class_before_links first [] = None
+class_before_links first (l ∷ ls) = class_of_call (link_of l first)
+
+-- a scope that ends with the variable of a `let`, and its value
+pub record BoundCore : Type 0 where
+  pub scope : VariableScope
+  pub value : CoreTree
+
+abbrev pub bound_core : VariableScope → CoreTree → BoundCore
+bound_core scope value = record { scope = scope; value = value }
+
+-- a scope that ends with the variables of several bindings, and their values
+pub record BoundCores : Type 0 where
+  pub scope : VariableScope
+  pub values : List CoreTree
+
+abbrev pub bound_cores : VariableScope → List CoreTree → BoundCores
+bound_cores scope values = record { scope = scope; values = values }
+
+-- a body inside these values
+abbrev pub lets_of : List CoreTree → CoreTree → CoreTree
+lets_of [] body = body
+lets_of (v ∷ vs) body = tree.Let v (lets_of vs body)
+
+module _ (m : Model) (context : ℕ) where
+  -- an operator after its left operand, which stands at its own offset
+  abbrev pub binary_after : VariableScope → BinaryOperator → TypedTree → ℕ → SurfaceTree → ℕ → Elaborated
+  binary_after s operator x left right offset = do
+    _ ← left_of m operator x.kind left
+    y ← elaborate m context s right
+    binary_of m operator x y (offset_of right) offset
+
+  -- a call after what it is applied to
+  abbrev pub call_after : VariableScope → Receiver → Navigation → List ℕ → Trees → ℕ → Elaborated
+  call_after s x navigation name arguments offset = do
+    xs ← arguments_of (class_operator name) (classes_of_arguments m arguments) (elaborates m context (seen_by_arguments x navigation s) arguments)
+    call_of m (length s) x navigation name xs offset
+
+  -- `allInstances` after its class
+  abbrev pub instances_after : VariableScope → ℕ → List ℕ → Trees → ℕ → Elaborated
+  instances_after s class name arguments offset = do
+    xs ← arguments_of (class_operator name) (classes_of_arguments m arguments) (elaborates m context s arguments)
+    instances_call class xs offset
+
+  -- an iteration after its source
+  abbrev pub iterate_after : VariableScope → IteratorKind → TypedTree → Variables → SurfaceTree → ℕ → Elaborated
+  iterate_after s iterator x variables body offset = do
+    inner ← inner_scope m s (source_of_arrow x) variables
+    y ← elaborate m context inner body
+    iterate_of m (length s) iterator (source_of_arrow x) variables y (offset_of body)
+
+  -- one binding
+  abbrev pub bind_one : VariableScope → Bound → Result BoundCore TypeFaultAt
+  bind_one s b = do
+    kind ← declared_kind m b.declared
+    x ← elaborate m context s b.value
+    v ← bound_value m kind x (type_offset b.declared)
+    Ok (bound_core (inside s (scope_variable (Named b.name) kind)) v)
+
+  -- bindings, each seen by those after it
+  abbrev pub bind_all : VariableScope → List Bound → Result BoundCores TypeFaultAt
+  bind_all s [] = Ok (bound_cores s [])
+  bind_all s (b ∷ bs) = do
+    first ← bind_one s b
+    rest ← bind_all first.scope bs
+    Ok (bound_cores rest.scope (first.value ∷ rest.values))
+
+  -- a body after its bindings
+  abbrev pub body_after : SurfaceTree → BoundCores → Elaborated
+  body_after body b = do
+    y ← elaborate m context b.scope body
+    Ok (typed (lets_of b.values y.core) y.kind)
+
+  -- What stands left of the links that are left to go over: it is no name of a class before `.allInstances`.
+  pub record IsLeft (s : VariableScope) (whole : SurfaceTree) (rest : List Link) (x : TypedTree) (offset : ℕ) : Type 0 where
+    pub left : SurfaceTree
+    pub value : elaborate m context s left ≡ Ok x
+    pub stands : offset_of left ≡ offset
+    pub goes_on : spine_of left (map link_of rest) ≡ whole
+    pub plain : class_before_links left rest ≡ None
+
+-- what the values of the code are, as bindings
+abbrev pub bound_view : declared.BoundCore → BoundCore
+bound_view b = bound_core (scope_view b.scope.items) (core_view b.value)
+
+abbrev pub bounds_view : declared_all.BoundCores → BoundCores
+bounds_view b = bound_cores (scope_view b.scope.items) (map core_view b.values.items)

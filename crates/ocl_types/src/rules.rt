@@ -1,0 +1,56 @@
+//! The check of a rule's types.
+
+ghost use Rattle.std.specs.Prelude.{◌≡◌, None, Err, IfOk};
+ghost use Rattle.imkl_model.specs.ClassModel.{class_number};
+ghost use Rattle.ocl_base.specs.Steps.{Gives};
+ghost use Rattle.ocl_text.specs.View.{rule_of};
+ghost use Rattle.ocl_types.specs.CoreView.{checked_rule_of};
+ghost use Rattle.ocl_types.specs.declared.fault.TypeFault.TheVariants.{At};
+ghost use Rattle.ocl_types.specs.declared.fault.TypeFlaw.TheVariants.{UnknownName};
+ghost use Rattle.ocl_types.specs.Elaboration.{elaborate_rule};
+ghost use Rattle.ocl_types.specs.Faults.{type_fault};
+ghost use Rattle.ocl_types.specs.Typing.{IsTypedRule};
+
+use crate::arguments::known_class;
+use crate::core_tree::CoreRule;
+use crate::fault::TypeFault;
+use crate::scope::outermost;
+use crate::walk::elaborate;
+use crate::wanted::asks_truth;
+use imkl_model::ClassModel;
+use ocl_text::SurfaceRule;
+use std::alloc::Global;
+
+/// The rule with its types, each step equal to the definition's.
+#[tactic(auto, unfolding(crate::specs::Elaboration::elaborate_rule))]
+fn core_rule(alloc: Global, model: &ClassModel, rule: &SurfaceRule) -> Result<CoreRule, TypeFault>
+    ensures gives { Gives type_fault checked_rule_of result
+        (elaborate_rule model.now (rule_of rule.now)) }
+    ensures unknown_context { class_number model.now rule.now.context ≡ None
+        → result ≡ Err (At UnknownName rule.now.context_offset) }
+{
+    let context = known_class(model, rule.context.as_str(), rule.context_offset)?;
+    let scope = outermost(alloc, context)?;
+    let value = elaborate(alloc, model, context, &scope, &rule.expression)?;
+    asks_truth(model, &value.kind, rule.expression.offset())?;
+    Ok(CoreRule {
+        name: rule.name.copy(alloc)?,
+        context,
+        tree: value.core,
+    })
+}
+
+/// Checks the types of a rule in a class model, and writes out what its text leaves out: see `docs/language.md`.
+///
+/// The first fault is reported: the context class comes before the expression; in it children come before their node, a
+/// source before the arguments, left before right. Memory may be refused in place of any fault but that of the context.
+pub fn check(alloc: Global, model: &ClassModel, rule: &SurfaceRule) -> Result<CoreRule, TypeFault>
+    ensures gives { Gives type_fault checked_rule_of result
+        (elaborate_rule model.now (rule_of rule.now)) }
+    ensures typed { IfOk result (λ r. IsTypedRule model.now (checked_rule_of r)) }
+    ensures unknown_context { class_number model.now rule.now.context ≡ None
+        → result ≡ Err (At UnknownName rule.now.context_offset) }
+{
+    model.well_formed();
+    core_rule(alloc, model, rule)
+}

@@ -1,0 +1,72 @@
+//! The deepest legal text: 64 constructs open, in each of them a chain of 256 operators and one of 256 steps.
+
+use crate::model::MODEL;
+use crate::rows::answer;
+use imkl_model::{ClassModel, ModelFault};
+use std::alloc::{AllocError, Global};
+use std::test::Fail;
+
+/// So many parentheses, one inside the other; after each that closes, a chain of steps and one of operators.
+fn deepest(alloc: Global) -> Result<String, AllocError> {
+    let mut text = String::from_str(alloc, "context Tray inv: ")?;
+    for _ in 0..64 {
+        text.push('(')?;
+    }
+    text.push('1')?;
+    for _ in 0..64 {
+        text.push(')')?;
+        push_chain(&mut text, ".abs()")?;
+        push_chain(&mut text, "+1")?;
+    }
+    text.push_str(">0")?;
+    Ok(text)
+}
+
+fn push_chain(text: &mut String, link: &str) -> Result<(), AllocError> {
+    for _ in 0..256 {
+        text.push_str(link)?;
+    }
+    Ok(())
+}
+
+/// So many iterations, one inside the other, each over the elements of the one outside.
+fn nested(alloc: Global) -> Result<String, AllocError> {
+    let mut text = String::from_str(alloc, "context Tray inv: ")?;
+    for _ in 0..64 {
+        text.push_str("above->forAll(")?;
+    }
+    text.push_str("flag")?;
+    for _ in 0..64 {
+        text.push(')')?;
+    }
+    Ok(text)
+}
+
+fn shown(alloc: Global, text: &str) -> Result<String, ModelFault> {
+    let model = ClassModel::read(alloc, MODEL.as_bytes())?;
+    Ok(answer(alloc, &model, text)?)
+}
+
+/// Whether the core tree of the deepest text begins and ends as it should.
+fn is_whole(alloc: Global) -> Result<bool, Fail> {
+    let text = deepest(alloc)?;
+    let tree = shown(alloc, text.as_str())?;
+    Ok(
+        tree.as_str().starts_with("1.Absolute().Absolute()")
+            && tree.as_str().ends_with(".Add(1).Add(1).Greater(0)"),
+    )
+}
+
+/// Whether the innermost body sees the innermost variable.
+fn is_innermost(alloc: Global) -> Result<bool, Fail> {
+    let text = nested(alloc)?;
+    let tree = shown(alloc, text.as_str())?;
+    Ok(tree.as_str().contains("{$63.above.ForAll{$64.flag}}"))
+}
+
+#[test]
+fn the_deepest_text_is_checked_shown_and_dropped(rt: HostRuntime) -> Result<(), Fail> {
+    assert!(rt; is_whole(rt.alloc())?);
+    assert!(rt; is_innermost(rt.alloc())?);
+    Ok(())
+}
