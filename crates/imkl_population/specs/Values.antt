@@ -1,5 +1,5 @@
 -- Which values may stand at a feature.
-use Rattle.std.specs.Prelude.{ℕ, ◌==◌, ◌&&◌, ◌||◌, Bool, true, false, not, List, [], ◌∷◌, Option, Some, None, nat_lt, bytes_eq, length, if◌then◌else◌}
+use Rattle.std.specs.Prelude.{ℕ, ◌-◌, ◌^◌, ◌==◌, ℤ, pos, negsuc, int_le, ◌&&◌, ◌||◌, Bool, true, false, not, List, [], ◌∷◌, Option, Some, None, nat_lt, bytes_eq, length, if◌then◌else◌}
 use Rattle.std.specs.Ordering.{int_eq}
 use Rattle.ocl_base.specs.Lists.{is_among, repeats}
 use Rattle.imkl_model.specs.declared.feature.ElementType.{ElementType}
@@ -9,6 +9,14 @@ use Rattle.imkl_population.specs.declared.scalar.Scalar.{Scalar}
 use Rattle.imkl_population.specs.declared.scalar.Scalar.TheVariants as scalar
 use Rattle.imkl_population.specs.Population.{Population, class_of}
 
+-- a whole number of 64 bits
+abbrev pub is_integer : ℤ → Bool
+is_integer n = int_le (negsuc (2 ^ 63 - 1)) n && int_le n (pos (2 ^ 63 - 1))
+
+abbrev pub is_whole_number : Scalar → Bool
+is_whole_number (scalar.Int n) = is_integer n
+is_whole_number v = false
+
 -- a value is a literal of an enumeration that has so many
 abbrev pub is_literal_of : ℕ → ℕ → Scalar → Bool
 is_literal_of e literals (scalar.Literal d l) = d == e && nat_lt l literals
@@ -17,7 +25,7 @@ is_literal_of e literals v = false
 -- a value is of an attribute's type
 abbrev pub is_of_type : Model → ElementType → Scalar → Bool
 is_of_type m element.Boolean (scalar.Bool b) = true
-is_of_type m element.Integer (scalar.Int n) = true
+is_of_type m element.Integer v = is_whole_number v
 is_of_type m element.String (scalar.Text t) = true
 is_of_type m (element.Enumeration e) v = is_literal_of e (length (enumeration_at m e).literals) v
 is_of_type m t v = false

@@ -2,7 +2,7 @@
 
 ghost use Rattle.std.specs.Prelude.{◌≡◌, ◌<◌, ◌≤◌, ◌&&◌, ◌||◌, true, ℕ, not, length, Option, map, slice_index_or};
 ghost use Rattle.std.specs.List.{list_all};
-ghost use Rattle.imkl_population.specs.Values.{is_literal_of, is_of_type, is_over, same_scalar};
+ghost use Rattle.imkl_population.specs.Values.{is_literal_of, is_of_type, is_whole_number, is_over, same_scalar};
 ghost use Rattle.imkl_population.specs.Building.{is_id_byte, is_id, bounds_fault};
 
 use crate::fault::PopulationFault;
@@ -41,6 +41,16 @@ fn is_literal_of(enumeration: EnumNo, literals: usize, value: &Scalar) -> bool
     }
 }
 
+/// Whether a value is a whole number. Each has 64 bits: the comparison is always true.
+fn is_whole_number(value: &Scalar) -> bool
+    ensures { result ≡ is_whole_number value.now }
+{
+    match value {
+        Scalar::Int(n) => *n >= i64::MIN,
+        _ => false,
+    }
+}
+
 /// Whether all values are of an attribute's type.
 pub(crate) fn are_of_type(model: &ClassModel, element: ElementType, values: &[Scalar]) -> bool
     requires { (e : ℕ) → element ≡ ElementType.Enumeration e → e < length model.now.enumerations }
@@ -48,7 +58,7 @@ pub(crate) fn are_of_type(model: &ClassModel, element: ElementType, values: &[Sc
 {
     match element {
         ElementType::Boolean => values.iter().all(|v| matches!(v, Scalar::Bool(_))),
-        ElementType::Integer => values.iter().all(|v| matches!(v, Scalar::Int(_))),
+        ElementType::Integer => values.iter().all(is_whole_number),
         ElementType::String => values.iter().all(|v| matches!(v, Scalar::Text(_))),
         ElementType::Enumeration(e) => {
             let literals = model.literal_count(e);
