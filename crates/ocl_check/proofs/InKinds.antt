@@ -16,7 +16,8 @@ use Rattle.ocl_kinds.specs.declared.kind.ScalarKind.{ScalarKind}
 use Rattle.ocl_kinds.specs.declared.kind.ScalarKind.TheVariants as element
 use Rattle.ocl_kinds.specs.declared.kind.Kind.{Kind}
 use Rattle.ocl_kinds.specs.declared.kind.Kind.TheVariants as kind
-use Rattle.ocl_check.specs.Kinds.{fit, past, truth}
+use Rattle.ocl_check.specs.Kinds.{past, truth}
+use Rattle.ocl_check.proofs.NineKinds.{fit}
 use Rattle.ocl_kinds.specs.Kinds.{scalar_fits, is_same_collection, fits, element_kind}
 use Rattle.ocl_check.specs.Value.{Value, Invalid, Null, Single, Collection, is_scalar_in, is_element_in, is_in}
 use Rattle.ocl_check.specs.Operations.{comparison, negation, conjunction, single_value, is_true, is_false}

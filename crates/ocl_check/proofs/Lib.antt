@@ -1,9 +1,9 @@
 pub mod Writes
+pub mod NineKinds
 pub mod InKinds
+pub mod Straight
+pub mod RunBy
 pub mod Runs
-pub mod Takes
-pub mod Walks
-pub mod Beyond
 pub mod Steps
 pub mod Reports
 pub mod Judging

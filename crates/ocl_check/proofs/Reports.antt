@@ -9,7 +9,7 @@ use Rattle.rule_code.specs.Content.{Content}
 use Rattle.ocl_check.specs.declared.machine.Verdict.{Verdict}
 use Rattle.ocl_check.specs.declared.machine.Verdict.TheVariants.{Holds, Fails, Undecided}
 use Rattle.ocl_check.specs.declared.report.Tally.{Tally}
-use Rattle.ocl_check.specs.Kinds.{context_of, rule_at}
+use Rattle.rule_verify.specs.UnitRules.{context_class, unit_rule}
 use Rattle.ocl_check.specs.Laws.{IsContextObject}
 use Rattle.ocl_check.specs.Report.{is_same, count, counted, tally_of, line_of, object_line, name_of, verdict_on, verdicts, context_objects, rule_line, rule_report, reports_below, fails_below, undecided_below, status_by}
 
@@ -60,7 +60,7 @@ pub each_one : (P : ℕ → Type 0) (os : List ℕ) (i o : ℕ) → i < length o
 each_one P os i o within is all = subst P (sym is) (All-get_or P os i o within all)
 
 -- an instance of the context class is an object for which the rule is judged
-pub is_context_object : (u : Content) (p : Population) (r c o : ℕ) → context_of p.model u (rule_at u r) ≡ Some c → IsInstance p c o → IsContextObject u p r o
+pub is_context_object : (u : Content) (p : Population) (r c o : ℕ) → context_class p.model u (unit_rule u r) ≡ Some c → IsInstance p c o → IsContextObject u p r o
 is_context_object u p r c o context instance = rw context instance.1
 
 pub line_is : (u : Content) (p : Population) (r o : ℕ) (v : Verdict) (name id : List ℕ)

@@ -1,16 +1,16 @@
 -- Runs of accepted code.
-use Rattle.std.proofs.Common.{◌≡◌, ◌⊎◌, inl, inr, ℕ, zero, suc, ◌<◌, ◌≤◌, ◌+◌, Bool, true, false, ◌&&◌, List, [], ◌∷◌, length, get_or, Option, Some, None, Result, Ok, Err, refl, sym, ap, ◌∙◌, subst, arith}
+use Rattle.std.proofs.Common.{◌≡◌, ◌⊎◌, inl, inr, ℕ, zero, suc, ◌<◌, ◌≤◌, ◌+◌, Bool, true, false, ◌&&◌, List, [], ◌∷◌, length, Option, Some, None, Result, Ok, Err, refl, sym, ap, ◌∙◌, subst, arith}
 use Rattle.std.specs.Prelude.{nat_lt, nat_le, if◌then◌else◌, option_and_then, int_lt, int_le}
 use Rattle.std.specs.Option.{option_map}
 use Rattle.std.proofs.lemmas.Bool.{ltb-true, lt-ltb, and_from, and_parts}
-use Rattle.imkl_model.specs.ClassModel.{Model, conforms, belongs, feature_at}
+use Rattle.imkl_model.specs.ClassModel.{conforms, belongs, feature_at}
 use Rattle.imkl_population.specs.declared.scalar.Scalar.TheVariants as scalar
 use Rattle.imkl_population.specs.Population.{Population, class_of, values_of}
 use Rattle.imkl_model.specs.Features.{is_attribute, is_single}
 use Rattle.imkl_population.specs.Consistency.{IsConsistent}
 use Rattle.rule_code.specs.declared.instruction.Instr.{Instr}
 use Rattle.rule_code.specs.declared.instruction.Instr.TheVariants as instrs
-use Rattle.rule_code.specs.Content.{Content, RuleContent}
+use Rattle.rule_code.specs.Content.{Content}
 use Rattle.ocl_kinds.specs.declared.kind.Kind.{Kind}
 use Rattle.ocl_kinds.specs.declared.kind.Kind.TheVariants as kind
 use Rattle.rule_verify.specs.declared.named.Named.{Named}
@@ -22,7 +22,10 @@ use Rattle.rule_verify.specs.Symbols.{named_at}
 use Rattle.rule_verify.specs.Known.{IsKnownName}
 use Rattle.ocl_check.specs.Supported.{names_single, is_supported}
 use Rattle.ocl_base.specs.Steps.{◌>>=◌, check, found}
-use Rattle.ocl_check.specs.Kinds.{refusal, Refusal, has, fit, past, takes, gives, holder_of, kind_read, object_of, truth, whole_number, most_operands, Scope, scope, effect, kinds, code_checks, is_one_truth, context_of, rule_checks, first_of, first_fault_from, IsAccepted, rule_at, no_rule}
+use Rattle.rule_verify.specs.UnitRules.{context_class, unit_rule}
+use Rattle.ocl_check.specs.Kinds.{past, takes, holder_of, object_of, truth, whole_number}
+use Rattle.ocl_check.proofs.NineKinds.{refusal, Refusal, has, fit, gives, kind_read, most_operands, Scope, scope, effect, kinds, is_one_truth}
+use Rattle.ocl_check.proofs.Straight.{judged_rule}
 use Rattle.ocl_kinds.specs.Kinds.{feature_kind, element_kind}
 use Rattle.ocl_check.specs.Value as value
 use Rattle.ocl_check.specs.Value.{Value, is_in}
@@ -247,39 +250,6 @@ module _ (u : Content) (p : Population) (context o : ℕ) (consistent : IsConsis
 
 -- ---- rules
 
-accepted_from : (m : Model) (u : Content) (n : ℕ) (rs : List RuleContent) (r : ℕ) → first_fault_from m u n rs ≡ None → r < length rs → rule_checks m u (get_or rs r no_rule) ≡ Ok tt
-accepted_from m u n [] r e lt = absurd (omega arith)
-accepted_from m u n (x ∷ rs) r e lt = by_result (rule_checks m u x) refl e (λ k later less. accepted_from m u (n + 1) rs k later less)
-  where
-    at_place : (r : ℕ) → r < length (x ∷ rs) → rule_checks m u x ≡ Ok tt → ((k : ℕ) → k < length rs → rule_checks m u (get_or rs k no_rule) ≡ Ok tt) → rule_checks m u (get_or (x ∷ rs) r no_rule) ≡ Ok tt
-    at_place zero lt h others = h
-    at_place (suc r) lt h others = others r (omega arith)
-
-    by_result : (j : Result (Unit {0}) Refusal) → rule_checks m u x ≡ j → first_of n j (first_fault_from m u (n + 1) rs) ≡ None → ((k : ℕ) → first_fault_from m u (n + 1) rs ≡ None → k < length rs → rule_checks m u (get_or rs k no_rule) ≡ Ok tt) → rule_checks m u (get_or (x ∷ rs) r no_rule) ≡ Ok tt
-    by_result (Ok tt) is e go = at_place r lt is (λ k less. go k e less)
-    by_result (Err refusal) is e go = cc
-
-pub rule_accepted : (m : Model) (u : Content) (r : ℕ) → IsAccepted m u → r < length u.rules → rule_checks m u (rule_at u r) ≡ Ok tt
-rule_accepted m u r a lt = accepted_from m u 0 u.rules r a lt
-
--- a rule with its context class
-pub record Judged (m : Model) (u : Content) (x : RuleContent) : Type 0 where
-  pub context : ℕ
-  pub context_is : context_of m u x ≡ Some context
-  pub after : List Kind
-  pub kinds_are : kinds (scope m u context) (tree_of x.code) 0 [] ≡ Ok after
-  pub ends : is_one_truth m after ≡ true
-
-pub judged_inv : (m : Model) (u : Content) (x : RuleContent) → rule_checks m u x ≡ Ok tt → Judged m u x
-judged_inv m u x e =
-    let a = found_inv (context_of m u x) flaws.NoSuchName 0 (λ c. code_checks (scope m u c) (tree_of x.code)) tt e in
-    let b = then_inv (kinds (scope m u a.0) (tree_of x.code) 0 []) (λ ks. check (is_one_truth m ks) (refusal flaws.LeftOver (size (tree_of x.code)))) tt a.2 in
-    record { context = a.0; context_is = a.1; after = b.0; kinds_are = b.1; ends = passes (is_one_truth m b.0) b.2 }
-  where
-    passes : (b : Bool) → check b (refusal flaws.LeftOver (size (tree_of x.code))) ≡ Ok tt → b ≡ true
-    passes true e = refl
-    passes false e = cc
-
 pub size-tree_of : (is : List Instr) → size (tree_of is) ≡ length is
 size-tree_of [] = refl
 size-tree_of (i ∷ is) = ap suc (size-tree_of is)
@@ -289,15 +259,15 @@ pub record Task (u : Content) (p : Population) (r o : ℕ) : Type 0 where
   pub context : ℕ
   pub inside : conforms p.model (class_of p o) context ≡ true
   pub after : List Kind
-  pub kinds_are : kinds (scope p.model u context) (tree_of (rule_at u r).code) 0 [] ≡ Ok after
+  pub kinds_are : kinds (scope p.model u context) (tree_of (unit_rule u r).code) 0 [] ≡ Ok after
   pub ends : is_one_truth p.model after ≡ true
 
 pub task_of : (u : Content) (p : Population) (r o : ℕ) → IsTask u p r o → Task u p r o
 task_of u p r o t =
-    let j = judged_inv p.model u (rule_at u r) (rule_accepted p.model u r t.accepted t.rule) in
+    let j = judged_rule p.model u r t.accepted t.supported t.rule in
     record {
       context = j.context;
-      inside = at_some (context_of p.model u (rule_at u r)) (λ c. conforms p.model (class_of p o) c ≡ true) j.context j.context_is t.instance;
+      inside = at_some (context_class p.model u (unit_rule u r)) (λ c. conforms p.model (class_of p o) c ≡ true) j.context j.context_is t.instance;
       after = j.after;
       kinds_are = j.kinds_are;
       ends = j.ends;
@@ -306,13 +276,13 @@ task_of u p r o t =
 pub never_stuck : (u : Content) (p : Population) (r o n : ℕ) (c : Configuration) → IsTask u p r o → run (setting_of u p) n (start_of u r o) ≡ Some c → (is_final c ≡ true) ⊎ ((d : Configuration) × (step (setting_of u p) c ≡ Some d))
 never_stuck u p r o n c t e =
     let k = task_of u p r o t in
-    not_stuck u p k.context o t.consistent t.object k.inside (tree_of (rule_at u r).code) [] n c
+    not_stuck u p k.context o t.consistent t.object k.inside (tree_of (unit_rule u r).code) [] n c
     (record { place = 0; before = []; after = k.after; all_in = tt; judged_so = k.kinds_are; ends = k.ends }) e
 
-pub ends_within : (u : Content) (p : Population) (r o : ℕ) → IsTask u p r o → (n : ℕ) × (c : Configuration) × (n ≤ length (rule_at u r).code) × (run (setting_of u p) n (start_of u r o) ≡ Some c) × (is_final c ≡ true) × (outcome c ≡ verdict_at u p.model p r o)
+pub ends_within : (u : Content) (p : Population) (r o : ℕ) → IsTask u p r o → (n : ℕ) × (c : Configuration) × (n ≤ length (unit_rule u r).code) × (run (setting_of u p) n (start_of u r o) ≡ Some c) × (is_final c ≡ true) × (outcome c ≡ verdict_at u p.model p r o)
 ends_within u p r o t =
     let k = task_of u p r o t in
-    let code = (rule_at u r).code in
+    let code = (unit_rule u r).code in
     let g : Going u p k.context o t.consistent t.object k.inside (tree_of code) [] = record { place = 0; before = []; after = k.after; all_in = tt; judged_so = k.kinds_are; ends = k.ends } in
     let end = reaches_end u p k.context o t.consistent t.object k.inside (tree_of code) [] g in
     let many = size-tree_of code in

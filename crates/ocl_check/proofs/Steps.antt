@@ -13,7 +13,9 @@ use Rattle.rule_code.specs.Content.{Content}
 use Rattle.ocl_kinds.specs.declared.kind.Kind.{Kind}
 use Rattle.ocl_check.specs.declared.machine.value.Value.{Value as Held}
 use Rattle.ocl_check.specs.CodeTree.{Tree, End, Plain, size, tree_of}
-use Rattle.ocl_check.specs.Kinds.{takes, rule_at, effect, kinds, scope}
+use Rattle.rule_verify.specs.UnitRules.{unit_rule}
+use Rattle.ocl_check.specs.Kinds.{takes}
+use Rattle.ocl_check.proofs.NineKinds.{effect, kinds, scope}
 use Rattle.ocl_check.specs.Value as value
 use Rattle.ocl_check.specs.Value.{Value, is_in}
 use Rattle.ocl_check.specs.Operations.{single_value, feature_value}
@@ -43,18 +45,18 @@ pub record Standing (u : Content) (p : Population) (r o : ℕ) (code : List Inst
   pub task : IsTask u p r o
   pub context : ℕ
   pub inside : conforms p.model (class_of p o) context ≡ true
-  pub code_is : (rule_at u r).code ≡ code
+  pub code_is : (unit_rule u r).code ≡ code
   pub going : Going u p context o task.consistent task.object inside (tree_of (drop at code)) os
   pub verdict : outcome (ended_by (size (tree_of (drop at code))) (setting_of u p) (at_tree u p context o task.consistent task.object inside (tree_of (drop at code)) os)) ≡ verdict_at u p.model p r o
 
-pub stands_first : (u : Content) (p : Population) (r o : ℕ) (code : List Instr) (os : List Held) → IsTask u p r o → (rule_at u r).code ≡ code → os ≡ [] → Standing u p r o code 0 (all_meant os)
+pub stands_first : (u : Content) (p : Population) (r o : ℕ) (code : List Instr) (os : List Held) → IsTask u p r o → (unit_rule u r).code ≡ code → os ≡ [] → Standing u p r o code 0 (all_meant os)
 stands_first u p r o code os t e none =
     subst (λ (l : List Held). Standing u p r o code 0 (all_meant l)) (sym none) (subst (λ (c : List Instr). Standing u p r o c 0 []) e first)
   where
     k : Task u p r o
     k = task_of u p r o t
 
-    first : Standing u p r o (rule_at u r).code 0 []
+    first : Standing u p r o (unit_rule u r).code 0 []
     first =
         record {
           task = t;
@@ -62,7 +64,7 @@ stands_first u p r o code os t e none =
           inside = k.inside;
           code_is = refl;
           going = record { place = 0; before = []; after = k.after; all_in = tt; judged_so = k.kinds_are; ends = k.ends };
-          verdict = ap (λ (n : ℕ). outcome (ended_by n (setting_of u p) (start_of u r o))) (size-tree_of (rule_at u r).code);
+          verdict = ap (λ (n : ℕ). outcome (ended_by n (setting_of u p) (start_of u r o))) (size-tree_of (unit_rule u r).code);
         }
 
 module _ (u : Content) (p : Population) (r o : ℕ) (code : List Instr) (at : ℕ) (os : List Value) (s : Standing u p r o code at os) (i : Instr) (lt : at < length code) (is : get_or code at i ≡ i) where

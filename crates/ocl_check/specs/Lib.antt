@@ -9,11 +9,10 @@ pub mod Operations
 pub mod Machine
 pub mod Verdict
 pub mod Laws
-pub mod Verifying
 pub mod Report
 pub mod Reply
 pub mod Answers
 pub mod Judge
+pub mod Verify
 -- Bookkeeping: views, layouts, walks and tables that only proofs and private contracts use.
-pub mod Walk
 pub mod Shown

@@ -10,7 +10,7 @@ use Rattle.imkl_delivery.specs.declared.fault.DeliveryFault.TheVariants as deliv
 use Rattle.rule_code.specs.CodeFile.{CodeFaultAt}
 use Rattle.rule_code.specs.FaultNumber.{code_flaw_number}
 use Rattle.ocl_check.specs.declared.reply.Reply as reply
-use Rattle.ocl_check.specs.Kinds.{VerifyFaultAt}
+use Rattle.rule_verify.specs.KindRules.{InstrFault}
 use Rattle.rule_verify.specs.FaultNumber.{verify_flaw_number}
 
 -- the bytes printed, and the status
@@ -52,6 +52,10 @@ refused_delivery delivery.OutOfMemory = refused (delivery_line 8)
 abbrev pub refused_code : CodeFaultAt → Answer
 refused_code l = refused (codes "refused code " ++ (decimal (code_flaw_number l.flaw) ++ (32 ∷ (decimal l.offset ++ 10 ∷ []))))
 
-abbrev pub refused_verify : VerifyFaultAt → Answer
+abbrev pub refused_verify : InstrFault → Answer
 refused_verify f =
     refused (codes "refused verify " ++ (decimal (verify_flaw_number f.flaw) ++ (32 ∷ (decimal f.rule ++ (32 ∷ (decimal f.at ++ 10 ∷ []))))))
+
+-- code that is accepted, by the number of its rules
+abbrev pub accepted_reply : ℕ → Answer
+accepted_reply n = (codes "accepted " ++ (decimal n ++ 10 ∷ []), 0)

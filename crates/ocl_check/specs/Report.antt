@@ -7,7 +7,7 @@ use Rattle.rule_code.specs.Content.{Content, text_at}
 use Rattle.ocl_check.specs.declared.machine.Verdict.{Verdict}
 use Rattle.ocl_check.specs.declared.machine.Verdict.TheVariants.{Holds, Fails, Undecided}
 use Rattle.ocl_check.specs.declared.report.Tally.{Tally}
-use Rattle.ocl_check.specs.Kinds.{context_of, rule_at}
+use Rattle.rule_verify.specs.UnitRules.{context_class, unit_rule}
 use Rattle.ocl_check.specs.Verdict.{verdict_at}
 
 -- the objects of a rule's context class, those of subclasses included, in their order
@@ -16,7 +16,7 @@ instances_of p None = []
 instances_of p (Some c) = instances p c
 
 abbrev pub context_objects : Content → Population → ℕ → List ℕ
-context_objects u p r = instances_of p (context_of p.model u (rule_at u r))
+context_objects u p r = instances_of p (context_class p.model u (unit_rule u r))
 
 abbrev pub verdict_on : Content → Population → ℕ → ℕ → Verdict
 verdict_on u p r o = verdict_at u p.model p r o
@@ -44,7 +44,7 @@ counted t Fails = record { holds = t.holds; fails = suc t.fails; undecided = t.u
 counted t Undecided = record { holds = t.holds; fails = t.fails; undecided = suc t.undecided }
 
 abbrev pub name_of : Content → ℕ → List ℕ
-name_of u r = text_at u.texts (rule_at u r).name
+name_of u r = text_at u.texts (unit_rule u r).name
 
 -- the line of an object for which the rule doesn't hold
 abbrev pub line_of : Verdict → List ℕ → List ℕ → List ℕ

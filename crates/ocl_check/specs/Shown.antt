@@ -1,11 +1,12 @@
 -- What the machine's operands stand for.
-use Rattle.std.specs.Prelude.{◌≡◌, ℕ, true, List, [], ◌∷◌, Some}
+use Rattle.std.specs.Prelude.{◌≡◌, ◌<◌, ℕ, true, List, [], ◌∷◌, length, Some}
 use Rattle.imkl_model.specs.ClassModel.{belongs}
 use Rattle.imkl_population.specs.declared.scalar.Scalar.TheVariants as scalar
 use Rattle.imkl_population.specs.Population.{Population}
 use Rattle.ocl_check.specs.declared.machine.value.Value.{Value as Held}
 use Rattle.ocl_check.specs.declared.machine.value.Value.TheVariants as held
 use Rattle.rule_code.specs.declared.instruction.Instr.{Instr}
+use Rattle.rule_code.specs.declared.instruction.Instr.TheVariants as instrs
 use Rattle.rule_code.specs.Content.{Content}
 use Rattle.ocl_kinds.specs.declared.kind.Kind.{Kind}
 use Rattle.ocl_check.specs.Supported.{is_supported}
@@ -40,3 +41,8 @@ pub record CanPerform (u : Content) (p : Population) (i : Instr) (os : List Valu
 -- variable 0 is the object
 abbrev pub object_variable : ℕ → List Value
 object_variable o = Single (scalar.Object o) ∷ []
+
+-- the symbol of an instruction is there
+abbrev pub HasSymbol : Content → Instr → Type 0
+HasSymbol u (instrs.Attr s) = s.0 < length u.symbols
+HasSymbol u i = Unit {0}

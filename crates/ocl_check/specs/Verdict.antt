@@ -7,7 +7,7 @@ use Rattle.rule_code.specs.Content.{Content}
 use Rattle.ocl_check.specs.declared.machine.Verdict.{Verdict}
 use Rattle.ocl_check.specs.declared.machine.Verdict.TheVariants.{Holds, Fails, Undecided}
 use Rattle.ocl_check.specs.CodeTree.{tree_of}
-use Rattle.ocl_check.specs.Kinds.{rule_at}
+use Rattle.rule_verify.specs.UnitRules.{unit_rule}
 use Rattle.ocl_check.specs.Value.{Value, Single}
 use Rattle.ocl_check.specs.Machine.{Setting, Configuration, step, is_final, start}
 
@@ -40,4 +40,4 @@ ended_by (suc n) s c = if is_final c then c else next_or c (step s c) (ended_by 
 -- the verdict at which the run of a rule for an object ends; it ends within as many steps as the rule has instructions
 abbrev pub verdict_at : Content → Model → Population → ℕ → ℕ → Verdict
 verdict_at u m p r o =
-    outcome (ended_by (length (rule_at u r).code) (record { model = m; unit = u; population = p }) (start (tree_of (rule_at u r).code) o))
+    outcome (ended_by (length (unit_rule u r).code) (record { model = m; unit = u; population = p }) (start (tree_of (unit_rule u r).code) o))

@@ -1,3 +1,4 @@
 //! The commands, a file for each.
 
 pub mod judge;
+pub mod verify;

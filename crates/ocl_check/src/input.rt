@@ -10,6 +10,9 @@ use std::io;
 use std::io::Read;
 use thiserror::Error;
 
+/// The greatest number of bytes in an input.
+pub(crate) const MOST_BYTES: u64 = 268_435_456;
+
 /// Why an input could not be read.
 #[derive(Clone, Copy, Debug, PartialEq, Eq, Error)]
 pub enum InputFault {

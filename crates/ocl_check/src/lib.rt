@@ -9,10 +9,10 @@ mod outcome;
 mod reply;
 mod report;
 mod sink;
-mod stack;
-mod verify;
+mod supported;
 
 pub use commands::judge::run_judge;
+pub use commands::verify::run_verify;
 pub use input::{InputFault, read_input};
 pub use outcome::{Cause, Outcome};
 pub use sink::{Sink, Telling};

@@ -1,16 +1,16 @@
 //! The machine: what a rule says of an object.
 
-ghost use Rattle.std.specs.Prelude.{◌≡◌, ◌<◌, length, IfOk};
+ghost use Rattle.std.specs.Prelude.{◌≡◌, ◌<◌, length, Ok, IfOk};
 ghost use Rattle.ocl_check.specs.Laws.{IsContextObject};
+ghost use Rattle.ocl_check.specs.Supported.{unit_supported};
 ghost use Rattle.ocl_check.specs.Verdict.{verdict_at};
 
 mod perform;
 mod value;
 
-use crate::stack::Stack;
-use crate::verify::Accepted;
 use imkl_population::{ObjectNo, Population};
 use perform::instruct;
+use rule_verify::{Accepted, Stack};
 use std::alloc::{AllocError, Global};
 use value::verdict_of;
 
@@ -34,6 +34,7 @@ pub fn judge(
     object: ObjectNo,
 ) -> Result<Verdict, AllocError>
     requires one_model { population.now.content.model ≡ accepted.now.model }
+    requires supported { unit_supported accepted.now.model accepted.now.unit ≡ Ok tt }
     requires rule { rule < length accepted.now.unit.rules }
     requires object { object < length population.now.content.objects }
     requires context { IsContextObject accepted.now.unit population.now.content rule object }
@@ -42,11 +43,16 @@ pub fn judge(
 {
     accepted.accepted();
     population.consistent();
-    let linked = accepted.linked();
-    let checked = linked.unit().rule(rule);
+    let checked = accepted.unit().rule(rule);
     let mut operands = Stack::new(alloc);
     for at in 0..checked.code.len() {
-        let value = instruct(linked, population, object, &mut operands, checked.code[at]);
+        let value = instruct(
+            accepted,
+            population,
+            object,
+            &mut operands,
+            checked.code[at],
+        );
         operands.push(value)?;
     }
     let Some(value) = operands.pop() else {

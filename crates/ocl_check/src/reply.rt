@@ -3,7 +3,7 @@
 ghost use Rattle.std.specs.Prelude.{◌≡◌, ◌≢◌, string_bytes, IfOk};
 ghost use Rattle.imkl_model.specs.declared.fault.ModelFault.TheVariants as model;
 ghost use Rattle.imkl_delivery.specs.declared.fault.DeliveryFault.TheVariants as delivery;
-ghost use Rattle.ocl_check.specs.Reply.{said, refused_model, refused_delivery, refused_code, refused_verify};
+ghost use Rattle.ocl_check.specs.Reply.{said, refused_model, refused_delivery, refused_code, refused_verify, accepted_reply};
 
 use imkl_delivery::DeliveryFault;
 use imkl_model::ModelFault;
@@ -99,5 +99,15 @@ pub(crate) fn refused_verify(
     Ok(Reply {
         text: format!(in alloc; "refused verify {number} {rule} {at}\n")?,
         status: REFUSED,
+    })
+}
+
+/// The reply to code that is accepted, by the number of its rules.
+pub(crate) fn accepted_reply(alloc: Global, rules: usize) -> Result<Reply, AllocError>
+    ensures { IfOk result (λ r. said r ≡ accepted_reply rules) }
+{
+    Ok(Reply {
+        text: format!(in alloc; "accepted {rules}\n")?,
+        status: 0,
     })
 }

@@ -1,13 +1,14 @@
 //! The report on a population.
 
-ghost use Rattle.std.specs.Prelude.{◌≡◌, ◌<◌, ◌≤◌, ◌+◌, ◌^◌, ◌++◌, length, string_bytes, OnOk, IfOk};
+ghost use Rattle.std.specs.Prelude.{◌≡◌, ◌<◌, ◌≤◌, ◌+◌, ◌^◌, ◌++◌, length, string_bytes, Ok, OnOk, IfOk};
 ghost use Rattle.std.specs.List.{flat_map};
+ghost use Rattle.ocl_check.specs.Supported.{unit_supported};
 ghost use Rattle.ocl_check.specs.Report.{line_of, object_line, context_objects, verdicts, tally_of, rule_line, rule_report, name_of, total_line, report_of, status_of};
 
 use crate::machine::{Verdict, judge};
 use crate::reply::Reply;
-use crate::verify::Accepted;
 use imkl_population::Population;
+use rule_verify::Accepted;
 use std::alloc::{AllocError, Global};
 use std::fmt::Write;
 
@@ -89,6 +90,7 @@ fn put_rule(
     out: &mut String,
 ) -> Result<Tally, AllocError>
     requires one_model { population.now.content.model ≡ accepted.now.model }
+    requires supported { unit_supported accepted.now.model accepted.now.unit ≡ Ok tt }
     requires rule { rule < length accepted.now.unit.rules }
     ensures text { OnOk result (string_bytes out.new ≡ string_bytes out.old ++
         rule_report accepted.now.unit population.now.content rule) }
@@ -120,6 +122,7 @@ pub(crate) fn report(
     population: &Population<'_>,
 ) -> Result<Reply, AllocError>
     requires one_model { population.now.content.model ≡ accepted.now.model }
+    requires supported { unit_supported accepted.now.model accepted.now.unit ≡ Ok tt }
     ensures text { IfOk result (λ r. string_bytes r.text ≡
         report_of accepted.now.unit population.now.content) }
     ensures status { IfOk result (λ r. r.status ≡

@@ -5,8 +5,8 @@ mod command_line;
 mod opening;
 
 use clap::error::{Error, ErrorKind};
-use command_line::{JudgeFiles, judge_files};
-use ocl_check::{Cause, Outcome, Telling, run_judge};
+use command_line::{Asked, JudgeFiles, VerifyFiles, read_words};
+use ocl_check::{Cause, Outcome, Telling, run_judge, run_verify};
 use opening::Opening;
 use std::process::ExitCode;
 use std::{env, io};
@@ -41,6 +41,15 @@ fn judge(rt: &HostRuntime, files: JudgeFiles<'_>) -> Outcome {
     )
 }
 
+fn verify(rt: &HostRuntime, files: VerifyFiles<'_>) -> Outcome {
+    run_verify(
+        rt.alloc(),
+        &mut Opening::new(rt, files.model),
+        &mut Opening::new(rt, files.code),
+        &mut Telling::new(io::writer(rt)),
+    )
+}
+
 fn main(rt: HostRuntime) -> ExitCode {
     let args = match env::args(&rt) {
         Ok(args) => args,
@@ -55,8 +64,9 @@ fn main(rt: HostRuntime) -> ExitCode {
     let Ok(words) = args.collect::<Vec<String>>(rt.alloc()) else {
         return ended(&rt, Outcome::Failed(Cause::Memory));
     };
-    match judge_files(rt.alloc(), words.as_slice()) {
-        Ok(files) => ended(&rt, judge(&rt, files)),
+    match read_words(rt.alloc(), words.as_slice()) {
+        Ok(Asked::Judge(files)) => ended(&rt, judge(&rt, files)),
+        Ok(Asked::Verify(files)) => ended(&rt, verify(&rt, files)),
         Err(error) => refused(&rt, &error),
     }
 }

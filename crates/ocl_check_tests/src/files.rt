@@ -1,6 +1,6 @@
 //! The files that the tests judge, and how they are judged.
 
-use ocl_check::{Outcome, Telling, run_judge};
+use ocl_check::{Outcome, Telling, run_judge, run_verify};
 use std::alloc::{AllocError, Global};
 
 /// Cables with a depth that may be absent.
@@ -85,4 +85,25 @@ pub fn judges_code_to(
 ) -> Result<bool, AllocError> {
     let file = rule_file(alloc, count, code)?;
     judges_cable_to(alloc, "", &file, status, text)
+}
+
+/// Whether `verify` ends with this status and writes this text.
+pub fn verifies_to(alloc: Global, model: &str, code: &[u8], status: u8, text: &str) -> bool {
+    let mut model = model.as_bytes();
+    let mut code = code;
+    let mut sink = Telling::new(Vec::new(alloc));
+    let outcome = run_verify(alloc, &mut model, &mut code, &mut sink);
+    outcome == Outcome::Status(status) && sink.into_inner().as_slice() == text.as_bytes()
+}
+
+/// Whether `verify` of the rule r of these instructions ends so.
+pub fn verifies_code_to(
+    alloc: Global,
+    count: u16,
+    code: &[u8],
+    status: u8,
+    text: &str,
+) -> Result<bool, AllocError> {
+    let file = rule_file(alloc, count, code)?;
+    Ok(verifies_to(alloc, MODEL, &file, status, text))
 }

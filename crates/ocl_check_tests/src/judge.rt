@@ -164,10 +164,26 @@ fn refuses_code(rt: HostRuntime) -> Result<(), Fail> {
         // AND
         (1, b"\x21".as_slice(), "refused verify 2 0 0\n"),
         (0, b"".as_slice(), "refused verify 6 0 0\n"),
-        // BOOL 1, OR: no instruction that is judged yet
-        (2, b"\x04\x01\x22".as_slice(), "refused verify 3 0 1\n"),
-        // LET with an empty body
-        (1, b"\x40\x00\x00".as_slice(), "refused verify 3 0 0\n"),
+        // BOOL 1, OR: an operand is missing
+        (2, b"\x04\x01\x22".as_slice(), "refused verify 2 0 1\n"),
+        // BOOL 1, BOOL 0, OR: accepted, but the machine doesn't run OR yet
+        (
+            3,
+            b"\x04\x01\x04\x00\x22".as_slice(),
+            "refused verify 3 0 2\n",
+        ),
+        // BOOL 1, LET with a body that is BOOL 0
+        (
+            3,
+            b"\x04\x01\x40\x00\x01\x04\x00".as_slice(),
+            "refused verify 3 0 1\n",
+        ),
+        // BOOL 1, BOOL 0, OR, ADD: the verifier's fault comes before the machine's limits
+        (
+            4,
+            b"\x04\x01\x04\x00\x22\x10".as_slice(),
+            "refused verify 2 0 3\n",
+        ),
     ];
     for (count, code, line) in cases {
         assert!(rt;

@@ -9,3 +9,5 @@ mod inputs;
 mod judge;
 #[cfg(test)]
 mod outputs;
+#[cfg(test)]
+mod verify;

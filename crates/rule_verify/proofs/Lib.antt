@@ -1,2 +1,9 @@
-pub mod ForAbove
+pub mod Stretches
 pub mod SymbolLaws
+pub mod Stacks
+pub mod Taken
+pub mod KnownKinds
+pub mod Walking
+pub mod WalkingBlocks
+pub mod CheckedRules
+pub mod ForAbove

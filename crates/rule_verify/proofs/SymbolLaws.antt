@@ -5,7 +5,7 @@ use Rattle.std.specs.Option.{option_map}
 use Rattle.std.proofs.lemmas.List.{length-map}
 use Rattle.std.proofs.lemmas.Option.{slice_get_read}
 use Rattle.imkl_model.specs.ClassModel.{Model}
-use Rattle.rule_verify.proofs.ForAbove.{named_known}
+use Rattle.rule_verify.proofs.Stretches.{named_known}
 use Rattle.rule_code.specs.Content.{Content}
 use Rattle.rule_verify.specs.declared.named.Named.{Named}
 use Rattle.rule_verify.specs.Symbols.{named_by, named_at}

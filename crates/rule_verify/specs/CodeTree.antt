@@ -2,13 +2,10 @@
 use Rattle.std.specs.Prelude.{ℕ, zero, suc, ◌+◌, List, [], ◌∷◌, length, take, drop, nat_le, if◌then◌else◌}
 use Rattle.rule_code.specs.declared.instruction.Instr.{Instr}
 use Rattle.rule_code.specs.declared.instruction.Instr.TheVariants as instrs
+use Rattle.rule_verify.specs.declared.shape.Shape.{Shape}
+use Rattle.rule_verify.specs.declared.shape.Shape.TheVariants.{Single, OneBody, TwoBodies}
 
 -- how many bodies an instruction has, and their lengths
-pub data Shape : Type 0 where
-  Single : Shape
-  OneBody : ℕ → Shape
-  TwoBodies : ℕ → ℕ → Shape
-
 abbrev pub shape_of : Instr → Shape
 shape_of (instrs.Let n) = OneBody n
 shape_of (instrs.If k n m) = TwoBodies n m

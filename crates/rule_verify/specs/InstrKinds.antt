@@ -24,14 +24,15 @@ use Rattle.rule_verify.specs.declared.pattern.Pattern.TheVariants.{Fitting, Anyt
 use Rattle.rule_verify.specs.Patterns.{a_boolean, an_integer, a_string, an_object}
 use Rattle.rule_verify.specs.Symbols.{named_at}
 
--- what the code of a rule is judged by: a class model, the unit, the rule's context class
+-- what the code of a rule is judged by: a class model, the unit, the rule's index and its context class
 pub record Surroundings : Type 0 where
   pub model : Model
   pub unit : Content
+  pub rule : ℕ
   pub context : ℕ
 
-abbrev pub surroundings : Model → Content → ℕ → Surroundings
-surroundings m u c = record { model = m; unit = u; context = c }
+abbrev pub surroundings : Model → Content → ℕ → ℕ → Surroundings
+surroundings m u r c = record { model = m; unit = u; rule = r; context = c }
 
 -- ---- names
 
@@ -102,67 +103,71 @@ kind_meant s (kinds.Collection c k) = Collection c (scalar_meant s k)
 
 -- ---- operands
 
+-- the operands that an instruction takes, the topmost first, where they depend on none of its fields
+abbrev pub fixed_operands : Instr → List Pattern
+fixed_operands (instrs.KindOf c) = an_object ∷ []
+fixed_operands (instrs.TypeOf c) = an_object ∷ []
+fixed_operands (instrs.AsType c) = an_object ∷ []
+fixed_operands instrs.Add = an_integer ∷ an_integer ∷ []
+fixed_operands instrs.Sub = an_integer ∷ an_integer ∷ []
+fixed_operands instrs.Mul = an_integer ∷ an_integer ∷ []
+fixed_operands instrs.Div = an_integer ∷ an_integer ∷ []
+fixed_operands instrs.Mod = an_integer ∷ an_integer ∷ []
+fixed_operands instrs.Neg = an_integer ∷ []
+fixed_operands instrs.Abs = an_integer ∷ []
+fixed_operands instrs.Min = an_integer ∷ an_integer ∷ []
+fixed_operands instrs.Max = an_integer ∷ an_integer ∷ []
+fixed_operands instrs.Lt = an_integer ∷ an_integer ∷ []
+fixed_operands instrs.Le = an_integer ∷ an_integer ∷ []
+fixed_operands instrs.Gt = an_integer ∷ an_integer ∷ []
+fixed_operands instrs.Ge = an_integer ∷ an_integer ∷ []
+fixed_operands instrs.Not = a_boolean ∷ []
+fixed_operands instrs.And = a_boolean ∷ a_boolean ∷ []
+fixed_operands instrs.Or = a_boolean ∷ a_boolean ∷ []
+fixed_operands instrs.Xor = a_boolean ∷ a_boolean ∷ []
+fixed_operands instrs.Implies = a_boolean ∷ a_boolean ∷ []
+fixed_operands instrs.Eqx = Anything ∷ Anything ∷ []
+fixed_operands instrs.Undef = Anything ∷ []
+fixed_operands instrs.IsInv = Anything ∷ []
+fixed_operands instrs.TLen = a_string ∷ []
+fixed_operands instrs.SubStr = an_integer ∷ an_integer ∷ a_string ∷ []
+fixed_operands instrs.Size = AnyCollection ∷ []
+fixed_operands instrs.IsEmpty = AnyCollection ∷ []
+fixed_operands instrs.Sum = CollectionOf element.Integer ∷ []
+fixed_operands (instrs.Let n) = Anything ∷ []
+fixed_operands (instrs.If k n m) = a_boolean ∷ []
+fixed_operands (instrs.ForAll n) = AnyCollection ∷ []
+fixed_operands (instrs.Exists n) = AnyCollection ∷ []
+fixed_operands (instrs.One n) = AnyCollection ∷ []
+fixed_operands (instrs.Select n) = AnyCollection ∷ []
+fixed_operands (instrs.Reject n) = AnyCollection ∷ []
+fixed_operands (instrs.Collect n) = AnyCollection ∷ []
+fixed_operands (instrs.CollectFlat n) = AnyCollection ∷ []
+fixed_operands (instrs.IsUnique k n) = AnyCollection ∷ []
+fixed_operands i = []
+
 -- the operands that an instruction takes, the topmost first
 abbrev pub operands_of : Surroundings → Instr → List Pattern
 operands_of s (instrs.Attr a) = Fitting (Scalar (owner_kind (named_at s.model s.unit a.0))) ∷ []
 operands_of s (instrs.AsColl c k) = Fitting (Scalar (scalar_meant s k)) ∷ []
-operands_of s (instrs.KindOf c) = an_object ∷ []
-operands_of s (instrs.TypeOf c) = an_object ∷ []
-operands_of s (instrs.AsType c) = an_object ∷ []
-operands_of s instrs.Add = an_integer ∷ an_integer ∷ []
-operands_of s instrs.Sub = an_integer ∷ an_integer ∷ []
-operands_of s instrs.Mul = an_integer ∷ an_integer ∷ []
-operands_of s instrs.Div = an_integer ∷ an_integer ∷ []
-operands_of s instrs.Mod = an_integer ∷ an_integer ∷ []
-operands_of s instrs.Neg = an_integer ∷ []
-operands_of s instrs.Abs = an_integer ∷ []
-operands_of s instrs.Min = an_integer ∷ an_integer ∷ []
-operands_of s instrs.Max = an_integer ∷ an_integer ∷ []
-operands_of s instrs.Lt = an_integer ∷ an_integer ∷ []
-operands_of s instrs.Le = an_integer ∷ an_integer ∷ []
-operands_of s instrs.Gt = an_integer ∷ an_integer ∷ []
-operands_of s instrs.Ge = an_integer ∷ an_integer ∷ []
-operands_of s instrs.Not = a_boolean ∷ []
-operands_of s instrs.And = a_boolean ∷ a_boolean ∷ []
-operands_of s instrs.Or = a_boolean ∷ a_boolean ∷ []
-operands_of s instrs.Xor = a_boolean ∷ a_boolean ∷ []
-operands_of s instrs.Implies = a_boolean ∷ a_boolean ∷ []
 operands_of s (instrs.Eq k) = Fitting (kind_meant s k) ∷ Fitting (kind_meant s k) ∷ []
-operands_of s instrs.Eqx = Anything ∷ Anything ∷ []
-operands_of s instrs.Undef = Anything ∷ []
-operands_of s instrs.IsInv = Anything ∷ []
-operands_of s instrs.TLen = a_string ∷ []
-operands_of s instrs.SubStr = an_integer ∷ an_integer ∷ a_string ∷ []
-operands_of s instrs.Size = AnyCollection ∷ []
-operands_of s instrs.IsEmpty = AnyCollection ∷ []
 operands_of s (instrs.Includes k) = Fitting (Scalar (scalar_meant s k)) ∷ CollectionOf (scalar_meant s k) ∷ []
 operands_of s (instrs.Count k) = Fitting (Scalar (scalar_meant s k)) ∷ CollectionOf (scalar_meant s k) ∷ []
 operands_of s (instrs.IncAll k) = CollectionOf (scalar_meant s k) ∷ CollectionOf (scalar_meant s k) ∷ []
 operands_of s (instrs.ExcAll k) = CollectionOf (scalar_meant s k) ∷ CollectionOf (scalar_meant s k) ∷ []
-operands_of s instrs.Sum = CollectionOf element.Integer ∷ []
 operands_of s (instrs.AsSet k) = CollectionOf (scalar_meant s k) ∷ []
-operands_of s (instrs.Let n) = Anything ∷ []
-operands_of s (instrs.If k n m) = a_boolean ∷ []
-operands_of s (instrs.ForAll n) = AnyCollection ∷ []
-operands_of s (instrs.Exists n) = AnyCollection ∷ []
-operands_of s (instrs.One n) = AnyCollection ∷ []
-operands_of s (instrs.Select n) = AnyCollection ∷ []
-operands_of s (instrs.Reject n) = AnyCollection ∷ []
-operands_of s (instrs.Collect n) = AnyCollection ∷ []
-operands_of s (instrs.CollectFlat n) = AnyCollection ∷ []
-operands_of s (instrs.IsUnique k n) = AnyCollection ∷ []
-operands_of s i = []
+operands_of s i = fixed_operands i
 
 -- ---- variables
 
 -- the variable of this number, where the newest comes first and the oldest has number 0
-abbrev pub variable_kind : List Kind → ℕ → Option Kind
-variable_kind [] n = None
-variable_kind (k ∷ ks) n = if n == length ks then Some k else variable_kind ks n
+abbrev pub variable_at : {A : Type 0} → List A → ℕ → Option A
+variable_at [] n = None
+variable_at (k ∷ ks) n = if n == length ks then Some k else variable_at ks n
 
 -- the variable that an instruction reads is there
 abbrev pub has_variable : List Kind → Instr → Bool
-has_variable vars (instrs.Get n) = is_some (variable_kind vars n)
+has_variable vars (instrs.Get n) = is_some (variable_at vars n)
 has_variable vars i = true
 
 -- ---- results
@@ -179,53 +184,57 @@ abbrev pub or_void : Option Kind → Kind
 or_void None = Scalar element.Void
 or_void (Some k) = k
 
+-- what an instruction without a body gives, where it depends on nothing else
+abbrev pub fixed_result : Instr → Kind
+fixed_result (instrs.Int n) = Scalar element.Integer
+fixed_result (instrs.Bool b) = Scalar element.Boolean
+fixed_result (instrs.Text t) = Scalar element.String
+fixed_result (instrs.KindOf c) = Scalar element.Boolean
+fixed_result (instrs.TypeOf c) = Scalar element.Boolean
+fixed_result instrs.Add = Scalar element.Integer
+fixed_result instrs.Sub = Scalar element.Integer
+fixed_result instrs.Mul = Scalar element.Integer
+fixed_result instrs.Div = Scalar element.Integer
+fixed_result instrs.Mod = Scalar element.Integer
+fixed_result instrs.Neg = Scalar element.Integer
+fixed_result instrs.Abs = Scalar element.Integer
+fixed_result instrs.Min = Scalar element.Integer
+fixed_result instrs.Max = Scalar element.Integer
+fixed_result instrs.Lt = Scalar element.Boolean
+fixed_result instrs.Le = Scalar element.Boolean
+fixed_result instrs.Gt = Scalar element.Boolean
+fixed_result instrs.Ge = Scalar element.Boolean
+fixed_result instrs.Not = Scalar element.Boolean
+fixed_result instrs.And = Scalar element.Boolean
+fixed_result instrs.Or = Scalar element.Boolean
+fixed_result instrs.Xor = Scalar element.Boolean
+fixed_result instrs.Implies = Scalar element.Boolean
+fixed_result (instrs.Eq k) = Scalar element.Boolean
+fixed_result instrs.Eqx = Scalar element.Boolean
+fixed_result instrs.Undef = Scalar element.Boolean
+fixed_result instrs.IsInv = Scalar element.Boolean
+fixed_result instrs.TLen = Scalar element.Integer
+fixed_result instrs.SubStr = Scalar element.String
+fixed_result instrs.Size = Scalar element.Integer
+fixed_result instrs.IsEmpty = Scalar element.Boolean
+fixed_result (instrs.Includes k) = Scalar element.Boolean
+fixed_result (instrs.Count k) = Scalar element.Integer
+fixed_result (instrs.IncAll k) = Scalar element.Boolean
+fixed_result (instrs.ExcAll k) = Scalar element.Boolean
+fixed_result instrs.Sum = Scalar element.Integer
+fixed_result i = Scalar element.Void
+
 -- what an instruction without a body gives, by the variables and by the operands before it
 abbrev pub result_kind : Surroundings → List Kind → Instr → List Kind → Kind
 result_kind s vars instrs.SelfObject ks = Scalar (element.Class s.context)
-result_kind s vars (instrs.Get n) ks = or_void (variable_kind vars n)
-result_kind s vars (instrs.Int n) ks = Scalar element.Integer
-result_kind s vars (instrs.Bool b) ks = Scalar element.Boolean
-result_kind s vars (instrs.Text t) ks = Scalar element.String
+result_kind s vars (instrs.Get n) ks = or_void (variable_at vars n)
 result_kind s vars (instrs.Enum l) ks = Scalar (literal_kind (named_at s.model s.unit l.0))
 result_kind s vars (instrs.Attr a) ks = feature_read s.model (named_at s.model s.unit a.0)
 result_kind s vars (instrs.All c) ks = Collection collection.Set (class_kind (named_at s.model s.unit c.0))
 result_kind s vars (instrs.AsColl c k) ks = Collection c (scalar_meant s k)
-result_kind s vars (instrs.KindOf c) ks = Scalar element.Boolean
-result_kind s vars (instrs.TypeOf c) ks = Scalar element.Boolean
 result_kind s vars (instrs.AsType c) ks = Scalar (class_kind (named_at s.model s.unit c.0))
-result_kind s vars instrs.Add ks = Scalar element.Integer
-result_kind s vars instrs.Sub ks = Scalar element.Integer
-result_kind s vars instrs.Mul ks = Scalar element.Integer
-result_kind s vars instrs.Div ks = Scalar element.Integer
-result_kind s vars instrs.Mod ks = Scalar element.Integer
-result_kind s vars instrs.Neg ks = Scalar element.Integer
-result_kind s vars instrs.Abs ks = Scalar element.Integer
-result_kind s vars instrs.Min ks = Scalar element.Integer
-result_kind s vars instrs.Max ks = Scalar element.Integer
-result_kind s vars instrs.Lt ks = Scalar element.Boolean
-result_kind s vars instrs.Le ks = Scalar element.Boolean
-result_kind s vars instrs.Gt ks = Scalar element.Boolean
-result_kind s vars instrs.Ge ks = Scalar element.Boolean
-result_kind s vars instrs.Not ks = Scalar element.Boolean
-result_kind s vars instrs.And ks = Scalar element.Boolean
-result_kind s vars instrs.Or ks = Scalar element.Boolean
-result_kind s vars instrs.Xor ks = Scalar element.Boolean
-result_kind s vars instrs.Implies ks = Scalar element.Boolean
-result_kind s vars (instrs.Eq k) ks = Scalar element.Boolean
-result_kind s vars instrs.Eqx ks = Scalar element.Boolean
-result_kind s vars instrs.Undef ks = Scalar element.Boolean
-result_kind s vars instrs.IsInv ks = Scalar element.Boolean
-result_kind s vars instrs.TLen ks = Scalar element.Integer
-result_kind s vars instrs.SubStr ks = Scalar element.String
-result_kind s vars instrs.Size ks = Scalar element.Integer
-result_kind s vars instrs.IsEmpty ks = Scalar element.Boolean
-result_kind s vars (instrs.Includes k) ks = Scalar element.Boolean
-result_kind s vars (instrs.Count k) ks = Scalar element.Integer
-result_kind s vars (instrs.IncAll k) ks = Scalar element.Boolean
-result_kind s vars (instrs.ExcAll k) ks = Scalar element.Boolean
-result_kind s vars instrs.Sum ks = Scalar element.Integer
 result_kind s vars (instrs.AsSet k) ks = Collection collection.Set (element_of (topmost ks))
-result_kind s vars i ks = Scalar element.Void
+result_kind s vars i ks = fixed_result i
 
 -- ---- blocks
 

@@ -7,4 +7,9 @@ pub mod CodeTree
 pub mod Patterns
 pub mod InstrKinds
 pub mod KindRules
+pub mod Faults
+pub mod CodeDepths
+pub mod UnitRules
 pub mod Laws
+-- Bookkeeping: views, layouts, walks and tables that only proofs and private contracts use.
+pub mod Walk

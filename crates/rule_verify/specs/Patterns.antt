@@ -55,3 +55,7 @@ abbrev pub IsPatternOf : Model → Pattern → Type 0
 IsPatternOf m (Fitting k) = IsKindOf m k
 IsPatternOf m (CollectionOf k) = IsScalarKindOf m k
 IsPatternOf m w = Unit {0}
+
+abbrev pub ArePatterns : Model → List Pattern → Type 0
+ArePatterns m [] = Unit {0}
+ArePatterns m (w ∷ ws) = IsPatternOf m w × ArePatterns m ws

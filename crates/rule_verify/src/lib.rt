@@ -1,13 +1,36 @@
-//! What code names in a class model, and what it takes and gives: the verifier's definitions.
+//! The verifier: what code names in a class model, what its instructions take and give, and which units are accepted.
 #![tactic(auto)]
 
+mod accepted;
+mod blocks;
+mod depths;
 mod fault;
+mod judged;
 pub mod laws;
 mod linked;
+mod meant;
+mod memory;
 mod named;
+mod operands;
 mod pattern;
+mod place;
+mod results;
+mod rules;
+mod shape;
+mod stack;
+mod symbols_used;
+mod taking;
+mod verifier;
+mod walk;
 
+pub use accepted::Accepted;
+pub use blocks::shape_of;
+pub use depths::Depths;
 pub use fault::{Flaw, VerifyFault};
 pub use linked::{Linked, link, look_up};
+pub use memory::may_take_memory;
 pub use named::Named;
 pub use pattern::Pattern;
+pub use shape::Shape;
+pub use stack::Stack;
+pub use verifier::verify;

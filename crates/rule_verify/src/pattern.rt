@@ -22,6 +22,19 @@ pub enum Pattern {
     CollectionOf(ScalarKind),
 }
 
+/// What the operands of an instruction may be, the topmost first.
+#[derive(Clone, Copy)]
+pub(crate) enum Operands {
+    /// It takes none.
+    Nothing,
+    /// It takes one.
+    One(Pattern),
+    /// It takes two.
+    Two(Pattern, Pattern),
+    /// It takes three.
+    Three(Pattern, Pattern, Pattern),
+}
+
 /// Whether an operand of a kind is what it may be.
 pub(crate) fn matches(model: &ClassModel, pattern: &Pattern, kind: &Kind) -> bool
     requires pattern { IsPatternOf model.now pattern.now }

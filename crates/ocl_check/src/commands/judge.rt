@@ -6,31 +6,45 @@ ghost use Rattle.rule_code.specs.View.{content};
 ghost use Rattle.ocl_check.specs.declared.outcome.Cause.TheVariants.{Write};
 ghost use Rattle.ocl_check.specs.Reply.{said};
 ghost use Rattle.ocl_check.specs.Answers.{IsAnswered, ReadBy, ReadWithin, fails_write};
-ghost use Rattle.ocl_check.specs.Judge.{rules_answer, code_answer, delivery_answer, population_of, judge_answer};
+ghost use Rattle.ocl_check.specs.Supported.{unit_supported};
+ghost use Rattle.ocl_check.specs.Judge.{supported_answer, rules_answer, code_answer, delivery_answer, population_of, judge_answer};
 
-use crate::input::read_input;
+use crate::input::{MOST_BYTES, read_input};
 use crate::outcome::{Cause, Outcome, say};
 use crate::reply::{Reply, refused_code, refused_delivery, refused_model, refused_verify};
 use crate::report::report;
 use crate::sink::Sink;
-use crate::verify::verify;
+use crate::supported::first_unsupported;
 use imkl_delivery::load;
 use imkl_model::ClassModel;
 use imkl_population::Population;
 use rule_code::{CodeFault, Unit, read_unit};
-use rule_verify::VerifyFault;
+use rule_verify::{Accepted, Flaw, VerifyFault, verify};
 use std::alloc::{AllocError, Global};
 use std::io::Read;
 
-/// The greatest number of bytes in an input.
-const MOST_BYTES: u64 = 268_435_456;
+/// The reply to accepted rules on a population.
+fn judge_accepted(
+    alloc: Global,
+    accepted: &Accepted<'_>,
+    population: &Population<'_>,
+) -> Result<Reply, AllocError>
+    requires { population.now.content.model ≡ accepted.now.model }
+    ensures { IfOk result (λ r. said r ≡ supported_answer population.now.content accepted.now.unit
+        (unit_supported accepted.now.model accepted.now.unit)) }
+{
+    match first_unsupported(accepted) {
+        Some((rule, at)) => refused_verify(alloc, Flaw::WrongKind, rule, at),
+        None => report(alloc, accepted, population),
+    }
+}
 
 /// The reply to a unit's rules on a population.
 fn judge_unit(alloc: Global, population: &Population<'_>, unit: Unit) -> Result<Reply, AllocError>
     ensures { IfOk result (λ r. said r ≡ code_answer population.now.content (Ok (content unit))) }
 {
     match verify(alloc, population.model(), unit) {
-        Ok(accepted) => report(alloc, &accepted, population),
+        Ok(accepted) => judge_accepted(alloc, &accepted, population),
         Err((VerifyFault::At { flaw, rule, at }, _unit)) => refused_verify(alloc, flaw, rule, at),
         Err((VerifyFault::OutOfMemory, _unit)) => Err(AllocError),
     }

@@ -8,15 +8,13 @@ ghost use Rattle.ocl_check.specs.Value.{Value as Operand, Single};
 ghost use Rattle.ocl_check.specs.Operations.{single_value};
 ghost use Rattle.ocl_check.specs.Machine.{read_from, performed};
 ghost use Rattle.ocl_check.specs.Laws.{setting_of};
-ghost use Rattle.ocl_check.specs.Walk.{HasSymbol};
-ghost use Rattle.ocl_check.specs.Shown.{meant, all_meant, IsHolder, CanPerform, object_variable};
+ghost use Rattle.ocl_check.specs.Shown.{meant, all_meant, IsHolder, CanPerform, HasSymbol, object_variable};
 
 use super::value::{Value, at_least, conjunction, less_than, negation};
-use crate::stack::Stack;
 use imkl_model::FeatureNo;
 use imkl_population::{ObjectNo, Population, Scalar};
 use rule_code::{Instr, SymbolNumber};
-use rule_verify::{Linked, Named};
+use rule_verify::{Accepted, Named, Stack};
 
 /// A single value as an operand.
 fn operand(scalar: &Scalar) -> Value<'_>
@@ -86,19 +84,19 @@ fn one<'p>(operands: &mut Stack<Value<'p>>) -> Value<'p>
 
 /// The value of a feature of the topmost operand, which is taken.
 fn read_feature<'p>(
-    linked: &Linked<'_>,
+    accepted: &Accepted<'_>,
     population: &'p Population<'_>,
     operands: &mut Stack<Value<'p>>,
     symbol: SymbolNumber,
 ) -> Value<'p>
-    requires one_model { population.now.content.model ≡ linked.now.model }
-    requires symbol { symbol.0 < length linked.now.unit.symbols }
-    requires can { CanPerform linked.now.unit population.now.content (Attr symbol)
+    requires one_model { population.now.content.model ≡ accepted.now.model }
+    requires symbol { symbol.0 < length accepted.now.unit.symbols }
+    requires can { CanPerform accepted.now.unit population.now.content (Attr symbol)
         (all_meant operands.old) }
-    ensures { (vs : List Operand) → performed (setting_of linked.now.unit population.now.content) vs
+    ensures { (vs : List Operand) → performed (setting_of accepted.now.unit population.now.content) vs
         (Attr symbol) (all_meant operands.old) ≡ Some (meant result ∷ all_meant operands.new) }
 {
-    let Some(name) = linked.named(symbol) else {
+    let Some(name) = accepted.named(symbol) else {
         unreachable!()
     };
     match name {
@@ -114,17 +112,17 @@ fn read_feature<'p>(
 
 /// The value that an instruction gives, of code that runs for an object. Its operands are taken.
 pub(super) fn instruct<'p>(
-    linked: &Linked<'_>,
+    accepted: &Accepted<'_>,
     population: &'p Population<'_>,
     object: ObjectNo,
     operands: &mut Stack<Value<'p>>,
     instr: Instr,
 ) -> Value<'p>
-    requires one_model { population.now.content.model ≡ linked.now.model }
-    requires symbol { HasSymbol linked.now.unit instr }
-    requires can { CanPerform linked.now.unit population.now.content instr
+    requires one_model { population.now.content.model ≡ accepted.now.model }
+    requires symbol { HasSymbol accepted.now.unit instr }
+    requires can { CanPerform accepted.now.unit population.now.content instr
         (all_meant operands.old) }
-    ensures { performed (setting_of linked.now.unit population.now.content)
+    ensures { performed (setting_of accepted.now.unit population.now.content)
         (object_variable object) instr (all_meant operands.old) ≡
         Some (meant result ∷ all_meant operands.new) }
 {
@@ -133,7 +131,7 @@ pub(super) fn instruct<'p>(
         Instr::Int(n) => Value::Int(n),
         Instr::Bool(b) => Value::Bool(b),
         Instr::Null => Value::Null,
-        Instr::Attr(symbol) => read_feature(linked, population, operands, symbol),
+        Instr::Attr(symbol) => read_feature(accepted, population, operands, symbol),
         Instr::Lt => {
             let (second, first) = two(operands);
             less_than(&first, &second)

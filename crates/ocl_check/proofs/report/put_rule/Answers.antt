@@ -1,6 +1,6 @@
 use Rattle.std.proofs.Common.{◌≡◌, ◌++◌, string_bytes, sym, ap, ◌∙◌, arith}
 use Rattle.imkl_population.specs.Population.{IsInstance}
-use Rattle.ocl_check.specs.Kinds.{context_of, rule_at}
+use Rattle.rule_verify.specs.UnitRules.{context_class, unit_rule}
 use Rattle.ocl_check.specs.Report.{counted, instances_of, object_line, verdict_on}
 use Rattle.ocl_check.specs.Verdict.{verdict_at}
 use Rattle.ocl_check.proofs.Reports.{each_one, is_context_object, tally_within, tally_next, text_more, line_is, report_is}
@@ -15,7 +15,7 @@ judge-requires-clause-context c =
     let u = c.args.accepted.now.unit in
     let p = c.args.population.now.content in
     is_context_object u p c.args.rule c.context.result c.object-item.result
-    (ap (λ m. context_of m u (rule_at u c.args.rule)) c.requires.one_model ∙ c.context.ensures.class)
+    (ap (λ m. context_class m u (unit_rule u c.args.rule)) c.requires.one_model ∙ c.context.ensures.class)
     (each_one (IsInstance p c.context.result) c.instances-objects.result.now c.loop-object.object-index c.object-item.result c.loop-object-test.true c.object-item.is c.instances-objects.ensures.each)
 
 pub count-requires : goal.count-requires
@@ -46,7 +46,7 @@ returns-clause-text c =
     let p = c.args.population.now.content in
     let r = c.args.rule in
     let os = c.instances-objects.result.now in
-    let context = ap (λ m. context_of m u (rule_at u r)) c.requires.one_model ∙ c.context.ensures.class in
+    let context = ap (λ m. context_class m u (unit_rule u r)) c.requires.one_model ∙ c.context.ensures.class in
     report_is u p r os c.loop-object.object-index c.rule_name-name.result.now c.loop-object.tally (string_bytes c.args.out.now) (string_bytes c.loop-object.out) _
     (c.instances-objects.ensures.objects ∙ ap (instances_of p) (sym context)) (omega (arith, c.loop-object-test.false, c.loop-object.auto.object-index-end)) c.rule_name-name.ensures
     c.loop-object.invariant.tally c.loop-object.invariant.text c.in_ok-put_rule_line.ensures

@@ -1,4 +1,4 @@
-use Rattle.rule_verify.proofs.ForAbove.{code_tree_count}
+use Rattle.rule_verify.proofs.Stretches.{code_tree_count}
 use Rattle.rule_verify.proofs.laws.code_trees.Goals as goal
 
 pub returns : goal.returns

@@ -1,0 +1,95 @@
+//! Blocks: which instructions have bodies, what these may use and end with, and what the block gives.
+
+ghost use Rattle.std.specs.Prelude.{◌≡◌};
+ghost use Rattle.rule_verify.specs.CodeTree.{shape_of};
+ghost use Rattle.rule_verify.specs.InstrKinds as spec;
+ghost use Rattle.rule_verify.specs.Walk.{surroundings_of, AreSymbols};
+
+use crate::judged::RuleCode;
+use crate::meant::{kind_meant, scalar_meant};
+use crate::pattern::Pattern;
+use crate::shape::Shape;
+use imkl_model::CollectionKind;
+use ocl_kinds::{Kind, ScalarKind};
+use rule_code::Instr;
+
+/// How many bodies an instruction has, with the number of instructions of each.
+pub fn shape_of(instr: Instr) -> Shape
+    ensures { result ≡ shape_of instr }
+{
+    match instr {
+        Instr::Let(body)
+        | Instr::ForAll(body)
+        | Instr::Exists(body)
+        | Instr::One(body)
+        | Instr::Select(body)
+        | Instr::Reject(body)
+        | Instr::Collect(body)
+        | Instr::CollectFlat(body)
+        | Instr::IsUnique(_, body) => Shape::OneBody(usize::from(body)),
+        Instr::If(_, first, second) => { Shape::TwoBodies(usize::from(first), usize::from(second)) }
+        _ => Shape::Single,
+    }
+}
+
+/// The kind of one element of a collection, or of the value itself.
+pub(crate) fn element_of(kind: &Kind) -> ScalarKind
+    ensures { result ≡ spec.element_of kind.now }
+{
+    match kind {
+        Kind::Scalar(element) | Kind::Collection(_, element) => *element,
+    }
+}
+
+/// What is collected of a collection: a Bag of a Set or a Bag, a Sequence of the others.
+fn collected(kind: &Kind) -> CollectionKind
+    ensures { result ≡ spec.collected kind.now }
+{
+    match kind {
+        Kind::Collection(CollectionKind::OrderedSet | CollectionKind::Sequence, _) => {
+            CollectionKind::Sequence
+        }
+        _ => CollectionKind::Bag,
+    }
+}
+
+/// The variable that a block with one body binds, by the operand that it takes.
+pub(crate) fn binds(instr: Instr, operand: &Kind) -> Kind
+    ensures { result ≡ spec.binds instr operand.now }
+{
+    match instr {
+        Instr::Let(_) => *operand,
+        _ => Kind::Scalar(element_of(operand)),
+    }
+}
+
+/// What the bodies of a block end with.
+pub(crate) fn ends_with(rule: &RuleCode<'_, '_>, instr: Instr) -> Pattern
+    requires { AreSymbols rule.now.linked.now.unit (spec.symbols_used instr) }
+    ensures { result ≡ spec.ends_with (surroundings_of rule.now) instr }
+{
+    match instr {
+        Instr::Let(_) => Pattern::Anything,
+        Instr::If(kind, _, _) => Pattern::Fitting(kind_meant(rule, kind)),
+        Instr::Collect(_) => Pattern::AnySingle,
+        Instr::CollectFlat(_) => Pattern::AnyCollection,
+        Instr::IsUnique(kind, _) => Pattern::Fitting(Kind::Scalar(scalar_meant(rule, kind))),
+        _ => Pattern::Fitting(Kind::Scalar(ScalarKind::Boolean)),
+    }
+}
+
+/// What a block gives, by the operand that it takes and by what its body ended with.
+pub(crate) fn yields(rule: &RuleCode<'_, '_>, instr: Instr, operand: &Kind, ended: &Kind) -> Kind
+    requires { AreSymbols rule.now.linked.now.unit (spec.symbols_used instr) }
+    ensures { result ≡ spec.yields (surroundings_of rule.now) instr operand.now ended.now }
+{
+    match instr {
+        Instr::Let(_) => *ended,
+        Instr::If(kind, _, _) => kind_meant(rule, kind),
+        Instr::Select(_) | Instr::Reject(_) => *operand,
+        Instr::Collect(_) | Instr::CollectFlat(_) => {
+            Kind::Collection(collected(operand), element_of(ended))
+        }
+        _ => Kind::Scalar(ScalarKind::Boolean),
+    }
+}

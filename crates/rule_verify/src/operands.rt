@@ -1,0 +1,82 @@
+//! The operands that instructions take.
+
+ghost use Rattle.std.specs.Prelude.{◌≡◌};
+ghost use Rattle.rule_verify.specs.InstrKinds as spec;
+ghost use Rattle.rule_verify.specs.Walk.{surroundings_of, operand_list, AreSymbols};
+
+use crate::judged::RuleCode;
+use crate::meant::{kind_meant, owner_kind, scalar_meant};
+use crate::pattern::{Operands, Pattern};
+use ocl_kinds::{Kind, ScalarKind};
+use rule_code::Instr;
+
+/// A single value of a kind that fits this one.
+fn single(element: ScalarKind) -> Pattern
+    ensures { result ≡ Pattern.Fitting (Kind.Scalar element) }
+{
+    Pattern::Fitting(Kind::Scalar(element))
+}
+
+/// What the operands of an instruction may be, where they depend on none of its fields.
+fn fixed_operands(instr: Instr) -> Operands
+    ensures { operand_list result ≡ spec.fixed_operands instr }
+{
+    let boolean = single(ScalarKind::Boolean);
+    let integer = single(ScalarKind::Integer);
+    let string = single(ScalarKind::String);
+    match instr {
+        Instr::KindOf(_) | Instr::TypeOf(_) | Instr::AsType(_) => {
+            Operands::One(single(ScalarKind::AnyObject))
+        }
+        Instr::Neg | Instr::Abs => Operands::One(integer),
+        Instr::Add | Instr::Sub | Instr::Mul | Instr::Div | Instr::Mod | Instr::Min | Instr::Max =>
+            { Operands::Two(integer, single(ScalarKind::Integer)) }
+        Instr::Lt | Instr::Le | Instr::Gt | Instr::Ge => {
+            Operands::Two(integer, single(ScalarKind::Integer))
+        }
+        Instr::Not | Instr::If(_, _, _) => Operands::One(boolean),
+        Instr::And | Instr::Or | Instr::Xor | Instr::Implies => {
+            Operands::Two(boolean, single(ScalarKind::Boolean))
+        }
+        Instr::Eqx => Operands::Two(Pattern::Anything, Pattern::Anything),
+        Instr::Undef | Instr::IsInv | Instr::Let(_) => Operands::One(Pattern::Anything),
+        Instr::TLen => Operands::One(string),
+        Instr::SubStr => Operands::Three(integer, single(ScalarKind::Integer), string),
+        Instr::Size | Instr::IsEmpty => Operands::One(Pattern::AnyCollection),
+        Instr::Sum => Operands::One(Pattern::CollectionOf(ScalarKind::Integer)),
+        Instr::ForAll(_) | Instr::Exists(_) | Instr::One(_) | Instr::Select(_) | Instr::Reject(_) =>
+            { Operands::One(Pattern::AnyCollection) }
+        Instr::Collect(_) | Instr::CollectFlat(_) | Instr::IsUnique(_, _) => {
+            Operands::One(Pattern::AnyCollection)
+        }
+        _ => Operands::Nothing,
+    }
+}
+
+/// What the operands of an instruction may be, the topmost first.
+pub(crate) fn operands_of(rule: &RuleCode<'_, '_>, instr: Instr) -> Operands
+    requires { AreSymbols rule.now.linked.now.unit (spec.symbols_used instr) }
+    ensures { operand_list result ≡ spec.operands_of (surroundings_of rule.now) instr }
+{
+    match instr {
+        Instr::Attr(symbol) => Operands::One(single(owner_kind(rule, symbol))),
+        Instr::AsColl(_, kind) => Operands::One(single(scalar_meant(rule, kind))),
+        Instr::Eq(kind) => {
+            let wanted = kind_meant(rule, kind);
+            let same = wanted;
+            Operands::Two(Pattern::Fitting(wanted), Pattern::Fitting(same))
+        }
+        Instr::Includes(kind) | Instr::Count(kind) => {
+            let element = scalar_meant(rule, kind);
+            let same = element;
+            Operands::Two(single(element), Pattern::CollectionOf(same))
+        }
+        Instr::IncAll(kind) | Instr::ExcAll(kind) => {
+            let element = scalar_meant(rule, kind);
+            let same = element;
+            Operands::Two(Pattern::CollectionOf(element), Pattern::CollectionOf(same))
+        }
+        Instr::AsSet(kind) => Operands::One(Pattern::CollectionOf(scalar_meant(rule, kind))),
+        _ => fixed_operands(instr),
+    }
+}

@@ -1,0 +1,80 @@
+//! The rules of a unit are checked.
+
+ghost use Rattle.std.specs.Prelude.{◌≡◌, ◌<◌, length, IfOk};
+ghost use Rattle.ocl_base.specs.Steps.{Gives};
+ghost use Rattle.rule_verify.specs.Faults.{verify_fault};
+ghost use Rattle.rule_verify.specs.UnitRules as spec;
+
+use crate::depths::Depths;
+use crate::fault::{Flaw, VerifyFault};
+use crate::judged::RuleCode;
+use crate::linked::Linked;
+use crate::pattern::Pattern;
+use crate::place::{Place, Walk};
+use crate::stack::Stack;
+use crate::taking::put;
+use crate::walk::{ended_with, sequence};
+use ocl_kinds::{Kind, ScalarKind};
+use std::alloc::Global;
+
+/// Checks a rule: how deep it goes, or its first fault.
+fn check_rule(alloc: Global, linked: &Linked<'_>, index: usize) -> Result<Depths, VerifyFault>
+    requires { index < length linked.now.unit.rules }
+    ensures checked { Gives verify_fault (λ _. tt) result (spec.check_rule linked.now.model
+        linked.now.unit index (spec.unit_rule linked.now.unit index)) }
+    ensures depths { IfOk result (λ d. d ≡ spec.depths_of linked.now.model linked.now.unit index
+        (spec.unit_rule linked.now.unit index)) }
+{
+    linked.model().well_formed();
+    let rule = linked.unit().rule(index);
+    let Some(context) = linked.class(rule.context) else {
+        return Err(VerifyFault::At {
+            flaw: Flaw::NoSuchName,
+            rule: index,
+            at: 0,
+        });
+    };
+    let code = RuleCode {
+        linked,
+        index,
+        context,
+        code: rule.code.as_slice(),
+    };
+    let mut walk = Walk {
+        variables: Stack::new(alloc),
+        depths: Depths {
+            operands: 0,
+            variables: 0,
+            blocks: 0,
+        },
+    };
+    put(
+        &mut walk.variables,
+        Kind::Scalar(ScalarKind::Class(context)),
+    )?;
+    let place = Place {
+        at: 0,
+        end: code.code.len(),
+        covered: 0,
+        open_blocks: 0,
+    };
+    let operands = sequence(alloc, &code, &mut walk, place)?;
+    let truth = Pattern::Fitting(Kind::Scalar(ScalarKind::Boolean));
+    ended_with(&code, &truth, place.end, &operands)?;
+    Ok(walk.depths)
+}
+
+/// Checks the rules of a unit: how deep each goes, or the first fault.
+pub(crate) fn check_rules(alloc: Global, linked: &Linked<'_>) -> Result<Vec<Depths>, VerifyFault>
+    ensures checked { Gives verify_fault (λ _. tt) result
+        (spec.check_unit linked.now.model linked.now.unit) }
+    ensures depths { IfOk result (λ v. v.items ≡ spec.depths_of_rules linked.now.model
+        linked.now.unit 0 linked.now.unit.rules) }
+{
+    let mut depths = Vec::new(alloc);
+    for index in 0..linked.unit().rules.len() {
+        let reached = check_rule(alloc, linked, index)?;
+        depths.push(reached)?;
+    }
+    Ok(depths)
+}

@@ -1,0 +1,118 @@
+//! Operands are taken.
+
+ghost use Rattle.std.specs.Prelude.{◌≡◌, ◌∷◌, List, OnOk, Ok};
+ghost use Rattle.ocl_kinds.specs.declared.kind.Kind.{Kind};
+ghost use Rattle.rule_verify.specs.InstrKinds as spec;
+ghost use Rattle.rule_verify.specs.KindRules.{taken};
+ghost use Rattle.rule_verify.specs.Known.{AreKnownKinds};
+ghost use Rattle.rule_verify.specs.Patterns.{ArePatterns};
+ghost use Rattle.rule_verify.specs.Walk.{surroundings_of, operand_list, AreSymbols, AreTaken, Leads, IsRuleCode};
+
+use crate::blocks::element_of;
+use crate::fault::{Flaw, VerifyFault};
+use crate::judged::RuleCode;
+use crate::operands::operands_of;
+use crate::pattern::{Operands, Pattern, matches};
+use crate::stack::Stack;
+use crate::symbols_used::has_names;
+use imkl_model::ClassModel;
+use ocl_kinds::{Kind, ScalarKind};
+use rule_code::Instr;
+use std::alloc::AllocError;
+
+/// Takes operands that may be this, the topmost first.
+fn take_each(model: &ClassModel, operands: &mut Stack<Kind>, wanted: &[Pattern]) -> Option<Flaw>
+    requires operands { AreKnownKinds model.now operands.old }
+    requires wanted { ArePatterns model.now wanted.now }
+    ensures taken { AreTaken model.now wanted.now operands.old result operands.new }
+    ensures known { AreKnownKinds model.now operands.new }
+{
+    if operands.len() < wanted.len() {
+        return Some(Flaw::MissingOperand);
+    }
+    for want in wanted {
+        match operands.pop() {
+            None => return Some(Flaw::MissingOperand),
+            Some(kind) => {
+                if !matches(model, want, &kind) {
+                    return Some(Flaw::WrongKind);
+                }
+            }
+        }
+    }
+    None
+}
+
+/// Takes the operands of an instruction.
+fn take_operands(model: &ClassModel, operands: &mut Stack<Kind>, wanted: Operands) -> Option<Flaw>
+    requires operands { AreKnownKinds model.now operands.old }
+    requires wanted { ArePatterns model.now (operand_list wanted) }
+    ensures taken { AreTaken model.now (operand_list wanted) operands.old result operands.new }
+    ensures known { AreKnownKinds model.now operands.new }
+{
+    match wanted {
+        Operands::Nothing => None,
+        Operands::One(first) => take_each(model, operands, &[first]),
+        Operands::Two(first, second) => take_each(model, operands, &[first, second]),
+        Operands::Three(first, second, third) => {
+            take_each(model, operands, &[first, second, third])
+        }
+    }
+}
+
+/// Whether the variable that an instruction reads is there.
+fn has_variable(variables: &Stack<Kind>, instr: Instr) -> bool
+    ensures { result ≡ spec.has_variable variables.now instr }
+{
+    match instr {
+        Instr::Get(number) => variables.from_bottom(usize::from(number)).is_some(),
+        _ => true,
+    }
+}
+
+/// The kind of the topmost operand, Void where there is none.
+pub(crate) fn topmost(operands: &Stack<Kind>) -> Kind
+    ensures { result ≡ spec.topmost operands.now }
+{
+    match operands.top() {
+        Some(kind) => kind,
+        None => Kind::Scalar(ScalarKind::Void),
+    }
+}
+
+/// Takes the operands of the instruction at an index, if what it names, its variable and its operands are there and right.
+pub(crate) fn take(
+    rule: &RuleCode<'_, '_>,
+    variables: &Stack<Kind>,
+    operands: &mut Stack<Kind>,
+    instr: Instr,
+    at: usize,
+) -> Result<(), VerifyFault>
+    requires symbols { AreSymbols rule.now.linked.now.unit (spec.symbols_used instr) }
+    requires operands { AreKnownKinds rule.now.linked.now.model operands.old }
+    ensures taken { Leads result
+        (taken (surroundings_of rule.now) variables.now instr at operands.old)
+        (λ _. Ok operands.new) }
+    ensures known { OnOk result (AreKnownKinds rule.now.linked.now.model operands.new) }
+{
+    if !has_names(rule, instr) {
+        return Err(rule.fault(Flaw::NoSuchName, at));
+    }
+    if !has_variable(variables, instr) {
+        return Err(rule.fault(Flaw::BadVariable, at));
+    }
+    match take_operands(rule.linked.model(), operands, operands_of(rule, instr)) {
+        Some(flaw) => Err(rule.fault(flaw, at)),
+        None => Ok(()),
+    }
+}
+
+/// Puts a kind on top of others.
+pub(crate) fn put(kinds: &mut Stack<Kind>, kind: Kind) -> Result<(), AllocError>
+    ensures { OnOk result (kinds.new ≡ kind ∷ kinds.old) }
+{
+    // The check takes in the type of a kind's elements only where a variable has it.
+    let _element = element_of(&kind);
+    kinds.push(kind)?;
+    Ok(())
+}

@@ -1,0 +1,13 @@
+//! Tests of `rule_verify`, by its public functions.
+#![tactic(auto)]
+
+#[cfg(test)]
+mod accepted;
+#[cfg(test)]
+mod files;
+#[cfg(test)]
+mod hex;
+#[cfg(test)]
+mod instructions;
+#[cfg(test)]
+mod limits;
