@@ -1,0 +1,14 @@
+pub mod InKinds
+pub mod Symbols
+pub mod FeatureValues
+pub mod ValueKinds
+pub mod Distinct
+pub mod Results
+pub mod EndingKinds
+pub mod Moves
+pub mod Runs
+pub mod Bridge
+pub mod Theorems
+pub mod Characters
+pub mod Bodies
+pub mod Totals

@@ -1,0 +1,56 @@
+-- What holds of every run of accepted code, whoever made it.
+use Rattle.std.specs.Prelude.{◌≡◌, ◌⊎◌, ℕ, ◌<◌, ◌≤◌, length, Some, IsSome}
+use Rattle.imkl_model.specs.WellFormed.{IsClassModel}
+use Rattle.imkl_population.specs.Population.{Population, IsInstance}
+use Rattle.imkl_population.specs.Consistency.{IsConsistent}
+use Rattle.imkl_population.specs.Sizes.{sizes_of}
+use Rattle.rule_code.specs.Content.{Content}
+use Rattle.rule_code.specs.WellFormed.{IsUnit}
+use Rattle.rule_verify.specs.CodeTree.{CodeTree, code_tree}
+use Rattle.rule_verify.specs.UnitRules.{unit_rule, IsAcceptedUnit}
+use Rattle.rule_cost.specs.Bounds.{step_bound}
+use Rattle.rule_machine.specs.Machine.{setting_of, judged_by, Configuration, step, run, start}
+use Rattle.rule_machine.specs.Verdict.{outcome}
+use Rattle.rule_machine.specs.Live.{Live}
+
+-- A unit that is accepted in a class model, a consistent population of it, the index of a rule, and an object of the rule's context
+-- class.
+pub record IsAcceptedRun (u : Content) (p : Population) (n o : ℕ) : Type 0 where
+  pub model : IsClassModel p.model
+  pub population : IsConsistent p
+  pub unit : IsUnit u
+  pub accepted : IsAcceptedUnit p.model u
+  pub rule : n < length u.rules
+  pub object : IsInstance p (setting_of u p n).context o
+
+abbrev pub tree_of_rule : Content → ℕ → CodeTree
+tree_of_rule u n = code_tree (unit_rule u n).code
+
+-- the bound on the steps of a rule's runs in a population
+abbrev pub rule_bound : Content → Population → ℕ → ℕ
+rule_bound u p n = step_bound (judged_by (setting_of u p n)) (sizes_of p) (tree_of_rule u n)
+
+-- no configuration that a run reaches is stuck: it has a verdict, or a next step
+abbrev pub NeverStuck : Type 0
+NeverStuck =
+    (u : Content) (p : Population) (n o k : ℕ) (c : Configuration)
+    → IsAcceptedRun u p n o
+    → run (setting_of u p n) k (start (tree_of_rule u n) o) ≡ Some c
+    → IsSome (outcome c) ⊎ IsSome (step (setting_of u p n) c)
+
+-- a run comes to a verdict within the step bound
+abbrev pub EndsWithin : Type 0
+EndsWithin =
+    (u : Content) (p : Population) (n o : ℕ)
+    → IsAcceptedRun u p n o
+    → (k : ℕ) × (c : Configuration) × (k ≤ rule_bound u p n)
+    × (run (setting_of u p n) k (start (tree_of_rule u n) o) ≡ Some c) × IsSome (outcome c)
+
+-- In each configuration that a run reaches, every operand and every variable stands at a place: it is in the place's kind, and a
+-- collection no longer than the place allows. The pending code has kinds from these places on.
+abbrev pub StandsInKinds : Type 0
+StandsInKinds =
+    (u : Content) (p : Population) (n o k : ℕ) (c : Configuration)
+    → IsAcceptedRun u p n o
+    → run (setting_of u p n) k (start (tree_of_rule u n) o) ≡ Some c
+    → (m : ℕ) × (m ≤ rule_bound u p n) × Live (setting_of u p n) c m

@@ -1,0 +1,11 @@
+-- Definitions: what contracts mean.
+pub mod Value
+pub mod Equality
+pub mod Operations
+pub mod Endings
+pub mod Machine
+pub mod Verdict
+pub mod Laws
+-- Bookkeeping: views, layouts, walks and tables that only proofs and private contracts use.
+pub mod Live
+pub mod Meant
