@@ -7,11 +7,12 @@ use Rattle.std.proofs.lemmas.List.Folds.{list_all-append}
 use Rattle.imkl_population.specs.declared.scalar.Scalar.{Scalar}
 use Rattle.imkl_population.specs.declared.scalar.Scalar.TheVariants as scalar
 use Rattle.imkl_population.specs.Building.{as_objects}
-use Rattle.imkl_population.specs.Values.{is_value_among, repeats_value}
+use Rattle.imkl_population.specs.Values.{same_scalar, is_value_among, repeats_value}
 use Rattle.imkl_population.specs.Population.{Population, pairs_of, pairs_below, holders_of, held_by, written_at}
 use Rattle.imkl_population.proofs.Pairs.{holders_of-append}
 use Rattle.imkl_population.proofs.Bools.{same_test}
-use Rattle.imkl_population.proofs.Twice.{apart_push}
+use Rattle.ocl_base.proofs.ForAbove.{apart_push}
+use Rattle.imkl_population.proofs.Twice.{same_scalar-sym}
 
 -- a target more: the holder once more, or not
 held_step : (b : Bool) (holder o t : ℕ) (vs : List Scalar) → (t == o) ≡ b → held_by holder o (scalar.Object t ∷ vs) ≡ (if b then holder ∷ held_by holder o vs else held_by holder o vs)
@@ -91,7 +92,7 @@ joined : (n : ℕ) (xs ys : List ℕ) → repeats_value (as_objects xs) ≡ fals
 joined n xs ys apart below last =
     elim last [
       | inl e ↦ rw (e, append-nil xs) apart
-      | inr e ↦ rw (e, map-append scalar.Object xs (n ∷ [])) (apart_push (as_objects xs) (scalar.Object n) apart (above_all n xs below))
+      | inr e ↦ rw (e, map-append scalar.Object xs (n ∷ [])) (apart_push same_scalar same_scalar-sym (as_objects xs) (scalar.Object n) apart (above_all n xs below))
     ]
 
 -- the holders of an object differ where each holder's targets differ

@@ -1,12 +1,15 @@
 -- What the crates above cite: steps that may fail, lists that loops read, and numbers that pass a test.
-use Rattle.std.proofs.Common.{◌≡◌, ℕ, zero, suc, ◌+◌, ◌<◌, ◌≤◌, ◌&&◌, ◌⊎◌, inl, inr, Bool, true, false, if◌then◌else◌, List, [], ◌∷◌, ◌++◌, length, get_or, drop, map, find, Option, Some, None, IfSome, Result, Ok, Err, refl, sym, ap, subst, ◌∙◌, append_assoc, drop-cons, add-one, arith, All}
+use Rattle.std.proofs.Common.{◌≡◌, ℕ, zero, suc, ◌+◌, ◌<◌, ◌≤◌, ◌&&◌, ◌||◌, ◌⊎◌, inl, inr, Bool, true, false, if◌then◌else◌, List, [], ◌∷◌, ◌++◌, length, get_or, drop, map, find, Option, Some, None, IfSome, Result, Ok, Err, refl, sym, ap, subst, ◌∙◌, append_assoc, drop-cons, add-one, arith, All}
+use Rattle.std.specs.Prelude.{nat_eq}
 use Rattle.std.specs.Option.{option_or}
-use Rattle.std.proofs.lemmas.Bool.{false≢true, or_parts, or_left, or_right}
+use Rattle.std.proofs.lemmas.Bool.{false≢true, or_parts, or_left, or_right, ne_eqb}
 use Rattle.std.proofs.lemmas.Bool.Decides.{leb_tells}
 use Rattle.std.proofs.lemmas.List.{append-nil, length_push, get_or_at}
 use Rattle.std.proofs.lemmas.List.Elements.{All-push}
-use Rattle.std.proofs.lemmas.List.Folds.{find-append}
+use Rattle.std.proofs.lemmas.List.Folds.{find-append, list_any-append, list_any_none}
+use Rattle.std.proofs.lemmas.Cmp.{nat_eq_equiv}
 use Rattle.std.proofs.lemmas.Grind.{common_steps}
+use Rattle.std.proofs.Math.Bool.{or-false}
 use Rattle.std.proofs.Math.ListN.{drop_of_length-le}
 use Rattle.ocl_base.specs.Lists.{is_among, repeats}
 use Rattle.ocl_base.specs.Steps.{◌>>=◌, found, each, FaultMeaning, fault, out_of_memory, never, Means, Fails}
@@ -110,6 +113,39 @@ stands_once same none equal (x ∷ xs) zero (suc j) apart li lj e = absurd (fals
 stands_once same none equal (x ∷ xs) (suc i) zero apart li lj e = absurd (false≢true (sym (or_parts (is_among same xs x) (repeats same xs) apart).0 ∙ stands_among same none equal x xs i (omega (arith, li)) (sym e)))
 stands_once same none equal (x ∷ xs) (suc i) (suc j) apart li lj e = ap suc (stands_once same none equal xs i j (or_parts (is_among same xs x) (repeats same xs) apart).1 (omega (arith, li)) (omega (arith, lj)) e)
 
+-- what is among them and one more
+pub among_push : {X : Type 0} (same : X → X → Bool) (xs : List X) (y z : X) → is_among same (xs ++ y ∷ []) z ≡ (is_among same xs z || same z y)
+among_push same xs y z = list_any-append (same z) xs (y ∷ []) ∙ ap (λ b. is_among same xs z || b) (or-false (same z y))
+
+-- one more that isn't among them
+pub apart_push : {X : Type 0} (same : X → X → Bool) → ((x y : X) → same x y ≡ same y x) → (xs : List X) (y : X) → repeats same xs ≡ false → is_among same xs y ≡ false → repeats same (xs ++ y ∷ []) ≡ false
+apart_push same either_way [] y apart none = refl
+apart_push same either_way (x ∷ xs) y apart none =
+    let p = or_parts (is_among same xs x) (repeats same xs) apart in
+    let q = or_parts (same y x) (is_among same xs y) none in
+    let here : is_among same (xs ++ y ∷ []) x ≡ false = among_push same xs y x ∙ rw (p.0, either_way x y, q.0) refl in
+    rw (here, apart_push same either_way xs y p.1 q.1) refl
+
+again_by : {X : Type 0} (same : X → X → Bool) (b : Bool) (x : X) (xs : List X) (y : X) (ys : List X) → same x y ≡ b → (is_among same xs y ≡ true → repeats same (xs ++ y ∷ ys) ≡ true) → (b || is_among same xs y) ≡ true → repeats same (x ∷ (xs ++ y ∷ ys)) ≡ true
+again_by same true x xs y ys e later there =
+    let here : is_among same (xs ++ y ∷ ys) x ≡ true = list_any-append (same x) xs (y ∷ ys) ∙ or_right (is_among same xs x) (is_among same (y ∷ ys) x) (or_left (same x y) (is_among same ys x) e) in
+    or_left (is_among same (xs ++ y ∷ ys) x) (repeats same (xs ++ y ∷ ys)) here
+again_by same false x xs y ys e later there = or_right (is_among same (xs ++ y ∷ ys) x) (repeats same (xs ++ y ∷ ys)) (later there)
+
+-- one of them that comes again
+pub found_again : {X : Type 0} (same : X → X → Bool) → ((x y : X) → same x y ≡ same y x) → (xs : List X) (y : X) (ys : List X) → is_among same xs y ≡ true → repeats same (xs ++ y ∷ ys) ≡ true
+found_again same either_way [] y ys there = absurd (false≢true there)
+found_again same either_way (x ∷ xs) y ys there = again_by same (same y x) x xs y ys (either_way x y) (found_again same either_way xs y ys) there
+
+among-map : {X Y : Type 0} (same : Y → Y → Bool) (f : X → Y) (xs : List X) (x : X) → is_among same (map f xs) (f x) ≡ is_among (λ y z. same (f y) (f z)) xs x
+among-map same f [] x = refl
+among-map same f (y ∷ ys) x = ap (λ b. same (f x) (f y) || b) (among-map same f ys x)
+
+-- values by what is made of them
+pub repeats-map : {X Y : Type 0} (same : Y → Y → Bool) (f : X → Y) (xs : List X) → repeats same (map f xs) ≡ repeats (λ x y. same (f x) (f y)) xs
+repeats-map same f [] = refl
+repeats-map same f (x ∷ xs) = rw (among-map same f xs x, repeats-map same f xs) refl
+
 -- ---- faults
 
 means_whole : {A B F : Type 0} (m : FaultMeaning F) (r : Result A F) (f : A → Result B F) → Means m r → Means m (r >>= f)
@@ -201,6 +237,18 @@ places_below p (suc n) =
 pub places_pass : (p : ℕ → Bool) (n : ℕ) → All (λ k. p k ≡ true) (places p n)
 places_pass p zero = λ k d lt. absurd (omega (arith, lt))
 places_pass p (suc n) = pushed (λ k. p k ≡ true) (p n) n (places p n) (places_pass p n) (λ e. e)
+
+-- none of them stands twice
+pub places_apart : (p : ℕ → Bool) (n : ℕ) → repeats nat_eq (places p n) ≡ false
+places_apart p zero = refl
+places_apart p (suc n) = by_test (p n) (places_apart p n)
+  where
+    later : is_among nat_eq (places p n) n ≡ false
+    later = list_any_none (nat_eq n) (places p n) (λ k d lt. ne_eqb n (get_or (places p n) k d) (λ same. absurd (omega (arith, same, places_below p n k d lt))))
+
+    by_test : (b : Bool) → repeats nat_eq (places p n) ≡ false → repeats nat_eq (places p n ++ (if b then n ∷ [] else [])) ≡ false
+    by_test true apart = apart_push nat_eq nat_eq_equiv.symm (places p n) n apart later
+    by_test false apart = subst (λ xs. repeats nat_eq xs ≡ false) (sym (append-nil (places p n))) apart
 
 -- a number stands in a list
 abbrev pub IsThere : ℕ → List ℕ → Type 0

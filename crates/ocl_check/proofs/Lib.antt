@@ -1,10 +1,4 @@
 pub mod Writes
-pub mod NineKinds
-pub mod InKinds
-pub mod Straight
-pub mod RunBy
-pub mod Runs
-pub mod Steps
 pub mod Reports
 pub mod Judging
 pub mod Inputs

@@ -15,19 +15,13 @@ use Rattle.rule_code.specs.Content.{Content}
 use Rattle.rule_code.specs.CodeFile.{CodeFaultAt, unit_of}
 use Rattle.rule_verify.specs.KindRules.{InstrFault}
 use Rattle.rule_verify.specs.UnitRules.{check_unit}
-use Rattle.ocl_check.specs.Supported.{unit_supported}
 use Rattle.ocl_check.specs.Report.{report_of, status_of}
 use Rattle.ocl_check.specs.Reply.{Answer, refused_model, refused_delivery, refused_code, refused_verify}
 
--- the rules are judged where the machine runs each instruction
-abbrev pub supported_answer : Population → Content → Result (Unit {0}) InstrFault → Answer
-supported_answer p u (Err f) = refused_verify f
-supported_answer p u (Ok _) = (report_of u p, status_of u p)
-
--- a unit with a fault is refused
+-- a unit with a fault is refused, else its rules are judged
 abbrev pub unit_answer : Population → Content → Result (Unit {0}) InstrFault → Answer
 unit_answer p u (Err f) = refused_verify f
-unit_answer p u (Ok _) = supported_answer p u (unit_supported p.model u)
+unit_answer p u (Ok _) = (report_of u p, status_of u p)
 
 abbrev pub code_answer : Population → Result Content CodeFaultAt → Answer
 code_answer p (Err l) = refused_code l

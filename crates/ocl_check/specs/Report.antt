@@ -4,11 +4,11 @@ use Rattle.std.specs.List.{flat_map}
 use Rattle.std.specs.Fmt.{decimal}
 use Rattle.imkl_population.specs.Population.{Population, object_at, instances}
 use Rattle.rule_code.specs.Content.{Content, text_at}
-use Rattle.ocl_check.specs.declared.machine.Verdict.{Verdict}
-use Rattle.ocl_check.specs.declared.machine.Verdict.TheVariants.{Holds, Fails, Undecided}
-use Rattle.ocl_check.specs.declared.report.Tally.{Tally}
 use Rattle.rule_verify.specs.UnitRules.{context_class, unit_rule}
-use Rattle.ocl_check.specs.Verdict.{verdict_at}
+use Rattle.rule_machine.specs.declared.verdict.Verdict.{Verdict}
+use Rattle.rule_machine.specs.declared.verdict.Verdict.TheVariants.{Holds, Fails, Undecided}
+use Rattle.rule_machine.specs.Laws.{verdict_at}
+use Rattle.ocl_check.specs.declared.report.Tally.{Tally}
 
 -- the objects of a rule's context class, those of subclasses included, in their order
 abbrev pub instances_of : Population → Option ℕ → List ℕ
@@ -18,23 +18,21 @@ instances_of p (Some c) = instances p c
 abbrev pub context_objects : Content → Population → ℕ → List ℕ
 context_objects u p r = instances_of p (context_class p.model u (unit_rule u r))
 
-abbrev pub verdict_on : Content → Population → ℕ → ℕ → Verdict
-verdict_on u p r o = verdict_at u p.model p r o
+-- the verdicts of a rule, object by object; of accepted code each is there
+abbrev pub verdicts : Content → Population → ℕ → List (Option Verdict)
+verdicts u p r = map (verdict_at u p r) (context_objects u p r)
 
-abbrev pub verdicts : Content → Population → ℕ → List Verdict
-verdicts u p r = map (verdict_on u p r) (context_objects u p r)
-
-abbrev pub is_same : Verdict → Verdict → Bool
-is_same Holds Holds = true
-is_same Fails Fails = true
-is_same Undecided Undecided = true
-is_same v w = false
+abbrev pub is_verdict : Verdict → Option Verdict → Bool
+is_verdict Holds (Some Holds) = true
+is_verdict Fails (Some Fails) = true
+is_verdict Undecided (Some Undecided) = true
+is_verdict v w = false
 
 -- how many of the verdicts are this one
-abbrev pub count : Verdict → List Verdict → ℕ
-count v vs = length (filter (is_same v) vs)
+abbrev pub count : Verdict → List (Option Verdict) → ℕ
+count v vs = length (filter (is_verdict v) vs)
 
-abbrev pub tally_of : List Verdict → Tally
+abbrev pub tally_of : List (Option Verdict) → Tally
 tally_of vs = record { holds = count Holds vs; fails = count Fails vs; undecided = count Undecided vs }
 
 -- one verdict more
@@ -46,14 +44,14 @@ counted t Undecided = record { holds = t.holds; fails = t.fails; undecided = suc
 abbrev pub name_of : Content → ℕ → List ℕ
 name_of u r = text_at u.texts (unit_rule u r).name
 
--- the line of an object for which the rule doesn't hold
-abbrev pub line_of : Verdict → List ℕ → List ℕ → List ℕ
-line_of Holds name id = []
-line_of Fails name id = codes "fail " ++ (name ++ (32 ∷ (id ++ 10 ∷ [])))
-line_of Undecided name id = codes "undecided " ++ (name ++ (32 ∷ (id ++ 10 ∷ [])))
+-- the line of an object of which the rule is false, or which it leaves undecided
+abbrev pub line_of : Option Verdict → List ℕ → List ℕ → List ℕ
+line_of (Some Fails) name id = codes "fail " ++ (name ++ (32 ∷ (id ++ 10 ∷ [])))
+line_of (Some Undecided) name id = codes "undecided " ++ (name ++ (32 ∷ (id ++ 10 ∷ [])))
+line_of v name id = []
 
 abbrev pub object_line : Content → Population → ℕ → ℕ → List ℕ
-object_line u p r o = line_of (verdict_on u p r o) (name_of u r) (object_at p o).id
+object_line u p r o = line_of (verdict_at u p r o) (name_of u r) (object_at p o).id
 
 -- the line of a rule, over so many objects
 abbrev pub rule_line : List ℕ → ℕ → Tally → List ℕ
@@ -61,11 +59,11 @@ rule_line name objects t =
     codes "rule " ++ (name ++ (codes " checked " ++ (decimal objects ++ (codes " holds " ++ (decimal t.holds
     ++ (codes " fails " ++ (decimal t.fails ++ (codes " undecided " ++ (decimal t.undecided ++ 10 ∷ [])))))))))
 
--- what is said of a rule: a line for each object for which it doesn't hold, then the line of the rule
+-- what is reported of a rule: the lines of its objects, then its own
 abbrev pub rule_report : Content → Population → ℕ → List ℕ
 rule_report u p r = flat_map (object_line u p r) (context_objects u p r) ++ rule_line (name_of u r) (length (context_objects u p r)) (tally_of (verdicts u p r))
 
--- what is said of the first n rules, and how many objects fail and are undecided there
+-- what is reported of the first n rules, and how many objects fail and are undecided there
 abbrev pub reports_below : Content → Population → ℕ → List ℕ
 reports_below u p zero = []
 reports_below u p (suc r) = reports_below u p r ++ rule_report u p r
@@ -82,7 +80,7 @@ undecided_below u p (suc r) = undecided_below u p r + count Undecided (verdicts 
 abbrev pub total_line : ℕ → ℕ → List ℕ
 total_line fails undecided = codes "total fails " ++ (decimal fails ++ (codes " undecided " ++ (decimal undecided ++ 10 ∷ [])))
 
--- the report: what is said of each rule in the file's order, then the total
+-- the report: what is reported of each rule in the file's order, then the total
 abbrev pub report_of : Content → Population → List ℕ
 report_of u p =
     reports_below u p (length u.rules) ++ total_line (fails_below u p (length u.rules)) (undecided_below u p (length u.rules))

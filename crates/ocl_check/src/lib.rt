@@ -3,13 +3,10 @@
 
 mod commands;
 mod input;
-pub mod laws;
-mod machine;
 mod outcome;
 mod reply;
 mod report;
 mod sink;
-mod supported;
 
 pub use commands::judge::run_judge;
 pub use commands::verify::run_verify;

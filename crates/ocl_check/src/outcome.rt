@@ -8,7 +8,7 @@ ghost use Rattle.ocl_check.specs.Answers.{IsAnswered, fails_write, cause_of, exi
 use crate::input::InputFault;
 use crate::reply::Reply;
 use crate::sink::{Sink, write_whole};
-use std::alloc::AllocError;
+use rule_machine::OutOfMemory;
 
 /// What kept a command from its answer.
 #[derive(Clone, Copy, Debug, PartialEq, Eq)]
@@ -66,10 +66,10 @@ impl From<InputFault> for Cause {
     }
 }
 
-impl From<AllocError> for Cause {
+impl From<OutOfMemory> for Cause {
     ghost from_gives = { λ _ c. c ≡ Memory };
 
-    fn from(_error: AllocError) -> Cause {
+    fn from(_error: OutOfMemory) -> Cause {
         Cause::Memory
     }
 }

@@ -7,6 +7,7 @@ ghost use Rattle.ocl_check.specs.Reply.{said, refused_model, refused_delivery, r
 
 use imkl_delivery::DeliveryFault;
 use imkl_model::ModelFault;
+use rule_machine::OutOfMemory;
 use rule_verify::Flaw;
 use std::alloc::{AllocError, Global};
 
@@ -23,12 +24,12 @@ pub struct Reply {
 }
 
 /// The reply to a class model that is refused. Running out of memory is not a refusal.
-pub(crate) fn refused_model(alloc: Global, fault: &ModelFault) -> Result<Reply, AllocError>
+pub(crate) fn refused_model(alloc: Global, fault: &ModelFault) -> Result<Reply, OutOfMemory>
     ensures said { IfOk result (λ r. said r ≡ refused_model fault.now) }
     ensures refused { IfOk result (λ r. fault.now ≢ model.OutOfMemory) }
 {
     if *fault == ModelFault::OutOfMemory {
-        return Err(AllocError);
+        return Err(OutOfMemory);
     }
     let number = fault.number();
     Ok(Reply {
@@ -57,12 +58,12 @@ fn delivery_line(alloc: Global, fault: &DeliveryFault) -> Result<String, AllocEr
 }
 
 /// The reply to a delivery that is refused. Running out of memory is not a refusal.
-pub(crate) fn refused_delivery(alloc: Global, fault: &DeliveryFault) -> Result<Reply, AllocError>
+pub(crate) fn refused_delivery(alloc: Global, fault: &DeliveryFault) -> Result<Reply, OutOfMemory>
     ensures said { IfOk result (λ r. said r ≡ refused_delivery fault.now) }
     ensures refused { IfOk result (λ r. fault.now ≢ delivery.OutOfMemory) }
 {
     if *fault == DeliveryFault::OutOfMemory {
-        return Err(AllocError);
+        return Err(OutOfMemory);
     }
     Ok(Reply {
         text: delivery_line(alloc, fault)?,
@@ -75,7 +76,7 @@ pub(crate) fn refused_code(
     alloc: Global,
     flaw: rule_code::Flaw,
     offset: usize,
-) -> Result<Reply, AllocError>
+) -> Result<Reply, OutOfMemory>
     ensures { IfOk result (λ r. said r ≡ refused_code (record { flaw = flaw; offset = offset })) }
 {
     let number = flaw as u8;
@@ -91,7 +92,7 @@ pub(crate) fn refused_verify(
     flaw: Flaw,
     rule: usize,
     at: usize,
-) -> Result<Reply, AllocError>
+) -> Result<Reply, OutOfMemory>
     ensures { IfOk result (λ r. said r ≡ refused_verify
         (record { flaw = flaw; rule = rule; at = at })) }
 {
@@ -103,7 +104,7 @@ pub(crate) fn refused_verify(
 }
 
 /// The reply to code that is accepted, by the number of its rules.
-pub(crate) fn accepted_reply(alloc: Global, rules: usize) -> Result<Reply, AllocError>
+pub(crate) fn accepted_reply(alloc: Global, rules: usize) -> Result<Reply, OutOfMemory>
     ensures { IfOk result (λ r. said r ≡ accepted_reply rules) }
 {
     Ok(Reply {

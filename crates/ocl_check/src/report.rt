@@ -1,13 +1,12 @@
 //! The report on a population.
 
-ghost use Rattle.std.specs.Prelude.{◌≡◌, ◌<◌, ◌≤◌, ◌+◌, ◌^◌, ◌++◌, length, string_bytes, Ok, OnOk, IfOk};
-ghost use Rattle.std.specs.List.{flat_map};
-ghost use Rattle.ocl_check.specs.Supported.{unit_supported};
-ghost use Rattle.ocl_check.specs.Report.{line_of, object_line, context_objects, verdicts, tally_of, rule_line, rule_report, name_of, total_line, report_of, status_of};
+ghost use Rattle.std.specs.Prelude.{◌≡◌, ◌<◌, ◌++◌, length, string_bytes, Some, OnOk, IfOk};
+ghost use Rattle.rule_machine.specs.Contract.{SameTask};
+ghost use Rattle.ocl_check.specs.Report.{line_of, verdicts, tally_of, rule_line, rule_report, total_line, report_of, status_of};
 
-use crate::machine::{Verdict, judge};
 use crate::reply::Reply;
 use imkl_population::Population;
+use rule_machine::{Machine, OutOfMemory, Verdict};
 use rule_verify::Accepted;
 use std::alloc::{AllocError, Global};
 use std::fmt::Write;
@@ -43,7 +42,7 @@ impl Tally {
 /// Writes the line of an object, if the rule doesn't hold for it.
 fn put_object(out: &mut String, verdict: Verdict, name: &str, id: &str) -> Result<(), AllocError>
     ensures { OnOk result (string_bytes out.new ≡ string_bytes out.old ++
-        line_of verdict name.now id.now) }
+        line_of (Some verdict) name.now id.now) }
 {
     match verdict {
         Verdict::Holds => Ok(()),
@@ -81,17 +80,19 @@ fn put_total(out: &mut String, fails: usize, undecided: usize) -> Result<(), All
     writeln!(out, "total fails {fails} undecided {undecided}")
 }
 
-/// Writes what is said of a rule, and counts the verdicts.
+/// Writes what is reported of a rule, and counts the verdicts.
 fn put_rule(
-    alloc: Global,
+    machine: &mut Machine<'_>,
     accepted: &Accepted<'_>,
     population: &Population<'_>,
     rule: usize,
     out: &mut String,
-) -> Result<Tally, AllocError>
+) -> Result<Tally, OutOfMemory>
+    requires unit { machine.old.unit ≡ accepted.now.unit }
+    requires population { machine.old.population ≡ population.now.content }
     requires one_model { population.now.content.model ≡ accepted.now.model }
-    requires supported { unit_supported accepted.now.model accepted.now.unit ≡ Ok tt }
     requires rule { rule < length accepted.now.unit.rules }
+    ensures task { SameTask machine.old machine.new }
     ensures text { OnOk result (string_bytes out.new ≡ string_bytes out.old ++
         rule_report accepted.now.unit population.now.content rule) }
     ensures tally { IfOk result (λ t. t ≡ tally_of
@@ -106,7 +107,7 @@ fn put_rule(
         undecided: 0,
     };
     for object in objects {
-        let verdict = judge(alloc, accepted, population, rule, *object)?;
+        let verdict = machine.judge(rule, *object)?;
         tally.count(verdict);
         put_object(out, verdict, name, population.id(*object))?;
     }
@@ -120,19 +121,19 @@ pub(crate) fn report(
     alloc: Global,
     accepted: &Accepted<'_>,
     population: &Population<'_>,
-) -> Result<Reply, AllocError>
-    requires one_model { population.now.content.model ≡ accepted.now.model }
-    requires supported { unit_supported accepted.now.model accepted.now.unit ≡ Ok tt }
+) -> Result<Reply, OutOfMemory>
+    requires { population.now.content.model ≡ accepted.now.model }
     ensures text { IfOk result (λ r. string_bytes r.text ≡
         report_of accepted.now.unit population.now.content) }
     ensures status { IfOk result (λ r. r.status ≡
         status_of accepted.now.unit population.now.content) }
 {
+    let mut machine = Machine::new(alloc, accepted, population)?;
     let mut text = String::new(alloc);
     let mut fails = 0;
     let mut undecided = 0;
     for rule in 0..accepted.rules() {
-        let tally = put_rule(alloc, accepted, population, rule, &mut text)?;
+        let tally = put_rule(&mut machine, accepted, population, rule, &mut text)?;
         fails += tally.fails;
         undecided += tally.undecided;
     }

@@ -129,23 +129,39 @@ fn refuses_deliveries(rt: HostRuntime) -> Result<(), Fail> {
 
 #[test]
 fn judges_truths(rt: HostRuntime) -> Result<(), Fail> {
+    let holds = "rule r checked 1 holds 1 fails 0 undecided 0\ntotal fails 0 undecided 0\n";
     let undecided =
         "undecided r E1\nrule r checked 1 holds 0 fails 0 undecided 1\ntotal fails 0 undecided 1\n";
     let fails =
         "fail r E1\nrule r checked 1 holds 0 fails 1 undecided 0\ntotal fails 1 undecided 0\n";
     let cases = [
         // NULL
-        (1, b"\x07".as_slice(), undecided),
+        (1, b"\x07".as_slice(), 1, undecided),
         // BOOL 0, NULL, AND
-        (3, b"\x04\x00\x07\x21".as_slice(), fails),
+        (3, b"\x04\x00\x07\x21".as_slice(), 1, fails),
         // NULL, BOOL 0, AND
-        (3, b"\x07\x04\x00\x21".as_slice(), fails),
+        (3, b"\x07\x04\x00\x21".as_slice(), 1, fails),
         // BOOL 1, NULL, AND
-        (3, b"\x04\x01\x07\x21".as_slice(), undecided),
+        (3, b"\x04\x01\x07\x21".as_slice(), 1, undecided),
+        // BOOL 1, BOOL 0, OR
+        (3, b"\x04\x01\x04\x00\x22".as_slice(), 0, holds),
+        // BOOL 1, LET with a body that is BOOL 0
+        (3, b"\x04\x01\x40\x00\x01\x04\x00".as_slice(), 1, fails),
+        // NULL, IF of kind Boolean with two bodies that are BOOL 1
+        (
+            4,
+            b"\x07\x41\x01\x00\x01\x00\x01\x04\x01\x04\x01".as_slice(),
+            1,
+            undecided,
+        ),
+        // INVALID, NULL, EQX
+        (3, b"\x08\x07\x29".as_slice(), 1, undecided),
+        // NULL, NULL, EQX
+        (3, b"\x07\x07\x29".as_slice(), 0, holds),
     ];
-    for (count, code, text) in cases {
+    for (count, code, status, text) in cases {
         assert!(rt;
-            judges_code_to(rt.alloc(), count, code, 1, text)?,
+            judges_code_to(rt.alloc(), count, code, status, text)?,
             "{code:?}"
         );
     }
@@ -166,24 +182,6 @@ fn refuses_code(rt: HostRuntime) -> Result<(), Fail> {
         (0, b"".as_slice(), "refused verify 6 0 0\n"),
         // BOOL 1, OR: an operand is missing
         (2, b"\x04\x01\x22".as_slice(), "refused verify 2 0 1\n"),
-        // BOOL 1, BOOL 0, OR: accepted, but the machine doesn't run OR yet
-        (
-            3,
-            b"\x04\x01\x04\x00\x22".as_slice(),
-            "refused verify 3 0 2\n",
-        ),
-        // BOOL 1, LET with a body that is BOOL 0
-        (
-            3,
-            b"\x04\x01\x40\x00\x01\x04\x00".as_slice(),
-            "refused verify 3 0 1\n",
-        ),
-        // BOOL 1, BOOL 0, OR, ADD: the verifier's fault comes before the machine's limits
-        (
-            4,
-            b"\x04\x01\x04\x00\x22\x10".as_slice(),
-            "refused verify 2 0 3\n",
-        ),
     ];
     for (count, code, line) in cases {
         assert!(rt;

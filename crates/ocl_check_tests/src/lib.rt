@@ -8,6 +8,8 @@ mod inputs;
 #[cfg(test)]
 mod judge;
 #[cfg(test)]
+mod links;
+#[cfg(test)]
 mod outputs;
 #[cfg(test)]
 mod verify;

@@ -27,7 +27,8 @@ scalar_fits_itself m (Enumeration e) = eq-eqb e e refl
 scalar_fits_itself m (Class c) = conforms_to_itself m c
 scalar_fits_itself m AnyObject = refl
 
-same_collection_itself : (c : CollectionKind) → is_same_collection c c ≡ true
+-- each sort of collection is the same as itself
+pub same_collection_itself : (c : CollectionKind) → is_same_collection c c ≡ true
 same_collection_itself collection.Set = refl
 same_collection_itself collection.OrderedSet = refl
 same_collection_itself collection.Bag = refl
@@ -39,7 +40,8 @@ fits_itself m (Collection c k) = and_from (is_same_collection c c) (scalar_fits 
 
 -- ---- it is transitive
 
-same_number : (a b c : ℕ) → (a == b) ≡ true → (b == c) ≡ true → (a == c) ≡ true
+-- tests of numbers go along
+pub same_number : (a b c : ℕ) → (a == b) ≡ true → (b == c) ≡ true → (a == c) ≡ true
 same_number a b c e f = let h : a ≡ b = eqb-true a b e in rw h f
 
 pub scalar_fits_along : (m : Model) (j k l : ScalarKind) → scalar_fits m j k ≡ true → scalar_fits m k l ≡ true → scalar_fits m j l ≡ true

@@ -21,7 +21,7 @@ use Rattle.rule_code.specs.Content.{RuleContent, Content, content_of, rule_conte
 use Rattle.rule_code.specs.InstrRows.{FieldValue, integer_field, boolean_field, number_field, text_field, symbol_field, scalar_field, collection_field, kind_field, row_of}
 use Rattle.rule_code.specs.WellFormed.{EachFits, IsTextOfUnit, SymbolFits, ScalarKindFits, FieldFits, InstrFits, RuleFits, IsUnit}
 use Rattle.rule_code.proofs.Codec.{EachFits-from_all}
-use Rattle.rule_code.proofs.Fields.{is_symbol_of-lt}
+pub use Rattle.rule_code.proofs.Fields.{is_symbol_of-lt}
 
 texts_small : (ts : List (String Global)) → AllByRecursion IsTextOfUnit (map string_bytes ts) → AllByRecursion (λ t. length (string_bytes t) < 2 ^ 16) ts
 texts_small [] h = tt
@@ -84,6 +84,28 @@ fields_fit-is_prop texts symbols (f ∷ fs) = hlevel (props, FieldFits-is_prop t
 
 InstrFits-is_prop : (texts : ℕ) (symbols : List Symbol) (i : Instr) → IsProp (InstrFits texts symbols i)
 InstrFits-is_prop texts symbols i = fields_fit-is_prop texts symbols (row_of i).fields
+
+AllByRecursion-is_prop : {A : Type 0} (P : A → Type 0) → ((x : A) → IsProp (P x)) → (xs : List A) → IsProp (AllByRecursion P xs)
+AllByRecursion-is_prop P each [] = hlevel props
+AllByRecursion-is_prop P each (x ∷ xs) = hlevel (props, each x, AllByRecursion-is_prop P each xs)
+
+EachFits-is_prop : {A : Type 0} (Fits : List A → A → Type 0) → ((before : List A) (x : A) → IsProp (Fits before x)) → (before xs : List A) → IsProp (EachFits Fits before xs)
+EachFits-is_prop Fits each before [] = hlevel props
+EachFits-is_prop Fits each before (x ∷ xs) = hlevel (props, each before x, EachFits-is_prop Fits each (before ++ x ∷ []) xs)
+
+RuleFits-is_prop : (texts : List (List ℕ)) (symbols : List Symbol) (before : List RuleContent) (r : RuleContent) → IsProp (RuleFits texts symbols before r)
+RuleFits-is_prop texts symbols before r = hlevel (props, AllByRecursion-is_prop (InstrFits (length texts) symbols) (InstrFits-is_prop (length texts) symbols) r.code)
+
+IsTextOfUnit-is_prop : (bytes : List ℕ) → IsProp (IsTextOfUnit bytes)
+IsTextOfUnit-is_prop bytes = hlevel props
+
+IsUnit-is_prop : (u : Content) → IsProp (IsUnit u)
+IsUnit-is_prop u =
+    hlevel (props, AllByRecursion-is_prop IsTextOfUnit IsTextOfUnit-is_prop u.texts, AllByRecursion-is_prop (SymbolFits (length u.texts)) (SymbolFits-is_prop (length u.texts)) u.symbols, EachFits-is_prop (RuleFits u.texts u.symbols) (RuleFits-is_prop u.texts u.symbols) [] u.rules)
+
+-- what a unit's type keeps holds of it
+pub unit_holds : (u : Content) → ∥ IsUnit u ∥₁ → IsUnit u
+unit_holds u held = ∥∥₁_elim held (IsUnit-is_prop u) (λ h. h)
 
 module _ (u : Content) (held : ∥ IsUnit u ∥₁) where
   -- the texts of a symbol are there

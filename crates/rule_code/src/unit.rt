@@ -44,8 +44,15 @@ impl Unit {
     ghost use Rattle.std.specs.Prelude.{◌≡◌, ◌<◌, length, slice_get, true, All};
     ghost use Rattle.rule_code.specs.SymbolTag.{is_symbol_of};
     ghost use Rattle.rule_code.specs.Content.{rule_content, text_at};
-    ghost use Rattle.rule_code.specs.WellFormed.{SymbolFits, InstrFits};
+    ghost use Rattle.rule_code.specs.WellFormed.{SymbolFits, InstrFits, IsUnit};
     ghost use Rattle.rule_code.specs.View.{content};
+
+    /// Every unit satisfies the conditions of the format.
+    pub fn well_formed(&self)
+        ensures { IsUnit (content self.now) }
+    {
+        let _texts = &self.texts;
+    }
 
     /// The text of a number.
     pub fn text(&self, number: TextNumber) -> &str

@@ -1,9 +1,9 @@
 //! The first fault of bytes that are no code file.
 
-use crate::hex::bytes_of;
 use rule_code::{CodeFault, Flaw, read_unit};
 use std::alloc::{AllocError, Global};
 use std::test::*;
+use test_support::bytes_of;
 
 /// Files in hexadecimal digits, and what reading answers. A line that begins with `#` says what is wrong with those below it.
 const FAULTS: &str = "\

@@ -4,8 +4,6 @@
 #[cfg(test)]
 mod faults;
 #[cfg(test)]
-mod hex;
-#[cfg(test)]
 mod opcodes;
 #[cfg(test)]
 mod units;

@@ -1,9 +1,9 @@
 //! Each instruction by its opcode and fields.
 
-use crate::hex::bytes_of;
 use rule_code::{CodeFault, Instr, Unit, read_unit, write_unit};
 use std::alloc::{AllocError, Global};
 use std::test::*;
+use test_support::bytes_of;
 
 /// What stands before the one instruction of a rule: the texts A and _b; a class, an enumeration, a feature and a literal.
 const BEFORE: &str =

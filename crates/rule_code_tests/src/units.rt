@@ -1,11 +1,11 @@
 //! Units that are read, and written again.
 
-use crate::hex::bytes_of;
 use rule_code::{
     CodeFault, Instr, Symbol, SymbolNumber, SymbolTag, TextNumber, Unit, read_unit, write_unit,
 };
 use std::alloc::{AllocError, Global};
 use std::test::*;
+use test_support::bytes_of;
 
 /// No texts, no symbols, no rules.
 const EMPTY: &str = "4f434c42 0001 0000 0000 0000";

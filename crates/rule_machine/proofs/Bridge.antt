@@ -1,13 +1,13 @@
 -- What the rules of kinds accept has kinds, with the lengths and the steps of the bounds.
-use Rattle.std.proofs.Common.{◌≡◌, ℕ, zero, suc, ◌+◌, ◌≤◌, Bool, true, false, List, [], ◌∷◌, length, take, drop, Some, Result, Ok, refl, sym, ap, ◌∙◌, subst, arith}
+use Rattle.std.proofs.Common.{◌≡◌, ℕ, zero, suc, ◌+◌, ◌≤◌, Bool, true, false, List, [], ◌∷◌, length, take, drop, Some, Ok, refl, sym, ap, ◌∙◌, subst, arith}
 use Rattle.std.specs.Prelude.{nat_le, nat_lt, max, if◌then◌else◌}
 use Rattle.std.specs.List.{AllByRecursion}
 use Rattle.std.proofs.lemmas.Bool.{ne_eqb}
-use Rattle.ocl_base.specs.Steps.{check}
-use Rattle.ocl_base.proofs.ForAbove.{both_steps}
+use Rattle.ocl_base.specs.Steps.{◌>>=◌, check}
+use Rattle.ocl_base.proofs.ForAbove.{ok_is, both_steps}
 use Rattle.ocl_kinds.specs.declared.kind.Kind.{Kind}
 use Rattle.ocl_kinds.specs.Kinds.{fits}
-use Rattle.ocl_kinds.proofs.ForAbove.{fits_itself, fits_along}
+use Rattle.ocl_kinds.proofs.ForAbove.{fits_along}
 use Rattle.rule_code.specs.declared.instruction.Instr.{Instr}
 use Rattle.rule_code.specs.declared.instruction.Instr.TheVariants as instrs
 use Rattle.rule_code.specs.WellFormed.{InstrFits}
@@ -17,12 +17,15 @@ use Rattle.rule_verify.specs.declared.shape.Shape.{Shape}
 use Rattle.rule_verify.specs.declared.shape.Shape.TheVariants.{Single, OneBody, TwoBodies}
 use Rattle.rule_verify.specs.declared.fault.Flaw.TheVariants as flaws
 use Rattle.rule_verify.specs.CodeTree.{CodeTree, End, Plain, Block, Branch, Torn, shape_of, instr_count, cut_one, cut, code_tree}
-use Rattle.rule_verify.specs.Patterns.{matches, are_there, all_match, below, a_boolean}
-use Rattle.rule_verify.specs.InstrKinds.{Surroundings, has_names, has_variable, operands_of, variable_at, result_kind, binds, ends_with, yields, kind_meant}
-use Rattle.rule_verify.specs.KindRules.{InstrFault, instr_fault, Enclosing, operand_limit, block_limit, taken, after_plain, opened, in_block, ended_with, kinds_after}
+use Rattle.rule_verify.specs.Patterns.{matches, all_match, below, a_boolean}
+use Rattle.rule_verify.specs.InstrKinds.{Surroundings, has_variable, operands_of, variable_at, result_kind, binds, ends_with, yields, kind_meant}
+use Rattle.rule_verify.specs.KindRules.{instr_fault, Enclosing, operand_limit, block_limit, taken, after_plain, opened, in_block, ended_with, kinds_after}
+use Rattle.rule_verify.proofs.ForAbove.{Takes, takes_from}
 use Rattle.rule_cost.specs.Bounds.{Cost, cost_of, top_length, length_given, length_yielded, lengths_below}
 use Rattle.rule_machine.specs.Machine.{Setting, judged_by}
 use Rattle.rule_machine.specs.Live.{Place, place, kinds_of, lengths_of, AllBelow, self_place, sizes_in, IsTaken, given, places_left, bound_by, yielded, HasBody, HasBranches, Kinded}
+use Rattle.rule_machine.proofs.Blocks.{block_takes, branch_takes}
+use Rattle.rule_machine.proofs.InKinds.{below_itself}
 
 -- ---- code trees are cut by the shapes of their instructions
 
@@ -74,45 +77,25 @@ module _ (s : Setting) where
 
 -- ---- what the rules of kinds say of their parts
 
-check_holds : (b : Bool) (f : InstrFault) (u : Unit {0}) → check b f ≡ Ok u → b ≡ true
-check_holds true f u e = refl
-check_holds false f u e = cc
-
-ok_same : {A : Type 0} (x y : A) → ◌≡◌ {A = Result A InstrFault} (Ok x) (Ok y) → x ≡ y
-ok_same x y e = cc
-
-record Taken (s : Surroundings) (e : Enclosing) (i : Instr) (ks left : List Kind) : Type 0 where
-  names : has_names s i ≡ true
-  read : has_variable e.variables i ≡ true
-  match : all_match s.model (operands_of s i) ks ≡ true
-  left_is : left ≡ below (operands_of s i) ks
-
-taken_says : (s : Surroundings) (e : Enclosing) (i : Instr) (at : ℕ) (ks left : List Kind) → taken s e.variables i at ks ≡ Ok left → Taken s e i ks left
-taken_says s e i at ks left h =
-    let a = both_steps (check (has_names s i) (instr_fault flaws.NoSuchName s.rule at)) _ left h in
-    let b = both_steps (check (has_variable e.variables i) (instr_fault flaws.BadVariable s.rule at)) _ left a.2 in
-    let c = both_steps (check (are_there (operands_of s i) ks) (instr_fault flaws.MissingOperand s.rule at)) _ left b.2 in
-    let d = both_steps (check (all_match s.model (operands_of s i) ks) (instr_fault flaws.WrongKind s.rule at)) _ left c.2 in
-    record { names = check_holds _ _ a.0 a.1; read = check_holds _ _ b.0 b.1; match = check_holds _ _ d.0 d.1; left_is = sym (ok_same _ _ d.2) }
-
-plain_says : (s : Surroundings) (e : Enclosing) (i : Instr) (at : ℕ) (ks out : List Kind) → after_plain s e i at ks ≡ Ok out → (left : List Kind) × Taken s e i ks left × (out ≡ result_kind s e.variables i ks ∷ left)
+plain_says : (s : Surroundings) (e : Enclosing) (i : Instr) (at : ℕ) (ks out : List Kind) → after_plain s e i at ks ≡ Ok out → (left : List Kind) × Takes s e.variables i ks left × (out ≡ result_kind s e.variables i ks ∷ left)
 plain_says s e i at ks out h =
     let a = both_steps (taken s e.variables i at ks) _ out h in
     let b = both_steps (check (nat_le (e.covered + suc (length a.0)) operand_limit) (instr_fault flaws.StackLimit s.rule at)) _ out a.2 in
-    (a.0, taken_says s e i at ks a.0 a.1, sym (ok_same _ _ b.2))
+    (a.0, takes_from s e.variables i at ks a.0 a.1, sym (ok_is _ _ b.2))
 
-opened_says : (s : Surroundings) (e : Enclosing) (i : Instr) (at : ℕ) (ks out : List Kind) → opened s e i at ks ≡ Ok out → Taken s e i ks out
+opened_says : (s : Surroundings) (e : Enclosing) (i : Instr) (at : ℕ) (ks out : List Kind) → opened s e i at ks ≡ Ok out → Takes s e.variables i ks out
 opened_says s e i at ks out h =
     let a = both_steps (taken s e.variables i at ks) _ out h in
     let b = both_steps (check (nat_lt e.open_blocks block_limit) (instr_fault flaws.NestLimit s.rule at)) _ out a.2 in
-    subst (Taken s e i ks) (ok_same _ _ b.2) (taken_says s e i at ks a.0 a.1)
+    subst (Takes s e.variables i ks) (ok_is _ _ b.2) (takes_from s e.variables i at ks a.0 a.1)
 
 pub ended_says : (s : Surroundings) (w : Pattern) (at : ℕ) (ks : List Kind) (r : Kind) → ended_with s w at ks ≡ Ok r → (ks ≡ r ∷ []) × (matches s.model w r ≡ true)
 ended_says s w at [] r e = cc
-ended_says s w at (k ∷ []) r e =
-    let a = both_steps (check (matches s.model w k) (instr_fault flaws.LeftOver s.rule at)) _ r e in
-    let same : k ≡ r = ok_same _ _ a.2 in
-    (ap (λ x. x ∷ []) same, subst (λ x. matches s.model w x ≡ true) same (check_holds _ _ a.0 a.1))
+ended_says s w at (k ∷ []) r e = by_match (matches s.model w k) refl e
+  where
+    by_match : (b : Bool) → matches s.model w k ≡ b → (check b (instr_fault flaws.LeftOver s.rule at) >>= (λ u. Ok k)) ≡ Ok r → (k ∷ [] ≡ r ∷ []) × (matches s.model w r ≡ true)
+    by_match true m e = let same : k ≡ r = ok_is k r e in (ap (λ x. x ∷ []) same, subst (λ x. matches s.model w x ≡ true) same m)
+    by_match false m e = cc
 ended_says s w at (k ∷ l ∷ ks) r e = cc
 
 kinds_below : (ws : List Pattern) (ps : List Place) → kinds_of (drop (length ws) ps) ≡ below ws (kinds_of ps)
@@ -125,25 +108,12 @@ lengths_dropped zero ps = refl
 lengths_dropped (suc n) [] = refl
 lengths_dropped (suc n) (p ∷ ps) = lengths_dropped n ps
 
--- a block takes one operand
-block_takes : (s : Surroundings) (i : Instr) → HasBody i → (w : Pattern) × (operands_of s i ≡ w ∷ [])
-block_takes s (instrs.Let n) h = (_, refl)
-block_takes s (instrs.ForAll n) h = (_, refl)
-block_takes s (instrs.Exists n) h = (_, refl)
-block_takes s (instrs.One n) h = (_, refl)
-block_takes s (instrs.Select n) h = (_, refl)
-block_takes s (instrs.Reject n) h = (_, refl)
-block_takes s (instrs.Collect n) h = (_, refl)
-block_takes s (instrs.CollectFlat n) h = (_, refl)
-block_takes s (instrs.IsUnique k n) h = (_, refl)
-block_takes s i h = let bad = h.1 in cc
-
 -- ---- places that more may stand at
 
 module _ (s : Setting) where
   all_below_itself : (ps : List Place) → AllBelow s ps ps
   all_below_itself [] = tt
-  all_below_itself (p ∷ ps) = (record { fit = fits_itself s.population.model p.kind; shorter = omega arith }, all_below_itself ps)
+  all_below_itself (p ∷ ps) = (below_itself s p, all_below_itself ps)
 
   below_along : (ps qs rs : List Place) → AllBelow s ps qs → AllBelow s qs rs → AllBelow s ps rs
   below_along [] [] rs a b = b
@@ -200,16 +170,16 @@ module _ (s : Setting) where
       by_places (p ∷ []) e l h = let same : p.kind ≡ r = cc in record { stand = p; kind_is = same; long_is = ap top_length l; body = h }
       by_places (p ∷ q ∷ ps) e l h = cc
 
-  taken_place : (e : Enclosing) (i : Instr) (vps ps : List Place) (left : List Kind) → e.variables ≡ kinds_of vps → Fits s i → HasSelf vps → Taken (judged_by s) e i (kinds_of ps) left → IsTaken s i vps ps
+  taken_place : (e : Enclosing) (i : Instr) (vps ps : List Place) (left : List Kind) → e.variables ≡ kinds_of vps → Fits s i → HasSelf vps → Takes (judged_by s) e.variables i (kinds_of ps) left → IsTaken s i vps ps
   taken_place e i vps ps left v f self t =
-      record { names = t.names; read = subst (λ vs. has_variable vs i ≡ true) v t.read; match = t.match; fits = f; object = self }
+      record { names = t.names; read = subst (λ vs. has_variable vs i ≡ true) v t.variable; match = t.fitting; fits = f; object = self }
 
   abbrev pub Bridge : CodeTree → Type 0
   Bridge t = (e : Enclosing) (vps ps : List Place) (at : ℕ) (out : List Kind) → e.variables ≡ kinds_of vps → IsCut s t → HasSelf vps → kinds_after (judged_by s) t e at (kinds_of ps) ≡ Ok out → Bridged t vps ps out
 
   bridge_end : Bridge End
   bridge_end e vps ps at out v c self h =
-      let same : kinds_of ps ≡ out = ok_same _ _ h in
+      let same : kinds_of ps ≡ out = ok_is _ _ h in
       record { places = ps; kinds_are = same; lengths_are = refl; kinded = all_below_itself ps }
 
   bridge_plain : (i : Instr) (rest : CodeTree) → Bridge rest → Bridge (Plain i rest)
@@ -234,16 +204,12 @@ module _ (s : Setting) where
       let a = both_steps (taken (judged_by s) e.variables i at (kinds_of ps)) _ out h in
       let bad = a.2 in cc
 
-  -- the operand of a block
-  abbrev OneOperand : Instr → Pattern → Type 0
-  OneOperand i w = operands_of (judged_by s) i ≡ w ∷ []
-
   bridge_block : (i : Instr) (body rest : CodeTree) → Bridge body → Bridge rest → Bridge (Block i body rest)
   bridge_block i body rest inside go e vps [] at out v c self h =
       let a = both_steps (opened (judged_by s) e i at []) _ out h in
       let t = opened_says (judged_by s) e i at [] a.0 a.1 in
       let w = block_takes (judged_by s) i c.0 in
-      let bad : all_match s.population.model (w.0 ∷ []) [] ≡ true = subst (λ ws. all_match s.population.model ws [] ≡ true) w.1 t.match in cc
+      let bad : all_match s.population.model (w.0 ∷ []) [] ≡ true = subst (λ ws. all_match s.population.model ws [] ≡ true) w.1 t.fitting in cc
   bridge_block i body rest inside go e vps (p ∷ ps) at out v c self h =
       let sur = judged_by s in
       let a = both_steps (opened sur e i at (p.kind ∷ kinds_of ps)) _ out h in
@@ -272,25 +238,24 @@ module _ (s : Setting) where
   -- a branch is an IF, whose bodies end with what fits its kind
   record IsIf (i : Instr) : Type 0 where
     kind : Kind
-    takes : OneOperand i a_boolean
     ends : ends_with (judged_by s) i ≡ Fitting kind
     gives : (k r : Kind) → yields (judged_by s) i k r ≡ kind
 
   branch_is_if : (i : Instr) → HasBranches i → IsIf i
-  branch_is_if (instrs.If k n m) h = record { kind = kind_meant (judged_by s) k; takes = refl; ends = refl; gives = λ j r. refl }
+  branch_is_if (instrs.If k n m) h = record { kind = kind_meant (judged_by s) k; ends = refl; gives = λ j r. refl }
   branch_is_if i h = let bad = h.2 in cc
 
   bridge_branch : (i : Instr) (first second rest : CodeTree) → Bridge first → Bridge second → Bridge rest → Bridge (Branch i first second rest)
   bridge_branch i first second rest one two go e vps [] at out v c self h =
       let a = both_steps (opened (judged_by s) e i at []) _ out h in
       let t = opened_says (judged_by s) e i at [] a.0 a.1 in
-      let bad : all_match s.population.model (a_boolean ∷ []) [] ≡ true = subst (λ ws. all_match s.population.model ws [] ≡ true) (branch_is_if i c.0).takes t.match in cc
+      let bad : all_match s.population.model (a_boolean ∷ []) [] ≡ true = subst (λ ws. all_match s.population.model ws [] ≡ true) (branch_takes (judged_by s) i c.0) t.fitting in cc
   bridge_branch i first second rest one two go e vps (p ∷ ps) at out v c self h =
       let sur = judged_by s in
       let w = branch_is_if i c.0 in
       let a = both_steps (opened sur e i at (p.kind ∷ kinds_of ps)) _ out h in
       let t = opened_says sur e i at (p.kind ∷ kinds_of ps) a.0 a.1 in
-      let left : a.0 ≡ kinds_of ps = t.left_is ∙ ap (λ ws. below ws (p.kind ∷ kinds_of ps)) w.takes in
+      let left : a.0 ≡ kinds_of ps = t.left_is ∙ ap (λ ws. below ws (p.kind ∷ kinds_of ps)) (branch_takes sur i c.0) in
       let inner = in_block e e.variables a.0 in
       let b = both_steps (kinds_after sur first inner (at + 1) []) _ out a.2 in
       let b_ends = both_steps (ended_with sur (ends_with sur i) at b.0) _ out b.2 in
@@ -310,7 +275,7 @@ module _ (s : Setting) where
       let before : kinds_of (q ∷ ps) ≡ yields sur i p.kind b_ends.0 ∷ a.0 =
       ap (λ k. k ∷ kinds_of ps) (sym (w.gives p.kind b_ends.0)) ∙ ap (λ l. yields sur i p.kind b_ends.0 ∷ l) (sym left) in
       let r = go e vps (q ∷ ps) (at + 1 + instr_count first + instr_count second) out v c.4 self (ap (kinds_after sur rest e (at + 1 + instr_count first + instr_count second)) before ∙ d_ends.2) in
-      let dropped : lengths_below sur i (p.longest ∷ lengths_of ps) ≡ lengths_of ps = ap (λ ws. drop (length ws) (p.longest ∷ lengths_of ps)) w.takes in
+      let dropped : lengths_below sur i (p.longest ∷ lengths_of ps) ≡ lengths_of ps = ap (λ ws. drop (length ws) (p.longest ∷ lengths_of ps)) (branch_takes sur i c.0) in
       let same : cost rest vps (q ∷ ps) ≡ cost_of sur (sizes_in s) rest (lengths_of vps) (q.longest ∷ lengths_below sur i (p.longest ∷ lengths_of ps)) =
       ap (λ l. cost_of sur (sizes_in s) rest (lengths_of vps) (q.longest ∷ l)) (sym dropped) in
       record {

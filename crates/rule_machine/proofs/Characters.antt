@@ -1,30 +1,23 @@
 -- The characters of texts.
-use Rattle.std.proofs.Common.{◌≡◌, ℕ, ◌+◌, ◌-◌, Bool, true, false, List, [], ◌++◌, length, take, drop, Option, Some, None, refl, sym, ap, ◌∙◌, subst, bytes_eq, append_assoc, arith}
+use Rattle.std.proofs.Common.{◌≡◌, ℕ, ◌-◌, List, [], ◌++◌, length, take, drop, Option, Some, None, sym, ap, ◌∙◌, subst, bytes_eq, append_assoc, arith}
 use Rattle.std.specs.Str.{chars, IsUtf8, IsCharBoundary}
 use Rattle.std.proofs.lemmas.Str.{encodes-chars, chars-nil, chars_past_char, chars-append, IsUtf8-past_char, IsUtf8-take, IsCharBoundary-at_seam}
-use Rattle.std.proofs.lemmas.List.{nil_from_length, drop-drop, length-append, append_cancel_right, take-append-drop}
+use Rattle.std.proofs.lemmas.List.{nil_from_length, length-append, append_cancel_right, take-append-drop}
 use Rattle.std.proofs.Math.Seq.{take-append_seam}
 use Rattle.std.specs.Option.{MatchOption}
 use Rattle.rule_machine.specs.Meant.{IsSuffix}
 use Rattle.std.proofs.lemmas.Slice.Eq.{bytes_eq-Decides}
+use Rattle.std.proofs.lemmas.Bool.Decides.{same_from_decides}
 use Rattle.std.specs.Prelude.{encode_utf8_all, encode_utf8}
-
-same_test : (a b : Bool) → (a ≡ true → b ≡ true) → (b ≡ true → a ≡ true) → a ≡ b
-same_test true b f g = sym (f refl)
-same_test false true f g = g refl
-same_test false false f g = refl
 
 -- texts are equal where their characters are
 pub same_chars : (xs ys : List ℕ) → IsUtf8 xs → IsUtf8 ys → bytes_eq xs ys ≡ bytes_eq (chars xs) (chars ys)
 same_chars xs ys u v =
-    same_test (bytes_eq xs ys) (bytes_eq (chars xs) (chars ys))
-    (λ h. (bytes_eq-Decides (chars xs) (chars ys)).1 (ap chars ((bytes_eq-Decides xs ys).0 h)))
-    (λ h. (bytes_eq-Decides xs ys).1 (sym (encodes-chars xs u) ∙ ap encode_utf8_all ((bytes_eq-Decides (chars xs) (chars ys)).0 h) ∙ encodes-chars ys v))
+    let by_chars = bytes_eq-Decides (chars xs) (chars ys) in
+    same_from_decides (bytes_eq xs ys) (bytes_eq (chars xs) (chars ys)) (bytes_eq-Decides xs ys)
+    ((λ h. sym (encodes-chars xs u) ∙ ap encode_utf8_all (by_chars.0 h) ∙ encodes-chars ys v), (λ e. by_chars.1 (ap chars e)))
 
 -- ---- passing characters
-
-pub drop_one : (k : ℕ) (xs : List ℕ) → drop 1 (drop k xs) ≡ drop (k + 1) xs
-drop_one k xs = drop-drop 1 k xs
 
 -- one character comes off a text, or none is left
 pub next_left : {S : Type 0} (bytes_of : S → List ℕ) (o : Option ℕ) (s t : S) → MatchOption o ((length (bytes_of s) ≡ 0) × (t ≡ s)) (λ c. bytes_of s ≡ encode_utf8 c ++ bytes_of t) → IsUtf8 (bytes_of s)

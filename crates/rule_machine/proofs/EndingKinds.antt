@@ -1,10 +1,11 @@
 -- What an iteration gives at its end may stand at its place.
-use Rattle.std.proofs.Common.{◌≡◌, ℕ, suc, ◌*◌, ◌≤◌, Bool, true, false, not, ◌||◌, List, [], ◌∷◌, ◌++◌, length, refl, sym, ap, subst, arith}
+use Rattle.std.proofs.Common.{◌≡◌, ℕ, suc, ◌*◌, ◌≤◌, Bool, true, false, not, ◌||◌, List, [], ◌∷◌, length, refl, sym, ap, ◌∙◌, subst, arith}
 use Rattle.std.specs.Prelude.{◌==◌, if◌then◌else◌}
 use Rattle.std.specs.List.{list_all, list_any, filter_map}
 use Rattle.std.proofs.Math.Nat.{mul-le-mul_left}
 use Rattle.std.proofs.lemmas.Bool.{and_parts, and_from, or_parts, or_from}
 use Rattle.std.proofs.lemmas.List.{length-append}
+use Rattle.std.proofs.lemmas.List.Folds.{list_all-append}
 use Rattle.ocl_base.specs.Lists.{repeats}
 use Rattle.ocl_base.specs.CollectionKinds.{is_unique_kind}
 use Rattle.ocl_base.specs.declared.collection_kind.CollectionKind.{CollectionKind}
@@ -13,12 +14,13 @@ use Rattle.ocl_kinds.specs.declared.kind.ScalarKind.{ScalarKind}
 use Rattle.ocl_kinds.specs.declared.kind.ScalarKind.TheVariants as element
 use Rattle.ocl_kinds.specs.declared.kind.Kind.{Kind}
 use Rattle.ocl_kinds.specs.declared.kind.Kind.TheVariants as kind
-use Rattle.ocl_kinds.specs.Kinds.{is_same_collection, collected_kind}
+use Rattle.ocl_kinds.specs.Kinds.{is_same_collection, elements_kind, collected_kind}
+use Rattle.ocl_kinds.proofs.ForAbove.{same_collection_is, same_collection_itself}
 use Rattle.rule_code.specs.declared.instruction.Instr.{Instr}
 use Rattle.rule_code.specs.declared.instruction.Instr.TheVariants as instrs
 use Rattle.rule_verify.specs.declared.pattern.Pattern.TheVariants.{AnySingle, AnyCollection}
 use Rattle.rule_verify.specs.Patterns.{matches}
-use Rattle.rule_verify.specs.InstrKinds.{ends_with, element_of, collected}
+use Rattle.rule_verify.specs.InstrKinds.{ends_with, collected}
 use Rattle.rule_machine.specs.Value as value
 use Rattle.rule_machine.specs.Value.{Element, Value, truth_value, as_element, same_element, is_element_in, are_elements, is_collection_in, is_in}
 use Rattle.rule_machine.specs.Operations.{is_true, is_false, is_invalid}
@@ -98,12 +100,6 @@ module _ (s : Setting) where
   collected_fewer (value.Single v ∷ bs) = omega (arith, collected_fewer bs)
   collected_fewer (value.Collection c es ∷ bs) = omega (arith, collected_fewer bs)
 
-  all_joined : (test : Element → Bool) (es fs : List Element) → list_all test es ≡ true → list_all test fs ≡ true → list_all test (es ++ fs) ≡ true
-  all_joined test [] fs a b = b
-  all_joined test (e ∷ es) fs a b =
-      let parts = and_parts (test e) (list_all test es) a in
-      and_from _ _ parts.0 (all_joined test es fs parts.1 b)
-
   joined_all : (d : CollectionKind) (k : ScalarKind) (n : ℕ) (bs : List Value) → EachAt s (place (kind.Collection d k) n) bs → list_all (is_element_in s.population k) (joined bs) ≡ true
   joined_all d k n [] a = refl
   joined_all d k n (value.Invalid ∷ bs) a = joined_all d k n bs a.1
@@ -111,7 +107,7 @@ module _ (s : Setting) where
   joined_all d k n (value.Single v ∷ bs) a = let bad = a.0.in_kind in cc
   joined_all d k n (value.Collection c es ∷ bs) a =
       let own = (and_parts (are_elements c es) (list_all (is_element_in s.population k) es) (and_parts (is_same_collection c d) (is_collection_in s.population c es k) a.0.in_kind).1).1 in
-      all_joined (is_element_in s.population k) es (joined bs) own (joined_all d k n bs a.1)
+      list_all-append (is_element_in s.population k) es (joined bs) ∙ and_from _ _ own (joined_all d k n bs a.1)
 
   elements_long : (b : Value) → length (collection_elements b) ≡ long b
   elements_long value.Invalid = refl
@@ -145,12 +141,8 @@ module _ (s : Setting) where
   kept_at keep source bs p a =
       record { in_kind = kept_in keep source.kind source.elements bs p.kind a.in_kind; within = omega (arith, a.within, kept_fewer keep source.elements bs) }
 
-  same_collected : (c d : CollectionKind) (j : ScalarKind) → is_same_collection c d ≡ true → is_same_collection (collected_kind c) (collected (kind.Collection d j)) ≡ true
-  same_collected collection.Set collection.Set j h = refl
-  same_collected collection.OrderedSet collection.OrderedSet j h = refl
-  same_collected collection.Bag collection.Bag j h = refl
-  same_collected collection.Sequence collection.Sequence j h = refl
-  same_collected c d j h = cc
+  same_collected : (c d : CollectionKind) → is_same_collection c d ≡ true → is_same_collection (collected_kind c) (collected_kind d) ≡ true
+  same_collected c d h = subst (λ e. is_same_collection (collected_kind c) (collected_kind e) ≡ true) (same_collection_is c d h) (same_collection_itself (collected_kind c))
 
   may_repeat : (c : CollectionKind) (es : List Element) → are_elements (collected_kind c) es ≡ true
   may_repeat collection.Set es = refl
@@ -163,28 +155,28 @@ module _ (s : Setting) where
   collected_in c source es (kind.Scalar k) j h all = cc
   collected_in c source es (kind.Collection d k) j h all =
       let own = and_parts (is_same_collection c d) (is_collection_in s.population c source k) h in
-      and_from _ _ (same_collected c d k own.0) (and_from _ _ (may_repeat c es) all)
+      and_from _ _ (same_collected c d own.0) (and_from _ _ (may_repeat c es) all)
 
-  collect_at : (source : Source) (bs : List Value) (p r : Place) (k : Kind) → r.kind ≡ k → matches s.population.model AnySingle k ≡ true → At s (value.Collection source.kind source.elements) p → EachAt s r bs → length bs ≤ length source.elements → At s (collect source bs) (place (kind.Collection (collected p.kind) (element_of r.kind)) p.longest)
+  collect_at : (source : Source) (bs : List Value) (p r : Place) (k : Kind) → r.kind ≡ k → matches s.population.model AnySingle k ≡ true → At s (value.Collection source.kind source.elements) p → EachAt s r bs → length bs ≤ length source.elements → At s (collect source bs) (place (kind.Collection (collected p.kind) (elements_kind r.kind)) p.longest)
   collect_at source bs p r (kind.Collection d j) e m a each le = cc
   collect_at source bs p r (kind.Scalar j) e m a each le =
       let its : EachAt s (place (kind.Scalar j) r.longest) bs = subst (λ k. EachAt s (place k r.longest) bs) e each in
-      let at : At s (value.Collection (collected_kind source.kind) (filter_map as_element bs)) (place (kind.Collection (collected p.kind) (element_of r.kind)) p.longest) =
+      let at : At s (value.Collection (collected_kind source.kind) (filter_map as_element bs)) (place (kind.Collection (collected p.kind) (elements_kind r.kind)) p.longest) =
       record {
-        in_kind = subst (λ k. is_in s.population (value.Collection (collected_kind source.kind) (filter_map as_element bs)) (kind.Collection (collected p.kind) (element_of k)) ≡ true) (sym e) (collected_in source.kind source.elements (filter_map as_element bs) p.kind j a.in_kind (collected_all j r.longest bs its));
+        in_kind = subst (λ k. is_in s.population (value.Collection (collected_kind source.kind) (filter_map as_element bs)) (kind.Collection (collected p.kind) (elements_kind k)) ≡ true) (sym e) (collected_in source.kind source.elements (filter_map as_element bs) p.kind j a.in_kind (collected_all j r.longest bs its));
         within = omega (arith, a.within, le, collected_fewer bs);
       } in
       invalid_or (list_any is_invalid bs) _ _ at
 
-  collect_flat_at : (source : Source) (bs : List Value) (p r : Place) (k : Kind) → r.kind ≡ k → matches s.population.model AnyCollection k ≡ true → At s (value.Collection source.kind source.elements) p → EachAt s r bs → length bs ≤ length source.elements → At s (collect_flat source bs) (place (kind.Collection (collected p.kind) (element_of r.kind)) (p.longest * r.longest))
+  collect_flat_at : (source : Source) (bs : List Value) (p r : Place) (k : Kind) → r.kind ≡ k → matches s.population.model AnyCollection k ≡ true → At s (value.Collection source.kind source.elements) p → EachAt s r bs → length bs ≤ length source.elements → At s (collect_flat source bs) (place (kind.Collection (collected p.kind) (elements_kind r.kind)) (p.longest * r.longest))
   collect_flat_at source bs p r (kind.Scalar j) e m a each le = cc
   collect_flat_at source bs p r (kind.Collection d j) e m a each le =
       let its : EachAt s (place (kind.Collection d j) r.longest) bs = subst (λ k. EachAt s (place k r.longest) bs) e each in
       let many : length bs ≤ p.longest = omega (arith, le, a.within) in
       let times : r.longest * length bs ≤ r.longest * p.longest = mul-le-mul_left r.longest many in
-      let at : At s (value.Collection (collected_kind source.kind) (joined bs)) (place (kind.Collection (collected p.kind) (element_of r.kind)) (p.longest * r.longest)) =
+      let at : At s (value.Collection (collected_kind source.kind) (joined bs)) (place (kind.Collection (collected p.kind) (elements_kind r.kind)) (p.longest * r.longest)) =
       record {
-        in_kind = subst (λ k. is_in s.population (value.Collection (collected_kind source.kind) (joined bs)) (kind.Collection (collected p.kind) (element_of k)) ≡ true) (sym e) (collected_in source.kind source.elements (joined bs) p.kind j a.in_kind (joined_all d j r.longest bs its));
+        in_kind = subst (λ k. is_in s.population (value.Collection (collected_kind source.kind) (joined bs)) (kind.Collection (collected p.kind) (elements_kind k)) ≡ true) (sym e) (collected_in source.kind source.elements (joined bs) p.kind j a.in_kind (joined_all d j r.longest bs its));
         within = omega (arith, times, joined_fewer r bs each);
       } in
       invalid_or (list_any is_invalid bs) _ _ at

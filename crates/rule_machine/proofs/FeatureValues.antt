@@ -1,15 +1,18 @@
 -- What is read of an object, and the instances of a class: their kinds and how long they are.
-use Rattle.std.proofs.Common.{◌≡◌, ℕ, zero, suc, ◌<◌, ◌≤◌, Bool, true, false, not, ◌||◌, List, [], ◌∷◌, ◌++◌, map, length, Option, Some, None, refl, sym, ap, ◌∙◌, subst, arith, append-nil}
-use Rattle.std.specs.Prelude.{◌==◌, nat_eq, nat_lt, max, is_none, slice_index_or, if◌then◌else◌}
-use Rattle.std.specs.List.{list_all, list_any, IsDistinct, AllByRecursion}
+use Rattle.std.proofs.Common.{◌≡◌, ℕ, zero, suc, ◌<◌, ◌≤◌, Bool, true, false, not, ◌||◌, List, [], ◌∷◌, map, length, get_or, Option, Some, None, refl, sym, ap, ◌∙◌, subst, inl, inr, arith}
+use Rattle.std.specs.Prelude.{◌==◌, nat_eq, nat_lt, is_none, if◌then◌else◌}
+use Rattle.std.specs.List.{list_all, list_any, AllPass, IsDistinct, AllByRecursion}
 use Rattle.std.specs.Cmp.{nat_eq_equiv}
-use Rattle.std.proofs.lemmas.Bool.{and_parts, and_from, or_parts, or_from, or_left, or_right, ne_eqb, eqb-true, eq-eqb, ltb-true, lt-ltb, ltb-false}
-use Rattle.std.proofs.lemmas.List.{length-append}
-use Rattle.std.proofs.lemmas.List.Folds.{list_any-append}
+use Rattle.std.proofs.lemmas.Bool.{and_parts, and_from, or_parts, or_left, or_right, eqb-true, eq-eqb, ltb-true, lt-ltb, ltb-false}
+use Rattle.std.proofs.lemmas.Bool.Decides.{leb_tells}
+use Rattle.std.proofs.lemmas.List.{length-map, get_or_push}
+use Rattle.std.proofs.lemmas.List.Folds.{list_all-map, list_any_at}
+use Rattle.std.proofs.lemmas.List.Sums.{list_all-from_AllPass}
+use Rattle.std.proofs.Math.ListN.{get_or-append}
 use Rattle.std.proofs.lemmas.Map.Made.{length-le_from_is_member}
 use Rattle.ocl_base.specs.Lists.{repeats}
-use Rattle.ocl_base.specs.Numbers.{places}
 use Rattle.ocl_base.specs.CollectionKinds.{is_unique_kind}
+use Rattle.ocl_base.proofs.ForAbove.{repeats-map, place_of, places_below, places_pass, places_apart}
 use Rattle.ocl_base.specs.declared.collection_kind.CollectionKind.{CollectionKind}
 use Rattle.ocl_base.specs.declared.collection_kind.CollectionKind.TheVariants as collection
 use Rattle.imkl_model.specs.declared.feature.ElementType.{ElementType}
@@ -26,52 +29,32 @@ use Rattle.imkl_population.specs.Values.{is_of_type, is_target_of, same_scalar, 
 use Rattle.imkl_population.specs.Building.{bounds_fault}
 use Rattle.imkl_population.specs.Consistency.{IsConsistent}
 use Rattle.imkl_population.specs.Sizes.{list_below, count_of, longest_below, longest_of, is_unbounded, sizes_of}
+use Rattle.imkl_population.proofs.ForAbove.{length-list_below, list_all-weaker}
 use Rattle.ocl_kinds.specs.declared.kind.ScalarKind.{ScalarKind}
 use Rattle.ocl_kinds.specs.declared.kind.ScalarKind.TheVariants as element
 use Rattle.ocl_kinds.specs.declared.kind.Kind.TheVariants as kind
 use Rattle.ocl_kinds.specs.Kinds.{element_kind, feature_kind}
+use Rattle.ocl_kinds.proofs.ForAbove.{same_collection_itself}
 use Rattle.rule_cost.specs.Bounds.{class_size, attribute_length, within_upper, end_length, feature_length}
 use Rattle.rule_machine.specs.Value as value
-use Rattle.rule_machine.specs.Value.{Element, Value, same_element, is_scalar_in, is_element_in, are_elements, is_in}
+use Rattle.rule_machine.specs.Value.{Element, same_element, is_scalar_in, is_element_in, are_elements, is_in}
 use Rattle.rule_machine.specs.Operations.{single_value, feature_value, all_instances}
 use Rattle.rule_machine.specs.Machine.{Setting}
 use Rattle.rule_machine.specs.Live.{place, At, sizes_in}
-use Rattle.rule_machine.proofs.InKinds.{single_at, same_collection_itself}
+use Rattle.rule_machine.proofs.InKinds.{single_at}
 
 -- ---- lists
 
-all_weaker : {X : Type 0} (P Q : X → Bool) → ((x : X) → P x ≡ true → Q x ≡ true) → (xs : List X) → list_all P xs ≡ true → list_all Q xs ≡ true
-all_weaker P Q go [] h = refl
-all_weaker P Q go (x ∷ xs) h =
-    let parts = and_parts (P x) (list_all P xs) h in
-    and_from _ _ (go x parts.0) (all_weaker P Q go xs parts.1)
-
-map_length : (vs : List Scalar) → length (map Some vs) ≡ length vs
-map_length [] = refl
-map_length (v ∷ vs) = ap suc (map_length vs)
-
 -- elements that are never null
 all_some : (p : Population) (k : ScalarKind) (vs : List Scalar) → list_all (λ v. is_scalar_in p v k) vs ≡ true → list_all (is_element_in p k) (map Some vs) ≡ true
-all_some p k [] h = refl
-all_some p k (v ∷ vs) h =
-    let parts = and_parts (is_scalar_in p v k) (list_all (λ v. is_scalar_in p v k) vs) h in
-    and_from _ _ parts.0 (all_some p k vs parts.1)
-
-among_some : (v : Scalar) (vs : List Scalar) → list_any (same_element (Some v)) (map Some vs) ≡ list_any (same_scalar v) vs
-among_some v [] = refl
-among_some v (w ∷ vs) = ap (λ b. same_scalar v w || b) (among_some v vs)
-
-repeats_some : (vs : List Scalar) → repeats same_element (map Some vs) ≡ repeats_value vs
-repeats_some [] = refl
-repeats_some (v ∷ vs) =
-    ap (λ b. b || repeats same_element (map Some vs)) (among_some v vs) ∙ ap (λ b. list_any (same_scalar v) vs || b) (repeats_some vs)
+all_some p k vs h = list_all-map (is_element_in p k) Some vs ∙ h
 
 -- elements apart, where a collection must have them so
 elements_apart : (c : CollectionKind) (vs : List Scalar) → (is_unique_kind c ≡ true → repeats_value vs ≡ false) → are_elements c (map Some vs) ≡ true
 elements_apart c vs apart = by_test (is_unique_kind c) apart
   where
     by_test : (b : Bool) → (b ≡ true → repeats_value vs ≡ false) → (not b || not (repeats same_element (map Some vs))) ≡ true
-    by_test true apart = ap not (repeats_some vs ∙ apart refl)
+    by_test true apart = ap not (repeats-map same_element Some vs ∙ apart refl)
     by_test false apart = refl
 
 -- ---- the values of a feature are in its kind
@@ -91,8 +74,8 @@ values_in : (p : Population) (o f : ℕ) → IsConsistent p → o < length p.obj
 values_in p o f c lt = by_role (is_attribute (feature_at p.model f).role) (c.typed o f lt) (c.joined o f lt)
   where
     by_role : (b : Bool) → (b ≡ true → list_all (is_of_type p.model (feature_at p.model f).element) (values_of p o f) ≡ true) → (b ≡ false → list_all (is_target_of p (feature_at p.model f).element) (values_of p o f) ≡ true) → list_all (λ v. is_scalar_in p v (element_kind (feature_at p.model f).element)) (values_of p o f) ≡ true
-    by_role true typed joined = all_weaker (is_of_type p.model (feature_at p.model f).element) _ (of_type_in p (feature_at p.model f).element) (values_of p o f) (typed refl)
-    by_role false typed joined = all_weaker (is_target_of p (feature_at p.model f).element) _ (target_in p (feature_at p.model f).element) (values_of p o f) (joined refl)
+    by_role true typed joined = list_all-weaker (is_of_type p.model (feature_at p.model f).element) _ (of_type_in p (feature_at p.model f).element) (values_of p o f) (typed refl)
+    by_role false typed joined = list_all-weaker (is_target_of p (feature_at p.model f).element) _ (target_in p (feature_at p.model f).element) (values_of p o f) (joined refl)
 
 -- what has targets is of a class
 target_class : (p : Population) (t : ElementType) (v : Scalar) → is_target_of p t v ≡ true → (d : ℕ) × (t ≡ type.Class d)
@@ -136,74 +119,35 @@ target_there p c q (scalar.Object o ∷ vs) a h =
     by_test false e its go h = go h
 target_there p c q (v ∷ vs) a h = cc
 
-apart_from : (a b : ℕ) → nat_eq a b ≡ false → a ≡ b → ⊥
-apart_from a b e same = let bad : nat_eq a b ≡ true = eq-eqb a b same in cc
-
-last_place : (n : ℕ) (b : Bool) → b ≡ true → list_any (nat_eq n) (if b then n ∷ [] else []) ≡ true
-last_place n true e = or_left (nat_eq n n) false (eq-eqb n n refl)
-last_place n false e = cc
-
-place_or_last : (test : ℕ → Bool) (n q : ℕ) (b : Bool) → nat_eq q n ≡ b → q < suc n → test q ≡ true → (q < n → list_any (nat_eq q) (places test n) ≡ true) → (list_any (nat_eq q) (places test n) || list_any (nat_eq q) (if test n then n ∷ [] else [])) ≡ true
-place_or_last test n q true e lt h before =
-    let same : q ≡ n = eqb-true q n e in
-    or_right _ _ (subst (λ x. list_any (nat_eq x) (if test n then n ∷ [] else []) ≡ true) (sym same) (last_place n (test n) (ap test (sym same) ∙ h)))
-place_or_last test n q false e lt h before = or_left _ _ (before (less q n lt (apart_from q n e)))
-  where
-    less : (a b : ℕ) → a < suc b → (a ≡ b → ⊥) → a < b
-    less a b lt apart = omega (arith, lt, apart)
-
-is_place : (test : ℕ → Bool) (n q : ℕ) → q < n → test q ≡ true → list_any (nat_eq q) (places test n) ≡ true
-is_place test zero q lt h = absurd (omega arith)
-is_place test (suc n) q lt h =
-    list_any-append (nat_eq q) (places test n) _ ∙ place_or_last test n q (nat_eq q n) refl lt h (λ less. is_place test n q less h)
+instance_there : (p : Population) (c q : ℕ) → q < length p.objects → is_instance p c q ≡ true → list_any (nat_eq q) (instances p c) ≡ true
+instance_there p c q lt its =
+    let w = place_of (is_instance p c) (length p.objects) q lt its in
+    list_any_at (nat_eq q) (instances p c) w.0 0 w.1 (eq-eqb q (get_or (instances p c) w.0 0) (sym w.2))
 
 -- objects of a class, none twice
 pub few_targets : (p : Population) (t : ElementType) (c : ℕ) (vs : List Scalar) → t ≡ type.Class c → list_all (is_target_of p t) vs ≡ true → repeats_value vs ≡ false → length vs ≤ count_of p c
 few_targets p t c vs is all apart =
     let a = subst (λ t. list_all (is_target_of p t) vs ≡ true) is all in
-    let le = length-le_from_is_member nat_eq_equiv (targets vs) (instances p c) (targets_apart vs apart) (λ q h. let its = target_there p c q vs a h in is_place (is_instance p c) (length p.objects) q its.0 its.1) in
+    let le = length-le_from_is_member nat_eq_equiv (targets vs) (instances p c) (targets_apart vs apart) (λ q h. let its = target_there p c q vs a h in instance_there p c q its.0 its.1) in
     omega (arith, le, all_targets p (type.Class c) vs a)
 
 -- ---- sizes
 
-list_below_length : (g : ℕ → ℕ) (n : ℕ) → length (list_below g n) ≡ n
-list_below_length g zero = refl
-list_below_length g (suc n) = omega (arith, list_below_length g n, length-append (list_below g n) (g n ∷ []))
-
-get_left : (xs ys : List ℕ) (k : ℕ) → k < length xs → slice_index_or (xs ++ ys) k 0 ≡ slice_index_or xs k 0
-get_left [] ys k lt = absurd (omega arith)
-get_left (x ∷ xs) ys zero lt = refl
-get_left (x ∷ xs) ys (suc k) lt = get_left xs ys k (omega arith)
-
-get_seam : (xs : List ℕ) (y k : ℕ) → k ≡ length xs → slice_index_or (xs ++ y ∷ []) k 0 ≡ y
-get_seam [] y zero e = refl
-get_seam [] y (suc k) e = absurd (omega (arith, e))
-get_seam (x ∷ xs) y zero e = absurd (omega (arith, e))
-get_seam (x ∷ xs) y (suc k) e = get_seam xs y k (omega (arith, e))
-
-get_below : (g : ℕ → ℕ) (n k : ℕ) → k < n → slice_index_or (list_below g n) k 0 ≡ g k
+get_below : (g : ℕ → ℕ) (n k : ℕ) → k < n → get_or (list_below g n) k 0 ≡ g k
 get_below g zero k lt = absurd (omega arith)
-get_below g (suc n) k lt = by_last (nat_eq k n) refl (λ less. get_below g n k less)
-  where
-    by_last : (b : Bool) → nat_eq k n ≡ b → (k < n → slice_index_or (list_below g n) k 0 ≡ g k) → slice_index_or (list_below g n ++ g n ∷ []) k 0 ≡ g k
-    by_last true e before =
-        let same : k ≡ n = eqb-true k n e in
-        get_seam (list_below g n) (g n) k (same ∙ sym (list_below_length g n)) ∙ ap g (sym same)
-    by_last false e before =
-        let apart : k ≡ n → ⊥ = apart_from k n e in
-        let less : k < n = omega (arith, lt, apart) in
-        get_left (list_below g n) (g n ∷ []) k (omega (arith, less, list_below_length g n)) ∙ before less
+get_below g (suc n) k lt =
+    elim (leb_tells n k) [
+      | inl h ↦ let same : k ≡ n = omega (arith, h.1, lt) in get_or_push (list_below g n) (g n) 0 k (length-list_below g n ∙ sym same) ∙ ap g (sym same)
+      | inr h ↦ get_or-append (list_below g n) (g n ∷ []) 0 k (omega (arith, h.1, length-list_below g n)) ∙ get_below g n k h.1
+    ]
 
 longest_above : (p : Population) (f n o : ℕ) → o < n → length (values_of p o f) ≤ longest_below p f n
 longest_above p f zero o lt = absurd (omega arith)
-longest_above p f (suc n) o lt = by_last (nat_eq o n) refl (λ less. longest_above p f n o less)
-  where
-    by_last : (b : Bool) → nat_eq o n ≡ b → (o < n → length (values_of p o f) ≤ longest_below p f n) → length (values_of p o f) ≤ max (longest_below p f n) (length (values_of p n f))
-    by_last true e before = let same : length (values_of p o f) ≡ length (values_of p n f) = ap (λ x. length (values_of p x f)) (eqb-true o n e) in omega (arith, same)
-    by_last false e before =
-        let apart : o ≡ n → ⊥ = apart_from o n e in
-        let less : o < n = omega (arith, lt, apart) in
-        omega (arith, before less)
+longest_above p f (suc n) o lt =
+    elim (leb_tells n o) [
+      | inl h ↦ let same : length (values_of p o f) ≡ length (values_of p n f) = ap (λ x. length (values_of p x f)) (omega (arith, h.1, lt)) in omega (arith, same)
+      | inr h ↦ omega (arith, longest_above p f n o h.1)
+    ]
 
 class_size_is : (p : Population) (c : ℕ) → c < length p.model.classes → class_size (sizes_of p) c ≡ count_of p c
 class_size_is p c lt = get_below (count_of p) (length p.model.classes) c lt
@@ -274,76 +218,21 @@ module _ (p : Population) (o f : ℕ) (m : IsClassModel p.model) (c : IsConsiste
           let elements = and_from _ _ (elements_apart (feature_at p.model f).kind (values_of p o f) (apart_if e)) (all_some p (element_kind (feature_at p.model f).element) (values_of p o f) (values_in p o f c lt)) in
           record {
             in_kind = subst (λ q. is_in q (value.Collection (feature_at p.model f).kind (map Some (values_of p o f))) (kind.Collection (feature_at p.model f).kind (element_kind (feature_at p.model f).element)) ≡ true) (sym is) (and_from _ _ (same_collection_itself (feature_at p.model f).kind) elements);
-            within = omega (arith, length_within, map_length (values_of p o f));
+            within = omega (arith, length_within, length-map (values_of p o f) Some);
           }
 
 -- ---- the instances of a class
-
-objects_in : (p : Population) (c : ℕ) (os : List ℕ) → ((q : ℕ) → list_any (nat_eq q) os ≡ true → (q < length p.objects) × (is_instance p c q ≡ true)) → list_all (is_element_in p (element.Class c)) (map (λ o. Some (scalar.Object o)) os) ≡ true
-objects_in p c [] go = refl
-objects_in p c (o ∷ os) go =
-    let its = go o (or_left _ _ (eq-eqb o o refl)) in
-    and_from _ _ (and_from _ _ (lt-ltb o (length p.objects) its.0) its.1) (objects_in p c os (λ q h. go q (or_right _ _ h)))
-
-object_among : (o : ℕ) (os : List ℕ) → list_any (same_element (Some (scalar.Object o))) (map (λ o. Some (scalar.Object o)) os) ≡ list_any (nat_eq o) os
-object_among o [] = refl
-object_among o (q ∷ os) = ap (λ b. (o == q) || b) (object_among o os)
-
-abbrev IsPlace : (ℕ → Bool) → ℕ → ℕ → Type 0
-IsPlace test n q = (q < n) × (test q ≡ true)
-
-last_is_place : (test : ℕ → Bool) (n q : ℕ) (b : Bool) → test n ≡ b → list_any (nat_eq q) (if b then n ∷ [] else []) ≡ true → IsPlace test (suc n) q
-last_is_place test n q true e h = by_same (nat_eq q n) refl h
-  where
-    by_same : (b : Bool) → nat_eq q n ≡ b → (b || false) ≡ true → IsPlace test (suc n) q
-    by_same true s h = let same : q ≡ n = eqb-true q n s in (omega (arith, same), ap test same ∙ e)
-    by_same false s h = cc
-last_is_place test n q false e h = cc
-
-place_by_first : (test : ℕ → Bool) (n q : ℕ) (b : Bool) → list_any (nat_eq q) (places test n) ≡ b → (list_any (nat_eq q) (places test n) ≡ true → IsPlace test n q) → (b || list_any (nat_eq q) (if test n then n ∷ [] else [])) ≡ true → IsPlace test (suc n) q
-place_by_first test n q true e before h = let its = before e in (omega (arith, its.0), its.1)
-place_by_first test n q false e before h = last_is_place test n q (test n) refl h
-
-is_place_below : (test : ℕ → Bool) (n q : ℕ) → list_any (nat_eq q) (places test n) ≡ true → IsPlace test n q
-is_place_below test zero q h = cc
-is_place_below test (suc n) q h =
-    place_by_first test n q (list_any (nat_eq q) (places test n)) refl (λ g. is_place_below test n q g) (sym (list_any-append (nat_eq q) (places test n) _) ∙ h)
-
-apart_more : (xs : List ℕ) (n : ℕ) → repeats nat_eq xs ≡ false → list_any (nat_eq n) xs ≡ false → repeats nat_eq (xs ++ n ∷ []) ≡ false
-apart_more [] n a h = refl
-apart_more (x ∷ xs) n a h =
-    let apart = or_parts (list_any (nat_eq x) xs) (repeats nat_eq xs) a in
-    let other = or_parts (nat_eq n x) (list_any (nat_eq n) xs) h in
-    or_from _ _ (list_any-append (nat_eq x) xs (n ∷ []) ∙ or_from _ _ apart.0 (or_from _ _ (flipped x n other.0) refl)) (apart_more xs n apart.1 other.1)
-  where
-    flipped : (x n : ℕ) → nat_eq n x ≡ false → nat_eq x n ≡ false
-    flipped x n e = ne_eqb x n (λ same. apart_from n x e (sym same))
-
-places_apart : (test : ℕ → Bool) (n : ℕ) → repeats nat_eq (places test n) ≡ false
-places_apart test zero = refl
-places_apart test (suc n) = by_test (test n) (places_apart test n)
-  where
-    not_yet : (b : Bool) → list_any (nat_eq n) (places test n) ≡ b → b ≡ false
-    not_yet true e = let its = is_place_below test n n e in absurd (omega (arith, its.0))
-    not_yet false e = refl
-
-    by_test : (b : Bool) → repeats nat_eq (places test n) ≡ false → repeats nat_eq (places test n ++ (if b then n ∷ [] else [])) ≡ false
-    by_test true before = apart_more (places test n) n before (not_yet (list_any (nat_eq n) (places test n)) refl)
-    by_test false before = subst (λ l. repeats nat_eq l ≡ false) (sym (append-nil (places test n))) before
-
-objects_apart : (os : List ℕ) → repeats same_element (map (λ o. Some (scalar.Object o)) os) ≡ repeats nat_eq os
-objects_apart [] = refl
-objects_apart (o ∷ os) = ap (λ b. b || repeats same_element (map (λ o. Some (scalar.Object o)) os)) (object_among o os) ∙ ap (λ b. list_any (nat_eq o) os || b) (objects_apart os)
-
-objects_length : (os : List ℕ) → length (map {B = Element} (λ o. Some (scalar.Object o)) os) ≡ length os
-objects_length [] = refl
-objects_length (o ∷ os) = ap suc (objects_length os)
 
 -- the instances of a class are a Set of objects of that class, as long as the class is large
 pub all_instances_at : (s : Setting) (c : ℕ) → c < length s.population.model.classes → At s (all_instances s.population c) (place (kind.Collection collection.Set (element.Class c)) (class_size (sizes_in s) c))
 all_instances_at s c lt =
     let p = s.population in
+    let object : ℕ → Element = λ o. Some (scalar.Object o) in
+    let of_class : Element → Bool = is_element_in p (element.Class c) in
+    let apart : repeats same_element (map object (instances p c)) ≡ false = repeats-map same_element object (instances p c) ∙ places_apart (is_instance p c) (length p.objects) in
+    let all : AllPass (λ o. of_class (object o)) (instances p c) =
+    λ k d within. and_from _ _ (lt-ltb (get_or (instances p c) k d) (length p.objects) (places_below (is_instance p c) (length p.objects) k d within)) (places_pass (is_instance p c) (length p.objects) k d within) in
     record {
-      in_kind = and_from _ _ (ap not (objects_apart (instances p c) ∙ places_apart (is_instance p c) (length p.objects))) (objects_in p c (instances p c) (λ q h. is_place_below (is_instance p c) (length p.objects) q h));
-      within = omega (arith, class_size_is p c lt, objects_length (instances p c));
+      in_kind = and_from _ _ (ap not apart) (list_all-map of_class object (instances p c) ∙ list_all-from_AllPass (λ o. of_class (object o)) (instances p c) all);
+      within = omega (arith, class_size_is p c lt, length-map (instances p c) object);
     }

@@ -1,21 +1,21 @@
 -- Values in kinds: what is in a kind is in each that it fits, and is what an operand may be that the kind matches.
 use Rattle.std.proofs.Common.{◌≡◌, ℕ, true, List, [], ◌∷◌, ◌++◌, length, drop, Some, None, refl, subst, arith}
-use Rattle.std.specs.Prelude.{◌==◌, nat_lt}
+use Rattle.std.specs.Prelude.{nat_lt}
 use Rattle.std.specs.List.{list_all}
-use Rattle.std.proofs.lemmas.Bool.{and_parts, and_from, eqb-true}
+use Rattle.std.proofs.lemmas.Bool.{and_parts, and_from}
 use Rattle.ocl_base.specs.declared.collection_kind.CollectionKind.{CollectionKind}
-use Rattle.ocl_base.specs.declared.collection_kind.CollectionKind.TheVariants as collection
 use Rattle.imkl_model.specs.ClassModel.{conforms}
 use Rattle.imkl_model.proofs.ForAbove.{conforms_along}
 use Rattle.imkl_population.specs.declared.scalar.Scalar.{Scalar}
 use Rattle.imkl_population.specs.declared.scalar.Scalar.TheVariants as scalar
 use Rattle.imkl_population.specs.Population.{Population, class_of}
+use Rattle.imkl_population.proofs.ForAbove.{list_all-weaker}
 use Rattle.ocl_kinds.specs.declared.kind.ScalarKind.{ScalarKind}
 use Rattle.ocl_kinds.specs.declared.kind.ScalarKind.TheVariants as element
 use Rattle.ocl_kinds.specs.declared.kind.Kind.{Kind}
 use Rattle.ocl_kinds.specs.declared.kind.Kind.TheVariants as kind
 use Rattle.ocl_kinds.specs.Kinds.{is_same_collection, scalar_fits, fits}
-use Rattle.ocl_kinds.proofs.ForAbove.{same_collection_is}
+use Rattle.ocl_kinds.proofs.ForAbove.{same_collection_is, same_number, fits_itself}
 use Rattle.rule_verify.specs.declared.pattern.Pattern.{Pattern}
 use Rattle.rule_verify.specs.declared.pattern.Pattern.TheVariants.{Fitting, Anything, AnySingle, AnyCollection, CollectionOf}
 use Rattle.rule_verify.specs.Patterns.{matches, all_match}
@@ -25,15 +25,6 @@ use Rattle.rule_machine.specs.Machine.{Setting, is_what, are_what}
 use Rattle.rule_machine.specs.Live.{Place, place, kinds_of, long, At, AllAt, EachAt, Below, AllBelow}
 
 -- ---- kinds that fit
-
-pub same_collection_itself : (c : CollectionKind) → is_same_collection c c ≡ true
-same_collection_itself collection.Set = refl
-same_collection_itself collection.OrderedSet = refl
-same_collection_itself collection.Bag = refl
-same_collection_itself collection.Sequence = refl
-
-same_number : (a b c : ℕ) → (a == b) ≡ true → (b == c) ≡ true → (a == c) ≡ true
-same_number a b c e f = subst (λ (n : ℕ). (a == n) ≡ true) (eqb-true b c f) e
 
 scalar_fits_in : (p : Population) (v : Scalar) (j k : ScalarKind) → scalar_fits p.model j k ≡ true → is_scalar_in p v j ≡ true → is_scalar_in p v k ≡ true
 scalar_fits_in p (scalar.Bool b) element.Boolean element.Boolean f h = refl
@@ -52,10 +43,7 @@ element_fits_in p None j k f h = refl
 element_fits_in p (Some v) j k f h = scalar_fits_in p v j k f h
 
 pub elements_fit_in : (p : Population) (es : List Element) (j k : ScalarKind) → scalar_fits p.model j k ≡ true → list_all (is_element_in p j) es ≡ true → list_all (is_element_in p k) es ≡ true
-elements_fit_in p [] j k f h = refl
-elements_fit_in p (e ∷ es) j k f h =
-    let parts = and_parts (is_element_in p j e) (list_all (is_element_in p j) es) h in
-    and_from _ _ (element_fits_in p e j k f parts.0) (elements_fit_in p es j k f parts.1)
+elements_fit_in p es j k f h = list_all-weaker (is_element_in p j) (is_element_in p k) (λ e g. element_fits_in p e j k f g) es h
 
 collection_fits_in : (p : Population) (c : CollectionKind) (es : List Element) (j k : ScalarKind) → scalar_fits p.model j k ≡ true → is_collection_in p c es j ≡ true → is_collection_in p c es k ≡ true
 collection_fits_in p c es j k f h =
@@ -121,6 +109,9 @@ module _ (s : Setting) where
   -- a value in a scalar kind may stand there, whatever the length
   pub single_at : (v : Value) (k : ScalarKind) (n : ℕ) → is_in s.population v (kind.Scalar k) ≡ true → At s v (place (kind.Scalar k) n)
   single_at v k n h = record { in_kind = h; within = omega (arith, long_single v k h) }
+
+  pub below_itself : (p : Place) → Below s p p
+  below_itself p = record { fit = fits_itself s.population.model p.kind; shorter = omega arith }
 
   pub at_below : (v : Value) (p q : Place) → Below s p q → At s v p → At s v q
   at_below v p q b a = record { in_kind = fits_in s.population v p.kind q.kind b.fit a.in_kind; within = omega (arith, b.shorter, a.within) }

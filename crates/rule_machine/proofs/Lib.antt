@@ -5,10 +5,14 @@ pub mod ValueKinds
 pub mod Distinct
 pub mod Results
 pub mod EndingKinds
+pub mod Blocks
 pub mod Moves
 pub mod Runs
 pub mod Bridge
 pub mod Theorems
 pub mod Characters
 pub mod Bodies
-pub mod Totals
+pub mod Steps
+pub mod Turns
+pub mod Ran
+pub mod Performed

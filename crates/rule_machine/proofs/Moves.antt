@@ -13,23 +13,23 @@ use Rattle.imkl_population.specs.Consistency.{IsConsistent}
 use Rattle.ocl_kinds.specs.declared.kind.Kind.{Kind}
 use Rattle.ocl_kinds.specs.declared.kind.Kind.TheVariants as kind
 use Rattle.ocl_kinds.specs.declared.kind.ScalarKind.TheVariants as element
-use Rattle.ocl_kinds.specs.Kinds.{is_same_collection}
-use Rattle.ocl_kinds.proofs.ForAbove.{fits_itself}
+use Rattle.ocl_kinds.specs.Kinds.{is_same_collection, elements_kind}
 use Rattle.rule_code.specs.declared.instruction.Instr.{Instr}
 use Rattle.rule_code.specs.declared.instruction.Instr.TheVariants as instrs
 use Rattle.rule_verify.specs.declared.pattern.Pattern.{Pattern}
 use Rattle.rule_verify.specs.declared.pattern.Pattern.TheVariants.{AnyCollection}
 use Rattle.rule_verify.specs.CodeTree.{CodeTree, End, Plain, Block, Branch, Torn}
 use Rattle.rule_verify.specs.Patterns.{matches, all_match, a_boolean}
-use Rattle.rule_verify.specs.InstrKinds.{has_names, operands_of, ends_with, element_of}
+use Rattle.rule_verify.specs.InstrKinds.{has_names, operands_of, ends_with}
 use Rattle.rule_cost.specs.Bounds.{block_steps}
 use Rattle.rule_machine.specs.Value as value
 use Rattle.rule_machine.specs.Value.{Element, Value, element_value, is_element_in, are_elements, is_collection_in, is_in}
 use Rattle.rule_machine.specs.Endings.{Source, ending}
 use Rattle.rule_machine.specs.Machine.{Setting, judged_by, is_what, are_what, operands_below, result_of, performed, Piece, Sequence, LetEnd, Opened, Turning, Skipped, Configuration, configuration, branched, opened_over, block_opened, turned, step}
 use Rattle.rule_machine.specs.Verdict.{outcome}
-use Rattle.rule_machine.specs.Live.{Place, place, kinds_of, At, AllAt, Below, IsTaken, given, places_left, bound_by, yielded, HasBody, HasBranches, is_iteration, Kinded, IsOpenIteration, Going, IsThere, IsSettled, flat, Live}
-use Rattle.rule_machine.proofs.InKinds.{matches_in, match_all, left_at, invalid_at, at_below, all_below, each_joined}
+use Rattle.rule_machine.specs.Live.{Place, place, kinds_of, At, AllAt, IsTaken, given, places_left, bound_by, yielded, is_iteration, Kinded, IsOpenIteration, Going, IsThere, IsSettled, flat, Live}
+use Rattle.rule_machine.proofs.Blocks.{BlockSort, is_let, iterates, block_sort, iteration_takes, branch_takes, iteration_binds, iteration_steps, iteration_opens}
+use Rattle.rule_machine.proofs.InKinds.{below_itself, matches_in, match_all, left_at, invalid_at, at_below, all_below, each_joined}
 use Rattle.rule_machine.proofs.Results.{results}
 use Rattle.rule_machine.proofs.EndingKinds.{ending_at}
 
@@ -37,56 +37,9 @@ use Rattle.rule_machine.proofs.EndingKinds.{ending_at}
 abbrev pub Moves : Setting → Configuration → ℕ → Type 0
 Moves s c n = IsSome (outcome c) ⊎ ((d : Configuration) × (m : ℕ) × (step s c ≡ Some d) × (m < n) × Live s d m)
 
--- ---- blocks
-
--- LET, or an iteration
-data BlockSort (i : Instr) : Type 0 where
-  is_let : (n : ℕ) → i ≡ instrs.Let n → BlockSort i
-  iterates : is_iteration i ≡ true → BlockSort i
-
-block_sort : (i : Instr) → HasBody i → BlockSort i
-block_sort (instrs.Let n) h = is_let n refl
-block_sort (instrs.ForAll n) h = iterates refl
-block_sort (instrs.Exists n) h = iterates refl
-block_sort (instrs.One n) h = iterates refl
-block_sort (instrs.Select n) h = iterates refl
-block_sort (instrs.Reject n) h = iterates refl
-block_sort (instrs.Collect n) h = iterates refl
-block_sort (instrs.CollectFlat n) h = iterates refl
-block_sort (instrs.IsUnique k n) h = iterates refl
-block_sort i h = let bad = h.1 in cc
-
--- what an iteration is by its table rows
-module _ (s : Setting) where
-  iteration_takes : (i : Instr) → is_iteration i ≡ true → operands_of (judged_by s) i ≡ AnyCollection ∷ []
-  iteration_takes (instrs.ForAll n) it = refl
-  iteration_takes (instrs.Exists n) it = refl
-  iteration_takes (instrs.One n) it = refl
-  iteration_takes (instrs.Select n) it = refl
-  iteration_takes (instrs.Reject n) it = refl
-  iteration_takes (instrs.Collect n) it = refl
-  iteration_takes (instrs.CollectFlat n) it = refl
-  iteration_takes (instrs.IsUnique k n) it = refl
-  iteration_takes i it = cc
-
-  iteration_binds : (i : Instr) (p : Place) → is_iteration i ≡ true → bound_by i p ≡ place (kind.Scalar (element_of p.kind)) 0
-  iteration_binds (instrs.Let n) p it = cc
-  iteration_binds i p it = refl
-
-  iteration_steps : (i : Instr) (l b : ℕ) → is_iteration i ≡ true → block_steps i l b ≡ 2 + l * (1 + b)
-  iteration_steps (instrs.Let n) l b it = cc
-  iteration_steps i l b it = refl
-
-  iteration_opens : (i : Instr) (body : CodeTree) (v : Value) (q : List Piece) (vars os : List Value) → is_iteration i ≡ true → block_opened i body v q vars os ≡ opened_over i body v q vars os
-  iteration_opens (instrs.Let n) body v q vars os it = cc
-  iteration_opens i body v q vars os it = refl
-
 -- ---- configurations
 
 module _ (s : Setting) (model : IsClassModel s.population.model) (population : IsConsistent s.population) where
-  below_itself : (p : Place) → Below s p p
-  below_itself p = record { fit = fits_itself s.population.model p.kind; shorter = omega arith }
-
   dearer : (c : Configuration) (m n : ℕ) → m ≤ n → Live s c m → Live s c n
   dearer c m n le l =
       record { variables = l.variables; segments = l.segments; variables_at = l.variables_at; operands_at = l.operands_at; settled = l.settled; cost = l.cost; within = omega (arith, le, l.within); going = l.going }
@@ -115,10 +68,10 @@ module _ (s : Setting) (model : IsClassModel s.population.model) (population : I
 
   -- ---- iterations
 
-  element_at : (i : Instr) (p : Place) (e : Element) → is_iteration i ≡ true → is_element_in s.population (element_of p.kind) e ≡ true → At s (element_value e) (bound_by i p)
-  element_at i p e it h = subst (At s (element_value e)) (sym (iteration_binds s i p it)) (by_element e h)
+  element_at : (i : Instr) (p : Place) (e : Element) → is_iteration i ≡ true → is_element_in s.population (elements_kind p.kind) e ≡ true → At s (element_value e) (bound_by i p)
+  element_at i p e it h = subst (At s (element_value e)) (sym (iteration_binds i p it)) (by_element e h)
     where
-      by_element : (e : Element) → is_element_in s.population (element_of p.kind) e ≡ true → At s (element_value e) (place (kind.Scalar (element_of p.kind)) 0)
+      by_element : (e : Element) → is_element_in s.population (elements_kind p.kind) e ≡ true → At s (element_value e) (place (kind.Scalar (elements_kind p.kind)) 0)
       by_element None h = record { in_kind = refl; within = omega arith }
       by_element (Some v) h = record { in_kind = h; within = omega arith }
 
@@ -129,11 +82,11 @@ module _ (s : Setting) (model : IsClassModel s.population.model) (population : I
   turning c n i body source [] kept q vars os vps ps segments p r m k e va oa it le g cost =
       steps_to c n k q vars (ending i source kept ∷ os) vps ((yielded s i p r ∷ ps) ∷ segments) e (omega (arith, cost)) va (ending_at s i source kept p r it.iterates it.stands.whole it.ends it.given (omega (arith, le)), oa) g
   turning c n i body source (x ∷ left) kept q vars os vps ps segments p r m k e va oa it le g cost =
-      let parts = and_parts (is_element_in s.population (element_of p.kind) x) (list_all (is_element_in s.population (element_of p.kind)) left) it.stands.rest in
+      let parts = and_parts (is_element_in s.population (elements_kind p.kind) x) (list_all (is_element_in s.population (elements_kind p.kind)) left) it.stands.rest in
       let next : IsOpenIteration s i body source left kept vps p r m = record { iterates = it.iterates; stands = record { whole = it.stands.whole; rest = parts.1 }; kinded = it.kinded; ends = it.ends; given = it.given } in
       let less : m + (1 + length left * (1 + m) + k) < n = omega (arith, cost) in
       steps_to c n (m + (1 + length left * (1 + m) + k)) (Sequence body ∷ Turning i body source left kept ∷ q) (element_value x ∷ vars) os (bound_by i p ∷ vps) ([] ∷ [] ∷ ps ∷ segments) e less (element_at i p x it.iterates parts.0, va) oa
-      (m, 1 + length left * (1 + m) + k, r ∷ [], it.kinded, (m, k, p, r, next, below_itself r, omega (arith, le), g, omega arith), omega arith)
+      (m, 1 + length left * (1 + m) + k, r ∷ [], it.kinded, (m, k, p, r, next, below_itself s r, omega (arith, le), g, omega arith), omega arith)
 
   -- ---- the first instruction of a sequence
 
@@ -164,7 +117,7 @@ module _ (s : Setting) (model : IsClassModel s.population.model) (population : I
   block_taken i w vps ps below o os go e t oa =
       ap (option_and_then (go o)) (taken_is i vps ps below (o ∷ os) t oa ∙ ap (λ ws. Some (drop (length ws) (o ∷ os))) e)
 
-  source_rest : (c : CollectionKind) (es : List Element) (k : Kind) → is_in s.population (value.Collection c es) k ≡ true → list_all (is_element_in s.population (element_of k)) es ≡ true
+  source_rest : (c : CollectionKind) (es : List Element) (k : Kind) → is_in s.population (value.Collection c es) k ≡ true → list_all (is_element_in s.population (elements_kind k)) es ≡ true
   source_rest c es (kind.Scalar k) h = cc
   source_rest c es (kind.Collection d k) h =
       (and_parts (are_elements c es) (list_all (is_element_in s.population k) es) (and_parts (is_same_collection c d) (is_collection_in s.population c es k) h).1).1
@@ -177,12 +130,12 @@ module _ (s : Setting) (model : IsClassModel s.population.model) (population : I
   from_iteration i body rest q vars (value.Collection c es) os n vps p ps qs segments r m k l out it e w at va oa kb ends kr g cost =
       let source : Source = record { kind = c; elements = es } in
       let times : (1 + m) * length es ≤ (1 + m) * p.longest = mul-le-mul_left (1 + m) at.within in
-      let steps : block_steps i p.longest m ≡ 2 + p.longest * (1 + m) = iteration_steps s i p.longest m it in
+      let steps : block_steps i p.longest m ≡ 2 + p.longest * (1 + m) = iteration_steps i p.longest m it in
       let iteration : IsOpenIteration s i body source es [] vps p r m = record { iterates = it; stands = record { whole = at; rest = source_rest c es p.kind at.in_kind }; kinded = kb; ends = ends; given = tt } in
       steps_to (raw (Sequence (Block i body rest) ∷ q) vars (value.Collection c es ∷ os)) n (1 + length es * (1 + m) + (k + l)) (Opened i body source [] ∷ Sequence rest ∷ q) vars os vps (ps ∷ qs ∷ segments) e (omega (arith, cost, steps, times)) va oa
       (m, k + l, p, r, iteration, refl, (k, l, out, kr, g, omega arith), omega arith)
   from_iteration i body rest q vars value.Invalid os n vps p ps qs segments r m k l out it e w at va oa kb ends kr g cost =
-      let steps : block_steps i p.longest m ≡ 2 + p.longest * (1 + m) = iteration_steps s i p.longest m it in
+      let steps : block_steps i p.longest m ≡ 2 + p.longest * (1 + m) = iteration_steps i p.longest m it in
       steps_to (raw (Sequence (Block i body rest) ∷ q) vars (value.Invalid ∷ os)) n (1 + (k + l)) (Skipped ∷ Sequence rest ∷ q) vars os vps (ps ∷ qs ∷ segments) e (omega (arith, cost, steps)) va oa
       (k + l, yielded s i p r, (k, l, out, kr, g, omega arith), omega arith)
   from_iteration i body rest q vars o os n vps p ps qs segments r m k l out it e w at va oa kb ends kr g cost = cc
@@ -207,10 +160,10 @@ module _ (s : Setting) (model : IsClassModel s.population.model) (population : I
       by_sort (is_let x is) k =
           from_let i x body rest q vars o os n vps p ps qs segments k.2 k.0 k.1 b.later b.out is k.4 b.operands_at.0 b.variables_at b.operands_at.1 k.5 k.7 b.going (omega (arith, k.8, b.within))
       by_sort (iterates it) k =
-          let takes = iteration_takes s i it in
+          let takes = iteration_takes (judged_by s) i it in
           let match : all_match s.population.model (AnyCollection ∷ []) (kinds_of (p ∷ ps)) ≡ true = subst (λ ws. all_match s.population.model ws (kinds_of (p ∷ ps)) ≡ true) takes k.4.match in
           let what = matches_in s.population AnyCollection p.kind o (and_parts (matches s.population.model AnyCollection p.kind) true match).0 b.operands_at.0.in_kind in
-          let e = block_taken i AnyCollection vps (p ∷ ps) (qs ++ flat segments) o os (λ v left. block_opened i body v (Sequence rest ∷ q) vars left) takes k.4 b.operands_at ∙ iteration_opens s i body o (Sequence rest ∷ q) vars os it in
+          let e = block_taken i AnyCollection vps (p ∷ ps) (qs ++ flat segments) o os (λ v left. block_opened i body v (Sequence rest ∷ q) vars left) takes k.4 b.operands_at ∙ iteration_opens i body o (Sequence rest ∷ q) vars os it in
           from_iteration i body rest q vars o os n vps p ps qs segments k.2 k.0 k.1 b.later b.out it e what b.operands_at.0 b.variables_at b.operands_at.1 k.5 k.6 k.7 b.going (omega (arith, k.8, b.within))
 
   -- a condition chooses a branch, or none
@@ -232,16 +185,12 @@ module _ (s : Setting) (model : IsClassModel s.population.model) (population : I
       (k, l, out, kr, g, omega arith)
   from_condition i first second rest q vars o os n vps ps qs segments r m k l out e h va oa kf ks kr g cost = cc
 
-  branch_takes : (i : Instr) → HasBranches i → operands_of (judged_by s) i ≡ a_boolean ∷ []
-  branch_takes (instrs.If k n m) h = refl
-  branch_takes i h = let bad = h.2 in cc
-
   from_branch : (i : Instr) (first second rest : CodeTree) (q : List Piece) (vars os : List Value) (n : ℕ) (vps ps qs : List Place) (segments : List (List Place)) → Before (Branch i first second rest) q vars os n vps ps qs segments → Moves s (raw (Sequence (Branch i first second rest) ∷ q) vars os) n
   from_branch i first second rest q vars os n vps [] qs segments b = absurd b.kinded
   from_branch i first second rest q vars [] n vps (p ∷ ps) qs segments b = absurd b.operands_at
   from_branch i first second rest q vars (o ∷ os) n vps (p ∷ ps) qs segments b =
       let k = b.kinded in
-      let takes = branch_takes i k.3 in
+      let takes = branch_takes (judged_by s) i k.3 in
       let match : all_match s.population.model (a_boolean ∷ []) (kinds_of (p ∷ ps)) ≡ true = subst (λ ws. all_match s.population.model ws (kinds_of (p ∷ ps)) ≡ true) takes k.4.match in
       let what = matches_in s.population a_boolean p.kind o (and_parts (matches s.population.model a_boolean p.kind) true match).0 b.operands_at.0.in_kind in
       let e = block_taken i a_boolean vps (p ∷ ps) (qs ++ flat segments) o os (λ v left. branched v first second (Sequence rest ∷ q) vars left) takes k.4 b.operands_at in

@@ -16,7 +16,8 @@ use Rattle.ocl_kinds.specs.declared.kind.ScalarKind.{ScalarKind}
 use Rattle.ocl_kinds.specs.declared.kind.ScalarKind.TheVariants as element
 use Rattle.ocl_kinds.specs.declared.kind.Kind.{Kind}
 use Rattle.ocl_kinds.specs.declared.kind.Kind.TheVariants as kind
-use Rattle.ocl_kinds.specs.Kinds.{feature_kind, is_same_collection}
+use Rattle.ocl_kinds.specs.Kinds.{feature_kind, elements_kind, is_same_collection}
+use Rattle.ocl_kinds.proofs.ForAbove.{same_collection_itself}
 use Rattle.rule_code.specs.declared.instruction.Instr.{Instr}
 use Rattle.rule_code.specs.declared.instruction.Instr.TheVariants as instrs
 use Rattle.rule_code.specs.declared.symbol.SymbolTag.TheVariants as tags
@@ -28,15 +29,15 @@ use Rattle.rule_verify.specs.declared.shape.Shape.TheVariants.{Single}
 use Rattle.rule_verify.specs.CodeTree.{shape_of}
 use Rattle.rule_verify.specs.Known.{IsKnownName}
 use Rattle.rule_verify.specs.Patterns.{matches, all_match, a_boolean, an_integer, a_string, an_object}
-use Rattle.rule_verify.specs.InstrKinds.{variable_at, owner_kind, class_kind, literal_kind, scalar_meant, kind_meant, feature_read, element_of}
+use Rattle.rule_verify.specs.InstrKinds.{variable_at, owner_kind, class_kind, literal_kind, scalar_meant, kind_meant, feature_read}
 use Rattle.rule_cost.specs.Bounds.{named_length, feature_length}
 use Rattle.rule_machine.specs.Value as value
-use Rattle.rule_machine.specs.Value.{Element, Value, truth_value, object_value, same_element, is_scalar_in, is_element_in, is_in}
+use Rattle.rule_machine.specs.Value.{Value, object_value, is_element_in, is_in}
 use Rattle.rule_machine.specs.Equality.{equal_values}
 use Rattle.rule_machine.specs.Operations.{integer_value, on_integers, division, remainder, negative, absolute, less_than, at_most, negation, conjunction, disjunction, exclusive_disjunction, implication, is_true, is_false, is_null, equality, both_null, undefined_test, invalid_test, text_length, substring, kind_test, type_test, cast, feature_value, value_read, all_instances, as_collection, collection_size, emptiness, membership, occurrence_count, inclusion, exclusion, summation, as_set}
 use Rattle.rule_machine.specs.Machine.{Setting, judged_by, literal_named, on_class_named, value_named_read, symbol_named, result_of}
 use Rattle.rule_machine.specs.Live.{Place, place, kinds_of, lengths_of, long, At, AllAt, self_place, sizes_in, IsTaken, given}
-use Rattle.rule_machine.proofs.InKinds.{fits_in, single_at, invalid_at, same_collection_itself}
+use Rattle.rule_machine.proofs.InKinds.{fits_in, single_at, invalid_at}
 use Rattle.rule_machine.proofs.Symbols.{IsNamed, symbol_names}
 use Rattle.rule_machine.proofs.FeatureValues.{feature_value_at, all_instances_at}
 use Rattle.rule_machine.proofs.ValueKinds.{IsSingle, fits_integer, integer_single, on_integers_single, on_integer_single, division_single, remainder_single, truth_single, unless_invalid_single, text_length_single, substring_single, on_object_single, on_elements_single, membership_single, occurrence_count_single, inclusion_single, exclusion_single, summation_single}
@@ -158,10 +159,10 @@ module _ (s : Setting) where
   as_collection_at c k (value.Single v) h = record { in_kind = and_from _ _ (same_collection_itself c) (and_from _ _ (or_right _ _ refl) (and_from _ _ h refl)); within = omega arith }
   as_collection_at c k v h = invalid_at s (place (kind.Collection c k) 1)
 
-  as_set_at : (w : ScalarKind) (v : Value) (p : Place) → matches s.population.model (CollectionOf w) p.kind ≡ true → At s v p → At s (as_set v) (place (kind.Collection collection.Set (element_of p.kind)) p.longest)
+  as_set_at : (w : ScalarKind) (v : Value) (p : Place) → matches s.population.model (CollectionOf w) p.kind ≡ true → At s v p → At s (as_set v) (place (kind.Collection collection.Set (elements_kind p.kind)) p.longest)
   as_set_at w v p m a = by_kind p.kind v m a.in_kind a.within
     where
-      by_kind : (k : Kind) (v : Value) → matches s.population.model (CollectionOf w) k ≡ true → is_in s.population v k ≡ true → long v ≤ p.longest → At s (as_set v) (place (kind.Collection collection.Set (element_of k)) p.longest)
+      by_kind : (k : Kind) (v : Value) → matches s.population.model (CollectionOf w) k ≡ true → is_in s.population v k ≡ true → long v ≤ p.longest → At s (as_set v) (place (kind.Collection collection.Set (elements_kind k)) p.longest)
       by_kind (kind.Scalar j) v m h le = cc
       by_kind (kind.Collection d j) (value.Collection c es) m h le =
           let all = (and_parts _ (list_all (is_element_in s.population j) es) (and_parts (is_same_collection c d) _ h).1).1 in

@@ -1,5 +1,5 @@
 -- What holds of every run of accepted code, whoever made it.
-use Rattle.std.specs.Prelude.{◌≡◌, ◌⊎◌, ℕ, ◌<◌, ◌≤◌, length, Some, IsSome}
+use Rattle.std.specs.Prelude.{◌≡◌, ◌⊎◌, ℕ, zero, suc, ◌+◌, ◌<◌, ◌≤◌, length, Option, Some, None, IsSome, option_and_then}
 use Rattle.imkl_model.specs.WellFormed.{IsClassModel}
 use Rattle.imkl_population.specs.Population.{Population, IsInstance}
 use Rattle.imkl_population.specs.Consistency.{IsConsistent}
@@ -9,7 +9,8 @@ use Rattle.rule_code.specs.WellFormed.{IsUnit}
 use Rattle.rule_verify.specs.CodeTree.{CodeTree, code_tree}
 use Rattle.rule_verify.specs.UnitRules.{unit_rule, IsAcceptedUnit}
 use Rattle.rule_cost.specs.Bounds.{step_bound}
-use Rattle.rule_machine.specs.Machine.{setting_of, judged_by, Configuration, step, run, start}
+use Rattle.rule_machine.specs.Machine.{setting_of, judged_by, Setting, Configuration, step, run, start}
+use Rattle.rule_machine.specs.declared.verdict.Verdict.{Verdict}
 use Rattle.rule_machine.specs.Verdict.{outcome}
 use Rattle.rule_machine.specs.Live.{Live}
 
@@ -47,10 +48,27 @@ EndsWithin =
     × (run (setting_of u p n) k (start (tree_of_rule u n) o) ≡ Some c) × IsSome (outcome c)
 
 -- In each configuration that a run reaches, every operand and every variable stands at a place: it is in the place's kind, and a
--- collection no longer than the place allows. The pending code has kinds from these places on.
+-- collection no longer than the place allows. The pending code has kinds from these places on, and the steps that it may still
+-- take are within the bound.
 abbrev pub StandsInKinds : Type 0
 StandsInKinds =
     (u : Content) (p : Population) (n o k : ℕ) (c : Configuration)
     → IsAcceptedRun u p n o
     → run (setting_of u p n) k (start (tree_of_rule u n) o) ≡ Some c
-    → (m : ℕ) × (m ≤ rule_bound u p n) × Live (setting_of u p n) c m
+    → (m : ℕ) × (k + m ≤ rule_bound u p n) × Live (setting_of u p n) c m
+
+-- ---- verdicts
+
+-- the first of two that is there
+abbrev pub first_there : Option Verdict → Option Verdict → Option Verdict
+first_there (Some v) w = Some v
+first_there None w = w
+
+-- the verdict that a run comes to within so many steps, if it does
+abbrev pub verdict_within : Setting → ℕ → Configuration → Option Verdict
+verdict_within s zero c = outcome c
+verdict_within s (suc n) c = first_there (outcome c) (option_and_then (verdict_within s n) (step s c))
+
+-- the verdict of a rule for an object, if its run comes to one within its bound
+abbrev pub verdict_at : Content → Population → ℕ → ℕ → Option Verdict
+verdict_at u p r o = verdict_within (setting_of u p r) (rule_bound u p r) (start (tree_of_rule u r) o)

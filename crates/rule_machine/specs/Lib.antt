@@ -6,6 +6,9 @@ pub mod Endings
 pub mod Machine
 pub mod Verdict
 pub mod Laws
+pub mod Contract
 -- Bookkeeping: views, layouts, walks and tables that only proofs and private contracts use.
 pub mod Live
 pub mod Meant
+pub mod Shown
+pub mod Seen

@@ -5,7 +5,7 @@ use Rattle.imkl_population.specs.Sizes.{Sizes, sizes_of}
 use Rattle.ocl_kinds.specs.declared.kind.Kind.{Kind}
 use Rattle.ocl_kinds.specs.declared.kind.Kind.TheVariants as kind
 use Rattle.ocl_kinds.specs.declared.kind.ScalarKind.TheVariants as element
-use Rattle.ocl_kinds.specs.Kinds.{fits}
+use Rattle.ocl_kinds.specs.Kinds.{fits, elements_kind}
 use Rattle.rule_code.specs.declared.instruction.Instr.{Instr}
 use Rattle.rule_code.specs.declared.instruction.Instr.TheVariants as instrs
 use Rattle.rule_code.specs.WellFormed.{InstrFits}
@@ -13,7 +13,7 @@ use Rattle.rule_verify.specs.CodeTree.{CodeTree, End, Plain, Block, Branch, Torn
 use Rattle.rule_verify.specs.declared.shape.Shape.{Shape}
 use Rattle.rule_verify.specs.declared.shape.Shape.TheVariants.{Single, OneBody, TwoBodies}
 use Rattle.rule_verify.specs.Patterns.{matches, all_match, a_boolean}
-use Rattle.rule_verify.specs.InstrKinds.{has_names, has_variable, variable_at, operands_of, result_kind, element_of, binds, ends_with, yields}
+use Rattle.rule_verify.specs.InstrKinds.{has_names, has_variable, variable_at, operands_of, result_kind, binds, ends_with, yields}
 use Rattle.rule_cost.specs.Bounds.{length_given, length_bound_by, length_yielded, block_steps}
 use Rattle.rule_machine.specs.Value as value
 use Rattle.rule_machine.specs.Value.{Element, Value, is_in, is_element_in}
@@ -141,7 +141,7 @@ Kinded s (Torn i left) vars ps out n = ⊥
 -- the elements of an iteration's source, and those that are left, are in the kind of the place where it stood
 pub record IsSource (s : Setting) (p : Place) (source : Source) (left : List Element) : Type 0 where
   pub whole : At s (value.Collection source.kind source.elements) p
-  pub rest : list_all (is_element_in s.population (element_of p.kind)) left ≡ true
+  pub rest : list_all (is_element_in s.population (elements_kind p.kind)) left ≡ true
 
 -- An iteration in the middle of its run: its body has kinds and takes at most m steps, its source stands at the place p, and what its
 -- body gave in the turns before, and will give, may stand at the place r.

@@ -75,8 +75,8 @@ element_list (Some e) = e ∷ []
 
 -- ---- sources of iterations
 
-abbrev pub source_of : CollectionKind → List Item → Source
-source_of kind items = record { kind = kind; elements = meant_items items }
+abbrev pub source : CollectionKind → List Element → Source
+source c es = record { kind = c; elements = es }
 
 -- ---- elements taken once
 

@@ -1,6 +1,6 @@
 //! What instructions make of operands alone.
 
-ghost use Rattle.std.specs.Prelude.{◌≡◌, List, ◌∷◌, Some};
+ghost use Rattle.std.specs.Prelude.{◌≡◌, List, ◌∷◌, Some, Decides};
 ghost use Rattle.rule_machine.specs.Value.{Value as Operand};
 ghost use Rattle.rule_machine.specs.Machine.{Setting, result_of};
 ghost use Rattle.rule_machine.specs.Meant.{meant, TakesTwo, TakesOne};
@@ -71,5 +71,16 @@ pub(crate) fn apply_one<'a>(instr: Instr, v: &Value<'_>) -> Value<'a>
         Instr::IsEmpty => emptiness(v),
         Instr::Sum => summation(v),
         _ => unreachable!(),
+    }
+}
+
+/// Whether an instruction works on one operand alone.
+pub(crate) fn takes_one(instr: Instr) -> bool
+    ensures { Decides result (TakesOne instr) }
+{
+    match instr {
+        Instr::Neg | Instr::Abs | Instr::Not | Instr::Undef | Instr::IsInv => true,
+        Instr::TLen | Instr::Size | Instr::IsEmpty | Instr::Sum => true,
+        _ => false,
     }
 }

@@ -1,12 +1,12 @@
 //! What iterations give that keep elements, or collect what their body gave.
 
-ghost use Rattle.std.specs.Prelude.{◌≡◌, ◌++◌, map, length, IfOk, OnOk};
+ghost use Rattle.std.specs.Prelude.{◌≡◌, ◌++◌, List, map, length, IfOk, OnOk};
 ghost use Rattle.std.specs.List.{list_any, filter_map};
 ghost use Rattle.ocl_base.specs.Lists.{repeats};
-ghost use Rattle.rule_machine.specs.Value.{as_element, same_element};
+ghost use Rattle.rule_machine.specs.Value.{Element, as_element, same_element};
 ghost use Rattle.rule_machine.specs.Operations.{is_invalid};
 ghost use Rattle.rule_machine.specs.Endings.{select, reject, collection_elements, joined, collect, collect_flat, unique_bodies};
-ghost use Rattle.rule_machine.specs.Meant.{meant, meant_items, source_of, element_list};
+ghost use Rattle.rule_machine.specs.Meant.{meant, meant_items, source, element_list};
 
 use crate::elements::is_item_among;
 use crate::endings::{any_undecided, kept_items};
@@ -25,7 +25,8 @@ pub(crate) fn select<'a>(
     bodies: &[Value<'_>],
 ) -> Result<Value<'a>, OutOfMemory>
     requires { length bodies.now ≡ length items.now }
-    ensures { IfOk result (λ v. meant v ≡ select (source_of kind items.now) (map meant bodies.now)) }
+    ensures { IfOk result (λ v. meant v ≡ select (source kind (meant_items items.now))
+        (map meant bodies.now)) }
 {
     if any_undecided(bodies) {
         return Ok(Value::Invalid);
@@ -43,7 +44,8 @@ pub(crate) fn reject<'a>(
     bodies: &[Value<'_>],
 ) -> Result<Value<'a>, OutOfMemory>
     requires { length bodies.now ≡ length items.now }
-    ensures { IfOk result (λ v. meant v ≡ reject (source_of kind items.now) (map meant bodies.now)) }
+    ensures { IfOk result (λ v. meant v ≡ reject (source kind (meant_items items.now))
+        (map meant bodies.now)) }
 {
     if any_undecided(bodies) {
         return Ok(Value::Invalid);
@@ -73,7 +75,8 @@ fn push_body<'a>(items: &mut Vec<Item<'a>>, body: &Value<'a>) -> Result<(), OutO
 
 /// The bodies that are elements.
 fn collected_items<'a>(alloc: Global, bodies: &[Value<'a>]) -> Result<Vec<Item<'a>>, OutOfMemory>
-    ensures { IfOk result (λ v. meant_items v.items ≡ filter_map as_element (map meant bodies.now)) }
+    ensures { IfOk result (λ v. meant_items v.items ≡
+        filter_map as_element (map meant bodies.now)) }
 {
     let mut items = Vec::new(alloc);
     for body in bodies {
@@ -87,10 +90,10 @@ fn collected_items<'a>(alloc: Global, bodies: &[Value<'a>]) -> Result<Vec<Item<'
 pub(crate) fn collect<'a>(
     alloc: Global,
     kind: CollectionKind,
-    items: &[Item<'a>],
     bodies: &[Value<'a>],
 ) -> Result<Value<'a>, OutOfMemory>
-    ensures { IfOk result (λ v. meant v ≡ collect (source_of kind items.now) (map meant bodies.now)) }
+    ensures { IfOk result (λ v. (es : List Element) →
+        meant v ≡ collect (source kind es) (map meant bodies.now)) }
 {
     if any_invalid(bodies) {
         return Ok(Value::Invalid);
@@ -138,11 +141,10 @@ fn joined_items<'a>(alloc: Global, bodies: &[Value<'a>]) -> Result<Vec<Item<'a>>
 pub(crate) fn collect_flat<'a>(
     alloc: Global,
     kind: CollectionKind,
-    items: &[Item<'a>],
     bodies: &[Value<'a>],
 ) -> Result<Value<'a>, OutOfMemory>
-    ensures { IfOk result (λ v. meant v ≡ collect_flat (source_of kind items.now)
-        (map meant bodies.now)) }
+    ensures { IfOk result (λ v. (es : List Element) →
+        meant v ≡ collect_flat (source kind es) (map meant bodies.now)) }
 {
     if any_invalid(bodies) {
         return Ok(Value::Invalid);

@@ -1,6 +1,6 @@
 //! Operations on collections, and on their elements.
 
-ghost use Rattle.std.specs.Prelude.{◌≡◌, ◌∷◌, [], ℕ, ℤ, pos, bytes_eq, IfOk, OnOk, Some, true, length};
+ghost use Rattle.std.specs.Prelude.{◌≡◌, ◌∷◌, [], pos, bytes_eq, IfOk, OnOk};
 ghost use Rattle.std.specs.List.{list_all, list_any};
 ghost use Rattle.std.specs.Str.{chars};
 ghost use Rattle.ocl_base.specs.Lists.{is_among};

@@ -2,12 +2,12 @@
 
 ghost use Rattle.std.specs.Prelude.{◌≡◌, ◌++◌, map, length, IfOk, OnOk};
 ghost use Rattle.std.specs.List.{list_all, list_any};
-ghost use Rattle.rule_machine.specs.Operations.{is_true, is_false, is_invalid};
+ghost use Rattle.rule_machine.specs.Operations.{is_true, is_false};
 ghost use Rattle.rule_machine.specs.Endings.{for_all, exists, is_undecided, count_true, one, kept_by};
 ghost use Rattle.rule_machine.specs.Meant.{meant, meant_item, meant_items, kept_one, is_wanted};
 
 use crate::memory::{OutOfMemory, push};
-use crate::value::{Item, Value, copy_of, is_false, is_invalid, is_true, truth_known};
+use crate::value::{Item, Value, copy_of, is_false, is_true, truth_known};
 use ocl_base::CollectionKind;
 use std::alloc::Global;
 

@@ -13,8 +13,8 @@ pub fn ends_within()
     ensures { EndsWithin }
 {}
 
-/// In each configuration that a run of accepted code reaches, every operand and every variable is in the kind of its place,
-/// and every collection is no longer than its place allows.
+/// In each configuration that a run of accepted code reaches, the operands and the variables have kinds and lengths that their
+/// values keep, and from which the pending code satisfies the rules of kinds and takes no more steps than are left of the bound.
 pub fn stands_in_kinds()
     ensures { StandsInKinds }
 {}

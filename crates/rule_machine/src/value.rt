@@ -1,12 +1,15 @@
 //! Values as the machine has them.
 
-ghost use Rattle.std.specs.Prelude.{◌≡◌};
+ghost use Rattle.std.specs.Prelude.{◌≡◌, IfOk};
+ghost use Rattle.rule_machine.specs.Value.{element_value};
 ghost use Rattle.rule_machine.specs.Operations.{is_true, is_false, is_null, is_invalid, truth_known};
-ghost use Rattle.rule_machine.specs.Meant.{meant, meant_item};
+ghost use Rattle.rule_machine.specs.Meant.{meant, meant_item, meant_items};
 
+use crate::memory::{OutOfMemory, push};
 use imkl_model::{EnumNo, LiteralNo};
 use imkl_population::ObjectNo;
 use ocl_base::CollectionKind;
+use std::alloc::Global;
 
 /// A single value or null, as collections have them. A text is borrowed from the unit or the population.
 #[derive(Debug, Drop)]
@@ -48,6 +51,13 @@ pub(crate) fn copy_of<'a>(item: &Item<'a>) -> Item<'a>
         Item::Literal(enumeration, literal) => Item::Literal(*enumeration, *literal),
         Item::Object(object) => Item::Object(*object),
     }
+}
+
+/// An item as a value of its own.
+pub(crate) fn item_value<'a>(item: &Item<'a>) -> Value<'a>
+    ensures { meant result ≡ element_value (meant_item item.now) }
+{
+    Value::Item(copy_of(item))
 }
 
 /// Whether it is true.
@@ -102,4 +112,29 @@ pub(crate) fn truth_known<'a>(is_so: bool, is_not: bool) -> Value<'a>
     } else {
         Value::Invalid
     }
+}
+
+/// The same value again.
+pub(crate) fn copy_value<'a>(alloc: Global, value: &Value<'a>) -> Result<Value<'a>, OutOfMemory>
+    ensures { IfOk result (λ v. meant v ≡ meant value.now) }
+{
+    match value {
+        Value::Invalid => Ok(Value::Invalid),
+        Value::Item(item) => Ok(Value::Item(copy_of(item))),
+        Value::Collection(kind, items) => {
+            let items = copy_items(alloc, items.as_slice())?;
+            Ok(Value::Collection(*kind, items))
+        }
+    }
+}
+
+/// The same items again.
+fn copy_items<'a>(alloc: Global, items: &[Item<'a>]) -> Result<Vec<Item<'a>>, OutOfMemory>
+    ensures { IfOk result (λ v. meant_items v.items ≡ meant_items items.now) }
+{
+    let mut copies = Vec::with_capacity(alloc, items.len())?;
+    for item in items {
+        push(&mut copies, copy_of(item))?;
+    }
+    Ok(copies)
 }

@@ -1,5 +1,11 @@
 //! What a rule says of an object.
 
+ghost use Rattle.std.specs.Prelude.{◌≡◌};
+ghost use Rattle.rule_machine.specs.Meant.{meant};
+ghost use Rattle.rule_machine.specs.Verdict.{verdict_of};
+
+use crate::value::{Item, Value};
+
 /// What a rule says of an object.
 #[derive(Clone, Copy, Debug, PartialEq, Eq)]
 pub enum Verdict {
@@ -9,4 +15,20 @@ pub enum Verdict {
     Fails,
     /// The rule is null or invalid there.
     Undecided,
+}
+
+/// The verdict of a value.
+pub(crate) fn verdict_of(value: &Value<'_>) -> Verdict
+    ensures { result ≡ verdict_of (meant value.now) }
+{
+    match value {
+        Value::Item(Item::Bool(truth)) => {
+            if *truth {
+                Verdict::Holds
+            } else {
+                Verdict::Fails
+            }
+        }
+        _ => Verdict::Undecided,
+    }
 }

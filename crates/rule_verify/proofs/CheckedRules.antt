@@ -1,11 +1,9 @@
 -- The rules of a unit, and what is known where they are accepted.
-use Rattle.std.proofs.Common.{◌≡◌, ℕ, zero, suc, ◌+◌, ◌-◌, ◌<◌, ◌≤◌, true, false, List, [], ◌∷◌, ◌++◌, length, get_or, drop, Result, Ok, Err, Option, Some, None, refl, sym, ap, ◌∙◌, subst, arith, append_assoc, zero-add}
+use Rattle.std.proofs.Common.{◌≡◌, ℕ, zero, suc, ◌+◌, ◌-◌, ◌<◌, ◌≤◌, List, [], ◌∷◌, ◌++◌, length, get_or, drop, Result, Ok, Err, Option, Some, None, refl, sym, ap, ◌∙◌, subst, arith, append_assoc, zero-add}
 use Rattle.std.specs.Prelude.{slice_get, slice_range, unwrap_or, All}
-use Rattle.std.specs.Option.{option_map_or}
 use Rattle.std.specs.List.{AllByRecursion}
 use Rattle.std.proofs.lemmas.List.{drop_more, drop_all, take_all, append-nil}
-use Rattle.std.proofs.lemmas.Option.{get_or_from_slice_get, slice_get_within}
-use Rattle.std.proofs.lemmas.Bool.{false≢true}
+use Rattle.std.proofs.lemmas.Option.{get_or_from_slice_get}
 use Rattle.std.proofs.Math.Nat.{zero-max}
 use Rattle.imkl_model.specs.ClassModel.{Model}
 use Rattle.ocl_base.specs.Steps.{◌>>=◌, found, Fails}
@@ -14,16 +12,14 @@ use Rattle.ocl_kinds.specs.declared.kind.Kind.{Kind}
 use Rattle.ocl_kinds.specs.declared.kind.Kind.TheVariants.{Scalar}
 use Rattle.ocl_kinds.specs.declared.kind.ScalarKind.TheVariants as element
 use Rattle.rule_code.specs.declared.instruction.Instr.{Instr}
-use Rattle.rule_code.specs.declared.symbol.Symbol.{Symbol}
-use Rattle.rule_code.specs.declared.symbol.SymbolTag.{SymbolTag}
 use Rattle.rule_code.specs.declared.symbol.SymbolTag.TheVariants as tags
 use Rattle.rule_code.specs.declared.kind.WrittenScalar.{WrittenScalar}
 use Rattle.rule_code.specs.declared.kind.WrittenScalar.TheVariants as scalars
 use Rattle.rule_code.specs.declared.kind.WrittenKind.TheVariants as kinds
-use Rattle.rule_code.specs.SymbolTag.{is_symbol_of, has_tag}
 use Rattle.rule_code.specs.InstrRows.{FieldValue, symbol_field, scalar_field, collection_field, kind_field, row_of}
 use Rattle.rule_code.specs.WellFormed.{ScalarKindFits, FieldFits, InstrFits}
 use Rattle.rule_code.specs.Content.{Content, RuleContent}
+use Rattle.rule_code.proofs.ForAbove.{is_symbol_of-lt}
 use Rattle.rule_verify.specs.declared.fault.Flaw.TheVariants as flaws
 use Rattle.rule_verify.specs.declared.fault.VerifyFault.{VerifyFault}
 use Rattle.rule_verify.specs.declared.fault.VerifyFault.TheVariants.{At, OutOfMemory}
@@ -43,21 +39,14 @@ use Rattle.rule_verify.proofs.Stretches.{code_tree_count}
 
 -- ---- the symbols of code
 
-number_is : (o : Option Symbol) (symbols : List Symbol) (tag : SymbolTag) (n : ℕ) → slice_get symbols n ≡ o → option_map_or (has_tag tag) o false ≡ true → n < length symbols
-number_is None symbols tag n e h = absurd (false≢true h)
-number_is (Some s) symbols tag n e h = slice_get_within symbols n s e
-
-number_there : (symbols : List Symbol) (tag : SymbolTag) (n : ℕ) → is_symbol_of tag symbols n ≡ true → n < length symbols
-number_there symbols tag n h = number_is (slice_get symbols n) symbols tag n refl h
-
 module _ (texts : ℕ) (u : Content) where
   scalar_there : (k : WrittenScalar) → ScalarKindFits u.symbols k → AreSymbols u (scalar_symbols k)
-  scalar_there (scalars.Enumeration s) h = (number_there u.symbols tags.Enumeration s.0 h, tt)
-  scalar_there (scalars.Class s) h = (number_there u.symbols tags.Class s.0 h, tt)
+  scalar_there (scalars.Enumeration s) h = (is_symbol_of-lt tags.Enumeration u.symbols s.0 h, tt)
+  scalar_there (scalars.Class s) h = (is_symbol_of-lt tags.Class u.symbols s.0 h, tt)
   scalar_there k h = tt
 
   field_there : (f : FieldValue) → FieldFits texts u.symbols f → AreSymbols u (field_symbols f)
-  field_there (symbol_field tag n) h = (number_there u.symbols tag n h, tt)
+  field_there (symbol_field tag n) h = (is_symbol_of-lt tag u.symbols n h, tt)
   field_there (scalar_field k) h = scalar_there k h
   field_there (collection_field c k) h = scalar_there k h
   field_there (kind_field (kinds.Scalar k)) h = scalar_there k h

@@ -4,7 +4,7 @@ use Rattle.imkl_model.specs.ClassModel.{Model}
 use Rattle.imkl_model.specs.WellFormed.{IsClassModel}
 use Rattle.ocl_kinds.specs.declared.kind.Kind.{Kind}
 use Rattle.ocl_kinds.specs.declared.kind.Kind.TheVariants.{Scalar, Collection}
-use Rattle.ocl_kinds.specs.Kinds.{IsScalarKindOf, IsKindOf}
+use Rattle.ocl_kinds.specs.Kinds.{IsScalarKindOf, IsKindOf, elements_kind}
 use Rattle.ocl_kinds.proofs.ForAbove.{features_have_kinds}
 use Rattle.rule_code.specs.declared.instruction.Instr.{Instr}
 use Rattle.rule_code.specs.declared.instruction.Instr.TheVariants as instrs
@@ -18,7 +18,7 @@ use Rattle.rule_verify.specs.declared.named.Named.TheVariants as named
 use Rattle.rule_verify.specs.Known.{IsKnownName, AreKnownKinds}
 use Rattle.rule_verify.specs.Symbols.{named_at}
 use Rattle.rule_verify.specs.Patterns.{IsPatternOf, ArePatterns}
-use Rattle.rule_verify.specs.InstrKinds.{Surroundings, class_kind, enumeration_kind, literal_kind, owner_kind, feature_read, scalar_meant, kind_meant, operands_of, variable_at, or_void, element_of, topmost, result_kind, binds, ends_with, yields}
+use Rattle.rule_verify.specs.InstrKinds.{Surroundings, class_kind, enumeration_kind, literal_kind, owner_kind, feature_read, scalar_meant, kind_meant, operands_of, variable_at, or_void, topmost, result_kind, binds, ends_with, yields}
 use Rattle.rule_verify.proofs.Stretches.{named_known}
 
 -- ---- names
@@ -53,7 +53,7 @@ variable_known m (k ∷ ks) n h = by_test (n == length ks) (variable_known m ks 
     by_test true g = h.0
     by_test false g = g
 
-element_known : (m : Model) (k : Kind) → IsKindOf m k → IsScalarKindOf m (element_of k)
+element_known : (m : Model) (k : Kind) → IsKindOf m k → IsScalarKindOf m (elements_kind k)
 element_known m (Scalar k) h = h
 element_known m (Collection c k) h = h
 

@@ -4,7 +4,7 @@ use Rattle.std.specs.Prelude.{slice_get, option_and_then, nat_le, if◌then◌el
 use Rattle.std.specs.Option.{option_map}
 use Rattle.std.proofs.lemmas.Bool.{and_parts, leb-true, le-leb, lt-leb}
 use Rattle.std.proofs.lemmas.List.{length-map, length-take, take-take, drop-drop, drop_more, drop-take}
-use Rattle.std.proofs.lemmas.Option.{get_or_from_slice_get}
+use Rattle.std.proofs.lemmas.Option.{IfSome_then, get_or_from_slice_get}
 use Rattle.std.proofs.lemmas.List.Quantifiers.{position-Some}
 use Rattle.imkl_model.specs.ClassModel.{Model, class_number, enumeration_number, feature_number, literal_number, class_names, enumeration_names, enumeration_at, is_named, belongs}
 use Rattle.ocl_base.proofs.ForAbove.{least_passes}
@@ -40,22 +40,17 @@ position_within name names = by_place (position (bytes_eq name) names) refl
     by_place (Some k) e = (position-Some (bytes_eq name) names k [] e).0
     by_place None e = tt
 
-if_weaker : {A : Type 0} (o : Option A) (P Q : A → Type 0) → ((x : A) → P x → Q x) → IfSome o P → IfSome o Q
-if_weaker (Some x) P Q go h = go x h
-if_weaker None P Q go h = tt
-
 class_known : (m : Model) (name : List ℕ) → IfSome (class_number m name) (λ c. c < length m.classes)
 class_known m name =
-    if_weaker (class_number m name) (λ c. c < length (class_names m)) (λ c. c < length m.classes) (λ c lt. omega (arith, lt, length-map m.classes (λ x. x.name))) (position_within name (class_names m))
+    IfSome_then (class_number m name) (position_within name (class_names m)) (λ c lt. omega (arith, lt, length-map m.classes (λ x. x.name)))
 
 enumeration_known : (m : Model) (name : List ℕ) → IfSome (enumeration_number m name) (λ e. e < length m.enumerations)
 enumeration_known m name =
-    if_weaker (enumeration_number m name) (λ e. e < length (enumeration_names m)) (λ e. e < length m.enumerations) (λ e lt. omega (arith, lt, length-map m.enumerations (λ x. x.name))) (position_within name (enumeration_names m))
+    IfSome_then (enumeration_number m name) (position_within name (enumeration_names m)) (λ e lt. omega (arith, lt, length-map m.enumerations (λ x. x.name)))
 
 feature_known : (m : Model) (c : ℕ) (name : List ℕ) → IfSome (feature_number m c name) (λ f. (f < length m.features) × (belongs m c f ≡ true))
 feature_known m c name =
-    if_weaker (feature_number m c name) (λ f. (f < length m.features) × ((is_named m name f && belongs m c f) ≡ true)) (λ f. (f < length m.features) × (belongs m c f ≡ true))
-    (λ f h. (h.0, (and_parts (is_named m name f) (belongs m c f) h.1).1)) (least_passes (λ f. is_named m name f && belongs m c f) (length m.features))
+    IfSome_then (feature_number m c name) (least_passes (λ f. is_named m name f && belongs m c f) (length m.features)) (λ f h. (h.0, (and_parts (is_named m name f) (belongs m c f) h.1).1))
 
 by_symbol : (m : Model) (texts : List (List ℕ)) (s : Symbol) → IfSome (named_by m texts s) (IsKnownName m)
 by_symbol m texts (symbols.Class c) =

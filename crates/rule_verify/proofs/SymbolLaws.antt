@@ -1,9 +1,9 @@
 -- What is read of linked units.
-use Rattle.std.proofs.Common.{◌≡◌, ℕ, zero, suc, get_or, ◌<◌, List, [], ◌∷◌, length, Option, Some, None, map, refl, sym, ap, ◌∙◌, subst, IfSome, arith}
+use Rattle.std.proofs.Common.{◌≡◌, ℕ, get_or, ◌<◌, List, [], ◌∷◌, length, Option, Some, None, map, refl, sym, ap, ◌∙◌, subst, IfSome, arith}
 use Rattle.std.specs.Prelude.{slice_get, option_and_then}
 use Rattle.std.specs.Option.{option_map}
 use Rattle.std.proofs.lemmas.List.{length-map}
-use Rattle.std.proofs.lemmas.Option.{slice_get_read}
+use Rattle.std.proofs.lemmas.Option.{slice_get_read, slice_get-map}
 use Rattle.imkl_model.specs.ClassModel.{Model}
 use Rattle.rule_verify.proofs.Stretches.{named_known}
 use Rattle.rule_code.specs.Content.{Content}
@@ -11,11 +11,6 @@ use Rattle.rule_verify.specs.declared.named.Named.{Named}
 use Rattle.rule_verify.specs.Symbols.{named_by, named_at}
 use Rattle.rule_verify.specs.Known.{IsKnownName}
 use Rattle.rule_verify.specs.Linked.{LinkedUnit, linked_unit}
-
-get-map : {X Y : Type 0} (f : X → Y) (xs : List X) (i : ℕ) (y : Y) → slice_get (map f xs) i ≡ Some y → option_map f (slice_get xs i) ≡ Some y
-get-map f [] i y e = cc
-get-map f (x ∷ xs) zero y e = e
-get-map f (x ∷ xs) (suc i) y e = get-map f xs i y e
 
 joined : {X Y : Type 0} (f : X → Option Y) (o : Option X) (r : Option Y) → option_map f o ≡ Some r → option_and_then f o ≡ r
 joined f (Some x) r e = cc
@@ -27,7 +22,7 @@ name_read m u names n i r is e lt read =
     let within : i < length names = omega (arith, e, lt, ap length is, length-map u.symbols (named_by m u.texts)) in
     let here = slice_get_read names (length names) i r refl within read in
     let there = ap (λ (l : List (Option Named)). slice_get l i) (sym is) ∙ here in
-    ap (named_at m u) (sym e) ∙ joined (named_by m u.texts) (slice_get u.symbols i) r (get-map (named_by m u.texts) u.symbols i r there)
+    ap (named_at m u) (sym e) ∙ joined (named_by m u.texts) (slice_get u.symbols i) r (sym (slice_get-map (named_by m u.texts) u.symbols i) ∙ there)
 
 pub known_read : (v : LinkedUnit) (m : Model) (u : Content) (names : List (Option Named)) (n i : ℕ) (r : Option Named) → linked_unit m u ≡ v → names ≡ map (named_by m u.texts) u.symbols → i ≡ n → n < length v.unit.symbols → r ≡ get_or names i r → IfSome r (IsKnownName v.model)
 known_read v m u names n i r same is e lt read =

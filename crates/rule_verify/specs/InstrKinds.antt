@@ -8,7 +8,7 @@ use Rattle.ocl_kinds.specs.declared.kind.ScalarKind.{ScalarKind}
 use Rattle.ocl_kinds.specs.declared.kind.ScalarKind.TheVariants as element
 use Rattle.ocl_kinds.specs.declared.kind.Kind.{Kind}
 use Rattle.ocl_kinds.specs.declared.kind.Kind.TheVariants.{Scalar, Collection}
-use Rattle.ocl_kinds.specs.Kinds.{feature_kind}
+use Rattle.ocl_kinds.specs.Kinds.{feature_kind, elements_kind, collected_kind}
 use Rattle.rule_code.specs.declared.instruction.Instr.{Instr}
 use Rattle.rule_code.specs.declared.instruction.Instr.TheVariants as instrs
 use Rattle.rule_code.specs.declared.kind.WrittenScalar.{WrittenScalar}
@@ -172,10 +172,6 @@ has_variable vars i = true
 
 -- ---- results
 
-abbrev pub element_of : Kind → ScalarKind
-element_of (Scalar k) = k
-element_of (Collection c k) = k
-
 abbrev pub topmost : List Kind → Kind
 topmost [] = Scalar element.Void
 topmost (k ∷ ks) = k
@@ -233,7 +229,7 @@ result_kind s vars (instrs.Attr a) ks = feature_read s.model (named_at s.model s
 result_kind s vars (instrs.All c) ks = Collection collection.Set (class_kind (named_at s.model s.unit c.0))
 result_kind s vars (instrs.AsColl c k) ks = Collection c (scalar_meant s k)
 result_kind s vars (instrs.AsType c) ks = Scalar (class_kind (named_at s.model s.unit c.0))
-result_kind s vars (instrs.AsSet k) ks = Collection collection.Set (element_of (topmost ks))
+result_kind s vars (instrs.AsSet k) ks = Collection collection.Set (elements_kind (topmost ks))
 result_kind s vars i ks = fixed_result i
 
 -- ---- blocks
@@ -241,7 +237,7 @@ result_kind s vars i ks = fixed_result i
 -- the variable that a block with one body binds, by the operand that it takes
 abbrev pub binds : Instr → Kind → Kind
 binds (instrs.Let n) k = k
-binds i k = Scalar (element_of k)
+binds i k = Scalar (elements_kind k)
 
 -- what the bodies of a block end with
 abbrev pub ends_with : Surroundings → Instr → Pattern
@@ -252,11 +248,10 @@ ends_with s (instrs.CollectFlat n) = AnyCollection
 ends_with s (instrs.IsUnique k n) = Fitting (Scalar (scalar_meant s k))
 ends_with s i = a_boolean
 
--- what is collected of a collection: a Bag of a Set or a Bag, a Sequence of the others
+-- the kind of what is collected from the operand of a block; of a single value, which none takes, a Bag
 abbrev pub collected : Kind → CollectionKind
-collected (Collection collection.OrderedSet k) = collection.Sequence
-collected (Collection collection.Sequence k) = collection.Sequence
-collected k = collection.Bag
+collected (Scalar k) = collection.Bag
+collected (Collection c k) = collected_kind c
 
 -- what a block gives, by the operand that it takes and by what its body ends with
 abbrev pub yields : Surroundings → Instr → Kind → Kind → Kind
@@ -264,8 +259,8 @@ yields s (instrs.Let n) k r = r
 yields s (instrs.If w n m) k r = kind_meant s w
 yields s (instrs.Select n) k r = k
 yields s (instrs.Reject n) k r = k
-yields s (instrs.Collect n) k r = Collection (collected k) (element_of r)
-yields s (instrs.CollectFlat n) k r = Collection (collected k) (element_of r)
+yields s (instrs.Collect n) k r = Collection (collected k) (elements_kind r)
+yields s (instrs.CollectFlat n) k r = Collection (collected k) (elements_kind r)
 yields s i k r = Scalar element.Boolean
 
 -- ---- memory

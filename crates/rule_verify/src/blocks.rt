@@ -10,7 +10,7 @@ use crate::meant::{kind_meant, scalar_meant};
 use crate::pattern::Pattern;
 use crate::shape::Shape;
 use imkl_model::CollectionKind;
-use ocl_kinds::{Kind, ScalarKind};
+use ocl_kinds::{Kind, ScalarKind, collected_kind, elements_kind};
 use rule_code::Instr;
 
 /// How many bodies an instruction has, with the number of instructions of each.
@@ -32,24 +32,13 @@ pub fn shape_of(instr: Instr) -> Shape
     }
 }
 
-/// The kind of one element of a collection, or of the value itself.
-pub(crate) fn element_of(kind: &Kind) -> ScalarKind
-    ensures { result ≡ spec.element_of kind.now }
-{
-    match kind {
-        Kind::Scalar(element) | Kind::Collection(_, element) => *element,
-    }
-}
-
-/// What is collected of a collection: a Bag of a Set or a Bag, a Sequence of the others.
+/// The kind of what is collected from the operand of a block.
 fn collected(kind: &Kind) -> CollectionKind
     ensures { result ≡ spec.collected kind.now }
 {
     match kind {
-        Kind::Collection(CollectionKind::OrderedSet | CollectionKind::Sequence, _) => {
-            CollectionKind::Sequence
-        }
-        _ => CollectionKind::Bag,
+        Kind::Scalar(_) => CollectionKind::Bag,
+        Kind::Collection(source, _) => collected_kind(*source),
     }
 }
 
@@ -59,7 +48,7 @@ pub(crate) fn binds(instr: Instr, operand: &Kind) -> Kind
 {
     match instr {
         Instr::Let(_) => *operand,
-        _ => Kind::Scalar(element_of(operand)),
+        _ => Kind::Scalar(elements_kind(operand)),
     }
 }
 
@@ -88,7 +77,7 @@ pub(crate) fn yields(rule: &RuleCode<'_, '_>, instr: Instr, operand: &Kind, ende
         Instr::If(kind, _, _) => kind_meant(rule, kind),
         Instr::Select(_) | Instr::Reject(_) => *operand,
         Instr::Collect(_) | Instr::CollectFlat(_) => {
-            Kind::Collection(collected(operand), element_of(ended))
+            Kind::Collection(collected(operand), elements_kind(ended))
         }
         _ => Kind::Scalar(ScalarKind::Boolean),
     }

@@ -5,12 +5,11 @@ ghost use Rattle.ocl_kinds.specs.declared.kind.Kind.{Kind};
 ghost use Rattle.rule_verify.specs.InstrKinds as spec;
 ghost use Rattle.rule_verify.specs.Walk.{surroundings_of, AreSymbols};
 
-use crate::blocks::element_of;
 use crate::judged::RuleCode;
 use crate::meant::{class_kind, feature_read, literal_kind, scalar_meant};
 use crate::stack::Stack;
 use imkl_model::CollectionKind;
-use ocl_kinds::{Kind, ScalarKind};
+use ocl_kinds::{Kind, ScalarKind, elements_kind};
 use rule_code::Instr;
 
 /// What an instruction without a body gives that depends on none of its fields and of its operands: a Boolean, an Integer, a
@@ -61,7 +60,7 @@ pub(crate) fn result_kind(
         Instr::All(symbol) => Kind::Collection(CollectionKind::Set, class_kind(rule, symbol)),
         Instr::AsColl(collection, kind) => Kind::Collection(collection, scalar_meant(rule, kind)),
         Instr::AsType(symbol) => Kind::Scalar(class_kind(rule, symbol)),
-        Instr::AsSet(_) => Kind::Collection(CollectionKind::Set, element_of(topmost)),
+        Instr::AsSet(_) => Kind::Collection(CollectionKind::Set, elements_kind(topmost)),
         _ => fixed_result(instr),
     }
 }

@@ -8,7 +8,6 @@ ghost use Rattle.rule_verify.specs.Known.{AreKnownKinds};
 ghost use Rattle.rule_verify.specs.Patterns.{ArePatterns};
 ghost use Rattle.rule_verify.specs.Walk.{surroundings_of, operand_list, AreSymbols, AreTaken, Leads, IsRuleCode};
 
-use crate::blocks::element_of;
 use crate::fault::{Flaw, VerifyFault};
 use crate::judged::RuleCode;
 use crate::operands::operands_of;
@@ -16,7 +15,7 @@ use crate::pattern::{Operands, Pattern, matches};
 use crate::stack::Stack;
 use crate::symbols_used::has_names;
 use imkl_model::ClassModel;
-use ocl_kinds::{Kind, ScalarKind};
+use ocl_kinds::{Kind, ScalarKind, elements_kind};
 use rule_code::Instr;
 use std::alloc::AllocError;
 
@@ -112,7 +111,7 @@ pub(crate) fn put(kinds: &mut Stack<Kind>, kind: Kind) -> Result<(), AllocError>
     ensures { OnOk result (kinds.new ≡ kind ∷ kinds.old) }
 {
     // The check takes in the type of a kind's elements only where a variable has it.
-    let _element = element_of(&kind);
+    let _element = elements_kind(&kind);
     kinds.push(kind)?;
     Ok(())
 }

@@ -14,7 +14,7 @@ ghost use Rattle.rule_verify.specs.Patterns.{IsPatternOf};
 ghost use Rattle.rule_verify.specs.Walk as walks;
 ghost use Rattle.rule_verify.specs.Walk.{surroundings_of, AreSymbols, IsRuleCode, IsPlace, kinds_from, depth_at, Goes, IsBlock, Opens, body_ends, Walked};
 
-use crate::blocks::{binds, element_of, ends_with, shape_of, yields};
+use crate::blocks::{binds, ends_with, shape_of, yields};
 use crate::depths::Depths;
 use crate::fault::{Flaw, VerifyFault};
 use crate::judged::RuleCode;
@@ -24,7 +24,7 @@ use crate::results::result_kind;
 use crate::shape::Shape;
 use crate::stack::Stack;
 use crate::taking::{put, take, topmost};
-use ocl_kinds::Kind;
+use ocl_kinds::{Kind, elements_kind};
 use rule_code::Instr;
 use std::alloc::Global;
 
@@ -251,7 +251,7 @@ fn block(
         walk.new.variables walk.new.depths operands.new }
 {
     let operand = open_block(rule, walk, place, operands, instr, length)?;
-    let _element = element_of(&operand);
+    let _element = elements_kind(&operand);
     put(&mut walk.variables, binds(instr, &operand))?;
     let end = place.at + 1 + length;
     let inner = inside(place, operands, place.at + 1, end);
@@ -285,7 +285,7 @@ fn branches(
         unreachable!()
     };
     let operand = open_block(rule, walk, place, operands, instr, length)?;
-    let _element = element_of(&operand);
+    let _element = elements_kind(&operand);
     let middle = place.at + 1 + lengths.0;
     let end = middle + lengths.1;
     let first = inside(place, operands, place.at + 1, middle);

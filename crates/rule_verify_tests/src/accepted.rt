@@ -1,13 +1,13 @@
 //! What is read of an accepted unit.
 
 use crate::files::{HEAD, MODEL};
-use crate::hex::bytes_of;
 use imkl_model::ClassModel;
 use imkl_population::PopulationBuilder;
 use rule_code::{SymbolNumber, Unit, read_unit};
 use rule_verify::{Accepted, Depths, Named, verify};
 use std::alloc::{AllocError, Global};
 use std::test::*;
+use test_support::bytes_of;
 
 /// ALL, SELECT with BOOL 1, FORALL with GET 1, ATTR depth, UNDEF.
 const RULE: &str = "0007 0a0000 450001 0401 420003 020001 090005 2a";

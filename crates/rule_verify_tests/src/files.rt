@@ -1,10 +1,10 @@
 //! The class model and the files that the tests verify.
 
-use crate::hex::bytes_of;
 use imkl_model::ClassModel;
 use rule_code::{Unit, read_unit};
 use rule_verify::{VerifyFault, verify};
 use std::alloc::{AllocError, Global};
+use test_support::bytes_of;
 
 /// Things with a depth and tags; cables, and things that are two things at once.
 pub const MODEL: &str = r#"{"model":"m","enums":[{"name":"Mood","literals":["calm"]}],"classes":[

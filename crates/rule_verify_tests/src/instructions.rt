@@ -1,10 +1,10 @@
 //! For each instruction the smallest rule that is accepted, and one for each fault that it can have.
 
 use crate::files::{MODEL, answer_to};
-use crate::hex::bytes_of;
 use imkl_model::ClassModel;
 use std::alloc::{AllocError, Global};
 use std::test::*;
+use test_support::bytes_of;
 
 /// Rules in hexadecimal digits, the count of their instructions first, and what verifying answers. A line that begins with `#` says
 /// what those below it are.

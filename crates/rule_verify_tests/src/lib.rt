@@ -6,8 +6,6 @@ mod accepted;
 #[cfg(test)]
 mod files;
 #[cfg(test)]
-mod hex;
-#[cfg(test)]
 mod instructions;
 #[cfg(test)]
 mod limits;

@@ -1,63 +1,46 @@
 //! The command `judge`.
 
-ghost use Rattle.std.specs.Prelude.{◌≡◌, ◌≢◌, ◌⊎◌, false, Ok, OnOk, IfOk, IfErr};
+ghost use Rattle.std.specs.Prelude.{◌≡◌, ◌≢◌, ◌⊎◌, false, Ok, IfOk, IfErr};
 ghost use Rattle.std.specs.Io.KnownBytes.{IsAtEnd};
 ghost use Rattle.rule_code.specs.View.{content};
 ghost use Rattle.ocl_check.specs.declared.outcome.Cause.TheVariants.{Write};
 ghost use Rattle.ocl_check.specs.Reply.{said};
 ghost use Rattle.ocl_check.specs.Answers.{IsAnswered, ReadBy, ReadWithin, fails_write};
-ghost use Rattle.ocl_check.specs.Supported.{unit_supported};
-ghost use Rattle.ocl_check.specs.Judge.{supported_answer, rules_answer, code_answer, delivery_answer, population_of, judge_answer};
+ghost use Rattle.ocl_check.specs.Judge.{rules_answer, code_answer, delivery_answer, population_of, judge_answer};
 
 use crate::input::{MOST_BYTES, read_input};
 use crate::outcome::{Cause, Outcome, say};
 use crate::reply::{Reply, refused_code, refused_delivery, refused_model, refused_verify};
 use crate::report::report;
 use crate::sink::Sink;
-use crate::supported::first_unsupported;
 use imkl_delivery::load;
 use imkl_model::ClassModel;
 use imkl_population::Population;
 use rule_code::{CodeFault, Unit, read_unit};
-use rule_verify::{Accepted, Flaw, VerifyFault, verify};
-use std::alloc::{AllocError, Global};
+use rule_machine::OutOfMemory;
+use rule_verify::{VerifyFault, verify};
+use std::alloc::Global;
 use std::io::Read;
 
-/// The reply to accepted rules on a population.
-fn judge_accepted(
-    alloc: Global,
-    accepted: &Accepted<'_>,
-    population: &Population<'_>,
-) -> Result<Reply, AllocError>
-    requires { population.now.content.model ≡ accepted.now.model }
-    ensures { IfOk result (λ r. said r ≡ supported_answer population.now.content accepted.now.unit
-        (unit_supported accepted.now.model accepted.now.unit)) }
-{
-    match first_unsupported(accepted) {
-        Some((rule, at)) => refused_verify(alloc, Flaw::WrongKind, rule, at),
-        None => report(alloc, accepted, population),
-    }
-}
-
 /// The reply to a unit's rules on a population.
-fn judge_unit(alloc: Global, population: &Population<'_>, unit: Unit) -> Result<Reply, AllocError>
+fn judge_unit(alloc: Global, population: &Population<'_>, unit: Unit) -> Result<Reply, OutOfMemory>
     ensures { IfOk result (λ r. said r ≡ code_answer population.now.content (Ok (content unit))) }
 {
     match verify(alloc, population.model(), unit) {
-        Ok(accepted) => judge_accepted(alloc, &accepted, population),
+        Ok(accepted) => report(alloc, &accepted, population),
         Err((VerifyFault::At { flaw, rule, at }, _unit)) => refused_verify(alloc, flaw, rule, at),
-        Err((VerifyFault::OutOfMemory, _unit)) => Err(AllocError),
+        Err((VerifyFault::OutOfMemory, _unit)) => Err(OutOfMemory),
     }
 }
 
 /// The reply to a code file on a population.
-fn judge_code(alloc: Global, population: &Population<'_>, code: &[u8]) -> Result<Reply, AllocError>
+fn judge_code(alloc: Global, population: &Population<'_>, code: &[u8]) -> Result<Reply, OutOfMemory>
     ensures { IfOk result (λ r. said r ≡ rules_answer population.now.content code.now) }
 {
     match read_unit(alloc, code) {
         Ok(unit) => judge_unit(alloc, population, unit),
         Err(CodeFault::At { flaw, offset }) => refused_code(alloc, flaw, offset),
-        Err(CodeFault::OutOfMemory) => Err(AllocError),
+        Err(CodeFault::OutOfMemory) => Err(OutOfMemory),
     }
 }
 
@@ -67,7 +50,7 @@ fn judge_delivery(
     model: &ClassModel,
     delivery: &[u8],
     code: &[u8],
-) -> Result<Reply, AllocError>
+) -> Result<Reply, OutOfMemory>
     ensures { IfOk result (λ r. said r ≡ delivery_answer
         (population_of model.now delivery.now) code.now) }
 {
@@ -83,7 +66,7 @@ fn judge_inputs(
     model: &[u8],
     delivery: &[u8],
     code: &[u8],
-) -> Result<Reply, AllocError>
+) -> Result<Reply, OutOfMemory>
     ensures { IfOk result (λ r. said r ≡ judge_answer model.now delivery.now code.now) }
 {
     match ClassModel::read(alloc, model) {

@@ -16,35 +16,36 @@ use crate::reply::{Reply, accepted_reply, refused_code, refused_model, refused_v
 use crate::sink::Sink;
 use imkl_model::ClassModel;
 use rule_code::{CodeFault, Unit, read_unit};
+use rule_machine::OutOfMemory;
 use rule_verify::{VerifyFault, verify};
-use std::alloc::{AllocError, Global};
+use std::alloc::Global;
 use std::io::Read;
 
 /// The reply to a unit.
-fn verify_unit(alloc: Global, model: &ClassModel, unit: Unit) -> Result<Reply, AllocError>
+fn verify_unit(alloc: Global, model: &ClassModel, unit: Unit) -> Result<Reply, OutOfMemory>
     ensures { IfOk result (λ r. said r ≡ checked_answer (content unit)
         (check_unit model.now (content unit))) }
 {
     match verify(alloc, model, unit) {
         Ok(accepted) => accepted_reply(alloc, accepted.rules()),
         Err((VerifyFault::At { flaw, rule, at }, _unit)) => refused_verify(alloc, flaw, rule, at),
-        Err((VerifyFault::OutOfMemory, _unit)) => Err(AllocError),
+        Err((VerifyFault::OutOfMemory, _unit)) => Err(OutOfMemory),
     }
 }
 
 /// The reply to a code file.
-fn verify_code(alloc: Global, model: &ClassModel, code: &[u8]) -> Result<Reply, AllocError>
+fn verify_code(alloc: Global, model: &ClassModel, code: &[u8]) -> Result<Reply, OutOfMemory>
     ensures { IfOk result (λ r. said r ≡ verify_code_answer model.now (unit_of code.now)) }
 {
     match read_unit(alloc, code) {
         Ok(unit) => verify_unit(alloc, model, unit),
         Err(CodeFault::At { flaw, offset }) => refused_code(alloc, flaw, offset),
-        Err(CodeFault::OutOfMemory) => Err(AllocError),
+        Err(CodeFault::OutOfMemory) => Err(OutOfMemory),
     }
 }
 
 /// The reply to a class model and a code file.
-fn verify_inputs(alloc: Global, model: &[u8], code: &[u8]) -> Result<Reply, AllocError>
+fn verify_inputs(alloc: Global, model: &[u8], code: &[u8]) -> Result<Reply, OutOfMemory>
     ensures { IfOk result (λ r. said r ≡ verify_answer model.now code.now) }
 {
     match ClassModel::read(alloc, model) {

@@ -1,26 +1,23 @@
-use Rattle.std.proofs.Common.{◌≡◌, ◌++◌, string_bytes, sym, ap, ◌∙◌, arith}
+use Rattle.std.proofs.Common.{◌≡◌, ◌++◌, Some, string_bytes, sym, ap, ◌∙◌, arith}
 use Rattle.imkl_population.specs.Population.{IsInstance}
 use Rattle.rule_verify.specs.UnitRules.{context_class, unit_rule}
-use Rattle.ocl_check.specs.Report.{counted, instances_of, object_line, verdict_on}
-use Rattle.ocl_check.specs.Verdict.{verdict_at}
-use Rattle.ocl_check.proofs.Reports.{each_one, is_context_object, tally_within, tally_next, text_more, line_is, report_is}
+use Rattle.rule_machine.specs.Laws.{verdict_at}
+use Rattle.ocl_check.specs.Report.{instances_of, object_line}
+use Rattle.ocl_check.proofs.Reports.{each_one, is_judged, verdict_is, tally_within, tally_next, text_more, line_is, report_is}
 use Rattle.ocl_check.proofs.report.put_rule.Goals as goal
 
 pub judge-requires-clause-object : goal.judge-requires-clause-object
 judge-requires-clause-object c =
-    (each_one (IsInstance c.args.population.now.content c.context.result) c.instances-objects.result.now c.loop-object.object-index c.object-item.result c.loop-object-test.true c.object-item.is c.instances-objects.ensures.each).0
-
-pub judge-requires-clause-context : goal.judge-requires-clause-context
-judge-requires-clause-context c =
     let u = c.args.accepted.now.unit in
     let p = c.args.population.now.content in
-    is_context_object u p c.args.rule c.context.result c.object-item.result
+    let i = c.loop-object.invariant in
+    is_judged c.loop-object.machine u p c.args.rule c.context.result c.object-item.result i.unit i.population
     (ap (λ m. context_class m u (unit_rule u c.args.rule)) c.requires.one_model ∙ c.context.ensures.class)
     (each_one (IsInstance p c.context.result) c.instances-objects.result.now c.loop-object.object-index c.object-item.result c.loop-object-test.true c.object-item.is c.instances-objects.ensures.each)
 
 pub count-requires : goal.count-requires
 count-requires c =
-    let f = verdict_on c.args.accepted.now.unit c.args.population.now.content c.args.rule in
+    let f = verdict_at c.args.accepted.now.unit c.args.population.now.content c.args.rule in
     omega (arith, tally_within f c.instances-objects.result.now c.loop-object.object-index c.loop-object.tally c.loop-object.invariant.tally, c.loop-object-test.true, c.instances-objects.type_inv.0)
 
 pub loop-object-preserved : goal.loop-object-preserved
@@ -31,13 +28,17 @@ loop-object-preserved c =
     let os = c.instances-objects.result.now in
     let i = c.loop-object.object-index in
     let o = c.object-item.result in
-    let verdict : c.in_ok-verdict.verdict ≡ verdict_on u p r o = c.in_ok-verdict.ensures ∙ ap (λ m. verdict_at u m p r o) (sym c.requires.one_model) in
-    let line = line_is u p r o c.in_ok-verdict.verdict c.rule_name-name.result.now c.id.result.now verdict c.rule_name-name.ensures c.id.ensures in
+    let v = c.in_ok-verdict.verdict in
+    let invariant = c.loop-object.invariant in
+    let verdict : verdict_at u p r o ≡ Some v = verdict_is c.loop-object.machine u p r o (Some v) invariant.unit invariant.population c.in_ok-verdict.ensures.verdict in
+    let line = line_is u p r o (Some v) c.rule_name-name.result.now c.id.result.now verdict c.rule_name-name.ensures c.id.ensures in
     record {
-      text = text_more (object_line u p r) os i o _ (string_bytes c.loop-object.out) _ c.loop-object-test.true c.loop-object.invariant.text
+      unit = c.judge.ensures.task.unit ∙ invariant.unit;
+      population = c.judge.ensures.task.population ∙ invariant.population;
+      text = text_more (object_line u p r) os i o _ (string_bytes c.loop-object.out) _ c.loop-object-test.true invariant.text
           (c.in_ok-put_object.ensures ∙ ap (λ x. string_bytes c.loop-object.out ++ x) (line ∙ ap (object_line u p r) c.object-item.is));
-      tally = c.count.ensures ∙ ap (counted c.loop-object.tally) (verdict ∙ ap (verdict_on u p r) c.object-item.is)
-          ∙ tally_next (verdict_on u p r) os i o c.loop-object.tally c.loop-object-test.true c.loop-object.invariant.tally;
+      tally = c.count.ensures
+          ∙ tally_next (verdict_at u p r) os i o v c.loop-object.tally c.loop-object-test.true (ap (verdict_at u p r) (sym c.object-item.is) ∙ verdict) invariant.tally;
     }
 
 pub returns-clause-text : goal.returns-clause-text

@@ -1,10 +1,13 @@
 use Rattle.std.proofs.Common.{◌≡◌, ◌++◌, map, take, string_bytes}
 use Rattle.std.specs.List.{flat_map}
-use Rattle.ocl_check.specs.Report.{object_line, verdict_on, tally_of}
+use Rattle.rule_machine.specs.Laws.{verdict_at}
+use Rattle.ocl_check.specs.Report.{object_line, tally_of}
 use Rattle.ocl_check.proofs.report.put_rule.Given as goal
 
 abbrev pub invariant-loop-object : goal.invariant-loop-object
 invariant-loop-object l = record {
+  unit : l.machine.unit ≡ l.accepted.unit;
+  population : l.machine.population ≡ l.population.content;
   text : string_bytes l.out ≡ string_bytes l.initial.out ++ flat_map (object_line l.accepted.unit l.population.content l.rule) (take l.object-index l.objects);
-  tally : l.tally ≡ tally_of (map (verdict_on l.accepted.unit l.population.content l.rule) (take l.object-index l.objects));
+  tally : l.tally ≡ tally_of (map (verdict_at l.accepted.unit l.population.content l.rule) (take l.object-index l.objects));
 }

@@ -1,0 +1,5 @@
+use Rattle.std.proofs.Common.{◌≡◌, None}
+use Rattle.rule_machine.proofs.machine.Machine.new.Given as goal
+
+abbrev pub invariant-loop-rule : goal.invariant-loop-rule
+invariant-loop-rule l = record { started : l.state.started ≡ None; count : l.state.count ≡ 0 }

@@ -1,0 +1,144 @@
+//! The machine.
+
+ghost use Rattle.std.specs.Prelude.{◌≡◌, ◌<◌, ℕ, length, IfOk, OnOk, OnErr, Some};
+ghost use Rattle.imkl_population.specs.Population.{IsInstance};
+ghost use Rattle.rule_machine.specs.Machine.{setting_of};
+ghost use Rattle.rule_machine.specs.Laws.{IsAcceptedRun, verdict_at};
+ghost use Rattle.rule_machine.specs.Shown.{IsTask};
+ghost use Rattle.rule_machine.specs.Seen.{IsIdle};
+ghost use Rattle.rule_machine.specs.Contract.{SameTask, IsStarted, IsBegun, Ran, Judged, IsCount};
+
+use crate::memory::OutOfMemory;
+use crate::progress::Progress;
+use crate::state::State;
+use crate::task::Task;
+use crate::verdict::Verdict;
+use imkl_population::{ObjectNo, Population};
+use rule_verify::Accepted;
+use std::alloc::Global;
+use std::marker::Model;
+
+/// A machine for accepted code over a population of its class model. It runs one rule for one object at a time, and a
+/// run can be stopped after any step. Rules are numbered by their indices, from 0.
+#[derive(Drop)]
+pub struct Machine<'a> {
+    alloc: Global,
+    accepted: &'a Accepted<'a>,
+    population: &'a Population<'a>,
+    state: State<'a>,
+}
+
+impl<'a> Model for Machine<'a> {
+    ghost use Rattle.std.specs.Prelude.{◌≡◌, None};
+    ghost use Rattle.rule_machine.specs.Seen.{Seen, seen};
+
+    ghost Value = { Seen };
+
+    ghost view = { λ m. seen m.accepted.now.unit m.population.now.content m.state };
+
+    ghost invariant = { λ m. (m.population.now.content.model ≡ m.accepted.now.model) ×
+        (m.state.started ≡ None → m.state.count ≡ 0) };
+}
+
+impl<'a> Machine<'a> {
+    /// A machine for accepted code, over a population of the same class model, with nothing started. Its stacks have
+    /// room for each rule; where there is no memory for them, it is `OutOfMemory`.
+    pub fn new(
+        alloc: Global,
+        accepted: &'a Accepted<'a>,
+        population: &'a Population<'a>,
+    ) -> Result<Machine<'a>, OutOfMemory>
+        requires one_model { population.now.content.model ≡ accepted.now.model }
+        ensures unit { IfOk result (λ m. m.unit ≡ accepted.entry.now.unit) }
+        ensures population { IfOk result (λ m. m.population ≡ population.entry.now.content) }
+        ensures idle { IfOk result IsIdle }
+    {
+        let mut state = State::new(alloc);
+        for rule in 0..accepted.rules() {
+            state.reserve(accepted.depths(rule))?;
+        }
+        Ok(Machine {
+            alloc,
+            accepted,
+            population,
+            state,
+        })
+    }
+
+    /// Stands before the first step of a rule for an object of its context class, whatever ran before. Where memory
+    /// runs out, the machine is as it was.
+    pub fn start(&mut self, rule: usize, object: ObjectNo) -> Result<(), OutOfMemory>
+        requires rule { rule < length self.old.unit.rules }
+        requires object { IsInstance self.old.population
+            (setting_of self.old.unit self.old.population rule).context object }
+        ensures task { SameTask self.old self.new }
+        ensures begun { OnOk result (IsBegun self.old rule object self.new) }
+        ensures refused { OnErr result (self.new ≡ self.old) }
+    {
+        let task = self.task(rule);
+        self.state.start(task, object)?;
+        Ok(())
+    }
+
+    /// Makes at most so many steps: `Paused` after just so many, where the end isn't reached, or `Done` as soon as it is,
+    /// and again without a step. Where memory runs out, the machine stands before the step that was refused, which the
+    /// next call tries again.
+    pub fn run(&mut self, steps: u64) -> Result<Progress, OutOfMemory>
+        requires { IsStarted self.old }
+        ensures task { SameTask self.old self.new }
+        ensures ran { Ran self.old steps result self.new }
+        ensures started { IsStarted self.new }
+    {
+        let Some(started) = self.state.started else {
+            unreachable!()
+        };
+        let task = self.task(started.rule);
+        self.state.run(task, steps)
+    }
+
+    /// Runs a rule for an object of its context class from the start to the end, and gives its verdict. Where memory
+    /// runs out, the machine is as it was, or stands before the step that was refused.
+    pub fn judge(&mut self, rule: usize, object: ObjectNo) -> Result<Verdict, OutOfMemory>
+        requires rule { rule < length self.old.unit.rules }
+        requires object { IsInstance self.old.population
+            (setting_of self.old.unit self.old.population rule).context object }
+        ensures task { SameTask self.old self.new }
+        ensures judged { Judged self.old rule object result self.new }
+        ensures verdict { IfOk result (λ v. verdict_at self.old.unit self.old.population rule object
+            ≡ Some v) }
+    {
+        let task = self.task(rule);
+        self.state.judge(task, object)
+    }
+
+    /// The steps since the start, at most 2^64-1; 0 before the first start.
+    pub fn steps(&self) -> u64
+        ensures count { IsCount self.now result }
+        ensures idle { IsIdle self.now → result ≡ 0 }
+    {
+        self.state.count
+    }
+
+    /// A rule of the code, over the population.
+    fn task(&self, rule: usize) -> Task<'a>
+        requires { rule < length self.now.unit.rules }
+        ensures task { IsTask result }
+        ensures unit { result.accepted.now.unit ≡ self.now.unit }
+        ensures population { result.population.now.content ≡ self.now.population }
+        ensures rule { result.rule ≡ rule }
+        ensures runs { (o : ℕ) → IsInstance self.now.population (setting_of self.now.unit
+            self.now.population rule).context o →
+            IsAcceptedRun result.accepted.now.unit result.population.now.content rule o }
+    {
+        self.accepted.accepted();
+        self.accepted.unit().well_formed();
+        self.population.consistent();
+        self.population.model().well_formed();
+        Task {
+            alloc: self.alloc,
+            accepted: self.accepted,
+            population: self.population,
+            rule,
+        }
+    }
+}

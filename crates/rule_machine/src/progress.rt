@@ -1,0 +1,12 @@
+//! How far a run came.
+
+use crate::verdict::Verdict;
+
+/// How far a run came.
+#[derive(Clone, Copy, Debug, PartialEq, Eq)]
+pub enum Progress {
+    /// The end isn't reached.
+    Paused,
+    /// The end is reached, with this verdict.
+    Done(Verdict),
+}

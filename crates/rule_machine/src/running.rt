@@ -1,0 +1,85 @@
+//! Runs of a machine.
+
+ghost use Rattle.std.specs.Prelude.{◌≡◌, ◌<◌, IfOk, Some};
+ghost use Rattle.rule_machine.specs.Laws.{IsAcceptedRun, verdict_at};
+ghost use Rattle.rule_machine.specs.Shown.{IsTask, IsTaskOf};
+ghost use Rattle.rule_machine.specs.Seen.{seen_in};
+ghost use Rattle.rule_machine.specs.Contract.{IsStarted, Ran, Judged};
+
+use crate::memory::OutOfMemory;
+use crate::progress::Progress;
+use crate::state::State;
+use crate::task::Task;
+use crate::verdict::Verdict;
+use imkl_population::ObjectNo;
+use std::marker::Brand;
+use std::sync::ledger::{Blank, Ledger};
+
+impl<'a> State<'a> {
+    /// At most so many steps.
+    pub(crate) fn run(&mut self, task: Task<'a>, steps: u64) -> Result<Progress, OutOfMemory>
+        requires task { IsTask task }
+        requires rule { IsTaskOf task self.old }
+        requires stands { IsStarted (seen_in task self.old) }
+        ensures ran { Ran (seen_in task.entry self.old) steps result (seen_in task.entry self.new) }
+        ensures rule { IsTaskOf task.entry self.new }
+        ensures stands { IsStarted (seen_in task.entry self.new) }
+    {
+        let mut left = steps;
+        while left > 0 {
+            if let Some(verdict) = self.ended(task) {
+                return Ok(Progress::Done(verdict));
+            }
+            self.step(task)?;
+            self.count = self.count.saturating_add(1);
+            left -= 1;
+        }
+        match self.ended(task) {
+            Some(verdict) => Ok(Progress::Done(verdict)),
+            None => Ok(Progress::Paused),
+        }
+    }
+
+    /// A whole run for an object.
+    pub(crate) fn judge(&mut self, task: Task<'a>, object: ObjectNo) -> Result<Verdict, OutOfMemory>
+        requires task { IsTask task }
+        requires accepted { IsAcceptedRun task.accepted.now.unit task.population.now.content
+            task.rule object }
+        ensures judged { Judged (seen_in task.entry self.old) task.entry.rule object result
+            (seen_in task.entry self.new) }
+        ensures verdict { IfOk result (λ v. verdict_at task.entry.accepted.now.unit
+            task.entry.population.now.content task.entry.rule object ≡ Some v) }
+    {
+        self.judge_counted::<Brand>(task, object, Blank::new(1))
+    }
+
+    /// A whole run for an object. The book counts its steps, for the proof that it ends; it takes no bytes.
+    fn judge_counted<L: Ledger>(
+        &mut self,
+        task: Task<'a>,
+        object: ObjectNo,
+        blank: Blank,
+    ) -> Result<Verdict, OutOfMemory>
+        requires task { IsTask task }
+        requires accepted { IsAcceptedRun task.accepted.now.unit task.population.now.content
+            task.rule object }
+        requires name { blank.name ≡ L.name }
+        requires parts { blank.parts ≡ L.parts }
+        requires whole { 0 < L.parts }
+        ensures judged { Judged (seen_in task.entry self.old) task.entry.rule object result
+            (seen_in task.entry self.new) }
+        ensures verdict { IfOk result (λ v. verdict_at task.entry.accepted.now.unit
+            task.entry.population.now.content task.entry.rule object ≡ Some v) }
+    {
+        self.start(task, object)?;
+        let (mut book, mut share) = blank.open::<L>();
+        'steps: loop {
+            if let Some(verdict) = self.ended(task) {
+                return Ok(verdict);
+            }
+            self.step(task)?;
+            self.count = self.count.saturating_add(1);
+            book.add(&mut share, 1);
+        }
+    }
+}

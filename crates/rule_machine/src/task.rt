@@ -1,0 +1,31 @@
+//! What a run is over.
+
+ghost use Rattle.std.specs.Prelude.{◌≡◌, ◌<◌, length, All};
+ghost use Rattle.rule_code.specs.WellFormed.{InstrFits};
+ghost use Rattle.rule_machine.specs.Shown.{code_in};
+
+use imkl_population::Population;
+use rule_code::Instr;
+use rule_verify::Accepted;
+use std::alloc::Global;
+
+/// Accepted code, a population of its class model, and the index of a rule.
+#[derive(Clone, Copy)]
+pub(crate) struct Task<'a> {
+    pub(crate) alloc: Global,
+    pub(crate) accepted: &'a Accepted<'a>,
+    pub(crate) population: &'a Population<'a>,
+    pub(crate) rule: usize,
+}
+
+impl<'a> Task<'a> {
+    /// The code of the rule.
+    pub(crate) fn code(self) -> &'a [Instr]
+        requires { self.rule < length self.accepted.now.unit.rules }
+        ensures code { result.now ≡ code_in self.entry }
+        ensures fits { All (InstrFits (length self.entry.accepted.now.unit.texts)
+            self.entry.accepted.now.unit.symbols) result.now }
+    {
+        self.accepted.unit().rule(self.rule).code.as_slice()
+    }
+}

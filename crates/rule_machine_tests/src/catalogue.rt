@@ -1,0 +1,97 @@
+//! The catalogue of cables, ducts and nets, and deliveries for it.
+
+/// The class model.
+pub(crate) const CATALOGUE: &str = r#"{"model":"imkl-profile",
+"enums":[{"name":"Thema","literals":["elektriciteit","water","riool","telecom"]}],
+"classes":[
+{"name":"KabelOfLeiding","abstract":true,"supers":[],"attributes":[
+{"name":"identificatie","type":"String","lower":1,"upper":1,"ordered":false,"unique":true},
+{"name":"diepte","type":"Integer","lower":0,"upper":1,"ordered":false,"unique":true}]},
+{"name":"Elektriciteitskabel","abstract":false,"supers":["KabelOfLeiding"],"attributes":[
+{"name":"spanning","type":"Integer","lower":1,"upper":1,"ordered":false,"unique":true}]},
+{"name":"Waterleiding","abstract":false,"supers":["KabelOfLeiding"],"attributes":[
+{"name":"diameter","type":"Integer","lower":1,"upper":1,"ordered":false,"unique":true}]},
+{"name":"Mantelbuis","abstract":false,"supers":["KabelOfLeiding"],"attributes":[
+{"name":"diameter","type":"Integer","lower":1,"upper":1,"ordered":false,"unique":true}]},
+{"name":"Utiliteitsnet","abstract":false,"supers":[],"attributes":[
+{"name":"thema","type":"Thema","lower":1,"upper":1,"ordered":false,"unique":true}]}],
+"associations":[
+{"name":"omhulling","from":"Mantelbuis","to":"KabelOfLeiding",
+"end":{"name":"omvat","lower":0,"upper":null,"ordered":false},
+"opposite":{"name":"ligtIn","lower":0,"upper":1,"ordered":false}},
+{"name":"bestaatUit","from":"Utiliteitsnet","to":"KabelOfLeiding",
+"end":{"name":"leidingen","lower":1,"upper":null,"ordered":false},
+"opposite":{"name":"net","lower":0,"upper":1,"ordered":false}}]}"#;
+
+/// The cable E1, 600 deep.
+pub(crate) const DEEP_CABLE: &str = r#"{"model":"imkl-profile","objects":[
+{"id":"E1","class":"Elektriciteitskabel",
+"features":{"identificatie":"a","spanning":400,"diepte":600}}]}"#;
+
+/// The cable E1, 599 deep.
+pub(crate) const SHALLOW_CABLE: &str = r#"{"model":"imkl-profile","objects":[
+{"id":"E1","class":"Elektriciteitskabel",
+"features":{"identificatie":"a","spanning":400,"diepte":599}}]}"#;
+
+/// The cable E1, without a depth, in no duct.
+pub(crate) const CABLE_WITHOUT_DEPTH: &str = r#"{"model":"imkl-profile","objects":[
+{"id":"E1","class":"Elektriciteitskabel","features":{"identificatie":"a","spanning":400}}]}"#;
+
+/// The duct M1 holds E1, 600 deep, and E2, without a depth.
+pub(crate) const DUCT: &str = r#"{"model":"imkl-profile","objects":[
+{"id":"M1","class":"Mantelbuis",
+"features":{"identificatie":"m","diameter":110,"omvat":["E1","E2"]}},
+{"id":"E1","class":"Elektriciteitskabel",
+"features":{"identificatie":"a","spanning":400,"diepte":600}},
+{"id":"E2","class":"Elektriciteitskabel","features":{"identificatie":"b","spanning":400}}]}"#;
+
+/// The duct M1 holds E1, 500 deep, and E2, without a depth.
+pub(crate) const DUCT_WITH_SHALLOW: &str = r#"{"model":"imkl-profile","objects":[
+{"id":"M1","class":"Mantelbuis",
+"features":{"identificatie":"m","diameter":110,"omvat":["E1","E2"]}},
+{"id":"E1","class":"Elektriciteitskabel",
+"features":{"identificatie":"a","spanning":400,"diepte":500}},
+{"id":"E2","class":"Elektriciteitskabel","features":{"identificatie":"b","spanning":400}}]}"#;
+
+/// The same with E2 before E1.
+pub(crate) const DUCT_WITH_SHALLOW_LAST: &str = r#"{"model":"imkl-profile","objects":[
+{"id":"M1","class":"Mantelbuis",
+"features":{"identificatie":"m","diameter":110,"omvat":["E2","E1"]}},
+{"id":"E2","class":"Elektriciteitskabel","features":{"identificatie":"b","spanning":400}},
+{"id":"E1","class":"Elektriciteitskabel",
+"features":{"identificatie":"a","spanning":400,"diepte":500}}]}"#;
+
+/// The duct M1 holds two cables, both 600 deep.
+pub(crate) const DUCT_OF_EQUALS: &str = r#"{"model":"imkl-profile","objects":[
+{"id":"M1","class":"Mantelbuis",
+"features":{"identificatie":"m","diameter":110,"omvat":["E1","E2"]}},
+{"id":"E1","class":"Elektriciteitskabel",
+"features":{"identificatie":"a","spanning":400,"diepte":600}},
+{"id":"E2","class":"Elektriciteitskabel",
+"features":{"identificatie":"b","spanning":400,"diepte":600}}]}"#;
+
+/// The duct M1 holds nothing.
+pub(crate) const EMPTY_DUCT: &str = r#"{"model":"imkl-profile","objects":[
+{"id":"M1","class":"Mantelbuis","features":{"identificatie":"m","diameter":110}}]}"#;
+
+/// Two nets; three pipes, each in one of them.
+pub(crate) const NETS: &str = r#"{"model":"imkl-profile","objects":[
+{"id":"N1","class":"Utiliteitsnet","features":{"thema":"water","leidingen":["W1","W2"]}},
+{"id":"N2","class":"Utiliteitsnet","features":{"thema":"water","leidingen":["W3"]}},
+{"id":"W1","class":"Waterleiding","features":{"identificatie":"a","diameter":90}},
+{"id":"W2","class":"Waterleiding","features":{"identificatie":"b","diameter":90}},
+{"id":"W3","class":"Waterleiding","features":{"identificatie":"c","diameter":90}}]}"#;
+
+/// Two nets of different themes; their cable and pipe are identified alike.
+pub(crate) const DIFFERENT_NETS: &str = r#"{"model":"imkl-profile","objects":[
+{"id":"N1","class":"Utiliteitsnet","features":{"thema":"elektriciteit","leidingen":["E1"]}},
+{"id":"N2","class":"Utiliteitsnet","features":{"thema":"water","leidingen":["W1"]}},
+{"id":"E1","class":"Elektriciteitskabel","features":{"identificatie":"x","spanning":400}},
+{"id":"W1","class":"Waterleiding","features":{"identificatie":"x","diameter":90}}]}"#;
+
+/// Cables whose identifications begin in different ways.
+pub(crate) const IDENTIFIED_CABLES: &str = r#"{"model":"imkl-profile","objects":[
+{"id":"E1","class":"Elektriciteitskabel","features":{"identificatie":"n","spanning":400}},
+{"id":"E2","class":"Elektriciteitskabel","features":{"identificatie":"nl.1","spanning":400}},
+{"id":"E3","class":"Elektriciteitskabel","features":{"identificatie":"él","spanning":400}},
+{"id":"E4","class":"Elektriciteitskabel","features":{"identificatie":"é","spanning":400}}]}"#;

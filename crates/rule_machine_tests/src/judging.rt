@@ -1,0 +1,158 @@
+//! From a delivery and code in words to verdicts and steps.
+
+ghost use Rattle.std.specs.Prelude.{◌≡◌, ◌<◌, length};
+ghost use Rattle.imkl_population.specs.Population.{IsInstance};
+ghost use Rattle.rule_machine.specs.Machine.{setting_of};
+ghost use Rattle.rule_machine.specs.Contract.{IsStarted};
+
+use crate::assembly::file_of_rules;
+use crate::catalogue::CATALOGUE;
+use imkl_delivery::load;
+use imkl_model::ClassModel;
+use imkl_population::{ObjectNo, Population};
+use rule_code::{CodeFault, Unit, read_unit};
+use rule_machine::{Machine, OutOfMemory, Progress, Verdict};
+use rule_verify::{Accepted, VerifyFault, verify};
+use std::alloc::Global;
+
+/// Whether a machine that is started comes to a verdict after so many steps, granted one at a time.
+fn ends_after(machine: &mut Machine<'_>, steps: u64, verdict: Verdict) -> Result<bool, OutOfMemory>
+    requires { IsStarted machine.old }
+{
+    for step in 1..steps {
+        if machine.run(1)? != Progress::Paused || machine.steps() != step {
+            return Ok(false);
+        }
+    }
+    Ok(machine.run(1)? == Progress::Done(verdict) && machine.steps() == steps)
+}
+
+/// Writes what a rule says of an object, and after how many steps: `Holds in 4 steps`. The rule is
+/// run once whole, and once granted one step at a time.
+fn put_verdict(
+    machine: &mut Machine<'_>,
+    rule: usize,
+    object: ObjectNo,
+    out: &mut String,
+) -> Result<(), OutOfMemory>
+    requires rule { rule < length machine.old.unit.rules }
+    requires object { IsInstance machine.old.population
+        (setting_of machine.old.unit machine.old.population rule).context object }
+{
+    let verdict = machine.judge(rule, object)?;
+    let steps = machine.steps();
+    write!(out, "{verdict:?} in {steps} steps")?;
+    machine.start(rule, object)?;
+    if !ends_after(machine, steps, verdict)? {
+        write!(out, ", but not one at a time")?;
+    }
+    Ok(())
+}
+
+fn put_verdict_anew(
+    alloc: Global,
+    accepted: &Accepted<'_>,
+    population: &Population<'_>,
+    rule: usize,
+    object: ObjectNo,
+    out: &mut String,
+) -> Result<(), OutOfMemory>
+    requires one_model { population.now.content.model ≡ accepted.now.model }
+    requires rule { rule < length accepted.now.unit.rules }
+    requires object { IsInstance population.now.content
+        (setting_of accepted.now.unit population.now.content rule).context object }
+{
+    let mut machine = Machine::new(alloc, accepted, population)?;
+    put_verdict(&mut machine, rule, object, out)
+}
+
+/// Writes a line for each object of a rule's context class: `E1 Holds in 4 steps`.
+fn put_rule(
+    alloc: Global,
+    accepted: &Accepted<'_>,
+    population: &Population<'_>,
+    rule: usize,
+    out: &mut String,
+) -> Result<(), OutOfMemory>
+    requires one_model { population.now.content.model ≡ accepted.now.model }
+    requires rule { rule < length accepted.now.unit.rules }
+{
+    for object in population.instances(accepted.context(rule)) {
+        let id = population.id(*object);
+        write!(out, "{id} ")?;
+        put_verdict_anew(alloc, accepted, population, rule, *object, out)?;
+        writeln!(out, "")?;
+    }
+    Ok(())
+}
+
+/// The lines of all rules.
+fn lines_of(
+    alloc: Global,
+    accepted: &Accepted<'_>,
+    population: &Population<'_>,
+) -> Result<String, OutOfMemory>
+    requires one_model { population.now.content.model ≡ accepted.now.model }
+{
+    let mut out = String::new(alloc);
+    for rule in 0..accepted.rules() {
+        put_rule(alloc, accepted, population, rule, &mut out)?;
+    }
+    Ok(out)
+}
+
+fn unit_verdicts(
+    alloc: Global,
+    population: &Population<'_>,
+    unit: Unit,
+) -> Result<String, OutOfMemory> {
+    match verify(alloc, population.model(), unit) {
+        Ok(accepted) => lines_of(alloc, &accepted, population),
+        Err((VerifyFault::At { flaw, at, .. }, _unit)) => {
+            Ok(format!(in alloc; "{flaw:?} at {at}")?)
+        }
+        Err((VerifyFault::OutOfMemory, _unit)) => Err(OutOfMemory),
+    }
+}
+
+/// What the rules of a file say of the objects of their context classes; or why it is refused.
+pub(crate) fn file_verdicts(
+    alloc: Global,
+    population: &Population<'_>,
+    bytes: &[u8],
+) -> Result<String, OutOfMemory> {
+    match read_unit(alloc, bytes) {
+        Ok(unit) => unit_verdicts(alloc, population, unit),
+        Err(CodeFault::At { flaw, offset }) => Ok(format!(in alloc; "{flaw:?} at {offset}")?),
+        Err(CodeFault::OutOfMemory) => Err(OutOfMemory),
+    }
+}
+
+fn verdicts_over(
+    alloc: Global,
+    population: &Population<'_>,
+    rules: &str,
+) -> Result<String, OutOfMemory> {
+    let file = file_of_rules(alloc, rules)?;
+    file_verdicts(alloc, population, &file)
+}
+
+fn verdicts_in(
+    alloc: Global,
+    model: &ClassModel,
+    delivery: &str,
+    rules: &str,
+) -> Result<String, OutOfMemory> {
+    match load(alloc, delivery.as_bytes(), model) {
+        Ok(population) => verdicts_over(alloc, &population, rules),
+        Err(fault) => Ok(format!(in alloc; "{fault:?}")?),
+    }
+}
+
+/// What rules say of a delivery for the catalogue: a line for each object of their context classes.
+pub(crate) fn verdicts(alloc: Global, delivery: &str, rules: &str) -> Result<String, OutOfMemory> {
+    match ClassModel::read(alloc, CATALOGUE.as_bytes()) {
+        Ok(model) => verdicts_in(alloc, &model, delivery, rules),
+        Err(fault) => Ok(format!(in alloc; "{fault:?}")?),
+    }
+}

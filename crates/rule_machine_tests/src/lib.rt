@@ -1,0 +1,33 @@
+//! Tests of `rule_machine`, by its public functions.
+#![tactic(auto)]
+
+#[cfg(test)]
+mod assembly;
+#[cfg(test)]
+mod boxes;
+#[cfg(test)]
+mod catalogue;
+#[cfg(test)]
+mod collections;
+#[cfg(test)]
+mod equality;
+#[cfg(test)]
+mod grants;
+#[cfg(test)]
+mod integers;
+#[cfg(test)]
+mod iterations;
+#[cfg(test)]
+mod judging;
+#[cfg(test)]
+mod nesting;
+#[cfg(test)]
+mod objects;
+#[cfg(test)]
+mod rows;
+#[cfg(test)]
+mod texts;
+#[cfg(test)]
+mod truth;
+#[cfg(test)]
+mod worked;

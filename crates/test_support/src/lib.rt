@@ -1,0 +1,6 @@
+//! What the tests of several crates share: bytes written as hexadecimal digits.
+#![tactic(auto)]
+
+mod hex;
+
+pub use hex::bytes_of;
