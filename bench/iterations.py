@@ -1,5 +1,6 @@
 #!/usr/bin/env python3
-"""Writes a code file of four rules with iterations, for deliveries of `generate.py N --links`; prints the steps of a run.
+"""Writes a code file of four rules with iterations, each ten times, for deliveries of `generate.py N --links`; prints
+the steps of all runs.
 
 all_deep:    a duct's cables are all deep enough.
 some_wide:   of a network's pipes some are wide enough, by a selection and its size.
@@ -16,6 +17,7 @@ from generate import CABLES, GROUP, PIPES
 SELF, SIZE, SUM, GE, EQ_INTEGER = b"\x01", b"\x30", b"\x36", b"\x1c", b"\x28\x02"
 GET, INT, ATTR, AS_TYPE, FORALL, EXISTS, SELECT, COLLECT = 0x02, 0x03, 0x09, 0x0E, 0x42, 0x43, 0x45, 0x47
 TEXTS = ["Mantelbuis", "omvat", "Utiliteitsnet", "leidingen", "KabelOfLeiding", "diepte", "Waterleiding", "diameter"]
+TIMES = 10
 DUCT, HELD, NETWORK, PIPES_OF, DEPTH, PIPE, DIAMETER = range(7)
 SYMBOLS = [b"\x01\0\0", b"\x03\0\0\0\1", b"\x01\0\2", b"\x03\0\2\0\3", b"\x03\0\4\0\5", b"\x01\0\6", b"\x03\0\6\0\7"]
 
@@ -60,7 +62,7 @@ def main():
     parser.add_argument("path", help="the code file")
     parser.add_argument("--none", action="store_true", help="no rule")
     given = parser.parse_args()
-    written = [] if given.none else list(rules())
+    written = [] if given.none else [(f"{name}{time}", *rest) for time in range(TIMES) for name, *rest in rules()]
     texts = [text.encode() for text in TEXTS + [name for name, _, _, _ in written]]
     with open(given.path, "wb") as out:
         out.write(b"OCLB" + number(1) + number(len(texts)))

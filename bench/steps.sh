@@ -1,6 +1,6 @@
 #!/bin/sh
-# Nanoseconds a step of judge: four rules with iterations, on a delivery of 200,000 objects that hold one another. What
-# reading takes is measured by a code file without rules, and taken off.
+# Nanoseconds a step of judge: four rules with iterations, each ten times, on a delivery of 200,000 objects that hold one another. What
+# reading takes is measured by a code file without rules, and taken off; of each the best of three runs counts.
 
 here=$(dirname -- "$(readlink -f -- "$0")")
 . "$here/measure.sh"
@@ -8,15 +8,18 @@ here=$(dirname -- "$(readlink -f -- "$0")")
 objects=200000
 python3 "$here/generate.py" "$objects" --links >"$room/delivery.json" || fail "no delivery was written"
 
-# Judges by the code file that iterations.py writes, and keeps its seconds.
+# Judges by the code file that iterations.py writes, and keeps the least seconds.
 judge() {
     kept=$1
     shift
     python3 "$here/iterations.py" "$objects" "$room/rules.code" "$@" >"$room/steps" || fail "no code file was written"
-    measure "$room/$kept" "$program" judge \
-        "$root/examples/catalogue.json" "$room/delivery.json" "$room/rules.code" >"$room/report"
-    status=$?
-    [ "$status" -le 1 ] || fail "judge ended with status $status: $(head -n 1 "$room/report")"
+    for run in 1 2 3; do
+        measure "$room/$kept.$run" "$program" judge \
+            "$root/examples/catalogue.json" "$room/delivery.json" "$room/rules.code" >"$room/report"
+        status=$?
+        [ "$status" -le 1 ] || fail "judge ended with status $status: $(head -n 1 "$room/report")"
+    done
+    cat "$room/$kept".[1-3] | sort -n | head -n 1 >"$room/$kept"
 }
 
 judge reading --none
