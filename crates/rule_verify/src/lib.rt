@@ -32,5 +32,4 @@ pub use memory::may_take_memory;
 pub use named::Named;
 pub use pattern::Pattern;
 pub use shape::Shape;
-pub use stack::Stack;
 pub use verifier::verify;
