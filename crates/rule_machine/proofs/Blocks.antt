@@ -6,13 +6,14 @@ use Rattle.rule_code.specs.declared.instruction.Instr.{Instr}
 use Rattle.rule_code.specs.declared.instruction.Instr.TheVariants as instrs
 use Rattle.rule_verify.specs.declared.pattern.Pattern.{Pattern}
 use Rattle.rule_verify.specs.declared.pattern.Pattern.TheVariants.{Anything, AnyCollection}
-use Rattle.rule_verify.specs.CodeTree.{CodeTree}
+use Rattle.rule_verify.specs.CodeTree.{CodeTree, Block}
 use Rattle.rule_verify.specs.Patterns.{a_boolean}
 use Rattle.rule_verify.specs.InstrKinds.{Surroundings, operands_of}
 use Rattle.rule_cost.specs.Bounds.{block_steps}
 use Rattle.rule_machine.specs.Value.{Value}
-use Rattle.rule_machine.specs.Machine.{Piece, block_opened, opened_over}
-use Rattle.rule_machine.specs.Live.{Place, place, bound_by, HasBody, HasBranches, is_iteration}
+use Rattle.rule_machine.specs.Machine.{Setting, Piece, block_opened, opened_over}
+use Rattle.rule_machine.specs.Places.{Place, place, bound_by, end_place, stand, Mark, Here, Iterating, sequence_marked}
+use Rattle.rule_machine.specs.Live.{HasBody, HasBranches, is_iteration, block_gives}
 
 -- a block with one body is LET or an iteration
 pub data BlockSort (i : Instr) : Type 0 where
@@ -73,3 +74,7 @@ iteration_steps i l b it = refl
 pub iteration_opens : (i : Instr) (body : CodeTree) (v : Value) (q : List Piece) (vars os : List Value) → is_iteration i ≡ true → block_opened i body v q vars os ≡ opened_over i body v q vars os
 iteration_opens (instrs.Let n) body v q vars os it = cc
 iteration_opens i body v q vars os it = refl
+
+pub iteration_marked : (s : Setting) (i : Instr) (body rest : CodeTree) (vps : List Place) (p : Place) (ps : List Place) (ms : List Mark) → is_iteration i ≡ true → sequence_marked s (Block i body rest) vps (p ∷ ps) ms ≡ Iterating p (end_place s body (bound_by i p ∷ vps)) (stand vps ps) ∷ Here (stand vps (block_gives s i body vps p ∷ ps)) ∷ ms
+iteration_marked s (instrs.Let n) body rest vps p ps ms it = cc
+iteration_marked s i body rest vps p ps ms it = refl

@@ -26,7 +26,8 @@ use Rattle.rule_machine.specs.Value.{Element, Value, truth_value, as_element, sa
 use Rattle.rule_machine.specs.Operations.{is_true, is_false, is_invalid}
 use Rattle.rule_machine.specs.Endings.{Source, is_undecided, kept_by, collection_elements, joined, count_true, ending, for_all, exists, collect, collect_flat}
 use Rattle.rule_machine.specs.Machine.{Setting, judged_by}
-use Rattle.rule_machine.specs.Live.{Place, place, long, At, EachAt, yielded, is_iteration}
+use Rattle.rule_machine.specs.Places.{Place, place, long, At, EachAt, yielded}
+use Rattle.rule_machine.specs.Live.{is_iteration}
 use Rattle.rule_machine.proofs.InKinds.{single_at, invalid_at}
 use Rattle.rule_machine.proofs.ValueKinds.{truth_single}
 

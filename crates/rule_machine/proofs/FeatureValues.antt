@@ -40,7 +40,7 @@ use Rattle.rule_machine.specs.Value as value
 use Rattle.rule_machine.specs.Value.{Element, same_element, is_scalar_in, is_element_in, are_elements, is_in}
 use Rattle.rule_machine.specs.Operations.{single_value, feature_value, all_instances}
 use Rattle.rule_machine.specs.Machine.{Setting}
-use Rattle.rule_machine.specs.Live.{place, At, sizes_in}
+use Rattle.rule_machine.specs.Places.{place, At, sizes_in}
 use Rattle.rule_machine.proofs.InKinds.{single_at}
 
 -- ---- lists

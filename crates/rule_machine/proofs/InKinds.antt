@@ -22,7 +22,8 @@ use Rattle.rule_verify.specs.Patterns.{matches, all_match}
 use Rattle.rule_machine.specs.Value as value
 use Rattle.rule_machine.specs.Value.{Element, Value, is_scalar_in, is_element_in, are_elements, is_collection_in, is_in}
 use Rattle.rule_machine.specs.Machine.{Setting, is_what, are_what}
-use Rattle.rule_machine.specs.Live.{Place, place, kinds_of, long, At, AllAt, EachAt, Below, AllBelow}
+use Rattle.rule_machine.specs.Places.{Place, place, kinds_of, long, At, AllAt, EachAt}
+use Rattle.rule_machine.specs.Live.{Below, AllBelow}
 
 -- ---- kinds that fit
 
@@ -93,6 +94,12 @@ module _ (s : Setting) where
   left_at (w ∷ ws) os [] below m a = cc
   left_at (w ∷ ws) [] (p ∷ ps) below m a = absurd a
   left_at (w ∷ ws) (o ∷ os) (p ∷ ps) below m a = left_at ws os ps below (and_parts (matches s.population.model w p.kind) (all_match s.population.model ws (kinds_of ps)) m).1 a.1
+
+  -- and those places are the same ones
+  pub left_above : (ws : List Pattern) (ps below : List Place) → all_match s.population.model ws (kinds_of ps) ≡ true → drop (length ws) (ps ++ below) ≡ drop (length ws) ps ++ below
+  left_above [] ps below m = refl
+  left_above (w ∷ ws) [] below m = cc
+  left_above (w ∷ ws) (p ∷ ps) below m = left_above ws ps below (and_parts (matches s.population.model w p.kind) (all_match s.population.model ws (kinds_of ps)) m).1
 
   -- ---- places
 

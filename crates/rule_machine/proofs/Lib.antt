@@ -6,8 +6,10 @@ pub mod Distinct
 pub mod Results
 pub mod EndingKinds
 pub mod Blocks
+pub mod Marks
 pub mod Moves
 pub mod Runs
+pub mod KindsAfter
 pub mod Bridge
 pub mod Theorems
 pub mod Characters

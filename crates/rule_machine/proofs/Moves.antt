@@ -1,5 +1,5 @@
--- Each step of a configuration that can go on leads to one that can, and takes one from its bound.
-use Rattle.std.proofs.Common.{◌≡◌, ◌⊎◌, ℕ, ◌+◌, ◌*◌, ◌<◌, ◌≤◌, true, false, List, [], ◌∷◌, ◌++◌, length, drop, Option, Some, None, refl, sym, ap, ◌∙◌, subst, inl, inr, ⊎_elim, arith, append_assoc}
+-- Each step of a configuration that can go on leads to one that can, at the marks after the step, and takes one from its bound.
+use Rattle.std.proofs.Common.{◌≡◌, ◌⊎◌, ℕ, ◌+◌, ◌*◌, ◌<◌, ◌≤◌, true, false, List, [], ◌∷◌, ◌++◌, length, drop, Option, Some, None, refl, sym, ap, ◌∙◌, subst, inl, inr, ⊎_elim, arith}
 use Rattle.std.specs.Prelude.{IsSome, option_and_then, if◌then◌else◌}
 use Rattle.std.specs.Option.{option_map}
 use Rattle.std.specs.List.{list_all}
@@ -27,35 +27,42 @@ use Rattle.rule_machine.specs.Value.{Element, Value, element_value, is_element_i
 use Rattle.rule_machine.specs.Endings.{Source, ending}
 use Rattle.rule_machine.specs.Machine.{Setting, judged_by, is_what, are_what, operands_below, result_of, performed, Piece, Sequence, LetEnd, Opened, Turning, Skipped, Configuration, configuration, branched, opened_over, block_opened, turned, step}
 use Rattle.rule_machine.specs.Verdict.{outcome}
-use Rattle.rule_machine.specs.Live.{Place, place, kinds_of, At, AllAt, IsTaken, given, places_left, bound_by, yielded, is_iteration, Kinded, IsOpenIteration, Going, IsThere, IsSettled, flat, Live}
-use Rattle.rule_machine.proofs.Blocks.{BlockSort, is_let, iterates, block_sort, iteration_takes, branch_takes, iteration_binds, iteration_steps, iteration_opens}
-use Rattle.rule_machine.proofs.InKinds.{below_itself, matches_in, match_all, left_at, invalid_at, at_below, all_below, each_joined}
-use Rattle.rule_machine.proofs.Results.{results}
+use Rattle.rule_machine.specs.Places.{Place, place, kinds_of, At, AllAt, given, places_left, bound_by, yielded, end_place, Stand, stand, Mark, Here, Iterating, now_at, sequence_marked, marked, marks_for, AllHeldAt}
+use Rattle.rule_machine.specs.Live.{IsTaken, is_iteration, block_gives, branch_gives, Kinded, IsOpenIteration, IsOneBoolean, Going, IsThere, IsSettled, Live}
+use Rattle.rule_machine.proofs.Blocks.{BlockSort, is_let, iterates, block_sort, iteration_takes, branch_takes, iteration_binds, iteration_steps, iteration_opens, iteration_marked}
+use Rattle.rule_machine.proofs.InKinds.{matches_in, match_all, left_at, left_above, invalid_at, all_below, each_joined}
+use Rattle.rule_machine.proofs.Results.{results, given_above}
 use Rattle.rule_machine.proofs.EndingKinds.{ending_at}
+use Rattle.rule_machine.proofs.Marks.{marks_left, as_many, marks_are}
 
 -- it has a verdict, or a next step with a smaller bound
-abbrev pub Moves : Setting → Configuration → ℕ → Type 0
-Moves s c n = IsSome (outcome c) ⊎ ((d : Configuration) × (m : ℕ) × (step s c ≡ Some d) × (m < n) × Live s d m)
+abbrev pub Moves : Setting → Configuration → List Mark → ℕ → Type 0
+Moves s c ms n = IsSome (outcome c) ⊎ ((d : Configuration) × (m : ℕ) × (step s c ≡ Some d) × (m < n) × Live s d (marks_for d (marked s c.pending ms)) m)
 
 -- ---- configurations
 
 module _ (s : Setting) (model : IsClassModel s.population.model) (population : IsConsistent s.population) where
-  dearer : (c : Configuration) (m n : ℕ) → m ≤ n → Live s c m → Live s c n
-  dearer c m n le l =
-      record { variables = l.variables; segments = l.segments; variables_at = l.variables_at; operands_at = l.operands_at; settled = l.settled; cost = l.cost; within = omega (arith, le, l.within); going = l.going }
+  dearer : (c : Configuration) (ms : List Mark) (m n : ℕ) → m ≤ n → Live s c ms m → Live s c ms n
+  dearer c ms m n le l =
+      record { variables_at = l.variables_at; operands_at = l.operands_at; settled = l.settled; cost = l.cost; within = omega (arith, le, l.within); going = l.going }
 
   -- empty sequences may drop out
-  pub settled : (q : List Piece) (vars os : List Value) (n : ℕ) (vps : List Place) (segments : List (List Place)) → AllAt s vars vps → AllAt s os (flat segments) → Going s q vps segments n → Live s (configuration q vars os) n
-  settled (Sequence End ∷ q) vars os n vps [] va oa g = absurd g
-  settled (Sequence End ∷ q) vars os n vps (ps ∷ []) va oa g = absurd g
-  settled (Sequence End ∷ q) vars os n vps (ps ∷ qs ∷ segments) va oa g =
-      let at : AllAt s os ((g.2 ++ qs) ++ flat segments) = subst (AllAt s os) (sym (append_assoc g.2 qs (flat segments))) (all_below s os ps g.2 (qs ++ flat segments) g.3 oa) in
-      dearer (configuration q vars os) g.1 n (omega (arith, g.5)) (settled q vars os g.1 vps ((g.2 ++ qs) ∷ segments) va at g.4)
-  settled q vars os n vps segments va oa g = record { variables = vps; segments = segments; variables_at = va; operands_at = oa; settled = tt; cost = n; within = omega arith; going = g }
+  pub settled : (q : List Piece) (vars os : List Value) (n : ℕ) (ms : List Mark) → AllAt s vars (now_at q ms).variables → AllAt s os (now_at q ms).operands → Going s q ms n → Live s (configuration q vars os) (marks_left q ms) n
+  settled (Sequence End ∷ q) vars os n [] va oa g = absurd g
+  settled (Sequence End ∷ q) vars os n (Iterating p r below ∷ ms) va oa g = absurd g
+  settled (Sequence End ∷ q) vars os n (Here at ∷ ms) va oa g =
+      let next = sym g.7 in
+      let wider = all_below s os g.2 g.4 g.3 g.6 (subst (AllAt s os) g.5 oa) in
+      dearer (configuration q vars os) (marks_left q ms) g.1 n (omega (arith, g.9))
+      (settled q vars os g.1 ms (subst (λ st. AllAt s vars st.variables) next va) (subst (λ st. AllAt s os st.operands) next wider) g.8)
+  settled q vars os n ms va oa g = record { variables_at = va; operands_at = oa; settled = tt; cost = n; within = omega arith; going = g }
 
-  -- a step to a configuration with a smaller bound
-  steps_to : (c : Configuration) (n m : ℕ) (q : List Piece) (vars os : List Value) (vps : List Place) (segments : List (List Place)) → step s c ≡ Some (configuration q vars os) → m < n → AllAt s vars vps → AllAt s os (flat segments) → Going s q vps segments m → Moves s c n
-  steps_to c n m q vars os vps segments e lt va oa g = inr (configuration q vars os, m, e, lt, settled q vars os m vps segments va oa g)
+  -- a step to a configuration with a smaller bound, whose marks are the last ones
+  steps_to : (c : Configuration) (ms : List Mark) (n m : ℕ) (q : List Piece) (vars os : List Value) (dropped left : List Mark) → step s c ≡ Some (configuration q vars os) → marked s c.pending ms ≡ dropped ++ left → m < n → AllAt s vars (now_at q left).variables → AllAt s os (now_at q left).operands → Going s q left m → Moves s c ms n
+  steps_to c ms n m q vars os dropped left e marks lt va oa g =
+      let d = configuration q vars os in
+      let are : marks_for d (marked s c.pending ms) ≡ marks_left q left = ap (marks_for d) marks ∙ marks_are q vars os dropped left (as_many s q left m g) in
+      inr (d, m, e, lt, subst (λ l. Live s d l m) (sym are) (settled q vars os m left va oa g))
 
   abbrev raw : List Piece → List Value → List Value → Configuration
   raw q vars os = record { pending = q; variables = vars; operands = os }
@@ -76,41 +83,54 @@ module _ (s : Setting) (model : IsClassModel s.population.model) (population : I
       by_element (Some v) h = record { in_kind = h; within = omega arith }
 
   -- a turn, or the end
-  turning : (c : Configuration) (n : ℕ) (i : Instr) (body : CodeTree) (source : Source) (left : List Element) (kept : List Value) (q : List Piece) (vars os : List Value) (vps ps : List Place) (segments : List (List Place)) (p r : Place) (m k : ℕ)
-      → step s c ≡ Some (turned i body source left kept q vars os) → AllAt s vars vps → AllAt s os (ps ++ flat segments) → IsOpenIteration s i body source left kept vps p r m → length kept + length left ≤ length source.elements
-      → Going s q vps ((yielded s i p r ∷ ps) ∷ segments) k → 1 + length left * (1 + m) + k ≤ n → Moves s c n
-  turning c n i body source [] kept q vars os vps ps segments p r m k e va oa it le g cost =
-      steps_to c n k q vars (ending i source kept ∷ os) vps ((yielded s i p r ∷ ps) ∷ segments) e (omega (arith, cost)) va (ending_at s i source kept p r it.iterates it.stands.whole it.ends it.given (omega (arith, le)), oa) g
-  turning c n i body source (x ∷ left) kept q vars os vps ps segments p r m k e va oa it le g cost =
+  turning : (c : Configuration) (ms : List Mark) (n : ℕ) (i : Instr) (body : CodeTree) (source : Source) (left : List Element) (kept : List Value) (q : List Piece) (vars os : List Value) (p r : Place) (below : Stand) (later : List Mark) (m k : ℕ)
+      → step s c ≡ Some (turned i body source left kept q vars os) → marked s c.pending ms ≡ Here (stand (bound_by i p ∷ below.variables) below.operands) ∷ Iterating p r below ∷ later
+      → AllAt s vars below.variables → AllAt s os below.operands → IsOpenIteration s i body source left kept below.variables p r m → length kept + length left ≤ length source.elements
+      → now_at q later ≡ stand below.variables (yielded s i p r ∷ below.operands) → Going s q later k → 1 + length left * (1 + m) + k ≤ n → Moves s c ms n
+  turning c ms n i body source [] kept q vars os p r below later m k e marks va oa it le now g cost =
+      let ended = ending_at s i source kept p r it.iterates it.stands.whole it.ends it.given (omega (arith, le)) in
+      steps_to c ms n k q vars (ending i source kept ∷ os) (Here (stand (bound_by i p ∷ below.variables) below.operands) ∷ Iterating p r below ∷ []) later e marks (omega (arith, cost))
+      (subst (λ st. AllAt s vars st.variables) (sym now) va) (subst (λ st. AllAt s (ending i source kept ∷ os) st.operands) (sym now) (ended, oa)) g
+  turning c ms n i body source (x ∷ left) kept q vars os p r below later m k e marks va oa it le now g cost =
       let parts = and_parts (is_element_in s.population (elements_kind p.kind) x) (list_all (is_element_in s.population (elements_kind p.kind)) left) it.stands.rest in
-      let next : IsOpenIteration s i body source left kept vps p r m = record { iterates = it.iterates; stands = record { whole = it.stands.whole; rest = parts.1 }; kinded = it.kinded; ends = it.ends; given = it.given } in
+      let next : IsOpenIteration s i body source left kept below.variables p r m = record { iterates = it.iterates; stands = record { whole = it.stands.whole; rest = parts.1 }; kinded = it.kinded; ends = it.ends; given = it.given } in
       let less : m + (1 + length left * (1 + m) + k) < n = omega (arith, cost) in
-      steps_to c n (m + (1 + length left * (1 + m) + k)) (Sequence body ∷ Turning i body source left kept ∷ q) (element_value x ∷ vars) os (bound_by i p ∷ vps) ([] ∷ [] ∷ ps ∷ segments) e less (element_at i p x it.iterates parts.0, va) oa
-      (m, 1 + length left * (1 + m) + k, r ∷ [], it.kinded, (m, k, p, r, next, below_itself s r, omega (arith, le), g, omega arith), omega arith)
+      steps_to c ms n (m + (1 + length left * (1 + m) + k)) (Sequence body ∷ Turning i body source left kept ∷ q) (element_value x ∷ vars) os []
+      (Here (stand (bound_by i p ∷ below.variables) below.operands) ∷ Iterating p r below ∷ later) e marks less (element_at i p x it.iterates parts.0, va) oa
+      (m, 1 + length left * (1 + m) + k, [], below.operands, r ∷ [], refl, it.kinded, refl, (m, k, next, omega (arith, le), now, g, omega arith), omega arith)
 
   -- ---- the first instruction of a sequence
 
-  -- what is known before it
-  record Before (t : CodeTree) (q : List Piece) (vars os : List Value) (n : ℕ) (vps ps qs : List Place) (segments : List (List Place)) : Type 0 where
+  -- what is known before it, where it stands at these places
+  record Before (t : CodeTree) (q : List Piece) (ms : List Mark) (vars os : List Value) (n : ℕ) (vps ps below : List Place) : Type 0 where
     variables_at : AllAt s vars vps
-    operands_at : AllAt s os (ps ++ (qs ++ flat segments))
+    operands_at : AllAt s os (ps ++ below)
     cost : ℕ
     later : ℕ
     out : List Place
     kinded : Kinded s t vps ps out cost
-    going : Going s q vps ((out ++ qs) ∷ segments) later
+    next : now_at q ms ≡ stand vps (out ++ below)
+    going : Going s q ms later
     within : cost + later ≤ n
 
-  from_plain : (i : Instr) (rest : CodeTree) (q : List Piece) (vars os : List Value) (n : ℕ) (vps ps qs : List Place) (segments : List (List Place)) → Before (Plain i rest) q vars os n vps ps qs segments → Moves s (raw (Sequence (Plain i rest) ∷ q) vars os) n
-  from_plain i rest q vars os n vps ps qs segments b =
+  abbrev at_tree : CodeTree → List Piece → List Mark → List Value → List Value → ℕ → List Place → List Place → List Place → Type 0
+  at_tree t q ms vars os n vps ps below =
+      Before t q ms vars os n vps ps below → Moves s (raw (Sequence t ∷ q) vars os) (Here (stand vps (ps ++ below)) ∷ ms) n
+
+  from_plain : (i : Instr) (rest : CodeTree) (q : List Piece) (ms : List Mark) (vars os : List Value) (n : ℕ) (vps ps below : List Place) → at_tree (Plain i rest) q ms vars os n vps ps below
+  from_plain i rest q ms vars os n vps ps below b =
       let k = b.kinded in
-      let r = results s model population vars vps os ps (qs ++ flat segments) b.variables_at b.operands_at i k.1 k.2 in
+      let r = results s model population vars vps os ps below b.variables_at b.operands_at i k.1 k.2 in
       let left = drop (length (operands_of (judged_by s) i)) os in
       let e : performed s vars i os ≡ Some (r.0 ∷ left) =
-      ap (option_and_then (λ l. option_map (λ v. v ∷ l) (result_of s vars i os))) (taken_is i vps ps (qs ++ flat segments) os k.2 b.operands_at) ∙ ap (option_map (λ v. v ∷ left)) r.1 in
-      steps_to (raw (Sequence (Plain i rest) ∷ q) vars os) n (k.0 + b.later) (Sequence rest ∷ q) vars (r.0 ∷ left) vps ((given s vps i ps ∷ places_left s i ps) ∷ qs ∷ segments)
-      (ap (option_map (configuration (Sequence rest ∷ q) vars)) e) (omega (arith, k.4, b.within)) b.variables_at (r.2, left_at s (operands_of (judged_by s) i) os ps (qs ++ flat segments) k.2.match b.operands_at)
-      (k.0, b.later, b.out, k.3, b.going, omega arith)
+      ap (option_and_then (λ l. option_map (λ v. v ∷ l) (result_of s vars i os))) (taken_is i vps ps below os k.2 b.operands_at) ∙ ap (option_map (λ v. v ∷ left)) r.1 in
+      let after = given s vps i ps ∷ places_left s i ps in
+      let marks : sequence_marked s (Plain i rest) vps (ps ++ below) ms ≡ Here (stand vps (after ++ below)) ∷ ms =
+      ap (λ p. Here (stand vps (p ∷ places_left s i (ps ++ below))) ∷ ms) (given_above s i vps ps below k.2)
+      ∙ ap (λ l. Here (stand vps (given s vps i ps ∷ l)) ∷ ms) (left_above s (operands_of (judged_by s) i) ps below k.2.match) in
+      steps_to (raw (Sequence (Plain i rest) ∷ q) vars os) (Here (stand vps (ps ++ below)) ∷ ms) n (k.0 + b.later) (Sequence rest ∷ q) vars (r.0 ∷ left) [] (Here (stand vps (after ++ below)) ∷ ms)
+      (ap (option_map (configuration (Sequence rest ∷ q) vars)) e) marks (omega (arith, k.4, b.within)) b.variables_at (r.2, left_at s (operands_of (judged_by s) i) os ps below k.2.match b.operands_at)
+      (k.0, b.later, after, below, b.out, refl, k.3, b.next, b.going, omega arith)
 
   -- the operand of a block with one operand is taken
   block_taken : (i : Instr) (w : Pattern) (vps ps below : List Place) (o : Value) (os : List Value) (go : Value → List Value → Option Configuration) → operands_of (judged_by s) i ≡ w ∷ [] → IsTaken s i vps ps → AllAt s (o ∷ os) (ps ++ below) → option_and_then (go o) (operands_below s i (o ∷ os)) ≡ go o os
@@ -122,131 +142,202 @@ module _ (s : Setting) (model : IsClassModel s.population.model) (population : I
   source_rest c es (kind.Collection d k) h =
       (and_parts (are_elements c es) (list_all (is_element_in s.population k) es) (and_parts (is_same_collection c d) (is_collection_in s.population c es k) h).1).1
 
+  -- what is known of a block, and of the code after it
+  record AfterBlock (i : Instr) (body rest : CodeTree) (q : List Piece) (ms : List Mark) (n : ℕ) (vps : List Place) (p : Place) (ps below : List Place) : Type 0 where
+    inside : ℕ
+    after : ℕ
+    later : ℕ
+    out : List Place
+    taken : IsTaken s i vps (p ∷ ps)
+    body_kinded : Kinded s body (bound_by i p ∷ vps) [] (end_place s body (bound_by i p ∷ vps) ∷ []) inside
+    ends : matches s.population.model (ends_with (judged_by s) i) (end_place s body (bound_by i p ∷ vps)).kind ≡ true
+    rest_kinded : Kinded s rest vps (block_gives s i body vps p ∷ ps) out after
+    next : now_at q ms ≡ stand vps (out ++ below)
+    going : Going s q ms later
+    within : block_steps i p.longest inside + after + later ≤ n
+
   -- an iteration is opened, or skipped over invalid
-  from_iteration : (i : Instr) (body rest : CodeTree) (q : List Piece) (vars : List Value) (o : Value) (os : List Value) (n : ℕ) (vps : List Place) (p : Place) (ps qs : List Place) (segments : List (List Place)) (r : Place) (m k l : ℕ) (out : List Place)
-      → is_iteration i ≡ true → step s (raw (Sequence (Block i body rest) ∷ q) vars (o ∷ os)) ≡ opened_over i body o (Sequence rest ∷ q) vars os → is_what s.population AnyCollection o ≡ true → At s o p → AllAt s vars vps → AllAt s os (ps ++ (qs ++ flat segments))
-      → Kinded s body (bound_by i p ∷ vps) [] (r ∷ []) m → matches s.population.model (ends_with (judged_by s) i) r.kind ≡ true → Kinded s rest vps (yielded s i p r ∷ ps) out k → Going s q vps ((out ++ qs) ∷ segments) l → block_steps i p.longest m + k + l ≤ n
-      → Moves s (raw (Sequence (Block i body rest) ∷ q) vars (o ∷ os)) n
-  from_iteration i body rest q vars (value.Collection c es) os n vps p ps qs segments r m k l out it e w at va oa kb ends kr g cost =
+  from_iteration : (i : Instr) (body rest : CodeTree) (q : List Piece) (ms : List Mark) (vars : List Value) (o : Value) (os : List Value) (n : ℕ) (vps : List Place) (p : Place) (ps below : List Place)
+      → is_iteration i ≡ true → step s (raw (Sequence (Block i body rest) ∷ q) vars (o ∷ os)) ≡ opened_over i body o (Sequence rest ∷ q) vars os → is_what s.population AnyCollection o ≡ true → At s o p → AllAt s vars vps → AllAt s os (ps ++ below)
+      → AfterBlock i body rest q ms n vps p ps below → Moves s (raw (Sequence (Block i body rest) ∷ q) vars (o ∷ os)) (Here (stand vps (p ∷ (ps ++ below))) ∷ ms) n
+  from_iteration i body rest q ms vars (value.Collection c es) os n vps p ps below it e w at va oa b =
       let source : Source = record { kind = c; elements = es } in
+      let r = end_place s body (bound_by i p ∷ vps) in
+      let m = b.inside in
       let times : (1 + m) * length es ≤ (1 + m) * p.longest = mul-le-mul_left (1 + m) at.within in
       let steps : block_steps i p.longest m ≡ 2 + p.longest * (1 + m) = iteration_steps i p.longest m it in
-      let iteration : IsOpenIteration s i body source es [] vps p r m = record { iterates = it; stands = record { whole = at; rest = source_rest c es p.kind at.in_kind }; kinded = kb; ends = ends; given = tt } in
-      steps_to (raw (Sequence (Block i body rest) ∷ q) vars (value.Collection c es ∷ os)) n (1 + length es * (1 + m) + (k + l)) (Opened i body source [] ∷ Sequence rest ∷ q) vars os vps (ps ∷ qs ∷ segments) e (omega (arith, cost, steps, times)) va oa
-      (m, k + l, p, r, iteration, refl, (k, l, out, kr, g, omega arith), omega arith)
-  from_iteration i body rest q vars value.Invalid os n vps p ps qs segments r m k l out it e w at va oa kb ends kr g cost =
-      let steps : block_steps i p.longest m ≡ 2 + p.longest * (1 + m) = iteration_steps i p.longest m it in
-      steps_to (raw (Sequence (Block i body rest) ∷ q) vars (value.Invalid ∷ os)) n (1 + (k + l)) (Skipped ∷ Sequence rest ∷ q) vars os vps (ps ∷ qs ∷ segments) e (omega (arith, cost, steps)) va oa
-      (k + l, yielded s i p r, (k, l, out, kr, g, omega arith), omega arith)
-  from_iteration i body rest q vars o os n vps p ps qs segments r m k l out it e w at va oa kb ends kr g cost = cc
+      let iteration : IsOpenIteration s i body source es [] vps p r m = record { iterates = it; stands = record { whole = at; rest = source_rest c es p.kind at.in_kind }; kinded = b.body_kinded; ends = b.ends; given = tt } in
+      steps_to (raw (Sequence (Block i body rest) ∷ q) vars (value.Collection c es ∷ os)) (Here (stand vps (p ∷ (ps ++ below))) ∷ ms) n (1 + length es * (1 + m) + (b.after + b.later)) (Opened i body source [] ∷ Sequence rest ∷ q) vars os []
+      (Iterating p r (stand vps (ps ++ below)) ∷ Here (stand vps (block_gives s i body vps p ∷ (ps ++ below))) ∷ ms) e (iteration_marked s i body rest vps p (ps ++ below) ms it) (omega (arith, b.within, steps, times)) va oa
+      (m, b.after + b.later, iteration, refl, refl, (b.after, b.later, block_gives s i body vps p ∷ ps, below, b.out, refl, b.rest_kinded, b.next, b.going, omega arith), omega arith)
+  from_iteration i body rest q ms vars value.Invalid os n vps p ps below it e w at va oa b =
+      let r = end_place s body (bound_by i p ∷ vps) in
+      let steps : block_steps i p.longest b.inside ≡ 2 + p.longest * (1 + b.inside) = iteration_steps i p.longest b.inside it in
+      steps_to (raw (Sequence (Block i body rest) ∷ q) vars (value.Invalid ∷ os)) (Here (stand vps (p ∷ (ps ++ below))) ∷ ms) n (1 + (b.after + b.later)) (Skipped ∷ Sequence rest ∷ q) vars os []
+      (Iterating p r (stand vps (ps ++ below)) ∷ Here (stand vps (block_gives s i body vps p ∷ (ps ++ below))) ∷ ms) e (iteration_marked s i body rest vps p (ps ++ below) ms it) (omega (arith, b.within, steps)) va oa
+      (b.after + b.later, block_gives s i body vps p, refl, (b.after, b.later, block_gives s i body vps p ∷ ps, below, b.out, refl, b.rest_kinded, b.next, b.going, omega arith), omega arith)
+  from_iteration i body rest q ms vars o os n vps p ps below it e w at va oa b = cc
 
-  from_let : (i : Instr) (x : ℕ) (body rest : CodeTree) (q : List Piece) (vars : List Value) (o : Value) (os : List Value) (n : ℕ) (vps : List Place) (p : Place) (ps qs : List Place) (segments : List (List Place)) (r : Place) (m k l : ℕ) (out : List Place)
-      → i ≡ instrs.Let x → IsTaken s i vps (p ∷ ps) → At s o p → AllAt s vars vps → AllAt s os (ps ++ (qs ++ flat segments))
-      → Kinded s body (bound_by i p ∷ vps) [] (r ∷ []) m → Kinded s rest vps (yielded s i p r ∷ ps) out k → Going s q vps ((out ++ qs) ∷ segments) l → block_steps i p.longest m + k + l ≤ n
-      → Moves s (raw (Sequence (Block i body rest) ∷ q) vars (o ∷ os)) n
-  from_let (instrs.Let y) x body rest q vars o os n vps p ps qs segments r m k l out is t at va oa kb kr g cost =
-      steps_to (raw (Sequence (Block (instrs.Let y) body rest) ∷ q) vars (o ∷ os)) n (m + (1 + (k + l))) (Sequence body ∷ LetEnd ∷ Sequence rest ∷ q) (o ∷ vars) os (p ∷ vps) ([] ∷ ps ∷ qs ∷ segments)
-      (block_taken (instrs.Let y) _ vps (p ∷ ps) (qs ++ flat segments) o os (λ v left. block_opened (instrs.Let y) body v (Sequence rest ∷ q) vars left) refl t (at, oa)) (omega (arith, cost)) (at, va) oa
-      (m, 1 + (k + l), r ∷ [], kb, (k + l, (k, l, out, kr, g, omega arith), omega arith), omega arith)
-  from_let i x body rest q vars o os n vps p ps qs segments r m k l out is t at va oa kb kr g cost = cc
+  from_let : (i : Instr) (x : ℕ) (body rest : CodeTree) (q : List Piece) (ms : List Mark) (vars : List Value) (o : Value) (os : List Value) (n : ℕ) (vps : List Place) (p : Place) (ps below : List Place)
+      → i ≡ instrs.Let x → At s o p → AllAt s vars vps → AllAt s os (ps ++ below)
+      → AfterBlock i body rest q ms n vps p ps below → Moves s (raw (Sequence (Block i body rest) ∷ q) vars (o ∷ os)) (Here (stand vps (p ∷ (ps ++ below))) ∷ ms) n
+  from_let (instrs.Let y) x body rest q ms vars o os n vps p ps below is at va oa b =
+      let r = end_place s body (p ∷ vps) in
+      steps_to (raw (Sequence (Block (instrs.Let y) body rest) ∷ q) vars (o ∷ os)) (Here (stand vps (p ∷ (ps ++ below))) ∷ ms) n (b.inside + (1 + (b.after + b.later))) (Sequence body ∷ LetEnd ∷ Sequence rest ∷ q) (o ∷ vars) os []
+      (Here (stand (p ∷ vps) (ps ++ below)) ∷ Here (stand (p ∷ vps) (r ∷ (ps ++ below))) ∷ Here (stand vps (r ∷ (ps ++ below))) ∷ ms)
+      (block_taken (instrs.Let y) _ vps (p ∷ ps) below o os (λ v left. block_opened (instrs.Let y) body v (Sequence rest ∷ q) vars left) refl b.taken (at, oa)) refl (omega (arith, b.within)) (at, va) oa (
+        b.inside,
+        1 + (b.after + b.later),
+        [],
+        ps ++ below,
+        r ∷ [],
+        refl,
+        b.body_kinded,
+        refl,
+        (b.after + b.later, p, refl, refl, (b.after, b.later, r ∷ ps, below, b.out, refl, b.rest_kinded, b.next, b.going, omega arith), omega arith),
+        omega arith,
+      )
+  from_let i x body rest q ms vars o os n vps p ps below is at va oa b = cc
 
-  from_block : (i : Instr) (body rest : CodeTree) (q : List Piece) (vars os : List Value) (n : ℕ) (vps ps qs : List Place) (segments : List (List Place)) → Before (Block i body rest) q vars os n vps ps qs segments → Moves s (raw (Sequence (Block i body rest) ∷ q) vars os) n
-  from_block i body rest q vars os n vps [] qs segments b = absurd b.kinded
-  from_block i body rest q vars [] n vps (p ∷ ps) qs segments b = absurd b.operands_at
-  from_block i body rest q vars (o ∷ os) n vps (p ∷ ps) qs segments b =
-      let k = b.kinded in by_sort (block_sort i k.3) k
+  from_block : (i : Instr) (body rest : CodeTree) (q : List Piece) (ms : List Mark) (vars os : List Value) (n : ℕ) (vps ps below : List Place) → at_tree (Block i body rest) q ms vars os n vps ps below
+  from_block i body rest q ms vars os n vps [] below b = absurd b.kinded
+  from_block i body rest q ms vars [] n vps (p ∷ ps) below b = absurd b.operands_at
+  from_block i body rest q ms vars (o ∷ os) n vps (p ∷ ps) below b = let k = b.kinded in by_sort (block_sort i k.2) k
     where
-      by_sort : BlockSort i → Kinded s (Block i body rest) vps (p ∷ ps) b.out b.cost → Moves s (raw (Sequence (Block i body rest) ∷ q) vars (o ∷ os)) n
-      by_sort (is_let x is) k =
-          from_let i x body rest q vars o os n vps p ps qs segments k.2 k.0 k.1 b.later b.out is k.4 b.operands_at.0 b.variables_at b.operands_at.1 k.5 k.7 b.going (omega (arith, k.8, b.within))
+      after : Kinded s (Block i body rest) vps (p ∷ ps) b.out b.cost → AfterBlock i body rest q ms n vps p ps below
+      after k =
+          record { inside = k.0; after = k.1; later = b.later; out = b.out; taken = k.3; body_kinded = k.4; ends = k.5; rest_kinded = k.6; next = b.next; going = b.going; within = omega (arith, k.7, b.within) }
+
+      by_sort : BlockSort i → Kinded s (Block i body rest) vps (p ∷ ps) b.out b.cost → Moves s (raw (Sequence (Block i body rest) ∷ q) vars (o ∷ os)) (Here (stand vps (p ∷ (ps ++ below))) ∷ ms) n
+      by_sort (is_let x is) k = from_let i x body rest q ms vars o os n vps p ps below is b.operands_at.0 b.variables_at b.operands_at.1 (after k)
       by_sort (iterates it) k =
           let takes = iteration_takes (judged_by s) i it in
-          let match : all_match s.population.model (AnyCollection ∷ []) (kinds_of (p ∷ ps)) ≡ true = subst (λ ws. all_match s.population.model ws (kinds_of (p ∷ ps)) ≡ true) takes k.4.match in
+          let match : all_match s.population.model (AnyCollection ∷ []) (kinds_of (p ∷ ps)) ≡ true = subst (λ ws. all_match s.population.model ws (kinds_of (p ∷ ps)) ≡ true) takes k.3.match in
           let what = matches_in s.population AnyCollection p.kind o (and_parts (matches s.population.model AnyCollection p.kind) true match).0 b.operands_at.0.in_kind in
-          let e = block_taken i AnyCollection vps (p ∷ ps) (qs ++ flat segments) o os (λ v left. block_opened i body v (Sequence rest ∷ q) vars left) takes k.4 b.operands_at ∙ iteration_opens i body o (Sequence rest ∷ q) vars os it in
-          from_iteration i body rest q vars o os n vps p ps qs segments k.2 k.0 k.1 b.later b.out it e what b.operands_at.0 b.variables_at b.operands_at.1 k.5 k.6 k.7 b.going (omega (arith, k.8, b.within))
+          let e = block_taken i AnyCollection vps (p ∷ ps) below o os (λ v left. block_opened i body v (Sequence rest ∷ q) vars left) takes k.3 b.operands_at ∙ iteration_opens i body o (Sequence rest ∷ q) vars os it in
+          from_iteration i body rest q ms vars o os n vps p ps below it e what b.operands_at.0 b.variables_at b.operands_at.1 (after k)
+
+  -- no branch is chosen: the IF is invalid
+  from_no_branch : (i : Instr) (first second rest : CodeTree) (q : List Piece) (ms : List Mark) (vars : List Value) (o : Value) (os : List Value) (n : ℕ) (vps : List Place) (p : Place) (ps below : List Place)
+      → step s (raw (Sequence (Branch i first second rest) ∷ q) vars (o ∷ os)) ≡ Some (configuration (Sequence rest ∷ q) vars (value.Invalid ∷ os)) → AllAt s vars vps → AllAt s os (ps ++ below)
+      → Before (Branch i first second rest) q ms vars (o ∷ os) n vps (p ∷ ps) below → Moves s (raw (Sequence (Branch i first second rest) ∷ q) vars (o ∷ os)) (Here (stand vps (p ∷ (ps ++ below))) ∷ ms) n
+  from_no_branch i first second rest q ms vars o os n vps p ps below e va oa b =
+      let k = b.kinded in
+      let r = branch_gives s i first second vps p in
+      steps_to (raw (Sequence (Branch i first second rest) ∷ q) vars (o ∷ os)) (Here (stand vps (p ∷ (ps ++ below))) ∷ ms) n (k.1 + b.later) (Sequence rest ∷ q) vars (value.Invalid ∷ os) (Here (stand vps (ps ++ below)) ∷ [])
+      (Here (stand vps (r ∷ (ps ++ below))) ∷ ms) e refl (omega (arith, k.7, b.within)) va (invalid_at s r, oa)
+      (k.1, b.later, r ∷ ps, below, b.out, refl, k.6, b.next, b.going, omega arith)
 
   -- a condition chooses a branch, or none
-  from_condition : (i : Instr) (first second rest : CodeTree) (q : List Piece) (vars : List Value) (o : Value) (os : List Value) (n : ℕ) (vps ps qs : List Place) (segments : List (List Place)) (r : Place) (m k l : ℕ) (out : List Place)
-      → step s (raw (Sequence (Branch i first second rest) ∷ q) vars (o ∷ os)) ≡ branched o first second (Sequence rest ∷ q) vars os → is_in s.population o (kind.Scalar element.Boolean) ≡ true → AllAt s vars vps → AllAt s os (ps ++ (qs ++ flat segments))
-      → Kinded s first vps [] (r ∷ []) m → Kinded s second vps [] (r ∷ []) m → Kinded s rest vps (r ∷ ps) out k → Going s q vps ((out ++ qs) ∷ segments) l → 1 + m + k + l ≤ n
-      → Moves s (raw (Sequence (Branch i first second rest) ∷ q) vars (o ∷ os)) n
-  from_condition i first second rest q vars (value.Single (scalar.Bool true)) os n vps ps qs segments r m k l out e h va oa kf ks kr g cost =
-      steps_to (raw (Sequence (Branch i first second rest) ∷ q) vars (value.Single (scalar.Bool true) ∷ os)) n (m + (k + l)) (Sequence first ∷ Sequence rest ∷ q) vars os vps ([] ∷ ps ∷ qs ∷ segments) e (omega (arith, cost)) va oa
-      (m, k + l, r ∷ [], kf, (k, l, out, kr, g, omega arith), omega arith)
-  from_condition i first second rest q vars (value.Single (scalar.Bool false)) os n vps ps qs segments r m k l out e h va oa kf ks kr g cost =
-      steps_to (raw (Sequence (Branch i first second rest) ∷ q) vars (value.Single (scalar.Bool false) ∷ os)) n (m + (k + l)) (Sequence second ∷ Sequence rest ∷ q) vars os vps ([] ∷ ps ∷ qs ∷ segments) e (omega (arith, cost)) va oa
-      (m, k + l, r ∷ [], ks, (k, l, out, kr, g, omega arith), omega arith)
-  from_condition i first second rest q vars value.Null os n vps ps qs segments r m k l out e h va oa kf ks kr g cost =
-      steps_to (raw (Sequence (Branch i first second rest) ∷ q) vars (value.Null ∷ os)) n (k + l) (Sequence rest ∷ q) vars (value.Invalid ∷ os) vps ((r ∷ ps) ∷ qs ∷ segments) e (omega (arith, cost)) va (invalid_at s r, oa)
-      (k, l, out, kr, g, omega arith)
-  from_condition i first second rest q vars value.Invalid os n vps ps qs segments r m k l out e h va oa kf ks kr g cost =
-      steps_to (raw (Sequence (Branch i first second rest) ∷ q) vars (value.Invalid ∷ os)) n (k + l) (Sequence rest ∷ q) vars (value.Invalid ∷ os) vps ((r ∷ ps) ∷ qs ∷ segments) e (omega (arith, cost)) va (invalid_at s r, oa)
-      (k, l, out, kr, g, omega arith)
-  from_condition i first second rest q vars o os n vps ps qs segments r m k l out e h va oa kf ks kr g cost = cc
-
-  from_branch : (i : Instr) (first second rest : CodeTree) (q : List Piece) (vars os : List Value) (n : ℕ) (vps ps qs : List Place) (segments : List (List Place)) → Before (Branch i first second rest) q vars os n vps ps qs segments → Moves s (raw (Sequence (Branch i first second rest) ∷ q) vars os) n
-  from_branch i first second rest q vars os n vps [] qs segments b = absurd b.kinded
-  from_branch i first second rest q vars [] n vps (p ∷ ps) qs segments b = absurd b.operands_at
-  from_branch i first second rest q vars (o ∷ os) n vps (p ∷ ps) qs segments b =
+  from_condition : (i : Instr) (first second rest : CodeTree) (q : List Piece) (ms : List Mark) (vars : List Value) (o : Value) (os : List Value) (n : ℕ) (vps : List Place) (p : Place) (ps below : List Place)
+      → step s (raw (Sequence (Branch i first second rest) ∷ q) vars (o ∷ os)) ≡ branched o first second (Sequence rest ∷ q) vars os → is_in s.population o (kind.Scalar element.Boolean) ≡ true → AllAt s vars vps → AllAt s os (ps ++ below)
+      → Before (Branch i first second rest) q ms vars (o ∷ os) n vps (p ∷ ps) below → Moves s (raw (Sequence (Branch i first second rest) ∷ q) vars (o ∷ os)) (Here (stand vps (p ∷ (ps ++ below))) ∷ ms) n
+  from_condition i first second rest q ms vars (value.Single (scalar.Bool true)) os n vps p ps below e h va oa b =
       let k = b.kinded in
-      let takes = branch_takes (judged_by s) i k.3 in
-      let match : all_match s.population.model (a_boolean ∷ []) (kinds_of (p ∷ ps)) ≡ true = subst (λ ws. all_match s.population.model ws (kinds_of (p ∷ ps)) ≡ true) takes k.4.match in
-      let what = matches_in s.population a_boolean p.kind o (and_parts (matches s.population.model a_boolean p.kind) true match).0 b.operands_at.0.in_kind in
-      let e = block_taken i a_boolean vps (p ∷ ps) (qs ++ flat segments) o os (λ v left. branched v first second (Sequence rest ∷ q) vars left) takes k.4 b.operands_at in
-      from_condition i first second rest q vars o os n vps ps qs segments k.2 k.0 k.1 b.later b.out e what b.variables_at b.operands_at.1 k.5 k.6 k.7 b.going (omega (arith, k.8, b.within))
+      let r = branch_gives s i first second vps p in
+      steps_to (raw (Sequence (Branch i first second rest) ∷ q) vars (value.Single (scalar.Bool true) ∷ os)) (Here (stand vps (p ∷ (ps ++ below))) ∷ ms) n (k.0 + (k.1 + b.later)) (Sequence first ∷ Sequence rest ∷ q) vars os []
+      (Here (stand vps (ps ++ below)) ∷ Here (stand vps (r ∷ (ps ++ below))) ∷ ms) e refl (omega (arith, k.7, b.within)) va oa
+      (k.0, k.1 + b.later, [], ps ++ below, r ∷ [], refl, k.4, refl, (k.1, b.later, r ∷ ps, below, b.out, refl, k.6, b.next, b.going, omega arith), omega arith)
+  from_condition i first second rest q ms vars (value.Single (scalar.Bool false)) os n vps p ps below e h va oa b =
+      let k = b.kinded in
+      let r = branch_gives s i first second vps p in
+      steps_to (raw (Sequence (Branch i first second rest) ∷ q) vars (value.Single (scalar.Bool false) ∷ os)) (Here (stand vps (p ∷ (ps ++ below))) ∷ ms) n (k.0 + (k.1 + b.later)) (Sequence second ∷ Sequence rest ∷ q) vars os []
+      (Here (stand vps (ps ++ below)) ∷ Here (stand vps (r ∷ (ps ++ below))) ∷ ms) e refl (omega (arith, k.7, b.within)) va oa
+      (k.0, k.1 + b.later, [], ps ++ below, r ∷ [], refl, k.5, refl, (k.1, b.later, r ∷ ps, below, b.out, refl, k.6, b.next, b.going, omega arith), omega arith)
+  from_condition i first second rest q ms vars value.Null os n vps p ps below e h va oa b =
+      from_no_branch i first second rest q ms vars value.Null os n vps p ps below e va oa b
+  from_condition i first second rest q ms vars value.Invalid os n vps p ps below e h va oa b =
+      from_no_branch i first second rest q ms vars value.Invalid os n vps p ps below e va oa b
+  from_condition i first second rest q ms vars o os n vps p ps below e h va oa b = cc
 
-  from_tree : (t : CodeTree) (q : List Piece) (vars os : List Value) (n : ℕ) (vps ps qs : List Place) (segments : List (List Place)) → IsThere t → Before t q vars os n vps ps qs segments → Moves s (raw (Sequence t ∷ q) vars os) n
-  from_tree End q vars os n vps ps qs segments there b = absurd there
-  from_tree (Plain i rest) q vars os n vps ps qs segments there b = from_plain i rest q vars os n vps ps qs segments b
-  from_tree (Block i body rest) q vars os n vps ps qs segments there b = from_block i body rest q vars os n vps ps qs segments b
-  from_tree (Branch i first second rest) q vars os n vps ps qs segments there b = from_branch i first second rest q vars os n vps ps qs segments b
-  from_tree (Torn i left) q vars os n vps ps qs segments there b = absurd b.kinded
+  from_branch : (i : Instr) (first second rest : CodeTree) (q : List Piece) (ms : List Mark) (vars os : List Value) (n : ℕ) (vps ps below : List Place) → at_tree (Branch i first second rest) q ms vars os n vps ps below
+  from_branch i first second rest q ms vars os n vps [] below b = absurd b.kinded
+  from_branch i first second rest q ms vars [] n vps (p ∷ ps) below b = absurd b.operands_at
+  from_branch i first second rest q ms vars (o ∷ os) n vps (p ∷ ps) below b =
+      let k = b.kinded in
+      let takes = branch_takes (judged_by s) i k.2 in
+      let match : all_match s.population.model (a_boolean ∷ []) (kinds_of (p ∷ ps)) ≡ true = subst (λ ws. all_match s.population.model ws (kinds_of (p ∷ ps)) ≡ true) takes k.3.match in
+      let what = matches_in s.population a_boolean p.kind o (and_parts (matches s.population.model a_boolean p.kind) true match).0 b.operands_at.0.in_kind in
+      let e = block_taken i a_boolean vps (p ∷ ps) below o os (λ v left. branched v first second (Sequence rest ∷ q) vars left) takes k.3 b.operands_at in
+      from_condition i first second rest q ms vars o os n vps p ps below e what b.variables_at b.operands_at.1 b
+
+  from_tree : (t : CodeTree) (q : List Piece) (ms : List Mark) (vars os : List Value) (n : ℕ) (vps ps below : List Place) → IsThere t → at_tree t q ms vars os n vps ps below
+  from_tree End q ms vars os n vps ps below there b = absurd there
+  from_tree (Plain i rest) q ms vars os n vps ps below there b = from_plain i rest q ms vars os n vps ps below b
+  from_tree (Block i body rest) q ms vars os n vps ps below there b = from_block i body rest q ms vars os n vps ps below b
+  from_tree (Branch i first second rest) q ms vars os n vps ps below there b = from_branch i first second rest q ms vars os n vps ps below b
+  from_tree (Torn i left) q ms vars os n vps ps below there b = absurd b.kinded
 
   -- ---- the first piece that is pending
 
-  moves_on : (q : List Piece) (vars os : List Value) (n : ℕ) (vps : List Place) (segments : List (List Place)) → IsSettled q → AllAt s vars vps → AllAt s os (flat segments) → Going s q vps segments n → Moves s (raw q vars os) n
-  moves_on [] vars os n vps [] i va oa g = absurd g
-  moves_on [] vars os n vps ([] ∷ segments) i va oa g = absurd g
-  moves_on [] vars os n vps ((p ∷ p' ∷ ps) ∷ segments) i va oa g = absurd g
-  moves_on [] vars os n vps ((p ∷ []) ∷ ps ∷ segments) i va oa g = absurd g
-  moves_on [] vars [] n vps ((p ∷ []) ∷ []) i va oa g = absurd oa
-  moves_on [] vars (o ∷ []) n vps ((p ∷ []) ∷ []) i va oa g = inl refl
-  moves_on [] vars (o ∷ o' ∷ os) n vps ((p ∷ []) ∷ []) i va oa g = absurd oa.1
-  moves_on (Sequence t ∷ q) vars os n vps [] i va oa g = absurd g
-  moves_on (Sequence t ∷ q) vars os n vps (ps ∷ []) i va oa g = absurd g
-  moves_on (Sequence t ∷ q) vars os n vps (ps ∷ qs ∷ segments) i va oa g =
-      from_tree t q vars os n vps ps qs segments i (record { variables_at = va; operands_at = oa; cost = g.0; later = g.1; out = g.2; kinded = g.3; going = g.4; within = g.5 })
-  moves_on (LetEnd ∷ q) vars os n [] segments i va oa g = absurd g
-  moves_on (LetEnd ∷ q) [] os n (p ∷ vps) segments i va oa g = absurd va
-  moves_on (LetEnd ∷ q) (v ∷ vars) os n (p ∷ vps) segments i va oa g =
-      steps_to (raw (LetEnd ∷ q) (v ∷ vars) os) n g.0 q vars os vps segments refl (omega (arith, g.2)) va.1 oa g.1
-  moves_on (Opened x body source kept ∷ q) vars os n vps [] i va oa g = absurd g
-  moves_on (Opened x body source kept ∷ q) vars os n vps (ps ∷ segments) i va oa g =
-      let none : length kept ≡ 0 = ap length g.5 in
-      turning (raw (Opened x body source kept ∷ q) vars os) n x body source source.elements kept q vars os vps ps segments g.2 g.3 g.0 g.1 refl va oa g.4 (omega (arith, none)) g.6 g.7
-  moves_on (Turning x body source left kept ∷ q) vars os n [] segments i va oa g = absurd g
-  moves_on (Turning x body source left kept ∷ q) vars os n (p ∷ vps) [] i va oa g = absurd g
-  moves_on (Turning x body source left kept ∷ q) vars os n (p ∷ vps) ([] ∷ segments) i va oa g = absurd g
-  moves_on (Turning x body source left kept ∷ q) vars os n (p ∷ vps) ((b ∷ b' ∷ bs) ∷ segments) i va oa g = absurd g
-  moves_on (Turning x body source left kept ∷ q) vars os n (p ∷ vps) ((b ∷ []) ∷ []) i va oa g = absurd g
-  moves_on (Turning x body source left kept ∷ q) [] os n (p ∷ vps) ((b ∷ []) ∷ ps ∷ segments) i va oa g = absurd va
-  moves_on (Turning x body source left kept ∷ q) (v ∷ vars) [] n (p ∷ vps) ((b ∷ []) ∷ ps ∷ segments) i va oa g = absurd oa
-  moves_on (Turning x body source left kept ∷ q) (v ∷ vars) (o ∷ os) n (p ∷ vps) ((b ∷ []) ∷ ps ∷ segments) i va oa g =
-      let it = g.4 in
-      let at = at_below s o b g.3 g.5 oa.0 in
-      let what = matches_in s.population (ends_with (judged_by s) x) g.3.kind o it.ends at.in_kind in
+  abbrev at_piece : List Piece → List Mark → List Value → List Value → ℕ → Type 0
+  at_piece q ms vars os n =
+      IsSettled q → AllAt s vars (now_at q ms).variables → AllAt s os (now_at q ms).operands → Going s q ms n → Moves s (raw q vars os) ms n
+
+  from_sequence : (t : CodeTree) (q : List Piece) (at : Stand) (ms : List Mark) (vars os : List Value) (n : ℕ) → at_piece (Sequence t ∷ q) (Here at ∷ ms) vars os n
+  from_sequence t q at ms vars os n i va oa g =
+      let b : Before t q ms vars os n at.variables g.2 g.3 =
+      record { variables_at = va; operands_at = subst (AllAt s os) g.5 oa; cost = g.0; later = g.1; out = g.4; kinded = g.6; next = g.7; going = g.8; within = g.9 } in
+      subst (λ ps. Moves s (raw (Sequence t ∷ q) vars os) (Here (stand at.variables ps) ∷ ms) n) (sym g.5) (from_tree t q ms vars os n at.variables g.2 g.3 i b)
+
+  from_end : (at : Stand) (vars os : List Value) (n : ℕ) → at_piece [] (Here at ∷ []) vars os n
+  from_end at vars os n i va oa g = one at.operands os oa g
+    where
+      one : (ps : List Place) (os : List Value) → AllAt s os ps → IsOneBoolean s ps → Moves s (raw [] vars os) (Here at ∷ []) n
+      one [] os oa g = absurd g
+      one (p ∷ p' ∷ ps) os oa g = absurd g
+      one (p ∷ []) [] oa g = absurd oa
+      one (p ∷ []) (o ∷ []) oa g = inl refl
+      one (p ∷ []) (o ∷ o' ∷ os) oa g = absurd oa.1
+
+  from_let_end : (q : List Piece) (at : Stand) (ms : List Mark) (vars os : List Value) (n : ℕ) → at_piece (LetEnd ∷ q) (Here at ∷ ms) vars os n
+  from_let_end q at ms vars os n i va oa g = dropping vars (subst (AllAt s vars) g.2 va)
+    where
+      dropping : (vars : List Value) → AllAt s vars (g.1 ∷ (now_at q ms).variables) → Moves s (raw (LetEnd ∷ q) vars os) (Here at ∷ ms) n
+      dropping [] va = absurd va
+      dropping (v ∷ vars) va =
+          steps_to (raw (LetEnd ∷ q) (v ∷ vars) os) (Here at ∷ ms) n g.0 q vars os [] ms refl refl (omega (arith, g.5)) va.1 (subst (AllAt s os) g.3 oa) g.4
+
+  from_turn : (x : Instr) (body : CodeTree) (source : Source) (left : List Element) (kept : List Value) (q : List Piece) (p r : Place) (below : Stand) (ms : List Mark) (vars os : List Value) (n : ℕ) → at_piece (Turning x body source left kept ∷ q) (Iterating p r below ∷ ms) vars os n
+  from_turn x body source left kept q p r below ms [] os n i va oa g = absurd va
+  from_turn x body source left kept q p r below ms (v ∷ vars) [] n i va oa g = absurd oa
+  from_turn x body source left kept q p r below ms (v ∷ vars) (o ∷ os) n i va oa g =
+      let it = g.2 in
+      let what = matches_in s.population (ends_with (judged_by s) x) r.kind o it.ends oa.0.in_kind in
       let e : step s (raw (Turning x body source left kept ∷ q) (v ∷ vars) (o ∷ os)) ≡ Some (turned x body source left (kept ++ o ∷ []) q vars os) =
       ap (λ t. if t then Some (turned x body source left (kept ++ o ∷ []) q vars os) else None) what in
-      let next : IsOpenIteration s x body source left (kept ++ o ∷ []) vps g.2 g.3 g.0 =
-      record { iterates = it.iterates; stands = it.stands; kinded = it.kinded; ends = it.ends; given = each_joined s g.3 kept (o ∷ []) it.given (at, tt) } in
-      turning (raw (Turning x body source left kept ∷ q) (v ∷ vars) (o ∷ os)) n x body source left (kept ++ o ∷ []) q vars os vps ps segments g.2 g.3 g.0 g.1 e va.1 oa.1 next (omega (arith, g.6, length-append kept (o ∷ []))) g.7 g.8
-  moves_on (Skipped ∷ q) vars os n vps [] i va oa g = absurd g
-  moves_on (Skipped ∷ q) vars os n vps (ps ∷ segments) i va oa g =
-      steps_to (raw (Skipped ∷ q) vars os) n g.0 q vars (value.Invalid ∷ os) vps ((g.1 ∷ ps) ∷ segments) refl (omega (arith, g.3)) va (invalid_at s g.1, oa) g.2
+      let next : IsOpenIteration s x body source left (kept ++ o ∷ []) below.variables p r g.0 =
+      record { iterates = it.iterates; stands = it.stands; kinded = it.kinded; ends = it.ends; given = each_joined s r kept (o ∷ []) it.given (oa.0, tt) } in
+      turning (raw (Turning x body source left kept ∷ q) (v ∷ vars) (o ∷ os)) (Iterating p r below ∷ ms) n x body source left (kept ++ o ∷ []) q vars os p r below ms g.0 g.1 e refl va.1 oa.1 next (omega (arith, g.3, length-append kept (o ∷ []))) g.4 g.5 g.6
+
+  moves_on : (q : List Piece) (ms : List Mark) (vars os : List Value) (n : ℕ) → at_piece q ms vars os n
+  moves_on [] (Here at ∷ []) vars os n i va oa g = from_end at vars os n i va oa g
+  moves_on (Sequence t ∷ q) (Here at ∷ ms) vars os n i va oa g = from_sequence t q at ms vars os n i va oa g
+  moves_on (LetEnd ∷ q) (Here at ∷ ms) vars os n i va oa g = from_let_end q at ms vars os n i va oa g
+  moves_on (Opened x body source kept ∷ q) (Iterating p r below ∷ ms) vars os n i va oa g =
+      let none : length kept ≡ 0 = ap length g.3 in
+      turning (raw (Opened x body source kept ∷ q) vars os) (Iterating p r below ∷ ms) n x body source source.elements kept q vars os p r below ms g.0 g.1 refl refl va oa g.2 (omega (arith, none)) g.4 g.5 g.6
+  moves_on (Turning x body source left kept ∷ q) (Iterating p r below ∷ ms) vars os n i va oa g =
+      from_turn x body source left kept q p r below ms vars os n i va oa g
+  moves_on (Skipped ∷ q) (Iterating p r below ∷ ms) vars os n i va oa g =
+      steps_to (raw (Skipped ∷ q) vars os) (Iterating p r below ∷ ms) n g.0 q vars (value.Invalid ∷ os) [] ms refl refl (omega (arith, g.4))
+      (subst (λ st. AllAt s vars st.variables) (sym g.2) va) (subst (λ st. AllAt s (value.Invalid ∷ os) st.operands) (sym g.2) (invalid_at s g.1, oa)) g.3
+  moves_on q ms vars os n i va oa g = absurd g
 
   -- a configuration that can go on has a verdict, or a next step to one that can go on for fewer
-  pub moves : (c : Configuration) (n : ℕ) → Live s c n → Moves s c n
-  moves c n l =
+  pub moves : (c : Configuration) (ms : List Mark) (n : ℕ) → Live s c ms n → Moves s c ms n
+  moves c ms n l =
       ⊎_elim (λ f. inl f) (λ m. inr (m.0, m.1, m.2, omega (arith, l.within, m.3), m.4))
-      (moves_on c.pending c.variables c.operands l.cost l.variables l.segments l.settled l.variables_at l.operands_at l.going)
+      (moves_on c.pending ms c.variables c.operands l.cost l.settled l.variables_at l.operands_at l.going)
+
+  -- ---- what iterations hold
+
+  -- what open iterations hold is at its places
+  pub held : (q : List Piece) (ms : List Mark) (n : ℕ) → Going s q ms n → AllHeldAt s q ms
+  held [] ms n g = tt
+  held (Sequence t ∷ q) (Here at ∷ ms) n g = (tt, held q ms g.1 g.8)
+  held (LetEnd ∷ q) (Here at ∷ ms) n g = (tt, held q ms g.0 g.4)
+  held (Opened x body source kept ∷ q) (Iterating p r below ∷ ms) n g = ((g.2.stands, g.2.given), held q ms g.1 g.5)
+  held (Turning x body source left kept ∷ q) (Iterating p r below ∷ ms) n g = ((g.2.stands, g.2.given), held q ms g.1 g.5)
+  held (Skipped ∷ q) (Iterating p r below ∷ ms) n g = (tt, held q ms g.0 g.3)
+  held q ms n g = absurd g

@@ -16,7 +16,7 @@ use Rattle.rule_machine.specs.Seen.{seen, seen_in, Represents}
 use Rattle.rule_machine.specs.Contract.{Further, IsStarted, IsPaused, IsDone, IsRefused, Judged}
 use Rattle.rule_machine.proofs.Moves.{moves}
 use Rattle.rule_machine.proofs.Runs.{final_stops}
-use Rattle.rule_machine.proofs.Theorems.{stands_in_kinds}
+use Rattle.rule_machine.proofs.Theorems.{goes_on_at}
 
 -- ---- runs of configurations
 
@@ -36,15 +36,15 @@ run_more s n c d e r h = let one : suc n ≡ n + 1 = omega arith in subst (λ m.
 module _ (u : Content) (p : Population) (r o n : ℕ) (c : Configuration) (accepted : IsAcceptedRun u p r o) (reached : run (setting_of u p r) n (start (tree_of_rule u r) o) ≡ Some c) where
   pub goes_on : outcome c ≡ None → (d : Configuration) × (step (setting_of u p r) c ≡ Some d) × (n < rule_bound u p r)
   goes_on none =
-      let l = stands_in_kinds u p r o n c accepted reached in
-      ⊎_elim (λ f. absurd (no_verdict (outcome c) none f)) (λ m. (m.0, m.2, omega (arith, m.3, l.1))) (moves (setting_of u p r) accepted.model accepted.population c l.0 l.2)
+      let l = goes_on_at u p r o n c accepted reached in
+      ⊎_elim (λ f. absurd (no_verdict (outcome c) none f)) (λ m. (m.0, m.2, omega (arith, m.3, l.3))) (moves (setting_of u p r) accepted.model accepted.population c l.0 l.1 l.4)
     where
       no_verdict : (v : Option Verdict) → v ≡ None → IsSome v → ⊥
       no_verdict None e f = let bad = f in cc
       no_verdict (Some v) e f = cc
 
   pub within_bound : n ≤ rule_bound u p r
-  within_bound = let l = stands_in_kinds u p r o n c accepted reached in omega (arith, l.1)
+  within_bound = let l = goes_on_at u p r o n c accepted reached in omega (arith, l.3)
 
 -- the verdict of a run is found within any number of steps that is no less
 pub verdict_found : (u : Content) (p : Population) (r o : ℕ) (accepted : IsAcceptedRun u p r o) (f n : ℕ) (c d : Configuration) (v : Verdict) → run (setting_of u p r) n c ≡ Some d → outcome d ≡ Some v → n ≤ f → verdict_within (setting_of u p r) f c ≡ Some v

@@ -36,7 +36,8 @@ use Rattle.rule_machine.specs.Value.{Value, object_value, is_element_in, is_in}
 use Rattle.rule_machine.specs.Equality.{equal_values}
 use Rattle.rule_machine.specs.Operations.{integer_value, on_integers, division, remainder, negative, absolute, less_than, at_most, negation, conjunction, disjunction, exclusive_disjunction, implication, is_true, is_false, is_null, equality, both_null, undefined_test, invalid_test, text_length, substring, kind_test, type_test, cast, feature_value, value_read, all_instances, as_collection, collection_size, emptiness, membership, occurrence_count, inclusion, exclusion, summation, as_set}
 use Rattle.rule_machine.specs.Machine.{Setting, judged_by, literal_named, on_class_named, value_named_read, symbol_named, result_of}
-use Rattle.rule_machine.specs.Live.{Place, place, kinds_of, lengths_of, long, At, AllAt, self_place, sizes_in, IsTaken, given}
+use Rattle.rule_machine.specs.Places.{Place, place, kinds_of, lengths_of, long, At, AllAt, self_place, sizes_in, given}
+use Rattle.rule_machine.specs.Live.{IsTaken}
 use Rattle.rule_machine.proofs.InKinds.{fits_in, single_at, invalid_at}
 use Rattle.rule_machine.proofs.Symbols.{IsNamed, symbol_names}
 use Rattle.rule_machine.proofs.FeatureValues.{feature_value_at, all_instances_at}
@@ -304,3 +305,9 @@ module _ (s : Setting) where
           let at = as_set_at (scalar_meant (judged_by s) k) o.first o.stand o.match o.at in
           (as_set o.first, ap (result_of s vars (instrs.AsSet k)) o.is, subst (λ l. At s (as_set o.first) (given s vps (instrs.AsSet k) l)) (sym o.place_is) at)
       results i e t = cc
+
+-- what an instruction gives doesn't depend on what lies below its operands
+pub given_above : (s : Setting) (i : Instr) (vps ps below : List Place) → IsTaken s i vps ps → given s vps i (ps ++ below) ≡ given s vps i ps
+given_above s (instrs.AsSet k) vps [] below t = let bad = t.match in cc
+given_above s (instrs.AsSet k) vps (p ∷ ps) below t = refl
+given_above s i vps ps below t = refl

@@ -6,6 +6,7 @@ use Rattle.imkl_population.specs.Consistency.{IsConsistent}
 use Rattle.rule_machine.specs.Value.{Value}
 use Rattle.rule_machine.specs.Machine.{Setting, Piece, Configuration, step, run}
 use Rattle.rule_machine.specs.Verdict.{outcome}
+use Rattle.rule_machine.specs.Places.{Mark, marked, marks_for, marks_after}
 use Rattle.rule_machine.specs.Live.{Live}
 use Rattle.rule_machine.proofs.Moves.{Moves, moves}
 
@@ -19,27 +20,31 @@ module _ (s : Setting) (model : IsClassModel s.population.model) (population : I
   no_step n None d h e = cc
   no_step n (Some c) d h e = cc
 
-  stays_by : (n : ℕ) (c d : Configuration) (b : ℕ) → ((c' : Configuration) (b' : ℕ) → Live s c' b' → run s n c' ≡ Some d → (m : ℕ) × (n + m ≤ b') × Live s d m) → run s (suc n) c ≡ Some d → Moves s c b → (m : ℕ) × (suc n + m ≤ b) × Live s d m
-  stays_by n c d b go e (inl f) = absurd (no_step n (step s c) d (final_stops c.pending c.variables c.operands f) e)
-  stays_by n c d b go e (inr m) =
-      let r = go m.0 m.1 m.4 (sym (ap (option_and_then (run s n)) m.2) ∙ e) in
-      (r.0, omega (arith, r.1, m.3), r.2)
+  -- a configuration that a run reaches can go on, at the marks after as many steps
+  abbrev pub Stays : ℕ → Configuration → List Mark → Configuration → ℕ → Type 0
+  Stays n c ms d b = (l : List Mark) × (m : ℕ) × (marks_after s n c ms ≡ Some l) × (n + m ≤ b) × Live s d l m
+
+  stays_by : (n : ℕ) (c d : Configuration) (ms : List Mark) (b : ℕ) → ((c' : Configuration) (ms' : List Mark) (b' : ℕ) → Live s c' ms' b' → run s n c' ≡ Some d → Stays n c' ms' d b') → run s (suc n) c ≡ Some d → Moves s c ms b → Stays (suc n) c ms d b
+  stays_by n c d ms b go e (inl f) = absurd (no_step n (step s c) d (final_stops c.pending c.variables c.operands f) e)
+  stays_by n c d ms b go e (inr m) =
+      let r = go m.0 (marks_for m.0 (marked s c.pending ms)) m.1 m.4 (sym (ap (option_and_then (run s n)) m.2) ∙ e) in
+      (r.0, r.1, ap (option_and_then (λ x. marks_after s n x (marks_for x (marked s c.pending ms)))) m.2 ∙ r.2, omega (arith, r.3, m.3), r.4)
 
   -- where a configuration can go on, so can each that its run reaches, for so many steps less
-  pub stays : (n : ℕ) (c d : Configuration) (b : ℕ) → Live s c b → run s n c ≡ Some d → (m : ℕ) × (n + m ≤ b) × Live s d m
-  stays zero c d b l e = let same : c ≡ d = cc in (b, omega arith, subst (λ x. Live s x b) same l)
-  stays (suc n) c d b l e = stays_by n c d b (λ c' b' l' e'. stays n c' d b' l' e') e (moves s model population c b l)
+  pub stays : (n : ℕ) (c d : Configuration) (ms : List Mark) (b : ℕ) → Live s c ms b → run s n c ≡ Some d → Stays n c ms d b
+  stays zero c d ms b l e = let same : c ≡ d = cc in (ms, b, refl, omega arith, subst (λ x. Live s x ms b) same l)
+  stays (suc n) c d ms b l e = stays_by n c d ms b (λ c' ms' b' l' e'. stays n c' d ms' b' l' e') e (moves s model population c ms b l)
 
   abbrev pub Ends : Configuration → ℕ → Type 0
   Ends c b = (n : ℕ) × (d : Configuration) × (n ≤ b) × (run s n c ≡ Some d) × IsSome (outcome d)
 
-  ends_by : (c : Configuration) (b : ℕ) → ((c' : Configuration) (b' : ℕ) → b' < b → Live s c' b' → Ends c' b') → Moves s c b → Ends c b
-  ends_by c b go (inl f) = (0, c, omega arith, refl, f)
-  ends_by c b go (inr m) =
-      let r = go m.0 m.1 m.3 m.4 in
+  ends_by : (c : Configuration) (ms : List Mark) (b : ℕ) → ((c' : Configuration) (ms' : List Mark) (b' : ℕ) → b' < b → Live s c' ms' b' → Ends c' b') → Moves s c ms b → Ends c b
+  ends_by c ms b go (inl f) = (0, c, omega arith, refl, f)
+  ends_by c ms b go (inr m) =
+      let r = go m.0 (marks_for m.0 (marked s c.pending ms)) m.1 m.3 m.4 in
       (suc r.0, r.1, omega (arith, r.2, m.3), ap (option_and_then (run s r.0)) m.2 ∙ r.3, r.4)
 
   -- and its run comes to a verdict within the bound
-  pub ends : (f : ℕ) (c : Configuration) (b : ℕ) → b ≤ f → Live s c b → Ends c b
-  ends zero c b le l = ends_by c b (λ c' b' lt l'. absurd (omega arith)) (moves s model population c b l)
-  ends (suc f) c b le l = ends_by c b (λ c' b' lt l'. ends f c' b' (omega arith) l') (moves s model population c b l)
+  pub ends : (f : ℕ) (c : Configuration) (ms : List Mark) (b : ℕ) → b ≤ f → Live s c ms b → Ends c b
+  ends zero c ms b le l = ends_by c ms b (λ c' ms' b' lt l'. absurd (omega arith)) (moves s model population c ms b l)
+  ends (suc f) c ms b le l = ends_by c ms b (λ c' ms' b' lt l'. ends f c' ms' b' (omega arith) l') (moves s model population c ms b l)

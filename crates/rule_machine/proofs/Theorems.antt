@@ -1,5 +1,5 @@
 -- The laws of runs.
-use Rattle.std.proofs.Common.{◌≡◌, ℕ, [], ◌∷◌, length, Option, Result, Ok, refl, sym, ap, ◌∙◌, inl, inr, ⊎_elim, arith}
+use Rattle.std.proofs.Common.{◌≡◌, ℕ, List, [], ◌∷◌, length, Option, Some, Result, Ok, refl, sym, ap, ◌∙◌, subst, inl, inr, ⊎_elim, arith, append-nil}
 use Rattle.std.specs.Prelude.{is_some, unwrap_or}
 use Rattle.ocl_base.specs.Steps.{◌>>=◌, found}
 use Rattle.rule_code.specs.Content.{Content}
@@ -20,12 +20,15 @@ use Rattle.rule_verify.specs.Patterns.{matches, a_boolean}
 use Rattle.rule_verify.specs.KindRules.{InstrFault, Enclosing, kinds_after, rule_ends, instr_fault}
 use Rattle.rule_verify.proofs.ForAbove.{rule_accepted, has_context}
 use Rattle.rule_machine.specs.Value.{object_value}
-use Rattle.rule_machine.specs.Machine.{setting_of, judged_by, Sequence, start}
-use Rattle.rule_machine.specs.Laws.{IsAcceptedRun, tree_of_rule, rule_bound, NeverStuck, EndsWithin, StandsInKinds}
-use Rattle.rule_machine.specs.Live.{self_place, Live}
-use Rattle.rule_machine.proofs.Moves.{moves, settled}
-use Rattle.rule_machine.proofs.Bridge.{AllFit, code_is_cut, ended_says, bridge, one_place}
-use Rattle.rule_machine.proofs.Runs.{stays, ends}
+use Rattle.rule_machine.specs.Machine.{setting_of, judged_by, Piece, Sequence, Configuration, run, start}
+use Rattle.rule_machine.specs.Laws.{IsAcceptedRun, tree_of_rule, rule_bound, NeverStuck, EndsWithin, StandsInKinds, PlacesAreByRules}
+use Rattle.rule_machine.specs.Places.{self_place, places_after, stand, Mark, Here, marks_before}
+use Rattle.rule_machine.specs.Live.{IsOneBoolean, Going, Live}
+use Rattle.rule_machine.proofs.Marks.{marks_are}
+use Rattle.rule_machine.proofs.Moves.{moves, settled, held}
+use Rattle.rule_machine.proofs.KindsAfter.{ended_says, lengths_after, kinds_of_after, body_ends_in}
+use Rattle.rule_machine.proofs.Bridge.{AllFit, code_is_cut, bridge}
+use Rattle.rule_machine.proofs.Runs.{Stays, stays, ends}
 
 -- ---- the rules of accepted units
 
@@ -43,7 +46,7 @@ rule_fits u p n o a =
     (EachFits-at (RuleFits u.texts u.symbols) [] u.rules n (unit_rule u n) (slice_get-get_or u.rules n empty_rule a.rule) a.unit.rules).1.code
 
 -- the start of accepted code can go on, for as many steps as its bound
-begins : (u : Content) (p : Population) (n o : ℕ) → IsAcceptedRun u p n o → Live (setting_of u p n) (start (tree_of_rule u n) o) (rule_bound u p n)
+begins : (u : Content) (p : Population) (n o : ℕ) → IsAcceptedRun u p n o → Live (setting_of u p n) (start (tree_of_rule u n) o) (marks_before (setting_of u p n) (tree_of_rule u n) (start (tree_of_rule u n) o)) (rule_bound u p n)
 begins u p n o a =
     let s = setting_of u p n in
     let t = tree_of_rule u n in
@@ -52,22 +55,37 @@ begins u p n o a =
     let after = both_steps (kinds_after (judged_by s) t e 0 []) _ accepted.0 accepted.1 in
     let ended = ended_says (judged_by s) a_boolean (instr_count t) after.0 accepted.0 after.2 in
     let b = bridge s t e (self_place s ∷ []) [] 0 after.0 refl (code_is_cut s (unit_rule u n).code (rule_fits u p n o a)) refl after.1 in
-    let one = one_place s t (self_place s ∷ []) accepted.0 after.0 ended.0 b in
+    let one = body_ends_in s t e (self_place s ∷ []) 0 after.0 accepted.0 refl after.1 ended.0 in
     let object = and_from _ _ (lt-ltb o (length p.objects) a.object.0) a.object.1 in
-    settled s a.model a.population (Sequence t ∷ []) (object_value o ∷ []) [] (rule_bound u p n) (self_place s ∷ []) ([] ∷ [] ∷ []) (record { in_kind = object; within = omega arith }, tt) tt
-    (rule_bound u p n, 0, one.stand ∷ [], one.body, ap (matches p.model a_boolean) one.kind_is ∙ ended.1, omega arith)
+    let out = places_after s t (self_place s ∷ []) [] in
+    let boolean : IsOneBoolean s out = subst (IsOneBoolean s) (sym one.0) (ap (matches p.model a_boolean) one.1 ∙ ended.1) in
+    let q : List Piece = Sequence t ∷ [] in
+    let ms : List Mark = Here (stand (self_place s ∷ []) []) ∷ Here (stand (self_place s ∷ []) out) ∷ [] in
+    let g : Going s q ms (rule_bound u p n) =
+    (rule_bound u p n, 0, [], [], out, refl, b, ap (stand (self_place s ∷ [])) (sym (append-nil out)), boolean, omega arith) in
+    subst (λ l. Live s (start t o) l (rule_bound u p n)) (sym (marks_are q (object_value o ∷ []) [] [] ms refl))
+    (settled s a.model a.population q (object_value o ∷ []) [] (rule_bound u p n) ms (record { in_kind = object; within = omega arith }, tt) tt g)
 
 -- ---- the laws
 
+-- each configuration that a run reaches can go on, at its marks, for as many steps as are left of the bound
+pub goes_on_at : (u : Content) (p : Population) (n o k : ℕ) (c : Configuration) → (a : IsAcceptedRun u p n o) → run (setting_of u p n) k (start (tree_of_rule u n) o) ≡ Some c → Stays (setting_of u p n) a.model a.population k (start (tree_of_rule u n) o) (marks_before (setting_of u p n) (tree_of_rule u n) (start (tree_of_rule u n) o)) c (rule_bound u p n)
+goes_on_at u p n o k c a r =
+    stays (setting_of u p n) a.model a.population k (start (tree_of_rule u n) o) c (marks_before (setting_of u p n) (tree_of_rule u n) (start (tree_of_rule u n) o)) (rule_bound u p n) (begins u p n o a) r
+
 pub stands_in_kinds : StandsInKinds
 stands_in_kinds u p n o k c a r =
-    stays (setting_of u p n) a.model a.population k (start (tree_of_rule u n) o) c (rule_bound u p n) (begins u p n o a) r
+    let l = goes_on_at u p n o k c a r in
+    (l.0, l.2, record { variables = l.4.variables_at; operands = l.4.operands_at; iterations = held (setting_of u p n) a.model a.population c.pending l.0 l.4.cost l.4.going })
+
+pub places_are_by_rules : PlacesAreByRules
+places_are_by_rules s t e vars ps at ks v h = (kinds_of_after s t e vars ps at ks v h, lengths_after s t vars ps)
 
 pub never_stuck : NeverStuck
 never_stuck u p n o k c a r =
-    let l = stands_in_kinds u p n o k c a r in
-    ⊎_elim (λ f. inl f) (λ m. inr (ap is_some m.2)) (moves (setting_of u p n) a.model a.population c l.0 l.2)
+    let l = goes_on_at u p n o k c a r in
+    ⊎_elim (λ f. inl f) (λ m. inr (ap is_some m.2)) (moves (setting_of u p n) a.model a.population c l.0 l.1 l.4)
 
 pub ends_within : EndsWithin
 ends_within u p n o a =
-    ends (setting_of u p n) a.model a.population (rule_bound u p n) (start (tree_of_rule u n) o) (rule_bound u p n) (omega arith) (begins u p n o a)
+    ends (setting_of u p n) a.model a.population (rule_bound u p n) (start (tree_of_rule u n) o) (marks_before (setting_of u p n) (tree_of_rule u n) (start (tree_of_rule u n) o)) (rule_bound u p n) (omega arith) (begins u p n o a)

@@ -1,5 +1,5 @@
 -- What holds of every run of accepted code, whoever made it.
-use Rattle.std.specs.Prelude.{◌≡◌, ◌⊎◌, ℕ, zero, suc, ◌+◌, ◌<◌, ◌≤◌, length, Option, Some, None, IsSome, option_and_then}
+use Rattle.std.specs.Prelude.{◌≡◌, ◌⊎◌, ℕ, zero, suc, ◌<◌, ◌≤◌, List, length, Option, Some, None, Ok, IsSome, option_and_then}
 use Rattle.imkl_model.specs.WellFormed.{IsClassModel}
 use Rattle.imkl_population.specs.Population.{Population, IsInstance}
 use Rattle.imkl_population.specs.Consistency.{IsConsistent}
@@ -7,12 +7,14 @@ use Rattle.imkl_population.specs.Sizes.{sizes_of}
 use Rattle.rule_code.specs.Content.{Content}
 use Rattle.rule_code.specs.WellFormed.{IsUnit}
 use Rattle.rule_verify.specs.CodeTree.{CodeTree, code_tree}
+use Rattle.ocl_kinds.specs.declared.kind.Kind.{Kind}
+use Rattle.rule_verify.specs.KindRules.{Enclosing, kinds_after}
 use Rattle.rule_verify.specs.UnitRules.{unit_rule, IsAcceptedUnit}
-use Rattle.rule_cost.specs.Bounds.{step_bound}
+use Rattle.rule_cost.specs.Bounds.{cost_of, step_bound}
 use Rattle.rule_machine.specs.Machine.{setting_of, judged_by, Setting, Configuration, step, run, start}
 use Rattle.rule_machine.specs.declared.verdict.Verdict.{Verdict}
 use Rattle.rule_machine.specs.Verdict.{outcome}
-use Rattle.rule_machine.specs.Live.{Live}
+use Rattle.rule_machine.specs.Places.{Place, kinds_of, lengths_of, sizes_in, places_after, Mark, marks_before, marks_after, StandsAt}
 
 -- A unit that is accepted in a class model, a consistent population of it, the index of a rule, and an object of the rule's context
 -- class.
@@ -47,15 +49,24 @@ EndsWithin =
     → (k : ℕ) × (c : Configuration) × (k ≤ rule_bound u p n)
     × (run (setting_of u p n) k (start (tree_of_rule u n) o) ≡ Some c) × IsSome (outcome c)
 
--- In each configuration that a run reaches, every operand and every variable stands at a place: it is in the place's kind, and a
--- collection no longer than the place allows. The pending code has kinds from these places on, and the steps that it may still
--- take are within the bound.
+-- In each configuration that a run reaches, every variable and operand is in the kind that the rules of kinds give its place, and
+-- each collection, those that iterations hold too, is no longer than its bound there.
 abbrev pub StandsInKinds : Type 0
 StandsInKinds =
     (u : Content) (p : Population) (n o k : ℕ) (c : Configuration)
     → IsAcceptedRun u p n o
     → run (setting_of u p n) k (start (tree_of_rule u n) o) ≡ Some c
-    → (m : ℕ) × (k + m ≤ rule_bound u p n) × Live (setting_of u p n) c m
+    → (ms : List Mark) × (marks_after (setting_of u p n) k (start (tree_of_rule u n) o) (marks_before (setting_of u p n) (tree_of_rule u n) (start (tree_of_rule u n) o)) ≡ Some ms)
+    × StandsAt (setting_of u p n) c ms
+
+-- the places after code have the kinds of the rules of kinds and the lengths of the bounds
+abbrev pub PlacesAreByRules : Type 0
+PlacesAreByRules =
+    (s : Setting) (t : CodeTree) (e : Enclosing) (vars ps : List Place) (at : ℕ) (ks : List Kind)
+    → e.variables ≡ kinds_of vars
+    → kinds_after (judged_by s) t e at (kinds_of ps) ≡ Ok ks
+    → (kinds_of (places_after s t vars ps) ≡ ks)
+    × (lengths_of (places_after s t vars ps) ≡ (cost_of (judged_by s) (sizes_in s) t (lengths_of vars) (lengths_of ps)).lengths)
 
 -- ---- verdicts
 

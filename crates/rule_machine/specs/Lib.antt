@@ -5,6 +5,7 @@ pub mod Operations
 pub mod Endings
 pub mod Machine
 pub mod Verdict
+pub mod Places
 pub mod Laws
 pub mod Contract
 -- Bookkeeping: views, layouts, walks and tables that only proofs and private contracts use.

@@ -1,6 +1,6 @@
 //! Laws of runs: what holds of accepted code, whoever made it.
 
-ghost use Rattle.rule_machine.specs.Laws.{NeverStuck, EndsWithin, StandsInKinds};
+ghost use Rattle.rule_machine.specs.Laws.{NeverStuck, EndsWithin, StandsInKinds, PlacesAreByRules};
 
 /// No configuration that a run of accepted code reaches is stuck, for any object of the context class in any
 /// population of the class model: it has a verdict, or a next step.
@@ -13,8 +13,13 @@ pub fn ends_within()
     ensures { EndsWithin }
 {}
 
-/// In each configuration that a run of accepted code reaches, the operands and the variables have kinds and lengths that their
-/// values keep, and from which the pending code satisfies the rules of kinds and takes no more steps than are left of the bound.
+/// In each configuration that a run of accepted code reaches, every variable and operand is in the kind that the rules of
+/// kinds give its place, and each collection, those that open iterations hold too, is no longer than its bound there.
 pub fn stands_in_kinds()
     ensures { StandsInKinds }
+{}
+
+/// The places of operands after code have the kinds that the rules of kinds give, and the lengths of the bounds.
+pub fn places_are_by_rules()
+    ensures { PlacesAreByRules }
 {}
