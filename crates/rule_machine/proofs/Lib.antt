@@ -7,6 +7,7 @@ pub mod Results
 pub mod EndingKinds
 pub mod Blocks
 pub mod Marks
+pub mod Deep
 pub mod Moves
 pub mod Runs
 pub mod KindsAfter

@@ -1,5 +1,6 @@
 -- Marks of pending pieces: what ends takes its mark with it.
 use Rattle.std.proofs.Common.{◌≡◌, ℕ, suc, ◌+◌, ◌-◌, ◌≤◌, List, [], ◌∷◌, ◌++◌, length, drop, refl, ap, ◌∙◌, arith}
+use Rattle.rule_verify.specs.declared.depths.Depths.{Depths}
 use Rattle.rule_verify.specs.CodeTree.{End}
 use Rattle.rule_machine.specs.Value.{Value}
 use Rattle.rule_machine.specs.Machine.{Setting, Piece, Sequence, LetEnd, Opened, Turning, Skipped, settle, configuration}
@@ -12,14 +13,14 @@ marks_left (Sequence End ∷ q) (m ∷ ms) = marks_left q ms
 marks_left q ms = ms
 
 -- pending code with kinds has a mark for each piece and one for the end
-pub as_many : (s : Setting) (q : List Piece) (ms : List Mark) (n : ℕ) → Going s q ms n → length ms ≡ suc (length q)
-as_many s [] (Here at ∷ []) n g = refl
-as_many s (Sequence t ∷ q) (Here at ∷ ms) n g = ap suc (as_many s q ms g.1 g.8)
-as_many s (LetEnd ∷ q) (Here at ∷ ms) n g = ap suc (as_many s q ms g.0 g.4)
-as_many s (Opened i body source kept ∷ q) (Iterating p r below ∷ ms) n g = ap suc (as_many s q ms g.1 g.5)
-as_many s (Turning i body source left kept ∷ q) (Iterating p r below ∷ ms) n g = ap suc (as_many s q ms g.1 g.5)
-as_many s (Skipped ∷ q) (Iterating p r below ∷ ms) n g = ap suc (as_many s q ms g.0 g.3)
-as_many s q ms n g = absurd g
+pub as_many : (s : Setting) (d : Depths) (q : List Piece) (ms : List Mark) (n : ℕ) → Going s d q ms n → length ms ≡ suc (length q)
+as_many s d [] (Here at ∷ []) n g = refl
+as_many s d (Sequence t ∷ q) (Here at ∷ ms) n g = ap suc (as_many s d q ms g.1 g.8)
+as_many s d (LetEnd ∷ q) (Here at ∷ ms) n g = ap suc (as_many s d q ms g.0 g.4)
+as_many s d (Opened i body source kept ∷ q) (Iterating p r below ∷ ms) n g = ap suc (as_many s d q ms g.1 g.5)
+as_many s d (Turning i body source left kept ∷ q) (Iterating p r below ∷ ms) n g = ap suc (as_many s d q ms g.1 g.5)
+as_many s d (Skipped ∷ q) (Iterating p r below ∷ ms) n g = ap suc (as_many s d q ms g.0 g.3)
+as_many s d q ms n g = absurd g
 
 -- the last marks of a list are those of its end
 last_ones : (dropped ms : List Mark) (n : ℕ) → n ≤ length ms → drop (length (dropped ++ ms) - n) (dropped ++ ms) ≡ drop (length ms - n) ms

@@ -1,11 +1,11 @@
 -- Each step of a configuration that can go on leads to one that can, at the marks after the step, and takes one from its bound.
-use Rattle.std.proofs.Common.{◌≡◌, ◌⊎◌, ℕ, ◌+◌, ◌*◌, ◌<◌, ◌≤◌, true, false, List, [], ◌∷◌, ◌++◌, length, drop, Option, Some, None, refl, sym, ap, ◌∙◌, subst, inl, inr, ⊎_elim, arith}
+use Rattle.std.proofs.Common.{◌≡◌, ◌⊎◌, ℕ, suc, ◌+◌, ◌-◌, ◌*◌, ◌<◌, ◌≤◌, true, false, List, [], ◌∷◌, ◌++◌, length, drop, Option, Some, None, refl, sym, ap, ◌∙◌, subst, inl, inr, ⊎_elim, arith}
 use Rattle.std.specs.Prelude.{IsSome, option_and_then, if◌then◌else◌}
 use Rattle.std.specs.Option.{option_map}
 use Rattle.std.specs.List.{list_all}
 use Rattle.std.proofs.Math.Nat.{mul-le-mul_left}
 use Rattle.std.proofs.lemmas.Bool.{and_parts, and_from}
-use Rattle.std.proofs.lemmas.List.{length-append}
+use Rattle.std.proofs.lemmas.List.{length-append, length-drop}
 use Rattle.ocl_base.specs.declared.collection_kind.CollectionKind.{CollectionKind}
 use Rattle.imkl_model.specs.WellFormed.{IsClassModel}
 use Rattle.imkl_population.specs.declared.scalar.Scalar.TheVariants as scalar
@@ -18,6 +18,7 @@ use Rattle.rule_code.specs.declared.instruction.Instr.{Instr}
 use Rattle.rule_code.specs.declared.instruction.Instr.TheVariants as instrs
 use Rattle.rule_verify.specs.declared.pattern.Pattern.{Pattern}
 use Rattle.rule_verify.specs.declared.pattern.Pattern.TheVariants.{AnyCollection}
+use Rattle.rule_verify.specs.declared.depths.Depths.{Depths}
 use Rattle.rule_verify.specs.CodeTree.{CodeTree, End, Plain, Block, Branch, Torn}
 use Rattle.rule_verify.specs.Patterns.{matches, all_match, a_boolean}
 use Rattle.rule_verify.specs.InstrKinds.{has_names, operands_of, ends_with}
@@ -28,41 +29,48 @@ use Rattle.rule_machine.specs.Endings.{Source, ending}
 use Rattle.rule_machine.specs.Machine.{Setting, judged_by, is_what, are_what, operands_below, result_of, performed, Piece, Sequence, LetEnd, Opened, Turning, Skipped, Configuration, configuration, branched, opened_over, block_opened, turned, step}
 use Rattle.rule_machine.specs.Verdict.{outcome}
 use Rattle.rule_machine.specs.Places.{Place, place, kinds_of, At, AllAt, given, places_left, bound_by, yielded, end_place, Stand, stand, Mark, Here, Iterating, now_at, sequence_marked, marked, marks_for, AllHeldAt}
-use Rattle.rule_machine.specs.Live.{IsTaken, is_iteration, block_gives, branch_gives, Kinded, IsOpenIteration, IsOneBoolean, Going, IsThere, IsSettled, Live}
-use Rattle.rule_machine.proofs.Blocks.{BlockSort, is_let, iterates, block_sort, iteration_takes, branch_takes, iteration_binds, iteration_steps, iteration_opens, iteration_marked}
+use Rattle.rule_machine.specs.Live.{AllBelow, IsTaken, is_iteration, block_gives, branch_gives, Kinded, IsOpenIteration, IsOneBoolean, GoesNoDeeper, HasRoom, Going, IsThere, IsSettled, Live}
+use Rattle.rule_machine.proofs.Blocks.{BlockSort, is_let, iterates, block_sort, iteration_takes, block_takes, branch_takes, iteration_binds, iteration_steps, iteration_opens, iteration_marked}
 use Rattle.rule_machine.proofs.InKinds.{matches_in, match_all, left_at, left_above, invalid_at, all_below, each_joined}
 use Rattle.rule_machine.proofs.Results.{results, given_above}
 use Rattle.rule_machine.proofs.EndingKinds.{ending_at}
 use Rattle.rule_machine.proofs.Marks.{marks_left, as_many, marks_are}
+use Rattle.rule_machine.proofs.Deep.{sequence_room, plain_deep, block_deep, branch_deep, as_many_below}
 
 -- it has a verdict, or a next step with a smaller bound
-abbrev pub Moves : Setting → Configuration → List Mark → ℕ → Type 0
-Moves s c ms n = IsSome (outcome c) ⊎ ((d : Configuration) × (m : ℕ) × (step s c ≡ Some d) × (m < n) × Live s d (marks_for d (marked s c.pending ms)) m)
+abbrev pub Moves : Setting → Depths → Configuration → List Mark → ℕ → Type 0
+Moves s deep c ms n = IsSome (outcome c) ⊎ ((d : Configuration) × (m : ℕ) × (step s c ≡ Some d) × (m < n) × Live s deep d (marks_for d (marked s c.pending ms)) m)
 
 -- ---- configurations
 
-module _ (s : Setting) (model : IsClassModel s.population.model) (population : IsConsistent s.population) where
-  dearer : (c : Configuration) (ms : List Mark) (m n : ℕ) → m ≤ n → Live s c ms m → Live s c ms n
+module _ (s : Setting) (deep : Depths) (model : IsClassModel s.population.model) (population : IsConsistent s.population) where
+  dearer : (c : Configuration) (ms : List Mark) (m n : ℕ) → m ≤ n → Live s deep c ms m → Live s deep c ms n
   dearer c ms m n le l =
-      record { variables_at = l.variables_at; operands_at = l.operands_at; settled = l.settled; cost = l.cost; within = omega (arith, le, l.within); going = l.going }
+      record { variables_at = l.variables_at; operands_at = l.operands_at; settled = l.settled; room = l.room; cost = l.cost; within = omega (arith, le, l.within); going = l.going }
+
+  -- what a sequence leaves has the same room
+  left_room : (at : Stand) (own below out : List Place) (n : ℕ) → at.operands ≡ own ++ below → AllBelow s own out → HasRoom deep (suc n) at → HasRoom deep n (stand at.variables (out ++ below))
+  left_room at own below out n e b h =
+      record { operands = omega (arith, h.operands, ap length e, as_many_below s own out b, length-append own below, length-append out below); variables = h.variables; pieces = omega (arith, h.pieces) }
 
   -- empty sequences may drop out
-  pub settled : (q : List Piece) (vars os : List Value) (n : ℕ) (ms : List Mark) → AllAt s vars (now_at q ms).variables → AllAt s os (now_at q ms).operands → Going s q ms n → Live s (configuration q vars os) (marks_left q ms) n
-  settled (Sequence End ∷ q) vars os n [] va oa g = absurd g
-  settled (Sequence End ∷ q) vars os n (Iterating p r below ∷ ms) va oa g = absurd g
-  settled (Sequence End ∷ q) vars os n (Here at ∷ ms) va oa g =
+  pub settled : (q : List Piece) (vars os : List Value) (n : ℕ) (ms : List Mark) → AllAt s vars (now_at q ms).variables → AllAt s os (now_at q ms).operands → HasRoom deep (length q) (now_at q ms) → Going s deep q ms n → Live s deep (configuration q vars os) (marks_left q ms) n
+  settled (Sequence End ∷ q) vars os n [] va oa h g = absurd g
+  settled (Sequence End ∷ q) vars os n (Iterating p r below ∷ ms) va oa h g = absurd g
+  settled (Sequence End ∷ q) vars os n (Here at ∷ ms) va oa h g =
       let next = sym g.7 in
       let wider = all_below s os g.2 g.4 g.3 g.6 (subst (AllAt s os) g.5 oa) in
+      let room = left_room at g.2 g.3 g.4 (length q) g.5 g.6 h in
       dearer (configuration q vars os) (marks_left q ms) g.1 n (omega (arith, g.9))
-      (settled q vars os g.1 ms (subst (λ st. AllAt s vars st.variables) next va) (subst (λ st. AllAt s os st.operands) next wider) g.8)
-  settled q vars os n ms va oa g = record { variables_at = va; operands_at = oa; settled = tt; cost = n; within = omega arith; going = g }
+      (settled q vars os g.1 ms (subst (λ st. AllAt s vars st.variables) next va) (subst (λ st. AllAt s os st.operands) next wider) (subst (HasRoom deep (length q)) next room) g.8)
+  settled q vars os n ms va oa h g = record { variables_at = va; operands_at = oa; settled = tt; room = h; cost = n; within = omega arith; going = g }
 
   -- a step to a configuration with a smaller bound, whose marks are the last ones
-  steps_to : (c : Configuration) (ms : List Mark) (n m : ℕ) (q : List Piece) (vars os : List Value) (dropped left : List Mark) → step s c ≡ Some (configuration q vars os) → marked s c.pending ms ≡ dropped ++ left → m < n → AllAt s vars (now_at q left).variables → AllAt s os (now_at q left).operands → Going s q left m → Moves s c ms n
-  steps_to c ms n m q vars os dropped left e marks lt va oa g =
+  steps_to : (c : Configuration) (ms : List Mark) (n m : ℕ) (q : List Piece) (vars os : List Value) (dropped left : List Mark) → step s c ≡ Some (configuration q vars os) → marked s c.pending ms ≡ dropped ++ left → m < n → AllAt s vars (now_at q left).variables → AllAt s os (now_at q left).operands → HasRoom deep (length q) (now_at q left) → Going s deep q left m → Moves s deep c ms n
+  steps_to c ms n m q vars os dropped left e marks lt va oa h g =
       let d = configuration q vars os in
-      let are : marks_for d (marked s c.pending ms) ≡ marks_left q left = ap (marks_for d) marks ∙ marks_are q vars os dropped left (as_many s q left m g) in
-      inr (d, m, e, lt, subst (λ l. Live s d l m) (sym are) (settled q vars os m left va oa g))
+      let are : marks_for d (marked s c.pending ms) ≡ marks_left q left = ap (marks_for d) marks ∙ marks_are q vars os dropped left (as_many s deep q left m g) in
+      inr (d, m, e, lt, subst (λ l. Live s deep d l m) (sym are) (settled q vars os m left va oa h g))
 
   abbrev raw : List Piece → List Value → List Value → Configuration
   raw q vars os = record { pending = q; variables = vars; operands = os }
@@ -86,18 +94,22 @@ module _ (s : Setting) (model : IsClassModel s.population.model) (population : I
   turning : (c : Configuration) (ms : List Mark) (n : ℕ) (i : Instr) (body : CodeTree) (source : Source) (left : List Element) (kept : List Value) (q : List Piece) (vars os : List Value) (p r : Place) (below : Stand) (later : List Mark) (m k : ℕ)
       → step s c ≡ Some (turned i body source left kept q vars os) → marked s c.pending ms ≡ Here (stand (bound_by i p ∷ below.variables) below.operands) ∷ Iterating p r below ∷ later
       → AllAt s vars below.variables → AllAt s os below.operands → IsOpenIteration s i body source left kept below.variables p r m → length kept + length left ≤ length source.elements
-      → now_at q later ≡ stand below.variables (yielded s i p r ∷ below.operands) → Going s q later k → 1 + length left * (1 + m) + k ≤ n → Moves s c ms n
-  turning c ms n i body source [] kept q vars os p r below later m k e marks va oa it le now g cost =
+      → now_at q later ≡ stand below.variables (yielded s i p r ∷ below.operands) → Going s deep q later k → 1 + length left * (1 + m) + k ≤ n
+      → GoesNoDeeper s deep body (suc (length below.variables)) (length below.operands) (suc (length q)) → suc (length below.operands) ≤ deep.operands → Moves s deep c ms n
+  turning c ms n i body source [] kept q vars os p r below later m k e marks va oa it le now g cost inside more =
+      let room = sequence_room s deep body (stand (bound_by i p ∷ below.variables) below.operands) (suc (length q)) inside in
       let ended = ending_at s i source kept p r it.iterates it.stands.whole it.ends it.given (omega (arith, le)) in
       steps_to c ms n k q vars (ending i source kept ∷ os) (Here (stand (bound_by i p ∷ below.variables) below.operands) ∷ Iterating p r below ∷ []) later e marks (omega (arith, cost))
-      (subst (λ st. AllAt s vars st.variables) (sym now) va) (subst (λ st. AllAt s (ending i source kept ∷ os) st.operands) (sym now) (ended, oa)) g
-  turning c ms n i body source (x ∷ left) kept q vars os p r below later m k e marks va oa it le now g cost =
+      (subst (λ st. AllAt s vars st.variables) (sym now) va) (subst (λ st. AllAt s (ending i source kept ∷ os) st.operands) (sym now) (ended, oa))
+      (subst (HasRoom deep (length q)) (sym now) (record { operands = more; variables = omega (arith, room.variables); pieces = omega (arith, room.pieces) })) g
+  turning c ms n i body source (x ∷ left) kept q vars os p r below later m k e marks va oa it le now g cost inside more =
       let parts = and_parts (is_element_in s.population (elements_kind p.kind) x) (list_all (is_element_in s.population (elements_kind p.kind)) left) it.stands.rest in
       let next : IsOpenIteration s i body source left kept below.variables p r m = record { iterates = it.iterates; stands = record { whole = it.stands.whole; rest = parts.1 }; kinded = it.kinded; ends = it.ends; given = it.given } in
       let less : m + (1 + length left * (1 + m) + k) < n = omega (arith, cost) in
       steps_to c ms n (m + (1 + length left * (1 + m) + k)) (Sequence body ∷ Turning i body source left kept ∷ q) (element_value x ∷ vars) os []
       (Here (stand (bound_by i p ∷ below.variables) below.operands) ∷ Iterating p r below ∷ later) e marks less (element_at i p x it.iterates parts.0, va) oa
-      (m, 1 + length left * (1 + m) + k, [], below.operands, r ∷ [], refl, it.kinded, refl, (m, k, next, omega (arith, le), now, g, omega arith), omega arith)
+      (sequence_room s deep body (stand (bound_by i p ∷ below.variables) below.operands) (suc (length q)) inside)
+      (m, 1 + length left * (1 + m) + k, [], below.operands, r ∷ [], refl, it.kinded, refl, (m, k, next, omega (arith, le), now, g, omega arith, inside, more), omega arith, inside)
 
   -- ---- the first instruction of a sequence
 
@@ -110,12 +122,13 @@ module _ (s : Setting) (model : IsClassModel s.population.model) (population : I
     out : List Place
     kinded : Kinded s t vps ps out cost
     next : now_at q ms ≡ stand vps (out ++ below)
-    going : Going s q ms later
+    going : Going s deep q ms later
     within : cost + later ≤ n
+    inside : GoesNoDeeper s deep t (length vps) (length (ps ++ below)) (length q)
 
   abbrev at_tree : CodeTree → List Piece → List Mark → List Value → List Value → ℕ → List Place → List Place → List Place → Type 0
   at_tree t q ms vars os n vps ps below =
-      Before t q ms vars os n vps ps below → Moves s (raw (Sequence t ∷ q) vars os) (Here (stand vps (ps ++ below)) ∷ ms) n
+      Before t q ms vars os n vps ps below → Moves s deep (raw (Sequence t ∷ q) vars os) (Here (stand vps (ps ++ below)) ∷ ms) n
 
   from_plain : (i : Instr) (rest : CodeTree) (q : List Piece) (ms : List Mark) (vars os : List Value) (n : ℕ) (vps ps below : List Place) → at_tree (Plain i rest) q ms vars os n vps ps below
   from_plain i rest q ms vars os n vps ps below b =
@@ -128,9 +141,12 @@ module _ (s : Setting) (model : IsClassModel s.population.model) (population : I
       let marks : sequence_marked s (Plain i rest) vps (ps ++ below) ms ≡ Here (stand vps (after ++ below)) ∷ ms =
       ap (λ p. Here (stand vps (p ∷ places_left s i (ps ++ below))) ∷ ms) (given_above s i vps ps below k.2)
       ∙ ap (λ l. Here (stand vps (given s vps i ps ∷ l)) ∷ ms) (left_above s (operands_of (judged_by s) i) ps below k.2.match) in
+      let count : length (after ++ below) ≡ suc (length (ps ++ below) - length (operands_of (judged_by s) i)) =
+      omega (arith, ap length (left_above s (operands_of (judged_by s) i) ps below k.2.match), length-drop (length (operands_of (judged_by s) i)) (ps ++ below)) in
+      let inside = plain_deep s deep i rest (length vps) (length (ps ++ below)) (length (after ++ below)) (length q) count b.inside in
       steps_to (raw (Sequence (Plain i rest) ∷ q) vars os) (Here (stand vps (ps ++ below)) ∷ ms) n (k.0 + b.later) (Sequence rest ∷ q) vars (r.0 ∷ left) [] (Here (stand vps (after ++ below)) ∷ ms)
       (ap (option_map (configuration (Sequence rest ∷ q) vars)) e) marks (omega (arith, k.4, b.within)) b.variables_at (r.2, left_at s (operands_of (judged_by s) i) os ps below k.2.match b.operands_at)
-      (k.0, b.later, after, below, b.out, refl, k.3, b.next, b.going, omega arith)
+      (sequence_room s deep rest (stand vps (after ++ below)) (length q) inside) (k.0, b.later, after, below, b.out, refl, k.3, b.next, b.going, omega arith, inside)
 
   -- the operand of a block with one operand is taken
   block_taken : (i : Instr) (w : Pattern) (vps ps below : List Place) (o : Value) (os : List Value) (go : Value → List Value → Option Configuration) → operands_of (judged_by s) i ≡ w ∷ [] → IsTaken s i vps ps → AllAt s (o ∷ os) (ps ++ below) → option_and_then (go o) (operands_below s i (o ∷ os)) ≡ go o os
@@ -153,13 +169,25 @@ module _ (s : Setting) (model : IsClassModel s.population.model) (population : I
     ends : matches s.population.model (ends_with (judged_by s) i) (end_place s body (bound_by i p ∷ vps)).kind ≡ true
     rest_kinded : Kinded s rest vps (block_gives s i body vps p ∷ ps) out after
     next : now_at q ms ≡ stand vps (out ++ below)
-    going : Going s q ms later
+    going : Going s deep q ms later
     within : block_steps i p.longest inside + after + later ≤ n
+    body_deep : GoesNoDeeper s deep body (suc (length vps)) (length (ps ++ below)) (suc (suc (length q)))
+    rest_deep : GoesNoDeeper s deep rest (length vps) (suc (length (ps ++ below))) (length q)
+
+  -- it has room
+  before_block : (i : Instr) (body rest : CodeTree) (q : List Piece) (ms : List Mark) (n : ℕ) (vps : List Place) (p : Place) (ps below : List Place) → AfterBlock i body rest q ms n vps p ps below → HasRoom deep (suc (length q)) (stand vps (p ∷ (ps ++ below)))
+  before_block i body rest q ms n vps p ps below b = sequence_room s deep rest (stand vps (p ∷ (ps ++ below))) (length q) b.rest_deep
+
+  -- a block that is open has room for its mark and for the code after it
+  block_room : (i : Instr) (body rest : CodeTree) (q : List Piece) (ms : List Mark) (n : ℕ) (vps : List Place) (p : Place) (ps below : List Place) → AfterBlock i body rest q ms n vps p ps below → HasRoom deep (suc (suc (length q))) (stand vps (ps ++ below))
+  block_room i body rest q ms n vps p ps below b =
+      let h = sequence_room s deep body (stand (p ∷ vps) (ps ++ below)) (suc (suc (length q))) b.body_deep in
+      record { operands = h.operands; variables = omega (arith, h.variables); pieces = omega (arith, h.pieces) }
 
   -- an iteration is opened, or skipped over invalid
   from_iteration : (i : Instr) (body rest : CodeTree) (q : List Piece) (ms : List Mark) (vars : List Value) (o : Value) (os : List Value) (n : ℕ) (vps : List Place) (p : Place) (ps below : List Place)
       → is_iteration i ≡ true → step s (raw (Sequence (Block i body rest) ∷ q) vars (o ∷ os)) ≡ opened_over i body o (Sequence rest ∷ q) vars os → is_what s.population AnyCollection o ≡ true → At s o p → AllAt s vars vps → AllAt s os (ps ++ below)
-      → AfterBlock i body rest q ms n vps p ps below → Moves s (raw (Sequence (Block i body rest) ∷ q) vars (o ∷ os)) (Here (stand vps (p ∷ (ps ++ below))) ∷ ms) n
+      → AfterBlock i body rest q ms n vps p ps below → Moves s deep (raw (Sequence (Block i body rest) ∷ q) vars (o ∷ os)) (Here (stand vps (p ∷ (ps ++ below))) ∷ ms) n
   from_iteration i body rest q ms vars (value.Collection c es) os n vps p ps below it e w at va oa b =
       let source : Source = record { kind = c; elements = es } in
       let r = end_place s body (bound_by i p ∷ vps) in
@@ -169,23 +197,26 @@ module _ (s : Setting) (model : IsClassModel s.population.model) (population : I
       let iteration : IsOpenIteration s i body source es [] vps p r m = record { iterates = it; stands = record { whole = at; rest = source_rest c es p.kind at.in_kind }; kinded = b.body_kinded; ends = b.ends; given = tt } in
       steps_to (raw (Sequence (Block i body rest) ∷ q) vars (value.Collection c es ∷ os)) (Here (stand vps (p ∷ (ps ++ below))) ∷ ms) n (1 + length es * (1 + m) + (b.after + b.later)) (Opened i body source [] ∷ Sequence rest ∷ q) vars os []
       (Iterating p r (stand vps (ps ++ below)) ∷ Here (stand vps (block_gives s i body vps p ∷ (ps ++ below))) ∷ ms) e (iteration_marked s i body rest vps p (ps ++ below) ms it) (omega (arith, b.within, steps, times)) va oa
-      (m, b.after + b.later, iteration, refl, refl, (b.after, b.later, block_gives s i body vps p ∷ ps, below, b.out, refl, b.rest_kinded, b.next, b.going, omega arith), omega arith)
+      (block_room i body rest q ms n vps p ps below b)
+      (m, b.after + b.later, iteration, refl, refl, (b.after, b.later, block_gives s i body vps p ∷ ps, below, b.out, refl, b.rest_kinded, b.next, b.going, omega arith, b.rest_deep), omega arith, b.body_deep, (before_block i body rest q ms n vps p ps below b).operands)
   from_iteration i body rest q ms vars value.Invalid os n vps p ps below it e w at va oa b =
       let r = end_place s body (bound_by i p ∷ vps) in
       let steps : block_steps i p.longest b.inside ≡ 2 + p.longest * (1 + b.inside) = iteration_steps i p.longest b.inside it in
       steps_to (raw (Sequence (Block i body rest) ∷ q) vars (value.Invalid ∷ os)) (Here (stand vps (p ∷ (ps ++ below))) ∷ ms) n (1 + (b.after + b.later)) (Skipped ∷ Sequence rest ∷ q) vars os []
       (Iterating p r (stand vps (ps ++ below)) ∷ Here (stand vps (block_gives s i body vps p ∷ (ps ++ below))) ∷ ms) e (iteration_marked s i body rest vps p (ps ++ below) ms it) (omega (arith, b.within, steps)) va oa
-      (b.after + b.later, block_gives s i body vps p, refl, (b.after, b.later, block_gives s i body vps p ∷ ps, below, b.out, refl, b.rest_kinded, b.next, b.going, omega arith), omega arith)
+      (block_room i body rest q ms n vps p ps below b)
+      (b.after + b.later, block_gives s i body vps p, refl, (b.after, b.later, block_gives s i body vps p ∷ ps, below, b.out, refl, b.rest_kinded, b.next, b.going, omega arith, b.rest_deep), omega arith, (before_block i body rest q ms n vps p ps below b).operands)
   from_iteration i body rest q ms vars o os n vps p ps below it e w at va oa b = cc
 
   from_let : (i : Instr) (x : ℕ) (body rest : CodeTree) (q : List Piece) (ms : List Mark) (vars : List Value) (o : Value) (os : List Value) (n : ℕ) (vps : List Place) (p : Place) (ps below : List Place)
       → i ≡ instrs.Let x → At s o p → AllAt s vars vps → AllAt s os (ps ++ below)
-      → AfterBlock i body rest q ms n vps p ps below → Moves s (raw (Sequence (Block i body rest) ∷ q) vars (o ∷ os)) (Here (stand vps (p ∷ (ps ++ below))) ∷ ms) n
+      → AfterBlock i body rest q ms n vps p ps below → Moves s deep (raw (Sequence (Block i body rest) ∷ q) vars (o ∷ os)) (Here (stand vps (p ∷ (ps ++ below))) ∷ ms) n
   from_let (instrs.Let y) x body rest q ms vars o os n vps p ps below is at va oa b =
       let r = end_place s body (p ∷ vps) in
       steps_to (raw (Sequence (Block (instrs.Let y) body rest) ∷ q) vars (o ∷ os)) (Here (stand vps (p ∷ (ps ++ below))) ∷ ms) n (b.inside + (1 + (b.after + b.later))) (Sequence body ∷ LetEnd ∷ Sequence rest ∷ q) (o ∷ vars) os []
       (Here (stand (p ∷ vps) (ps ++ below)) ∷ Here (stand (p ∷ vps) (r ∷ (ps ++ below))) ∷ Here (stand vps (r ∷ (ps ++ below))) ∷ ms)
-      (block_taken (instrs.Let y) _ vps (p ∷ ps) below o os (λ v left. block_opened (instrs.Let y) body v (Sequence rest ∷ q) vars left) refl b.taken (at, oa)) refl (omega (arith, b.within)) (at, va) oa (
+      (block_taken (instrs.Let y) _ vps (p ∷ ps) below o os (λ v left. block_opened (instrs.Let y) body v (Sequence rest ∷ q) vars left) refl b.taken (at, oa)) refl (omega (arith, b.within)) (at, va) oa
+      (sequence_room s deep body (stand (p ∷ vps) (ps ++ below)) (suc (suc (length q))) b.body_deep) (
         b.inside,
         1 + (b.after + b.later),
         [],
@@ -194,8 +225,9 @@ module _ (s : Setting) (model : IsClassModel s.population.model) (population : I
         refl,
         b.body_kinded,
         refl,
-        (b.after + b.later, p, refl, refl, (b.after, b.later, r ∷ ps, below, b.out, refl, b.rest_kinded, b.next, b.going, omega arith), omega arith),
+        (b.after + b.later, p, refl, refl, (b.after, b.later, r ∷ ps, below, b.out, refl, b.rest_kinded, b.next, b.going, omega arith, b.rest_deep), omega arith),
         omega arith,
+        b.body_deep,
       )
   from_let i x body rest q ms vars o os n vps p ps below is at va oa b = cc
 
@@ -206,9 +238,25 @@ module _ (s : Setting) (model : IsClassModel s.population.model) (population : I
     where
       after : Kinded s (Block i body rest) vps (p ∷ ps) b.out b.cost → AfterBlock i body rest q ms n vps p ps below
       after k =
-          record { inside = k.0; after = k.1; later = b.later; out = b.out; taken = k.3; body_kinded = k.4; ends = k.5; rest_kinded = k.6; next = b.next; going = b.going; within = omega (arith, k.7, b.within) }
+          let w = block_takes (judged_by s) i k.2 in
+          let deeps = block_deep s deep i w.0 body rest (length vps) (length (ps ++ below)) (length q) w.1 b.inside in
+          record {
+            inside = k.0;
+            after = k.1;
+            later = b.later;
+            out = b.out;
+            taken = k.3;
+            body_kinded = k.4;
+            ends = k.5;
+            rest_kinded = k.6;
+            next = b.next;
+            going = b.going;
+            within = omega (arith, k.7, b.within);
+            body_deep = deeps.0;
+            rest_deep = deeps.1;
+          }
 
-      by_sort : BlockSort i → Kinded s (Block i body rest) vps (p ∷ ps) b.out b.cost → Moves s (raw (Sequence (Block i body rest) ∷ q) vars (o ∷ os)) (Here (stand vps (p ∷ (ps ++ below))) ∷ ms) n
+      by_sort : BlockSort i → Kinded s (Block i body rest) vps (p ∷ ps) b.out b.cost → Moves s deep (raw (Sequence (Block i body rest) ∷ q) vars (o ∷ os)) (Here (stand vps (p ∷ (ps ++ below))) ∷ ms) n
       by_sort (is_let x is) k = from_let i x body rest q ms vars o os n vps p ps below is b.operands_at.0 b.variables_at b.operands_at.1 (after k)
       by_sort (iterates it) k =
           let takes = iteration_takes (judged_by s) i it in
@@ -220,30 +268,33 @@ module _ (s : Setting) (model : IsClassModel s.population.model) (population : I
   -- no branch is chosen: the IF is invalid
   from_no_branch : (i : Instr) (first second rest : CodeTree) (q : List Piece) (ms : List Mark) (vars : List Value) (o : Value) (os : List Value) (n : ℕ) (vps : List Place) (p : Place) (ps below : List Place)
       → step s (raw (Sequence (Branch i first second rest) ∷ q) vars (o ∷ os)) ≡ Some (configuration (Sequence rest ∷ q) vars (value.Invalid ∷ os)) → AllAt s vars vps → AllAt s os (ps ++ below)
-      → Before (Branch i first second rest) q ms vars (o ∷ os) n vps (p ∷ ps) below → Moves s (raw (Sequence (Branch i first second rest) ∷ q) vars (o ∷ os)) (Here (stand vps (p ∷ (ps ++ below))) ∷ ms) n
+      → Before (Branch i first second rest) q ms vars (o ∷ os) n vps (p ∷ ps) below → Moves s deep (raw (Sequence (Branch i first second rest) ∷ q) vars (o ∷ os)) (Here (stand vps (p ∷ (ps ++ below))) ∷ ms) n
   from_no_branch i first second rest q ms vars o os n vps p ps below e va oa b =
       let k = b.kinded in
       let r = branch_gives s i first second vps p in
+      let deeps = branch_deep s deep i a_boolean first second rest (length vps) (length (ps ++ below)) (length q) (branch_takes (judged_by s) i k.2) b.inside in
       steps_to (raw (Sequence (Branch i first second rest) ∷ q) vars (o ∷ os)) (Here (stand vps (p ∷ (ps ++ below))) ∷ ms) n (k.1 + b.later) (Sequence rest ∷ q) vars (value.Invalid ∷ os) (Here (stand vps (ps ++ below)) ∷ [])
       (Here (stand vps (r ∷ (ps ++ below))) ∷ ms) e refl (omega (arith, k.7, b.within)) va (invalid_at s r, oa)
-      (k.1, b.later, r ∷ ps, below, b.out, refl, k.6, b.next, b.going, omega arith)
+      (sequence_room s deep rest (stand vps (r ∷ (ps ++ below))) (length q) deeps.2) (k.1, b.later, r ∷ ps, below, b.out, refl, k.6, b.next, b.going, omega arith, deeps.2)
 
   -- a condition chooses a branch, or none
   from_condition : (i : Instr) (first second rest : CodeTree) (q : List Piece) (ms : List Mark) (vars : List Value) (o : Value) (os : List Value) (n : ℕ) (vps : List Place) (p : Place) (ps below : List Place)
       → step s (raw (Sequence (Branch i first second rest) ∷ q) vars (o ∷ os)) ≡ branched o first second (Sequence rest ∷ q) vars os → is_in s.population o (kind.Scalar element.Boolean) ≡ true → AllAt s vars vps → AllAt s os (ps ++ below)
-      → Before (Branch i first second rest) q ms vars (o ∷ os) n vps (p ∷ ps) below → Moves s (raw (Sequence (Branch i first second rest) ∷ q) vars (o ∷ os)) (Here (stand vps (p ∷ (ps ++ below))) ∷ ms) n
+      → Before (Branch i first second rest) q ms vars (o ∷ os) n vps (p ∷ ps) below → Moves s deep (raw (Sequence (Branch i first second rest) ∷ q) vars (o ∷ os)) (Here (stand vps (p ∷ (ps ++ below))) ∷ ms) n
   from_condition i first second rest q ms vars (value.Single (scalar.Bool true)) os n vps p ps below e h va oa b =
       let k = b.kinded in
       let r = branch_gives s i first second vps p in
+      let deeps = branch_deep s deep i a_boolean first second rest (length vps) (length (ps ++ below)) (length q) (branch_takes (judged_by s) i k.2) b.inside in
       steps_to (raw (Sequence (Branch i first second rest) ∷ q) vars (value.Single (scalar.Bool true) ∷ os)) (Here (stand vps (p ∷ (ps ++ below))) ∷ ms) n (k.0 + (k.1 + b.later)) (Sequence first ∷ Sequence rest ∷ q) vars os []
-      (Here (stand vps (ps ++ below)) ∷ Here (stand vps (r ∷ (ps ++ below))) ∷ ms) e refl (omega (arith, k.7, b.within)) va oa
-      (k.0, k.1 + b.later, [], ps ++ below, r ∷ [], refl, k.4, refl, (k.1, b.later, r ∷ ps, below, b.out, refl, k.6, b.next, b.going, omega arith), omega arith)
+      (Here (stand vps (ps ++ below)) ∷ Here (stand vps (r ∷ (ps ++ below))) ∷ ms) e refl (omega (arith, k.7, b.within)) va oa (sequence_room s deep first (stand vps (ps ++ below)) (suc (length q)) deeps.0)
+      (k.0, k.1 + b.later, [], ps ++ below, r ∷ [], refl, k.4, refl, (k.1, b.later, r ∷ ps, below, b.out, refl, k.6, b.next, b.going, omega arith, deeps.2), omega arith, deeps.0)
   from_condition i first second rest q ms vars (value.Single (scalar.Bool false)) os n vps p ps below e h va oa b =
       let k = b.kinded in
       let r = branch_gives s i first second vps p in
+      let deeps = branch_deep s deep i a_boolean first second rest (length vps) (length (ps ++ below)) (length q) (branch_takes (judged_by s) i k.2) b.inside in
       steps_to (raw (Sequence (Branch i first second rest) ∷ q) vars (value.Single (scalar.Bool false) ∷ os)) (Here (stand vps (p ∷ (ps ++ below))) ∷ ms) n (k.0 + (k.1 + b.later)) (Sequence second ∷ Sequence rest ∷ q) vars os []
-      (Here (stand vps (ps ++ below)) ∷ Here (stand vps (r ∷ (ps ++ below))) ∷ ms) e refl (omega (arith, k.7, b.within)) va oa
-      (k.0, k.1 + b.later, [], ps ++ below, r ∷ [], refl, k.5, refl, (k.1, b.later, r ∷ ps, below, b.out, refl, k.6, b.next, b.going, omega arith), omega arith)
+      (Here (stand vps (ps ++ below)) ∷ Here (stand vps (r ∷ (ps ++ below))) ∷ ms) e refl (omega (arith, k.7, b.within)) va oa (sequence_room s deep second (stand vps (ps ++ below)) (suc (length q)) deeps.1)
+      (k.0, k.1 + b.later, [], ps ++ below, r ∷ [], refl, k.5, refl, (k.1, b.later, r ∷ ps, below, b.out, refl, k.6, b.next, b.going, omega arith, deeps.2), omega arith, deeps.1)
   from_condition i first second rest q ms vars value.Null os n vps p ps below e h va oa b =
       from_no_branch i first second rest q ms vars value.Null os n vps p ps below e va oa b
   from_condition i first second rest q ms vars value.Invalid os n vps p ps below e h va oa b =
@@ -272,18 +323,18 @@ module _ (s : Setting) (model : IsClassModel s.population.model) (population : I
 
   abbrev at_piece : List Piece → List Mark → List Value → List Value → ℕ → Type 0
   at_piece q ms vars os n =
-      IsSettled q → AllAt s vars (now_at q ms).variables → AllAt s os (now_at q ms).operands → Going s q ms n → Moves s (raw q vars os) ms n
+      IsSettled q → AllAt s vars (now_at q ms).variables → AllAt s os (now_at q ms).operands → HasRoom deep (length q) (now_at q ms) → Going s deep q ms n → Moves s deep (raw q vars os) ms n
 
   from_sequence : (t : CodeTree) (q : List Piece) (at : Stand) (ms : List Mark) (vars os : List Value) (n : ℕ) → at_piece (Sequence t ∷ q) (Here at ∷ ms) vars os n
-  from_sequence t q at ms vars os n i va oa g =
+  from_sequence t q at ms vars os n i va oa h g =
       let b : Before t q ms vars os n at.variables g.2 g.3 =
-      record { variables_at = va; operands_at = subst (AllAt s os) g.5 oa; cost = g.0; later = g.1; out = g.4; kinded = g.6; next = g.7; going = g.8; within = g.9 } in
-      subst (λ ps. Moves s (raw (Sequence t ∷ q) vars os) (Here (stand at.variables ps) ∷ ms) n) (sym g.5) (from_tree t q ms vars os n at.variables g.2 g.3 i b)
+      record { variables_at = va; operands_at = subst (AllAt s os) g.5 oa; cost = g.0; later = g.1; out = g.4; kinded = g.6; next = g.7; going = g.8; within = g.9; inside = subst (λ l. GoesNoDeeper s deep t (length at.variables) (length l) (length q)) g.5 g.10 } in
+      subst (λ ps. Moves s deep (raw (Sequence t ∷ q) vars os) (Here (stand at.variables ps) ∷ ms) n) (sym g.5) (from_tree t q ms vars os n at.variables g.2 g.3 i b)
 
   from_end : (at : Stand) (vars os : List Value) (n : ℕ) → at_piece [] (Here at ∷ []) vars os n
-  from_end at vars os n i va oa g = one at.operands os oa g
+  from_end at vars os n i va oa h g = one at.operands os oa g
     where
-      one : (ps : List Place) (os : List Value) → AllAt s os ps → IsOneBoolean s ps → Moves s (raw [] vars os) (Here at ∷ []) n
+      one : (ps : List Place) (os : List Value) → AllAt s os ps → IsOneBoolean s ps → Moves s deep (raw [] vars os) (Here at ∷ []) n
       one [] os oa g = absurd g
       one (p ∷ p' ∷ ps) os oa g = absurd g
       one (p ∷ []) [] oa g = absurd oa
@@ -291,49 +342,51 @@ module _ (s : Setting) (model : IsClassModel s.population.model) (population : I
       one (p ∷ []) (o ∷ o' ∷ os) oa g = absurd oa.1
 
   from_let_end : (q : List Piece) (at : Stand) (ms : List Mark) (vars os : List Value) (n : ℕ) → at_piece (LetEnd ∷ q) (Here at ∷ ms) vars os n
-  from_let_end q at ms vars os n i va oa g = dropping vars (subst (AllAt s vars) g.2 va)
+  from_let_end q at ms vars os n i va oa h g = dropping vars (subst (AllAt s vars) g.2 va)
     where
-      dropping : (vars : List Value) → AllAt s vars (g.1 ∷ (now_at q ms).variables) → Moves s (raw (LetEnd ∷ q) vars os) (Here at ∷ ms) n
+      dropping : (vars : List Value) → AllAt s vars (g.1 ∷ (now_at q ms).variables) → Moves s deep (raw (LetEnd ∷ q) vars os) (Here at ∷ ms) n
       dropping [] va = absurd va
       dropping (v ∷ vars) va =
-          steps_to (raw (LetEnd ∷ q) (v ∷ vars) os) (Here at ∷ ms) n g.0 q vars os [] ms refl refl (omega (arith, g.5)) va.1 (subst (AllAt s os) g.3 oa) g.4
+          steps_to (raw (LetEnd ∷ q) (v ∷ vars) os) (Here at ∷ ms) n g.0 q vars os [] ms refl refl (omega (arith, g.5)) va.1 (subst (AllAt s os) g.3 oa)
+          (record { operands = omega (arith, h.operands, ap length g.3); variables = omega (arith, h.variables, ap length g.2); pieces = omega (arith, h.pieces) }) g.4
 
   from_turn : (x : Instr) (body : CodeTree) (source : Source) (left : List Element) (kept : List Value) (q : List Piece) (p r : Place) (below : Stand) (ms : List Mark) (vars os : List Value) (n : ℕ) → at_piece (Turning x body source left kept ∷ q) (Iterating p r below ∷ ms) vars os n
-  from_turn x body source left kept q p r below ms [] os n i va oa g = absurd va
-  from_turn x body source left kept q p r below ms (v ∷ vars) [] n i va oa g = absurd oa
-  from_turn x body source left kept q p r below ms (v ∷ vars) (o ∷ os) n i va oa g =
+  from_turn x body source left kept q p r below ms [] os n i va oa h g = absurd va
+  from_turn x body source left kept q p r below ms (v ∷ vars) [] n i va oa h g = absurd oa
+  from_turn x body source left kept q p r below ms (v ∷ vars) (o ∷ os) n i va oa h g =
       let it = g.2 in
       let what = matches_in s.population (ends_with (judged_by s) x) r.kind o it.ends oa.0.in_kind in
       let e : step s (raw (Turning x body source left kept ∷ q) (v ∷ vars) (o ∷ os)) ≡ Some (turned x body source left (kept ++ o ∷ []) q vars os) =
       ap (λ t. if t then Some (turned x body source left (kept ++ o ∷ []) q vars os) else None) what in
       let next : IsOpenIteration s x body source left (kept ++ o ∷ []) below.variables p r g.0 =
       record { iterates = it.iterates; stands = it.stands; kinded = it.kinded; ends = it.ends; given = each_joined s r kept (o ∷ []) it.given (oa.0, tt) } in
-      turning (raw (Turning x body source left kept ∷ q) (v ∷ vars) (o ∷ os)) (Iterating p r below ∷ ms) n x body source left (kept ++ o ∷ []) q vars os p r below ms g.0 g.1 e refl va.1 oa.1 next (omega (arith, g.3, length-append kept (o ∷ []))) g.4 g.5 g.6
+      turning (raw (Turning x body source left kept ∷ q) (v ∷ vars) (o ∷ os)) (Iterating p r below ∷ ms) n x body source left (kept ++ o ∷ []) q vars os p r below ms g.0 g.1 e refl va.1 oa.1 next (omega (arith, g.3, length-append kept (o ∷ []))) g.4 g.5 g.6 g.7 g.8
 
   moves_on : (q : List Piece) (ms : List Mark) (vars os : List Value) (n : ℕ) → at_piece q ms vars os n
-  moves_on [] (Here at ∷ []) vars os n i va oa g = from_end at vars os n i va oa g
-  moves_on (Sequence t ∷ q) (Here at ∷ ms) vars os n i va oa g = from_sequence t q at ms vars os n i va oa g
-  moves_on (LetEnd ∷ q) (Here at ∷ ms) vars os n i va oa g = from_let_end q at ms vars os n i va oa g
-  moves_on (Opened x body source kept ∷ q) (Iterating p r below ∷ ms) vars os n i va oa g =
+  moves_on [] (Here at ∷ []) vars os n i va oa h g = from_end at vars os n i va oa h g
+  moves_on (Sequence t ∷ q) (Here at ∷ ms) vars os n i va oa h g = from_sequence t q at ms vars os n i va oa h g
+  moves_on (LetEnd ∷ q) (Here at ∷ ms) vars os n i va oa h g = from_let_end q at ms vars os n i va oa h g
+  moves_on (Opened x body source kept ∷ q) (Iterating p r below ∷ ms) vars os n i va oa h g =
       let none : length kept ≡ 0 = ap length g.3 in
-      turning (raw (Opened x body source kept ∷ q) vars os) (Iterating p r below ∷ ms) n x body source source.elements kept q vars os p r below ms g.0 g.1 refl refl va oa g.2 (omega (arith, none)) g.4 g.5 g.6
-  moves_on (Turning x body source left kept ∷ q) (Iterating p r below ∷ ms) vars os n i va oa g =
-      from_turn x body source left kept q p r below ms vars os n i va oa g
-  moves_on (Skipped ∷ q) (Iterating p r below ∷ ms) vars os n i va oa g =
+      turning (raw (Opened x body source kept ∷ q) vars os) (Iterating p r below ∷ ms) n x body source source.elements kept q vars os p r below ms g.0 g.1 refl refl va oa g.2 (omega (arith, none)) g.4 g.5 g.6 g.7 g.8
+  moves_on (Turning x body source left kept ∷ q) (Iterating p r below ∷ ms) vars os n i va oa h g =
+      from_turn x body source left kept q p r below ms vars os n i va oa h g
+  moves_on (Skipped ∷ q) (Iterating p r below ∷ ms) vars os n i va oa h g =
       steps_to (raw (Skipped ∷ q) vars os) (Iterating p r below ∷ ms) n g.0 q vars (value.Invalid ∷ os) [] ms refl refl (omega (arith, g.4))
-      (subst (λ st. AllAt s vars st.variables) (sym g.2) va) (subst (λ st. AllAt s (value.Invalid ∷ os) st.operands) (sym g.2) (invalid_at s g.1, oa)) g.3
-  moves_on q ms vars os n i va oa g = absurd g
+      (subst (λ st. AllAt s vars st.variables) (sym g.2) va) (subst (λ st. AllAt s (value.Invalid ∷ os) st.operands) (sym g.2) (invalid_at s g.1, oa))
+      (subst (HasRoom deep (length q)) (sym g.2) (record { operands = g.5; variables = h.variables; pieces = omega (arith, h.pieces) })) g.3
+  moves_on q ms vars os n i va oa h g = absurd g
 
   -- a configuration that can go on has a verdict, or a next step to one that can go on for fewer
-  pub moves : (c : Configuration) (ms : List Mark) (n : ℕ) → Live s c ms n → Moves s c ms n
+  pub moves : (c : Configuration) (ms : List Mark) (n : ℕ) → Live s deep c ms n → Moves s deep c ms n
   moves c ms n l =
       ⊎_elim (λ f. inl f) (λ m. inr (m.0, m.1, m.2, omega (arith, l.within, m.3), m.4))
-      (moves_on c.pending ms c.variables c.operands l.cost l.settled l.variables_at l.operands_at l.going)
+      (moves_on c.pending ms c.variables c.operands l.cost l.settled l.variables_at l.operands_at l.room l.going)
 
   -- ---- what iterations hold
 
   -- what open iterations hold is at its places
-  pub held : (q : List Piece) (ms : List Mark) (n : ℕ) → Going s q ms n → AllHeldAt s q ms
+  pub held : (q : List Piece) (ms : List Mark) (n : ℕ) → Going s deep q ms n → AllHeldAt s q ms
   held [] ms n g = tt
   held (Sequence t ∷ q) (Here at ∷ ms) n g = (tt, held q ms g.1 g.8)
   held (LetEnd ∷ q) (Here at ∷ ms) n g = (tt, held q ms g.0 g.4)

@@ -10,7 +10,7 @@ use Rattle.rule_machine.specs.declared.state.Started.{Started}
 use Rattle.rule_machine.specs.declared.task.Task.{Task}
 use Rattle.rule_machine.specs.Machine.{Setting, setting_of, Configuration, step, run, start}
 use Rattle.rule_machine.specs.Verdict.{outcome}
-use Rattle.rule_machine.specs.Laws.{IsAcceptedRun, tree_of_rule, rule_bound, first_there, verdict_within, verdict_at}
+use Rattle.rule_machine.specs.Laws.{IsAcceptedRun, tree_of_rule, rule_bound, rule_depths_in, first_there, verdict_within, verdict_at}
 use Rattle.rule_machine.specs.Shown.{setting_in, configuration_of, HasNext, Same, Stepped, IsStartOf, IsTaskOf, CanGoOn}
 use Rattle.rule_machine.specs.Seen.{seen, seen_in, Represents}
 use Rattle.rule_machine.specs.Contract.{Further, IsStarted, IsPaused, IsDone, IsRefused, Judged}
@@ -37,7 +37,7 @@ module _ (u : Content) (p : Population) (r o n : ℕ) (c : Configuration) (accep
   pub goes_on : outcome c ≡ None → (d : Configuration) × (step (setting_of u p r) c ≡ Some d) × (n < rule_bound u p r)
   goes_on none =
       let l = goes_on_at u p r o n c accepted reached in
-      ⊎_elim (λ f. absurd (no_verdict (outcome c) none f)) (λ m. (m.0, m.2, omega (arith, m.3, l.3))) (moves (setting_of u p r) accepted.model accepted.population c l.0 l.1 l.4)
+      ⊎_elim (λ f. absurd (no_verdict (outcome c) none f)) (λ m. (m.0, m.2, omega (arith, m.3, l.3))) (moves (setting_of u p r) (rule_depths_in u p r) accepted.model accepted.population c l.0 l.1 l.4)
     where
       no_verdict : (v : Option Verdict) → v ≡ None → IsSome v → ⊥
       no_verdict None e f = let bad = f in cc
@@ -68,7 +68,7 @@ verdict_found u p r o accepted (suc f) (suc n) c d v ran ends le = by_outcome (�
 
     by_outcome : ((c' : Configuration) → run s n c' ≡ Some d → verdict_within s f c' ≡ Some v) → (w : Option Verdict) → outcome c ≡ w → first_there (outcome c) (option_and_then (verdict_within s f) (step s c)) ≡ Some v
     by_outcome go None e = ap (λ w. first_there w (option_and_then (verdict_within s f) (step s c))) e ∙ by_step go (step s c) ran
-    by_outcome go (Some w) e = absurd (stopped (step s c) (final_stops s accepted.model accepted.population c.pending c.variables c.operands (subst IsSome (sym e) refl)) ran)
+    by_outcome go (Some w) e = absurd (stopped (step s c) (final_stops s (rule_depths_in u p r) accepted.model accepted.population c.pending c.variables c.operands (subst IsSome (sym e) refl)) ran)
 
 -- ---- the machine
 

@@ -21,10 +21,11 @@ use Rattle.rule_verify.specs.KindRules.{InstrFault, Enclosing, kinds_after, rule
 use Rattle.rule_verify.proofs.ForAbove.{rule_accepted, has_context}
 use Rattle.rule_machine.specs.Value.{object_value}
 use Rattle.rule_machine.specs.Machine.{setting_of, judged_by, Piece, Sequence, Configuration, run, start}
-use Rattle.rule_machine.specs.Laws.{IsAcceptedRun, tree_of_rule, rule_bound, NeverStuck, EndsWithin, StandsInKinds, PlacesAreByRules}
-use Rattle.rule_machine.specs.Places.{self_place, places_after, stand, Mark, Here, marks_before}
-use Rattle.rule_machine.specs.Live.{IsOneBoolean, Going, Live}
+use Rattle.rule_machine.specs.Laws.{IsAcceptedRun, tree_of_rule, rule_bound, NeverStuck, EndsWithin, StandsInKinds, rule_depths_in, StaysWithinDepths, PlacesAreByRules}
+use Rattle.rule_machine.specs.Places.{self_place, places_after, stand, Mark, Here, now_at, marks_before}
+use Rattle.rule_machine.specs.Live.{IsOneBoolean, GoesNoDeeper, Going, Live}
 use Rattle.rule_machine.proofs.Marks.{marks_are}
+use Rattle.rule_machine.proofs.Deep.{sequence_room, as_many_at}
 use Rattle.rule_machine.proofs.Moves.{moves, settled, held}
 use Rattle.rule_machine.proofs.KindsAfter.{ended_says, lengths_after, kinds_of_after, body_ends_in}
 use Rattle.rule_machine.proofs.Bridge.{AllFit, code_is_cut, bridge}
@@ -46,7 +47,7 @@ rule_fits u p n o a =
     (EachFits-at (RuleFits u.texts u.symbols) [] u.rules n (unit_rule u n) (slice_get-get_or u.rules n empty_rule a.rule) a.unit.rules).1.code
 
 -- the start of accepted code can go on, for as many steps as its bound
-begins : (u : Content) (p : Population) (n o : ℕ) → IsAcceptedRun u p n o → Live (setting_of u p n) (start (tree_of_rule u n) o) (marks_before (setting_of u p n) (tree_of_rule u n) (start (tree_of_rule u n) o)) (rule_bound u p n)
+begins : (u : Content) (p : Population) (n o : ℕ) → IsAcceptedRun u p n o → Live (setting_of u p n) (rule_depths_in u p n) (start (tree_of_rule u n) o) (marks_before (setting_of u p n) (tree_of_rule u n) (start (tree_of_rule u n) o)) (rule_bound u p n)
 begins u p n o a =
     let s = setting_of u p n in
     let t = tree_of_rule u n in
@@ -61,22 +62,35 @@ begins u p n o a =
     let boolean : IsOneBoolean s out = subst (IsOneBoolean s) (sym one.0) (ap (matches p.model a_boolean) one.1 ∙ ended.1) in
     let q : List Piece = Sequence t ∷ [] in
     let ms : List Mark = Here (stand (self_place s ∷ []) []) ∷ Here (stand (self_place s ∷ []) out) ∷ [] in
-    let g : Going s q ms (rule_bound u p n) =
-    (rule_bound u p n, 0, [], [], out, refl, b, ap (stand (self_place s ∷ [])) (sym (append-nil out)), boolean, omega arith) in
-    subst (λ l. Live s (start t o) l (rule_bound u p n)) (sym (marks_are q (object_value o ∷ []) [] [] ms refl))
-    (settled s a.model a.population q (object_value o ∷ []) [] (rule_bound u p n) ms (record { in_kind = object; within = omega arith }, tt) tt g)
+    let deep = rule_depths_in u p n in
+    let whole : GoesNoDeeper s deep t 1 0 0 = record { blocks = 0; covered = omega arith; within = record { operands = omega arith; variables = omega arith; blocks = omega arith } } in
+    let g : Going s deep q ms (rule_bound u p n) =
+    (rule_bound u p n, 0, [], [], out, refl, b, ap (stand (self_place s ∷ [])) (sym (append-nil out)), boolean, omega arith, whole) in
+    subst (λ l. Live s deep (start t o) l (rule_bound u p n)) (sym (marks_are q (object_value o ∷ []) [] [] ms refl))
+    (settled s deep a.model a.population q (object_value o ∷ []) [] (rule_bound u p n) ms (record { in_kind = object; within = omega arith }, tt) tt (sequence_room s deep t (stand (self_place s ∷ []) []) 0 whole) g)
 
 -- ---- the laws
 
 -- each configuration that a run reaches can go on, at its marks, for as many steps as are left of the bound
-pub goes_on_at : (u : Content) (p : Population) (n o k : ℕ) (c : Configuration) → (a : IsAcceptedRun u p n o) → run (setting_of u p n) k (start (tree_of_rule u n) o) ≡ Some c → Stays (setting_of u p n) a.model a.population k (start (tree_of_rule u n) o) (marks_before (setting_of u p n) (tree_of_rule u n) (start (tree_of_rule u n) o)) c (rule_bound u p n)
+pub goes_on_at : (u : Content) (p : Population) (n o k : ℕ) (c : Configuration) → (a : IsAcceptedRun u p n o) → run (setting_of u p n) k (start (tree_of_rule u n) o) ≡ Some c → Stays (setting_of u p n) (rule_depths_in u p n) a.model a.population k (start (tree_of_rule u n) o) (marks_before (setting_of u p n) (tree_of_rule u n) (start (tree_of_rule u n) o)) c (rule_bound u p n)
 goes_on_at u p n o k c a r =
-    stays (setting_of u p n) a.model a.population k (start (tree_of_rule u n) o) c (marks_before (setting_of u p n) (tree_of_rule u n) (start (tree_of_rule u n) o)) (rule_bound u p n) (begins u p n o a) r
+    stays (setting_of u p n) (rule_depths_in u p n) a.model a.population k (start (tree_of_rule u n) o) c (marks_before (setting_of u p n) (tree_of_rule u n) (start (tree_of_rule u n) o)) (rule_bound u p n) (begins u p n o a) r
 
 pub stands_in_kinds : StandsInKinds
 stands_in_kinds u p n o k c a r =
     let l = goes_on_at u p n o k c a r in
-    (l.0, l.2, record { variables = l.4.variables_at; operands = l.4.operands_at; iterations = held (setting_of u p n) a.model a.population c.pending l.0 l.4.cost l.4.going })
+    (l.0, l.2, record { variables = l.4.variables_at; operands = l.4.operands_at; iterations = held (setting_of u p n) (rule_depths_in u p n) a.model a.population c.pending l.0 l.4.cost l.4.going })
+
+pub stays_within_depths : StaysWithinDepths
+stays_within_depths u p n o k c a r =
+    let s = setting_of u p n in
+    let l = (goes_on_at u p n o k c a r).4 in
+    let at = now_at c.pending (goes_on_at u p n o k c a r).0 in
+    record {
+      operands = omega (arith, l.room.operands, as_many_at s c.operands at.operands l.operands_at);
+      variables = omega (arith, l.room.variables, as_many_at s c.variables at.variables l.variables_at);
+      pieces = l.room.pieces;
+    }
 
 pub places_are_by_rules : PlacesAreByRules
 places_are_by_rules s t e vars ps at ks v h = (kinds_of_after s t e vars ps at ks v h, lengths_after s t vars ps)
@@ -84,8 +98,8 @@ places_are_by_rules s t e vars ps at ks v h = (kinds_of_after s t e vars ps at k
 pub never_stuck : NeverStuck
 never_stuck u p n o k c a r =
     let l = goes_on_at u p n o k c a r in
-    ⊎_elim (λ f. inl f) (λ m. inr (ap is_some m.2)) (moves (setting_of u p n) a.model a.population c l.0 l.1 l.4)
+    ⊎_elim (λ f. inl f) (λ m. inr (ap is_some m.2)) (moves (setting_of u p n) (rule_depths_in u p n) a.model a.population c l.0 l.1 l.4)
 
 pub ends_within : EndsWithin
 ends_within u p n o a =
-    ends (setting_of u p n) a.model a.population (rule_bound u p n) (start (tree_of_rule u n) o) (marks_before (setting_of u p n) (tree_of_rule u n) (start (tree_of_rule u n) o)) (rule_bound u p n) (omega arith) (begins u p n o a)
+    ends (setting_of u p n) (rule_depths_in u p n) a.model a.population (rule_bound u p n) (start (tree_of_rule u n) o) (marks_before (setting_of u p n) (tree_of_rule u n) (start (tree_of_rule u n) o)) (rule_bound u p n) (omega arith) (begins u p n o a)

@@ -1,15 +1,16 @@
 -- What holds of every run of accepted code, whoever made it.
-use Rattle.std.specs.Prelude.{◌≡◌, ◌⊎◌, ℕ, zero, suc, ◌<◌, ◌≤◌, List, length, Option, Some, None, Ok, IsSome, option_and_then}
+use Rattle.std.specs.Prelude.{◌≡◌, ◌⊎◌, ℕ, zero, suc, ◌+◌, ◌*◌, ◌<◌, ◌≤◌, List, length, Option, Some, None, Ok, IsSome, option_and_then}
 use Rattle.imkl_model.specs.WellFormed.{IsClassModel}
 use Rattle.imkl_population.specs.Population.{Population, IsInstance}
 use Rattle.imkl_population.specs.Consistency.{IsConsistent}
 use Rattle.imkl_population.specs.Sizes.{sizes_of}
 use Rattle.rule_code.specs.Content.{Content}
 use Rattle.rule_code.specs.WellFormed.{IsUnit}
+use Rattle.rule_verify.specs.declared.depths.Depths.{Depths}
 use Rattle.rule_verify.specs.CodeTree.{CodeTree, code_tree}
 use Rattle.ocl_kinds.specs.declared.kind.Kind.{Kind}
 use Rattle.rule_verify.specs.KindRules.{Enclosing, kinds_after}
-use Rattle.rule_verify.specs.UnitRules.{unit_rule, IsAcceptedUnit}
+use Rattle.rule_verify.specs.UnitRules.{unit_rule, depths_of, IsAcceptedUnit}
 use Rattle.rule_cost.specs.Bounds.{cost_of, step_bound}
 use Rattle.rule_machine.specs.Machine.{setting_of, judged_by, Setting, Configuration, step, run, start}
 use Rattle.rule_machine.specs.declared.verdict.Verdict.{Verdict}
@@ -58,6 +59,24 @@ StandsInKinds =
     → run (setting_of u p n) k (start (tree_of_rule u n) o) ≡ Some c
     → (ms : List Mark) × (marks_after (setting_of u p n) k (start (tree_of_rule u n) o) (marks_before (setting_of u p n) (tree_of_rule u n) (start (tree_of_rule u n) o)) ≡ Some ms)
     × StandsAt (setting_of u p n) c ms
+
+-- the most operands, variables and open blocks that a rule has at once
+abbrev pub rule_depths_in : Content → Population → ℕ → Depths
+rule_depths_in u p n = depths_of p.model u n (unit_rule u n)
+
+-- a configuration goes no deeper than these depths: an open block has two pending pieces at most
+pub record StaysWithin (d : Depths) (c : Configuration) : Type 0 where
+  pub operands : length c.operands ≤ d.operands
+  pub variables : length c.variables ≤ d.variables
+  pub pieces : length c.pending ≤ 2 * d.blocks + 1
+
+-- each configuration that a run reaches stays within the depths of its rule
+abbrev pub StaysWithinDepths : Type 0
+StaysWithinDepths =
+    (u : Content) (p : Population) (n o k : ℕ) (c : Configuration)
+    → IsAcceptedRun u p n o
+    → run (setting_of u p n) k (start (tree_of_rule u n) o) ≡ Some c
+    → StaysWithin (rule_depths_in u p n) c
 
 -- the places after code have the kinds of the rules of kinds and the lengths of the bounds
 abbrev pub PlacesAreByRules : Type 0

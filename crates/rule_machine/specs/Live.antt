@@ -1,9 +1,11 @@
 -- Code with kinds, and configurations that can go on: what every run of accepted code keeps.
-use Rattle.std.specs.Prelude.{◌≡◌, ℕ, ◌+◌, ◌*◌, ◌≤◌, Bool, true, false, List, [], ◌∷◌, ◌++◌, length, Some}
+use Rattle.std.specs.Prelude.{◌≡◌, ℕ, suc, ◌+◌, ◌*◌, ◌≤◌, Bool, true, false, List, [], ◌∷◌, ◌++◌, length, Some}
 use Rattle.ocl_kinds.specs.Kinds.{fits}
 use Rattle.rule_code.specs.declared.instruction.Instr.{Instr}
 use Rattle.rule_code.specs.declared.instruction.Instr.TheVariants as instrs
 use Rattle.rule_code.specs.WellFormed.{InstrFits}
+use Rattle.rule_verify.specs.declared.depths.Depths.{Depths}
+use Rattle.rule_verify.specs.CodeDepths.{deepest}
 use Rattle.rule_verify.specs.CodeTree.{CodeTree, End, Plain, Block, Branch, Torn, shape_of}
 use Rattle.rule_verify.specs.declared.shape.Shape.{Shape}
 use Rattle.rule_verify.specs.declared.shape.Shape.TheVariants.{Single, OneBody, TwoBodies}
@@ -13,7 +15,7 @@ use Rattle.rule_cost.specs.Bounds.{block_steps}
 use Rattle.rule_machine.specs.Value.{Element, Value}
 use Rattle.rule_machine.specs.Endings.{Source}
 use Rattle.rule_machine.specs.Machine.{Setting, judged_by, Piece, Sequence, LetEnd, Opened, Turning, Skipped, Configuration}
-use Rattle.rule_machine.specs.Places.{Place, kinds_of, self_place, given, places_left, bound_by, yielded, joined, end_place, stand, Mark, Here, Iterating, now_at, AllAt, EachAt, IsSource}
+use Rattle.rule_machine.specs.Places.{Place, kinds_of, self_place, given, places_left, bound_by, yielded, joined, end_place, Stand, stand, Mark, Here, Iterating, now_at, AllAt, EachAt, IsSource}
 
 -- what stands at the one may stand at the other
 pub record Below (s : Setting) (r t : Place) : Type 0 where
@@ -76,6 +78,26 @@ Kinded s (Branch i first second rest) vars (p ∷ ps) out n =
     × Kinded s rest vars (branch_gives s i first second vars p ∷ ps) out k × (1 + m + k ≤ n)
 Kinded s (Torn i left) vars ps out n = ⊥
 
+-- ---- depths
+
+-- the one goes no deeper than the other
+pub record NoDeeper (c d : Depths) : Type 0 where
+  pub operands : c.operands ≤ d.operands
+  pub variables : c.variables ≤ d.variables
+  pub blocks : c.blocks ≤ d.blocks
+
+-- a tree goes no deeper than these depths, with so many variables and operands before it and so many pieces pending below it
+pub record GoesNoDeeper (s : Setting) (d : Depths) (t : CodeTree) (variables operands pieces : ℕ) : Type 0 where
+  pub blocks : ℕ
+  pub covered : pieces ≤ 2 * blocks
+  pub within : NoDeeper (deepest (judged_by s) t (record { operands = operands; variables = variables; blocks = blocks })) d
+
+-- the depths have room for so many pieces at these places
+pub record HasRoom (d : Depths) (n : ℕ) (at : Stand) : Type 0 where
+  pub operands : length at.operands ≤ d.operands
+  pub variables : length at.variables ≤ d.variables
+  pub pieces : n ≤ 2 * d.blocks + 1
+
 -- ---- pending code
 
 -- An iteration in the middle of its run: its body has kinds and takes at most m steps, its source stands at the place p, and what its
@@ -92,23 +114,28 @@ abbrev pub IsOneBoolean : Setting → List Place → Type 0
 IsOneBoolean s (p ∷ []) = matches s.population.model a_boolean p.kind ≡ true
 IsOneBoolean s ps = ⊥
 
--- Pending code has kinds from its marks on, and takes at most n steps. Each piece leaves what the next one stands at.
-abbrev pub Going : Setting → List Piece → List Mark → ℕ → Type 0
-Going s [] (Here at ∷ []) n = IsOneBoolean s at.operands
-Going s (Sequence t ∷ q) (Here at ∷ ms) n =
+-- Pending code has kinds from its marks on, takes at most n steps, and goes no deeper than these depths. Each piece leaves what the
+-- next one stands at.
+abbrev pub Going : Setting → Depths → List Piece → List Mark → ℕ → Type 0
+Going s d [] (Here at ∷ []) n = IsOneBoolean s at.operands
+Going s d (Sequence t ∷ q) (Here at ∷ ms) n =
     (m : ℕ) × (k : ℕ) × (own : List Place) × (below : List Place) × (out : List Place) × (at.operands ≡ own ++ below)
-    × Kinded s t at.variables own out m × (now_at q ms ≡ stand at.variables (out ++ below)) × Going s q ms k × (m + k ≤ n)
-Going s (LetEnd ∷ q) (Here at ∷ ms) n =
-    (k : ℕ) × (v : Place) × (at.variables ≡ v ∷ (now_at q ms).variables) × (at.operands ≡ (now_at q ms).operands) × Going s q ms k × (1 + k ≤ n)
-Going s (Opened i body source kept ∷ q) (Iterating p r below ∷ ms) n =
+    × Kinded s t at.variables own out m × (now_at q ms ≡ stand at.variables (out ++ below)) × Going s d q ms k × (m + k ≤ n)
+    × GoesNoDeeper s d t (length at.variables) (length at.operands) (length q)
+Going s d (LetEnd ∷ q) (Here at ∷ ms) n =
+    (k : ℕ) × (v : Place) × (at.variables ≡ v ∷ (now_at q ms).variables) × (at.operands ≡ (now_at q ms).operands) × Going s d q ms k × (1 + k ≤ n)
+Going s d (Opened i body source kept ∷ q) (Iterating p r below ∷ ms) n =
     (m : ℕ) × (k : ℕ) × IsOpenIteration s i body source source.elements kept below.variables p r m × (kept ≡ [])
-    × (now_at q ms ≡ stand below.variables (yielded s i p r ∷ below.operands)) × Going s q ms k × (1 + length source.elements * (1 + m) + k ≤ n)
-Going s (Turning i body source left kept ∷ q) (Iterating p r below ∷ ms) n =
+    × (now_at q ms ≡ stand below.variables (yielded s i p r ∷ below.operands)) × Going s d q ms k × (1 + length source.elements * (1 + m) + k ≤ n)
+    × GoesNoDeeper s d body (suc (length below.variables)) (length below.operands) (suc (length q)) × (suc (length below.operands) ≤ d.operands)
+Going s d (Turning i body source left kept ∷ q) (Iterating p r below ∷ ms) n =
     (m : ℕ) × (k : ℕ) × IsOpenIteration s i body source left kept below.variables p r m × (length kept + (1 + length left) ≤ length source.elements)
-    × (now_at q ms ≡ stand below.variables (yielded s i p r ∷ below.operands)) × Going s q ms k × (1 + length left * (1 + m) + k ≤ n)
-Going s (Skipped ∷ q) (Iterating p r below ∷ ms) n =
-    (k : ℕ) × (t : Place) × (now_at q ms ≡ stand below.variables (t ∷ below.operands)) × Going s q ms k × (1 + k ≤ n)
-Going s q ms n = ⊥
+    × (now_at q ms ≡ stand below.variables (yielded s i p r ∷ below.operands)) × Going s d q ms k × (1 + length left * (1 + m) + k ≤ n)
+    × GoesNoDeeper s d body (suc (length below.variables)) (length below.operands) (suc (length q)) × (suc (length below.operands) ≤ d.operands)
+Going s d (Skipped ∷ q) (Iterating p r below ∷ ms) n =
+    (k : ℕ) × (t : Place) × (now_at q ms ≡ stand below.variables (t ∷ below.operands)) × Going s d q ms k × (1 + k ≤ n)
+    × (suc (length below.operands) ≤ d.operands)
+Going s d q ms n = ⊥
 
 -- a sequence that isn't empty
 abbrev pub IsThere : CodeTree → Type 0
@@ -121,11 +148,12 @@ IsSettled [] = Unit {0}
 IsSettled (Sequence t ∷ q) = IsThere t
 IsSettled (p ∷ q) = Unit {0}
 
--- a configuration with these marks can go on, for at most n steps
-pub record Live (s : Setting) (c : Configuration) (ms : List Mark) (n : ℕ) : Type 0 where
+-- a configuration with these marks can go on, for at most n steps and no deeper than these depths
+pub record Live (s : Setting) (d : Depths) (c : Configuration) (ms : List Mark) (n : ℕ) : Type 0 where
   pub variables_at : AllAt s c.variables (now_at c.pending ms).variables
   pub operands_at : AllAt s c.operands (now_at c.pending ms).operands
   pub settled : IsSettled c.pending
+  pub room : HasRoom d (length c.pending) (now_at c.pending ms)
   pub cost : ℕ
   pub within : cost ≤ n
-  pub going : Going s c.pending ms cost
+  pub going : Going s d c.pending ms cost

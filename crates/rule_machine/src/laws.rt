@@ -1,6 +1,6 @@
 //! Laws of runs: what holds of accepted code, whoever made it.
 
-ghost use Rattle.rule_machine.specs.Laws.{NeverStuck, EndsWithin, StandsInKinds, PlacesAreByRules};
+ghost use Rattle.rule_machine.specs.Laws.{NeverStuck, EndsWithin, StandsInKinds, StaysWithinDepths, PlacesAreByRules};
 
 /// No configuration that a run of accepted code reaches is stuck, for any object of the context class in any
 /// population of the class model: it has a verdict, or a next step.
@@ -17,6 +17,12 @@ pub fn ends_within()
 /// kinds give its place, and each collection, those that open iterations hold too, is no longer than its bound there.
 pub fn stands_in_kinds()
     ensures { StandsInKinds }
+{}
+
+/// Each configuration that a run of accepted code reaches has no more operands and variables than the depths of its rule, and at
+/// most two pending pieces for each open block and one more.
+pub fn stays_within_depths()
+    ensures { StaysWithinDepths }
 {}
 
 /// The places of operands after code have the kinds that the rules of kinds give, and the lengths of the bounds.
