@@ -92,12 +92,7 @@ fn reports_what_a_duct_holds(rt: HostRuntime) -> Result<(), Fail> {
 }
 
 /// A cable of this voltage, after other objects.
-fn with_cable(
-    alloc: Global,
-    objects: &str,
-    id: u32,
-    voltage: &str,
-) -> Result<String, AllocError> {
+fn with_cable(alloc: Global, objects: &str, id: u32, voltage: &str) -> Result<String, AllocError> {
     format!(in alloc;
         "{objects},{{\"id\":\"E{id}\",\"class\":\"Elektriciteitskabel\",\"features\":{{\"identificatie\":\"e{id}\",\"spanning\":{voltage}}}}}"
     )
@@ -133,7 +128,10 @@ fn reports_sums(rt: HostRuntime) -> Result<(), Fail> {
         ("9223372036854775807 1", (0, 0, 1), undecided),
     ];
     for (voltages, counts, text) in cases {
-        assert!(rt; reports_voltages(rt.alloc(), voltages, counts, text)?, "{voltages}");
+        assert!(rt;
+            reports_voltages(rt.alloc(), voltages, counts, text)?,
+            "{voltages}"
+        );
     }
     Ok(())
 }

@@ -102,11 +102,7 @@ fn fails_where_a_write_does(rt: HostRuntime) {
 }
 
 /// Whether a writer of room for the report takes it whole, is then flushed once, and this is answered.
-fn takes_it_whole(
-    alloc: Global,
-    flushes: bool,
-    answer: Result<Summary, ReportFault>,
-) -> bool {
+fn takes_it_whole(alloc: Global, flushes: bool, answer: Result<Summary, ReportFault>) -> bool {
     let (answered, writer) = written_into(alloc, Narrow::new(alloc, REPORT.len(), false, flushes));
     answered == Some(answer)
         && writer.taken.as_slice() == REPORT.as_bytes()
