@@ -1,5 +1,4 @@
-pub mod Writes
-pub mod Reports
+pub mod Endings
 pub mod Judging
 pub mod Inputs
 pub mod Described

@@ -50,6 +50,13 @@ abbrev pub fails_write : Outcome → Bool
 fails_write (Status s) = false
 fails_write (Failed cause) = is_write cause
 
+-- the sink is as it was where memory or a read failed
+abbrev pub KeepsSink : {S : Type 0} → Outcome → S → S → Type 0
+KeepsSink (Status s) old new = ⊤
+KeepsSink (Failed Memory) old new = new ≡ old
+KeepsSink (Failed Read) old new = new ≡ old
+KeepsSink (Failed Write) old new = ⊤
+
 -- ---- how a command ends
 
 -- what keeps a command from its answer where an input can't be had

@@ -1,5 +1,5 @@
 -- What `judge` answers.
-use Rattle.std.specs.Prelude.{ℕ, List, Option, Some, None, Result, Ok, Err, if◌then◌else◌}
+use Rattle.std.specs.Prelude.{ℕ, zero, suc, ◌+◌, List, Option, Some, None, Result, Ok, Err, if◌then◌else◌}
 use Rattle.std.specs.Str.{is_utf8}
 use Rattle.serde_json.specs.Data.{Data}
 use Rattle.serde_json.specs.Read.{read}
@@ -15,13 +15,26 @@ use Rattle.rule_code.specs.Content.{Content}
 use Rattle.rule_code.specs.CodeFile.{CodeFaultAt, unit_of}
 use Rattle.rule_verify.specs.KindRules.{InstrFault}
 use Rattle.rule_verify.specs.UnitRules.{check_unit}
-use Rattle.ocl_check.specs.Report.{report_of, status_of}
+use Rattle.rule_report.specs.declared.summary.Summary.{Summary}
+use Rattle.rule_report.specs.Report.{report_of, summary_of}
 use Rattle.ocl_check.specs.Reply.{Answer, refused_model, refused_delivery, refused_code, refused_verify}
+
+-- 0 where every rule holds for each object of its context class, 1 where an object fails or is undecided
+abbrev pub status_by : ℕ → ℕ
+status_by zero = 0
+status_by (suc n) = 1
+
+abbrev pub status_of : Summary → ℕ
+status_of s = status_by (s.fails + s.undecided)
+
+-- the report, with its status
+abbrev pub report_answer : Content → Population → Answer
+report_answer u p = (report_of u p, status_of (summary_of u p))
 
 -- a unit with a fault is refused, else its rules are judged
 abbrev pub unit_answer : Population → Content → Result (Unit {0}) InstrFault → Answer
 unit_answer p u (Err f) = refused_verify f
-unit_answer p u (Ok _) = (report_of u p, status_of u p)
+unit_answer p u (Ok _) = report_answer u p
 
 abbrev pub code_answer : Population → Result Content CodeFaultAt → Answer
 code_answer p (Err l) = refused_code l

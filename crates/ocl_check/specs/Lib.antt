@@ -1,8 +1,8 @@
 -- Definitions: what contracts mean.
-pub mod Sink
 pub mod Input
-pub mod Report
 pub mod Reply
 pub mod Answers
 pub mod Judge
 pub mod Verify
+-- Bookkeeping: what only private contracts use.
+pub mod Ending

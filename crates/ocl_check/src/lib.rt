@@ -5,11 +5,9 @@ mod commands;
 mod input;
 mod outcome;
 mod reply;
-mod report;
-mod sink;
 
 pub use commands::judge::run_judge;
 pub use commands::verify::run_verify;
 pub use input::{InputFault, read_input};
 pub use outcome::{Cause, Outcome};
-pub use sink::{Sink, Telling};
+pub use rule_report::{Sink, Telling};

@@ -1,14 +1,15 @@
 //! How a command ends.
 
-ghost use Rattle.std.specs.Prelude.{◌≡◌, false};
+ghost use Rattle.std.specs.Prelude.{◌≡◌, false, IfOk};
 ghost use Rattle.ocl_check.specs.declared.outcome.Cause.TheVariants.{Memory};
-ghost use Rattle.ocl_check.specs.Reply.{said};
-ghost use Rattle.ocl_check.specs.Answers.{IsAnswered, fails_write, cause_of, exit_status, failure_line};
+ghost use Rattle.ocl_check.specs.Reply.{Answer, said};
+ghost use Rattle.ocl_check.specs.Answers.{cause_of, exit_status, failure_line};
+ghost use Rattle.ocl_check.specs.Ending.{IsEnding};
 
 use crate::input::InputFault;
 use crate::reply::Reply;
-use crate::sink::{Sink, write_whole};
 use rule_machine::OutOfMemory;
+use rule_report::{Sink, write_and_flush};
 
 /// What kept a command from its answer.
 #[derive(Clone, Copy, Debug, PartialEq, Eq)]
@@ -77,15 +78,22 @@ impl From<OutOfMemory> for Cause {
 /// Writes a reply, and flushes what the sink has buffered.
 pub(crate) fn say<S: Sink>(sink: &mut S, reply: &Reply) -> Outcome
     requires { S.has_failed sink.old ≡ false }
-    ensures answered { IsAnswered (said reply.now) (S.contents sink.old)
-        (S.contents sink.new) result }
-    ensures sink { S.has_failed sink.new ≡ fails_write result }
+    ensures { IsEnding S.contents S.has_failed (said reply.now) sink.old result sink.new }
 {
-    let Ok(()) = write_whole(sink, reply.text.as_bytes()) else {
-        return Outcome::Failed(Cause::Write);
-    };
-    let Ok(()) = sink.flush() else {
-        return Outcome::Failed(Cause::Write);
-    };
-    Outcome::Status(reply.status)
+    match write_and_flush(sink, reply.text.as_bytes()) {
+        Ok(()) => Outcome::Status(reply.status),
+        Err(_failed) => Outcome::Failed(Cause::Write),
+    }
+}
+
+/// Writes a reply, if there was memory to make it.
+pub(crate) fn answer<S: Sink>(sink: &mut S, reply: Result<Reply, OutOfMemory>) -> Outcome
+    requires { S.has_failed sink.old ≡ false }
+    ensures { (a : Answer) → IfOk reply (λ r. said r ≡ a) →
+        IsEnding S.contents S.has_failed a sink.old result sink.new }
+{
+    match reply {
+        Ok(reply) => say(sink, &reply),
+        Err(OutOfMemory) => Outcome::Failed(Cause::Memory),
+    }
 }

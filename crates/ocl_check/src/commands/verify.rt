@@ -7,16 +7,16 @@ ghost use Rattle.rule_code.specs.CodeFile.{unit_of};
 ghost use Rattle.rule_verify.specs.UnitRules.{check_unit};
 ghost use Rattle.ocl_check.specs.declared.outcome.Cause.TheVariants.{Write};
 ghost use Rattle.ocl_check.specs.Reply.{said};
-ghost use Rattle.ocl_check.specs.Answers.{IsAnswered, ReadBy, ReadWithin, fails_write};
+ghost use Rattle.ocl_check.specs.Answers.{IsAnswered, KeepsSink, ReadBy, ReadWithin, fails_write};
 ghost use Rattle.ocl_check.specs.Verify.{checked_answer, verify_code_answer, verify_answer};
 
 use crate::input::{MOST_BYTES, read_input};
 use crate::outcome::{Cause, Outcome, say};
 use crate::reply::{Reply, accepted_reply, refused_code, refused_model, refused_verify};
-use crate::sink::Sink;
 use imkl_model::ClassModel;
 use rule_code::{CodeFault, Unit, read_unit};
 use rule_machine::OutOfMemory;
+use rule_report::Sink;
 use rule_verify::{VerifyFault, verify};
 use std::alloc::Global;
 use std::io::Read;
@@ -84,6 +84,7 @@ pub fn run_verify<M: Read, C: Read, S: Sink>(
         ReadBy result (C.remaining code.old) (λ ys.
         IsAnswered (verify_answer xs ys) (S.contents sink.old) (S.contents sink.new) result)) }
     ensures sink { S.has_failed sink.new ≡ fails_write result }
+    ensures kept { KeepsSink result sink.old sink.new }
     ensures code_waits { IsAtEnd (M.remaining model.new) ⊎ (code.new ≡ code.old) }
 {
     match verify_readers(alloc, model, code) {

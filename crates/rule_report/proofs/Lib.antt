@@ -1,0 +1,4 @@
+pub mod Writes
+pub mod Counts
+pub mod Reports
+pub mod Parts

@@ -1,0 +1,7 @@
+-- Definitions: what contracts mean.
+pub mod Sink
+pub mod Report
+pub mod Writing
+pub mod Laws
+-- Bookkeeping: views, layouts, walks and tables that only proofs and private contracts use.
+pub mod Counting
