@@ -31,10 +31,13 @@ fn end_length(sizes: &Sizes<'_>, feature: FeatureNo) -> u64
 {
     sizes.model().well_formed();
     let info = sizes.model().feature_info(feature);
-    match (info.element, info.upper) {
-        (ElementType::Class(class), Some(upper)) => u64::from(upper).min(sizes.count(class)),
-        (ElementType::Class(class), None) => sizes.count(class),
-        _ => 0,
+    let ElementType::Class(class) = info.element else {
+        return 0;
+    };
+    let count = sizes.count(class);
+    match info.upper {
+        Some(upper) => u64::from(upper).min(count),
+        None => count,
     }
 }
 

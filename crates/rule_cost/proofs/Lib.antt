@@ -1,0 +1,3 @@
+pub mod Cuts
+pub mod Costs
+pub mod CodeWalk
