@@ -93,7 +93,7 @@ reached_first c vars p steps ops le none empty =
       kept = refl;
       forward = omega arith;
       before = le;
-      cost = record { steps = sym (plus_same steps k.steps 0 k.steps (cut_again steps 0 none) refl); lengths = same_lengths k.lengths };
+      cost = record { steps = ap cut (let whole : k.steps ≡ 0 + k.steps = omega arith in whole) ∙ sym (plus_same steps k.steps 0 k.steps (cut_again steps 0 none) refl); lengths = same_lengths k.lengths };
     })
 
 -- one instruction more

@@ -1,3 +1,4 @@
 pub mod Cuts
 pub mod Costs
 pub mod CodeWalk
+pub mod Taken
