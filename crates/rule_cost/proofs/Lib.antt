@@ -2,3 +2,4 @@ pub mod Cuts
 pub mod Costs
 pub mod CodeWalk
 pub mod Taken
+pub mod Affordable

@@ -20,10 +20,10 @@ block-returns-clause-advances t c =
       forward = omega arith;
       within = omega (arith, c.requires.nests);
       cost = block_advances code c.args.variables.now c.args.place c.args.instr c.requires.inside c.requires.place.within c.requires.here c.args.operands.now c.args.length c.requires.shape c.requires.nests bound yielded c.block_steps.result (at + c.args.length) c.put.new.lengths c.put-2.new.lengths (record { at = at; end = at + c.args.length }) total refl refl refl
-      (subst (λ l. SameCut bound (spec.length_bound_by c.args.instr l)) source c.length_bound_by.ensures) c.in_ok-put.ensures c.in_ok-body.ensures.totals
-      (subst (λ l. SameCut c.block_steps.result (spec.block_steps c.args.instr l total.steps)) source c.block_steps.ensures)
-      (subst (λ l. SameCut yielded (spec.length_yielded c.args.instr l total.length)) source c.length_yielded.ensures)
-      (c.in_ok-put-2.ensures ∙ ap (λ l. yielded ∷ l) (c.take_operands.ensures (surroundings_of_code code)));
+          (subst (λ l. SameCut bound (spec.length_bound_by c.args.instr l)) source c.length_bound_by.ensures) c.in_ok-put.ensures c.in_ok-body.ensures.totals
+          (subst (λ l. SameCut c.block_steps.result (spec.block_steps c.args.instr l total.steps)) source c.block_steps.ensures)
+          (subst (λ l. SameCut yielded (spec.length_yielded c.args.instr l total.length)) source c.length_yielded.ensures)
+          (c.in_ok-put-2.ensures ∙ ap (λ l. yielded ∷ l) (c.take_operands.ensures (surroundings_of_code code)));
     }
 
 -- src/walk.rt:156:1
@@ -37,8 +37,8 @@ branches-returns-clause-advances t c =
       forward = omega arith;
       within = omega (arith, c.requires.nests);
       cost = branches_advance code c.args.variables.now c.args.place c.args.instr c.requires.inside c.requires.place.within c.requires.here c.args.operands.now c.args.lengths.0 c.args.lengths.1 c.requires.shape c.requires.nests c.max.result c.branch_steps.result end c.put.new.lengths (record { at = at; end = middle }) (record { at = middle; end = end }) c.in_ok-first.first c.in_ok-second.second refl refl refl refl refl
-      c.in_ok-first.ensures.totals (subst (λ vs. Totals code vs (record { at = middle; end = end }) c.in_ok-second.second) c.in_ok-first.ensures.kept c.in_ok-second.ensures.totals) c.branch_steps.ensures (ap cut c.max.ensures)
-      (c.in_ok-put.ensures ∙ ap (λ l. c.max.result ∷ l) (c.take_operands.ensures (surroundings_of_code code)));
+          c.in_ok-first.ensures.totals (subst (λ vs. Totals code vs (record { at = middle; end = end }) c.in_ok-second.second) c.in_ok-first.ensures.kept c.in_ok-second.ensures.totals) c.branch_steps.ensures (ap cut c.max.ensures)
+          (c.in_ok-put.ensures ∙ ap (λ l. c.max.result ∷ l) (c.take_operands.ensures (surroundings_of_code code)));
     }
 
 -- src/walk.rt:66:5
@@ -61,7 +61,7 @@ step-returns-in_default-clause-advances t c =
       forward = c.requires.inside;
       within = omega arith;
       cost = elim c.in_default.branch [
-        step-in_default-via-in-OneBody+else-length-left w ↦ torn_ends code c.args.variables.now c.args.place _ c.requires.inside c.requires.place.within (slice_get-get_or code.code.now c.args.place.at _ lt) c.args.operands.now w.in-OneBody.length (sym c.shape_of.ensures ∙ w.in-OneBody.is) (omega (arith, w.if-length-left.false, c.requires.inside)) c.new.result (ap cut c.new.ensures)
+        | step-in_default-via-in-OneBody+else-length-left w ↦ torn_ends code c.args.variables.now c.args.place _ c.requires.inside c.requires.place.within (slice_get-get_or code.code.now c.args.place.at _ lt) c.args.operands.now w.in-OneBody.length (sym c.shape_of.ensures ∙ w.in-OneBody.is) (omega (arith, w.if-length-left.false, c.requires.inside)) c.new.result (ap cut c.new.ensures)
         | step-in_default-via-in-TwoBodies+then-first-left+else-second-left w ↦ torn_branch_ends code c.args.variables.now c.args.place _ c.requires.inside c.requires.place.within (slice_get-get_or code.code.now c.args.place.at _ lt) c.args.operands.now w.in-TwoBodies.first w.in-TwoBodies.second (sym c.shape_of.ensures ∙ w.in-TwoBodies.is) (omega (arith, w.if-first-left.true, w.if-second-left.false, c.requires.inside)) c.new.result (ap cut c.new.ensures)
         | step-in_default-via-in-TwoBodies+else-first-left w ↦ torn_branch_ends code c.args.variables.now c.args.place _ c.requires.inside c.requires.place.within (slice_get-get_or code.code.now c.args.place.at _ lt) c.args.operands.now w.in-TwoBodies.first w.in-TwoBodies.second (sym c.shape_of.ensures ∙ w.in-TwoBodies.is) (omega (arith, w.if-first-left.false, c.requires.inside)) c.new.result (ap cut c.new.ensures)
       ];
