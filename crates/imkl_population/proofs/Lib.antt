@@ -15,6 +15,7 @@ pub mod Holders
 pub mod ConsistencyLaws
 pub mod Places
 pub mod Lengths
+pub mod Fitting
 pub mod Orders
 pub mod Held
 pub mod Idle

@@ -81,6 +81,10 @@ abbrev pub block_steps : Instr → ℕ → ℕ → ℕ
 block_steps (instrs.Let n) l b = 2 + b
 block_steps i l b = 2 + l * (1 + b)
 
+-- the steps of a block with two bodies, by theirs
+abbrev pub branch_steps : ℕ → ℕ → ℕ
+branch_steps n m = 1 + max n m
+
 -- ---- code
 
 -- steps, and the lengths of the operands afterwards, the topmost first
@@ -106,7 +110,7 @@ cost_of s z (Block i body rest) vars ls =
     (length_yielded i (top_length ls) (top_length (cost_of s z body (length_bound_by i (top_length ls) ∷ vars) []).lengths)
     ∷ lengths_below s i ls))
 cost_of s z (Branch i first second rest) vars ls =
-    more_steps (1 + max (cost_of s z first vars []).steps (cost_of s z second vars []).steps)
+    more_steps (branch_steps (cost_of s z first vars []).steps (cost_of s z second vars []).steps)
     (cost_of s z rest vars
     (max (top_length (cost_of s z first vars []).lengths) (top_length (cost_of s z second vars []).lengths)
     ∷ lengths_below s i ls))

@@ -1,2 +1,22 @@
-//! What judging costs: bounds on the lengths of collections and on the steps of a run.
+//! What judging costs: bounds on the lengths of collections and on the steps of a run, and units
+//! that are admitted within a budget.
 #![tactic(auto)]
+
+mod admission;
+mod admitted;
+mod bounding;
+mod cut;
+mod fault;
+mod feature_lengths;
+mod instructions;
+mod operand_count;
+mod operands;
+mod place;
+mod sized;
+mod walk;
+
+pub use admission::admit;
+pub use admitted::Admitted;
+pub use bounding::bound;
+pub use cut::Bound;
+pub use fault::CostFault;

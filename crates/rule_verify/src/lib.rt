@@ -32,4 +32,5 @@ pub use memory::may_take_memory;
 pub use named::Named;
 pub use pattern::Pattern;
 pub use shape::Shape;
+pub use stack::Stack;
 pub use verifier::verify;

@@ -1,0 +1,126 @@
+-- The walk over code, by what the calls for its parts returned.
+use Rattle.std.proofs.Common.{◌≡◌, ℕ, zero, suc, ◌+◌, ◌*◌, ◌<◌, ◌≤◌, List, [], ◌∷◌, length, Some, refl, sym, ap, subst, ◌∙◌, arith}
+use Rattle.std.specs.Prelude.{max, slice_get, slice_range}
+use Rattle.rule_code.specs.declared.instruction.Instr.{Instr}
+use Rattle.rule_verify.specs.declared.shape.Shape.TheVariants.{Single, OneBody, TwoBodies}
+use Rattle.rule_verify.specs.CodeTree.{CodeTree, Torn, shape_of, code_tree}
+use Rattle.rule_verify.proofs.ForAbove.{stretch_none, tree_plain, tree_block, tree_branch, tree_torn, tree_torn_branch}
+use Rattle.rule_cost.specs.declared.sized.SizedCode.{SizedCode}
+use Rattle.rule_cost.specs.declared.place.Place.{Place}
+use Rattle.rule_cost.specs.declared.place.Advance.{Advance}
+use Rattle.rule_cost.specs.declared.place.Total.{Total}
+use Rattle.rule_cost.specs.Bounds.{Cost, more_steps, top_length, length_given, length_bound_by, length_yielded, block_steps, branch_steps, lengths_below, cost_of}
+use Rattle.rule_cost.specs.Limits.{cut, SameCut}
+use Rattle.rule_cost.specs.CostWalk.{surroundings_of_code, IsRange, cost_between, SameLengths, SameCost, Advances, Totals}
+use Rattle.rule_cost.proofs.Cuts.{plus_cut, plus_same, max_same, cut_again}
+use Rattle.rule_cost.proofs.Costs.{same_lengths, top_same, binds_same, yields_same, branch_same, block_same, more_same, cost_along, cost_same}
+
+-- ---- one instruction
+
+-- at the end of a sequence nothing is left
+nothing_left : (c : SizedCode) (vars : List ℕ) (at end : ℕ) (ops : List ℕ) → end ≤ at → cost_between c vars at end ops ≡ record { steps = 0; lengths = ops }
+nothing_left c vars at end ops past = ap (λ (x : CodeTree). cost_of (surroundings_of_code c) c.sizes.now x vars ops) (ap code_tree (stretch_none c.code.now at end past))
+
+module _ (c : SizedCode) (vars : List ℕ) (p : Place) (i : Instr) (lt : p.at < p.end) (le : p.end ≤ length c.code.now) (here : slice_get c.code.now p.at ≡ Some i) (ops : List ℕ) where
+  -- where the tree of what is left is known
+  by_tree : (t : CodeTree) (k : Cost) → code_tree (slice_range c.code.now p.at p.end) ≡ t → SameCost (cost_of (surroundings_of_code c) c.sizes.now t vars ops) k → SameCost (cost_between c vars p.at p.end ops) k
+  by_tree t k is h = subst (λ (x : CodeTree). SameCost (cost_of (surroundings_of_code c) c.sizes.now x vars ops) k) (sym is) h
+
+  pub plain_advances : shape_of i ≡ Single → (l steps next : ℕ) (after : List ℕ) → next ≡ p.at + 1 → SameCut steps 1 → SameCut l (length_given (surroundings_of_code c) c.sizes.now vars i ops) → after ≡ l ∷ lengths_below (surroundings_of_code c) i ops
+      → SameCost (cost_between c vars p.at p.end ops) (more_steps steps (cost_between c vars next p.end after))
+  plain_advances is l steps next after at one given pushed =
+      rw (at, pushed)
+      (by_tree _ _ (tree_plain c.code.now p.at p.end i lt le here is)
+      (more_same 1 steps _ _ (sym one) (cost_same (surroundings_of_code c) c.sizes.now _ vars vars _ _ (same_lengths vars) (sym given, same_lengths (lengths_below (surroundings_of_code c) i ops)))))
+
+  pub block_advances : (n : ℕ) → shape_of i ≡ OneBody n → p.at + 1 + n ≤ p.end → (b l steps next : ℕ) (vs after : List ℕ) (q : Place) (t : Total) → next ≡ p.at + 1 + n → q.at ≡ p.at + 1 → q.end ≡ p.at + 1 + n
+      → SameCut b (length_bound_by i (top_length ops)) → vs ≡ b ∷ vars → Totals c vs q t → SameCut steps (block_steps i (top_length ops) t.steps) → SameCut l (length_yielded i (top_length ops) t.length)
+      → after ≡ l ∷ lengths_below (surroundings_of_code c) i ops → SameCost (cost_between c vars p.at p.end ops) (more_steps steps (cost_between c vars next p.end after))
+  block_advances n is nests b l steps next vs after q t at from to bound binding total takes yielded pushed =
+      let top = top_length ops in
+      let body = cost_between c (length_bound_by i top ∷ vars) (p.at + 1) (p.at + 1 + n) [] in
+      let T : ℕ → ℕ → List ℕ → Type 0 = λ f g v. SameCut (cost_between c v f g []).steps t.steps × SameCut (top_length (cost_between c v f g []).lengths) t.length in
+      let walked : T (p.at + 1) (p.at + 1 + n) (b ∷ vars) = subst (λ f. T f (p.at + 1 + n) (b ∷ vars)) from (subst (λ g. T q.at g (b ∷ vars)) to (subst (T q.at q.end) binding (total.steps, total.length))) in
+      let inner = cost_same (surroundings_of_code c) c.sizes.now (code_tree (slice_range c.code.now (p.at + 1) (p.at + 1 + n))) (length_bound_by i top ∷ vars) (b ∷ vars) [] [] (sym bound, same_lengths vars) tt in
+      let in_steps : SameCut body.steps t.steps = inner.steps ∙ walked.0 in
+      let in_length : SameCut (top_length body.lengths) t.length = top_same _ _ inner.lengths ∙ walked.1 in
+      rw (at, pushed)
+      (by_tree _ _ (tree_block c.code.now p.at p.end i lt le here n is nests)
+      (more_same (block_steps i top body.steps) steps _ _ (block_same i top top body.steps t.steps refl in_steps ∙ sym takes)
+      (cost_same (surroundings_of_code c) c.sizes.now _ vars vars _ _ (same_lengths vars) (yields_same i top top (top_length body.lengths) t.length refl in_length ∙ sym yielded, same_lengths (lengths_below (surroundings_of_code c) i ops)))))
+
+  pub branches_advance : (n m : ℕ) → shape_of i ≡ TwoBodies n m → p.at + 1 + n + m ≤ p.end → (l steps next : ℕ) (after : List ℕ) (q r : Place) (t u : Total) → next ≡ p.at + 1 + n + m
+      → q.at ≡ p.at + 1 → q.end ≡ p.at + 1 + n → r.at ≡ p.at + 1 + n → r.end ≡ p.at + 1 + n + m → Totals c vars q t → Totals c vars r u
+      → SameCut steps (branch_steps t.steps u.steps) → SameCut l (max t.length u.length) → after ≡ l ∷ lengths_below (surroundings_of_code c) i ops
+      → SameCost (cost_between c vars p.at p.end ops) (more_steps steps (cost_between c vars next p.end after))
+  branches_advance n m is nests l steps next after q r t u at from middle again to one two takes greater pushed =
+      let first = cost_between c vars (p.at + 1) (p.at + 1 + n) [] in
+      let second = cost_between c vars (p.at + 1 + n) (p.at + 1 + n + m) [] in
+      let T : Total → ℕ → ℕ → Type 0 = λ x f g. SameCut (cost_between c vars f g []).steps x.steps × SameCut (top_length (cost_between c vars f g []).lengths) x.length in
+      let in_first : T t (p.at + 1) (p.at + 1 + n) = subst (λ f. T t f (p.at + 1 + n)) from (subst (T t q.at) middle (one.steps, one.length)) in
+      let in_second : T u (p.at + 1 + n) (p.at + 1 + n + m) = subst (λ f. T u f (p.at + 1 + n + m)) again (subst (T u r.at) to (two.steps, two.length)) in
+      rw (at, pushed)
+      (by_tree _ _ (tree_branch c.code.now p.at p.end i lt le here n m is nests)
+      (more_same (branch_steps first.steps second.steps) steps _ _ (branch_same first.steps second.steps t.steps u.steps in_first.0 in_second.0 ∙ sym takes)
+      (cost_same (surroundings_of_code c) c.sizes.now _ vars vars _ _ (same_lengths vars)
+      (max_same (top_length first.lengths) (top_length second.lengths) t.length u.length in_first.1 in_second.1 ∙ sym greater, same_lengths (lengths_below (surroundings_of_code c) i ops)))))
+
+  -- a block that is longer than what is left ends its sequence
+  torn_is : (n : ℕ) → code_tree (slice_range c.code.now p.at p.end) ≡ Torn i n → (steps : ℕ) → SameCut steps 0 → SameCost (cost_between c vars p.at p.end ops) (more_steps steps (cost_between c vars p.end p.end ops))
+  torn_is n is steps none =
+      let e = nothing_left c vars p.end p.end ops (omega arith) in
+      rw e (by_tree _ _ is (record { steps = sym (plus_same steps 0 0 0 none refl); lengths = same_lengths ops }))
+
+  pub torn_ends : (n : ℕ) → shape_of i ≡ OneBody n → p.end < p.at + 1 + n → (steps : ℕ) → SameCut steps 0 → SameCost (cost_between c vars p.at p.end ops) (more_steps steps (cost_between c vars p.end p.end ops))
+  torn_ends n is long steps none = torn_is _ (tree_torn c.code.now p.at p.end i lt le here n is long) steps none
+
+  pub torn_branch_ends : (n m : ℕ) → shape_of i ≡ TwoBodies n m → p.end < p.at + 1 + n + m → (steps : ℕ) → SameCut steps 0 → SameCost (cost_between c vars p.at p.end ops) (more_steps steps (cost_between c vars p.end p.end ops))
+  torn_branch_ends n m is long steps none = torn_is _ (tree_torn_branch c.code.now p.at p.end i lt le here n m is long) steps none
+
+-- ---- sequences
+
+-- the walk came from a place on to the instruction at an index, after so many steps
+pub record Reached (c : SizedCode) (vars : List ℕ) (p : Place) (steps at : ℕ) (left ops : List ℕ) : Type 0 where
+  pub kept : left ≡ vars
+  pub forward : p.at ≤ at
+  pub before : at ≤ p.end
+  pub cost : SameCost (cost_between c vars p.at p.end []) (more_steps steps (cost_between c vars at p.end ops))
+
+pub reached_first : (c : SizedCode) (vars : List ℕ) (p : Place) (steps : ℕ) (ops : List ℕ) → p.at ≤ p.end → steps ≡ cut 0 → ops ≡ [] → Reached c vars p steps p.at vars ops
+reached_first c vars p steps ops le none empty =
+    let k = cost_between c vars p.at p.end [] in
+    rw empty (record {
+      kept = refl;
+      forward = omega arith;
+      before = le;
+      cost = record { steps = ap cut (let whole : k.steps ≡ 0 + k.steps = omega arith in whole) ∙ sym (plus_same steps k.steps 0 k.steps (cut_again steps 0 none) refl); lengths = same_lengths k.lengths };
+    })
+
+-- one instruction more
+pub reached_next : (c : SizedCode) (vars : List ℕ) (p q : Place) (steps more at : ℕ) (a : Advance) (left new ops after : List ℕ) → Reached c vars p steps at left ops → q.at ≡ at → q.end ≡ p.end → new ≡ left → Advances c left q ops a after → more ≡ cut (steps + a.steps)
+    → Reached c vars p more a.next new after
+reached_next c vars p q steps more at a left new ops after r from to same step added =
+    let A : List ℕ → Type 0 = λ v. SameCost (cost_between c v q.at q.end ops) (more_steps a.steps (cost_between c v a.next q.end after)) in
+    let B : ℕ → ℕ → Type 0 = λ f g. SameCost (cost_between c vars f g ops) (more_steps a.steps (cost_between c vars a.next g after)) in
+    let here : B at p.end = subst (λ f. B f p.end) from (subst (B q.at) to (subst A r.kept step.cost)) in
+    let rest = cost_between c vars a.next p.end after in
+    let both = cost_along _ _ _ r.cost (more_same steps steps _ _ refl here) in
+    let sum : SameCut (steps + (a.steps + rest.steps)) (more + rest.steps) =
+    ap cut (let h : steps + (a.steps + rest.steps) ≡ steps + a.steps + rest.steps = omega arith in h) ∙ plus_same (steps + a.steps) rest.steps more rest.steps (sym (cut_again more (steps + a.steps) added)) refl
+    in
+    record {
+      kept = same ∙ r.kept;
+      forward = omega (arith, r.forward, step.forward, from);
+      before = omega (arith, step.within, to);
+      cost = record { steps = both.steps ∙ sum; lengths = both.lengths };
+    }
+
+-- at the end
+pub reached_end : (c : SizedCode) (vars : List ℕ) (p : Place) (steps at : ℕ) (left ops : List ℕ) (t : Total) → Reached c vars p steps at left ops → p.end ≤ at → t.steps ≡ steps → t.length ≡ top_length ops → Totals c vars p t
+reached_end c vars p steps at left ops t r past is top =
+    let K : Cost → Type 0 = λ k. SameCost (cost_between c vars p.at p.end []) (more_steps steps k) in
+    let h = subst K (nothing_left c vars at p.end ops past) r.cost in
+    record {
+      steps = h.steps ∙ ap cut ((let e : steps + 0 ≡ steps = omega arith in e) ∙ sym is);
+      length = top_same _ _ h.lengths ∙ ap cut (sym top);
+    }

@@ -1,0 +1,116 @@
+-- Costs of code where lengths are one when they are cut.
+use Rattle.std.proofs.Common.{◌≡◌, ℕ, zero, suc, ◌+◌, ◌*◌, ◌<◌, ◌≤◌, Bool, true, false, List, [], ◌∷◌, length, drop, Some, None, refl, sym, ap, subst, ◌∙◌, arith}
+use Rattle.std.specs.Prelude.{◌==◌, max, if◌then◌else◌}
+use Rattle.imkl_population.specs.Sizes.{Sizes}
+use Rattle.rule_code.specs.declared.instruction.Instr.{Instr}
+use Rattle.rule_code.specs.declared.instruction.Instr.TheVariants as instrs
+use Rattle.rule_verify.specs.CodeTree.{CodeTree, End, Plain, Block, Branch, Torn}
+use Rattle.rule_verify.specs.InstrKinds.{Surroundings, operands_of, variable_at}
+use Rattle.rule_cost.specs.Bounds.{Cost, more_steps, top_length, or_zero, length_given, length_bound_by, length_yielded, block_steps, branch_steps, lengths_below, cost_of}
+use Rattle.rule_cost.specs.Limits.{SameCut}
+use Rattle.rule_cost.specs.CostWalk.{SameLengths, SameCost}
+use Rattle.rule_cost.proofs.Cuts.{plus_same, times_same, max_same}
+
+-- ---- lengths
+
+pub same_lengths : (ls : List ℕ) → SameLengths ls ls
+same_lengths [] = tt
+same_lengths (l ∷ ls) = (refl, same_lengths ls)
+
+lengths_along : (ks ls ms : List ℕ) → SameLengths ks ls → SameLengths ls ms → SameLengths ks ms
+lengths_along [] [] [] h g = tt
+lengths_along (k ∷ ks) (l ∷ ls) (m ∷ ms) h g = (h.0 ∙ g.0, lengths_along ks ls ms h.1 g.1)
+lengths_along [] (l ∷ ls) ms h g = absurd h
+lengths_along (k ∷ ks) [] ms h g = absurd h
+lengths_along [] [] (m ∷ ms) h g = absurd g
+lengths_along (k ∷ ks) (l ∷ ls) [] h g = absurd g
+
+as_many : (ls ms : List ℕ) → SameLengths ls ms → length ls ≡ length ms
+as_many [] [] h = refl
+as_many (l ∷ ls) (m ∷ ms) h = ap suc (as_many ls ms h.1)
+as_many [] (m ∷ ms) h = absurd h
+as_many (l ∷ ls) [] h = absurd h
+
+pub top_same : (ls ms : List ℕ) → SameLengths ls ms → SameCut (top_length ls) (top_length ms)
+top_same [] [] h = refl
+top_same (l ∷ ls) (m ∷ ms) h = h.0
+top_same [] (m ∷ ms) h = absurd h
+top_same (l ∷ ls) [] h = absurd h
+
+drop_same : (n : ℕ) (ls ms : List ℕ) → SameLengths ls ms → SameLengths (drop n ls) (drop n ms)
+drop_same zero ls ms h = h
+drop_same (suc n) [] [] h = tt
+drop_same (suc n) (l ∷ ls) (m ∷ ms) h = drop_same n ls ms h.1
+drop_same (suc n) [] (m ∷ ms) h = absurd h
+drop_same (suc n) (l ∷ ls) [] h = absurd h
+
+variable_by : (b : Bool) (n l m : ℕ) (ls ms : List ℕ) → (n == length ls) ≡ b → length ls ≡ length ms → SameCut l m → SameCut (or_zero (variable_at ls n)) (or_zero (variable_at ms n))
+    → SameCut (or_zero (if n == length ls then Some l else variable_at ls n)) (or_zero (if n == length ms then Some m else variable_at ms n))
+variable_by true n l m ls ms e many h g = let there : (n == length ms) ≡ true = ap (λ k. n == k) (sym many) ∙ e in rw (e, there) h
+variable_by false n l m ls ms e many h g = let there : (n == length ms) ≡ false = ap (λ k. n == k) (sym many) ∙ e in rw (e, there) g
+
+variable_same : (n : ℕ) (ls ms : List ℕ) → SameLengths ls ms → SameCut (or_zero (variable_at ls n)) (or_zero (variable_at ms n))
+variable_same n [] [] h = refl
+variable_same n (l ∷ ls) (m ∷ ms) h = variable_by (n == length ls) n l m ls ms refl (as_many ls ms h.1) h.0 (variable_same n ls ms h.1)
+variable_same n [] (m ∷ ms) h = absurd h
+variable_same n (l ∷ ls) [] h = absurd h
+
+-- ---- instructions
+
+given_same : (s : Surroundings) (z : Sizes) (i : Instr) (vars vars' ls ls' : List ℕ) → SameLengths vars vars' → SameLengths ls ls' → SameCut (length_given s z vars i ls) (length_given s z vars' i ls')
+given_same s z (instrs.Get n) vars vars' ls ls' h g = variable_same n vars vars' h
+given_same s z (instrs.AsSet k) vars vars' ls ls' h g = top_same ls ls' g
+given_same s z i vars vars' ls ls' h g = refl
+
+pub binds_same : (i : Instr) (l m : ℕ) → SameCut l m → SameCut (length_bound_by i l) (length_bound_by i m)
+binds_same (instrs.Let n) l m h = h
+binds_same i l m h = refl
+
+pub yields_same : (i : Instr) (l m r q : ℕ) → SameCut l m → SameCut r q → SameCut (length_yielded i l r) (length_yielded i m q)
+yields_same (instrs.Let n) l m r q h g = g
+yields_same (instrs.Select n) l m r q h g = h
+yields_same (instrs.Reject n) l m r q h g = h
+yields_same (instrs.Collect n) l m r q h g = h
+yields_same (instrs.CollectFlat n) l m r q h g = times_same l r m q h g
+yields_same i l m r q h g = refl
+
+pub branch_same : (b c d e : ℕ) → SameCut b d → SameCut c e → SameCut (branch_steps b c) (branch_steps d e)
+branch_same b c d e h g = plus_same 1 (max b c) 1 (max d e) refl (max_same b c d e h g)
+
+turns_same : (l m b c : ℕ) → SameCut l m → SameCut b c → SameCut (2 + l * (1 + b)) (2 + m * (1 + c))
+turns_same l m b c h g = plus_same 2 (l * (1 + b)) 2 (m * (1 + c)) refl (times_same l (1 + b) m (1 + c) h (plus_same 1 b 1 c refl g))
+
+pub block_same : (i : Instr) (l m b c : ℕ) → SameCut l m → SameCut b c → SameCut (block_steps i l b) (block_steps i m c)
+block_same (instrs.Let n) l m b c h g = plus_same 2 b 2 c refl g
+block_same i l m b c h g = turns_same l m b c h g
+
+-- the steps of a block that is no LET
+pub turns_are : (i : Instr) (l b : ℕ) → ((n : ℕ) → i ≡ instrs.Let n → ⊥) → block_steps i l b ≡ 2 + l * (1 + b)
+turns_are (instrs.Let n) l b h = absurd (h n refl)
+turns_are i l b h = refl
+
+-- ---- code
+
+pub more_same : (m n : ℕ) (a b : Cost) → SameCut m n → SameCost a b → SameCost (more_steps m a) (more_steps n b)
+more_same m n a b h g = record { steps = plus_same m a.steps n b.steps h g.steps; lengths = g.lengths }
+
+pub cost_along : (a b c : Cost) → SameCost a b → SameCost b c → SameCost a c
+cost_along a b c h g = record { steps = h.steps ∙ g.steps; lengths = lengths_along a.lengths b.lengths c.lengths h.lengths g.lengths }
+
+-- code costs the same where its variables and operands are as long
+pub cost_same : (s : Surroundings) (z : Sizes) (t : CodeTree) (vars vars' ls ls' : List ℕ) → SameLengths vars vars' → SameLengths ls ls' → SameCost (cost_of s z t vars ls) (cost_of s z t vars' ls')
+cost_same s z End vars vars' ls ls' h g = record { steps = refl; lengths = g }
+cost_same s z (Plain i rest) vars vars' ls ls' h g =
+    more_same 1 1 (cost_of s z rest vars (length_given s z vars i ls ∷ lengths_below s i ls)) (cost_of s z rest vars' (length_given s z vars' i ls' ∷ lengths_below s i ls')) refl
+    (cost_same s z rest vars vars' _ _ h (given_same s z i vars vars' ls ls' h g, drop_same (length (operands_of s i)) ls ls' g))
+cost_same s z (Block i body rest) vars vars' ls ls' h g =
+    let top = top_same ls ls' g in
+    let inner = cost_same s z body (length_bound_by i (top_length ls) ∷ vars) (length_bound_by i (top_length ls') ∷ vars') [] [] (binds_same i (top_length ls) (top_length ls') top, h) tt in
+    more_same _ _ _ _ (block_same i (top_length ls) (top_length ls') _ _ top inner.steps)
+    (cost_same s z rest vars vars' _ _ h (yields_same i (top_length ls) (top_length ls') _ _ top (top_same _ _ inner.lengths), drop_same (length (operands_of s i)) ls ls' g))
+cost_same s z (Branch i first second rest) vars vars' ls ls' h g =
+    let one = cost_same s z first vars vars' [] [] h tt in
+    let two = cost_same s z second vars vars' [] [] h tt in
+    more_same _ _ _ _ (branch_same _ _ _ _ one.steps two.steps)
+    (cost_same s z rest vars vars' _ _ h (max_same _ _ _ _ (top_same _ _ one.lengths) (top_same _ _ two.lengths), drop_same (length (operands_of s i)) ls ls' g))
+cost_same s z (Torn i left) vars vars' ls ls' h g = record { steps = refl; lengths = g }

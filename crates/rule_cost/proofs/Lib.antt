@@ -1,0 +1,5 @@
+pub mod Cuts
+pub mod Costs
+pub mod CodeWalk
+pub mod Taken
+pub mod Affordable

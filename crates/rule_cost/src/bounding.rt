@@ -1,0 +1,40 @@
+//! Bounds of rules.
+
+ghost use Rattle.std.specs.Prelude.{◌≡◌, ◌<◌, length, IfOk, IfErr};
+ghost use Rattle.rule_cost.specs.declared.fault.CostFault.TheVariants.{OutOfMemory};
+ghost use Rattle.rule_cost.specs.Limits.{bound_of};
+ghost use Rattle.rule_cost.specs.Admission.{rule_step_bound};
+
+use crate::cut::{Bound, Cut};
+use crate::fault::CostFault;
+use crate::place::Place;
+use crate::sized::SizedCode;
+use crate::walk::sequence;
+use imkl_population::Sizes;
+use rule_verify::{Accepted, Stack};
+use std::alloc::Global;
+
+/// The most steps that a rule makes for an object of its context class, in populations of these
+/// sizes. It is not known only where memory runs out.
+pub fn bound(
+    alloc: Global,
+    accepted: &Accepted<'_>,
+    rule: usize,
+    sizes: &Sizes<'_>,
+) -> Result<Bound, CostFault>
+    requires rule { rule < length accepted.now.unit.rules }
+    requires one_model { sizes.now.model ≡ accepted.now.model }
+    ensures bound { IfOk result (λ b. b ≡
+        bound_of (rule_step_bound accepted.now.unit sizes.now rule)) }
+    ensures refused { IfErr result (λ e. e ≡ OutOfMemory) }
+{
+    let code = SizedCode::new(accepted, rule, sizes);
+    let mut variables = Stack::new(alloc);
+    variables.push(Cut::new(0))?;
+    let whole = Place {
+        at: 0,
+        end: code.code.len(),
+    };
+    let total = sequence(alloc, &code, &mut variables, whole)?;
+    Ok(total.steps.bound())
+}

@@ -1,0 +1,79 @@
+//! Numbers that are cut at a limit.
+
+ghost use Rattle.std.specs.Prelude.{◌≡◌, ◌+◌, ◌*◌, max};
+ghost use Rattle.rule_cost.specs.Limits.{cut, bound_of};
+
+use std::marker::Model;
+
+/// From here on a bound is over.
+const STEP_LIMIT: u64 = 9_223_372_036_854_775_808;
+
+/// The most steps that a rule makes for an object.
+#[derive(Clone, Copy, Debug, PartialEq, Eq)]
+pub enum Bound {
+    /// At most so many, fewer than 2^63.
+    Steps(u64),
+    /// 2^63 or more.
+    Over,
+}
+
+/// A number of steps or of elements. Results are cut at 2^63: greater ones are 2^63.
+#[derive(Clone, Copy)]
+pub(crate) struct Cut {
+    number: u64,
+}
+
+impl Model for Cut {
+    ghost use Rattle.std.specs.Prelude.{ℕ};
+
+    ghost Value = { ℕ };
+
+    ghost view = { λ c. c.number };
+
+    ghost inverse = { λ n. record { number = n } };
+}
+
+impl Cut {
+    /// A number, cut.
+    pub(crate) fn new(number: u64) -> Cut
+        ensures { result ≡ cut number }
+    {
+        Cut {
+            number: number.min(STEP_LIMIT),
+        }
+    }
+
+    /// The sum.
+    pub(crate) fn plus(self, other: Cut) -> Cut
+        ensures { result ≡ cut (self + other) }
+    {
+        Cut::new(self.number.saturating_add(other.number))
+    }
+
+    /// The product.
+    pub(crate) fn times(self, other: Cut) -> Cut
+        ensures { result ≡ cut (self * other) }
+    {
+        Cut::new(self.number.saturating_mul(other.number))
+    }
+
+    /// The greater number.
+    pub(crate) fn max(self, other: Cut) -> Cut
+        ensures { result ≡ max self other }
+    {
+        Cut {
+            number: self.number.max(other.number),
+        }
+    }
+
+    /// The bound that so many steps are.
+    pub(crate) fn bound(self) -> Bound
+        ensures { result ≡ bound_of self }
+    {
+        if self.number < STEP_LIMIT {
+            Bound::Steps(self.number)
+        } else {
+            Bound::Over
+        }
+    }
+}

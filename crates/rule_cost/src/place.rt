@@ -1,0 +1,30 @@
+//! Where the walk over code stands, and what it found.
+
+use crate::cut::Cut;
+
+/// An instruction of a sequence.
+#[derive(Clone, Copy)]
+pub(crate) struct Place {
+    /// The index of the instruction.
+    pub(crate) at: usize,
+    /// The index past the last of its sequence.
+    pub(crate) end: usize,
+}
+
+/// What an instruction with its bodies comes to.
+#[derive(Clone, Copy)]
+pub(crate) struct Advance {
+    /// The index past it and its bodies.
+    pub(crate) next: usize,
+    /// Its steps.
+    pub(crate) steps: Cut,
+}
+
+/// What a sequence comes to.
+#[derive(Clone, Copy)]
+pub(crate) struct Total {
+    /// Its steps.
+    pub(crate) steps: Cut,
+    /// The length of the operand that it ends with.
+    pub(crate) length: Cut,
+}

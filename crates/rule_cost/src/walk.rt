@@ -1,0 +1,187 @@
+//! The walk over the code of a rule, each instruction once.
+
+ghost use Rattle.std.specs.Prelude.{◌≡◌, ◌+◌, ◌<◌, ◌≤◌, ◌∷◌, slice_get, Some, OnOk, IfOk};
+ghost use Rattle.rule_verify.specs.CodeTree.{shape_of};
+ghost use Rattle.rule_cost.specs.CostWalk.{IsSizedCode, IsRange, Advances, Totals};
+
+use crate::cut::Cut;
+use crate::instructions::{
+    block_steps, branch_steps, length_bound_by, length_given, length_yielded,
+};
+use crate::operands::{take_operands, top_length};
+use crate::place::{Advance, Place, Total};
+use crate::sized::SizedCode;
+use rule_code::Instr;
+use rule_verify::{Shape, Stack, shape_of};
+use std::alloc::{AllocError, Global};
+
+/// Puts a length on top of others.
+fn put(lengths: &mut Stack<Cut>, length: Cut) -> Result<(), AllocError>
+    ensures { OnOk result (lengths.new ≡ length ∷ lengths.old) }
+{
+    lengths.push(length)
+}
+
+/// An instruction without a body.
+fn plain(
+    code: &SizedCode<'_>,
+    variables: &Stack<Cut>,
+    operands: &mut Stack<Cut>,
+    place: Place,
+    instr: Instr,
+) -> Result<Advance, AllocError>
+    requires code { IsSizedCode code.now }
+    requires place { IsRange code.now place }
+    requires inside { place.at < place.end }
+    requires here { slice_get code.now.code.now place.at ≡ Some instr }
+    requires shape { shape_of instr ≡ Shape.Single }
+    ensures { IfOk result (λ a. Advances code.now variables.now place operands.old a operands.new) }
+{
+    let length = length_given(code, variables, operands, instr);
+    take_operands(operands, instr);
+    put(operands, length)?;
+    Ok(Advance {
+        next: place.at + 1,
+        steps: Cut::new(1),
+    })
+}
+
+/// The steps of the sequence that begins at a place, with no operand before it, and the length of
+/// the operand that it ends with.
+#[cycle(walk)]
+pub(crate) fn sequence(
+    alloc: Global,
+    code: &SizedCode<'_>,
+    variables: &mut Stack<Cut>,
+    place: Place,
+) -> Result<Total, AllocError>
+    requires code { IsSizedCode code.now }
+    requires place { IsRange code.now place }
+    ensures kept { OnOk result (variables.new ≡ variables.old) }
+    ensures totals { IfOk result (Totals code.now variables.old place) }
+{
+    let mut operands = Stack::new(alloc);
+    let mut steps = Cut::new(0);
+    let mut at = place.at;
+    'instructions: while at < place.end {
+        let here = Place { at, ..place };
+        let advance = step(alloc, code, variables, &mut operands, here)?;
+        steps = steps.plus(advance.steps);
+        at = advance.next;
+    }
+    Ok(Total {
+        steps,
+        length: top_length(&operands),
+    })
+}
+
+/// An instruction with its bodies. A block that is longer than what is left ends its sequence, as
+/// in the tree of the code; accepted code has none.
+#[cycle(walk)]
+fn step(
+    alloc: Global,
+    code: &SizedCode<'_>,
+    variables: &mut Stack<Cut>,
+    operands: &mut Stack<Cut>,
+    place: Place,
+) -> Result<Advance, AllocError>
+    requires code { IsSizedCode code.now }
+    requires place { IsRange code.now place }
+    requires inside { place.at < place.end }
+    ensures kept { OnOk result (variables.new ≡ variables.old) }
+    ensures advances { IfOk result (λ a. Advances code.now variables.old place operands.old a
+        operands.new) }
+{
+    let instr = code.code[place.at];
+    let left = place.end - place.at - 1;
+    match shape_of(instr) {
+        Shape::Single => plain(code, variables, operands, place, instr),
+        Shape::OneBody(length) if length <= left => {
+            block(alloc, code, variables, operands, place, instr, length)
+        }
+        Shape::TwoBodies(first, second) if first <= left && second <= left - first => {
+            branches(
+                alloc,
+                code,
+                variables,
+                operands,
+                place,
+                instr,
+                (first, second),
+            )
+        }
+        _ => Ok(Advance {
+            next: place.end,
+            steps: Cut::new(0),
+        }),
+    }
+}
+
+/// A block with one body of so many instructions, which has one variable more.
+#[cycle(walk)]
+fn block(
+    alloc: Global,
+    code: &SizedCode<'_>,
+    variables: &mut Stack<Cut>,
+    operands: &mut Stack<Cut>,
+    place: Place,
+    instr: Instr,
+    length: usize,
+) -> Result<Advance, AllocError>
+    requires code { IsSizedCode code.now }
+    requires place { IsRange code.now place }
+    requires inside { place.at < place.end }
+    requires here { slice_get code.now.code.now place.at ≡ Some instr }
+    requires shape { shape_of instr ≡ Shape.OneBody length }
+    requires nests { place.at + 1 + length ≤ place.end }
+    ensures kept { OnOk result (variables.new ≡ variables.old) }
+    ensures advances { IfOk result (λ a. Advances code.now variables.old place operands.old a
+        operands.new) }
+{
+    let source = top_length(operands);
+    put(variables, length_bound_by(instr, source))?;
+    let at = place.at + 1;
+    let end = at + length;
+    let body = sequence(alloc, code, variables, Place { at, end })?;
+    let _newest = variables.pop();
+    take_operands(operands, instr);
+    put(operands, length_yielded(instr, source, body.length))?;
+    Ok(Advance {
+        next: end,
+        steps: block_steps(instr, source, body.steps),
+    })
+}
+
+/// A block with two bodies of so many instructions.
+#[cycle(walk)]
+fn branches(
+    alloc: Global,
+    code: &SizedCode<'_>,
+    variables: &mut Stack<Cut>,
+    operands: &mut Stack<Cut>,
+    place: Place,
+    instr: Instr,
+    lengths: (usize, usize),
+) -> Result<Advance, AllocError>
+    requires code { IsSizedCode code.now }
+    requires place { IsRange code.now place }
+    requires inside { place.at < place.end }
+    requires here { slice_get code.now.code.now place.at ≡ Some instr }
+    requires shape { shape_of instr ≡ Shape.TwoBodies lengths.0 lengths.1 }
+    requires nests { place.at + 1 + lengths.0 + lengths.1 ≤ place.end }
+    ensures kept { OnOk result (variables.new ≡ variables.old) }
+    ensures advances { IfOk result (λ a. Advances code.now variables.old place operands.old a
+        operands.new) }
+{
+    let at = place.at + 1;
+    let middle = at + lengths.0;
+    let end = middle + lengths.1;
+    let first = sequence(alloc, code, variables, Place { at, end: middle })?;
+    let second = sequence(alloc, code, variables, Place { at: middle, end })?;
+    take_operands(operands, instr);
+    put(operands, first.length.max(second.length))?;
+    Ok(Advance {
+        next: end,
+        steps: branch_steps(first.steps, second.steps),
+    })
+}
