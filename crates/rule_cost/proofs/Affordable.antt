@@ -9,12 +9,12 @@ use Rattle.imkl_population.specs.Sizes.{Sizes}
 use Rattle.rule_code.specs.Content.{Content}
 use Rattle.rule_cost.specs.declared.cut.Bound.{Bound}
 use Rattle.rule_cost.specs.declared.cut.Bound.TheVariants.{Steps, Over}
-use Rattle.rule_cost.specs.Limits.{bound_of}
+use Rattle.rule_cost.specs.Limits.{limited_bound}
 use Rattle.rule_cost.specs.Admission.{rule_step_bound, is_affordable, refused_at, admission}
 
 -- the first n rules are within the budget
 abbrev pub AllAffordable : Content → Sizes → ℕ → ℕ → Type 0
-AllAffordable u z budget n = (r : ℕ) → r < n → is_affordable budget (bound_of (rule_step_bound u z r)) ≡ true
+AllAffordable u z budget n = (r : ℕ) → r < n → is_affordable budget (limited_bound (rule_step_bound u z r)) ≡ true
 
 -- ---- the least number that passes a test
 
@@ -40,12 +40,12 @@ least_first p (suc n) r lt passes h = elim (leb_tells n r) [
 -- a unit is admitted whose rules are all within the budget
 pub all_admitted : (u : Content) (z : Sizes) (budget : ℕ) → AllAffordable u z budget (length u.rules) → admission u z budget ≡ Ok tt
 all_admitted u z budget h =
-    ap refused_at (least_none (λ r. not (is_affordable budget (bound_of (rule_step_bound u z r)))) (length u.rules) (λ k lt. ap not (h k lt)))
+    ap refused_at (least_none (λ r. not (is_affordable budget (limited_bound (rule_step_bound u z r)))) (length u.rules) (λ k lt. ap not (h k lt)))
 
 -- else it is refused at the first that isn't
-pub first_refused : (u : Content) (z : Sizes) (budget r : ℕ) → r < length u.rules → AllAffordable u z budget r → is_affordable budget (bound_of (rule_step_bound u z r)) ≡ false → admission u z budget ≡ Err r
+pub first_refused : (u : Content) (z : Sizes) (budget r : ℕ) → r < length u.rules → AllAffordable u z budget r → is_affordable budget (limited_bound (rule_step_bound u z r)) ≡ false → admission u z budget ≡ Err r
 first_refused u z budget r lt h over =
-    ap refused_at (least_first (λ k. not (is_affordable budget (bound_of (rule_step_bound u z k)))) (length u.rules) r lt (ap not over) (λ k less. ap not (h k less)))
+    ap refused_at (least_first (λ k. not (is_affordable budget (limited_bound (rule_step_bound u z k)))) (length u.rules) r lt (ap not over) (λ k less. ap not (h k less)))
 
 -- more steps than the budget
 pub steps_above : (budget n : ℕ) (b : Bound) → b ≡ Steps n → budget < n → is_affordable budget b ≡ false

@@ -10,7 +10,7 @@ use Rattle.rule_cost.specs.declared.place.Place.{Place}
 use Rattle.rule_cost.specs.declared.place.Advance.{Advance}
 use Rattle.rule_cost.specs.declared.place.Total.{Total}
 use Rattle.rule_cost.specs.Bounds.{Cost, more_steps, top_length, length_given, length_bound_by, length_yielded, block_steps, branch_steps, lengths_below, cost_of}
-use Rattle.rule_cost.specs.Limits.{cut, SameCut}
+use Rattle.rule_cost.specs.Limits.{capped, SameCut}
 use Rattle.rule_cost.specs.CostWalk.{surroundings_of_code, IsRange, cost_between, SameLengths, SameCost, Advances, Totals}
 use Rattle.rule_cost.proofs.Cuts.{plus_cut, plus_same, max_same, cut_again}
 use Rattle.rule_cost.proofs.Costs.{same_lengths, top_same, binds_same, yields_same, branch_same, block_same, more_same, cost_along, cost_same}
@@ -86,18 +86,18 @@ pub record Reached (c : SizedCode) (vars : List ℕ) (p : Place) (steps at : ℕ
   pub before : at ≤ p.end
   pub cost : SameCost (cost_between c vars p.at p.end []) (more_steps steps (cost_between c vars at p.end ops))
 
-pub reached_first : (c : SizedCode) (vars : List ℕ) (p : Place) (steps : ℕ) (ops : List ℕ) → p.at ≤ p.end → steps ≡ cut 0 → ops ≡ [] → Reached c vars p steps p.at vars ops
+pub reached_first : (c : SizedCode) (vars : List ℕ) (p : Place) (steps : ℕ) (ops : List ℕ) → p.at ≤ p.end → steps ≡ capped 0 → ops ≡ [] → Reached c vars p steps p.at vars ops
 reached_first c vars p steps ops le none empty =
     let k = cost_between c vars p.at p.end [] in
     rw empty (record {
       kept = refl;
       forward = omega arith;
       before = le;
-      cost = record { steps = ap cut (let whole : k.steps ≡ 0 + k.steps = omega arith in whole) ∙ sym (plus_same steps k.steps 0 k.steps (cut_again steps 0 none) refl); lengths = same_lengths k.lengths };
+      cost = record { steps = ap capped (let whole : k.steps ≡ 0 + k.steps = omega arith in whole) ∙ sym (plus_same steps k.steps 0 k.steps (cut_again steps 0 none) refl); lengths = same_lengths k.lengths };
     })
 
 -- one instruction more
-pub reached_next : (c : SizedCode) (vars : List ℕ) (p q : Place) (steps more at : ℕ) (a : Advance) (left new ops after : List ℕ) → Reached c vars p steps at left ops → q.at ≡ at → q.end ≡ p.end → new ≡ left → Advances c left q ops a after → more ≡ cut (steps + a.steps)
+pub reached_next : (c : SizedCode) (vars : List ℕ) (p q : Place) (steps more at : ℕ) (a : Advance) (left new ops after : List ℕ) → Reached c vars p steps at left ops → q.at ≡ at → q.end ≡ p.end → new ≡ left → Advances c left q ops a after → more ≡ capped (steps + a.steps)
     → Reached c vars p more a.next new after
 reached_next c vars p q steps more at a left new ops after r from to same step added =
     let A : List ℕ → Type 0 = λ v. SameCost (cost_between c v q.at q.end ops) (more_steps a.steps (cost_between c v a.next q.end after)) in
@@ -106,7 +106,7 @@ reached_next c vars p q steps more at a left new ops after r from to same step a
     let rest = cost_between c vars a.next p.end after in
     let both = cost_along _ _ _ r.cost (more_same steps steps _ _ refl here) in
     let sum : SameCut (steps + (a.steps + rest.steps)) (more + rest.steps) =
-    ap cut (let h : steps + (a.steps + rest.steps) ≡ steps + a.steps + rest.steps = omega arith in h) ∙ plus_same (steps + a.steps) rest.steps more rest.steps (sym (cut_again more (steps + a.steps) added)) refl
+    ap capped (let h : steps + (a.steps + rest.steps) ≡ steps + a.steps + rest.steps = omega arith in h) ∙ plus_same (steps + a.steps) rest.steps more rest.steps (sym (cut_again more (steps + a.steps) added)) refl
     in
     record {
       kept = same ∙ r.kept;
@@ -121,6 +121,6 @@ reached_end c vars p steps at left ops t r past is top =
     let K : Cost → Type 0 = λ k. SameCost (cost_between c vars p.at p.end []) (more_steps steps k) in
     let h = subst K (nothing_left c vars at p.end ops past) r.cost in
     record {
-      steps = h.steps ∙ ap cut ((let e : steps + 0 ≡ steps = omega arith in e) ∙ sym is);
-      length = top_same _ _ h.lengths ∙ ap cut (sym top);
+      steps = h.steps ∙ ap capped ((let e : steps + 0 ≡ steps = omega arith in e) ∙ sym is);
+      length = top_same _ _ h.lengths ∙ ap capped (sym top);
     }

@@ -6,60 +6,60 @@ use Rattle.std.proofs.lemmas.Bool.Decides.{leb_tells}
 use Rattle.std.proofs.Math.Nat.{min-eq_left, min-eq_right, le-mul_of_pos_right, mul_comm, mul-zero}
 use Rattle.rule_cost.specs.declared.cut.Bound.{Bound}
 use Rattle.rule_cost.specs.declared.cut.Bound.TheVariants.{Steps, Over}
-use Rattle.rule_cost.specs.Limits.{step_limit, bound_of, cut, SameCut}
+use Rattle.rule_cost.specs.Limits.{step_limit, limited_bound, capped, SameCut}
 
 -- ---- sums, products, maxima
 
-pub plus_cut : (a b : ℕ) → cut (a + b) ≡ cut (cut a + cut b)
+pub plus_cut : (a b : ℕ) → capped (a + b) ≡ capped (capped a + capped b)
 plus_cut a b = omega arith
 
-pub max_cut : (a b : ℕ) → cut (max a b) ≡ max (cut a) (cut b)
+pub max_cut : (a b : ℕ) → capped (max a b) ≡ max (capped a) (capped b)
 max_cut a b = omega arith
 
 -- a factor past the limit, of a number that isn't zero
-past_limit : (a b : ℕ) → step_limit < a → cut (a * b) ≡ cut (step_limit * b)
-past_limit a zero lt = ap cut (mul-zero a ∙ sym (mul-zero step_limit))
+past_limit : (a b : ℕ) → step_limit < a → capped (a * b) ≡ capped (step_limit * b)
+past_limit a zero lt = ap capped (mul-zero a ∙ sym (mul-zero step_limit))
 past_limit a (suc b) lt =
     let one : a ≤ a * suc b = le-mul_of_pos_right a (omega arith) in
     let two : step_limit ≤ step_limit * suc b = le-mul_of_pos_right step_limit (omega arith) in
     min-eq_right (omega (arith, one, lt)) ∙ sym (min-eq_right two)
 
-factor_cut : (a b : ℕ) → cut (a * b) ≡ cut (cut a * b)
+factor_cut : (a b : ℕ) → capped (a * b) ≡ capped (capped a * b)
 factor_cut a b =
     elim (leb_tells a step_limit) [
-      | inl h ↦ ap (λ k. cut (k * b)) (sym (min-eq_left h.1))
-      | inr h ↦ past_limit a b h.1 ∙ ap (λ k. cut (k * b)) (sym (min-eq_right (omega (arith, h.1))))
+      | inl h ↦ ap (λ k. capped (k * b)) (sym (min-eq_left h.1))
+      | inr h ↦ past_limit a b h.1 ∙ ap (λ k. capped (k * b)) (sym (min-eq_right (omega (arith, h.1))))
     ]
 
-pub times_cut : (a b : ℕ) → cut (a * b) ≡ cut (cut a * cut b)
-times_cut a b = factor_cut a b ∙ ap cut (mul_comm (cut a) b) ∙ factor_cut b (cut a) ∙ ap cut (mul_comm (cut b) (cut a))
+pub times_cut : (a b : ℕ) → capped (a * b) ≡ capped (capped a * capped b)
+times_cut a b = factor_cut a b ∙ ap capped (mul_comm (capped a) b) ∙ factor_cut b (capped a) ∙ ap capped (mul_comm (capped b) (capped a))
 
 -- ---- numbers that are one when they are cut
 
 pub plus_same : (a b c d : ℕ) → SameCut a c → SameCut b d → SameCut (a + b) (c + d)
-plus_same a b c d e f = plus_cut a b ∙ ap (λ k. cut (k + cut b)) e ∙ ap (λ k. cut (cut c + k)) f ∙ sym (plus_cut c d)
+plus_same a b c d e f = plus_cut a b ∙ ap (λ k. capped (k + capped b)) e ∙ ap (λ k. capped (capped c + k)) f ∙ sym (plus_cut c d)
 
 pub times_same : (a b c d : ℕ) → SameCut a c → SameCut b d → SameCut (a * b) (c * d)
-times_same a b c d e f = times_cut a b ∙ ap (λ k. cut (k * cut b)) e ∙ ap (λ k. cut (cut c * k)) f ∙ sym (times_cut c d)
+times_same a b c d e f = times_cut a b ∙ ap (λ k. capped (k * capped b)) e ∙ ap (λ k. capped (capped c * k)) f ∙ sym (times_cut c d)
 
 pub max_same : (a b c d : ℕ) → SameCut a c → SameCut b d → SameCut (max a b) (max c d)
-max_same a b c d e f = max_cut a b ∙ ap (λ k. max k (cut b)) e ∙ ap (λ k. max (cut c) k) f ∙ sym (max_cut c d)
+max_same a b c d e f = max_cut a b ∙ ap (λ k. max k (capped b)) e ∙ ap (λ k. max (capped c) k) f ∙ sym (max_cut c d)
 
 -- a number that was cut
-pub cut_again : (r n : ℕ) → r ≡ cut n → SameCut r n
-cut_again r n is = ap cut is ∙ (let h : cut (cut n) ≡ cut n = omega arith in h)
+pub cut_again : (r n : ℕ) → r ≡ capped n → SameCut r n
+cut_again r n is = ap capped is ∙ (let h : capped (capped n) ≡ capped n = omega arith in h)
 
 -- ---- bounds
 
 -- the bound of a number is that of the number cut
-bound_cut : (n : ℕ) → bound_of n ≡ bound_of (cut n)
+bound_cut : (n : ℕ) → limited_bound n ≡ limited_bound (capped n)
 bound_cut n =
     elim (leb_tells (suc n) step_limit) [
-      | inl h ↦ ap bound_of (sym (min-eq_left (omega (arith, h.1))))
+      | inl h ↦ ap limited_bound (sym (min-eq_left (omega (arith, h.1))))
       | inr h ↦
-          let over : nat_lt (cut n) step_limit ≡ false = lt-leb (suc (cut n)) step_limit (omega (arith, h.1)) in
+          let over : nat_lt (capped n) step_limit ≡ false = lt-leb (suc (capped n)) step_limit (omega (arith, h.1)) in
           rw (h.0, over) refl
     ]
 
-pub bound_same : (m n : ℕ) → SameCut m n → bound_of m ≡ bound_of n
-bound_same m n e = bound_cut m ∙ ap bound_of e ∙ sym (bound_cut n)
+pub bound_same : (m n : ℕ) → SameCut m n → limited_bound m ≡ limited_bound n
+bound_same m n e = bound_cut m ∙ ap limited_bound e ∙ sym (bound_cut n)

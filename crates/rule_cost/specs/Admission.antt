@@ -11,7 +11,7 @@ use Rattle.rule_verify.specs.UnitRules.{unit_rule, context_class, IsAcceptedUnit
 use Rattle.rule_cost.specs.declared.cut.Bound.{Bound}
 use Rattle.rule_cost.specs.declared.cut.Bound.TheVariants.{Steps, Over}
 use Rattle.rule_cost.specs.Bounds.{step_bound}
-use Rattle.rule_cost.specs.Limits.{step_limit, bound_of}
+use Rattle.rule_cost.specs.Limits.{step_limit, limited_bound}
 
 -- ---- one rule
 
@@ -32,7 +32,7 @@ is_affordable budget Over = false
 
 -- the first rule whose bound is over or above the budget
 abbrev pub first_too_costly : Content → Sizes → ℕ → Option ℕ
-first_too_costly u z budget = least (λ r. not (is_affordable budget (bound_of (rule_step_bound u z r)))) (length u.rules)
+first_too_costly u z budget = least (λ r. not (is_affordable budget (limited_bound (rule_step_bound u z r)))) (length u.rules)
 
 abbrev pub refused_at : Option ℕ → Result (Unit {0}) ℕ
 refused_at None = Ok tt

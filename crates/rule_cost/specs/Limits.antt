@@ -7,13 +7,13 @@ abbrev pub step_limit : ℕ
 step_limit = 2 ^ 63
 
 -- a number of steps where it is below the limit, and over from there on
-abbrev pub bound_of : ℕ → Bound
-bound_of n = if nat_lt n step_limit then Steps n else Over
+abbrev pub limited_bound : ℕ → Bound
+limited_bound n = if nat_lt n step_limit then Steps n else Over
 
 -- a number, or the limit where it is greater
-abbrev pub cut : ℕ → ℕ
-cut n = min n step_limit
+abbrev pub capped : ℕ → ℕ
+capped n = min n step_limit
 
 -- two numbers that are one when they are cut
 abbrev pub SameCut : ℕ → ℕ → Type 0
-SameCut m n = cut m ≡ cut n
+SameCut m n = capped m ≡ capped n

@@ -2,7 +2,7 @@
 
 ghost use Rattle.std.specs.Prelude.{◌≡◌, ◌<◌, length, IfOk, IfErr};
 ghost use Rattle.rule_cost.specs.declared.fault.CostFault.TheVariants.{OutOfMemory};
-ghost use Rattle.rule_cost.specs.Limits.{bound_of};
+ghost use Rattle.rule_cost.specs.Limits.{limited_bound};
 ghost use Rattle.rule_cost.specs.Admission.{rule_step_bound};
 
 use crate::cut::{Bound, Cut};
@@ -25,7 +25,7 @@ pub fn bound(
     requires rule { rule < length accepted.now.unit.rules }
     requires one_model { sizes.now.model ≡ accepted.now.model }
     ensures bound { IfOk result (λ b. b ≡
-        bound_of (rule_step_bound accepted.now.unit sizes.now rule)) }
+        limited_bound (rule_step_bound accepted.now.unit sizes.now rule)) }
     ensures refused { IfErr result (λ e. e ≡ OutOfMemory) }
 {
     let code = SizedCode::new(accepted, rule, sizes);

@@ -1,7 +1,7 @@
 //! Numbers that are cut at a limit.
 
 ghost use Rattle.std.specs.Prelude.{◌≡◌, ◌+◌, ◌*◌, max};
-ghost use Rattle.rule_cost.specs.Limits.{cut, bound_of};
+ghost use Rattle.rule_cost.specs.Limits.{capped, limited_bound};
 
 use std::marker::Model;
 
@@ -36,7 +36,7 @@ impl Model for Cut {
 impl Cut {
     /// A number, cut.
     pub(crate) fn new(number: u64) -> Cut
-        ensures { result ≡ cut number }
+        ensures { result ≡ capped number }
     {
         Cut {
             number: number.min(STEP_LIMIT),
@@ -45,14 +45,14 @@ impl Cut {
 
     /// The sum.
     pub(crate) fn plus(self, other: Cut) -> Cut
-        ensures { result ≡ cut (self + other) }
+        ensures { result ≡ capped (self + other) }
     {
         Cut::new(self.number.saturating_add(other.number))
     }
 
     /// The product.
     pub(crate) fn times(self, other: Cut) -> Cut
-        ensures { result ≡ cut (self * other) }
+        ensures { result ≡ capped (self * other) }
     {
         Cut::new(self.number.saturating_mul(other.number))
     }
@@ -68,7 +68,7 @@ impl Cut {
 
     /// The bound that so many steps are.
     pub(crate) fn bound(self) -> Bound
-        ensures { result ≡ bound_of self }
+        ensures { result ≡ limited_bound self }
     {
         if self.number < STEP_LIMIT {
             Bound::Steps(self.number)

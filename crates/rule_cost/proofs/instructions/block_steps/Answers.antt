@@ -1,5 +1,5 @@
 use Rattle.std.proofs.Common.{◌∙◌, sym, ap, refl}
-use Rattle.rule_cost.specs.Limits.{cut}
+use Rattle.rule_cost.specs.Limits.{capped}
 use Rattle.rule_cost.proofs.Cuts.{cut_again, plus_same, times_same}
 use Rattle.rule_cost.proofs.Costs.{turns_are}
 use Rattle.rule_cost.proofs.instructions.block_steps.Goals as goal
@@ -12,4 +12,4 @@ returns-in_default c =
     let turns = cut_again c.times.result _ c.times.ensures ∙ times_same l c.plus-in_default.result l _ refl turn in
     cut_again c.plus-in_default-2.result _ c.plus-in_default-2.ensures
     ∙ plus_same c.new-two.result c.times.result 2 _ (cut_again c.new-two.result 2 c.new-two.ensures) turns
-    ∙ ap cut (sym (turns_are c.args.instr l b c.in_default.not-Let))
+    ∙ ap capped (sym (turns_are c.args.instr l b c.in_default.not-Let))

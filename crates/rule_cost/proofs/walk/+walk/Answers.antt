@@ -1,7 +1,7 @@
 use Rattle.std.proofs.lemmas.Option.{slice_get-get_or}
 use Rattle.std.proofs.Common.{◌+◌, ◌<◌, ◌∷◌, length, refl, sym, ap, ◌∙◌, subst, arith}
 use Rattle.rule_cost.specs.Bounds as spec
-use Rattle.rule_cost.specs.Limits.{SameCut, cut}
+use Rattle.rule_cost.specs.Limits.{SameCut, capped}
 use Rattle.rule_cost.specs.CostWalk.{surroundings_of_code, Totals}
 use Rattle.rule_cost.proofs.CodeWalk.{block_advances, branches_advance, torn_ends, torn_branch_ends, reached_first, reached_next}
 use Rattle.rule_cost.proofs.walk.+walk.Goals.{step-in_default-via-in-OneBody+else-length-left, step-in_default-via-in-TwoBodies+then-first-left+else-second-left, step-in_default-via-in-TwoBodies+else-first-left}
@@ -37,7 +37,7 @@ branches-returns-clause-advances t c =
       forward = omega arith;
       within = omega (arith, c.requires.nests);
       cost = branches_advance code c.args.variables.now c.args.place c.args.instr c.requires.inside c.requires.place.within c.requires.here c.args.operands.now c.args.lengths.0 c.args.lengths.1 c.requires.shape c.requires.nests c.max.result c.branch_steps.result end c.put.new.lengths (record { at = at; end = middle }) (record { at = middle; end = end }) c.in_ok-first.first c.in_ok-second.second refl refl refl refl refl
-          c.in_ok-first.ensures.totals (subst (λ vs. Totals code vs (record { at = middle; end = end }) c.in_ok-second.second) c.in_ok-first.ensures.kept c.in_ok-second.ensures.totals) c.branch_steps.ensures (ap cut c.max.ensures)
+          c.in_ok-first.ensures.totals (subst (λ vs. Totals code vs (record { at = middle; end = end }) c.in_ok-second.second) c.in_ok-first.ensures.kept c.in_ok-second.ensures.totals) c.branch_steps.ensures (ap capped c.max.ensures)
           (c.in_ok-put.ensures ∙ ap (λ l. c.max.result ∷ l) (c.take_operands.ensures (surroundings_of_code code)));
     }
 
@@ -61,8 +61,8 @@ step-returns-in_default-clause-advances t c =
       forward = c.requires.inside;
       within = omega arith;
       cost = elim c.in_default.branch [
-        | step-in_default-via-in-OneBody+else-length-left w ↦ torn_ends code c.args.variables.now c.args.place _ c.requires.inside c.requires.place.within (slice_get-get_or code.code.now c.args.place.at _ lt) c.args.operands.now w.in-OneBody.length (sym c.shape_of.ensures ∙ w.in-OneBody.is) (omega (arith, w.if-length-left.false, c.requires.inside)) c.new.result (ap cut c.new.ensures)
-        | step-in_default-via-in-TwoBodies+then-first-left+else-second-left w ↦ torn_branch_ends code c.args.variables.now c.args.place _ c.requires.inside c.requires.place.within (slice_get-get_or code.code.now c.args.place.at _ lt) c.args.operands.now w.in-TwoBodies.first w.in-TwoBodies.second (sym c.shape_of.ensures ∙ w.in-TwoBodies.is) (omega (arith, w.if-first-left.true, w.if-second-left.false, c.requires.inside)) c.new.result (ap cut c.new.ensures)
-        | step-in_default-via-in-TwoBodies+else-first-left w ↦ torn_branch_ends code c.args.variables.now c.args.place _ c.requires.inside c.requires.place.within (slice_get-get_or code.code.now c.args.place.at _ lt) c.args.operands.now w.in-TwoBodies.first w.in-TwoBodies.second (sym c.shape_of.ensures ∙ w.in-TwoBodies.is) (omega (arith, w.if-first-left.false, c.requires.inside)) c.new.result (ap cut c.new.ensures)
+        | step-in_default-via-in-OneBody+else-length-left w ↦ torn_ends code c.args.variables.now c.args.place _ c.requires.inside c.requires.place.within (slice_get-get_or code.code.now c.args.place.at _ lt) c.args.operands.now w.in-OneBody.length (sym c.shape_of.ensures ∙ w.in-OneBody.is) (omega (arith, w.if-length-left.false, c.requires.inside)) c.new.result (ap capped c.new.ensures)
+        | step-in_default-via-in-TwoBodies+then-first-left+else-second-left w ↦ torn_branch_ends code c.args.variables.now c.args.place _ c.requires.inside c.requires.place.within (slice_get-get_or code.code.now c.args.place.at _ lt) c.args.operands.now w.in-TwoBodies.first w.in-TwoBodies.second (sym c.shape_of.ensures ∙ w.in-TwoBodies.is) (omega (arith, w.if-first-left.true, w.if-second-left.false, c.requires.inside)) c.new.result (ap capped c.new.ensures)
+        | step-in_default-via-in-TwoBodies+else-first-left w ↦ torn_branch_ends code c.args.variables.now c.args.place _ c.requires.inside c.requires.place.within (slice_get-get_or code.code.now c.args.place.at _ lt) c.args.operands.now w.in-TwoBodies.first w.in-TwoBodies.second (sym c.shape_of.ensures ∙ w.in-TwoBodies.is) (omega (arith, w.if-first-left.false, c.requires.inside)) c.new.result (ap capped c.new.ensures)
       ];
     }
