@@ -19,3 +19,4 @@ pub mod Steps
 pub mod Turns
 pub mod Ran
 pub mod Performed
+pub mod ForAbove

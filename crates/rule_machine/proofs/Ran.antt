@@ -29,7 +29,7 @@ run_suc s (suc n) c d e r h = by_first (step s c) r (λ x q. run_suc s n x d e q
     by_first (Some x) r more = more x r
 
 -- a run, and one step more
-run_more : (s : Setting) (n : ℕ) (c d e : Configuration) → run s n c ≡ Some d → step s d ≡ Some e → run s (n + 1) c ≡ Some e
+pub run_more : (s : Setting) (n : ℕ) (c d e : Configuration) → run s n c ≡ Some d → step s d ≡ Some e → run s (n + 1) c ≡ Some e
 run_more s n c d e r h = let one : suc n ≡ n + 1 = omega arith in subst (λ m. run s m c ≡ Some e) one (run_suc s n c d e r h)
 
 -- a configuration without a verdict has a next one, within the bound

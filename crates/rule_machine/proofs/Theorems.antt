@@ -21,7 +21,8 @@ use Rattle.rule_verify.specs.KindRules.{InstrFault, Enclosing, kinds_after, rule
 use Rattle.rule_verify.proofs.ForAbove.{rule_accepted, has_context}
 use Rattle.rule_machine.specs.Value.{object_value}
 use Rattle.rule_machine.specs.Machine.{setting_of, judged_by, Piece, Sequence, Configuration, run, start}
-use Rattle.rule_machine.specs.Laws.{IsAcceptedRun, tree_of_rule, rule_bound, NeverStuck, EndsWithin, StandsInKinds, rule_depths_in, StaysWithinDepths, PlacesAreByRules}
+use Rattle.rule_cost.specs.Admission.{rule_step_bound}
+use Rattle.rule_machine.specs.Laws.{IsAcceptedRun, tree_of_rule, rule_bound, NeverStuck, EndsWithin, EndsWithinBudget, StandsInKinds, rule_depths_in, StaysWithinDepths, PlacesAreByRules}
 use Rattle.rule_machine.specs.Places.{self_place, places_after, stand, Mark, Here, now_at, marks_before}
 use Rattle.rule_machine.specs.Live.{IsOneBoolean, GoesNoDeeper, Going, Live}
 use Rattle.rule_machine.proofs.Marks.{marks_are}
@@ -103,3 +104,9 @@ never_stuck u p n o k c a r =
 pub ends_within : EndsWithin
 ends_within u p n o a =
     ends (setting_of u p n) (rule_depths_in u p n) a.model a.population (rule_bound u p n) (start (tree_of_rule u n) o) (marks_before (setting_of u p n) (tree_of_rule u n) (start (tree_of_rule u n) o)) (rule_bound u p n) (omega arith) (begins u p n o a)
+
+pub ends_within_budget : EndsWithinBudget
+ends_within_budget a p n o admitted fits accepted =
+    let e = ends_within a.linked.unit p n o accepted in
+    let same : rule_bound a.linked.unit p n ≡ rule_step_bound a.linked.unit a.sizes n = ap (λ z. rule_step_bound a.linked.unit z n) fits.1 in
+    (e.0, e.1, omega (arith, e.2, same, admitted.within_budget n accepted.rule), e.3, e.4)

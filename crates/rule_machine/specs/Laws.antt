@@ -11,7 +11,8 @@ use Rattle.rule_verify.specs.CodeTree.{CodeTree, code_tree}
 use Rattle.ocl_kinds.specs.declared.kind.Kind.{Kind}
 use Rattle.rule_verify.specs.KindRules.{Enclosing, kinds_after}
 use Rattle.rule_verify.specs.UnitRules.{unit_rule, depths_of, IsAcceptedUnit}
-use Rattle.rule_cost.specs.Bounds.{cost_of, step_bound}
+use Rattle.rule_cost.specs.Bounds.{cost_of}
+use Rattle.rule_cost.specs.Admission.{rule_step_bound, Admission, IsAdmission, Fits}
 use Rattle.rule_machine.specs.Machine.{setting_of, judged_by, Setting, Configuration, step, run, start}
 use Rattle.rule_machine.specs.declared.verdict.Verdict.{Verdict}
 use Rattle.rule_machine.specs.Verdict.{outcome}
@@ -32,7 +33,7 @@ tree_of_rule u n = code_tree (unit_rule u n).code
 
 -- the bound on the steps of a rule's runs in a population
 abbrev pub rule_bound : Content → Population → ℕ → ℕ
-rule_bound u p n = step_bound (judged_by (setting_of u p n)) (sizes_of p) (tree_of_rule u n)
+rule_bound u p n = rule_step_bound u (sizes_of p) n
 
 -- no configuration that a run reaches is stuck: it has a verdict, or a next step
 abbrev pub NeverStuck : Type 0
@@ -49,6 +50,16 @@ EndsWithin =
     → IsAcceptedRun u p n o
     → (k : ℕ) × (c : Configuration) × (k ≤ rule_bound u p n)
     × (run (setting_of u p n) k (start (tree_of_rule u n) o) ≡ Some c) × IsSome (outcome c)
+
+-- a run of an admitted unit, in a population of just the sizes for which it is admitted, comes to a verdict within the budget
+abbrev pub EndsWithinBudget : Type 0
+EndsWithinBudget =
+    (a : Admission) (p : Population) (n o : ℕ)
+    → IsAdmission a
+    → Fits a p
+    → IsAcceptedRun a.linked.unit p n o
+    → (k : ℕ) × (c : Configuration) × (k ≤ a.budget)
+    × (run (setting_of a.linked.unit p n) k (start (tree_of_rule a.linked.unit n) o) ≡ Some c) × IsSome (outcome c)
 
 -- In each configuration that a run reaches, every variable and operand is in the kind that the rules of kinds give its place, and
 -- each collection, those that iterations hold too, is no longer than its bound there.

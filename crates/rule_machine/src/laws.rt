@@ -1,6 +1,6 @@
 //! Laws of runs: what holds of accepted code, whoever made it.
 
-ghost use Rattle.rule_machine.specs.Laws.{NeverStuck, EndsWithin, StandsInKinds, StaysWithinDepths, PlacesAreByRules};
+ghost use Rattle.rule_machine.specs.Laws.{NeverStuck, EndsWithin, EndsWithinBudget, StandsInKinds, StaysWithinDepths, PlacesAreByRules};
 
 /// No configuration that a run of accepted code reaches is stuck, for any object of the context class in any
 /// population of the class model: it has a verdict, or a next step.
@@ -11,6 +11,11 @@ pub fn never_stuck()
 /// A run of accepted code comes to a verdict within the step bound of its code and the sizes of the population.
 pub fn ends_within()
     ensures { EndsWithin }
+{}
+
+/// A run of an admitted unit comes to a verdict within the budget, in each population of just the sizes for which it is admitted.
+pub fn ends_within_budget()
+    ensures { EndsWithinBudget }
 {}
 
 /// In each configuration that a run of accepted code reaches, every variable and operand is in the kind that the rules of

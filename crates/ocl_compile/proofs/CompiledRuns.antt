@@ -1,0 +1,99 @@
+-- Runs of compiled rules end with what the rules mean.
+use Rattle.std.proofs.Common.{◌≡◌, ℕ, zero, suc, ◌+◌, ◌<◌, ◌≤◌, List, [], ◌∷◌, ◌++◌, map, length, get_or, Option, Some, None, Ok, refl, sym, ap, ◌∙◌, subst, arith}
+use Rattle.std.specs.Prelude.{slice_get, unwrap_or}
+use Rattle.std.specs.Option.{option_map}
+use Rattle.std.specs.List.{AllByRecursion}
+use Rattle.std.proofs.lemmas.Option.{slice_get-map, slice_get_within, get_or_from_slice_get}
+use Rattle.imkl_model.specs.ClassModel.{Model}
+use Rattle.imkl_population.specs.Population.{Population, IsInstance}
+use Rattle.ocl_types.specs.Core.{CheckedRule}
+use Rattle.ocl_types.specs.Typing.{IsTypedRule}
+use Rattle.rule_code.specs.Content.{Content, RuleContent}
+use Rattle.rule_verify.specs.CodeTree.{CodeTree, End, code_tree}
+use Rattle.rule_verify.specs.UnitRules.{unit_rule, empty_rule, context_class, IsAcceptedUnit}
+use Rattle.rule_machine.specs.Value.{Value, object_value}
+use Rattle.rule_machine.specs.Machine.{Setting, setting_of, Configuration, configuration, step, run, start}
+use Rattle.rule_machine.specs.Verdict.{outcome, verdict_of}
+use Rattle.rule_machine.specs.Laws.{IsAcceptedRun, tree_of_rule, rule_bound, verdict_at}
+use Rattle.rule_machine.proofs.ForAbove.{goes_on, within_bound, verdict_found}
+use Rattle.ocl_compile.specs.Meaning.{meaning, meant_verdict}
+use Rattle.ocl_compile.specs.Numbering.{Numbering, rule_uses, rules_uses, numbering_of}
+use Rattle.ocl_compile.specs.Translation.{rule_tree, translate_rule, translate_rules}
+use Rattle.ocl_compile.specs.Compiling.{first_passed}
+use Rattle.ocl_compile.specs.CompileLaws.{IsCompiledRun, CompiledIsAccepted, RunsEndWithMeaning, VerdictsAreMeant}
+use Rattle.ocl_compile.proofs.Resolved.{AreResolved, of_first, of_rest}
+use Rattle.ocl_compile.proofs.Resolving.{rules_resolved}
+use Rattle.ocl_compile.proofs.Compiled.{tree_reached}
+use Rattle.ocl_compile.proofs.CompiledUnits.{compiled_is, rule_code_is, context_is, unit_accepted}
+
+pub compiled_is_accepted : CompiledIsAccepted
+compiled_is_accepted m rs u model typed compiled =
+    let c = compiled_is (first_passed m rs [] rs) (translate_rules m rs) u compiled in
+    subst (IsAcceptedUnit m) (sym c.1) (unit_accepted m model rs typed c.0)
+
+-- of all rules, one has what each has
+typed_at : (m : Model) (rs : List CheckedRule) (n : ℕ) (r : CheckedRule) → AllByRecursion (IsTypedRule m) rs → slice_get rs n ≡ Some r → IsTypedRule m r
+typed_at m [] n r h e = cc
+typed_at m (x ∷ rs) zero r h e = let same : x ≡ r = cc in subst (IsTypedRule m) same h.0
+typed_at m (x ∷ rs) (suc n) r h e = typed_at m rs n r h.1 e
+
+resolved_at : (m : Model) (u : Content) (k : Numbering) (rs : List CheckedRule) (n : ℕ) (r : CheckedRule) → AreResolved m u k (rules_uses m rs) → slice_get rs n ≡ Some r → AreResolved m u k (rule_uses m r)
+resolved_at m u k [] n r h e = cc
+resolved_at m u k (x ∷ rs) zero r h e =
+    let same : x ≡ r = cc in
+    subst (λ (y : CheckedRule). AreResolved m u k (rule_uses m y)) same (of_first m u k (rule_uses m x) (rules_uses m rs) h)
+resolved_at m u k (x ∷ rs) (suc n) r h e = resolved_at m u k rs n r (of_rest m u k (rule_uses m x) (rules_uses m rs) h) e
+
+-- a rule of the unit of rules
+module _ (rs : List CheckedRule) (p : Population) (n o : ℕ) (r : CheckedRule) (h : IsCompiledRun rs (translate_rules p.model rs) p n r o) (none : first_passed p.model rs [] rs ≡ None) where
+  abbrev m : Model
+  m = p.model
+
+  abbrev u : Content
+  u = translate_rules p.model rs
+
+  abbrev numbers : Numbering
+  numbers = numbering_of p.model rs
+
+  rule_is : unit_rule u n ≡ translate_rule m numbers r
+  rule_is = get_or_from_slice_get u.rules n (translate_rule m numbers r) empty_rule (slice_get-map (translate_rule m numbers) rs n ∙ ap (option_map (translate_rule m numbers)) h.rule)
+
+  inside : n < length u.rules
+  inside = slice_get_within u.rules n (translate_rule m numbers r) (slice_get-map (translate_rule m numbers) rs n ∙ ap (option_map (translate_rule m numbers)) h.rule)
+
+  resolved : AreResolved m u numbers (rule_uses m r)
+  resolved = resolved_at m u numbers rs n r (rules_resolved m h.model rs h.typed) h.rule
+
+  context : (setting_of u p n).context ≡ r.context
+  context = ap (λ (x : RuleContent). unwrap_or (context_class m u x) 0) rule_is ∙ ap (λ (c : Option ℕ). unwrap_or c 0) (context_is m u numbers r resolved)
+
+  tree_is : tree_of_rule u n ≡ rule_tree m numbers r
+  tree_is = ap (λ (x : RuleContent). code_tree x.code) rule_is ∙ rule_code_is m numbers r
+
+  accepted_run : IsAcceptedRun u p n o
+  accepted_run =
+      record { model = h.model; population = h.population; unit = h.unit; accepted = unit_accepted m h.model rs h.typed none; rule = inside; object = subst (λ (c : ℕ). IsInstance p c o) (sym context) h.object }
+
+  pub ends_with_meaning : (k : ℕ) × (run (setting_of u p n) k (start (tree_of_rule u n) o) ≡ Some (configuration [] (object_value o ∷ []) (meaning p r.tree (object_value o ∷ []) ∷ [])))
+  ends_with_meaning =
+      let typed = typed_at m rs n r h.typed h.rule in
+      tree_reached (setting_of u p n) (start (tree_of_rule u n) o) (λ k c reached final. let d = goes_on u p n o k c accepted_run reached final in (d.0, d.1)) numbers r.tree _ typed.1.0 typed.1.1 resolved.1.1 End [] (object_value o ∷ []) []
+      (0, ap (λ (t : CodeTree). Some (start t o)) tree_is)
+
+  pub verdict_is_meant : verdict_at u p n o ≡ Some (meant_verdict p r o)
+  verdict_is_meant =
+      let e = ends_with_meaning in
+      let d = configuration [] (object_value o ∷ []) (meaning p r.tree (object_value o ∷ []) ∷ []) in
+      verdict_found u p n o accepted_run (rule_bound u p n) e.0 (start (tree_of_rule u n) o) d (meant_verdict p r o) e.1 refl (within_bound u p n o e.0 d accepted_run e.1)
+
+pub runs_end_with_meaning : RunsEndWithMeaning
+runs_end_with_meaning rs u p n o r h =
+    let c = compiled_is (first_passed p.model rs [] rs) (translate_rules p.model rs) u h.compiled in
+    subst (λ (v : Content). (k : ℕ) × (run (setting_of v p n) k (start (tree_of_rule v n) o) ≡ Some (configuration [] (object_value o ∷ []) (meaning p r.tree (object_value o ∷ []) ∷ [])))) (sym c.1)
+    (ends_with_meaning rs p n o r (subst (λ (v : Content). IsCompiledRun rs v p n r o) c.1 h) c.0)
+
+pub verdicts_are_meant : VerdictsAreMeant
+verdicts_are_meant rs u p n o r h =
+    let c = compiled_is (first_passed p.model rs [] rs) (translate_rules p.model rs) u h.compiled in
+    subst (λ (v : Content). verdict_at v p n o ≡ Some (meant_verdict p r o)) (sym c.1)
+    (verdict_is_meant rs p n o r (subst (λ (v : Content). IsCompiledRun rs v p n r o) c.1 h) c.0)

@@ -1,0 +1,11 @@
+pub mod Resolved
+pub mod Operating
+pub mod Reaching
+pub mod Compiled
+pub mod Flat
+pub mod Kinded
+pub mod OperandKinds
+pub mod TreeKinds
+pub mod Resolving
+pub mod CompiledUnits
+pub mod CompiledRuns
