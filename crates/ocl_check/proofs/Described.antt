@@ -15,7 +15,7 @@ use Rattle.imkl_delivery.specs.Loading.{describes_population}
 use Rattle.imkl_delivery.specs.Description.{IsDeliveryFault}
 use Rattle.ocl_check.specs.declared.reply.Reply as reply
 use Rattle.ocl_check.specs.Reply.{Answer, said}
-use Rattle.ocl_check.specs.Judge.{json_of, model_by, model_of, population_by, population_of}
+use Rattle.ocl_check.specs.ThreeInputs.{json_of, model_by, model_of, population_by, population_of}
 
 -- bytes that are the text of a tree have that tree
 pub json_is : (bytes : List ℕ) (d : Data) → IsUtf8 bytes → read bytes ≡ Some d → json_of bytes ≡ Some d

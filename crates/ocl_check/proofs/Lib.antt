@@ -1,4 +1,5 @@
 pub mod Endings
-pub mod Judging
+pub mod Accepting
+pub mod Budgets
 pub mod Inputs
 pub mod Described

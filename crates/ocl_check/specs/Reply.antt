@@ -56,6 +56,10 @@ abbrev pub refused_verify : InstrFault → Answer
 refused_verify f =
     refused (codes "refused verify " ++ (decimal (verify_flaw_number f.flaw) ++ (32 ∷ (decimal f.rule ++ (32 ∷ (decimal f.at ++ 10 ∷ []))))))
 
+-- a rule whose bound is over, or above the budget
+abbrev pub refused_cost : ℕ → Answer
+refused_cost r = refused (codes "refused cost 1 " ++ (decimal r ++ 10 ∷ []))
+
 -- code that is accepted, by the number of its rules
 abbrev pub accepted_reply : ℕ → Answer
 accepted_reply n = (codes "accepted " ++ (decimal n ++ 10 ∷ []), 0)

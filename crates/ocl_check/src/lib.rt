@@ -6,7 +6,8 @@ mod input;
 mod outcome;
 mod reply;
 
-pub use commands::judge::run_judge;
+pub use commands::bound::run_bound;
+pub use commands::judge::{MOST_STEPS, run_judge};
 pub use commands::verify::run_verify;
 pub use input::{InputFault, read_input};
 pub use outcome::{Cause, Outcome};

@@ -3,7 +3,7 @@
 ghost use Rattle.std.specs.Prelude.{◌≡◌, ◌≢◌, string_bytes, IfOk};
 ghost use Rattle.imkl_model.specs.declared.fault.ModelFault.TheVariants as model;
 ghost use Rattle.imkl_delivery.specs.declared.fault.DeliveryFault.TheVariants as delivery;
-ghost use Rattle.ocl_check.specs.Reply.{said, refused_model, refused_delivery, refused_code, refused_verify, accepted_reply};
+ghost use Rattle.ocl_check.specs.Reply.{said, refused_model, refused_delivery, refused_code, refused_verify, refused_cost, accepted_reply};
 
 use imkl_delivery::DeliveryFault;
 use imkl_model::ModelFault;
@@ -99,6 +99,16 @@ pub(crate) fn refused_verify(
     let number = flaw as u8;
     Ok(Reply {
         text: format!(in alloc; "refused verify {number} {rule} {at}\n")?,
+        status: REFUSED,
+    })
+}
+
+/// The reply to a rule that isn't within the budget.
+pub(crate) fn refused_cost(alloc: Global, rule: usize) -> Result<Reply, OutOfMemory>
+    ensures { IfOk result (λ r. said r ≡ refused_cost rule) }
+{
+    Ok(Reply {
+        text: format!(in alloc; "refused cost 1 {rule}\n")?,
         status: REFUSED,
     })
 }

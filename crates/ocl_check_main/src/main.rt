@@ -5,8 +5,8 @@ mod command_line;
 mod opening;
 
 use clap::error::{Error, ErrorKind};
-use command_line::{Asked, JudgeFiles, VerifyFiles, read_words};
-use ocl_check::{Cause, Outcome, Telling, run_judge, run_verify};
+use command_line::{Asked, RuleFiles, VerifyFiles, read_words};
+use ocl_check::{Cause, Outcome, Telling, run_bound, run_judge, run_verify};
 use opening::Opening;
 use std::process::ExitCode;
 use std::{env, io};
@@ -31,8 +31,19 @@ fn refused(rt: &HostRuntime, error: &Error) -> ExitCode {
     ExitCode::from(if is_help { 0 } else { 2 })
 }
 
-fn judge(rt: &HostRuntime, files: JudgeFiles<'_>) -> Outcome {
+fn judge(rt: &HostRuntime, files: RuleFiles<'_>, budget: u64) -> Outcome {
     run_judge(
+        rt.alloc(),
+        budget,
+        &mut Opening::new(rt, files.model),
+        &mut Opening::new(rt, files.delivery),
+        &mut Opening::new(rt, files.code),
+        &mut Telling::new(io::writer(rt)),
+    )
+}
+
+fn bound(rt: &HostRuntime, files: RuleFiles<'_>) -> Outcome {
+    run_bound(
         rt.alloc(),
         &mut Opening::new(rt, files.model),
         &mut Opening::new(rt, files.delivery),
@@ -65,7 +76,8 @@ fn main(rt: HostRuntime) -> ExitCode {
         return ended(&rt, Outcome::Failed(Cause::Memory));
     };
     match read_words(rt.alloc(), words.as_slice()) {
-        Ok(Asked::Judge(files)) => ended(&rt, judge(&rt, files)),
+        Ok(Asked::Judge(files, budget)) => ended(&rt, judge(&rt, files, budget)),
+        Ok(Asked::Bound(files)) => ended(&rt, bound(&rt, files)),
         Ok(Asked::Verify(files)) => ended(&rt, verify(&rt, files)),
         Err(error) => refused(&rt, &error),
     }

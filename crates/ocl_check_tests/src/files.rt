@@ -1,6 +1,6 @@
 //! The files that the tests judge, and how they are judged.
 
-use ocl_check::{Outcome, Telling, run_judge, run_verify};
+use ocl_check::{MOST_STEPS, Outcome, Telling, run_bound, run_judge, run_verify};
 use std::alloc::{AllocError, Global};
 
 /// Cables with a depth that may be absent.
@@ -24,14 +24,63 @@ pub const DEPTH: [u8; 75] =
 const HEAD: &[u8] =
     b"OCLB\x00\x01\x00\x02\x00\x01r\x00\x0eKabelOfLeiding\x00\x01\x01\x00\x01\x00\x01\x00\x00\x00\x00";
 
-/// What `judge` writes, and how it ends.
-pub fn judged(alloc: Global, model: &str, delivery: &str, code: &[u8]) -> (Outcome, Vec<u8>) {
+/// What `judge` writes within a budget, and how it ends.
+fn judged_within(
+    alloc: Global,
+    budget: u64,
+    model: &str,
+    delivery: &str,
+    code: &[u8],
+) -> (Outcome, Vec<u8>) {
     let mut model = model.as_bytes();
     let mut delivery = delivery.as_bytes();
     let mut code = code;
     let mut sink = Telling::new(Vec::new(alloc));
-    let outcome = run_judge(alloc, &mut model, &mut delivery, &mut code, &mut sink);
+    let outcome = run_judge(
+        alloc,
+        budget,
+        &mut model,
+        &mut delivery,
+        &mut code,
+        &mut sink,
+    );
     (outcome, sink.into_inner())
+}
+
+/// What `judge` writes within the largest budget, and how it ends.
+pub fn judged(alloc: Global, model: &str, delivery: &str, code: &[u8]) -> (Outcome, Vec<u8>) {
+    judged_within(alloc, MOST_STEPS, model, delivery, code)
+}
+
+/// Whether `judge` within a budget ends with this status and writes this text.
+pub fn judges_within_to(
+    alloc: Global,
+    budget: u64,
+    model: &str,
+    delivery: &str,
+    code: &[u8],
+    status: u8,
+    text: &str,
+) -> bool {
+    let (outcome, bytes) = judged_within(alloc, budget, model, delivery, code);
+    outcome == Outcome::Status(status) && bytes.as_slice() == text.as_bytes()
+}
+
+/// Whether `bound` ends with this status and writes this text.
+pub fn bounds_to(
+    alloc: Global,
+    model: &str,
+    delivery: &str,
+    code: &[u8],
+    status: u8,
+    text: &str,
+) -> bool {
+    let mut model = model.as_bytes();
+    let mut delivery = delivery.as_bytes();
+    let mut code = code;
+    let mut sink = Telling::new(Vec::new(alloc));
+    let outcome = run_bound(alloc, &mut model, &mut delivery, &mut code, &mut sink);
+    outcome == Outcome::Status(status) && sink.into_inner().as_slice() == text.as_bytes()
 }
 
 /// Whether `judge` ends with this status and writes this text.
@@ -85,6 +134,19 @@ pub fn judges_code_to(
 ) -> Result<bool, AllocError> {
     let file = rule_file(alloc, count, code)?;
     judges_cable_to(alloc, "", &file, status, text)
+}
+
+/// Whether `bound` of the rule r of these instructions, for the cable E1, ends so.
+pub fn bounds_code_to(
+    alloc: Global,
+    count: u16,
+    code: &[u8],
+    status: u8,
+    text: &str,
+) -> Result<bool, AllocError> {
+    let file = rule_file(alloc, count, code)?;
+    let delivery = cable(alloc, "")?;
+    Ok(bounds_to(alloc, MODEL, delivery.as_str(), &file, status, text))
 }
 
 /// Whether `verify` ends with this status and writes this text.

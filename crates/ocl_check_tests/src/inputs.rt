@@ -1,7 +1,9 @@
 //! Readers that fail, never end, or give a byte at a time.
 
 use crate::files::{DEPTH, MODEL, NO_OBJECTS, NO_RULES};
-use ocl_check::{Cause, InputFault, Outcome, Telling, read_input, run_judge};
+use ocl_check::{
+    Cause, InputFault, MOST_STEPS, Outcome, Telling, read_input, run_bound, run_judge,
+};
 use std::alloc::Global;
 use std::io;
 use std::io::{Error, ErrorKind, Read};
@@ -113,9 +115,30 @@ fn judged_with_failing(alloc: Global, which: usize) -> (Outcome, usize, usize) {
     let mut code = DEPTH.as_slice();
     let mut sink = Telling::new(Vec::new(alloc));
     let outcome = match which {
-        0 => run_judge(alloc, &mut failing, &mut delivery, &mut code, &mut sink),
-        1 => run_judge(alloc, &mut model, &mut failing, &mut code, &mut sink),
-        _ => run_judge(alloc, &mut model, &mut delivery, &mut failing, &mut sink),
+        0 => run_judge(
+            alloc,
+            MOST_STEPS,
+            &mut failing,
+            &mut delivery,
+            &mut code,
+            &mut sink,
+        ),
+        1 => run_judge(
+            alloc,
+            MOST_STEPS,
+            &mut model,
+            &mut failing,
+            &mut code,
+            &mut sink,
+        ),
+        _ => run_judge(
+            alloc,
+            MOST_STEPS,
+            &mut model,
+            &mut delivery,
+            &mut failing,
+            &mut sink,
+        ),
     };
     (outcome, delivery.len(), code.len())
 }
@@ -141,10 +164,34 @@ fn a_failed_read_comes_before_a_refusal(rt: HostRuntime) {
     let mut sink = Telling::new(Vec::new(rt.alloc()));
     let outcome = run_judge(
         rt.alloc(),
+        MOST_STEPS,
         &mut b"{}".as_slice(),
         &mut failing,
         &mut NO_RULES.as_slice(),
         &mut sink,
     );
     assert!(rt; outcome == Outcome::Failed(Cause::Read));
+}
+
+#[test]
+fn bound_fails_where_an_input_does(rt: HostRuntime) {
+    let mut failing = Scripted {
+        first: Event::Fails,
+        how_often: 1,
+        next: Event::Fails,
+        after: Event::Fails,
+        reads: 0,
+    };
+    let mut delivery = NO_OBJECTS.as_bytes();
+    let mut sink = Telling::new(Vec::new(rt.alloc()));
+    let outcome = run_bound(
+        rt.alloc(),
+        &mut MODEL.as_bytes(),
+        &mut delivery,
+        &mut failing,
+        &mut sink,
+    );
+    assert!(rt; outcome == Outcome::Failed(Cause::Read));
+    assert!(rt; delivery.is_empty());
+    assert!(rt; sink.into_inner().is_empty());
 }

@@ -2,6 +2,10 @@
 #![tactic(auto)]
 
 #[cfg(test)]
+mod bound;
+#[cfg(test)]
+mod budget;
+#[cfg(test)]
 mod files;
 #[cfg(test)]
 mod inputs;
@@ -9,6 +13,8 @@ mod inputs;
 mod judge;
 #[cfg(test)]
 mod links;
+#[cfg(test)]
+mod nested;
 #[cfg(test)]
 mod outputs;
 #[cfg(test)]

@@ -5,7 +5,7 @@ use std::alloc::{AllocError, Global};
 use std::test::*;
 
 /// Cables with a depth that may be absent, ducts that hold them, and nets of a theme.
-const NETWORK: &str =
+pub(crate) const NETWORK: &str =
     r#"{"model":"m","enums":[{"name":"Thema","literals":["elektriciteit","water"]}],"classes":[
 {"name":"KabelOfLeiding","abstract":true,"supers":[],"attributes":[
 {"name":"diepte","type":"Integer","lower":0,"upper":1,"ordered":false,"unique":true}]},
@@ -20,7 +20,8 @@ const NETWORK: &str =
 /// The rule d of Mantelbuis, that what it holds is 600 deep (SELF, ATTR omvat, FORALL 4, GET 1, ATTR diepte, INT 600, GE), and the
 /// rule p of Utiliteitsnet, that all nets have one theme (ALL Utiliteitsnet, LET 9, GET 1, FORALL 7, GET 1, FORALL 5, GET 2, ATTR
 /// thema, GET 3, ATTR thema, EQ Thema).
-const TWO_RULES: &[u8] = b"OCLB\x00\x01\x00\x09\x00\x01d\x00\x01p\x00\x0aMantelbuis\x00\x05omvat\
+pub(crate) const TWO_RULES: &[u8] =
+    b"OCLB\x00\x01\x00\x09\x00\x01d\x00\x01p\x00\x0aMantelbuis\x00\x05omvat\
 \x00\x0eKabelOfLeiding\x00\x06diepte\x00\x0dUtiliteitsnet\x00\x05thema\x00\x05Thema\
 \x00\x06\x01\x00\x02\x03\x00\x02\x00\x03\x03\x00\x04\x00\x05\x01\x00\x06\x03\x00\x06\x00\x07\x02\x00\x08\
 \x00\x02\

@@ -1,7 +1,7 @@
 //! Writers that fail, and how an outcome is reported.
 
 use crate::files::{DEPTH, MODEL, NO_OBJECTS};
-use ocl_check::{Cause, Outcome, Telling, run_judge};
+use ocl_check::{Cause, MOST_STEPS, Outcome, Telling, run_bound, run_judge};
 use std::alloc::Global;
 use std::io;
 use std::io::{Error, ErrorKind, Write};
@@ -53,7 +53,14 @@ fn judged_into(alloc: Global, left: usize, is_silent: bool, flushes: bool) -> (O
         is_silent,
         flushes,
     });
-    let outcome = run_judge(alloc, &mut model, &mut delivery, &mut code, &mut sink);
+    let outcome = run_judge(
+        alloc,
+        MOST_STEPS,
+        &mut model,
+        &mut delivery,
+        &mut code,
+        &mut sink,
+    );
     (outcome, sink.into_inner().taken)
 }
 
@@ -85,6 +92,40 @@ fn writes_the_report_whole(rt: HostRuntime) {
     let (outcome, bytes) = judged_into(rt.alloc(), REPORT.len(), false, true);
     assert!(rt; outcome == Outcome::Status(0));
     assert!(rt; bytes.as_slice() == REPORT.as_bytes());
+}
+
+/// The bounds for a delivery of no objects.
+const BOUNDS: &str = "bound diepteMin 4\n";
+
+/// How `bound` ends over a writer that takes so many bytes, and what it took.
+fn bounded_into(alloc: Global, left: usize, is_silent: bool) -> (Outcome, Vec<u8>) {
+    let mut model = MODEL.as_bytes();
+    let mut delivery = NO_OBJECTS.as_bytes();
+    let mut code = DEPTH.as_slice();
+    let mut sink = Telling::new(Narrow {
+        taken: Vec::new(alloc),
+        left,
+        is_silent,
+        flushes: true,
+    });
+    let outcome = run_bound(alloc, &mut model, &mut delivery, &mut code, &mut sink);
+    (outcome, sink.into_inner().taken)
+}
+
+/// Whether `bound` fails where its writer does, after just the beginning of the bounds.
+fn bound_fails_after(alloc: Global, left: usize, is_silent: bool) -> bool {
+    let (outcome, bytes) = bounded_into(alloc, left, is_silent);
+    outcome == Outcome::Failed(Cause::Write)
+        && bytes.len() == left
+        && BOUNDS.as_bytes().starts_with(&bytes)
+}
+
+#[test]
+fn bound_fails_where_a_write_does(rt: HostRuntime) {
+    for left in 0..BOUNDS.len() {
+        assert!(rt; bound_fails_after(rt.alloc(), left, false), "{left}");
+        assert!(rt; bound_fails_after(rt.alloc(), left, true), "{left}");
+    }
 }
 
 #[test]

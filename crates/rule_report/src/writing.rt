@@ -2,6 +2,7 @@
 
 ghost use Rattle.std.specs.Prelude.{◌≡◌, false, OnOk, OnErr, IfOk};
 ghost use Rattle.std.specs.Io.KnownBytes.{Appends};
+ghost use Rattle.rule_cost.specs.Admission.{Fits};
 ghost use Rattle.rule_report.specs.declared.fault.ReportFault.TheVariants as fault;
 ghost use Rattle.rule_report.specs.Sink.{WritesPrefix};
 ghost use Rattle.rule_report.specs.Report.{report_of, summary_of};
@@ -12,29 +13,30 @@ use crate::making::make_report;
 use crate::sink::{Sink, write_and_flush};
 use crate::summary::Summary;
 use imkl_population::Population;
-use rule_verify::Accepted;
+use rule_cost::Admitted;
 use std::alloc::Global;
 
-/// Writes the report on a population of the class model in which the code was accepted, and flushes
-/// it. The report is made whole before the first byte is written: where memory runs out, the sink is
-/// as it was.
+/// Writes the report on a population that fits the admitted code, and flushes it: no run makes more
+/// steps than the budget. The report is made whole before the first byte is written: where memory
+/// runs out, the sink is as it was.
 pub fn write_report<S: Sink>(
     alloc: Global,
-    accepted: &Accepted<'_>,
+    admitted: &Admitted<'_>,
     population: &Population<'_>,
     sink: &mut S,
 ) -> Result<Summary, ReportFault>
-    requires one_model { population.now.content.model ≡ accepted.now.model }
+    requires fits { Fits admitted.now population.now.content }
     requires well { S.has_failed sink.old ≡ false }
     ensures report { OnOk result (Appends (S.contents sink.old) (S.contents sink.new)
-        (report_of accepted.now.unit population.now.content)) }
-    ensures summary { IfOk result (λ s. s ≡ summary_of accepted.now.unit population.now.content) }
+        (report_of admitted.now.linked.unit population.now.content)) }
+    ensures summary { IfOk result (λ s. s ≡
+        summary_of admitted.now.linked.unit population.now.content) }
     ensures prefix { OnErr result (WritesPrefix (S.contents sink.old) (S.contents sink.new)
-        (report_of accepted.now.unit population.now.content)) }
+        (report_of admitted.now.linked.unit population.now.content)) }
     ensures write { S.has_failed sink.new ≡ is_write_fault result }
     ensures memory { result ≡ Err fault.OutOfMemory → sink.new ≡ sink.old }
 {
-    let report = make_report(alloc, accepted, population)?;
+    let report = make_report(alloc, admitted.accepted(), population)?;
     write_and_flush(sink, report.text.as_bytes())?;
     Ok(report.summary)
 }

@@ -1,18 +1,57 @@
 //! How reports are written on what the tests give as text.
 
 ghost use Rattle.std.specs.Prelude.{◌≡◌, false};
+ghost use Rattle.imkl_population.specs.Sizes.{sizes_of};
 
-use crate::catalogue::CATALOGUE;
 use imkl_delivery::load;
 use imkl_model::ClassModel;
-use imkl_population::Population;
+use imkl_population::{Population, Sizes};
 use rule_code::read_unit;
+use rule_cost::admit;
 use rule_report::{ReportFault, Sink, Summary, Telling, write_report};
-use rule_verify::verify;
+use rule_verify::{Accepted, verify};
 use std::alloc::{AllocError, Global};
+use test_support::CATALOGUE;
 
 /// What `write_report` answers; `None` where an input is refused.
 type Answer = Option<Result<Summary, ReportFault>>;
+
+/// The most steps that a rule may make for an object.
+const BUDGET: u64 = 1_000;
+
+/// Writes the report on a population of these sizes by accepted code, if it is within the budget.
+fn write_within<S: Sink>(
+    alloc: Global,
+    population: &Population<'_>,
+    sizes: &Sizes<'_>,
+    accepted: &Accepted<'_>,
+    sink: &mut S,
+) -> Answer
+    requires one_model { population.now.content.model ≡ accepted.now.model }
+    requires sizes { sizes.now ≡ sizes_of population.now.content }
+    requires well { S.has_failed sink.old ≡ false }
+{
+    match admit(alloc, accepted, sizes, BUDGET) {
+        Ok(admitted) => Some(write_report(alloc, &admitted, population, sink)),
+        Err(_refused) => None,
+    }
+}
+
+/// Writes the report on a population by accepted code.
+fn write_accepted<S: Sink>(
+    alloc: Global,
+    population: &Population<'_>,
+    accepted: &Accepted<'_>,
+    sink: &mut S,
+) -> Answer
+    requires one_model { population.now.content.model ≡ accepted.now.model }
+    requires well { S.has_failed sink.old ≡ false }
+{
+    match population.sizes(alloc) {
+        Ok(sizes) => write_within(alloc, population, &sizes, accepted, sink),
+        Err(_refused) => None,
+    }
+}
 
 /// Writes the report on a population by a code file.
 fn write_by<S: Sink>(
@@ -25,7 +64,7 @@ fn write_by<S: Sink>(
 {
     let unit = read_unit(alloc, code).ok()?;
     match verify(alloc, population.model(), unit) {
-        Ok(accepted) => Some(write_report(alloc, &accepted, population, sink)),
+        Ok(accepted) => write_accepted(alloc, population, &accepted, sink),
         Err(_refused) => None,
     }
 }

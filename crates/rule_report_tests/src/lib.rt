@@ -2,10 +2,10 @@
 #![tactic(auto)]
 
 #[cfg(test)]
-mod catalogue;
-#[cfg(test)]
 mod files;
 #[cfg(test)]
 mod rows;
+#[cfg(test)]
+mod rules;
 #[cfg(test)]
 mod sinks;

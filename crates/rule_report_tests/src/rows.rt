@@ -1,7 +1,7 @@
 //! Worked examples: what is reported and counted.
 
-use crate::catalogue::{DEPTH, DUCT_DEPTH, IDENTIFIED_APART, NO_RULES, THREE_RULES, VOLTAGES};
 use crate::files::reports;
+use crate::rules::{DEPTH, DUCT_DEPTH, IDENTIFIED_APART, NO_RULES, THREE_RULES, VOLTAGES};
 use std::alloc::{AllocError, Global};
 use std::test::*;
 

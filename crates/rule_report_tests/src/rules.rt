@@ -1,27 +1,4 @@
-//! The class model of cables, ducts and nets, and the rules that are judged over it.
-
-/// The class model.
-pub(crate) const CATALOGUE: &str = r#"{"model":"imkl-profile",
-"enums":[{"name":"Thema","literals":["elektriciteit","water","riool","telecom"]}],
-"classes":[
-{"name":"KabelOfLeiding","abstract":true,"supers":[],"attributes":[
-{"name":"identificatie","type":"String","lower":1,"upper":1,"ordered":false,"unique":true},
-{"name":"diepte","type":"Integer","lower":0,"upper":1,"ordered":false,"unique":true}]},
-{"name":"Elektriciteitskabel","abstract":false,"supers":["KabelOfLeiding"],"attributes":[
-{"name":"spanning","type":"Integer","lower":1,"upper":1,"ordered":false,"unique":true}]},
-{"name":"Waterleiding","abstract":false,"supers":["KabelOfLeiding"],"attributes":[
-{"name":"diameter","type":"Integer","lower":1,"upper":1,"ordered":false,"unique":true}]},
-{"name":"Mantelbuis","abstract":false,"supers":["KabelOfLeiding"],"attributes":[
-{"name":"diameter","type":"Integer","lower":1,"upper":1,"ordered":false,"unique":true}]},
-{"name":"Utiliteitsnet","abstract":false,"supers":[],"attributes":[
-{"name":"thema","type":"Thema","lower":1,"upper":1,"ordered":false,"unique":true}]}],
-"associations":[
-{"name":"omhulling","from":"Mantelbuis","to":"KabelOfLeiding",
-"end":{"name":"omvat","lower":0,"upper":null,"ordered":false},
-"opposite":{"name":"ligtIn","lower":0,"upper":1,"ordered":false}},
-{"name":"bestaatUit","from":"Utiliteitsnet","to":"KabelOfLeiding",
-"end":{"name":"leidingen","lower":1,"upper":null,"ordered":false},
-"opposite":{"name":"net","lower":0,"upper":1,"ordered":false}}]}"#;
+//! The rules that are judged over the catalogue of cables, ducts and nets.
 
 /// No texts, no symbols, no rules.
 pub(crate) const NO_RULES: &[u8] = b"OCLB\x00\x01\x00\x00\x00\x00\x00\x00";

@@ -1,7 +1,7 @@
 //! Sinks that fail, and how often they are flushed.
 
-use crate::catalogue::DUCT_DEPTH;
 use crate::files::write;
+use crate::rules::DUCT_DEPTH;
 use rule_report::{ReportFault, Summary, Telling};
 use std::alloc::Global;
 use std::io;

@@ -1,24 +1,27 @@
 use Rattle.std.proofs.Common.{◌≡◌, Ok, ap, sym}
 use Rattle.imkl_model.specs.declared.fault.ModelFault.TheVariants as model
 use Rattle.ocl_check.specs.Reply.{refused_model}
-use Rattle.ocl_check.specs.Judge.{model_answer, judge_answer}
+use Rattle.ocl_check.specs.Asking.{answer_to}
+use Rattle.ocl_check.specs.ThreeInputs.{model_answer, inputs_answer}
 use Rattle.ocl_check.proofs.Endings.{ending_as}
 use Rattle.ocl_check.proofs.Described.{model_is, model_is_refused, said_unless}
-use Rattle.ocl_check.proofs.commands.judge.judge_inputs.Goals as goal
+use Rattle.ocl_check.proofs.commands.asking.answer_inputs.Goals as goal
 
 pub returns-in-Ok : goal.returns-in-Ok
 returns-in-Ok g c =
+    let f = answer_to c.args.question in
     let delivery = c.args.delivery.now in
     let code = c.args.code.now in
-    ending_as (sym (ap (λ m. model_answer m delivery code) (model_is c.args.model.now (Ok c.in-Ok.model) c.in-Ok.ensures.answers)))
-    c.judge_delivery.ensures
+    ending_as (sym (ap (λ m. model_answer f m delivery code) (model_is c.args.model.now (Ok c.in-Ok.model) c.in-Ok.ensures.answers)))
+    c.answer_delivery.ensures
 
 pub returns-in-Err : goal.returns-in-Err
 returns-in-Err g c =
+    let f = answer_to c.args.question in
     let delivery = c.args.delivery.now in
     let code = c.args.code.now in
-    let answer = judge_answer c.args.model.now delivery code in
+    let answer = inputs_answer f c.args.model.now delivery code in
     c.answer.ensures answer
     (said_unless c.refused_model.result (c.in-Err.fault ≡ model.OutOfMemory) (refused_model c.in-Err.fault) answer
-    (λ other. sym (ap (λ m. model_answer m delivery code) (model_is_refused c.args.model.now c.in-Err.fault other c.in-Err.ensures.answers)))
+    (λ other. sym (ap (λ m. model_answer f m delivery code) (model_is_refused c.args.model.now c.in-Err.fault other c.in-Err.ensures.answers)))
     c.refused_model.ensures.said c.refused_model.ensures.refused)

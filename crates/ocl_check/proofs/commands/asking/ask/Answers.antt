@@ -1,18 +1,20 @@
 use Rattle.std.proofs.Common.{◌≡◌, refl}
 use Rattle.std.proofs.KnownBytes.{Appends-nil}
-use Rattle.ocl_check.specs.Judge.{judge_answer}
+use Rattle.ocl_check.specs.Asking.{answer_to}
+use Rattle.ocl_check.specs.ThreeInputs.{inputs_answer}
 use Rattle.ocl_check.proofs.Endings.{ending_as, within}
 use Rattle.ocl_check.proofs.Inputs.{known_bytes, has_known}
-use Rattle.ocl_check.proofs.commands.judge.run_judge.Goals as goal
+use Rattle.ocl_check.proofs.commands.asking.ask.Goals as goal
 
 pub returns-in-Ok-clause-answered : goal.returns-in-Ok-clause-answered
 returns-in-Ok-clause-answered g c =
+    let f = answer_to c.args.question in
     let i = c.in-Ok.inputs in
     let read = c.in-Ok.ensures in
-    let o = c.judge_inputs.result in
-    let same : judge_answer c.deref.result.now c.deref-in-Ok.result.now c.deref-in-Ok-2.result.now ≡ judge_answer i.model.items i.delivery.items i.code.items =
+    let o = c.answer_inputs.result in
+    let same : inputs_answer f c.deref.result.now c.deref-in-Ok.result.now c.deref-in-Ok-2.result.now ≡ inputs_answer f i.model.items i.delivery.items i.code.items =
     rw (c.deref.ensures.value, c.deref-in-Ok.ensures.value, c.deref-in-Ok-2.ensures.value) refl in
-    let whole = ending_as same c.judge_inputs.ensures in (
+    let whole = ending_as same c.answer_inputs.ensures in (
       i.model.items,
       read.model.0,
       within o i.model.items read.model.1,

@@ -1,0 +1,72 @@
+//! The command `bound`.
+
+ghost use Rattle.std.specs.Prelude.{◌≡◌, ◌⊎◌, ◌++◌, false, IfOk, OnOk, string_bytes};
+ghost use Rattle.std.specs.Io.KnownBytes.{IsAtEnd};
+ghost use Rattle.ocl_check.specs.Answers.{IsAnswered, KeepsSink, ReadBy, fails_write};
+ghost use Rattle.ocl_check.specs.Bound.{bound_line_of, bound_lines, bound_answer};
+ghost use Rattle.ocl_check.specs.Reply.{said};
+
+use crate::commands::asking::{Question, ask};
+use crate::outcome::Outcome;
+use crate::reply::Reply;
+use imkl_population::Sizes;
+use rule_cost::{Bound, bound};
+use rule_machine::OutOfMemory;
+use rule_report::Sink;
+use rule_verify::Accepted;
+use std::alloc::{AllocError, Global};
+use std::fmt::Write;
+use std::io::Read;
+
+/// Puts the line of a rule.
+fn put_bound_line(out: &mut String, name: &str, bound: Bound) -> Result<(), AllocError>
+    ensures { OnOk result (string_bytes out.new ≡ string_bytes out.old ++
+        bound_line_of name.now bound) }
+{
+    match bound {
+        Bound::Steps(steps) => writeln!(out, "bound {name} {steps}"),
+        Bound::Over => writeln!(out, "bound {name} over"),
+    }
+}
+
+/// The reply with the bound of each rule, in populations of these sizes.
+pub(crate) fn bounds_reply(
+    alloc: Global,
+    sizes: &Sizes<'_>,
+    accepted: &Accepted<'_>,
+) -> Result<Reply, OutOfMemory>
+    requires { sizes.now.model ≡ accepted.now.model }
+    ensures { IfOk result (λ r. said r ≡ (bound_lines accepted.now.unit sizes.now, 0)) }
+{
+    let mut text = String::new(alloc);
+    for rule in 0..accepted.rules() {
+        let Ok(bound) = bound(alloc, accepted, rule, sizes) else {
+            return Err(OutOfMemory);
+        };
+        put_bound_line(&mut text, accepted.rule_name(rule), bound)?;
+    }
+    Ok(Reply { text, status: 0 })
+}
+
+/// Bounds the rules of a code file: reads the class model, the delivery and the code file, each
+/// whole, and then writes for each rule the most steps that it makes for an object, or that they are
+/// 2^63 or more; or one line on the first of the inputs that is refused. An input is untouched until
+/// the one before it has ended, and where memory or a read fails the sink is as it was.
+pub fn run_bound<M: Read, D: Read, C: Read, S: Sink>(
+    alloc: Global,
+    model: &mut M,
+    delivery: &mut D,
+    code: &mut C,
+    sink: &mut S,
+) -> Outcome
+    requires { S.has_failed sink.old ≡ false }
+    ensures answered { ReadBy result (M.remaining model.old) (λ xs.
+        ReadBy result (D.remaining delivery.old) (λ ys. ReadBy result (C.remaining code.old) (λ zs.
+        IsAnswered (bound_answer xs ys zs) (S.contents sink.old) (S.contents sink.new) result))) }
+    ensures sink { S.has_failed sink.new ≡ fails_write result }
+    ensures kept { KeepsSink result sink.old sink.new }
+    ensures delivery_waits { IsAtEnd (M.remaining model.new) ⊎ (delivery.new ≡ delivery.old) }
+    ensures code_waits { IsAtEnd (D.remaining delivery.new) ⊎ (code.new ≡ code.old) }
+{
+    ask(alloc, Question::Bounds, model, delivery, code, sink)
+}

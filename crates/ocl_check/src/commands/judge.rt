@@ -1,0 +1,107 @@
+//! The command `judge`.
+
+ghost use Rattle.std.specs.Prelude.{◌≡◌, ◌⊎◌, ◌+◌, false};
+ghost use Rattle.std.specs.Io.KnownBytes.{IsAtEnd};
+ghost use Rattle.imkl_population.specs.Sizes.{sizes_of};
+ghost use Rattle.rule_cost.specs.Admission.{Fits};
+ghost use Rattle.ocl_check.specs.Answers.{IsAnswered, KeepsSink, ReadBy, fails_write};
+ghost use Rattle.ocl_check.specs.Ending.{IsEnding};
+ghost use Rattle.ocl_check.specs.Judge.{status_of, report_answer, budget_answer, judge_answer};
+
+use crate::commands::asking::{Question, ask};
+use crate::outcome::{Cause, Outcome, answer};
+use crate::reply::refused_cost;
+use imkl_population::{Population, Sizes};
+use rule_cost::{Admitted, CostFault, admit};
+use rule_report::{ReportFault, Sink, Summary, write_report};
+use rule_verify::Accepted;
+use std::alloc::Global;
+use std::io::Read;
+
+/// The budget of `judge` where none is given, and the largest that its command line takes: 2^63-1
+/// steps for each rule and object.
+pub const MOST_STEPS: u64 = 9_223_372_036_854_775_807;
+
+/// The status of a report: 0 where every rule holds for each object of its context class, else 1.
+fn status_of(summary: Summary) -> u8
+    ensures { result ≡ status_of summary }
+{
+    if summary.fails == 0 && summary.undecided == 0 {
+        0
+    } else {
+        1
+    }
+}
+
+/// Writes the report on a population that fits the admitted code.
+fn judge_admitted<S: Sink>(
+    alloc: Global,
+    population: &Population<'_>,
+    admitted: &Admitted<'_>,
+    sink: &mut S,
+) -> Outcome
+    requires fits { Fits admitted.now population.now.content }
+    requires well { S.has_failed sink.old ≡ false }
+    ensures { IsEnding S.contents S.has_failed (report_answer population.now.content
+        admitted.now.linked.unit) sink.old result sink.new }
+{
+    match write_report(alloc, admitted, population, sink) {
+        Ok(summary) => Outcome::Status(status_of(summary)),
+        Err(ReportFault::Write) => Outcome::Failed(Cause::Write),
+        Err(ReportFault::OutOfMemory) => Outcome::Failed(Cause::Memory),
+    }
+}
+
+/// Judges a population of these sizes by accepted code, of which each rule must be within a budget.
+pub(crate) fn judge_within<S: Sink>(
+    alloc: Global,
+    budget: u64,
+    population: &Population<'_>,
+    sizes: &Sizes<'_>,
+    accepted: &Accepted<'_>,
+    sink: &mut S,
+) -> Outcome
+    requires one_model { population.now.content.model ≡ accepted.now.model }
+    requires sizes { sizes.now ≡ sizes_of population.now.content }
+    requires well { S.has_failed sink.old ≡ false }
+    ensures { IsEnding S.contents S.has_failed (budget_answer budget population.now.content
+        accepted.now.unit) sink.old result sink.new }
+{
+    match admit(alloc, accepted, sizes, budget) {
+        Ok(admitted) => judge_admitted(alloc, population, &admitted, sink),
+        Err(CostFault::TooCostly { rule }) => answer(sink, refused_cost(alloc, rule)),
+        Err(CostFault::OutOfMemory) => Outcome::Failed(Cause::Memory),
+    }
+}
+
+/// Judges a delivery: reads the class model, the delivery and the code file, each whole, and then
+/// writes the report, or one line on the first of them that is refused, last on the first rule whose
+/// bound is 2^63 or more or above the budget of steps. An input is untouched until the one before it
+/// has ended, and where memory or a read fails the sink is as it was.
+pub fn run_judge<M: Read, D: Read, C: Read, S: Sink>(
+    alloc: Global,
+    budget: u64,
+    model: &mut M,
+    delivery: &mut D,
+    code: &mut C,
+    sink: &mut S,
+) -> Outcome
+    requires { S.has_failed sink.old ≡ false }
+    ensures answered { ReadBy result (M.remaining model.old) (λ xs.
+        ReadBy result (D.remaining delivery.old) (λ ys. ReadBy result (C.remaining code.old) (λ zs.
+        IsAnswered (judge_answer budget xs ys zs) (S.contents sink.old) (S.contents sink.new)
+        result))) }
+    ensures sink { S.has_failed sink.new ≡ fails_write result }
+    ensures kept { KeepsSink result sink.old sink.new }
+    ensures delivery_waits { IsAtEnd (M.remaining model.new) ⊎ (delivery.new ≡ delivery.old) }
+    ensures code_waits { IsAtEnd (D.remaining delivery.new) ⊎ (code.new ≡ code.old) }
+{
+    ask(
+        alloc,
+        Question::Report { budget },
+        model,
+        delivery,
+        code,
+        sink,
+    )
+}
