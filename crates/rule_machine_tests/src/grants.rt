@@ -4,8 +4,6 @@ ghost use Rattle.std.specs.Prelude.{◌≡◌, ◌<◌, length};
 ghost use Rattle.imkl_population.specs.Population.{IsInstance};
 ghost use Rattle.rule_machine.specs.Machine.{setting_of};
 
-use crate::assembly::file_of_rules;
-use crate::catalogue::{CATALOGUE, DUCT};
 use imkl_delivery::load;
 use imkl_model::ClassModel;
 use imkl_population::{ObjectNo, Population};
@@ -14,6 +12,7 @@ use rule_machine::{Machine, OutOfMemory, Progress, Verdict};
 use rule_verify::{Accepted, verify};
 use std::alloc::Global;
 use std::test::*;
+use test_support::{CATALOGUE, DUCT, file_of_rules};
 
 /// Of the duct the first is undecided in 14 steps, and the second holds in 4.
 const RULES: &str = "\

@@ -5,8 +5,6 @@ ghost use Rattle.imkl_population.specs.Population.{IsInstance};
 ghost use Rattle.rule_machine.specs.Machine.{setting_of};
 ghost use Rattle.rule_machine.specs.Contract.{IsStarted};
 
-use crate::assembly::file_of_rules;
-use crate::catalogue::CATALOGUE;
 use imkl_delivery::load;
 use imkl_model::ClassModel;
 use imkl_population::{ObjectNo, Population};
@@ -14,6 +12,7 @@ use rule_code::{CodeFault, Unit, read_unit};
 use rule_machine::{Machine, OutOfMemory, Progress, Verdict};
 use rule_verify::{Accepted, VerifyFault, verify};
 use std::alloc::Global;
+use test_support::{CATALOGUE, file_of_rules};
 
 /// Whether a machine that is started comes to a verdict after so many steps, granted one at a time.
 fn ends_after(machine: &mut Machine<'_>, steps: u64, verdict: Verdict) -> Result<bool, OutOfMemory>

@@ -2,11 +2,7 @@
 #![tactic(auto)]
 
 #[cfg(test)]
-mod assembly;
-#[cfg(test)]
 mod boxes;
-#[cfg(test)]
-mod catalogue;
 #[cfg(test)]
 mod collections;
 #[cfg(test)]

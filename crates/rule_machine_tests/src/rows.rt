@@ -1,6 +1,5 @@
 //! Tables of rules: a row is `CODE -> VERDICT`, or `CODE -> VERDICT in N steps`, for the one box.
 
-use crate::assembly::file_of_rule;
 use crate::boxes::{BOXES, DELIVERY};
 use crate::judging::file_verdicts;
 use imkl_delivery::load;
@@ -8,6 +7,7 @@ use imkl_model::ClassModel;
 use imkl_population::Population;
 use rule_machine::OutOfMemory;
 use std::alloc::Global;
+use test_support::file_of_rule;
 
 /// Whether the line of the one box says what a row expects, which may leave out the steps.
 fn is_answer(line: &str, expected: &str) -> bool {

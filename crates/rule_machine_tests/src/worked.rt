@@ -1,15 +1,14 @@
 //! Rules of the catalogue, worked by hand: what they say of each object, and in how many steps.
 
-use crate::assembly::file_of_rules;
-use crate::catalogue::{
-    CABLE_WITHOUT_DEPTH, DEEP_CABLE, DIFFERENT_NETS, DUCT, DUCT_OF_EQUALS, DUCT_WITH_SHALLOW,
-    DUCT_WITH_SHALLOW_LAST, EMPTY_DUCT, IDENTIFIED_CABLES, NETS, SHALLOW_CABLE,
-};
 use crate::judging::verdicts;
 use rule_machine::OutOfMemory;
 use std::alloc::{AllocError, Global};
 use std::test::*;
-use test_support::bytes_of;
+use test_support::{
+    CABLE_WITHOUT_DEPTH, DEEP_CABLE, DIFFERENT_NETS, DUCT, DUCT_OF_EQUALS, DUCT_WITH_SHALLOW,
+    DUCT_WITH_SHALLOW_LAST, EMPTY_DUCT, IDENTIFIED_CABLES, NETS, SHALLOW_CABLE, bytes_of,
+    file_of_rules,
+};
 
 /// A rule, as CLASS NAME: CODE.
 const DEEP_ENOUGH: &str = "KabelOfLeiding diepteMin: self; attr KabelOfLeiding.diepte; int 600; ge";

@@ -1,7 +1,7 @@
 //! Code files of rules that are written in words.
 
+use crate::hex::bytes_of;
 use std::alloc::{AllocError, Global};
-use test_support::bytes_of;
 
 /// Each instruction's word, its opcode (and the value of BOOL), and the forms of its fields.
 const INSTRUCTIONS: &str = "\
@@ -298,18 +298,14 @@ fn text_bytes(alloc: Global, texts: &[&str]) -> Result<Vec<u8>, AllocError> {
 }
 
 /// The file of one rule r.
-pub(crate) fn file_of_rule(
-    alloc: Global,
-    context: &str,
-    code: &str,
-) -> Result<Vec<u8>, AllocError> {
+pub fn file_of_rule(alloc: Global, context: &str, code: &str) -> Result<Vec<u8>, AllocError> {
     let mut assembler = Assembler::new(alloc);
     assembler.put_rule("r", context, code)?;
     assembler.file(1)
 }
 
 /// The file of rules, each a line `CONTEXT NAME: CODE`.
-pub(crate) fn file_of_rules(alloc: Global, rules: &str) -> Result<Vec<u8>, AllocError> {
+pub fn file_of_rules(alloc: Global, rules: &str) -> Result<Vec<u8>, AllocError> {
     let mut assembler = Assembler::new(alloc);
     for line in rules.lines() {
         let (head, code) = line.split_once(": ").unwrap_or(("", ""));

@@ -1,7 +1,7 @@
 //! The catalogue of cables, ducts and nets, and deliveries for it.
 
 /// The class model.
-pub(crate) const CATALOGUE: &str = r#"{"model":"imkl-profile",
+pub const CATALOGUE: &str = r#"{"model":"imkl-profile",
 "enums":[{"name":"Thema","literals":["elektriciteit","water","riool","telecom"]}],
 "classes":[
 {"name":"KabelOfLeiding","abstract":true,"supers":[],"attributes":[
@@ -24,21 +24,21 @@ pub(crate) const CATALOGUE: &str = r#"{"model":"imkl-profile",
 "opposite":{"name":"net","lower":0,"upper":1,"ordered":false}}]}"#;
 
 /// The cable E1, 600 deep.
-pub(crate) const DEEP_CABLE: &str = r#"{"model":"imkl-profile","objects":[
+pub const DEEP_CABLE: &str = r#"{"model":"imkl-profile","objects":[
 {"id":"E1","class":"Elektriciteitskabel",
 "features":{"identificatie":"a","spanning":400,"diepte":600}}]}"#;
 
 /// The cable E1, 599 deep.
-pub(crate) const SHALLOW_CABLE: &str = r#"{"model":"imkl-profile","objects":[
+pub const SHALLOW_CABLE: &str = r#"{"model":"imkl-profile","objects":[
 {"id":"E1","class":"Elektriciteitskabel",
 "features":{"identificatie":"a","spanning":400,"diepte":599}}]}"#;
 
 /// The cable E1, without a depth, in no duct.
-pub(crate) const CABLE_WITHOUT_DEPTH: &str = r#"{"model":"imkl-profile","objects":[
+pub const CABLE_WITHOUT_DEPTH: &str = r#"{"model":"imkl-profile","objects":[
 {"id":"E1","class":"Elektriciteitskabel","features":{"identificatie":"a","spanning":400}}]}"#;
 
 /// The duct M1 holds E1, 600 deep, and E2, without a depth.
-pub(crate) const DUCT: &str = r#"{"model":"imkl-profile","objects":[
+pub const DUCT: &str = r#"{"model":"imkl-profile","objects":[
 {"id":"M1","class":"Mantelbuis",
 "features":{"identificatie":"m","diameter":110,"omvat":["E1","E2"]}},
 {"id":"E1","class":"Elektriciteitskabel",
@@ -46,7 +46,7 @@ pub(crate) const DUCT: &str = r#"{"model":"imkl-profile","objects":[
 {"id":"E2","class":"Elektriciteitskabel","features":{"identificatie":"b","spanning":400}}]}"#;
 
 /// The duct M1 holds E1, 500 deep, and E2, without a depth.
-pub(crate) const DUCT_WITH_SHALLOW: &str = r#"{"model":"imkl-profile","objects":[
+pub const DUCT_WITH_SHALLOW: &str = r#"{"model":"imkl-profile","objects":[
 {"id":"M1","class":"Mantelbuis",
 "features":{"identificatie":"m","diameter":110,"omvat":["E1","E2"]}},
 {"id":"E1","class":"Elektriciteitskabel",
@@ -54,7 +54,7 @@ pub(crate) const DUCT_WITH_SHALLOW: &str = r#"{"model":"imkl-profile","objects":
 {"id":"E2","class":"Elektriciteitskabel","features":{"identificatie":"b","spanning":400}}]}"#;
 
 /// The same with E2 before E1.
-pub(crate) const DUCT_WITH_SHALLOW_LAST: &str = r#"{"model":"imkl-profile","objects":[
+pub const DUCT_WITH_SHALLOW_LAST: &str = r#"{"model":"imkl-profile","objects":[
 {"id":"M1","class":"Mantelbuis",
 "features":{"identificatie":"m","diameter":110,"omvat":["E2","E1"]}},
 {"id":"E2","class":"Elektriciteitskabel","features":{"identificatie":"b","spanning":400}},
@@ -62,7 +62,7 @@ pub(crate) const DUCT_WITH_SHALLOW_LAST: &str = r#"{"model":"imkl-profile","obje
 "features":{"identificatie":"a","spanning":400,"diepte":500}}]}"#;
 
 /// The duct M1 holds two cables, both 600 deep.
-pub(crate) const DUCT_OF_EQUALS: &str = r#"{"model":"imkl-profile","objects":[
+pub const DUCT_OF_EQUALS: &str = r#"{"model":"imkl-profile","objects":[
 {"id":"M1","class":"Mantelbuis",
 "features":{"identificatie":"m","diameter":110,"omvat":["E1","E2"]}},
 {"id":"E1","class":"Elektriciteitskabel",
@@ -71,11 +71,11 @@ pub(crate) const DUCT_OF_EQUALS: &str = r#"{"model":"imkl-profile","objects":[
 "features":{"identificatie":"b","spanning":400,"diepte":600}}]}"#;
 
 /// The duct M1 holds nothing.
-pub(crate) const EMPTY_DUCT: &str = r#"{"model":"imkl-profile","objects":[
+pub const EMPTY_DUCT: &str = r#"{"model":"imkl-profile","objects":[
 {"id":"M1","class":"Mantelbuis","features":{"identificatie":"m","diameter":110}}]}"#;
 
 /// Two nets; three pipes, each in one of them.
-pub(crate) const NETS: &str = r#"{"model":"imkl-profile","objects":[
+pub const NETS: &str = r#"{"model":"imkl-profile","objects":[
 {"id":"N1","class":"Utiliteitsnet","features":{"thema":"water","leidingen":["W1","W2"]}},
 {"id":"N2","class":"Utiliteitsnet","features":{"thema":"water","leidingen":["W3"]}},
 {"id":"W1","class":"Waterleiding","features":{"identificatie":"a","diameter":90}},
@@ -83,14 +83,14 @@ pub(crate) const NETS: &str = r#"{"model":"imkl-profile","objects":[
 {"id":"W3","class":"Waterleiding","features":{"identificatie":"c","diameter":90}}]}"#;
 
 /// Two nets of different themes; their cable and pipe are identified alike.
-pub(crate) const DIFFERENT_NETS: &str = r#"{"model":"imkl-profile","objects":[
+pub const DIFFERENT_NETS: &str = r#"{"model":"imkl-profile","objects":[
 {"id":"N1","class":"Utiliteitsnet","features":{"thema":"elektriciteit","leidingen":["E1"]}},
 {"id":"N2","class":"Utiliteitsnet","features":{"thema":"water","leidingen":["W1"]}},
 {"id":"E1","class":"Elektriciteitskabel","features":{"identificatie":"x","spanning":400}},
 {"id":"W1","class":"Waterleiding","features":{"identificatie":"x","diameter":90}}]}"#;
 
 /// Cables whose identifications begin in different ways.
-pub(crate) const IDENTIFIED_CABLES: &str = r#"{"model":"imkl-profile","objects":[
+pub const IDENTIFIED_CABLES: &str = r#"{"model":"imkl-profile","objects":[
 {"id":"E1","class":"Elektriciteitskabel","features":{"identificatie":"n","spanning":400}},
 {"id":"E2","class":"Elektriciteitskabel","features":{"identificatie":"nl.1","spanning":400}},
 {"id":"E3","class":"Elektriciteitskabel","features":{"identificatie":"él","spanning":400}},

@@ -1,6 +1,14 @@
-//! What the tests of several crates share: bytes written as hexadecimal digits.
+//! What the tests of several crates share: bytes written as hexadecimal digits, code files of rules
+//! that are written in words, and the catalogue of cables, ducts and nets with its deliveries.
 #![tactic(auto)]
 
+mod assembly;
+mod catalogue;
 mod hex;
 
+pub use assembly::{file_of_rule, file_of_rules};
+pub use catalogue::{
+    CABLE_WITHOUT_DEPTH, CATALOGUE, DEEP_CABLE, DIFFERENT_NETS, DUCT, DUCT_OF_EQUALS,
+    DUCT_WITH_SHALLOW, DUCT_WITH_SHALLOW_LAST, EMPTY_DUCT, IDENTIFIED_CABLES, NETS, SHALLOW_CABLE,
+};
 pub use hex::bytes_of;
