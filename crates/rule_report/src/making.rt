@@ -1,6 +1,7 @@
 //! Making a report in memory.
 
 ghost use Rattle.std.specs.Prelude.{◌≡◌, ◌<◌, ◌++◌, length, string_bytes, OnOk, IfOk};
+ghost use Rattle.rule_cost.specs.Admission.{Fits};
 ghost use Rattle.rule_machine.specs.Contract.{SameTask};
 ghost use Rattle.rule_machine.specs.Laws.{verdict_at};
 ghost use Rattle.rule_report.specs.Report.{counts_of, rule_verdicts, rule_report, report_of, summary_of};
@@ -8,6 +9,7 @@ ghost use Rattle.rule_report.specs.Report.{counts_of, rule_verdicts, rule_report
 use crate::lines::{put_object_line, put_rule_line, put_total_line};
 use crate::summary::Summary;
 use imkl_population::Population;
+use rule_cost::Admitted;
 use rule_machine::{Machine, OutOfMemory};
 use rule_verify::Accepted;
 use std::alloc::Global;
@@ -52,7 +54,7 @@ fn put_rule(
 }
 
 /// The report on a population of the class model in which the code was accepted.
-pub(crate) fn make_report(
+fn make_report(
     alloc: Global,
     accepted: &Accepted<'_>,
     population: &Population<'_>,
@@ -75,4 +77,19 @@ pub(crate) fn make_report(
     }
     put_total_line(&mut text, summary)?;
     Ok(Report { text, summary })
+}
+
+/// The report on a population that fits the admitted code.
+pub(crate) fn make_admitted_report(
+    alloc: Global,
+    admitted: &Admitted<'_>,
+    population: &Population<'_>,
+) -> Result<Report, OutOfMemory>
+    requires { Fits admitted.now population.now.content }
+    ensures text { IfOk result (λ r. string_bytes r.text ≡
+        report_of admitted.now.linked.unit population.now.content) }
+    ensures summary { IfOk result (λ r. r.summary ≡
+        summary_of admitted.now.linked.unit population.now.content) }
+{
+    make_report(alloc, admitted.accepted(), population)
 }

@@ -9,7 +9,7 @@ ghost use Rattle.rule_report.specs.Report.{report_of, summary_of};
 ghost use Rattle.rule_report.specs.Writing.{is_write_fault};
 
 use crate::fault::ReportFault;
-use crate::making::make_report;
+use crate::making::make_admitted_report;
 use crate::sink::{Sink, write_and_flush};
 use crate::summary::Summary;
 use imkl_population::Population;
@@ -36,7 +36,7 @@ pub fn write_report<S: Sink>(
     ensures write { S.has_failed sink.new ≡ is_write_fault result }
     ensures memory { result ≡ Err fault.OutOfMemory → sink.new ≡ sink.old }
 {
-    let report = make_report(alloc, admitted.accepted(), population)?;
+    let report = make_admitted_report(alloc, admitted, population)?;
     write_and_flush(sink, report.text.as_bytes())?;
     Ok(report.summary)
 }
