@@ -49,9 +49,10 @@ pub(crate) fn bounds_reply(
 }
 
 /// Bounds the rules of a code file: reads the class model, the delivery and the code file, each
-/// whole, and then writes for each rule the most steps that it makes for an object, or that they are
-/// 2^63 or more; or one line on the first of the inputs that is refused. An input is untouched until
-/// the one before it has ended, and where memory or a read fails the sink is as it was.
+/// whole, and then writes for each rule how many steps it makes at most for an object, or that this
+/// bound is 2^63 or more; or one line on the first of the inputs that is refused. An input is
+/// untouched until the one before it has ended, and where memory or a read fails the sink is as it
+/// was.
 pub fn run_bound<M: Read, D: Read, C: Read, S: Sink>(
     alloc: Global,
     model: &mut M,
