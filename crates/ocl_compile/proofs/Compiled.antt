@@ -1,8 +1,7 @@
 -- A run of the code of a core tree comes to the end of that code with the tree's meaning as its topmost operand.
-use Rattle.std.proofs.Common.{◌≡◌, ℕ, zero, suc, List, [], ◌∷◌, ◌++◌, length, drop, Option, Some, None, refl, sym, ap, ◌∙◌, subst}
+use Rattle.std.proofs.Common.{◌≡◌, ℕ, zero, suc, List, ◌∷◌, length, drop, Option, Some, None, refl, ap, ◌∙◌, subst}
 use Rattle.std.specs.Str.{chars}
 use Rattle.imkl_population.specs.declared.scalar.Scalar.TheVariants as scalar
-use Rattle.imkl_population.specs.Population.{Population}
 use Rattle.ocl_kinds.specs.declared.kind.Kind.{Kind}
 use Rattle.ocl_types.specs.Core as tree
 use Rattle.ocl_types.specs.Core.{Constant, CoreTree, CoreTrees}
@@ -18,10 +17,10 @@ use Rattle.rule_machine.specs.Operations.{or_invalid, all_instances}
 use Rattle.rule_machine.specs.Machine.{Setting, judged_by, literal_named, on_class_named, value_named_read, Piece, Sequence, Configuration, configuration, step, run}
 use Rattle.rule_machine.specs.Verdict.{outcome}
 use Rattle.ocl_compile.specs.Meaning.{constant_value, operation_value, meaning, meanings}
-use Rattle.ocl_compile.specs.Numbering.{Numbering, Use, tree_uses, trees_uses, constant_uses, scalar_uses, kind_uses, operator_uses, iteration_uses, owned_feature, symbol_number}
-use Rattle.ocl_compile.specs.Translation.{constant_instr, variable_instr, operator_instr, iteration_instr, iteration_block, let_block, if_block, written_scalar, written_kind, symbol_of_unit, translate, translate_all}
+use Rattle.ocl_compile.specs.Numbering.{Numbering, Use, tree_uses, trees_uses, constant_uses, kind_uses, iteration_uses, owned_feature}
+use Rattle.ocl_compile.specs.Translation.{constant_instr, variable_instr, operator_instr, iteration_block, let_block, if_block, written_scalar, written_kind, symbol_of_unit, translate, translate_all}
 use Rattle.ocl_compile.proofs.Resolved.{AreResolved, of_first, of_rest}
-use Rattle.ocl_compile.proofs.Operating.{stacked, operand_count, operands_counted, meanings_counted, Operates, operates}
+use Rattle.ocl_compile.proofs.Operating.{stacked, operands_counted, meanings_counted, operates}
 use Rattle.ocl_compile.proofs.Reaching.{Reached, plain_reached, let_reached, if_reached, iteration_reached}
 
 module _ (s : Setting) (first : Configuration) (goes_on : (k : ℕ) (c : Configuration) → run s k first ≡ Some c → outcome c ≡ None → (d : Configuration) × (step s c ≡ Some d)) (n : Numbering) where

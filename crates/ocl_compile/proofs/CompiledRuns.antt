@@ -1,5 +1,5 @@
 -- Runs of compiled rules end with what the rules mean.
-use Rattle.std.proofs.Common.{◌≡◌, ℕ, zero, suc, ◌+◌, ◌<◌, ◌≤◌, List, [], ◌∷◌, ◌++◌, map, length, get_or, Option, Some, None, Ok, refl, sym, ap, ◌∙◌, subst, arith}
+use Rattle.std.proofs.Common.{◌≡◌, ℕ, zero, suc, ◌<◌, List, [], ◌∷◌, length, Option, Some, None, refl, sym, ap, ◌∙◌, subst}
 use Rattle.std.specs.Prelude.{slice_get, unwrap_or}
 use Rattle.std.specs.Option.{option_map}
 use Rattle.std.specs.List.{AllByRecursion}
@@ -11,9 +11,8 @@ use Rattle.ocl_types.specs.Typing.{IsTypedRule}
 use Rattle.rule_code.specs.Content.{Content, RuleContent}
 use Rattle.rule_verify.specs.CodeTree.{CodeTree, End, code_tree}
 use Rattle.rule_verify.specs.UnitRules.{unit_rule, empty_rule, context_class, IsAcceptedUnit}
-use Rattle.rule_machine.specs.Value.{Value, object_value}
-use Rattle.rule_machine.specs.Machine.{Setting, setting_of, Configuration, configuration, step, run, start}
-use Rattle.rule_machine.specs.Verdict.{outcome, verdict_of}
+use Rattle.rule_machine.specs.Value.{object_value}
+use Rattle.rule_machine.specs.Machine.{setting_of, configuration, run, start}
 use Rattle.rule_machine.specs.Laws.{IsAcceptedRun, tree_of_rule, rule_bound, verdict_at}
 use Rattle.rule_machine.proofs.ForAbove.{goes_on, within_bound, verdict_found}
 use Rattle.ocl_compile.specs.Meaning.{meaning, meant_verdict}

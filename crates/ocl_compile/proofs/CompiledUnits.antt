@@ -1,6 +1,6 @@
 -- Units of typed rules that pass no limit are accepted.
-use Rattle.std.proofs.Common.{◌≡◌, ℕ, zero, suc, ◌+◌, ◌<◌, ◌≤◌, ◌||◌, Bool, true, false, List, [], ◌∷◌, ◌++◌, map, length, Option, Some, None, Result, Ok, Err, refl, sym, ap, ◌∙◌, subst, arith, length-append, if◌then◌else◌}
-use Rattle.std.specs.Prelude.{slice_get, unwrap_or, nat_lt}
+use Rattle.std.proofs.Common.{◌≡◌, ℕ, zero, suc, ◌+◌, ◌≤◌, Bool, true, false, List, [], ◌∷◌, ◌++◌, map, length, Option, Some, None, Result, Ok, refl, sym, ap, ◌∙◌, arith, length-append, if◌then◌else◌}
+use Rattle.std.specs.Prelude.{slice_get, nat_lt}
 use Rattle.std.specs.List.{AllByRecursion}
 use Rattle.std.proofs.lemmas.Bool.{ltb-false}
 use Rattle.ocl_base.specs.Steps.{◌>>=◌, found, check}
@@ -8,31 +8,29 @@ use Rattle.imkl_model.specs.ClassModel.{Model}
 use Rattle.imkl_model.specs.WellFormed.{IsClassModel}
 use Rattle.ocl_kinds.specs.declared.kind.ScalarKind.TheVariants as element
 use Rattle.ocl_kinds.specs.declared.kind.Kind.{Kind}
-use Rattle.ocl_kinds.specs.declared.kind.Kind.TheVariants.{Scalar, Collection}
+use Rattle.ocl_kinds.specs.declared.kind.Kind.TheVariants.{Scalar}
 use Rattle.ocl_kinds.specs.Kinds.{fits}
 use Rattle.ocl_kinds.proofs.ForAbove.{fits_itself, fits_along}
 use Rattle.ocl_types.specs.Core.{CheckedRule}
 use Rattle.ocl_types.specs.Elaboration.{truth_kind}
-use Rattle.ocl_types.specs.Typing.{IsTyped, IsTypedRule}
-use Rattle.rule_code.specs.Content.{Content, RuleContent}
+use Rattle.ocl_types.specs.Typing.{IsTypedRule}
+use Rattle.rule_code.specs.Content.{Content}
 use Rattle.rule_verify.specs.declared.named.Named.{Named}
-use Rattle.rule_verify.specs.declared.named.Named.TheVariants as named
 use Rattle.rule_verify.specs.declared.depths.Depths.{Depths}
 use Rattle.rule_verify.specs.declared.fault.Flaw.TheVariants as flaws
 use Rattle.rule_verify.specs.CodeTree.{CodeTree, End, code_tree, instr_count}
-use Rattle.rule_verify.specs.CodeDepths.{rule_depths}
-use Rattle.rule_verify.specs.InstrKinds.{Surroundings, surroundings, variable_at}
-use Rattle.rule_verify.specs.KindRules.{InstrFault, instr_fault, Enclosing, operand_limit, block_limit, kinds_after, ended_with, rule_ends}
+use Rattle.rule_verify.specs.InstrKinds.{surroundings, variable_at}
+use Rattle.rule_verify.specs.KindRules.{InstrFault, instr_fault, Enclosing, operand_limit, block_limit, ended_with, rule_ends}
 use Rattle.rule_verify.specs.Patterns.{a_boolean}
-use Rattle.rule_verify.specs.Symbols.{class_in, named_at}
+use Rattle.rule_verify.specs.Symbols.{class_in}
 use Rattle.rule_verify.specs.UnitRules.{check_rule, check_rules, context_class, IsAcceptedUnit}
 use Rattle.ocl_compile.specs.declared.fault.Limit.{Limit}
-use Rattle.ocl_compile.specs.Numbering.{Numbering, rule_uses, rules_uses, numbering_of, symbol_number}
-use Rattle.ocl_compile.specs.Translation.{rule_tree, translate_rule, unit_with, translate_rules, instrs_of}
-use Rattle.ocl_compile.specs.Compiling.{is_too_large, compiled_depths, limit_passed, LimitAt, or_later, first_passed, unless_passed, compile_of}
+use Rattle.ocl_compile.specs.Numbering.{Numbering, rule_uses, rules_uses, numbering_of}
+use Rattle.ocl_compile.specs.Translation.{rule_tree, translate_rule, translate_rules}
+use Rattle.ocl_compile.specs.Compiling.{is_too_large, compiled_depths, limit_passed, LimitAt, or_later, first_passed, unless_passed}
 use Rattle.ocl_compile.proofs.Resolved.{AreResolved, of_first, of_rest}
 use Rattle.ocl_compile.proofs.Flat.{tree_flat, translated_cut}
-use Rattle.ocl_compile.proofs.Kinded.{Narrower, StandsDeep, IsShallow, Past}
+use Rattle.ocl_compile.proofs.Kinded.{Narrower}
 use Rattle.ocl_compile.proofs.TreeKinds.{tree_past}
 use Rattle.ocl_compile.proofs.Resolving.{rules_resolved}
 
@@ -77,6 +75,11 @@ one_variable m k = record { count = refl; each = λ n j e. at n j e }
     at zero j e = (k, refl, let same : k ≡ j = cc in ap (fits m k) (sym same) ∙ fits_itself m k)
     at (suc n) j e = cc
 
+-- no limit is passed by a rule, nor by a later one
+pub none_later : (i : ℕ) (o : Option Limit) (later : Option LimitAt) → or_later i o later ≡ None → (o ≡ None) × (later ≡ None)
+none_later i (Some l) later e = cc
+none_later i None later e = (refl, e)
+
 module _ (m : Model) (all : List CheckedRule) where
   -- the code of a typed rule that passes no limit ends with a truth value
   rule_has_kinds : (before : List CheckedRule) (r : CheckedRule) → IsTypedRule m r → AreResolved m (translate_rules m all) (numbering_of m all) (rule_uses m r) → limit_passed m all before r ≡ None
@@ -109,10 +112,6 @@ module _ (m : Model) (all : List CheckedRule) where
       ∙ ap (λ (o : Result Kind InstrFault). o >>= (λ k. Ok tt)) ends.1
 
   -- ---- the rules in their order
-
-  none_later : (i : ℕ) (o : Option Limit) (later : Option LimitAt) → or_later i o later ≡ None → (o ≡ None) × (later ≡ None)
-  none_later i (Some l) later e = cc
-  none_later i None later e = (refl, e)
 
   rules_check : (before rs : List CheckedRule) → AllByRecursion (IsTypedRule m) rs → AreResolved m (translate_rules m all) (numbering_of m all) (rules_uses m rs) → first_passed m all before rs ≡ None
       → check_rules m (translate_rules m all) (length before) (map (translate_rule m (numbering_of m all)) rs) ≡ Ok tt

@@ -1,18 +1,12 @@
 -- The code of typed core trees has kinds: each place has a kind that fits the one that the tree is typed with.
-use Rattle.std.proofs.Common.{◌≡◌, ◌⊎◌, ℕ, zero, suc, ◌+◌, ◌-◌, ◌<◌, ◌≤◌, ◌==◌, max, Bool, true, false, ◌&&◌, List, [], ◌∷◌, ◌++◌, length, Option, Some, None, Result, Ok, Err, refl, sym, ap, ◌∙◌, subst, inl, inr, ⊎_elim, arith, length-append}
-use Rattle.std.specs.Prelude.{slice_get, is_some, nat_le, nat_lt, if◌then◌else◌}
-use Rattle.std.specs.List.{list_all}
-use Rattle.std.proofs.lemmas.Bool.{and_parts, and_from, le-leb, lt-ltb, eq-eqb, ne_eqb}
+use Rattle.std.proofs.Common.{◌≡◌, ◌⊎◌, ℕ, zero, suc, ◌+◌, ◌<◌, ◌≤◌, ◌==◌, max, Bool, true, false, List, [], ◌∷◌, ◌++◌, length, Some, Result, Ok, refl, sym, ap, ◌∙◌, inl, inr, ⊎_elim, arith, length-append}
+use Rattle.std.specs.Prelude.{slice_get, nat_le, nat_lt, if◌then◌else◌}
+use Rattle.std.proofs.lemmas.Bool.{le-leb, lt-ltb, eq-eqb, ne_eqb}
 use Rattle.ocl_base.specs.Steps.{◌>>=◌, check}
-use Rattle.imkl_model.specs.ClassModel.{Model, feature_at}
-use Rattle.ocl_kinds.specs.declared.kind.ScalarKind.{ScalarKind}
-use Rattle.ocl_kinds.specs.declared.kind.ScalarKind.TheVariants as element
+use Rattle.imkl_model.specs.ClassModel.{Model}
 use Rattle.ocl_kinds.specs.declared.kind.Kind.{Kind}
-use Rattle.ocl_kinds.specs.declared.kind.Kind.TheVariants.{Scalar, Collection}
-use Rattle.ocl_kinds.specs.Kinds.{scalar_fits, fits}
-use Rattle.ocl_kinds.proofs.ForAbove.{scalar_fits_along, fits_itself, fits_along}
+use Rattle.ocl_kinds.specs.Kinds.{fits}
 use Rattle.rule_code.specs.declared.instruction.Instr.{Instr}
-use Rattle.rule_code.specs.declared.instruction.Instr.TheVariants as instrs
 use Rattle.rule_verify.specs.declared.depths.Depths.{Depths}
 use Rattle.rule_verify.specs.declared.fault.Flaw.TheVariants as flaws
 use Rattle.rule_verify.specs.declared.pattern.Pattern.{Pattern}

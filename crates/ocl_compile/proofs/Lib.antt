@@ -9,3 +9,11 @@ pub mod TreeKinds
 pub mod Resolving
 pub mod CompiledUnits
 pub mod CompiledRuns
+pub mod CodeFits
+pub mod UnitFits
+pub mod Measured
+pub mod Emitted
+pub mod Counted
+pub mod Cuts
+pub mod TypedCode
+pub mod Keys

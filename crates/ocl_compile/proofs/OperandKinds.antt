@@ -1,9 +1,9 @@
 -- What the instructions of core trees take, by the kinds of their operands: names, operands and results.
-use Rattle.std.proofs.Common.{◌≡◌, ℕ, zero, suc, ◌<◌, Bool, true, false, ◌&&◌, List, [], ◌∷◌, ◌++◌, length, Option, Some, None, refl, sym, ap, ◌∙◌, subst}
+use Rattle.std.proofs.Common.{◌≡◌, ℕ, true, ◌&&◌, List, [], ◌∷◌, ◌++◌, Option, Some, refl, sym, ap, ◌∙◌, subst}
 use Rattle.std.specs.Prelude.{is_some}
 use Rattle.std.specs.List.{list_all}
 use Rattle.std.proofs.lemmas.Bool.{and_parts, and_from}
-use Rattle.imkl_model.specs.ClassModel.{Model, feature_at}
+use Rattle.imkl_model.specs.ClassModel.{Model}
 use Rattle.ocl_base.specs.declared.collection_kind.CollectionKind.{CollectionKind}
 use Rattle.ocl_base.specs.declared.collection_kind.CollectionKind.TheVariants as collection
 use Rattle.ocl_kinds.specs.declared.kind.ScalarKind.{ScalarKind}
@@ -11,7 +11,7 @@ use Rattle.ocl_kinds.specs.declared.kind.ScalarKind.TheVariants as element
 use Rattle.ocl_kinds.specs.declared.kind.Kind.{Kind}
 use Rattle.ocl_kinds.specs.declared.kind.Kind.TheVariants.{Scalar, Collection}
 use Rattle.ocl_kinds.specs.Kinds.{is_same_collection, scalar_fits, fits, elements_kind}
-use Rattle.ocl_kinds.proofs.ForAbove.{scalar_fits_along, scalar_fits_itself, fits_itself, fits_along}
+use Rattle.ocl_kinds.proofs.ForAbove.{scalar_fits_along, fits_itself, fits_along}
 use Rattle.ocl_types.specs.declared.operator.PlainOperator.{PlainOperator}
 use Rattle.ocl_types.specs.declared.operator.PlainOperator.TheVariants as plain
 use Rattle.ocl_types.specs.declared.operator.ClassOperator.{ClassOperator}

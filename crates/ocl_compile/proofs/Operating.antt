@@ -1,5 +1,5 @@
 -- The instruction of an operator takes as many operands as the operator has, and gives what the operator means.
-use Rattle.std.proofs.Common.{◌≡◌, ℕ, zero, suc, Bool, true, false, List, [], ◌∷◌, length, drop, Option, Some, None, refl, sym, ap, ◌∙◌, subst, arith}
+use Rattle.std.proofs.Common.{◌≡◌, ℕ, suc, true, List, [], ◌∷◌, length, drop, Option, refl, sym, ap, ◌∙◌, subst}
 use Rattle.std.proofs.lemmas.Bool.{and_parts}
 use Rattle.imkl_model.specs.ClassModel.{Model}
 use Rattle.ocl_kinds.specs.declared.kind.ScalarKind.{ScalarKind}
@@ -15,17 +15,16 @@ use Rattle.ocl_types.specs.declared.operator.Operator.{Operator}
 use Rattle.ocl_types.specs.declared.operator.Operator.TheVariants.{Plain, OfClass, OfElements, Equal}
 use Rattle.ocl_types.specs.Core as tree
 use Rattle.ocl_types.specs.Core.{CoreTrees}
-use Rattle.ocl_types.specs.Typing.{Operand, are_operands, plain_operands, AreOthers, IsOperation, IsTyped, AreTyped}
+use Rattle.ocl_types.specs.Typing.{Operand, are_operands, plain_operands, AreOthers, IsOperation, AreTyped}
 use Rattle.imkl_population.specs.Population.{Population}
 use Rattle.rule_verify.specs.declared.named.Named.{Named}
-use Rattle.rule_verify.specs.declared.named.Named.TheVariants as named
 use Rattle.rule_verify.specs.InstrKinds.{operands_of}
 use Rattle.rule_machine.specs.Value.{Value}
 use Rattle.rule_machine.specs.Operations.{or_invalid, kind_test, type_test, cast}
 use Rattle.rule_machine.specs.Machine.{Setting, judged_by, result_of, on_class_named}
-use Rattle.ocl_compile.specs.Meaning.{operation_value, class_value, meaning, meanings}
+use Rattle.ocl_compile.specs.Meaning.{operation_value, meanings}
 use Rattle.ocl_compile.specs.Numbering.{Numbering, operator_uses}
-use Rattle.ocl_compile.specs.Translation.{operator_instr, class_instr, symbol_of_unit}
+use Rattle.ocl_compile.specs.Translation.{operator_instr}
 use Rattle.ocl_compile.proofs.Resolved.{AreResolved}
 
 -- operands put one after another on those below

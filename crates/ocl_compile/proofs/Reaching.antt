@@ -1,14 +1,11 @@
 -- Runs of compiled code: what stands for a core tree puts the value that the tree means on the operands.
-use Rattle.std.proofs.Common.{◌≡◌, ◌≢◌, ℕ, zero, suc, ◌+◌, Bool, true, false, List, [], ◌∷◌, ◌++◌, map, length, drop, Option, Some, None, refl, sym, ap, ◌∙◌, subst, append_assoc, append-nil, if◌then◌else◌}
-use Rattle.std.specs.Prelude.{pos, option_and_then}
+use Rattle.std.proofs.Common.{◌≡◌, ℕ, ◌+◌, Bool, true, false, List, [], ◌∷◌, ◌++◌, map, length, drop, Option, Some, None, refl, sym, ap, ◌∙◌, subst, append_assoc, append-nil, if◌then◌else◌}
+use Rattle.std.specs.Prelude.{option_and_then}
 use Rattle.std.specs.Option.{option_map}
-use Rattle.std.specs.Str.{chars}
 use Rattle.imkl_population.specs.declared.scalar.Scalar.TheVariants as scalar
-use Rattle.imkl_population.specs.Population.{Population}
-use Rattle.ocl_base.specs.declared.collection_kind.CollectionKind.{CollectionKind}
 use Rattle.rule_code.specs.declared.instruction.Instr.{Instr}
 use Rattle.rule_code.specs.declared.instruction.Instr.TheVariants as instrs
-use Rattle.rule_verify.specs.CodeTree.{CodeTree, End, Plain, Block, Branch, Torn}
+use Rattle.rule_verify.specs.CodeTree.{CodeTree, Plain, Block, Branch}
 use Rattle.rule_verify.specs.InstrKinds.{operands_of, ends_with}
 use Rattle.ocl_types.specs.declared.core_tree.Iteration.{Iteration}
 use Rattle.ocl_types.specs.declared.core_tree.Iteration.TheVariants as iteration

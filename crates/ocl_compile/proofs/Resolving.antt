@@ -1,9 +1,9 @@
 -- The texts and symbols that typed rules use stand under their numbers in the unit of the rules.
-use Rattle.std.proofs.Common.{◌≡◌, ℕ, zero, suc, ◌+◌, ◌<◌, ◌==◌, Bool, true, false, ◌||◌, ◌&&◌, not, cond, List, [], ◌∷◌, ◌++◌, map, length, get_or, Option, Some, None, refl, sym, ap, ◌∙◌, subst, arith, bytes_eq, position, if◌then◌else◌}
-use Rattle.std.specs.Prelude.{slice_get, unwrap_or, option_and_then, nat_lt}
+use Rattle.std.proofs.Common.{◌≡◌, ℕ, suc, ◌+◌, ◌<◌, ◌==◌, Bool, true, false, ◌||◌, ◌&&◌, not, cond, List, [], ◌∷◌, ◌++◌, length, get_or, Option, Some, None, refl, sym, ap, ◌∙◌, subst, arith, bytes_eq, position, if◌then◌else◌}
+use Rattle.std.specs.Prelude.{slice_get, unwrap_or, option_and_then}
 use Rattle.std.specs.Option.{option_map}
 use Rattle.std.specs.List.{list_any, AllByRecursion, position_or_len, prefix_len}
-use Rattle.std.proofs.lemmas.Bool.{and_parts, lt-ltb, eq-eqb, eqb-true, cases_Bool}
+use Rattle.std.proofs.lemmas.Bool.{and_parts, lt-ltb, eq-eqb, eqb-true}
 use Rattle.std.proofs.lemmas.List.Folds.{list_any-append}
 use Rattle.std.proofs.lemmas.List.Quantifiers.{position-Some}
 use Rattle.std.proofs.lemmas.Option.{slice_get-map, slice_get-get_or}
@@ -25,13 +25,12 @@ use Rattle.ocl_types.specs.declared.core_tree.Iteration.TheVariants as iteration
 use Rattle.ocl_types.specs.Core as tree
 use Rattle.ocl_types.specs.Core.{Constant, CoreTree, CoreTrees, CheckedRule}
 use Rattle.ocl_types.specs.Typing.{IsConstantOf, IsOperation, IsIteration, IsTyped, AreTyped, IsTypedRule}
-use Rattle.rule_code.specs.declared.symbol.Symbol.{Symbol}
-use Rattle.rule_code.specs.Content.{Content, text_at}
+use Rattle.rule_code.specs.Content.{text_at}
 use Rattle.rule_verify.specs.declared.named.Named.{Named}
 use Rattle.rule_verify.specs.declared.named.Named.TheVariants as named
 use Rattle.rule_verify.specs.Symbols.{named_by, named_at}
-use Rattle.ocl_compile.specs.Numbering.{same_named, literal_name, names_of_symbol, owned_feature, Use, UsedText, UsedSymbol, constant_uses, scalar_uses, kind_uses, operator_uses, iteration_uses, tree_uses, trees_uses, rule_uses, rules_uses, Numbering, no_numbers, once_more, with_texts, with_use, with_uses, numbering_of, text_number, symbol_number}
-use Rattle.ocl_compile.specs.Translation.{text_of_unit, translate_symbol, unit_with}
+use Rattle.ocl_compile.specs.Numbering.{same_named, literal_name, names_of_symbol, Use, UsedText, UsedSymbol, constant_uses, scalar_uses, kind_uses, operator_uses, iteration_uses, tree_uses, trees_uses, rule_uses, rules_uses, Numbering, no_numbers, once_more, with_texts, with_use, with_uses, numbering_of, text_number, symbol_number}
+use Rattle.ocl_compile.specs.Translation.{translate_symbol, unit_with}
 use Rattle.ocl_compile.proofs.Resolved.{IsResolved, AreResolved}
 
 -- ---- numbers of what stands in a list
@@ -45,7 +44,7 @@ found_before p (x ∷ xs) e = by_test (p x) refl e (found_before p xs)
     by_test false h e more = subst (λ (t : Bool). cond (not t) (1 + prefix_len (λ y. not (p y)) xs) 0 < suc (length xs)) (sym h) (omega (arith, more e))
 
 -- what is there has a number, at which something equal stands
-numbered : {A : Type 0} (same : A → A → Bool) (xs : List A) (x : A) → is_among same xs x ≡ true → (i : ℕ) × (position (same x) xs ≡ Some i) × (i < length xs) × (same x (get_or xs i x) ≡ true)
+pub numbered : {A : Type 0} (same : A → A → Bool) (xs : List A) (x : A) → is_among same xs x ≡ true → (i : ℕ) × (position (same x) xs ≡ Some i) × (i < length xs) × (same x (get_or xs i x) ≡ true)
 numbered same xs x e =
     let i = position_or_len (same x) xs in
     let lt = found_before (same x) xs e in
@@ -73,7 +72,7 @@ is_added same xs x itself = by_test (is_among same xs x) refl
     by_test true h = h
     by_test false h = list_any-append (same x) xs (x ∷ []) ∙ or_true (list_any (same x) xs) (list_any (same x) (x ∷ [])) (ap (λ (t : Bool). t || false) itself)
 
-text_itself : (t : List ℕ) → bytes_eq t t ≡ true
+pub text_itself : (t : List ℕ) → bytes_eq t t ≡ true
 text_itself t = (bytes_eq-Decides t t).1 refl
 
 named_itself : (x : Named) → same_named x x ≡ true
@@ -82,7 +81,7 @@ named_itself (named.Enumeration e) = eq-eqb e e refl
 named_itself (named.Feature c f) = ap (λ (b : Bool). b && (f == f)) (eq-eqb c c refl) ∙ eq-eqb f f refl
 named_itself (named.Literal e l) = ap (λ (b : Bool). b && (l == l)) (eq-eqb e e refl) ∙ eq-eqb l l refl
 
-same_is : (x y : Named) → same_named x y ≡ true → x ≡ y
+pub same_is : (x y : Named) → same_named x y ≡ true → x ≡ y
 same_is (named.Class c) (named.Class d) e = ap (λ (k : ℕ). named.Class k) (eqb-true c d e)
 same_is (named.Enumeration c) (named.Enumeration d) e = ap (λ (k : ℕ). named.Enumeration k) (eqb-true c d e)
 same_is (named.Feature c f) (named.Feature d g) e =
@@ -95,11 +94,11 @@ same_is x y e = cc
 
 -- ---- numberings have what is used
 
-abbrev HasText : Numbering → List ℕ → Type 0
+abbrev pub HasText : Numbering → List ℕ → Type 0
 HasText n t = is_among bytes_eq n.texts t ≡ true
 
 -- a use's text is there, or its symbol with its names
-abbrev Has : Model → Numbering → Use → Type 0
+abbrev pub Has : Model → Numbering → Use → Type 0
 Has m n (UsedText t) = HasText n t
 Has m n (UsedSymbol x) = (is_among same_named n.symbols x ≡ true) × AllByRecursion (HasText n) (names_of_symbol m x)
 
@@ -107,22 +106,22 @@ text_stays : (texts ts : List (List ℕ)) (t : List ℕ) → is_among bytes_eq t
 text_stays texts [] t e = e
 text_stays texts (x ∷ ts) t e = text_stays (once_more bytes_eq texts x) ts t (stays bytes_eq texts x t e)
 
-texts_added : (symbols : List Named) (texts ts : List (List ℕ)) → AllByRecursion (HasText (record { texts = with_texts texts ts; symbols = symbols })) ts
+pub texts_added : (symbols : List Named) (texts ts : List (List ℕ)) → AllByRecursion (HasText (record { texts = with_texts texts ts; symbols = symbols })) ts
 texts_added symbols texts [] = tt
 texts_added symbols texts (t ∷ ts) =
     (text_stays (once_more bytes_eq texts t) ts t (is_added bytes_eq texts t (text_itself t)), texts_added symbols (once_more bytes_eq texts t) ts)
 
 -- a numbering has all that another has
-record Grows (n o : Numbering) : Type 0 where
-  texts : (t : List ℕ) → HasText n t → HasText o t
-  symbols : (x : Named) → is_among same_named n.symbols x ≡ true → is_among same_named o.symbols x ≡ true
+pub record Grows (n o : Numbering) : Type 0 where
+  pub texts : (t : List ℕ) → HasText n t → HasText o t
+  pub symbols : (x : Named) → is_among same_named n.symbols x ≡ true → is_among same_named o.symbols x ≡ true
 
-grows_by_use : (m : Model) (n : Numbering) (u : Use) → Grows n (with_use m n u)
+pub grows_by_use : (m : Model) (n : Numbering) (u : Use) → Grows n (with_use m n u)
 grows_by_use m n (UsedText t) = record { texts = λ x e. text_stays n.texts (t ∷ []) x e; symbols = λ x e. e }
 grows_by_use m n (UsedSymbol s) =
     record { texts = λ x e. text_stays n.texts (names_of_symbol m s) x e; symbols = λ x e. stays same_named n.symbols s x e }
 
-all_texts : (n o : Numbering) → Grows n o → (ts : List (List ℕ)) → AllByRecursion (HasText n) ts → AllByRecursion (HasText o) ts
+pub all_texts : (n o : Numbering) → Grows n o → (ts : List (List ℕ)) → AllByRecursion (HasText n) ts → AllByRecursion (HasText o) ts
 all_texts n o g [] h = tt
 all_texts n o g (t ∷ ts) h = (g.texts t h.0, all_texts n o g ts h.1)
 
@@ -142,7 +141,7 @@ grows_by_uses m n (u ∷ us) =
     let b = grows_by_uses m (with_use m n u) us in
     record { texts = λ t e. b.texts t (a.texts t e); symbols = λ x e. b.symbols x (a.symbols x e) }
 
-has_uses : (m : Model) (n : Numbering) (us : List Use) → AllByRecursion (Has m (with_uses m n us)) us
+pub has_uses : (m : Model) (n : Numbering) (us : List Use) → AllByRecursion (Has m (with_uses m n us)) us
 has_uses m n [] = tt
 has_uses m n (u ∷ us) =
     (keeps m (with_use m n u) (with_uses m (with_use m n u) us) (grows_by_uses m (with_use m n u) us) u (has_use m n u), has_uses m (with_use m n u) us)
@@ -229,36 +228,37 @@ module _ (m : Model) where
 
 -- ---- so each stands under its number
 
-module _ (m : Model) (model : IsClassModel m) (n : Numbering) (rs : List CheckedRule) where
-  text_stands : (t : List ℕ) → HasText n t → text_at n.texts (text_number n t) ≡ t
-  text_stands t h =
-      let p = numbered bytes_eq n.texts t h in
-      let at : text_number n t ≡ p.0 = ap (λ (o : Option ℕ). unwrap_or o 0) p.1 in
-      let q = position-Some (bytes_eq t) n.texts p.0 [] p.1 in
-      ap (text_at n.texts) at ∙ sym ((bytes_eq-Decides t (get_or n.texts p.0 [])).0 q.1)
+-- a text that is there is the text of its number
+pub text_stands : (n : Numbering) (t : List ℕ) → HasText n t → text_at n.texts (text_number n t) ≡ t
+text_stands n t h =
+    let p = numbered bytes_eq n.texts t h in
+    let at : text_number n t ≡ p.0 = ap (λ (o : Option ℕ). unwrap_or o 0) p.1 in
+    let q = position-Some (bytes_eq t) n.texts p.0 [] p.1 in
+    ap (text_at n.texts) at ∙ sym ((bytes_eq-Decides t (get_or n.texts p.0 [])).0 q.1)
 
+module _ (m : Model) (model : IsClassModel m) (n : Numbering) (rs : List CheckedRule) where
   symbol_stands : (x : Named) → IsThere m x → AllByRecursion (HasText n) (names_of_symbol m x) → named_by m n.texts (translate_symbol m n x) ≡ Some x
   symbol_stands (named.Class c) there h =
-      ap (λ (t : List ℕ). option_map named.Class (class_number m t)) (text_stands (class_at m c).name h.0)
+      ap (λ (t : List ℕ). option_map named.Class (class_number m t)) (text_stands n (class_at m c).name h.0)
       ∙ ap (option_map named.Class) ((classes_have_names m model (class_at m c).name c).1 (there, refl))
   symbol_stands (named.Enumeration e) there h =
-      ap (λ (t : List ℕ). option_map named.Enumeration (enumeration_number m t)) (text_stands (enumeration_at m e).name h.0)
+      ap (λ (t : List ℕ). option_map named.Enumeration (enumeration_number m t)) (text_stands n (enumeration_at m e).name h.0)
       ∙ ap (option_map named.Enumeration) ((enumerations_have_names m model (enumeration_at m e).name e).1 (there, refl))
   symbol_stands (named.Feature c f) there h =
       let owned : belongs m c f ≡ true = subst (λ (k : ℕ). belongs m k f ≡ true) (sym there.1) (conforms_to_itself m (feature_at m f).owner) in
       let inside : c < length m.classes = subst (λ (k : ℕ). k < length m.classes) (sym there.1) (model.known_owners f there.0) in
-      ap (λ (t : List ℕ). option_and_then (λ class. option_map (named.Feature class) (feature_number m class (text_at n.texts (text_number n (feature_at m f).name)))) (class_number m t)) (text_stands (class_at m c).name h.0)
+      ap (λ (t : List ℕ). option_and_then (λ class. option_map (named.Feature class) (feature_number m class (text_at n.texts (text_number n (feature_at m f).name)))) (class_number m t)) (text_stands n (class_at m c).name h.0)
       ∙ ap (λ (o : Option ℕ). option_and_then (λ class. option_map (named.Feature class) (feature_number m class (text_at n.texts (text_number n (feature_at m f).name)))) o) ((classes_have_names m model (class_at m c).name c).1 (inside, refl))
-      ∙ ap (λ (t : List ℕ). option_map (named.Feature c) (feature_number m c t)) (text_stands (feature_at m f).name h.1.0)
+      ∙ ap (λ (t : List ℕ). option_map (named.Feature c) (feature_number m c t)) (text_stands n (feature_at m f).name h.1.0)
       ∙ ap (option_map (named.Feature c)) ((features_have_names m model (feature_at m f).name c f).1 (there.0, owned, refl))
   symbol_stands (named.Literal e l) there h =
-      ap (λ (t : List ℕ). option_and_then (λ enumeration. option_map (named.Literal enumeration) (literal_number m enumeration (text_at n.texts (text_number n (literal_name m e l))))) (enumeration_number m t)) (text_stands (enumeration_at m e).name h.0)
+      ap (λ (t : List ℕ). option_and_then (λ enumeration. option_map (named.Literal enumeration) (literal_number m enumeration (text_at n.texts (text_number n (literal_name m e l))))) (enumeration_number m t)) (text_stands n (enumeration_at m e).name h.0)
       ∙ ap (λ (o : Option ℕ). option_and_then (λ enumeration. option_map (named.Literal enumeration) (literal_number m enumeration (text_at n.texts (text_number n (literal_name m e l))))) o) ((enumerations_have_names m model (enumeration_at m e).name e).1 (there.0, refl))
-      ∙ ap (λ (t : List ℕ). option_map (named.Literal e) (literal_number m e t)) (text_stands (literal_name m e l) h.1.0)
+      ∙ ap (λ (t : List ℕ). option_map (named.Literal e) (literal_number m e t)) (text_stands n (literal_name m e l) h.1.0)
       ∙ ap (option_map (named.Literal e)) ((literals_have_names m model e there.0 (literal_name m e l) l).1 (there.1, refl))
 
   use_resolved : (u : Use) → IsUseOf m u → Has m n u → IsResolved m (unit_with m n rs) n u
-  use_resolved (UsedText t) there h = text_stands t h
+  use_resolved (UsedText t) there h = text_stands n t h
   use_resolved (UsedSymbol x) there h =
       let p = numbered same_named n.symbols x h.0 in
       let at : symbol_number n x ≡ p.0 = ap (λ (o : Option ℕ). unwrap_or o 0) p.1 in

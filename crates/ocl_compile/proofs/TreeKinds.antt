@@ -1,8 +1,8 @@
 -- The code of a typed core tree has kinds wherever it keeps within the limits.
-use Rattle.std.proofs.Common.{◌≡◌, ℕ, zero, suc, ◌+◌, ◌<◌, Bool, true, false, List, [], ◌∷◌, ◌++◌, length, Option, Some, None, Result, Ok, Err, refl, sym, ap, ◌∙◌, subst, arith}
+use Rattle.std.proofs.Common.{◌≡◌, ℕ, zero, suc, ◌+◌, true, List, [], ◌∷◌, ◌++◌, Option, Some, refl, sym, ap, ◌∙◌, subst}
 use Rattle.std.specs.Prelude.{slice_get, is_some}
 use Rattle.std.proofs.lemmas.Bool.{and_parts, and_from}
-use Rattle.imkl_model.specs.ClassModel.{Model, feature_at}
+use Rattle.imkl_model.specs.ClassModel.{feature_at}
 use Rattle.ocl_base.specs.declared.collection_kind.CollectionKind.{CollectionKind}
 use Rattle.ocl_base.specs.declared.collection_kind.CollectionKind.TheVariants as collection
 use Rattle.ocl_kinds.specs.declared.kind.ScalarKind.{ScalarKind}
@@ -10,7 +10,7 @@ use Rattle.ocl_kinds.specs.declared.kind.ScalarKind.TheVariants as element
 use Rattle.ocl_kinds.specs.declared.kind.Kind.{Kind}
 use Rattle.ocl_kinds.specs.declared.kind.Kind.TheVariants.{Scalar, Collection}
 use Rattle.ocl_kinds.specs.Kinds.{is_same_collection, scalar_fits, fits, elements_kind, collected_kind}
-use Rattle.ocl_kinds.proofs.ForAbove.{scalar_fits_along, same_collection_is, same_collection_itself, fits_itself, fits_along}
+use Rattle.ocl_kinds.proofs.ForAbove.{same_collection_is, same_collection_itself, fits_along}
 use Rattle.ocl_types.specs.declared.core_tree.Iteration.{Iteration}
 use Rattle.ocl_types.specs.declared.core_tree.Iteration.TheVariants as iteration
 use Rattle.ocl_types.specs.Core as tree
@@ -25,14 +25,14 @@ use Rattle.rule_verify.specs.declared.named.Named.TheVariants as named
 use Rattle.rule_verify.specs.declared.pattern.Pattern.TheVariants as pattern
 use Rattle.rule_verify.specs.CodeTree as code
 use Rattle.rule_verify.specs.CodeTree.{CodeTree, instr_count}
-use Rattle.rule_verify.specs.InstrKinds.{Surroundings, has_names, has_variable, operands_of, result_kind, binds, ends_with, yields, variable_at, or_void, class_kind, literal_kind, owner_kind, feature_read, collected, scalar_meant, kind_meant}
+use Rattle.rule_verify.specs.InstrKinds.{Surroundings, has_names, has_variable, operands_of, result_kind, binds, ends_with, yields, or_void, class_kind, literal_kind, owner_kind, feature_read, collected, kind_meant}
 use Rattle.rule_verify.specs.Patterns.{matches}
-use Rattle.rule_verify.specs.KindRules.{InstrFault, Enclosing, in_block, kinds_after}
-use Rattle.ocl_compile.specs.Numbering.{Numbering, Use, tree_uses, trees_uses, constant_uses, scalar_uses, kind_uses, operator_uses, iteration_uses, owned_feature}
+use Rattle.rule_verify.specs.KindRules.{Enclosing, in_block, kinds_after}
+use Rattle.ocl_compile.specs.Numbering.{Numbering, Use, tree_uses, trees_uses, constant_uses, kind_uses, iteration_uses, owned_feature}
 use Rattle.ocl_compile.specs.Translation.{constant_instr, variable_instr, operator_instr, iteration_instr, iteration_block, let_block, if_block, written_scalar, written_kind, symbol_of_unit, translate, translate_all}
 use Rattle.ocl_compile.proofs.Resolved.{AreResolved, of_first, of_rest}
 use Rattle.ocl_compile.proofs.Kinded.{Narrower, bound_too, StandsDeep, IsShallow, TakesKinds, Past, past_plain, past_block, past_branch}
-use Rattle.ocl_compile.proofs.OperandKinds.{AllNarrower, kinds_stacked, TakesAndGives, scalar_is, kind_is, one_named, scalar_named, kind_named, is_fitting, fits_collection, fits_scalar, takes_none, takes_one, operator_takes}
+use Rattle.ocl_compile.proofs.OperandKinds.{AllNarrower, kinds_stacked, TakesAndGives, scalar_is, kind_is, one_named, scalar_named, kind_named, is_fitting, takes_none, takes_one, operator_takes}
 
 module _ (s : Surroundings) (n : Numbering) where
   abbrev Known : List Use → Type 0

@@ -1,5 +1,5 @@
 -- What holds of compiled rules: they are accepted, and their runs end with what the rules mean.
-use Rattle.std.specs.Prelude.{◌≡◌, ℕ, List, [], ◌∷◌, map, false, Option, Some, Ok, slice_get, bytes_eq}
+use Rattle.std.specs.Prelude.{◌≡◌, ℕ, List, [], ◌∷◌, map, false, Some, Ok, slice_get, bytes_eq}
 use Rattle.std.specs.List.{AllByRecursion}
 use Rattle.ocl_base.specs.Lists.{repeats}
 use Rattle.imkl_model.specs.ClassModel.{Model}

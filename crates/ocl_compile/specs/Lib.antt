@@ -5,3 +5,8 @@ pub mod Translation
 pub mod Compiling
 pub mod CompileFaults
 pub mod CompileLaws
+pub mod Written
+-- Bookkeeping: views, layouts, walks and tables that only proofs and private contracts use.
+pub mod Extents
+pub mod EmitWalk
+pub mod NumbersView

@@ -1,5 +1,5 @@
 -- What core trees mean: by recursion on the tree, over the values of its variables and a population.
-use Rattle.std.specs.Prelude.{ℕ, pos, List, [], ◌∷◌, map, Bool, true, false, Option, Some, None}
+use Rattle.std.specs.Prelude.{ℕ, pos, List, [], ◌∷◌, map, true, false}
 use Rattle.std.specs.Str.{chars}
 use Rattle.imkl_population.specs.declared.scalar.Scalar.TheVariants as scalar
 use Rattle.imkl_population.specs.Population.{Population}

@@ -2,7 +2,14 @@
 //! defined beside it.
 #![tactic(auto)]
 
+mod emitting;
+mod extent;
 mod fault;
+mod fields;
+mod instructions;
 pub mod laws;
+mod limits;
+mod measuring;
+mod numbers;
 
 pub use fault::{CompileFault, Limit};

@@ -12,3 +12,4 @@ pub mod TypedTypes
 pub mod TypedOperations
 pub mod TypedIterations
 pub mod TypedWalk
+pub mod ForAbove

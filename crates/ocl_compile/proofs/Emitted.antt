@@ -1,0 +1,263 @@
+-- The code of a tree in parts, as it is written: what follows a tree follows its code, and links follow their first operand.
+use Rattle.std.proofs.Common.{◌≡◌, ℕ, ◌+◌, ◌<◌, ◌≤◌, List, [], ◌∷◌, ◌++◌, map, length, drop, Result, Ok, Err, OnOk, refl, sym, ap, ◌∙◌, subst, arith, rules, get_or, length-append, append_assoc, append-nil, Box, Vec, Global}
+use Rattle.std.proofs.lemmas.List.{drop_more}
+use Rattle.std.proofs.Math.ListN.{drop_of_length-le}
+use Rattle.imkl_model.specs.ClassModel.{Model}
+use Rattle.ocl_kinds.specs.declared.kind.Kind.{Kind}
+use Rattle.ocl_types.specs.declared.core_tree.Core.{Core, the_lemmas}
+use Rattle.ocl_types.specs.declared.core_tree.Core.TheVariants as v
+use Rattle.ocl_types.specs.declared.core_tree.CoreLink.{CoreLink, Feature, Operation', AsCollection, Iterate}
+use Rattle.ocl_types.specs.declared.core_tree.CoreLink.TheVariants as l
+use Rattle.ocl_types.specs.declared.core_tree.Iteration.{Iteration}
+use Rattle.ocl_types.specs.Core as tree
+use Rattle.ocl_types.specs.Core.{CoreTree, CoreTrees, cores_of}
+use Rattle.ocl_types.specs.CoreView.{core_view, core_link_of, core_spine}
+use Rattle.ocl_types.proofs.ForAbove.{core_view-Spine, core_view-Let, core_view-If, core_link_of-Iterate}
+use Rattle.rule_code.specs.declared.instruction.Instr.{Instr}
+use Rattle.rule_code.specs.declared.instruction.Instr.TheVariants as instrs
+use Rattle.rule_verify.specs.CodeTree as code
+use Rattle.rule_verify.specs.CodeTree.{CodeTree, instr_count}
+use Rattle.ocl_compile.specs.Numbering.{Numbering}
+use Rattle.ocl_compile.specs.Translation.{written_kind, operator_instr, iteration_instr, let_block, if_block, translate, translate_all, instrs_of}
+use Rattle.ocl_compile.specs.Compiling.{most_counted}
+use Rattle.ocl_compile.specs.EmitWalk.{KnownIn, KnownIn_all, VariablesBelow, VariablesBelow_all, code_of, codes_of, IsEmittable, AreEmittable, top_code, IsTopEmittable, link_node, links_code, AreEmittableLinks}
+use Rattle.ocl_compile.proofs.Flat.{flat_count, translated_cut}
+
+module _ (m : Model) (n : Numbering) where
+  block_then : (body rest : CodeTree) (i : Instr) → instrs_of (code.Block i body rest) ≡ instrs_of (code.Block i body code.End) ++ instrs_of rest
+  block_then body rest i = ap (λ l. i ∷ (l ++ instrs_of rest)) (sym (append-nil (instrs_of body)))
+
+  branch_then : (first second rest : CodeTree) (i : Instr) → instrs_of (code.Branch i first second rest) ≡ instrs_of (code.Branch i first second code.End) ++ instrs_of rest
+  branch_then first second rest i =
+      ap (λ l. i ∷ (instrs_of first ++ (l ++ instrs_of rest))) (sym (append-nil (instrs_of second)))
+      ∙ ap (λ l. i ∷ l) (sym (append_assoc (instrs_of first) (instrs_of second ++ []) (instrs_of rest)))
+
+  -- what follows a tree comes after the tree's own code
+  abbrev Then : CoreTree → CodeTree → Type 0
+  Then t rest = instrs_of (translate m n t rest) ≡ code_of m n t ++ instrs_of rest
+
+  -- the same of a node, by its first operand and what the node adds to it
+  source_then : (source : CoreTree) (mid whole rest : CodeTree) → Then source mid → Then source whole → instrs_of whole ≡ instrs_of mid ++ instrs_of rest → instrs_of (translate m n source whole) ≡ instrs_of (translate m n source mid) ++ instrs_of rest
+  source_then source mid whole rest a b e =
+      b ∙ ap (λ l. code_of m n source ++ l) e ∙ sym (append_assoc (code_of m n source) (instrs_of mid) (instrs_of rest)) ∙ ap (λ l. l ++ instrs_of rest) (sym a)
+
+  mutual
+    pub code_then : (t : CoreTree) (rest : CodeTree) → Then t rest
+    code_then (tree.Value c) rest = refl
+    code_then (tree.Variable v) rest = refl
+    code_then (tree.AllInstances c) rest = refl
+    code_then (tree.Feature source f) rest = source_then source _ _ rest (code_then source _) (code_then source _) refl
+    code_then (tree.Operation operator first others) rest =
+        source_then first _ _ rest (code_then first _) (code_then first _)
+        (codes_then others (code.Plain (operator_instr n operator) rest)
+        ∙ sym (append_assoc (codes_of m n others) (operator_instr n operator ∷ []) (instrs_of rest))
+        ∙ ap (λ l. l ++ instrs_of rest) (sym (codes_then others (code.Plain (operator_instr n operator) code.End))))
+    code_then (tree.AsCollection c k source) rest = source_then source _ _ rest (code_then source _) (code_then source _) refl
+    code_then (tree.Iterate i source body) rest =
+        source_then source _ _ rest (code_then source _) (code_then source _) (block_then (translate m n body code.End) rest _)
+    code_then (tree.Let v body) rest =
+        source_then v _ _ rest (code_then v _) (code_then v _) (block_then (translate m n body code.End) rest _)
+    code_then (tree.If k condition first second) rest =
+        source_then condition _ _ rest (code_then condition _) (code_then condition _)
+        (branch_then (translate m n first code.End) (translate m n second code.End) rest _)
+
+    pub codes_then : (ts : CoreTrees) (rest : CodeTree) → instrs_of (translate_all m n ts rest) ≡ codes_of m n ts ++ instrs_of rest
+    codes_then tree.no_core rest = refl
+    codes_then (tree.one_core first others) rest =
+        source_then first _ _ rest (code_then first _) (code_then first _) (codes_then others rest)
+
+  -- as many instructions as are counted
+  pub code_count : (t : CoreTree) → length (code_of m n t) ≡ instr_count (translate m n t code.End)
+  code_count t = flat_count (translate m n t code.End) (translated_cut m n t code.End tt)
+
+  -- ---- blocks
+
+  pub let_code : (v body : CoreTree) → code_of m n (tree.Let v body) ≡ code_of m n v ++ instrs.Let (length (code_of m n body)) ∷ code_of m n body
+  let_code v body =
+      code_then v (let_block (translate m n body code.End) code.End)
+      ∙ ap (λ (k : ℕ). code_of m n v ++ instrs.Let k ∷ (code_of m n body ++ [])) (sym (code_count body))
+      ∙ ap (λ (l : List Instr). code_of m n v ++ instrs.Let (length (code_of m n body)) ∷ l) (append-nil (code_of m n body))
+
+  pub if_code : (k : Kind) (condition first second : CoreTree) → code_of m n (tree.If k condition first second) ≡ code_of m n condition ++ instrs.If (written_kind n k) (length (code_of m n first)) (length (code_of m n second)) ∷ (code_of m n first ++ code_of m n second)
+  if_code k condition first second =
+      code_then condition (if_block n k (translate m n first code.End) (translate m n second code.End) code.End)
+      ∙ ap (λ (j : ℕ). code_of m n condition ++ instrs.If (written_kind n k) j (instr_count (translate m n second code.End)) ∷ (code_of m n first ++ (code_of m n second ++ []))) (sym (code_count first))
+      ∙ ap (λ (j : ℕ). code_of m n condition ++ instrs.If (written_kind n k) (length (code_of m n first)) j ∷ (code_of m n first ++ (code_of m n second ++ []))) (sym (code_count second))
+      ∙ ap (λ (l : List Instr). code_of m n condition ++ instrs.If (written_kind n k) (length (code_of m n first)) (length (code_of m n second)) ∷ (code_of m n first ++ l)) (append-nil (code_of m n second))
+
+  pub let_emittable : (v body : CoreTree) → IsEmittable m n (tree.Let v body) → IsEmittable m n v × IsEmittable m n body
+  let_emittable v body h =
+      let l = ap length (let_code v body) ∙ length-append (code_of m n v) (instrs.Let (length (code_of m n body)) ∷ code_of m n body) in (
+        record { known = h.known.0; variables = h.variables.0; room = omega (arith, l, h.room) },
+        record { known = h.known.1; variables = h.variables.1; room = omega (arith, l, h.room) },
+      )
+
+  pub if_emittable : (k : Kind) (condition first second : CoreTree) → IsEmittable m n (tree.If k condition first second) → IsEmittable m n condition × IsEmittable m n first × IsEmittable m n second
+  if_emittable k condition first second h =
+      let i = instrs.If (written_kind n k) (length (code_of m n first)) (length (code_of m n second)) in
+      let l = ap length (if_code k condition first second) ∙ length-append (code_of m n condition) (i ∷ (code_of m n first ++ code_of m n second)) in
+      let both = length-append (code_of m n first) (code_of m n second) in (
+        record { known = h.known.0; variables = h.variables.0; room = omega (arith, l, both, h.room) },
+        record { known = h.known.1.0; variables = h.variables.1.0; room = omega (arith, l, both, h.room) },
+        record { known = h.known.1.1; variables = h.variables.1.1; room = omega (arith, l, both, h.room) },
+      )
+
+  -- ---- operands
+
+  pub operand_code : (first : CoreTree) (others : CoreTrees) → codes_of m n (tree.one_core first others) ≡ code_of m n first ++ codes_of m n others
+  operand_code first others = code_then first (translate_all m n others code.End)
+
+  operands_emittable : (ts : CoreTrees) → KnownIn_all m ts → VariablesBelow_all 65536 ts → length (codes_of m n ts) ≤ most_counted → AreEmittable m n ts
+  operands_emittable tree.no_core h v room = tt
+  operands_emittable (tree.one_core first others) h v room =
+      let l = ap length (operand_code first others) ∙ length-append (code_of m n first) (codes_of m n others) in (
+        record { known = h.0; variables = v.0; room = omega (arith, l, room) },
+        operands_emittable others h.1 v.1 (omega (arith, l, room)),
+      )
+
+  -- ---- a node on a first operand
+
+  -- the same node on another one
+  abbrev on_top : CoreTree → CoreTree → CoreTree
+  on_top (tree.Feature source f) left = tree.Feature left f
+  on_top (tree.Operation operator first others) left = tree.Operation operator left others
+  on_top (tree.AsCollection c k source) left = tree.AsCollection c k left
+  on_top (tree.Iterate i source body) left = tree.Iterate i left body
+  on_top t left = t
+
+  -- a node that has one
+  abbrev HasFirst : CoreTree → Type 0
+  HasFirst (tree.Feature source f) = Unit {0}
+  HasFirst (tree.Operation operator first others) = Unit {0}
+  HasFirst (tree.AsCollection c k source) = Unit {0}
+  HasFirst (tree.Iterate i source body) = Unit {0}
+  HasFirst t = ⊥
+
+  link_has_first : (link : CoreLink) → HasFirst (link_node link)
+  link_has_first (Feature feature) = search (rules, the_lemmas)
+  link_has_first (Operation' operator others row) = search (rules, the_lemmas)
+  link_has_first (AsCollection collection element) = search (rules, the_lemmas)
+  link_has_first (Iterate iteration body) = search (rules, the_lemmas)
+
+  link_on_top : (link : CoreLink) (left : CoreTree) → core_link_of link left ≡ on_top (link_node link) left
+  link_on_top (Feature feature) left = search (rules, the_lemmas)
+  link_on_top (Operation' operator others row) left = search (rules, the_lemmas)
+  link_on_top (AsCollection collection element) left = search (rules, the_lemmas)
+  link_on_top (Iterate iteration body) left = search (rules, the_lemmas)
+
+  top_then : (t : CoreTree) → HasFirst t → (left : CoreTree) → code_of m n (on_top t left) ≡ code_of m n left ++ top_code m n t
+  top_then (tree.Feature source f) h left = code_then left _
+  top_then (tree.Operation operator first others) h left =
+      code_then left _ ∙ ap (λ (l : List Instr). code_of m n left ++ l) (codes_then others (code.Plain (operator_instr n operator) code.End))
+  top_then (tree.AsCollection c k source) h left = code_then left _
+  top_then (tree.Iterate i source body) h left =
+      code_then left _ ∙ ap (λ (l : List Instr). code_of m n left ++ iteration_instr n i (instr_count (translate m n body code.End)) ∷ l) (append-nil (code_of m n body))
+  top_then t h left = absurd h
+
+  top_emittable : (t : CoreTree) → HasFirst t → (left : CoreTree) → IsEmittable m n (on_top t left) → IsEmittable m n left × IsTopEmittable m n t
+  top_emittable (tree.Feature source f) h left e =
+      let l = ap length (top_then (tree.Feature source f) h left) ∙ length-append (code_of m n left) (top_code m n (tree.Feature source f)) in
+      (record { known = e.known.0; variables = e.variables; room = omega (arith, l, e.room) }, e.known.1)
+  top_emittable (tree.Operation operator first others) h left e =
+      let l = ap length (top_then (tree.Operation operator first others) h left) ∙ length-append (code_of m n left) (top_code m n (tree.Operation operator first others)) in
+      let j = length-append (codes_of m n others) (operator_instr n operator ∷ []) in (
+        record { known = e.known.0; variables = e.variables.0; room = omega (arith, l, e.room) },
+        operands_emittable others e.known.1 e.variables.1 (omega (arith, l, j, e.room)),
+      )
+  top_emittable (tree.AsCollection c k source) h left e =
+      let l = ap length (top_then (tree.AsCollection c k source) h left) ∙ length-append (code_of m n left) (top_code m n (tree.AsCollection c k source)) in
+      (record { known = e.known; variables = e.variables; room = omega (arith, l, e.room) }, tt)
+  top_emittable (tree.Iterate i source body) h left e =
+      let l = ap length (top_then (tree.Iterate i source body) h left) ∙ length-append (code_of m n left) (top_code m n (tree.Iterate i source body)) in (
+        record { known = e.known.0; variables = e.variables.0; room = omega (arith, l, e.room) },
+        record { known = e.known.1; variables = e.variables.1; room = omega (arith, l, e.room) },
+      )
+  top_emittable t h left e = absurd h
+
+  -- ---- links
+
+  link_code : (link : CoreLink) (left : CoreTree) → code_of m n (core_link_of link left) ≡ code_of m n left ++ top_code m n (link_node link)
+  link_code link left = ap (code_of m n) (link_on_top link left) ∙ top_then (link_node link) (link_has_first link) left
+
+  pub spine_code : (links : List CoreLink) (first : CoreTree) → code_of m n (core_spine first (map core_link_of links)) ≡ code_of m n first ++ links_code m n links
+  spine_code [] first = sym (append-nil (code_of m n first))
+  spine_code (l ∷ ls) first =
+      spine_code ls (core_link_of l first)
+      ∙ ap (λ (is : List Instr). is ++ links_code m n ls) (link_code l first)
+      ∙ append_assoc (code_of m n first) (top_code m n (link_node l)) (links_code m n ls)
+
+  pub spine_emittable : (links : List CoreLink) (first : CoreTree) → IsEmittable m n (core_spine first (map core_link_of links)) → IsEmittable m n first × AreEmittableLinks m n links
+  spine_emittable [] first h = (h, tt)
+  spine_emittable (l ∷ ls) first h =
+      let rest = spine_emittable ls (core_link_of l first) h in
+      let here = top_emittable (link_node l) (link_has_first l) first (subst (IsEmittable m n) (link_on_top l first) rest.0) in
+      (here.0, (here.1, rest.1))
+
+  -- ---- what `emit` asks, and nodes as they lie in memory
+
+  emittable : (t : CoreTree) → KnownIn m t → VariablesBelow 65536 t → instr_count (translate m n t code.End) ≤ most_counted → IsEmittable m n t
+  emittable t h v room = record { known = h; variables = v; room = omega (arith, code_count t, room) }
+
+  pub asked : (t : CoreTree) → IsEmittable m n t → KnownIn m t × (VariablesBelow 65536 t × (instr_count (translate m n t code.End) ≤ most_counted))
+  asked t h = (h.known, (h.variables, omega (arith, code_count t, h.room)))
+
+  pub spine_is : (core : Core) (first : Box Core Global) (links : Vec CoreLink Global) → core ≡ v.Spine first links → code_of m n (core_view core) ≡ code_of m n (core_view first.value) ++ links_code m n links.items
+  spine_is core first links is =
+      ap (code_of m n) (ap core_view is ∙ core_view-Spine first links) ∙ spine_code links.items (core_view first.value)
+
+  pub spine_parts : (core : Core) (first : Box Core Global) (links : Vec CoreLink Global) → core ≡ v.Spine first links → KnownIn m (core_view core) → VariablesBelow 65536 (core_view core) → instr_count (translate m n (core_view core) code.End) ≤ most_counted → IsEmittable m n (core_view first.value) × AreEmittableLinks m n links.items
+  spine_parts core first links is h v room =
+      spine_emittable links.items (core_view first.value) (subst (IsEmittable m n) (ap core_view is ∙ core_view-Spine first links) (emittable (core_view core) h v room))
+
+  pub let_is : (core : Core) (value body : Box Core Global) → core ≡ v.Let value body → code_of m n (core_view core) ≡ code_of m n (core_view value.value) ++ instrs.Let (length (code_of m n (core_view body.value))) ∷ code_of m n (core_view body.value)
+  let_is core value body is =
+      ap (code_of m n) (ap core_view is ∙ core_view-Let value body) ∙ let_code (core_view value.value) (core_view body.value)
+
+  pub let_parts : (core : Core) (value body : Box Core Global) → core ≡ v.Let value body → KnownIn m (core_view core) → VariablesBelow 65536 (core_view core) → instr_count (translate m n (core_view core) code.End) ≤ most_counted → IsEmittable m n (core_view value.value) × IsEmittable m n (core_view body.value)
+  let_parts core value body is h v room =
+      let_emittable (core_view value.value) (core_view body.value) (subst (IsEmittable m n) (ap core_view is ∙ core_view-Let value body) (emittable (core_view core) h v room))
+
+  pub if_is : (core : Core) (k : Kind) (condition first second : Box Core Global) → core ≡ v.If k condition first second → code_of m n (core_view core) ≡ code_of m n (core_view condition.value) ++ instrs.If (written_kind n k) (length (code_of m n (core_view first.value))) (length (code_of m n (core_view second.value))) ∷ (code_of m n (core_view first.value) ++ code_of m n (core_view second.value))
+  if_is core k condition first second is =
+      ap (code_of m n) (ap core_view is ∙ core_view-If k condition first second) ∙ if_code k (core_view condition.value) (core_view first.value) (core_view second.value)
+
+  pub if_parts : (core : Core) (k : Kind) (condition first second : Box Core Global) → core ≡ v.If k condition first second → KnownIn m (core_view core) → VariablesBelow 65536 (core_view core) → instr_count (translate m n (core_view core) code.End) ≤ most_counted → IsEmittable m n (core_view condition.value) × IsEmittable m n (core_view first.value) × IsEmittable m n (core_view second.value)
+  if_parts core k condition first second is h v room =
+      if_emittable k (core_view condition.value) (core_view first.value) (core_view second.value) (subst (IsEmittable m n) (ap core_view is ∙ core_view-If k condition first second) (emittable (core_view core) h v room))
+
+  pub iterate_is : (link : CoreLink) (i : Iteration) (body : Core) → link ≡ l.Iterate i body → top_code m n (link_node link) ≡ iteration_instr n i (length (code_of m n (core_view body))) ∷ code_of m n (core_view body)
+  iterate_is link i body is =
+      ap (λ (f : CoreTree → CoreTree). top_code m n (f (tree.Value tree.Null))) (ap core_link_of is ∙ core_link_of-Iterate i body)
+      ∙ ap (λ (k : ℕ). iteration_instr n i k ∷ code_of m n (core_view body)) (sym (code_count (core_view body)))
+
+  -- ---- loops
+
+  pub operands_here : (xs : List Core) (i : ℕ) (x : Core) → x ≡ get_or xs i x → i < length xs → AreEmittable m n (cores_of (map core_view (drop i xs))) → IsEmittable m n (core_view x) × AreEmittable m n (cores_of (map core_view (drop (i + 1) xs)))
+  operands_here xs i x is lt h =
+      subst (λ (ys : List Core). AreEmittable m n (cores_of (map core_view ys))) (drop_more xs i x lt ∙ ap (λ (y : Core). y ∷ drop (i + 1) xs) (sym is)) h
+
+  pub links_here : (xs : List CoreLink) (i : ℕ) (x : CoreLink) → x ≡ get_or xs i x → i < length xs → AreEmittableLinks m n (drop i xs) → IsTopEmittable m n (link_node x) × AreEmittableLinks m n (drop (i + 1) xs)
+  links_here xs i x is lt h =
+      subst (AreEmittableLinks m n) (drop_more xs i x lt ∙ ap (λ (y : CoreLink). y ∷ drop (i + 1) xs) (sym is)) h
+
+-- code that a loop adds to, one item after another
+pub walked_on : {X : Type 0} (f : X → List Instr) (F : List X → List Instr) → ((x : X) (xs : List X) → F (x ∷ xs) ≡ f x ++ F xs)
+    → (xs : List X) (i : ℕ) (x : X) → x ≡ get_or xs i x → i < length xs → (old new total : List Instr) → new ≡ old ++ f x
+    → old ++ F (drop i xs) ≡ total → new ++ F (drop (i + 1) xs) ≡ total
+walked_on f F step xs i x is lt old new total e h =
+    let rest = drop (i + 1) xs in
+    let more = drop_more xs i x lt ∙ ap (λ y. y ∷ rest) (sym is) in
+    ap (λ l. l ++ F rest) e ∙ append_assoc old (f x) (F rest) ∙ ap (λ l. old ++ l) (sym (ap F more ∙ step x rest)) ∙ h
+
+pub walked : {X : Type 0} (F : List X → List Instr) → F [] ≡ [] → (xs : List X) (i : ℕ) → length xs ≤ i → (code total : List Instr) → code ++ F (drop i xs) ≡ total → code ≡ total
+walked F none xs i le code total h =
+    sym (append-nil code) ∙ ap (λ l. code ++ l) (sym (ap F (drop_of_length-le xs le) ∙ none)) ∙ h
+
+-- two steps, one after the other
+pub joined : (new mid old a rest whole : List Instr) → new ≡ mid ++ rest → mid ≡ old ++ a → whole ≡ a ++ rest → new ≡ old ++ whole
+joined new mid old a rest whole e f g = e ∙ ap (λ l. l ++ rest) f ∙ append_assoc old a rest ∙ ap (λ l. old ++ l) (sym g)
+
+-- what holds where a step succeeds, in another form
+pub on_ok : {A E : Type 0} (P Q : Type 0) (r : Result A E) → (P → Q) → OnOk r P → OnOk r Q
+on_ok P Q (Ok x) go p = go p
+on_ok P Q (Err e) go p = tt

@@ -1,0 +1,169 @@
+use Rattle.std.proofs.Common.{◌++◌, map, List, refl, rules}
+use Rattle.ocl_types.specs.declared.core_tree.Core.{Core, the_lemmas}
+use Rattle.ocl_types.specs.declared.core_tree.CoreLink.{CoreLink}
+use Rattle.ocl_types.specs.Core.{cores_of}
+use Rattle.ocl_types.specs.CoreView.{core_view}
+use Rattle.ocl_compile.specs.EmitWalk.{code_of, codes_of, top_code, link_node, links_code}
+use Rattle.ocl_compile.proofs.Emitted.{asked, spine_is, spine_parts, let_is, let_parts, if_is, if_parts, iterate_is, operand_code, operands_here, links_here, walked_on, walked, joined, on_ok}
+use Rattle.ocl_compile.proofs.emitting.+emit.Goals as goal
+
+pub code_of_body-emit-requires : goal.code_of_body-emit-requires
+code_of_body-emit-requires t c =
+    (search (rules, the_lemmas), (c.requires.counts, asked c.args.model.now c.args.numbers.now (core_view c.args.body.now) c.requires.body))
+
+-- ---- a first operand with its links
+
+pub emit-emit-requires : goal.emit-emit-requires
+emit-emit-requires t c =
+    let m = c.args.model.now in
+    let n = c.args.numbers.now in
+    let p = spine_parts m n c.args.core.now c.in-Spine.first c.in-Spine.links c.in-Spine.is c.requires.known c.requires.variables c.requires.room in
+    (search (rules, the_lemmas), (c.requires.counts, rw c.deref.ensures (asked m n (core_view c.in-Spine.first.value) p.0)))
+
+pub emit-emit_links-requires : goal.emit-emit_links-requires
+emit-emit_links-requires t c =
+    let m = c.args.model.now in
+    let n = c.args.numbers.now in
+    let p = spine_parts m n c.args.core.now c.in-Spine.first c.in-Spine.links c.in-Spine.is c.requires.known c.requires.variables c.requires.room in
+    (search (rules, the_lemmas), (c.requires.counts, rw c.deref-in-Spine.ensures.value p.1))
+
+pub emit-returns-in_ok-emit-in-Spine : goal.emit-returns-in_ok-emit-in-Spine
+emit-returns-in_ok-emit-in-Spine t c =
+    let m = c.args.model.now in
+    let n = c.args.numbers.now in
+    let first = rw c.deref.ensures at c.in_ok-emit-in-Spine.ensures.emitted in
+    let after = rw c.deref-in-Spine.ensures.value at c.emit_links.ensures in
+    record { emitted = on_ok _ _ c.emit_links.result (λ e. joined _ _ _ _ _ _ e first (spine_is m n c.args.core.now c.in-Spine.first c.in-Spine.links c.in-Spine.is)) after }
+
+-- ---- a variable with its body
+
+pub emit-emit-requires-in-Let : goal.emit-emit-requires-in-Let
+emit-emit-requires-in-Let t c =
+    let m = c.args.model.now in
+    let n = c.args.numbers.now in
+    let p = let_parts m n c.args.core.now c.in-Let.value c.in-Let.body c.in-Let.is c.requires.known c.requires.variables c.requires.room in
+    (search (rules, the_lemmas), (c.requires.counts, rw c.deref-in-Let.ensures (asked m n (core_view c.in-Let.value.value) p.0)))
+
+pub emit-code_of_body-requires : goal.emit-code_of_body-requires
+emit-code_of_body-requires t c =
+    let m = c.args.model.now in
+    let n = c.args.numbers.now in
+    let p = let_parts m n c.args.core.now c.in-Let.value c.in-Let.body c.in-Let.is c.requires.known c.requires.variables c.requires.room in
+    (search (rules, the_lemmas), (c.requires.counts, rw c.deref-in-Let-2.ensures p.1))
+
+pub emit-body_length-requires : goal.emit-body_length-requires
+emit-body_length-requires t c =
+    let m = c.args.model.now in
+    let n = c.args.numbers.now in
+    let p = let_parts m n c.args.core.now c.in-Let.value c.in-Let.body c.in-Let.is c.requires.known c.requires.variables c.requires.room in
+    rw (c.deref-in-Let-3.ensures.value, c.in_ok-inner-in-Let.ensures, c.deref-in-Let-2.ensures) p.1.room
+
+pub emit-returns-in_ok-inner-in-Let : goal.emit-returns-in_ok-inner-in-Let
+emit-returns-in_ok-inner-in-Let t c =
+    let m = c.args.model.now in
+    let n = c.args.numbers.now in
+    let first = rw c.deref-in-Let.ensures at c.in_ok-emit-in-Let.ensures.emitted in
+    let after = rw (c.body_length.ensures, c.deref-in-Let-3.ensures.value, c.in_ok-inner-in-Let.ensures, c.deref-in-Let-2.ensures) at c.put_block.ensures in
+    record { emitted = on_ok _ _ c.put_block.result (λ e. joined _ _ _ _ _ _ e first (let_is m n c.args.core.now c.in-Let.value c.in-Let.body c.in-Let.is)) after }
+
+-- ---- a condition with its branches
+
+pub emit-emit-requires-in-If : goal.emit-emit-requires-in-If
+emit-emit-requires-in-If t c =
+    let m = c.args.model.now in
+    let n = c.args.numbers.now in
+    let p = if_parts m n c.args.core.now c.in-If.kind c.in-If.condition c.in-If.then_branch c.in-If.else_branch c.in-If.is c.requires.known c.requires.variables c.requires.room in
+    (search (rules, the_lemmas), (c.requires.counts, rw c.deref-in-If.ensures (asked m n (core_view c.in-If.condition.value) p.0)))
+
+pub emit-code_of_body-requires-in-If : goal.emit-code_of_body-requires-in-If
+emit-code_of_body-requires-in-If t c =
+    let m = c.args.model.now in
+    let n = c.args.numbers.now in
+    let p = if_parts m n c.args.core.now c.in-If.kind c.in-If.condition c.in-If.then_branch c.in-If.else_branch c.in-If.is c.requires.known c.requires.variables c.requires.room in
+    (search (rules, the_lemmas), (c.requires.counts, rw c.deref-in-If-2.ensures p.1))
+
+pub emit-code_of_body-requires-in-If-2 : goal.emit-code_of_body-requires-in-If-2
+emit-code_of_body-requires-in-If-2 t c =
+    let m = c.args.model.now in
+    let n = c.args.numbers.now in
+    let p = if_parts m n c.args.core.now c.in-If.kind c.in-If.condition c.in-If.then_branch c.in-If.else_branch c.in-If.is c.requires.known c.requires.variables c.requires.room in
+    (search (rules, the_lemmas), (c.requires.counts, rw c.deref-in-If-3.ensures p.2))
+
+pub emit-body_length-requires-in-If : goal.emit-body_length-requires-in-If
+emit-body_length-requires-in-If t c =
+    let m = c.args.model.now in
+    let n = c.args.numbers.now in
+    let p = if_parts m n c.args.core.now c.in-If.kind c.in-If.condition c.in-If.then_branch c.in-If.else_branch c.in-If.is c.requires.known c.requires.variables c.requires.room in
+    rw (c.deref-in-If-4.ensures.value, c.in_ok-first-in-If.ensures, c.deref-in-If-2.ensures) p.1.room
+
+pub emit-body_length-requires-in-If-2 : goal.emit-body_length-requires-in-If-2
+emit-body_length-requires-in-If-2 t c =
+    let m = c.args.model.now in
+    let n = c.args.numbers.now in
+    let p = if_parts m n c.args.core.now c.in-If.kind c.in-If.condition c.in-If.then_branch c.in-If.else_branch c.in-If.is c.requires.known c.requires.variables c.requires.room in
+    rw (c.deref-in-If-5.ensures.value, c.in_ok-second-in-If.ensures, c.deref-in-If-3.ensures) p.2.room
+
+pub emit-returns-in_ok-second-in-If : goal.emit-returns-in_ok-second-in-If
+emit-returns-in_ok-second-in-If t c =
+    let m = c.args.model.now in
+    let n = c.args.numbers.now in
+    let first = rw c.deref-in-If.ensures at c.in_ok-emit-in-If.ensures.emitted in
+    let after = rw (c.written_kind-kind.ensures, c.body_length-in-If.ensures, c.body_length-in-If-2.ensures, c.deref-in-If-4.ensures.value, c.deref-in-If-5.ensures.value, c.in_ok-first-in-If.ensures, c.in_ok-second-in-If.ensures, c.deref-in-If-2.ensures, c.deref-in-If-3.ensures) at c.put_branches.ensures in
+    record { emitted = on_ok _ _ c.put_branches.result (λ e. joined _ _ _ _ _ _ e first (if_is m n c.args.core.now c.in-If.kind c.in-If.condition c.in-If.then_branch c.in-If.else_branch c.in-If.is)) after }
+
+-- ---- links
+
+pub emit_link-returns-in_ok-inner-in-Iterate : goal.emit_link-returns-in_ok-inner-in-Iterate
+emit_link-returns-in_ok-inner-in-Iterate t c =
+    let m = c.args.model.now in
+    let n = c.args.numbers.now in
+    let after = rw (c.iteration_instr-block.ensures, c.body_length.ensures, c.deref-in-Iterate.ensures.value, c.in_ok-inner-in-Iterate.ensures) at c.put_block.ensures in
+    rw (iterate_is m n c.args.link.now c.in-Iterate.iteration c.in-Iterate.body c.in-Iterate.is) after
+
+pub emit_links-links-init : goal.emit_links-links-init
+emit_links-links-init t c = (refl, c.requires.links)
+
+pub emit_links-emit_link-requires : goal.emit_links-emit_link-requires
+emit_links-emit_link-requires t c =
+    let p = links_here c.args.model.now c.args.numbers.now c.args.links.now c.links.link-index c.link-item.result c.link-item.is c.links-test.true c.links.invariant.1 in
+    (search (rules, the_lemmas), (c.requires.counts, p.0))
+
+pub emit_links-links-preserved : goal.emit_links-links-preserved
+emit_links-links-preserved t c =
+    let m = c.args.model.now in
+    let n = c.args.numbers.now in
+    let p = links_here m n c.args.links.now c.links.link-index c.link-item.result c.link-item.is c.links-test.true c.links.invariant.1 in
+    (walked_on (λ (x : CoreLink). top_code m n (link_node x)) (links_code m n) (λ x xs. refl) c.args.links.now c.links.link-index c.link-item.result c.link-item.is c.links-test.true c.links.code.items c.emit_link.new.code.items (c.args.code.now.items ++ links_code m n c.args.links.now) c.in_ok-emit_link.ensures c.links.invariant.0, p.1)
+
+pub emit_links-returns : goal.emit_links-returns
+emit_links-returns t c =
+    let m = c.args.model.now in
+    let n = c.args.numbers.now in
+    walked (links_code m n) refl c.args.links.now c.links.link-index c.links-test.false c.links.code.items (c.args.code.now.items ++ links_code m n c.args.links.now) c.links.invariant.0
+
+-- ---- operands
+
+pub emit_operands-operands-init : goal.emit_operands-operands-init
+emit_operands-operands-init t c = (refl, c.requires.operands)
+
+pub emit_operands-emit-requires : goal.emit_operands-emit-requires
+emit_operands-emit-requires t c =
+    let m = c.args.model.now in
+    let n = c.args.numbers.now in
+    let p = operands_here m n c.args.operands.now c.operands.operand-index c.operand-item.result c.operand-item.is c.operands-test.true c.operands.invariant.1 in
+    (search (rules, the_lemmas), (c.requires.counts, asked m n (core_view c.operand-item.result) p.0))
+
+pub emit_operands-operands-preserved : goal.emit_operands-operands-preserved
+emit_operands-operands-preserved t c =
+    let m = c.args.model.now in
+    let n = c.args.numbers.now in
+    let F = λ (xs : List Core). codes_of m n (cores_of (map core_view xs)) in
+    let p = operands_here m n c.args.operands.now c.operands.operand-index c.operand-item.result c.operand-item.is c.operands-test.true c.operands.invariant.1 in
+    (walked_on (λ (x : Core). code_of m n (core_view x)) F (λ x xs. operand_code m n (core_view x) (cores_of (map core_view xs))) c.args.operands.now c.operands.operand-index c.operand-item.result c.operand-item.is c.operands-test.true c.operands.code.items c.emit.new.code.items (c.args.code.now.items ++ F c.args.operands.now) c.in_ok-emit.ensures.emitted c.operands.invariant.0, p.1)
+
+pub emit_operands-returns : goal.emit_operands-returns
+emit_operands-returns t c =
+    let m = c.args.model.now in
+    let n = c.args.numbers.now in
+    let F = λ (xs : List Core). codes_of m n (cores_of (map core_view xs)) in
+    walked F refl c.args.operands.now c.operands.operand-index c.operands-test.false c.operands.code.items (c.args.code.now.items ++ F c.args.operands.now) c.operands.invariant.0

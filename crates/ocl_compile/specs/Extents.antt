@@ -1,0 +1,68 @@
+-- How large and how deep the code of a core tree is, by the tree alone.
+use Rattle.std.specs.Prelude.{ℕ, suc, ◌+◌, ◌||◌, max, min, Bool, Option, Some, None, nat_le, nat_lt, if◌then◌else◌}
+use Rattle.ocl_types.specs.Core as tree
+use Rattle.ocl_types.specs.Core.{CoreTree, CoreTrees}
+use Rattle.rule_code.specs.WellFormed.{most_rules}
+use Rattle.rule_verify.specs.KindRules.{operand_limit, block_limit}
+use Rattle.ocl_compile.specs.declared.extent.Extent.{Extent}
+use Rattle.ocl_compile.specs.declared.fault.Limit.{Limit}
+use Rattle.ocl_compile.specs.declared.fault.Limit.TheVariants as limits
+use Rattle.ocl_compile.specs.Compiling.{most_counted}
+
+-- instructions, the most operands at once beside those that lie below, and the most blocks in one another
+abbrev pub extent : ℕ → ℕ → ℕ → Extent
+extent instructions operands blocks = record { instructions = instructions; operands = operands; blocks = blocks }
+
+-- one instruction
+abbrev pub one_instruction : Extent
+one_instruction = extent 1 1 0
+
+-- an instruction after its operands
+abbrev pub then_instruction : Extent → Extent
+then_instruction x = extent (x.instructions + 1) x.operands x.blocks
+
+-- code that stands above so many operands, after other code
+abbrev pub then_above : ℕ → Extent → Extent → Extent
+then_above below x y = extent (x.instructions + y.instructions) (max x.operands (below + y.operands)) (max x.blocks y.blocks)
+
+-- a block with one body, after what it takes
+abbrev pub then_block : Extent → Extent → Extent
+then_block x body = extent (x.instructions + 1 + body.instructions) (max x.operands body.operands) (max x.blocks (suc body.blocks))
+
+-- a block with two bodies, after its condition
+abbrev pub then_branches : Extent → Extent → Extent → Extent
+then_branches x first second =
+    extent (x.instructions + 1 + first.instructions + second.instructions)
+    (max x.operands (max first.operands second.operands)) (max x.blocks (suc (max first.blocks second.blocks)))
+
+abbrev mutual
+  pub extent_of : CoreTree → Extent
+  extent_of (tree.Value c) = one_instruction
+  extent_of (tree.Variable n) = one_instruction
+  extent_of (tree.AllInstances c) = one_instruction
+  extent_of (tree.Feature source f) = then_instruction (extent_of source)
+  extent_of (tree.Operation operator first others) = then_instruction (extent_after 1 (extent_of first) others)
+  extent_of (tree.AsCollection c k source) = then_instruction (extent_of source)
+  extent_of (tree.Iterate i source body) = then_block (extent_of source) (extent_of body)
+  extent_of (tree.Let v body) = then_block (extent_of v) (extent_of body)
+  extent_of (tree.If k condition first second) = then_branches (extent_of condition) (extent_of first) (extent_of second)
+
+  -- operands after code that leaves so many below
+  pub extent_after : ℕ → Extent → CoreTrees → Extent
+  extent_after below x tree.no_core = x
+  extent_after below x (tree.one_core first rest) = extent_after (suc below) (then_above below x (extent_of first)) rest
+
+-- with greater numbers than 65,536, which is above every limit, cut to it
+abbrev pub cut_extent : Extent → Extent
+cut_extent x = extent (min x.instructions 65536) (min x.operands 65536) (min x.blocks 65536)
+
+-- ---- limits by measures
+
+-- the limit that a rule of an index passes, by whether a text that it uses is too long, by the numbers of texts and symbols so far,
+-- and by the extent of its code
+abbrev pub limit_by : ℕ → Bool → ℕ → ℕ → Extent → Option Limit
+limit_by index is_long texts symbols x =
+    if nat_le most_rules index || nat_lt most_counted texts || nat_lt most_counted symbols || is_long || nat_lt most_counted x.instructions
+    then Some limits.Size else (
+    if nat_lt block_limit x.blocks then Some limits.Nesting else (
+    if nat_lt operand_limit x.operands then Some limits.Stack else None))

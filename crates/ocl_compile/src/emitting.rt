@@ -1,0 +1,201 @@
+//! The code of core trees: operands in order, and then what takes them.
+
+ghost use Rattle.std.specs.Prelude.{◌≡◌, ◌≤◌, [], ◌∷◌, ◌++◌, map, OnOk, IfOk};
+ghost use Rattle.ocl_types.specs.Core.{cores_of};
+ghost use Rattle.ocl_types.specs.CoreView.{core_view};
+ghost use Rattle.rule_verify.specs.CodeTree.{End, instr_count};
+ghost use Rattle.ocl_compile.specs.Translation.{translate, instrs_of};
+ghost use Rattle.ocl_compile.specs.Compiling.{most_counted};
+ghost use Rattle.ocl_compile.specs.EmitWalk.{AreCounted, KnownIn, VariablesBelow, IsEmittable, AreEmittable, IsTopEmittable, AreEmittableLinks, code_of, codes_of, top_code, link_node, links_code};
+
+use crate::fields::{body_length, feature_of_unit, symbol_of_unit, written_kind, written_scalar};
+use crate::instructions::{constant_instr, iteration_instr, operator_instr, variable_instr};
+use crate::numbers::Numbers;
+use imkl_model::ClassModel;
+use ocl_types::{Core, CoreLink};
+use rule_code::Instr;
+use rule_verify::Named;
+use std::alloc::{AllocError, Global};
+
+/// Adds an instruction to code.
+fn put(code: &mut Vec<Instr>, instr: Instr) -> Result<(), AllocError>
+    ensures { OnOk result (code.new.items ≡ code.old.items ++ instr ∷ []) }
+{
+    code.push(instr)?;
+    Ok(())
+}
+
+/// Adds an instruction with its body to code.
+fn put_block(code: &mut Vec<Instr>, instr: Instr, body: Vec<Instr>) -> Result<(), AllocError>
+    ensures { OnOk result (code.new.items ≡ code.old.items ++ instr ∷ body.items) }
+{
+    let mut body = body;
+    put(code, instr)?;
+    code.append(&mut body)?;
+    Ok(())
+}
+
+/// Adds an instruction with its two bodies to code.
+fn put_branches(
+    code: &mut Vec<Instr>,
+    instr: Instr,
+    first: Vec<Instr>,
+    second: Vec<Instr>,
+) -> Result<(), AllocError>
+    ensures { OnOk result (code.new.items ≡ code.old.items ++
+        instr ∷ (first.items ++ second.items)) }
+{
+    let mut second = second;
+    put_block(code, instr, first)?;
+    code.append(&mut second)?;
+    Ok(())
+}
+
+/// Adds the code of a core tree to code.
+///
+/// It fails only where memory runs out: then part of the tree's code may have been added.
+#[cycle(emit)]
+#[tactic(auto, using(ocl_types::proofs::ForAbove::views))]
+pub(crate) fn emit(
+    alloc: Global,
+    model: &ClassModel,
+    numbers: &Numbers,
+    core: &Core,
+    code: &mut Vec<Instr>,
+) -> Result<(), AllocError>
+    requires counts { AreCounted numbers.now }
+    requires known { KnownIn model.now (core_view core.now) }
+    requires variables { VariablesBelow 65536 (core_view core.now) }
+    requires room { instr_count (translate model.now numbers.now (core_view core.now) End)
+        ≤ most_counted }
+    ensures emitted { OnOk result (code.new.items ≡ code.old.items ++
+        instrs_of (translate model.now numbers.now (core_view core.now) End)) }
+{
+    match core {
+        Core::Constant { value } => put(code, constant_instr(numbers, value)),
+        Core::Variable { number } => put(code, variable_instr(*number)),
+        Core::AllInstances { class } => {
+            put(
+                code,
+                Instr::All(symbol_of_unit(numbers, Named::Class(*class))),
+            )
+        }
+        Core::Spine { first, links } => {
+            emit(alloc, model, numbers, first, code)?;
+            emit_links(alloc, model, numbers, links, code)
+        }
+        Core::Let { value, body } => {
+            emit(alloc, model, numbers, value, code)?;
+            let inner = code_of_body(alloc, model, numbers, body)?;
+            put_block(code, Instr::Let(body_length(&inner)), inner)
+        }
+        Core::If {
+            kind,
+            condition,
+            then_branch,
+            else_branch,
+        } => {
+            emit(alloc, model, numbers, condition, code)?;
+            let first = code_of_body(alloc, model, numbers, then_branch)?;
+            let second = code_of_body(alloc, model, numbers, else_branch)?;
+            let kind = written_kind(numbers, *kind);
+            let branch = Instr::If(kind, body_length(&first), body_length(&second));
+            put_branches(code, branch, first, second)
+        }
+    }
+}
+
+/// The code of a body, on its own.
+#[cycle(emit)]
+fn code_of_body(
+    alloc: Global,
+    model: &ClassModel,
+    numbers: &Numbers,
+    body: &Core,
+) -> Result<Vec<Instr>, AllocError>
+    requires counts { AreCounted numbers.now }
+    requires body { IsEmittable model.now numbers.now (core_view body.now) }
+    ensures { IfOk result (λ v. v.items ≡ code_of model.now numbers.now (core_view body.now)) }
+{
+    let mut code = Vec::new(alloc);
+    emit(alloc, model, numbers, body, &mut code)?;
+    Ok(code)
+}
+
+/// Adds the code of several operands to code.
+#[cycle(emit)]
+fn emit_operands(
+    alloc: Global,
+    model: &ClassModel,
+    numbers: &Numbers,
+    operands: &[Core],
+    code: &mut Vec<Instr>,
+) -> Result<(), AllocError>
+    requires counts { AreCounted numbers.now }
+    requires operands { AreEmittable model.now numbers.now (cores_of (map core_view operands.now)) }
+    ensures { OnOk result (code.new.items ≡ code.old.items ++
+        codes_of model.now numbers.now (cores_of (map core_view operands.now))) }
+{
+    'operands: for operand in operands {
+        emit(alloc, model, numbers, operand, code)?;
+    }
+    Ok(())
+}
+
+/// Adds the code of a link, which follows that of what stands on its left.
+#[cycle(emit)]
+#[tactic(auto, using(ocl_types::proofs::ForAbove::views))]
+fn emit_link(
+    alloc: Global,
+    model: &ClassModel,
+    numbers: &Numbers,
+    link: &CoreLink,
+    code: &mut Vec<Instr>,
+) -> Result<(), AllocError>
+    requires counts { AreCounted numbers.now }
+    requires link { IsTopEmittable model.now numbers.now (link_node link.now) }
+    ensures { OnOk result (code.new.items ≡ code.old.items ++
+        top_code model.now numbers.now (link_node link.now)) }
+{
+    match link {
+        CoreLink::Feature { feature } => {
+            put(code, Instr::Attr(feature_of_unit(model, numbers, *feature)))
+        }
+        CoreLink::Operation { operator, others } => {
+            emit_operands(alloc, model, numbers, others, code)?;
+            put(code, operator_instr(numbers, *operator))
+        }
+        CoreLink::AsCollection {
+            collection,
+            element,
+        } => put(
+            code,
+            Instr::AsColl(*collection, written_scalar(numbers, *element)),
+        ),
+        CoreLink::Iterate { iteration, body } => {
+            let inner = code_of_body(alloc, model, numbers, body)?;
+            let block = iteration_instr(numbers, *iteration, body_length(&inner));
+            put_block(code, block, inner)
+        }
+    }
+}
+
+/// Adds the code of several links to code.
+#[cycle(emit)]
+fn emit_links(
+    alloc: Global,
+    model: &ClassModel,
+    numbers: &Numbers,
+    links: &[CoreLink],
+    code: &mut Vec<Instr>,
+) -> Result<(), AllocError>
+    requires counts { AreCounted numbers.now }
+    requires links { AreEmittableLinks model.now numbers.now links.now }
+    ensures { OnOk result (code.new.items ≡ code.old.items ++
+        links_code model.now numbers.now links.now) }
+{
+    'links: for link in links {
+        emit_link(alloc, model, numbers, link, code)?;
+    }
+    Ok(())
+}

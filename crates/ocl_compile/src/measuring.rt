@@ -1,0 +1,52 @@
+//! The extent of the code of core trees.
+
+ghost use Rattle.std.specs.Prelude.{◌≡◌};
+ghost use Rattle.ocl_types.specs.Core.{CoreTree};
+ghost use Rattle.ocl_types.specs.CoreView.{core_view, core_link_of};
+ghost use Rattle.ocl_compile.specs.Extents.{extent_of, cut_extent};
+
+use crate::extent::Extent;
+use ocl_types::{Core, CoreLink};
+
+/// The extent of the code of a core tree.
+#[cycle(measuring)]
+pub(crate) fn measure(core: &Core) -> Extent
+    ensures { result ≡ cut_extent (extent_of (core_view core.now)) }
+{
+    match core {
+        Core::Constant { .. } | Core::Variable { .. } | Core::AllInstances { .. } => Extent::one(),
+        Core::Spine { first, links } => {
+            let mut extent = measure(first);
+            for link in links {
+                extent = measure_link(extent, link);
+            }
+            extent
+        }
+        Core::Let { value, body } => measure(value).then_block(measure(body)),
+        Core::If {
+            condition,
+            then_branch,
+            else_branch,
+            ..
+        } => measure(condition).then_branches(measure(then_branch), measure(else_branch)),
+    }
+}
+
+/// The extent of code of this extent, and then that of a link.
+#[cycle(measuring)]
+fn measure_link(extent: Extent, link: &CoreLink) -> Extent
+    ensures { (source : CoreTree) → extent ≡ cut_extent (extent_of source)
+        → result ≡ cut_extent (extent_of (core_link_of link.now source)) }
+{
+    match link {
+        CoreLink::Feature { .. } | CoreLink::AsCollection { .. } => extent.then_instruction(),
+        CoreLink::Operation { others, .. } => {
+            let mut whole = extent;
+            for i in 0..others.len() {
+                whole = whole.then_above(i + 1, measure(&others[i]));
+            }
+            whole.then_instruction()
+        }
+        CoreLink::Iterate { body, .. } => extent.then_block(measure(body)),
+    }
+}
