@@ -17,3 +17,4 @@ pub mod Counted
 pub mod Cuts
 pub mod TypedCode
 pub mod Keys
+pub mod Numbered

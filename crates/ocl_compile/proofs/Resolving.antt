@@ -10,7 +10,7 @@ use Rattle.std.proofs.lemmas.Option.{slice_get-map, slice_get-get_or}
 use Rattle.std.proofs.lemmas.Slice.Eq.{bytes_eq-Decides}
 use Rattle.ocl_base.specs.Lists.{is_among}
 use Rattle.imkl_model.specs.ClassModel.{Model, class_at, enumeration_at, feature_at, class_number, enumeration_number, feature_number, literal_number, belongs}
-use Rattle.imkl_model.specs.WellFormed.{IsClassModel, IsFeature}
+use Rattle.imkl_model.specs.WellFormed.{IsClassModel}
 use Rattle.imkl_model.proofs.ForAbove.{conforms_to_itself, classes_have_names, enumerations_have_names, literals_have_names, features_have_names}
 use Rattle.ocl_base.specs.declared.collection_kind.CollectionKind.{CollectionKind}
 use Rattle.ocl_kinds.specs.declared.kind.ScalarKind.{ScalarKind}
@@ -29,6 +29,7 @@ use Rattle.rule_code.specs.Content.{text_at}
 use Rattle.rule_verify.specs.declared.named.Named.{Named}
 use Rattle.rule_verify.specs.declared.named.Named.TheVariants as named
 use Rattle.rule_verify.specs.Symbols.{named_by, named_at}
+use Rattle.ocl_compile.specs.NumberWalk.{IsThere, IsUseOf, AreUsesOf}
 use Rattle.ocl_compile.specs.Numbering.{same_named, literal_name, names_of_symbol, Use, UsedText, UsedSymbol, constant_uses, scalar_uses, kind_uses, operator_uses, iteration_uses, tree_uses, trees_uses, rule_uses, rules_uses, Numbering, no_numbers, once_more, with_texts, with_use, with_uses, numbering_of, text_number, symbol_number}
 use Rattle.ocl_compile.specs.Translation.{translate_symbol, unit_with}
 use Rattle.ocl_compile.proofs.Resolved.{IsResolved, AreResolved}
@@ -148,19 +149,6 @@ has_uses m n (u ∷ us) =
 
 -- ---- what typed rules use is in the class model
 
-abbrev IsThere : Model → Named → Type 0
-IsThere m (named.Class c) = c < length m.classes
-IsThere m (named.Enumeration e) = e < length m.enumerations
-IsThere m (named.Feature c f) = IsFeature m f × (c ≡ (feature_at m f).owner)
-IsThere m (named.Literal e l) = (e < length m.enumerations) × (l < length (enumeration_at m e).literals)
-
-abbrev IsUseOf : Model → Use → Type 0
-IsUseOf m (UsedText t) = Unit {0}
-IsUseOf m (UsedSymbol x) = IsThere m x
-
-abbrev AreUsesOf : Model → List Use → Type 0
-AreUsesOf m us = AllByRecursion (IsUseOf m) us
-
 both : (m : Model) (us vs : List Use) → AreUsesOf m us → AreUsesOf m vs → AreUsesOf m (us ++ vs)
 both m [] vs h g = g
 both m (u ∷ us) vs h g = (h.0, both m us vs h.1 g)
@@ -204,7 +192,7 @@ iteration_there m (iteration.IsUnique k) c e y gives h = scalar_there m k h.0
 
 module _ (m : Model) where
   mutual
-    tree_there : (t : CoreTree) (g : List Kind) (k : Kind) → IsTyped m g t k → AreUsesOf m (tree_uses m t)
+    pub tree_there : (t : CoreTree) (g : List Kind) (k : Kind) → IsTyped m g t k → AreUsesOf m (tree_uses m t)
     tree_there (tree.Value c) g k t = constant_there m c t.0
     tree_there (tree.Variable v) g k t = tt
     tree_there (tree.AllInstances c) g k t = (t.0, tt)
@@ -222,7 +210,7 @@ module _ (m : Model) where
     trees_there tree.no_core g ks t = tt
     trees_there (tree.one_core first others) g ks t = both m (tree_uses m first) _ (tree_there first g t.0 t.2) (trees_there others g t.1 t.3)
 
-  rules_there : (rs : List CheckedRule) → AllByRecursion (IsTypedRule m) rs → AreUsesOf m (rules_uses m rs)
+  pub rules_there : (rs : List CheckedRule) → AllByRecursion (IsTypedRule m) rs → AreUsesOf m (rules_uses m rs)
   rules_there [] h = tt
   rules_there (r ∷ rs) h = both m (rule_uses m r) _ (tt, (h.0.0, tree_there r.tree _ h.0.1.0 h.0.1.1)) (rules_there rs h.1)
 

@@ -10,3 +10,4 @@ pub mod Written
 pub mod Extents
 pub mod EmitWalk
 pub mod NumbersView
+pub mod NumberWalk

@@ -10,6 +10,7 @@ mod instructions;
 pub mod laws;
 mod limits;
 mod measuring;
+mod numbering;
 mod numbers;
 
 pub use fault::{CompileFault, Limit};

@@ -1,13 +1,20 @@
 //! The numbers of a unit's texts and symbols.
 
-ghost use Rattle.std.specs.Prelude.{◌≡◌, length};
-ghost use Rattle.ocl_compile.specs.Numbering.{no_numbers, text_number, symbol_number};
+ghost use Rattle.std.specs.Prelude.{◌≡◌, length, bytes_eq, OnOk};
+ghost use Rattle.std.specs.List.{list_any};
+ghost use Rattle.ocl_compile.specs.Compiling.{is_long_text};
+ghost use Rattle.ocl_compile.specs.Numbering.{UsedSymbol, no_numbers, once_more, with_texts, with_use, names_of_symbol, same_named, text_number, symbol_number};
+ghost use Rattle.ocl_compile.specs.NumberWalk.{IsThere};
 ghost use Rattle.ocl_compile.specs.NumbersView.{named_of};
 
+use imkl_model::ClassModel;
 use indexmap::IndexSet;
 use rule_verify::Named;
-use std::alloc::Global;
+use std::alloc::{AllocError, Global};
 use std::marker::Model;
+
+/// The most bytes of a text.
+const MOST_TEXT_BYTES: usize = 4_096;
 
 /// What a symbol names, by its numbers in the class model.
 #[derive(Clone, Copy, PartialEq, Eq, Hash)]
@@ -27,16 +34,21 @@ pub(crate) enum Key {
 pub(crate) struct Numbers {
     texts: IndexSet<String>,
     symbols: IndexSet<Key>,
+    has_long_text: bool,
 }
 
 impl Model for Numbers {
-    ghost use Rattle.std.specs.Prelude.{map, string_bytes};
+    ghost use Rattle.std.specs.Prelude.{◌≡◌, map, string_bytes};
+    ghost use Rattle.std.specs.List.{list_any};
+    ghost use Rattle.ocl_compile.specs.Compiling.{is_long_text};
     ghost use Rattle.ocl_compile.specs.Numbering.{Numbering};
     ghost use Rattle.ocl_compile.specs.NumbersView.{named_of};
 
     ghost Value = { Numbering };
 
     ghost view = { λ n. record { texts = map string_bytes n.texts.keys; symbols = map named_of n.symbols.keys } };
+
+    ghost invariant = { λ n. n.has_long_text ≡ list_any is_long_text (map string_bytes n.texts.keys) };
 }
 
 /// A symbol by its numbers.
@@ -61,7 +73,76 @@ impl Numbers {
         Numbers {
             texts: IndexSet::new(alloc),
             symbols: IndexSet::new(alloc),
+            has_long_text: false,
         }
+    }
+
+    /// Adds a text, unless it is there.
+    pub(crate) fn add_text(&mut self, alloc: Global, text: &str) -> Result<(), AllocError>
+        ensures { OnOk result (self.new
+            ≡ record { texts = once_more bytes_eq self.old.texts text.now; symbols = self.old.symbols }) }
+    {
+        let is_long = text.len() > MOST_TEXT_BYTES;
+        let text = String::from_str(alloc, text)?;
+        self.texts.insert(text)?;
+        self.has_long_text |= is_long;
+        Ok(())
+    }
+
+    /// Adds the names that a symbol consists of.
+    fn add_names(
+        &mut self,
+        alloc: Global,
+        model: &ClassModel,
+        symbol: &Named,
+    ) -> Result<(), AllocError>
+        requires { IsThere model.now symbol.now }
+        ensures { OnOk result (self.new
+            ≡ record { texts = with_texts self.old.texts (names_of_symbol model.now symbol.now); symbols = self.old.symbols }) }
+    {
+        match symbol {
+            Named::Class(class) => self.add_text(alloc, model.class_name(*class)),
+            Named::Enumeration(enumeration) => self.add_text(alloc, model.enum_name(*enumeration)),
+            Named::Feature(class, feature) => {
+                model.well_formed();
+                self.add_text(alloc, model.class_name(*class))?;
+                self.add_text(alloc, model.feature_info(*feature).name.as_str())
+            }
+            Named::Literal(enumeration, literal) => {
+                self.add_text(alloc, model.enum_name(*enumeration))?;
+                self.add_text(alloc, model.literal_name(*enumeration, *literal))
+            }
+        }
+    }
+
+    /// Adds the key of a symbol, unless it is there.
+    fn add_key(&mut self, key: Key) -> Result<(), AllocError>
+        ensures { OnOk result (self.new
+            ≡ record { texts = self.old.texts; symbols = once_more same_named self.old.symbols (named_of key) }) }
+    {
+        self.symbols.insert(key)?;
+        Ok(())
+    }
+
+    /// Adds a symbol with the names that it consists of, unless they are there.
+    pub(crate) fn add_symbol(
+        &mut self,
+        alloc: Global,
+        model: &ClassModel,
+        symbol: Named,
+    ) -> Result<(), AllocError>
+        requires { IsThere model.now symbol }
+        ensures { OnOk result (self.new ≡ with_use model.now self.old (UsedSymbol symbol)) }
+    {
+        self.add_names(alloc, model, &symbol)?;
+        self.add_key(key_of(symbol))
+    }
+
+    /// Whether a text has more bytes than a unit takes.
+    pub(crate) fn has_long_text(&self) -> bool
+        ensures { result ≡ list_any is_long_text self.now.texts }
+    {
+        self.has_long_text
     }
 
     /// The number of a text.

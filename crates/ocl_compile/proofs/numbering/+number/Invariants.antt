@@ -1,0 +1,16 @@
+use Rattle.std.proofs.Common.{◌≡◌, map, drop}
+use Rattle.ocl_types.specs.Core.{cores_of}
+use Rattle.ocl_types.specs.CoreView.{core_view}
+use Rattle.ocl_compile.specs.Numbering.{trees_uses, with_uses}
+use Rattle.ocl_compile.specs.NumberWalk.{AreUsesOf, links_uses}
+use Rattle.ocl_compile.proofs.numbering.+number.Given as goal
+
+abbrev pub invariant-number_links-links : goal.invariant-number_links-links
+invariant-number_links-links l =
+    (with_uses l.model l.numbers (links_uses l.model (drop l.link-index l.links)) ≡ with_uses l.model l.initial.numbers (links_uses l.model l.links))
+    × AreUsesOf l.model (links_uses l.model (drop l.link-index l.links))
+
+abbrev pub invariant-number_operands-operands : goal.invariant-number_operands-operands
+invariant-number_operands-operands l =
+    (with_uses l.model l.numbers (trees_uses l.model (cores_of (map core_view (drop l.operand-index l.operands)))) ≡ with_uses l.model l.initial.numbers (trees_uses l.model (cores_of (map core_view l.operands))))
+    × AreUsesOf l.model (trees_uses l.model (cores_of (map core_view (drop l.operand-index l.operands))))
