@@ -37,7 +37,7 @@ use Rattle.ocl_compile.proofs.Resolving.{rules_resolved}
 -- ---- compiled units
 
 -- what compiles passes no limit, and is the unit of the rules
-pub compiled_is : (o : Option LimitAt) (u v : Content) → unless_passed o u ≡ Ok v → (o ≡ None) × (v ≡ u)
+pub compiled_is : {A : Type 0} (o : Option LimitAt) (u v : A) → unless_passed o u ≡ Ok v → (o ≡ None) × (v ≡ u)
 compiled_is (Some l) u v e = cc
 compiled_is None u v e = (refl, cc)
 

@@ -240,16 +240,16 @@ module _ (m : Model) (n : Numbering) where
   links_here xs i x is lt h =
       subst (AreEmittableLinks m n) (drop_more xs i x lt ∙ ap (λ (y : CoreLink). y ∷ drop (i + 1) xs) (sym is)) h
 
--- code that a loop adds to, one item after another
-pub walked_on : {X : Type 0} (f : X → List Instr) (F : List X → List Instr) → ((x : X) (xs : List X) → F (x ∷ xs) ≡ f x ++ F xs)
-    → (xs : List X) (i : ℕ) (x : X) → x ≡ get_or xs i x → i < length xs → (old new total : List Instr) → new ≡ old ++ f x
+-- what a loop adds to, one item after another
+pub walked_on : {X Y : Type 0} (f : X → List Y) (F : List X → List Y) → ((x : X) (xs : List X) → F (x ∷ xs) ≡ f x ++ F xs)
+    → (xs : List X) (i : ℕ) (x : X) → x ≡ get_or xs i x → i < length xs → (old new total : List Y) → new ≡ old ++ f x
     → old ++ F (drop i xs) ≡ total → new ++ F (drop (i + 1) xs) ≡ total
 walked_on f F step xs i x is lt old new total e h =
     let rest = drop (i + 1) xs in
     let more = drop_more xs i x lt ∙ ap (λ y. y ∷ rest) (sym is) in
     ap (λ l. l ++ F rest) e ∙ append_assoc old (f x) (F rest) ∙ ap (λ l. old ++ l) (sym (ap F more ∙ step x rest)) ∙ h
 
-pub walked : {X : Type 0} (F : List X → List Instr) → F [] ≡ [] → (xs : List X) (i : ℕ) → length xs ≤ i → (code total : List Instr) → code ++ F (drop i xs) ≡ total → code ≡ total
+pub walked : {X Y : Type 0} (F : List X → List Y) → F [] ≡ [] → (xs : List X) (i : ℕ) → length xs ≤ i → (code total : List Y) → code ++ F (drop i xs) ≡ total → code ≡ total
 walked F none xs i le code total h =
     sym (append-nil code) ∙ ap (λ l. code ++ l) (sym (ap F (drop_of_length-le xs le) ∙ none)) ∙ h
 

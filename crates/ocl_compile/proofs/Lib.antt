@@ -18,3 +18,5 @@ pub mod Cuts
 pub mod TypedCode
 pub mod Keys
 pub mod Numbered
+pub mod RulesNumbered
+pub mod UnitMade

@@ -29,7 +29,7 @@ use Rattle.rule_code.specs.Content.{text_at}
 use Rattle.rule_verify.specs.declared.named.Named.{Named}
 use Rattle.rule_verify.specs.declared.named.Named.TheVariants as named
 use Rattle.rule_verify.specs.Symbols.{named_by, named_at}
-use Rattle.ocl_compile.specs.NumberWalk.{IsThere, IsUseOf, AreUsesOf}
+use Rattle.ocl_compile.specs.NumberWalk.{IsNamedIn, IsUseOf, AreUsesOf}
 use Rattle.ocl_compile.specs.Numbering.{same_named, literal_name, names_of_symbol, Use, UsedText, UsedSymbol, constant_uses, scalar_uses, kind_uses, operator_uses, iteration_uses, tree_uses, trees_uses, rule_uses, rules_uses, Numbering, no_numbers, once_more, with_texts, with_use, with_uses, numbering_of, text_number, symbol_number}
 use Rattle.ocl_compile.specs.Translation.{translate_symbol, unit_with}
 use Rattle.ocl_compile.proofs.Resolved.{IsResolved, AreResolved}
@@ -225,7 +225,7 @@ text_stands n t h =
     ap (text_at n.texts) at ∙ sym ((bytes_eq-Decides t (get_or n.texts p.0 [])).0 q.1)
 
 module _ (m : Model) (model : IsClassModel m) (n : Numbering) (rs : List CheckedRule) where
-  symbol_stands : (x : Named) → IsThere m x → AllByRecursion (HasText n) (names_of_symbol m x) → named_by m n.texts (translate_symbol m n x) ≡ Some x
+  symbol_stands : (x : Named) → IsNamedIn m x → AllByRecursion (HasText n) (names_of_symbol m x) → named_by m n.texts (translate_symbol m n x) ≡ Some x
   symbol_stands (named.Class c) there h =
       ap (λ (t : List ℕ). option_map named.Class (class_number m t)) (text_stands n (class_at m c).name h.0)
       ∙ ap (option_map named.Class) ((classes_have_names m model (class_at m c).name c).1 (there, refl))

@@ -34,14 +34,14 @@ or_parts true b e = cc
 or_parts false b e = (refl, e)
 
 -- a rule that passes no limit isn't too large
-record IsRoomy (m : Model) (all before : List CheckedRule) (r : CheckedRule) : Type 0 where
-  rules : length before < most_rules
-  texts : length (numbering_so_far m before r).texts ≤ most_counted
-  symbols : length (numbering_so_far m before r).symbols ≤ most_counted
-  short : has_long_text m (rule_uses m r) ≡ false
-  code : instr_count (compiled_tree m all r) ≤ most_counted
+pub record IsRoomy (m : Model) (all before : List CheckedRule) (r : CheckedRule) : Type 0 where
+  pub rules : length before < most_rules
+  pub texts : length (numbering_so_far m before r).texts ≤ most_counted
+  pub symbols : length (numbering_so_far m before r).symbols ≤ most_counted
+  pub short : has_long_text m (rule_uses m r) ≡ false
+  pub code : instr_count (compiled_tree m all r) ≤ most_counted
 
-is_roomy : (m : Model) (all before : List CheckedRule) (r : CheckedRule) → limit_passed m all before r ≡ None → IsRoomy m all before r
+pub is_roomy : (m : Model) (all before : List CheckedRule) (r : CheckedRule) → limit_passed m all before r ≡ None → IsRoomy m all before r
 is_roomy m all before r e =
     let h = not_first (is_too_large m all before r) _ _ e in
     let d = or_parts _ (nat_lt most_counted (instr_count (compiled_tree m all r))) h in
@@ -61,12 +61,12 @@ is_roomy m all before r e =
     not_first false l o e = refl
 
 -- rules of which none passes a limit have room for their texts and symbols
-record HasRoom (m : Model) (rs : List CheckedRule) : Type 0 where
-  rules : length rs ≤ most_rules
-  texts : length (numbering_of m rs).texts ≤ most_counted
-  symbols : length (numbering_of m rs).symbols ≤ most_counted
+pub record HasRoom (m : Model) (rs : List CheckedRule) : Type 0 where
+  pub rules : length rs ≤ most_rules
+  pub texts : length (numbering_of m rs).texts ≤ most_counted
+  pub symbols : length (numbering_of m rs).symbols ≤ most_counted
 
-has_room : (m : Model) (all before rs : List CheckedRule) → first_passed m all before rs ≡ None → HasRoom m before → HasRoom m (before ++ rs)
+pub has_room : (m : Model) (all before rs : List CheckedRule) → first_passed m all before rs ≡ None → HasRoom m before → HasRoom m (before ++ rs)
 has_room m all before [] e h = subst (HasRoom m) (sym (append-nil before)) h
 has_room m all before (r ∷ rs) e h =
     let p = none_later (length before) (limit_passed m all before r) (first_passed m all (before ++ r ∷ []) rs) e in
@@ -76,7 +76,7 @@ has_room m all before (r ∷ rs) e h =
 
 -- ---- the texts
 
-once_more_all : {A : Type 0} (P : A → Type 0) (same : A → A → Bool) (xs : List A) (x : A) → AllByRecursion P xs → P x → AllByRecursion P (once_more same xs x)
+pub once_more_all : {A : Type 0} (P : A → Type 0) (same : A → A → Bool) (xs : List A) (x : A) → AllByRecursion P xs → P x → AllByRecursion P (once_more same xs x)
 once_more_all P same xs x h g = by_test (is_among same xs x)
   where
     by_test : (b : Bool) → AllByRecursion P (if b then xs else xs ++ x ∷ [])

@@ -79,9 +79,9 @@ first_passed m all before [] = None
 first_passed m all before (r ∷ rs) =
     or_later (length before) (limit_passed m all before r) (first_passed m all (before ++ r ∷ []) rs)
 
-abbrev pub unless_passed : Option LimitAt → Content → Result Content LimitAt
-unless_passed (Some l) u = Err l
-unless_passed None u = Ok u
+abbrev pub unless_passed : {A : Type 0} → Option LimitAt → A → Result A LimitAt
+unless_passed (Some l) x = Err l
+unless_passed None x = Ok x
 
 -- the unit of rules, or the first limit that a rule passes
 abbrev pub compile_of : Model → List CheckedRule → Result Content LimitAt

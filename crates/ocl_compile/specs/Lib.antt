@@ -11,3 +11,4 @@ pub mod Extents
 pub mod EmitWalk
 pub mod NumbersView
 pub mod NumberWalk
+pub mod CompileWalk

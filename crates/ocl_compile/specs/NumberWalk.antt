@@ -9,15 +9,15 @@ use Rattle.rule_verify.specs.declared.named.Named.TheVariants as named
 use Rattle.ocl_compile.specs.Numbering.{Use, UsedText, UsedSymbol, tree_uses}
 use Rattle.ocl_compile.specs.EmitWalk.{link_node}
 
-abbrev pub IsThere : Model → Named → Type 0
-IsThere m (named.Class c) = c < length m.classes
-IsThere m (named.Enumeration e) = e < length m.enumerations
-IsThere m (named.Feature c f) = IsFeature m f × (c ≡ (feature_at m f).owner)
-IsThere m (named.Literal e l) = (e < length m.enumerations) × (l < length (enumeration_at m e).literals)
+abbrev pub IsNamedIn : Model → Named → Type 0
+IsNamedIn m (named.Class c) = c < length m.classes
+IsNamedIn m (named.Enumeration e) = e < length m.enumerations
+IsNamedIn m (named.Feature c f) = IsFeature m f × (c ≡ (feature_at m f).owner)
+IsNamedIn m (named.Literal e l) = (e < length m.enumerations) × (l < length (enumeration_at m e).literals)
 
 abbrev pub IsUseOf : Model → Use → Type 0
 IsUseOf m (UsedText t) = Unit {0}
-IsUseOf m (UsedSymbol x) = IsThere m x
+IsUseOf m (UsedSymbol x) = IsNamedIn m x
 
 abbrev pub AreUsesOf : Model → List Use → Type 0
 AreUsesOf m us = AllByRecursion (IsUseOf m) us

@@ -4,12 +4,14 @@ ghost use Rattle.std.specs.Prelude.{◌≡◌, ◌<◌, ◌≤◌, length};
 ghost use Rattle.ocl_compile.specs.Compiling.{most_counted};
 ghost use Rattle.ocl_compile.specs.EmitWalk.{AreCounted};
 ghost use Rattle.ocl_compile.specs.Numbering.{owned_feature};
+ghost use Rattle.ocl_compile.specs.NumberWalk.{IsNamedIn};
+ghost use Rattle.ocl_compile.specs.Translation.{translate_symbol};
 ghost use Rattle.ocl_compile.specs.Translation as spec;
 
 use crate::numbers::Numbers;
 use imkl_model::{ClassModel, FeatureNo};
 use ocl_kinds::{Kind, ScalarKind};
-use rule_code::{Instr, SymbolNumber, TextNumber, WrittenKind, WrittenScalar};
+use rule_code::{Instr, Symbol, SymbolNumber, TextNumber, WrittenKind, WrittenScalar};
 use rule_verify::Named;
 
 /// The field that names a text.
@@ -42,6 +44,32 @@ pub(crate) fn feature_of_unit(
 {
     let owner = model.feature_info(feature).owner;
     symbol_of_unit(numbers, Named::Feature(owner, feature))
+}
+
+/// What is named, as a symbol of the unit.
+pub(crate) fn symbol_of_names(model: &ClassModel, numbers: &Numbers, symbol: Named) -> Symbol
+    requires counts { AreCounted numbers.now }
+    requires named { IsNamedIn model.now symbol }
+    ensures { result ≡ translate_symbol model.now numbers.now symbol }
+{
+    match symbol {
+        Named::Class(class) => Symbol::Class(text_of_unit(numbers, model.class_name(class))),
+        Named::Enumeration(enumeration) => {
+            Symbol::Enumeration(text_of_unit(numbers, model.enum_name(enumeration)))
+        }
+        Named::Feature(class, feature) => {
+            model.well_formed();
+            let name = model.feature_info(feature).name.as_str();
+            Symbol::Feature {
+                class: text_of_unit(numbers, model.class_name(class)),
+                feature: text_of_unit(numbers, name),
+            }
+        }
+        Named::Literal(enumeration, literal) => Symbol::Literal {
+            enumeration: text_of_unit(numbers, model.enum_name(enumeration)),
+            literal: text_of_unit(numbers, model.literal_name(enumeration, literal)),
+        },
+    }
 }
 
 /// The kind of a single value, as a code file has it.

@@ -1,7 +1,8 @@
 //! Compiles rules: from core trees, whose types are checked, to a unit of code. What they mean is
-//! defined beside it.
+//! defined beside it, and `laws` join the two.
 #![tactic(auto)]
 
+mod compiling;
 mod emitting;
 mod extent;
 mod fault;
@@ -13,4 +14,5 @@ mod measuring;
 mod numbering;
 mod numbers;
 
+pub use compiling::compile;
 pub use fault::{CompileFault, Limit};

@@ -1,13 +1,13 @@
 //! The numbers of a unit's texts and symbols.
 
-ghost use Rattle.std.specs.Prelude.{◌≡◌, length, bytes_eq, OnOk};
+ghost use Rattle.std.specs.Prelude.{◌≡◌, ◌<◌, Some, length, map, bytes_eq, slice_get, string_bytes, OnOk, IfOk};
 ghost use Rattle.std.specs.List.{list_any};
 ghost use Rattle.ocl_compile.specs.Compiling.{is_long_text};
 ghost use Rattle.ocl_compile.specs.Numbering.{UsedSymbol, no_numbers, once_more, with_texts, with_use, names_of_symbol, same_named, text_number, symbol_number};
-ghost use Rattle.ocl_compile.specs.NumberWalk.{IsThere};
+ghost use Rattle.ocl_compile.specs.NumberWalk.{IsNamedIn};
 ghost use Rattle.ocl_compile.specs.NumbersView.{named_of};
 
-use imkl_model::ClassModel;
+use imkl_model::{ClassModel, ClassNo, EnumNo, FeatureNo, LiteralNo};
 use indexmap::IndexSet;
 use rule_verify::Named;
 use std::alloc::{AllocError, Global};
@@ -65,6 +65,22 @@ fn key_of(symbol: Named) -> Key
     }
 }
 
+/// What a key names.
+fn named(key: Key) -> Named
+    ensures { result ≡ named_of key }
+{
+    match key {
+        Key::Class(class) => Named::Class(ClassNo::new(class)),
+        Key::Enumeration(enumeration) => Named::Enumeration(EnumNo::new(enumeration)),
+        Key::Feature(class, feature) => {
+            Named::Feature(ClassNo::new(class), FeatureNo::new(feature))
+        }
+        Key::Literal(enumeration, literal) => {
+            Named::Literal(EnumNo::new(enumeration), LiteralNo::new(literal))
+        }
+    }
+}
+
 impl Numbers {
     /// None yet.
     pub(crate) fn new(alloc: Global) -> Numbers
@@ -96,7 +112,7 @@ impl Numbers {
         model: &ClassModel,
         symbol: &Named,
     ) -> Result<(), AllocError>
-        requires { IsThere model.now symbol.now }
+        requires { IsNamedIn model.now symbol.now }
         ensures { OnOk result (self.new
             ≡ record { texts = with_texts self.old.texts (names_of_symbol model.now symbol.now); symbols = self.old.symbols }) }
     {
@@ -131,7 +147,7 @@ impl Numbers {
         model: &ClassModel,
         symbol: Named,
     ) -> Result<(), AllocError>
-        requires { IsThere model.now symbol }
+        requires { IsNamedIn model.now symbol }
         ensures { OnOk result (self.new ≡ with_use model.now self.old (UsedSymbol symbol)) }
     {
         self.add_names(alloc, model, &symbol)?;
@@ -172,5 +188,20 @@ impl Numbers {
         ensures { result ≡ length self.now.symbols }
     {
         self.symbols.len()
+    }
+
+    /// The symbol of a number.
+    pub(crate) fn symbol(&self, number: usize) -> Named
+        requires { number < length self.now.symbols }
+        ensures { slice_get self.now.symbols number ≡ Some result }
+    {
+        named(self.symbols[number])
+    }
+
+    /// The texts, in the order of their numbers.
+    pub(crate) fn into_texts(self, alloc: Global) -> Result<Vec<String>, AllocError>
+        ensures { IfOk result (λ v. map string_bytes v.items ≡ self.texts) }
+    {
+        self.texts.into_iter().collect(alloc)
     }
 }

@@ -1,0 +1,104 @@
+-- Rules are numbered one after another, up to the first that passes a limit.
+use Rattle.std.proofs.Common.{◌≡◌, ℕ, ◌+◌, ◌||◌, Bool, false, List, [], ◌∷◌, ◌++◌, length, Option, Some, None, refl, sym, ap, ◌∙◌, append_assoc, append-nil, length-append, bytes_eq}
+use Rattle.std.specs.List.{list_any, AllByRecursion}
+use Rattle.std.proofs.Math.Bool.{or-false, or_assoc}
+use Rattle.imkl_model.specs.ClassModel.{Model}
+use Rattle.ocl_types.specs.Core.{CheckedRule}
+use Rattle.ocl_types.specs.Typing.{IsTypedRule}
+use Rattle.ocl_compile.specs.declared.fault.Limit.{Limit}
+use Rattle.ocl_compile.specs.Numbering.{Numbering, no_numbers, Use, UsedText, UsedSymbol, names_of_symbol, once_more, with_texts, with_use, with_uses, rule_uses, rules_uses, numbering_of}
+use Rattle.ocl_compile.specs.Compiling.{is_long_text, texts_of_use, has_long_text, limit_passed, limit_at, or_later, first_passed}
+use Rattle.ocl_compile.specs.Extents.{extent_of, cut_extent, limit_by}
+use Rattle.ocl_compile.proofs.Keys.{once_any}
+use Rattle.ocl_compile.proofs.Measured.{limit_is}
+use Rattle.ocl_compile.proofs.Numbered.{uses_then}
+use Rattle.ocl_compile.proofs.UnitFits.{is_roomy}
+
+-- ---- long texts
+
+texts_long : (texts ts : List (List ℕ)) → list_any is_long_text (with_texts texts ts) ≡ (list_any is_long_text texts || list_any is_long_text ts)
+texts_long texts [] = sym (or-false (list_any is_long_text texts))
+texts_long texts (t ∷ ts) =
+    texts_long (once_more bytes_eq texts t) ts
+    ∙ ap (λ (b : Bool). b || list_any is_long_text ts) (once_any is_long_text texts t)
+    ∙ or_assoc (list_any is_long_text texts) (is_long_text t) (list_any is_long_text ts)
+
+use_long : (m : Model) (n : Numbering) (u : Use) → list_any is_long_text (with_use m n u).texts ≡ (list_any is_long_text n.texts || list_any is_long_text (texts_of_use m u))
+use_long m n (UsedText t) = texts_long n.texts (t ∷ [])
+use_long m n (UsedSymbol s) = texts_long n.texts (names_of_symbol m s)
+
+uses_long : (m : Model) (us : List Use) (n : Numbering) → list_any is_long_text (with_uses m n us).texts ≡ (list_any is_long_text n.texts || has_long_text m us)
+uses_long m [] n = sym (or-false (list_any is_long_text n.texts))
+uses_long m (u ∷ us) n =
+    uses_long m us (with_use m n u)
+    ∙ ap (λ (b : Bool). b || has_long_text m us) (use_long m n u)
+    ∙ or_assoc (list_any is_long_text n.texts) (list_any is_long_text (texts_of_use m u)) (has_long_text m us)
+
+-- ---- one more rule
+
+rules_then : (m : Model) (bs cs : List CheckedRule) → rules_uses m (bs ++ cs) ≡ rules_uses m bs ++ rules_uses m cs
+rules_then m [] cs = refl
+rules_then m (b ∷ bs) cs =
+    ap (λ (us : List Use). rule_uses m b ++ us) (rules_then m bs cs) ∙ sym (append_assoc (rule_uses m b) (rules_uses m bs) (rules_uses m cs))
+
+numbering_more : (m : Model) (before : List CheckedRule) (r : CheckedRule) → numbering_of m (before ++ r ∷ []) ≡ with_uses m (numbering_of m before) (rule_uses m r)
+numbering_more m before r =
+    ap (with_uses m no_numbers) (rules_then m before (r ∷ []) ∙ ap (λ (us : List Use). rules_uses m before ++ us) (append-nil (rule_uses m r)))
+    ∙ uses_then m (rules_uses m before) (rule_uses m r) no_numbers
+
+-- ---- the rules in their order
+
+module _ (m : Model) (all : List CheckedRule) where
+  -- the first rules, so many, are numbered, and pass no limit; others are left
+  pub record NumberedTo (n : Numbering) (i : ℕ) (left : List CheckedRule) : Type 0 where
+    pub before : List CheckedRule
+    pub numbers : n ≡ numbering_of m before
+    pub count : length before ≡ i
+    pub parts : before ++ left ≡ all
+    pub short : list_any is_long_text n.texts ≡ false
+    pub typed : AllByRecursion (IsTypedRule m) left
+    pub passed : first_passed m all [] all ≡ first_passed m all before left
+
+  pub none_numbered : AllByRecursion (IsTypedRule m) all → NumberedTo no_numbers 0 all
+  none_numbered typed =
+      record { before = []; numbers = refl; count = refl; parts = refl; short = refl; typed = typed; passed = refl }
+
+  module _ (n new : Numbering) (i : ℕ) (r : CheckedRule) (left : List CheckedRule) (h : NumberedTo n i (r ∷ left)) (e : new ≡ with_uses m n (rule_uses m r)) where
+    now : new ≡ numbering_of m (h.before ++ r ∷ [])
+    now = e ∙ ap (λ (o : Numbering). with_uses m o (rule_uses m r)) h.numbers ∙ sym (numbering_more m h.before r)
+
+    long_now : list_any is_long_text new.texts ≡ has_long_text m (rule_uses m r)
+    long_now =
+        ap (λ (o : Numbering). list_any is_long_text o.texts) e
+        ∙ uses_long m (rule_uses m r) n
+        ∙ ap (λ (b : Bool). b || has_long_text m (rule_uses m r)) h.short
+
+    -- what is measured tells the limit
+    pub limit_here : limit_by i (list_any is_long_text new.texts) (length new.texts) (length new.symbols) (cut_extent (extent_of r.tree)) ≡ limit_passed m all h.before r
+    limit_here =
+        let x = cut_extent (extent_of r.tree) in
+        ap (λ (j : ℕ). limit_by j (list_any is_long_text new.texts) (length new.texts) (length new.symbols) x) (sym h.count)
+        ∙ ap (λ (b : Bool). limit_by (length h.before) b (length new.texts) (length new.symbols) x) long_now
+        ∙ ap (λ (o : Numbering). limit_by (length h.before) (has_long_text m (rule_uses m r)) (length o.texts) (length o.symbols) x) now
+        ∙ sym (limit_is m all h.before r h.typed.0)
+
+    pub first_is : (l : Limit) → limit_passed m all h.before r ≡ Some l → first_passed m all [] all ≡ Some (limit_at l i)
+    first_is l p =
+        h.passed
+        ∙ ap (λ (o : Option Limit). or_later (length h.before) o (first_passed m all (h.before ++ r ∷ []) left)) p
+        ∙ ap (λ (j : ℕ). Some (limit_at l j)) h.count
+
+    pub one_numbered : limit_passed m all h.before r ≡ None → NumberedTo new (i + 1) left
+    one_numbered p =
+        record {
+          before = h.before ++ r ∷ [];
+          numbers = now;
+          count = length-append h.before (r ∷ []) ∙ ap (λ (j : ℕ). j + 1) h.count;
+          parts = append_assoc h.before (r ∷ []) left ∙ h.parts;
+          short = long_now ∙ (is_roomy m all h.before r p).short;
+          typed = h.typed.1;
+          passed = h.passed ∙ ap (λ (o : Option Limit). or_later (length h.before) o (first_passed m all (h.before ++ r ∷ []) left)) p;
+        }
+
+  pub all_numbered : (n : Numbering) (i : ℕ) → NumberedTo n i [] → (first_passed m all [] all ≡ None) × (n ≡ numbering_of m all)
+  all_numbered n i h = (h.passed, h.numbers ∙ ap (numbering_of m) (sym (append-nil h.before) ∙ h.parts))

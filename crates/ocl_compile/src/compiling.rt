@@ -1,0 +1,167 @@
+//! Compiling: what rules use is numbered, and then their code is written.
+
+ghost use Rattle.std.specs.Prelude.{◌≡◌, ◌≤◌, false, length, map, string_bytes, bytes_eq, IfOk, OnOk};
+ghost use Rattle.std.specs.List.{list_any, AllByRecursion};
+ghost use Rattle.ocl_base.specs.Lists.{repeats};
+ghost use Rattle.ocl_base.specs.Steps.{Gives};
+ghost use Rattle.ocl_types.specs.CoreView.{core_view, checked_rule_of};
+ghost use Rattle.ocl_types.specs.Typing.{IsTypedRule};
+ghost use Rattle.rule_code.specs.Content.{rule_content};
+ghost use Rattle.rule_code.specs.View.{content};
+ghost use Rattle.ocl_compile.specs.Written.{IsWrittenRule};
+ghost use Rattle.ocl_compile.specs.Numbering.{rule_uses, with_uses};
+ghost use Rattle.ocl_compile.specs.Translation.{translate_rule, translate_symbol};
+ghost use Rattle.ocl_compile.specs.Compiling.{is_long_text, compile_of};
+ghost use Rattle.ocl_compile.specs.CompileFaults.{compile_fault};
+ghost use Rattle.ocl_compile.specs.CompileWalk.{numbered_rules, IsCodable};
+ghost use Rattle.ocl_compile.specs.Extents.{extent_of, cut_extent, limit_by};
+ghost use Rattle.ocl_compile.specs.EmitWalk.{AreCounted};
+ghost use Rattle.ocl_compile.specs.NumberWalk.{IsNamedIn};
+
+use crate::emitting::emit;
+use crate::fault::{CompileFault, Limit};
+use crate::fields::{symbol_of_names, symbol_of_unit, text_of_unit};
+use crate::limits::limit_passed;
+use crate::measuring::measure;
+use crate::numbering::number_tree;
+use crate::numbers::Numbers;
+use imkl_model::ClassModel;
+use ocl_types::CoreRule;
+use rule_code::{Rule, Symbol, Unit};
+use rule_verify::Named;
+use std::alloc::{AllocError, Global};
+
+/// Numbers what a rule uses.
+fn number_rule(
+    alloc: Global,
+    model: &ClassModel,
+    rule: &CoreRule,
+    numbers: &mut Numbers,
+) -> Result<(), AllocError>
+    requires { IsTypedRule model.now (checked_rule_of rule.now) }
+    ensures { OnOk result (numbers.new
+        ≡ with_uses model.now numbers.old (rule_uses model.now (checked_rule_of rule.now))) }
+{
+    numbers.add_text(alloc, rule.name.as_str())?;
+    numbers.add_symbol(alloc, model, Named::Class(rule.context))?;
+    number_tree(alloc, model, &rule.tree, numbers)
+}
+
+/// Which limit the rule of an index passes, once what it uses is numbered.
+fn limit_of(index: usize, rule: &CoreRule, numbers: &Numbers) -> Option<Limit>
+    ensures { result ≡ limit_by index (list_any is_long_text numbers.now.texts)
+        (length numbers.now.texts) (length numbers.now.symbols)
+        (cut_extent (extent_of (core_view rule.now.tree))) }
+{
+    let texts = numbers.text_count();
+    let symbols = numbers.symbol_count();
+    limit_passed(
+        index,
+        numbers.has_long_text(),
+        texts,
+        symbols,
+        measure(&rule.tree),
+    )
+}
+
+/// Numbers what rules use, up to the first that passes a limit.
+fn number_rules(
+    alloc: Global,
+    model: &ClassModel,
+    rules: &[CoreRule],
+) -> Result<Numbers, CompileFault>
+    requires { AllByRecursion (IsTypedRule model.now) (map checked_rule_of rules.now) }
+    ensures { Gives compile_fault (λ n. n) result
+        (numbered_rules model.now (map checked_rule_of rules.now)) }
+{
+    let mut numbers = Numbers::new(alloc);
+    for i in 0..rules.len() {
+        let rule = &rules[i];
+        number_rule(alloc, model, rule, &mut numbers)?;
+        if let Some(limit) = limit_of(i, rule, &numbers) {
+            return Err(CompileFault::At { limit, rule: i });
+        }
+    }
+    Ok(numbers)
+}
+
+/// The code of a rule.
+fn code_rule(
+    alloc: Global,
+    model: &ClassModel,
+    numbers: &Numbers,
+    rule: &CoreRule,
+) -> Result<Rule, AllocError>
+    requires counts { AreCounted numbers.now }
+    requires codable { IsCodable model.now numbers.now (checked_rule_of rule.now) }
+    ensures { IfOk result (λ r. rule_content r
+        ≡ translate_rule model.now numbers.now (checked_rule_of rule.now)) }
+{
+    let mut code = Vec::new(alloc);
+    emit(alloc, model, numbers, &rule.tree, &mut code)?;
+    Ok(Rule {
+        name: text_of_unit(numbers, rule.name.as_str()),
+        context: symbol_of_unit(numbers, Named::Class(rule.context)),
+        code,
+    })
+}
+
+/// The code of rules, in their order.
+fn code_rules(
+    alloc: Global,
+    model: &ClassModel,
+    numbers: &Numbers,
+    rules: &[CoreRule],
+) -> Result<Vec<Rule>, AllocError>
+    requires counts { AreCounted numbers.now }
+    requires codable { AllByRecursion (IsCodable model.now numbers.now)
+        (map checked_rule_of rules.now) }
+    ensures { IfOk result (λ v. map rule_content v.items
+        ≡ map (translate_rule model.now numbers.now) (map checked_rule_of rules.now)) }
+{
+    let mut coded = Vec::new(alloc);
+    'rules: for rule in rules {
+        coded.push(code_rule(alloc, model, numbers, rule)?)?;
+    }
+    Ok(coded)
+}
+
+/// The symbols of a unit, in the order of their numbers.
+fn unit_symbols(
+    alloc: Global,
+    model: &ClassModel,
+    numbers: &Numbers,
+) -> Result<Vec<Symbol>, AllocError>
+    requires counts { AreCounted numbers.now }
+    requires named { AllByRecursion (IsNamedIn model.now) numbers.now.symbols }
+    ensures { IfOk result (λ v. v.items
+        ≡ map (translate_symbol model.now numbers.now) numbers.now.symbols) }
+{
+    let mut symbols = Vec::new(alloc);
+    for i in 0..numbers.symbol_count() {
+        symbols.push(symbol_of_names(model, numbers, numbers.symbol(i)))?;
+    }
+    Ok(symbols)
+}
+
+/// Compiles rules to a unit of code, whose rules stand in the order of theirs.
+///
+/// A rule that passes a limit of a unit is reported: the first, with the first of its limits
+/// (`CompileFault::At`). Beyond that it fails only where memory runs out.
+pub fn compile(alloc: Global, model: &ClassModel, rules: &[CoreRule]) -> Result<Unit, CompileFault>
+    requires typed { AllByRecursion (IsTypedRule model.now) (map checked_rule_of rules.now) }
+    requires written { AllByRecursion IsWrittenRule (map checked_rule_of rules.now) }
+    requires names { repeats bytes_eq (map (λ r. r.name) (map checked_rule_of rules.now)) ≡ false }
+    ensures { Gives compile_fault content result
+        (compile_of model.now (map checked_rule_of rules.now)) }
+{
+    let numbers = number_rules(alloc, model, rules)?;
+    let coded = code_rules(alloc, model, &numbers, rules)?;
+    let symbols = unit_symbols(alloc, model, &numbers)?;
+    let texts = numbers.into_texts(alloc)?;
+    Ok(Unit {
+        texts,
+        symbols,
+        rules: coded,
+    })
+}
