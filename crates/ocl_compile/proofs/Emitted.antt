@@ -1,6 +1,7 @@
 -- The code of a tree in parts, as it is written: what follows a tree follows its code, and links follow their first operand.
 use Rattle.std.proofs.Common.{◌≡◌, ℕ, ◌+◌, ◌<◌, ◌≤◌, List, [], ◌∷◌, ◌++◌, map, length, drop, Result, Ok, Err, OnOk, refl, sym, ap, ◌∙◌, subst, arith, rules, get_or, length-append, append_assoc, append-nil, Box, Vec, Global}
 use Rattle.std.proofs.lemmas.List.{drop_more}
+use Rattle.std.specs.List.{AllByRecursion}
 use Rattle.std.proofs.Math.ListN.{drop_of_length-le}
 use Rattle.imkl_model.specs.ClassModel.{Model}
 use Rattle.ocl_kinds.specs.declared.kind.Kind.{Kind}
@@ -20,6 +21,7 @@ use Rattle.rule_verify.specs.CodeTree.{CodeTree, instr_count}
 use Rattle.ocl_compile.specs.Numbering.{Numbering}
 use Rattle.ocl_compile.specs.Translation.{written_kind, operator_instr, iteration_instr, let_block, if_block, translate, translate_all, instrs_of}
 use Rattle.ocl_compile.specs.Compiling.{most_counted}
+use Rattle.ocl_compile.specs.Written.{IsWritten, AreWritten}
 use Rattle.ocl_compile.specs.EmitWalk.{KnownIn, KnownIn_all, VariablesBelow, VariablesBelow_all, code_of, codes_of, IsEmittable, AreEmittable, top_code, IsTopEmittable, link_node, links_code, AreEmittableLinks}
 use Rattle.ocl_compile.proofs.Flat.{flat_count, translated_cut}
 
@@ -239,6 +241,28 @@ module _ (m : Model) (n : Numbering) where
   pub links_here : (xs : List CoreLink) (i : ℕ) (x : CoreLink) → x ≡ get_or xs i x → i < length xs → AreEmittableLinks m n (drop i xs) → IsTopEmittable m n (link_node x) × AreEmittableLinks m n (drop (i + 1) xs)
   links_here xs i x is lt h =
       subst (AreEmittableLinks m n) (drop_more xs i x lt ∙ ap (λ (y : CoreLink). y ∷ drop (i + 1) xs) (sym is)) h
+
+-- ---- what the code says of whole numbers
+
+link_written : (link : CoreLink) (left : CoreTree) → IsWritten left → IsWritten (link_node link) → IsWritten (core_link_of link left)
+link_written (Feature feature) left h w = search (rules, the_lemmas)
+link_written (Operation' operator others row) left h w = search (rules, the_lemmas)
+link_written (AsCollection collection element) left h w = search (rules, the_lemmas)
+link_written (Iterate iteration body) left h w = search (rules, the_lemmas)
+
+links_written : (links : List CoreLink) (first : CoreTree) → IsWritten first → AllByRecursion (λ l. IsWritten (link_node l)) links → IsWritten (core_spine first (map core_link_of links))
+links_written [] first h w = h
+links_written (l ∷ ls) first h w = links_written ls (core_link_of l first) (link_written l first h w.0) w.1
+
+-- a first operand with its links
+pub spine_written : (core : Core) (first : Box Core Global) (links : Vec CoreLink Global) → core ≡ v.Spine first links → IsWritten (core_view first.value) → AllByRecursion (λ l. IsWritten (link_node l)) links.items → IsWritten (core_view core)
+spine_written core first links is h w =
+    subst IsWritten (sym (ap core_view is ∙ core_view-Spine first links)) (links_written links.items (core_view first.value) h w)
+
+-- the operand at hand with those after it
+pub operands_written : (xs : List Core) (i : ℕ) (x : Core) → x ≡ get_or xs i x → i < length xs → IsWritten (core_view x) → AreWritten (cores_of (map core_view (drop (i + 1) xs))) → AreWritten (cores_of (map core_view (drop i xs)))
+operands_written xs i x is lt h w =
+    subst (λ (ys : List Core). AreWritten (cores_of (map core_view ys))) (sym (drop_more xs i x lt ∙ ap (λ (y : Core). y ∷ drop (i + 1) xs) (sym is))) (h, w)
 
 -- what a loop adds to, one item after another
 pub walked_on : {X Y : Type 0} (f : X → List Y) (F : List X → List Y) → ((x : X) (xs : List X) → F (x ∷ xs) ≡ f x ++ F xs)

@@ -94,8 +94,9 @@ fn code_rule(
 ) -> Result<Rule, AllocError>
     requires counts { AreCounted numbers.now }
     requires codable { IsCodable model.now numbers.now (checked_rule_of rule.now) }
-    ensures { IfOk result (λ r. rule_content r
+    ensures code { IfOk result (λ r. rule_content r
         ≡ translate_rule model.now numbers.now (checked_rule_of rule.now)) }
+    ensures written { OnOk result (IsWrittenRule (checked_rule_of rule.now)) }
 {
     let mut code = Vec::new(alloc);
     emit(alloc, model, numbers, &rule.tree, &mut code)?;
@@ -116,8 +117,9 @@ fn code_rules(
     requires counts { AreCounted numbers.now }
     requires codable { AllByRecursion (IsCodable model.now numbers.now)
         (map checked_rule_of rules.now) }
-    ensures { IfOk result (λ v. map rule_content v.items
+    ensures codes { IfOk result (λ v. map rule_content v.items
         ≡ map (translate_rule model.now numbers.now) (map checked_rule_of rules.now)) }
+    ensures written { OnOk result (AllByRecursion IsWrittenRule (map checked_rule_of rules.now)) }
 {
     let mut coded = Vec::new(alloc);
     'rules: for rule in rules {
@@ -150,7 +152,6 @@ fn unit_symbols(
 /// (`CompileFault::At`). Beyond that it fails only where memory runs out.
 pub fn compile(alloc: Global, model: &ClassModel, rules: &[CoreRule]) -> Result<Unit, CompileFault>
     requires typed { AllByRecursion (IsTypedRule model.now) (map checked_rule_of rules.now) }
-    requires written { AllByRecursion IsWrittenRule (map checked_rule_of rules.now) }
     requires names { repeats bytes_eq (map (λ r. r.name) (map checked_rule_of rules.now)) ≡ false }
     ensures { Gives compile_fault content result
         (compile_of model.now (map checked_rule_of rules.now)) }

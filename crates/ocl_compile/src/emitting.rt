@@ -1,9 +1,11 @@
 //! The code of core trees: operands in order, and then what takes them.
 
 ghost use Rattle.std.specs.Prelude.{◌≡◌, ◌≤◌, [], ◌∷◌, ◌++◌, map, OnOk, IfOk};
+ghost use Rattle.std.specs.List.{AllByRecursion};
 ghost use Rattle.ocl_types.specs.Core.{cores_of};
 ghost use Rattle.ocl_types.specs.CoreView.{core_view};
 ghost use Rattle.rule_verify.specs.CodeTree.{End, instr_count};
+ghost use Rattle.ocl_compile.specs.Written.{IsWritten, AreWritten};
 ghost use Rattle.ocl_compile.specs.Translation.{translate, instrs_of};
 ghost use Rattle.ocl_compile.specs.Compiling.{most_counted};
 ghost use Rattle.ocl_compile.specs.EmitWalk.{AreCounted, KnownIn, VariablesBelow, IsEmittable, AreEmittable, IsTopEmittable, AreEmittableLinks, code_of, codes_of, top_code, link_node, links_code};
@@ -70,6 +72,7 @@ pub(crate) fn emit(
         ≤ most_counted }
     ensures emitted { OnOk result (code.new.items ≡ code.old.items ++
         instrs_of (translate model.now numbers.now (core_view core.now) End)) }
+    ensures written { OnOk result (IsWritten (core_view core.now)) }
 {
     match core {
         Core::Constant { value } => put(code, constant_instr(numbers, value)),
@@ -115,7 +118,9 @@ fn code_of_body(
 ) -> Result<Vec<Instr>, AllocError>
     requires counts { AreCounted numbers.now }
     requires body { IsEmittable model.now numbers.now (core_view body.now) }
-    ensures { IfOk result (λ v. v.items ≡ code_of model.now numbers.now (core_view body.now)) }
+    ensures code { IfOk result (λ v. v.items
+        ≡ code_of model.now numbers.now (core_view body.now)) }
+    ensures written { OnOk result (IsWritten (core_view body.now)) }
 {
     let mut code = Vec::new(alloc);
     emit(alloc, model, numbers, body, &mut code)?;
@@ -133,8 +138,9 @@ fn emit_operands(
 ) -> Result<(), AllocError>
     requires counts { AreCounted numbers.now }
     requires operands { AreEmittable model.now numbers.now (cores_of (map core_view operands.now)) }
-    ensures { OnOk result (code.new.items ≡ code.old.items ++
+    ensures codes { OnOk result (code.new.items ≡ code.old.items ++
         codes_of model.now numbers.now (cores_of (map core_view operands.now))) }
+    ensures written { OnOk result (AreWritten (cores_of (map core_view operands.now))) }
 {
     'operands: for operand in operands {
         emit(alloc, model, numbers, operand, code)?;
@@ -154,8 +160,9 @@ fn emit_link(
 ) -> Result<(), AllocError>
     requires counts { AreCounted numbers.now }
     requires link { IsTopEmittable model.now numbers.now (link_node link.now) }
-    ensures { OnOk result (code.new.items ≡ code.old.items ++
+    ensures code { OnOk result (code.new.items ≡ code.old.items ++
         top_code model.now numbers.now (link_node link.now)) }
+    ensures written { OnOk result (IsWritten (link_node link.now)) }
 {
     match link {
         CoreLink::Feature { feature } => {
@@ -191,8 +198,9 @@ fn emit_links(
 ) -> Result<(), AllocError>
     requires counts { AreCounted numbers.now }
     requires links { AreEmittableLinks model.now numbers.now links.now }
-    ensures { OnOk result (code.new.items ≡ code.old.items ++
+    ensures codes { OnOk result (code.new.items ≡ code.old.items ++
         links_code model.now numbers.now links.now) }
+    ensures written { OnOk result (AllByRecursion (λ l. IsWritten (link_node l)) links.now) }
 {
     'links: for link in links {
         emit_link(alloc, model, numbers, link, code)?;

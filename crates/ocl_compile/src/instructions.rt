@@ -2,6 +2,7 @@
 
 ghost use Rattle.std.specs.Prelude.{◌≡◌, ◌<◌};
 ghost use Rattle.ocl_types.specs.CoreView.{constant_of};
+ghost use Rattle.ocl_compile.specs.Written.{IsWrittenConstant};
 ghost use Rattle.ocl_compile.specs.EmitWalk.{AreCounted};
 ghost use Rattle.ocl_compile.specs.Translation as spec;
 
@@ -16,7 +17,8 @@ use rule_verify::Named;
 /// The instruction that gives a constant.
 pub(crate) fn constant_instr(numbers: &Numbers, value: &ConstantValue) -> Instr
     requires counts { AreCounted numbers.now }
-    ensures { result ≡ spec.constant_instr numbers.now (constant_of value.now) }
+    ensures instr { result ≡ spec.constant_instr numbers.now (constant_of value.now) }
+    ensures written { IsWrittenConstant (constant_of value.now) }
 {
     match value {
         ConstantValue::Boolean(truth) => Instr::Bool(*truth),

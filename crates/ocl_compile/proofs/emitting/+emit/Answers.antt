@@ -1,10 +1,10 @@
-use Rattle.std.proofs.Common.{◌++◌, map, List, refl, rules}
+use Rattle.std.proofs.Common.{◌++◌, map, List, rules, subst}
 use Rattle.ocl_types.specs.declared.core_tree.Core.{Core, the_lemmas}
-use Rattle.ocl_types.specs.declared.core_tree.CoreLink.{CoreLink}
 use Rattle.ocl_types.specs.Core.{cores_of}
 use Rattle.ocl_types.specs.CoreView.{core_view}
-use Rattle.ocl_compile.specs.EmitWalk.{code_of, codes_of, top_code, link_node, links_code}
-use Rattle.ocl_compile.proofs.Emitted.{asked, spine_is, spine_parts, let_is, let_parts, if_is, if_parts, iterate_is, operand_code, operands_here, links_here, walked_on, walked, joined, on_ok}
+use Rattle.ocl_compile.specs.EmitWalk.{code_of, codes_of}
+use Rattle.ocl_compile.specs.Written.{IsWritten}
+use Rattle.ocl_compile.proofs.Emitted.{spine_written, operands_written, asked, spine_is, spine_parts, let_is, let_parts, if_is, if_parts, iterate_is, operand_code, operands_here, walked_on, joined, on_ok}
 use Rattle.ocl_compile.proofs.emitting.+emit.Goals as goal
 
 pub code_of_body-emit-requires : goal.code_of_body-emit-requires
@@ -27,13 +27,18 @@ emit-emit_links-requires t c =
     let p = spine_parts m n c.args.core.now c.in-Spine.first c.in-Spine.links c.in-Spine.is c.requires.known c.requires.variables c.requires.room in
     (search (rules, the_lemmas), (c.requires.counts, rw c.deref-in-Spine.ensures.value p.1))
 
-pub emit-returns-in_ok-emit-in-Spine : goal.emit-returns-in_ok-emit-in-Spine
-emit-returns-in_ok-emit-in-Spine t c =
+pub emit-returns-in_ok-emit-in-Spine-clause-emitted : goal.emit-returns-in_ok-emit-in-Spine-clause-emitted
+emit-returns-in_ok-emit-in-Spine-clause-emitted t c =
     let m = c.args.model.now in
     let n = c.args.numbers.now in
     let first = rw c.deref.ensures at c.in_ok-emit-in-Spine.ensures.emitted in
-    let after = rw c.deref-in-Spine.ensures.value at c.emit_links.ensures in
-    record { emitted = on_ok _ _ c.emit_links.result (λ e. joined _ _ _ _ _ _ e first (spine_is m n c.args.core.now c.in-Spine.first c.in-Spine.links c.in-Spine.is)) after }
+    let after = rw c.deref-in-Spine.ensures.value at c.emit_links.ensures.codes in
+    on_ok _ _ c.emit_links.result (λ e. joined _ _ _ _ _ _ e first (spine_is m n c.args.core.now c.in-Spine.first c.in-Spine.links c.in-Spine.is)) after
+
+pub emit-returns-in_ok-emit-in-Spine-clause-written : goal.emit-returns-in_ok-emit-in-Spine-clause-written
+emit-returns-in_ok-emit-in-Spine-clause-written t c =
+    let first = subst (λ (x : Core). IsWritten (core_view x)) c.deref.ensures c.in_ok-emit-in-Spine.ensures.written in
+    on_ok _ _ c.emit_links.result (spine_written c.args.core.now c.in-Spine.first c.in-Spine.links c.in-Spine.is first) (rw c.deref-in-Spine.ensures.value at c.emit_links.ensures.written)
 
 -- ---- a variable with its body
 
@@ -56,15 +61,15 @@ emit-body_length-requires t c =
     let m = c.args.model.now in
     let n = c.args.numbers.now in
     let p = let_parts m n c.args.core.now c.in-Let.value c.in-Let.body c.in-Let.is c.requires.known c.requires.variables c.requires.room in
-    rw (c.deref-in-Let-3.ensures.value, c.in_ok-inner-in-Let.ensures, c.deref-in-Let-2.ensures) p.1.room
+    rw (c.deref-in-Let-3.ensures.value, c.in_ok-inner-in-Let.ensures.code, c.deref-in-Let-2.ensures) p.1.room
 
-pub emit-returns-in_ok-inner-in-Let : goal.emit-returns-in_ok-inner-in-Let
-emit-returns-in_ok-inner-in-Let t c =
+pub emit-returns-in_ok-inner-in-Let-clause-emitted : goal.emit-returns-in_ok-inner-in-Let-clause-emitted
+emit-returns-in_ok-inner-in-Let-clause-emitted t c =
     let m = c.args.model.now in
     let n = c.args.numbers.now in
     let first = rw c.deref-in-Let.ensures at c.in_ok-emit-in-Let.ensures.emitted in
-    let after = rw (c.body_length.ensures, c.deref-in-Let-3.ensures.value, c.in_ok-inner-in-Let.ensures, c.deref-in-Let-2.ensures) at c.put_block.ensures in
-    record { emitted = on_ok _ _ c.put_block.result (λ e. joined _ _ _ _ _ _ e first (let_is m n c.args.core.now c.in-Let.value c.in-Let.body c.in-Let.is)) after }
+    let after = rw (c.body_length.ensures, c.deref-in-Let-3.ensures.value, c.in_ok-inner-in-Let.ensures.code, c.deref-in-Let-2.ensures) at c.put_block.ensures in
+    on_ok _ _ c.put_block.result (λ e. joined _ _ _ _ _ _ e first (let_is m n c.args.core.now c.in-Let.value c.in-Let.body c.in-Let.is)) after
 
 -- ---- a condition with its branches
 
@@ -94,57 +99,33 @@ emit-body_length-requires-in-If t c =
     let m = c.args.model.now in
     let n = c.args.numbers.now in
     let p = if_parts m n c.args.core.now c.in-If.kind c.in-If.condition c.in-If.then_branch c.in-If.else_branch c.in-If.is c.requires.known c.requires.variables c.requires.room in
-    rw (c.deref-in-If-4.ensures.value, c.in_ok-first-in-If.ensures, c.deref-in-If-2.ensures) p.1.room
+    rw (c.deref-in-If-4.ensures.value, c.in_ok-first-in-If.ensures.code, c.deref-in-If-2.ensures) p.1.room
 
 pub emit-body_length-requires-in-If-2 : goal.emit-body_length-requires-in-If-2
 emit-body_length-requires-in-If-2 t c =
     let m = c.args.model.now in
     let n = c.args.numbers.now in
     let p = if_parts m n c.args.core.now c.in-If.kind c.in-If.condition c.in-If.then_branch c.in-If.else_branch c.in-If.is c.requires.known c.requires.variables c.requires.room in
-    rw (c.deref-in-If-5.ensures.value, c.in_ok-second-in-If.ensures, c.deref-in-If-3.ensures) p.2.room
+    rw (c.deref-in-If-5.ensures.value, c.in_ok-second-in-If.ensures.code, c.deref-in-If-3.ensures) p.2.room
 
-pub emit-returns-in_ok-second-in-If : goal.emit-returns-in_ok-second-in-If
-emit-returns-in_ok-second-in-If t c =
+pub emit-returns-in_ok-second-in-If-clause-emitted : goal.emit-returns-in_ok-second-in-If-clause-emitted
+emit-returns-in_ok-second-in-If-clause-emitted t c =
     let m = c.args.model.now in
     let n = c.args.numbers.now in
     let first = rw c.deref-in-If.ensures at c.in_ok-emit-in-If.ensures.emitted in
-    let after = rw (c.written_kind-kind.ensures, c.body_length-in-If.ensures, c.body_length-in-If-2.ensures, c.deref-in-If-4.ensures.value, c.deref-in-If-5.ensures.value, c.in_ok-first-in-If.ensures, c.in_ok-second-in-If.ensures, c.deref-in-If-2.ensures, c.deref-in-If-3.ensures) at c.put_branches.ensures in
-    record { emitted = on_ok _ _ c.put_branches.result (λ e. joined _ _ _ _ _ _ e first (if_is m n c.args.core.now c.in-If.kind c.in-If.condition c.in-If.then_branch c.in-If.else_branch c.in-If.is)) after }
+    let after = rw (c.written_kind-kind.ensures, c.body_length-in-If.ensures, c.body_length-in-If-2.ensures, c.deref-in-If-4.ensures.value, c.deref-in-If-5.ensures.value, c.in_ok-first-in-If.ensures.code, c.in_ok-second-in-If.ensures.code, c.deref-in-If-2.ensures, c.deref-in-If-3.ensures) at c.put_branches.ensures in
+    on_ok _ _ c.put_branches.result (λ e. joined _ _ _ _ _ _ e first (if_is m n c.args.core.now c.in-If.kind c.in-If.condition c.in-If.then_branch c.in-If.else_branch c.in-If.is)) after
 
 -- ---- links
 
-pub emit_link-returns-in_ok-inner-in-Iterate : goal.emit_link-returns-in_ok-inner-in-Iterate
-emit_link-returns-in_ok-inner-in-Iterate t c =
+pub emit_link-returns-in_ok-inner-in-Iterate-clause-code : goal.emit_link-returns-in_ok-inner-in-Iterate-clause-code
+emit_link-returns-in_ok-inner-in-Iterate-clause-code t c =
     let m = c.args.model.now in
     let n = c.args.numbers.now in
-    let after = rw (c.iteration_instr-block.ensures, c.body_length.ensures, c.deref-in-Iterate.ensures.value, c.in_ok-inner-in-Iterate.ensures) at c.put_block.ensures in
+    let after = rw (c.iteration_instr-block.ensures, c.body_length.ensures, c.deref-in-Iterate.ensures.value, c.in_ok-inner-in-Iterate.ensures.code) at c.put_block.ensures in
     rw (iterate_is m n c.args.link.now c.in-Iterate.iteration c.in-Iterate.body c.in-Iterate.is) after
 
-pub emit_links-links-init : goal.emit_links-links-init
-emit_links-links-init t c = (refl, c.requires.links)
-
-pub emit_links-emit_link-requires : goal.emit_links-emit_link-requires
-emit_links-emit_link-requires t c =
-    let p = links_here c.args.model.now c.args.numbers.now c.args.links.now c.links.link-index c.link-item.result c.link-item.is c.links-test.true c.links.invariant.1 in
-    (search (rules, the_lemmas), (c.requires.counts, p.0))
-
-pub emit_links-links-preserved : goal.emit_links-links-preserved
-emit_links-links-preserved t c =
-    let m = c.args.model.now in
-    let n = c.args.numbers.now in
-    let p = links_here m n c.args.links.now c.links.link-index c.link-item.result c.link-item.is c.links-test.true c.links.invariant.1 in
-    (walked_on (λ (x : CoreLink). top_code m n (link_node x)) (links_code m n) (λ x xs. refl) c.args.links.now c.links.link-index c.link-item.result c.link-item.is c.links-test.true c.links.code.items c.emit_link.new.code.items (c.args.code.now.items ++ links_code m n c.args.links.now) c.in_ok-emit_link.ensures c.links.invariant.0, p.1)
-
-pub emit_links-returns : goal.emit_links-returns
-emit_links-returns t c =
-    let m = c.args.model.now in
-    let n = c.args.numbers.now in
-    walked (links_code m n) refl c.args.links.now c.links.link-index c.links-test.false c.links.code.items (c.args.code.now.items ++ links_code m n c.args.links.now) c.links.invariant.0
-
 -- ---- operands
-
-pub emit_operands-operands-init : goal.emit_operands-operands-init
-emit_operands-operands-init t c = (refl, c.requires.operands)
 
 pub emit_operands-emit-requires : goal.emit_operands-emit-requires
 emit_operands-emit-requires t c =
@@ -157,13 +138,9 @@ pub emit_operands-operands-preserved : goal.emit_operands-operands-preserved
 emit_operands-operands-preserved t c =
     let m = c.args.model.now in
     let n = c.args.numbers.now in
-    let F = λ (xs : List Core). codes_of m n (cores_of (map core_view xs)) in
-    let p = operands_here m n c.args.operands.now c.operands.operand-index c.operand-item.result c.operand-item.is c.operands-test.true c.operands.invariant.1 in
-    (walked_on (λ (x : Core). code_of m n (core_view x)) F (λ x xs. operand_code m n (core_view x) (cores_of (map core_view xs))) c.args.operands.now c.operands.operand-index c.operand-item.result c.operand-item.is c.operands-test.true c.operands.code.items c.emit.new.code.items (c.args.code.now.items ++ F c.args.operands.now) c.in_ok-emit.ensures.emitted c.operands.invariant.0, p.1)
-
-pub emit_operands-returns : goal.emit_operands-returns
-emit_operands-returns t c =
-    let m = c.args.model.now in
-    let n = c.args.numbers.now in
-    let F = λ (xs : List Core). codes_of m n (cores_of (map core_view xs)) in
-    walked F refl c.args.operands.now c.operands.operand-index c.operands-test.false c.operands.code.items (c.args.code.now.items ++ F c.args.operands.now) c.operands.invariant.0
+    let xs = c.args.operands.now in
+    let i = c.operands.operand-index in
+    let x = c.operand-item.result in
+    let F = λ (ys : List Core). codes_of m n (cores_of (map core_view ys)) in
+    let p = operands_here m n xs i x c.operand-item.is c.operands-test.true c.operands.invariant.1 in
+    (walked_on (λ (y : Core). code_of m n (core_view y)) F (λ y ys. operand_code m n (core_view y) (cores_of (map core_view ys))) xs i x c.operand-item.is c.operands-test.true c.operands.code.items c.emit.new.code.items (c.args.code.now.items ++ F xs) c.in_ok-emit.ensures.emitted c.operands.invariant.0, p.1, λ w. c.operands.invariant.2 (operands_written xs i x c.operand-item.is c.operands-test.true c.in_ok-emit.ensures.written w))
