@@ -2,9 +2,9 @@
 
 ghost use Rattle.std.specs.Prelude.{◌≡◌, ◌≤◌, false, length, map, string_bytes, bytes_eq, IfOk, OnOk};
 ghost use Rattle.std.specs.List.{list_any, AllByRecursion};
-ghost use Rattle.ocl_base.specs.Lists.{repeats};
 ghost use Rattle.ocl_base.specs.Steps.{Gives};
 ghost use Rattle.ocl_types.specs.CoreView.{core_view, checked_rule_of};
+ghost use Rattle.ocl_types.specs.AllRules.{HaveOwnNames};
 ghost use Rattle.ocl_types.specs.Typing.{IsTypedRule};
 ghost use Rattle.rule_code.specs.Content.{rule_content};
 ghost use Rattle.rule_code.specs.View.{content};
@@ -152,7 +152,7 @@ fn unit_symbols(
 /// (`CompileFault::At`). Beyond that it fails only where memory runs out.
 pub fn compile(alloc: Global, model: &ClassModel, rules: &[CoreRule]) -> Result<Unit, CompileFault>
     requires typed { AllByRecursion (IsTypedRule model.now) (map checked_rule_of rules.now) }
-    requires names { repeats bytes_eq (map (λ r. r.name) (map checked_rule_of rules.now)) ≡ false }
+    requires names { HaveOwnNames (map checked_rule_of rules.now) }
     ensures { Gives compile_fault content result
         (compile_of model.now (map checked_rule_of rules.now)) }
 {

@@ -12,4 +12,5 @@ pub mod TypedTypes
 pub mod TypedOperations
 pub mod TypedIterations
 pub mod TypedWalk
+pub mod AllChecked
 pub mod ForAbove

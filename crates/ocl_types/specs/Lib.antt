@@ -5,6 +5,7 @@ pub mod Operators
 pub mod Scope
 pub mod Elaboration
 pub mod Typing
+pub mod AllRules
 pub mod CoreView
 -- Bookkeeping: views, layouts, walks and tables that only proofs and private contracts use.
 pub mod TableView

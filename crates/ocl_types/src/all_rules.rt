@@ -1,0 +1,65 @@
+//! The check of the rules of a text, in their order.
+
+ghost use Rattle.std.specs.Prelude.{◌≡◌, map, IfOk};
+ghost use Rattle.std.specs.List.{AllByRecursion};
+ghost use Rattle.ocl_base.specs.Steps.{Gives};
+ghost use Rattle.ocl_text.specs.RuleText.{NamesDiffer};
+ghost use Rattle.ocl_text.specs.View.{rule_of};
+ghost use Rattle.ocl_types.specs.CoreView.{checked_rule_of};
+ghost use Rattle.ocl_types.specs.Elaboration.{elaborate_rule};
+ghost use Rattle.ocl_types.specs.AllRules.{HaveOwnNames, elaborate_rules, in_rule, rules_fault};
+ghost use Rattle.ocl_types.specs.Typing.{IsTypedRule};
+
+use crate::core_tree::CoreRule;
+use crate::fault::TypeFault;
+use crate::rules::check;
+use crate::rules_fault::RulesFault;
+use imkl_model::ClassModel;
+use ocl_text::SurfaceRule;
+use std::alloc::Global;
+
+/// Checks the rule of an index.
+fn check_at(
+    alloc: Global,
+    model: &ClassModel,
+    index: usize,
+    rule: &SurfaceRule,
+) -> Result<CoreRule, RulesFault>
+    ensures { Gives rules_fault checked_rule_of result
+        (in_rule index (elaborate_rule model.now (rule_of rule.now))) }
+{
+    match check(alloc, model, rule) {
+        Ok(rule) => Ok(rule),
+        Err(TypeFault::At { flaw, offset }) => Err(RulesFault::At {
+            flaw,
+            rule: index,
+            offset,
+        }),
+        Err(TypeFault::OutOfMemory) => Err(RulesFault::OutOfMemory),
+    }
+}
+
+/// Checks the types of all rules of a text: see `check`. The first rule that is at fault is reported, with
+/// its first fault. Memory may be refused in place of any fault. Rules keep their names.
+pub fn check_rules(
+    alloc: Global,
+    model: &ClassModel,
+    rules: &[SurfaceRule],
+) -> Result<Vec<CoreRule>, RulesFault>
+    ensures gives { Gives rules_fault (λ v. map checked_rule_of v.items) result
+        (elaborate_rules model.now 0 (map rule_of rules.now)) }
+    ensures typed { IfOk result (λ v.
+        AllByRecursion (IsTypedRule model.now) (map checked_rule_of v.items)) }
+    ensures names { NamesDiffer (map rule_of rules.now)
+        → IfOk result (λ v. HaveOwnNames (map checked_rule_of v.items)) }
+{
+    model.well_formed();
+    let mut checked = Vec::new(alloc);
+    for i in 0..rules.len() {
+        match check_at(alloc, model, i, &rules[i]) {
+            Ok(rule) => checked.push(rule)?,
+            Err(fault) => return Err(fault),
+        }
+    }
+    Ok(checked)
+}
