@@ -1,13 +1,12 @@
 //! Tables of rules: a row is `CODE -> VERDICT`, or `CODE -> VERDICT in N steps`, for the one box.
 
-use crate::boxes::{BOXES, DELIVERY};
 use crate::judging::file_verdicts;
 use imkl_delivery::load;
 use imkl_model::ClassModel;
 use imkl_population::Population;
 use rule_machine::OutOfMemory;
 use std::alloc::Global;
-use test_support::file_of_rule;
+use test_support::{BOX_DELIVERY, BOXES, file_of_rule};
 
 /// Whether the line of the one box says what a row expects, which may leave out the steps.
 fn is_answer(line: &str, expected: &str) -> bool {
@@ -72,7 +71,7 @@ fn wrong_rows_in(
     words: &str,
     rows: &str,
 ) -> Result<String, OutOfMemory> {
-    match load(alloc, DELIVERY.as_bytes(), model) {
+    match load(alloc, BOX_DELIVERY.as_bytes(), model) {
         Ok(population) => wrong_rows_over(alloc, &population, words, rows),
         Err(fault) => Ok(format!(in alloc; "{fault:?}")?),
     }

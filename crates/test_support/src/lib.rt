@@ -1,12 +1,15 @@
 //! What the tests of several crates share: bytes written as hexadecimal digits, code files of rules
-//! that are written in words, and the catalogue of cables, ducts and nets with its deliveries.
+//! that are written in words, the catalogue of cables, ducts and nets with its deliveries, and a box
+//! with many things in it.
 #![tactic(auto)]
 
 mod assembly;
+mod boxes;
 mod catalogue;
 mod hex;
 
 pub use assembly::{file_of_rule, file_of_rules};
+pub use boxes::{BOX_DELIVERY, BOXES};
 pub use catalogue::{
     CABLE_WITHOUT_DEPTH, CATALOGUE, DEEP_CABLE, DIFFERENT_NETS, DUCT, DUCT_OF_EQUALS,
     DUCT_WITH_SHALLOW, DUCT_WITH_SHALLOW_LAST, EMPTY_DUCT, IDENTIFIED_CABLES, NETS, SHALLOW_CABLE,

@@ -1,7 +1,7 @@
-//! The class model and the delivery of the tables: a box with many things in it.
+//! The class model and the delivery of tables of rules: a box with many things in it.
 
 /// Boxes with collections of each kind, named by the kind and what they hold, and their lids.
-pub(crate) const BOXES: &str = r#"{"model":"boxes",
+pub const BOXES: &str = r#"{"model":"boxes",
 "enums":[{"name":"Mood","literals":["calm","wild"]}],
 "classes":[
 {"name":"Thing","abstract":true,"supers":[],"attributes":[
@@ -81,7 +81,7 @@ pub(crate) const BOXES: &str = r#"{"model":"boxes",
 "opposite":{"name":"heldIn","lower":0,"upper":1,"ordered":false}}]}"#;
 
 /// One box b with a Both d in it, and three lids, of which the last has no size.
-pub(crate) const DELIVERY: &str = r#"{"model":"boxes","objects":[
+pub const BOX_DELIVERY: &str = r#"{"model":"boxes","objects":[
 {"id":"b","class":"Box","features":{"weight":7,
 "lids":["l1","l2","l3"],"stack":["l2","l1"],"top":"l1","bottom":"l2","held":"d",
 "truth":true,"name":"aéb","mood":"calm","Set12":[1,2],"Set123":[1,2,3],"Set321":[3,2,1],
