@@ -5,9 +5,9 @@ pub mod Translation
 pub mod Compiling
 pub mod CompileFaults
 pub mod CompileLaws
-pub mod Written
 -- Bookkeeping: views, layouts, walks and tables that only proofs and private contracts use.
 pub mod Extents
+pub mod Written
 pub mod EmitWalk
 pub mod NumbersView
 pub mod NumberWalk
