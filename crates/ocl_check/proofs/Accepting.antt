@@ -4,7 +4,7 @@ use Rattle.imkl_model.specs.ClassModel.{Model}
 use Rattle.imkl_population.specs.Population.{Population}
 use Rattle.rule_code.specs.Content.{Content}
 use Rattle.rule_verify.specs.UnitRules.{check_unit}
-use Rattle.ocl_check.specs.ThreeInputs.{UnitAnswer, unit_answer}
+use Rattle.ocl_check.specs.CodeRules.{UnitAnswer, unit_answer}
 
 -- what is answered of accepted code v is the answer to its unit u
 pub accepted_is : (f : UnitAnswer) (p : Population) (m : Model) (u v : Content) → m ≡ p.model → v ≡ u → check_unit m u ≡ Ok tt

@@ -3,3 +3,10 @@ pub mod Accepting
 pub mod Budgets
 pub mod Inputs
 pub mod Described
+pub mod TextReadings
+pub mod OneReading
+pub mod TextCompiled
+pub mod MeantReports
+pub mod TextReports
+pub mod Asked
+pub mod Compiling

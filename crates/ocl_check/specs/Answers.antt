@@ -40,6 +40,10 @@ abbrev pub IsAnswered : Answer → Option (List ℕ) → Option (List ℕ) → O
 IsAnswered answer old new (Status s) = Appends old new answer.0 × (s ≡ answer.1)
 IsAnswered answer old new (Failed cause) = (n : ℕ) × Appends old new (take n answer.0)
 
+-- the same where several answers are right
+abbrev pub IsAnsweredBy : (Answer → Type 0) → Option (List ℕ) → Option (List ℕ) → Outcome → Type 0
+IsAnsweredBy Answers old new outcome = (answer : Answer) × Answers answer × IsAnswered answer old new outcome
+
 abbrev pub is_write : Cause → Bool
 is_write Memory = false
 is_write Read = false

@@ -1,11 +1,34 @@
--- What questions ask of a population and a unit.
-use Rattle.ocl_check.specs.declared.commands.asking.Question.{Question}
-use Rattle.ocl_check.specs.declared.commands.asking.Question.TheVariants.{Report, Bounds}
-use Rattle.ocl_check.specs.ThreeInputs.{UnitAnswer}
+-- What is asked of a population and rules, and what is answered.
+use Rattle.std.specs.Prelude.{ℕ, List}
+use Rattle.ocl_check.specs.declared.commands.rules.Question.{Question}
+use Rattle.ocl_check.specs.declared.commands.rules.Question.TheVariants.{Report, Bounds}
+use Rattle.ocl_check.specs.declared.commands.rules.Asked.{Asked}
+use Rattle.ocl_check.specs.declared.commands.rules.Asked.TheVariants.{Code, Text}
+use Rattle.ocl_check.specs.declared.commands.judge.RulesForm.{RulesForm}
+use Rattle.ocl_check.specs.declared.commands.judge.RulesForm.TheVariants as form
+use Rattle.ocl_check.specs.RuleText.{TextReading, ReadsAs}
+use Rattle.ocl_check.specs.CodeRules.{UnitAnswer, code_file_answer}
+use Rattle.ocl_check.specs.ThreeInputs.{PopulationAnswer}
 use Rattle.ocl_check.specs.Judge.{budget_answer}
+use Rattle.ocl_check.specs.JudgeText.{text_answer}
 use Rattle.ocl_check.specs.Bound.{bounds_answer}
 
--- what is answered to a question
+-- what `judge` asks
+abbrev pub asked_by : RulesForm → ℕ → Asked
+asked_by form.Code budget = Code (Report budget)
+asked_by form.Text budget = Text budget
+
+-- what is answered to a question on accepted code
 abbrev pub answer_to : Question → UnitAnswer
 answer_to (Report budget) = budget_answer budget
 answer_to Bounds = bounds_answer
+
+-- a text may be read in several ways where it is refused; there is nothing to choose of a code file
+abbrev pub ReadingFor : Asked → List ℕ → Type 0
+ReadingFor (Code question) rules = Unit {0}
+ReadingFor (Text budget) rules = (t : TextReading) × ReadsAs rules t
+
+-- what is answered, by a reading of the rules
+abbrev pub answer_by : (asked : Asked) (rules : List ℕ) → ReadingFor asked rules → PopulationAnswer
+answer_by (Code question) rules reading = code_file_answer (answer_to question) rules
+answer_by (Text budget) rules reading = text_answer budget reading.0

@@ -10,6 +10,7 @@ use Rattle.rule_cost.specs.Admission.{rule_step_bound}
 use Rattle.rule_cost.specs.Limits.{limited_bound}
 use Rattle.rule_report.specs.Report.{name_of}
 use Rattle.ocl_check.specs.Reply.{Answer}
+use Rattle.ocl_check.specs.CodeRules.{code_file_answer}
 use Rattle.ocl_check.specs.ThreeInputs.{inputs_answer}
 
 -- a bound is a number, or over
@@ -39,4 +40,4 @@ bounds_answer p u = (bound_lines u (sizes_of p), 0)
 
 -- what `bound` answers of the bytes of its three inputs: the line of the first that is refused, else the bounds of the rules
 abbrev pub bound_answer : List ℕ → List ℕ → List ℕ → Answer
-bound_answer model delivery code = inputs_answer bounds_answer model delivery code
+bound_answer model delivery code = inputs_answer (code_file_answer bounds_answer code) model delivery

@@ -7,6 +7,7 @@ use Rattle.rule_cost.specs.Admission.{admission}
 use Rattle.rule_report.specs.declared.summary.Summary.{Summary}
 use Rattle.rule_report.specs.Report.{report_of, summary_of}
 use Rattle.ocl_check.specs.Reply.{Answer, refused_cost}
+use Rattle.ocl_check.specs.CodeRules.{code_file_answer}
 use Rattle.ocl_check.specs.ThreeInputs.{inputs_answer}
 
 -- 0 where every rule holds for each object of its context class, 1 where an object fails or is undecided
@@ -30,6 +31,7 @@ admitted_answer p u (Ok _) = report_answer p u
 abbrev pub budget_answer : ℕ → Population → Content → Answer
 budget_answer budget p u = admitted_answer p u (admission u (sizes_of p) budget)
 
--- what `judge` answers, within a budget, of the bytes of its three inputs: the line of the first that is refused, else the report
+-- what `judge` answers, within a budget, of the bytes of a class model, a delivery and a code file: the line of the first that is refused,
+-- else the report
 abbrev pub judge_answer : ℕ → List ℕ → List ℕ → List ℕ → Answer
-judge_answer budget model delivery code = inputs_answer (budget_answer budget) model delivery code
+judge_answer budget model delivery code = inputs_answer (code_file_answer (budget_answer budget) code) model delivery

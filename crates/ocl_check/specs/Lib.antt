@@ -3,9 +3,17 @@ pub mod Input
 pub mod Reply
 pub mod Answers
 pub mod ThreeInputs
+pub mod CodeRules
 pub mod Judge
+pub mod RuleText
+pub mod TextRules
+pub mod MeantReport
+pub mod JudgeText
 pub mod Bound
 pub mod Verify
+pub mod Compile
+pub mod TextLaws
 -- Bookkeeping: what only private contracts use.
 pub mod Ending
 pub mod Asking
+pub mod TextParts

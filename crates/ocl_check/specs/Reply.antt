@@ -7,11 +7,18 @@ use Rattle.imkl_population.specs.declared.fault.PopulationFault.{PopulationFault
 use Rattle.imkl_population.specs.Building.{population_fault_number}
 use Rattle.imkl_delivery.specs.declared.fault.DeliveryFault.{DeliveryFault}
 use Rattle.imkl_delivery.specs.declared.fault.DeliveryFault.TheVariants as delivery
+use Rattle.ocl_tokens.specs.Faults.{text_flaw_number}
+use Rattle.ocl_types.specs.Faults.{type_flaw_number}
+use Rattle.ocl_types.specs.AllRules.{RulesFaultAt}
+use Rattle.ocl_compile.specs.CompileFaults.{limit_number}
+use Rattle.ocl_compile.specs.Compiling.{LimitAt}
 use Rattle.rule_code.specs.CodeFile.{CodeFaultAt}
 use Rattle.rule_code.specs.FaultNumber.{code_flaw_number}
-use Rattle.ocl_check.specs.declared.reply.Reply as reply
 use Rattle.rule_verify.specs.KindRules.{InstrFault}
 use Rattle.rule_verify.specs.FaultNumber.{verify_flaw_number}
+use Rattle.ocl_check.specs.declared.reply.Reply as reply
+use Rattle.ocl_check.specs.RuleText.{TextFaultAt}
+use Rattle.ocl_check.specs.TextRules.{TextRefusal, InText, InTypes, InCode}
 
 -- the bytes printed, and the status
 abbrev pub Answer : Type 0
@@ -49,6 +56,22 @@ refused_delivery (delivery.UnknownTarget o) = refused (refused_at_object 6 o)
 refused_delivery (delivery.Population o e) = refused (population_line o e)
 refused_delivery delivery.OutOfMemory = refused (delivery_line 8)
 
+abbrev pub refused_text : TextFaultAt → Answer
+refused_text f = refused (codes "refused text " ++ (decimal (text_flaw_number f.flaw) ++ (32 ∷ (decimal f.offset ++ 10 ∷ []))))
+
+abbrev pub refused_types : RulesFaultAt → Answer
+refused_types f =
+    refused (codes "refused types " ++ (decimal (type_flaw_number f.flaw) ++ (32 ∷ (decimal f.rule ++ (32 ∷ (decimal f.offset ++ 10 ∷ []))))))
+
+abbrev pub refused_compile : LimitAt → Answer
+refused_compile l = refused (codes "refused compile " ++ (decimal (limit_number l.limit) ++ (32 ∷ (decimal l.rule ++ 10 ∷ []))))
+
+-- a rule text whose rules aren't compiled
+abbrev pub refused_rules : TextRefusal → Answer
+refused_rules (InText f) = refused_text f
+refused_rules (InTypes f) = refused_types f
+refused_rules (InCode l) = refused_compile l
+
 abbrev pub refused_code : CodeFaultAt → Answer
 refused_code l = refused (codes "refused code " ++ (decimal (code_flaw_number l.flaw) ++ (32 ∷ (decimal l.offset ++ 10 ∷ []))))
 
@@ -63,3 +86,7 @@ refused_cost r = refused (codes "refused cost 1 " ++ (decimal r ++ 10 ∷ []))
 -- code that is accepted, by the number of its rules
 abbrev pub accepted_reply : ℕ → Answer
 accepted_reply n = (codes "accepted " ++ (decimal n ++ 10 ∷ []), 0)
+
+-- a rule text that is compiled, by the number of its rules
+abbrev pub compiled_reply : ℕ → Answer
+compiled_reply n = (codes "compiled " ++ (decimal n ++ 10 ∷ []), 0)

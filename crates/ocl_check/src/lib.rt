@@ -3,11 +3,15 @@
 
 mod commands;
 mod input;
+pub mod laws;
 mod outcome;
 mod reply;
+mod rule_text;
+mod text_rules;
 
 pub use commands::bound::run_bound;
-pub use commands::judge::{MOST_STEPS, run_judge};
+pub use commands::compile::run_compile;
+pub use commands::judge::{JudgeOptions, MOST_STEPS, RulesForm, run_judge};
 pub use commands::verify::run_verify;
 pub use input::{InputFault, read_input};
 pub use outcome::{Cause, Outcome};

@@ -3,8 +3,10 @@
 ghost use Rattle.std.specs.Prelude.{◌≡◌, ◌≢◌, string_bytes, IfOk};
 ghost use Rattle.imkl_model.specs.declared.fault.ModelFault.TheVariants as model;
 ghost use Rattle.imkl_delivery.specs.declared.fault.DeliveryFault.TheVariants as delivery;
-ghost use Rattle.ocl_check.specs.Reply.{said, refused_model, refused_delivery, refused_code, refused_verify, refused_cost, accepted_reply};
+ghost use Rattle.ocl_check.specs.Reply.{said, refused_model, refused_delivery, refused_code, refused_verify, refused_cost, accepted_reply, compiled_reply};
+ghost use Rattle.ocl_check.specs.TextParts.{text_rules_fault, IsRefusedAs};
 
+use crate::text_rules::TextRulesFault;
 use imkl_delivery::DeliveryFault;
 use imkl_model::ModelFault;
 use rule_machine::OutOfMemory;
@@ -71,6 +73,31 @@ pub(crate) fn refused_delivery(alloc: Global, fault: &DeliveryFault) -> Result<R
     })
 }
 
+/// The reply to a rule text that is refused. Running out of memory is not a refusal.
+pub(crate) fn refused_text(alloc: Global, fault: TextRulesFault) -> Result<Reply, OutOfMemory>
+    ensures { IfOk result (λ r. IsRefusedAs (text_rules_fault fault) (said r)) }
+{
+    let text = match fault {
+        TextRulesFault::Text { flaw, offset } => {
+            let number = flaw.number();
+            format!(in alloc; "refused text {number} {offset}\n")?
+        }
+        TextRulesFault::Types { flaw, rule, offset } => {
+            let number = flaw.number();
+            format!(in alloc; "refused types {number} {rule} {offset}\n")?
+        }
+        TextRulesFault::Limit { limit, rule } => {
+            let number = limit.number();
+            format!(in alloc; "refused compile {number} {rule}\n")?
+        }
+        TextRulesFault::OutOfMemory => return Err(OutOfMemory),
+    };
+    Ok(Reply {
+        text,
+        status: REFUSED,
+    })
+}
+
 /// The reply to a code file that is refused at a byte.
 pub(crate) fn refused_code(
     alloc: Global,
@@ -119,6 +146,16 @@ pub(crate) fn accepted_reply(alloc: Global, rules: usize) -> Result<Reply, OutOf
 {
     Ok(Reply {
         text: format!(in alloc; "accepted {rules}\n")?,
+        status: 0,
+    })
+}
+
+/// The reply to a rule text that is compiled, by the number of its rules.
+pub(crate) fn compiled_reply(alloc: Global, rules: usize) -> Result<Reply, OutOfMemory>
+    ensures { IfOk result (λ r. said r ≡ compiled_reply rules) }
+{
+    Ok(Reply {
+        text: format!(in alloc; "compiled {rules}\n")?,
         status: 0,
     })
 }

@@ -1,7 +1,8 @@
 //! The command line.
 
-use clap::{Arg, ArgMatches, Command, Error, value_parser};
-use ocl_check::MOST_STEPS;
+use crate::help;
+use clap::{Arg, ArgAction, ArgMatches, Command, Error, value_parser};
+use ocl_check::{JudgeOptions, MOST_STEPS, RulesForm};
 use std::alloc::{AllocError, Global};
 
 /// The files that `judge` and `bound` name.
@@ -11,8 +12,8 @@ pub struct RuleFiles<'a> {
     pub model: &'a str,
     /// The path of the delivery.
     pub delivery: &'a str,
-    /// The path of the code file.
-    pub code: &'a str,
+    /// The path of the rules.
+    pub rules: &'a str,
 }
 
 /// The files that `verify` names.
@@ -24,11 +25,24 @@ pub struct VerifyFiles<'a> {
     pub code: &'a str,
 }
 
+/// The files that `compile` names.
+#[derive(Clone, Copy, Drop)]
+pub struct CompileFiles<'a> {
+    /// The path of the class model.
+    pub model: &'a str,
+    /// The path of the rule text.
+    pub rules: &'a str,
+    /// The path of the code file to write.
+    pub out: &'a str,
+}
+
 /// What the words ask for.
 #[derive(Clone, Copy, Drop)]
 pub enum Asked<'a> {
-    /// `judge` with its files, within a budget of steps for each rule and object.
-    Judge(RuleFiles<'a>, u64),
+    /// `judge` with its files and options.
+    Judge(RuleFiles<'a>, JudgeOptions),
+    /// `compile` with its files.
+    Compile(CompileFiles<'a>),
     /// `bound` with its files.
     Bound(RuleFiles<'a>),
     /// `verify` with its files.
@@ -49,36 +63,78 @@ fn budget<'a>(alloc: Global) -> Arg<'a> {
         .help("The most steps that a rule may make for an object; 2^63-1 where not given")
 }
 
-/// A command on a class model, a delivery and a code file.
+/// The option of `judge` that takes rules as text.
+fn text<'a>(alloc: Global) -> Arg<'a> {
+    Arg::new(alloc, "text")
+        .long("text")
+        .action(ArgAction::SetTrue)
+        .help("RULES is a rule text; without this option it is a code file")
+}
+
+/// A command on a class model, a delivery and rules.
 fn on_delivery<'a>(
     alloc: Global,
     command: Command<'a>,
-    code: &'a str,
+    rules: &'a str,
+    help: &'a str,
 ) -> Result<Command<'a>, AllocError> {
     command
         .arg(file(alloc, "MODEL", "The class model, a JSON file"))?
         .arg(file(alloc, "DELIVERY", "The delivery, a JSON file"))?
-        .arg(file(alloc, code, "The rules, a code file"))
+        .arg(file(alloc, rules, help))
+}
+
+fn judge<'a>(alloc: Global) -> Result<Command<'a>, AllocError> {
+    let command = Command::new(alloc, "judge")
+        .about("Judges a delivery by rules, and prints the report")
+        .after_help(help::JUDGE)
+        .arg(text(alloc))?
+        .arg(budget(alloc))?;
+    on_delivery(
+        alloc,
+        command,
+        "RULES",
+        "The rules: a code file, or a rule text",
+    )
+}
+
+fn compile<'a>(alloc: Global) -> Result<Command<'a>, AllocError> {
+    Command::new(alloc, "compile")
+        .about("Compiles a rule text to a code file")
+        .after_help(help::COMPILE)
+        .arg(file(alloc, "MODEL", "The class model, a JSON file"))?
+        .arg(file(alloc, "RULES", "The rule text"))?
+        .arg(file(alloc, "OUT", "The code file to write"))
+}
+
+fn verify<'a>(alloc: Global) -> Result<Command<'a>, AllocError> {
+    Command::new(alloc, "verify")
+        .about("Verifies a code file for a class model")
+        .after_help(help::VERIFY)
+        .arg(file(alloc, "MODEL", "The class model, a JSON file"))?
+        .arg(file(alloc, "CODE", "The code file"))
+}
+
+fn bound<'a>(alloc: Global) -> Result<Command<'a>, AllocError> {
+    let command = Command::new(alloc, "bound")
+        .about(
+            "Says how many steps each rule of a code file makes at most for an object of a delivery",
+        )
+        .after_help(help::BOUND);
+    on_delivery(alloc, command, "CODE", "The code file")
 }
 
 /// The program's commands and their arguments.
 fn command<'a>(alloc: Global) -> Result<Command<'a>, AllocError> {
-    let judge = Command::new(alloc, "judge")
-        .about("Judges a delivery by the rules of a code file")
-        .arg(budget(alloc))?;
-    let bound = Command::new(alloc, "bound").about(
-        "Says how many steps each rule of a code file makes at most for an object of a delivery",
-    );
-    let verify = Command::new(alloc, "verify")
-        .about("Verifies a code file for a class model")
-        .arg(file(alloc, "MODEL", "The class model, a JSON file"))?
-        .arg(file(alloc, "CODE", "The code file"))?;
     Command::new(alloc, "ocl_check")
         .about("Judges deliveries of buried networks against OCL invariants")
+        .version("1.0.0")
+        .after_help(help::PROGRAM)
         .subcommand_required(true)
-        .subcommand(on_delivery(alloc, judge, "RULES")?)?
-        .subcommand(verify)?
-        .subcommand(on_delivery(alloc, bound, "CODE")?)
+        .subcommand(judge(alloc)?)?
+        .subcommand(compile(alloc)?)?
+        .subcommand(verify(alloc)?)?
+        .subcommand(bound(alloc)?)
 }
 
 /// The word given for an argument; one that is required is always given.
@@ -90,19 +146,29 @@ fn word<'a>(matches: Option<&ArgMatches<'a>>, name: &str) -> &'a str {
 }
 
 /// The files that are given to `judge` or `bound`, of which the last has this name.
-fn rule_files<'a>(matches: Option<&ArgMatches<'a>>, code: &str) -> RuleFiles<'a> {
+fn rule_files<'a>(matches: Option<&ArgMatches<'a>>, rules: &str) -> RuleFiles<'a> {
     RuleFiles {
         model: word(matches, "MODEL"),
         delivery: word(matches, "DELIVERY"),
-        code: word(matches, code),
+        rules: word(matches, rules),
     }
 }
 
-/// The budget that is given, or the largest.
-fn budget_of(matches: Option<&ArgMatches<'_>>) -> u64 {
-    match matches {
-        Some(matches) => matches.get_one::<u64>("budget").unwrap_or(MOST_STEPS),
-        None => MOST_STEPS,
+/// How `judge` is to judge: the largest budget where none is given, and by a code file where not by a text.
+fn options(matches: Option<&ArgMatches<'_>>) -> JudgeOptions {
+    let Some(matches) = matches else {
+        return JudgeOptions {
+            form: RulesForm::Code,
+            budget: MOST_STEPS,
+        };
+    };
+    JudgeOptions {
+        form: if matches.get_flag("text") {
+            RulesForm::Text
+        } else {
+            RulesForm::Code
+        },
+        budget: matches.get_one::<u64>("budget").unwrap_or(MOST_STEPS),
     }
 }
 
@@ -116,10 +182,18 @@ pub(crate) fn read_words<'a>(alloc: Global, words: &'a [String]) -> Result<Asked
             code: word(verify, "CODE"),
         }));
     }
+    let compile = matches.subcommand_matches("compile");
+    if compile.is_some() {
+        return Ok(Asked::Compile(CompileFiles {
+            model: word(compile, "MODEL"),
+            rules: word(compile, "RULES"),
+            out: word(compile, "OUT"),
+        }));
+    }
     let bound = matches.subcommand_matches("bound");
     if bound.is_some() {
         return Ok(Asked::Bound(rule_files(bound, "CODE")));
     }
     let judge = matches.subcommand_matches("judge");
-    Ok(Asked::Judge(rule_files(judge, "RULES"), budget_of(judge)))
+    Ok(Asked::Judge(rule_files(judge, "RULES"), options(judge)))
 }

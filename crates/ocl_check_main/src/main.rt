@@ -2,11 +2,16 @@
 #![tactic(auto)]
 
 mod command_line;
+mod creating;
+mod help;
 mod opening;
 
 use clap::error::{Error, ErrorKind};
-use command_line::{Asked, RuleFiles, VerifyFiles, read_words};
-use ocl_check::{Cause, Outcome, Telling, run_bound, run_judge, run_verify};
+use command_line::{Asked, CompileFiles, RuleFiles, VerifyFiles, read_words};
+use creating::Creating;
+use ocl_check::{
+    Cause, JudgeOptions, Outcome, Telling, run_bound, run_compile, run_judge, run_verify,
+};
 use opening::Opening;
 use std::process::ExitCode;
 use std::{env, io};
@@ -19,7 +24,7 @@ fn ended(rt: &impl Eprint, outcome: Outcome) -> ExitCode {
     ExitCode::from(outcome.status())
 }
 
-/// Reports why the words are no command. Help is asked for in the same way, and has status 0.
+/// Reports why the words are no command. Help and the version are asked for in the same way, and have status 0.
 fn refused(rt: &HostRuntime, error: &Error) -> ExitCode {
     if error.kind() == ErrorKind::OutOfMemory {
         return ended(rt, Outcome::Failed(Cause::Memory));
@@ -31,13 +36,23 @@ fn refused(rt: &HostRuntime, error: &Error) -> ExitCode {
     ExitCode::from(if is_help { 0 } else { 2 })
 }
 
-fn judge(rt: &HostRuntime, files: RuleFiles<'_>, budget: u64) -> Outcome {
+fn judge(rt: &HostRuntime, files: RuleFiles<'_>, options: JudgeOptions) -> Outcome {
     run_judge(
         rt.alloc(),
-        budget,
+        options,
         &mut Opening::new(rt, files.model),
         &mut Opening::new(rt, files.delivery),
-        &mut Opening::new(rt, files.code),
+        &mut Opening::new(rt, files.rules),
+        &mut Telling::new(io::writer(rt)),
+    )
+}
+
+fn compile(rt: &HostRuntime, files: CompileFiles<'_>) -> Outcome {
+    run_compile(
+        rt.alloc(),
+        &mut Opening::new(rt, files.model),
+        &mut Opening::new(rt, files.rules),
+        &mut Telling::new(Creating::new(rt, files.out)),
         &mut Telling::new(io::writer(rt)),
     )
 }
@@ -47,7 +62,7 @@ fn bound(rt: &HostRuntime, files: RuleFiles<'_>) -> Outcome {
         rt.alloc(),
         &mut Opening::new(rt, files.model),
         &mut Opening::new(rt, files.delivery),
-        &mut Opening::new(rt, files.code),
+        &mut Opening::new(rt, files.rules),
         &mut Telling::new(io::writer(rt)),
     )
 }
@@ -76,7 +91,8 @@ fn main(rt: HostRuntime) -> ExitCode {
         return ended(&rt, Outcome::Failed(Cause::Memory));
     };
     match read_words(rt.alloc(), words.as_slice()) {
-        Ok(Asked::Judge(files, budget)) => ended(&rt, judge(&rt, files, budget)),
+        Ok(Asked::Judge(files, options)) => ended(&rt, judge(&rt, files, options)),
+        Ok(Asked::Compile(files)) => ended(&rt, compile(&rt, files)),
         Ok(Asked::Bound(files)) => ended(&rt, bound(&rt, files)),
         Ok(Asked::Verify(files)) => ended(&rt, verify(&rt, files)),
         Err(error) => refused(&rt, &error),

@@ -1,6 +1,8 @@
 //! The files that the tests judge, and how they are judged.
 
-use ocl_check::{MOST_STEPS, Outcome, Telling, run_bound, run_judge, run_verify};
+use ocl_check::{
+    JudgeOptions, MOST_STEPS, Outcome, RulesForm, Telling, run_bound, run_judge, run_verify,
+};
 use std::alloc::{AllocError, Global};
 
 /// Cables with a depth that may be absent.
@@ -24,7 +26,42 @@ pub const DEPTH: [u8; 75] =
 const HEAD: &[u8] =
     b"OCLB\x00\x01\x00\x02\x00\x01r\x00\x0eKabelOfLeiding\x00\x01\x01\x00\x01\x00\x01\x00\x00\x00\x00";
 
-/// What `judge` writes within a budget, and how it ends.
+/// Judging by a code file, within the largest budget.
+pub const BY_CODE: JudgeOptions = JudgeOptions {
+    form: RulesForm::Code,
+    budget: MOST_STEPS,
+};
+
+/// Judging by a rule text, within the largest budget.
+pub const BY_TEXT: JudgeOptions = JudgeOptions {
+    form: RulesForm::Text,
+    budget: MOST_STEPS,
+};
+
+/// What `judge` writes, and how it ends.
+pub fn judged_by(
+    alloc: Global,
+    options: JudgeOptions,
+    model: &str,
+    delivery: &str,
+    rules: &[u8],
+) -> (Outcome, Vec<u8>) {
+    let mut model = model.as_bytes();
+    let mut delivery = delivery.as_bytes();
+    let mut rules = rules;
+    let mut sink = Telling::new(Vec::new(alloc));
+    let outcome = run_judge(
+        alloc,
+        options,
+        &mut model,
+        &mut delivery,
+        &mut rules,
+        &mut sink,
+    );
+    (outcome, sink.into_inner())
+}
+
+/// What `judge` by a code file writes within a budget, and how it ends.
 fn judged_within(
     alloc: Global,
     budget: u64,
@@ -32,19 +69,8 @@ fn judged_within(
     delivery: &str,
     code: &[u8],
 ) -> (Outcome, Vec<u8>) {
-    let mut model = model.as_bytes();
-    let mut delivery = delivery.as_bytes();
-    let mut code = code;
-    let mut sink = Telling::new(Vec::new(alloc));
-    let outcome = run_judge(
-        alloc,
-        budget,
-        &mut model,
-        &mut delivery,
-        &mut code,
-        &mut sink,
-    );
-    (outcome, sink.into_inner())
+    let form = RulesForm::Code;
+    judged_by(alloc, JudgeOptions { form, budget }, model, delivery, code)
 }
 
 /// What `judge` writes within the largest budget, and how it ends.

@@ -1,9 +1,7 @@
 //! Readers that fail, never end, or give a byte at a time.
 
-use crate::files::{DEPTH, MODEL, NO_OBJECTS, NO_RULES};
-use ocl_check::{
-    Cause, InputFault, MOST_STEPS, Outcome, Telling, read_input, run_bound, run_judge,
-};
+use crate::files::{BY_CODE, DEPTH, MODEL, NO_OBJECTS, NO_RULES};
+use ocl_check::{Cause, InputFault, Outcome, Telling, read_input, run_bound, run_judge};
 use std::alloc::Global;
 use std::io;
 use std::io::{Error, ErrorKind, Read};
@@ -117,7 +115,7 @@ fn judged_with_failing(alloc: Global, which: usize) -> (Outcome, usize, usize) {
     let outcome = match which {
         0 => run_judge(
             alloc,
-            MOST_STEPS,
+            BY_CODE,
             &mut failing,
             &mut delivery,
             &mut code,
@@ -125,7 +123,7 @@ fn judged_with_failing(alloc: Global, which: usize) -> (Outcome, usize, usize) {
         ),
         1 => run_judge(
             alloc,
-            MOST_STEPS,
+            BY_CODE,
             &mut model,
             &mut failing,
             &mut code,
@@ -133,7 +131,7 @@ fn judged_with_failing(alloc: Global, which: usize) -> (Outcome, usize, usize) {
         ),
         _ => run_judge(
             alloc,
-            MOST_STEPS,
+            BY_CODE,
             &mut model,
             &mut delivery,
             &mut failing,
@@ -164,7 +162,7 @@ fn a_failed_read_comes_before_a_refusal(rt: HostRuntime) {
     let mut sink = Telling::new(Vec::new(rt.alloc()));
     let outcome = run_judge(
         rt.alloc(),
-        MOST_STEPS,
+        BY_CODE,
         &mut b"{}".as_slice(),
         &mut failing,
         &mut NO_RULES.as_slice(),

@@ -6,6 +6,8 @@ mod bound;
 #[cfg(test)]
 mod budget;
 #[cfg(test)]
+mod compiling;
+#[cfg(test)]
 mod files;
 #[cfg(test)]
 mod inputs;
@@ -17,5 +19,9 @@ mod links;
 mod nested;
 #[cfg(test)]
 mod outputs;
+#[cfg(test)]
+mod text_rows;
+#[cfg(test)]
+mod texts;
 #[cfg(test)]
 mod verify;

@@ -1,7 +1,7 @@
 //! Writers that fail, and how an outcome is reported.
 
-use crate::files::{DEPTH, MODEL, NO_OBJECTS};
-use ocl_check::{Cause, MOST_STEPS, Outcome, Telling, run_bound, run_judge};
+use crate::files::{BY_CODE, DEPTH, MODEL, NO_OBJECTS};
+use ocl_check::{Cause, Outcome, Telling, run_bound, run_judge};
 use std::alloc::Global;
 use std::io;
 use std::io::{Error, ErrorKind, Write};
@@ -13,11 +13,28 @@ const REPORT: &str =
 
 /// A writer that takes a few bytes, and then fails or takes nothing; its flush may fail.
 #[derive(Drop)]
-struct Narrow {
+pub struct Narrow {
     taken: Vec<u8>,
     left: usize,
     is_silent: bool,
     flushes: bool,
+}
+
+impl Narrow {
+    /// Takes so many bytes, and then fails; its flush doesn't.
+    pub fn new(alloc: Global, left: usize) -> Narrow {
+        Narrow {
+            taken: Vec::new(alloc),
+            left,
+            is_silent: false,
+            flushes: true,
+        }
+    }
+
+    /// How many bytes it took.
+    pub fn taken(&self) -> usize {
+        self.taken.len()
+    }
 }
 
 impl Write for Narrow {
@@ -55,7 +72,7 @@ fn judged_into(alloc: Global, left: usize, is_silent: bool, flushes: bool) -> (O
     });
     let outcome = run_judge(
         alloc,
-        MOST_STEPS,
+        BY_CODE,
         &mut model,
         &mut delivery,
         &mut code,

@@ -3,12 +3,14 @@ use Rattle.std.proofs.Common.{◌≡◌, ℕ, zero, suc, ◌<◌, List, [], ◌�
 use Rattle.std.specs.Prelude.{slice_get, unwrap_or}
 use Rattle.std.specs.Option.{option_map}
 use Rattle.std.specs.List.{AllByRecursion}
+use Rattle.std.proofs.lemmas.List.{length-map}
 use Rattle.std.proofs.lemmas.Option.{slice_get-map, slice_get_within, get_or_from_slice_get}
 use Rattle.imkl_model.specs.ClassModel.{Model}
+use Rattle.imkl_model.specs.WellFormed.{IsClassModel}
 use Rattle.imkl_population.specs.Population.{Population, IsInstance}
 use Rattle.ocl_types.specs.Core.{CheckedRule}
 use Rattle.ocl_types.specs.Typing.{IsTypedRule}
-use Rattle.rule_code.specs.Content.{Content, RuleContent}
+use Rattle.rule_code.specs.Content.{Content, RuleContent, text_at}
 use Rattle.rule_verify.specs.CodeTree.{CodeTree, End, code_tree}
 use Rattle.rule_verify.specs.UnitRules.{unit_rule, empty_rule, context_class, IsAcceptedUnit}
 use Rattle.rule_machine.specs.Value.{object_value}
@@ -19,7 +21,7 @@ use Rattle.ocl_compile.specs.Meaning.{meaning, meant_verdict}
 use Rattle.ocl_compile.specs.Numbering.{Numbering, rule_uses, rules_uses, numbering_of}
 use Rattle.ocl_compile.specs.Translation.{rule_tree, translate_rule, translate_rules}
 use Rattle.ocl_compile.specs.Compiling.{first_passed}
-use Rattle.ocl_compile.specs.CompileLaws.{IsCompiledRun, CompiledIsAccepted, RunsEndWithMeaning, VerdictsAreMeant}
+use Rattle.ocl_compile.specs.CompileLaws.{KeepsRules, CompiledKeepsRules, IsCompiledRun, CompiledIsAccepted, RunsEndWithMeaning, VerdictsAreMeant}
 use Rattle.ocl_compile.proofs.Resolved.{AreResolved, of_first, of_rest}
 use Rattle.ocl_compile.proofs.Resolving.{rules_resolved}
 use Rattle.ocl_compile.proofs.Compiled.{tree_reached}
@@ -43,7 +45,39 @@ resolved_at m u k (x ∷ rs) zero r h e =
     subst (λ (y : CheckedRule). AreResolved m u k (rule_uses m y)) same (of_first m u k (rule_uses m x) (rules_uses m rs) h)
 resolved_at m u k (x ∷ rs) (suc n) r h e = resolved_at m u k rs n r (of_rest m u k (rule_uses m x) (rules_uses m rs) h) e
 
--- a rule of the unit of rules
+-- the rule in a place of the unit of rules
+module _ (m : Model) (model : IsClassModel m) (rs : List CheckedRule) (typed : AllByRecursion (IsTypedRule m) rs) (n : ℕ) (r : CheckedRule) (at : slice_get rs n ≡ Some r) where
+  abbrev code : RuleContent
+  code = translate_rule m (numbering_of m rs) r
+
+  code_at : slice_get (translate_rules m rs).rules n ≡ Some code
+  code_at = slice_get-map (translate_rule m (numbering_of m rs)) rs n ∙ ap (option_map (translate_rule m (numbering_of m rs))) at
+
+  rule_is : unit_rule (translate_rules m rs) n ≡ code
+  rule_is = get_or_from_slice_get (translate_rules m rs).rules n code empty_rule code_at
+
+  inside : n < length (translate_rules m rs).rules
+  inside = slice_get_within (translate_rules m rs).rules n code code_at
+
+  resolved : AreResolved m (translate_rules m rs) (numbering_of m rs) (rule_uses m r)
+  resolved = resolved_at m (translate_rules m rs) (numbering_of m rs) rs n r (rules_resolved m model rs typed) at
+
+  name_kept : text_at (translate_rules m rs).texts (unit_rule (translate_rules m rs) n).name ≡ r.name
+  name_kept = ap (λ (x : RuleContent). text_at (translate_rules m rs).texts x.name) rule_is ∙ resolved.0
+
+  context_kept : context_class m (translate_rules m rs) (unit_rule (translate_rules m rs) n) ≡ Some r.context
+  context_kept = ap (context_class m (translate_rules m rs)) rule_is ∙ context_is m (translate_rules m rs) (numbering_of m rs) r resolved
+
+  tree_is : tree_of_rule (translate_rules m rs) n ≡ rule_tree m (numbering_of m rs) r
+  tree_is = ap (λ (x : RuleContent). code_tree x.code) rule_is ∙ rule_code_is m (numbering_of m rs) r
+
+pub compiled_keeps_rules : CompiledKeepsRules
+compiled_keeps_rules m rs u model typed compiled =
+    let c = compiled_is (first_passed m rs [] rs) (translate_rules m rs) u compiled in
+    subst (KeepsRules m rs) (sym c.1)
+    (record { count = length-map rs (translate_rule m (numbering_of m rs)); names = name_kept m model rs typed; contexts = context_kept m model rs typed })
+
+-- its runs
 module _ (rs : List CheckedRule) (p : Population) (n o : ℕ) (r : CheckedRule) (h : IsCompiledRun rs (translate_rules p.model rs) p n r o) (none : first_passed p.model rs [] rs ≡ None) where
   abbrev m : Model
   m = p.model
@@ -54,30 +88,18 @@ module _ (rs : List CheckedRule) (p : Population) (n o : ℕ) (r : CheckedRule) 
   abbrev numbers : Numbering
   numbers = numbering_of p.model rs
 
-  rule_is : unit_rule u n ≡ translate_rule m numbers r
-  rule_is = get_or_from_slice_get u.rules n (translate_rule m numbers r) empty_rule (slice_get-map (translate_rule m numbers) rs n ∙ ap (option_map (translate_rule m numbers)) h.rule)
-
-  inside : n < length u.rules
-  inside = slice_get_within u.rules n (translate_rule m numbers r) (slice_get-map (translate_rule m numbers) rs n ∙ ap (option_map (translate_rule m numbers)) h.rule)
-
-  resolved : AreResolved m u numbers (rule_uses m r)
-  resolved = resolved_at m u numbers rs n r (rules_resolved m h.model rs h.typed) h.rule
-
   context : (setting_of u p n).context ≡ r.context
-  context = ap (λ (x : RuleContent). unwrap_or (context_class m u x) 0) rule_is ∙ ap (λ (c : Option ℕ). unwrap_or c 0) (context_is m u numbers r resolved)
-
-  tree_is : tree_of_rule u n ≡ rule_tree m numbers r
-  tree_is = ap (λ (x : RuleContent). code_tree x.code) rule_is ∙ rule_code_is m numbers r
+  context = ap (λ (c : Option ℕ). unwrap_or c 0) (context_kept m h.model rs h.typed n r h.rule)
 
   accepted_run : IsAcceptedRun u p n o
   accepted_run =
-      record { model = h.model; population = h.population; unit = h.unit; accepted = unit_accepted m h.model rs h.typed none; rule = inside; object = subst (λ (c : ℕ). IsInstance p c o) (sym context) h.object }
+      record { model = h.model; population = h.population; unit = h.unit; accepted = unit_accepted m h.model rs h.typed none; rule = inside m h.model rs h.typed n r h.rule; object = subst (λ (c : ℕ). IsInstance p c o) (sym context) h.object }
 
   pub ends_with_meaning : (k : ℕ) × (run (setting_of u p n) k (start (tree_of_rule u n) o) ≡ Some (configuration [] (object_value o ∷ []) (meaning p r.tree (object_value o ∷ []) ∷ [])))
   ends_with_meaning =
       let typed = typed_at m rs n r h.typed h.rule in
-      tree_reached (setting_of u p n) (start (tree_of_rule u n) o) (λ k c reached final. let d = goes_on u p n o k c accepted_run reached final in (d.0, d.1)) numbers r.tree _ typed.1.0 typed.1.1 resolved.1.1 End [] (object_value o ∷ []) []
-      (0, ap (λ (t : CodeTree). Some (start t o)) tree_is)
+      tree_reached (setting_of u p n) (start (tree_of_rule u n) o) (λ k c reached final. let d = goes_on u p n o k c accepted_run reached final in (d.0, d.1)) numbers r.tree _ typed.1.0 typed.1.1 (resolved m h.model rs h.typed n r h.rule).1.1 End [] (object_value o ∷ []) []
+      (0, ap (λ (t : CodeTree). Some (start t o)) (tree_is m h.model rs h.typed n r h.rule))
 
   pub verdict_is_meant : verdict_at u p n o ≡ Some (meant_verdict p r o)
   verdict_is_meant =

@@ -20,3 +20,4 @@ pub mod Keys
 pub mod Numbered
 pub mod RulesNumbered
 pub mod UnitMade
+pub mod ForAbove

@@ -1,5 +1,5 @@
 -- What holds of compiled rules: they are accepted, and their runs end with what the rules mean.
-use Rattle.std.specs.Prelude.{◌≡◌, ℕ, List, [], ◌∷◌, map, false, Some, Ok, slice_get, bytes_eq}
+use Rattle.std.specs.Prelude.{◌≡◌, ℕ, List, [], ◌∷◌, length, map, false, Some, Ok, slice_get, bytes_eq}
 use Rattle.std.specs.List.{AllByRecursion}
 use Rattle.ocl_base.specs.Lists.{repeats}
 use Rattle.imkl_model.specs.ClassModel.{Model}
@@ -8,9 +8,9 @@ use Rattle.imkl_population.specs.Population.{Population, IsInstance}
 use Rattle.imkl_population.specs.Consistency.{IsConsistent}
 use Rattle.ocl_types.specs.Core.{CheckedRule}
 use Rattle.ocl_types.specs.Typing.{IsTypedRule}
-use Rattle.rule_code.specs.Content.{Content}
+use Rattle.rule_code.specs.Content.{Content, text_at}
 use Rattle.rule_code.specs.WellFormed.{IsUnit}
-use Rattle.rule_verify.specs.UnitRules.{IsAcceptedUnit}
+use Rattle.rule_verify.specs.UnitRules.{unit_rule, context_class, IsAcceptedUnit}
 use Rattle.rule_machine.specs.Value.{object_value}
 use Rattle.rule_machine.specs.Machine.{setting_of, configuration, run, start}
 use Rattle.rule_machine.specs.Laws.{tree_of_rule, verdict_at}
@@ -29,6 +29,19 @@ CompiledIsAccepted =
     (m : Model) (rs : List CheckedRule) (u : Content)
     → IsClassModel m → AreTypedRules m rs → compile_of m rs ≡ Ok u
     → IsAcceptedUnit m u
+
+-- the unit has as many rules, and each has the name and the context class of the one in its place
+pub record KeepsRules (m : Model) (rs : List CheckedRule) (u : Content) : Type 0 where
+  pub count : length u.rules ≡ length rs
+  pub names : (n : ℕ) (r : CheckedRule) → slice_get rs n ≡ Some r → text_at u.texts (unit_rule u n).name ≡ r.name
+  pub contexts : (n : ℕ) (r : CheckedRule) → slice_get rs n ≡ Some r → context_class m u (unit_rule u n) ≡ Some r.context
+
+-- compiled rules keep their order, their names and their context classes
+abbrev pub CompiledKeepsRules : Type 0
+CompiledKeepsRules =
+    (m : Model) (rs : List CheckedRule) (u : Content)
+    → IsClassModel m → AreTypedRules m rs → compile_of m rs ≡ Ok u
+    → KeepsRules m rs u
 
 -- a rule of a unit that is compiled from typed rules, a consistent population of its class model, and an object of the rule's
 -- context class

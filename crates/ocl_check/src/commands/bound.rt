@@ -6,7 +6,8 @@ ghost use Rattle.ocl_check.specs.Answers.{IsAnswered, KeepsSink, ReadBy, fails_w
 ghost use Rattle.ocl_check.specs.Bound.{bound_line_of, bound_lines, bound_answer};
 ghost use Rattle.ocl_check.specs.Reply.{said};
 
-use crate::commands::asking::{Question, ask};
+use crate::commands::asking::ask;
+use crate::commands::rules::{Asked, Question};
 use crate::outcome::Outcome;
 use crate::reply::Reply;
 use imkl_population::Sizes;
@@ -69,5 +70,12 @@ pub fn run_bound<M: Read, D: Read, C: Read, S: Sink>(
     ensures delivery_waits { IsAtEnd (M.remaining model.new) ⊎ (delivery.new ≡ delivery.old) }
     ensures code_waits { IsAtEnd (D.remaining delivery.new) ⊎ (code.new ≡ code.old) }
 {
-    ask(alloc, Question::Bounds, model, delivery, code, sink)
+    ask(
+        alloc,
+        Asked::Code(Question::Bounds),
+        model,
+        delivery,
+        code,
+        sink,
+    )
 }

@@ -4,11 +4,14 @@ ghost use Rattle.std.specs.Prelude.{◌≡◌, ◌⊎◌, ◌+◌, false};
 ghost use Rattle.std.specs.Io.KnownBytes.{IsAtEnd};
 ghost use Rattle.imkl_population.specs.Sizes.{sizes_of};
 ghost use Rattle.rule_cost.specs.Admission.{Fits};
-ghost use Rattle.ocl_check.specs.Answers.{IsAnswered, KeepsSink, ReadBy, fails_write};
+ghost use Rattle.ocl_check.specs.Answers.{IsAnsweredBy, KeepsSink, ReadBy, fails_write};
 ghost use Rattle.ocl_check.specs.Ending.{IsEnding};
-ghost use Rattle.ocl_check.specs.Judge.{status_of, report_answer, budget_answer, judge_answer};
+ghost use Rattle.ocl_check.specs.Judge.{status_of, report_answer, budget_answer};
+ghost use Rattle.ocl_check.specs.JudgeText.{JudgeAnswers};
+ghost use Rattle.ocl_check.specs.Asking.{asked_by};
 
-use crate::commands::asking::{Question, ask};
+use crate::commands::asking::ask;
+use crate::commands::rules::{Asked, Question};
 use crate::outcome::{Cause, Outcome, answer};
 use crate::reply::refused_cost;
 use imkl_population::{Population, Sizes};
@@ -74,34 +77,59 @@ pub(crate) fn judge_within<S: Sink>(
     }
 }
 
-/// Judges a delivery: reads the class model, the delivery and the code file, each whole, and then
+/// In what form rules come.
+#[derive(Clone, Copy, Debug, PartialEq, Eq)]
+pub enum RulesForm {
+    /// A code file.
+    Code,
+    /// A rule text.
+    Text,
+}
+
+/// How a delivery is judged.
+#[derive(Clone, Copy, Debug, PartialEq, Eq)]
+pub struct JudgeOptions {
+    /// In what form the rules come.
+    pub form: RulesForm,
+    /// The most steps that a rule may be able to make for an object: see `MOST_STEPS`.
+    pub budget: u64,
+}
+
+impl JudgeOptions {
+    /// What is asked.
+    fn asked(self) -> Asked
+        ensures { result ≡ asked_by self.form self.budget }
+    {
+        let budget = self.budget;
+        match self.form {
+            RulesForm::Code => Asked::Code(Question::Report { budget }),
+            RulesForm::Text => Asked::Text { budget },
+        }
+    }
+}
+
+/// Judges a delivery: reads the class model, the delivery and the rules, each whole, and then
 /// writes the report, or one line on the first of them that is refused, last on the first rule whose
-/// bound is 2^63 or more or above the budget of steps. An input is untouched until the one before it
-/// has ended, and where memory or a read fails the sink is as it was.
-pub fn run_judge<M: Read, D: Read, C: Read, S: Sink>(
+/// bound is 2^63 or more or above the budget of steps. Rules of a text are judged by what they mean.
+/// An input is untouched until the one before it has ended, and where memory or a read fails the
+/// sink is as it was.
+pub fn run_judge<M: Read, D: Read, R: Read, S: Sink>(
     alloc: Global,
-    budget: u64,
+    options: JudgeOptions,
     model: &mut M,
     delivery: &mut D,
-    code: &mut C,
+    rules: &mut R,
     sink: &mut S,
 ) -> Outcome
     requires { S.has_failed sink.old ≡ false }
     ensures answered { ReadBy result (M.remaining model.old) (λ xs.
-        ReadBy result (D.remaining delivery.old) (λ ys. ReadBy result (C.remaining code.old) (λ zs.
-        IsAnswered (judge_answer budget xs ys zs) (S.contents sink.old) (S.contents sink.new)
+        ReadBy result (D.remaining delivery.old) (λ ys. ReadBy result (R.remaining rules.old) (λ zs.
+        IsAnsweredBy (JudgeAnswers options xs ys zs) (S.contents sink.old) (S.contents sink.new)
         result))) }
     ensures sink { S.has_failed sink.new ≡ fails_write result }
     ensures kept { KeepsSink result sink.old sink.new }
     ensures delivery_waits { IsAtEnd (M.remaining model.new) ⊎ (delivery.new ≡ delivery.old) }
-    ensures code_waits { IsAtEnd (D.remaining delivery.new) ⊎ (code.new ≡ code.old) }
+    ensures rules_wait { IsAtEnd (D.remaining delivery.new) ⊎ (rules.new ≡ rules.old) }
 {
-    ask(
-        alloc,
-        Question::Report { budget },
-        model,
-        delivery,
-        code,
-        sink,
-    )
+    ask(alloc, options.asked(), model, delivery, rules, sink)
 }

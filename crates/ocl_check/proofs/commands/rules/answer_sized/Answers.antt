@@ -3,7 +3,7 @@ use Rattle.ocl_check.specs.Asking.{answer_to}
 use Rattle.ocl_check.specs.Bound.{bound_lines, bounds_answer}
 use Rattle.ocl_check.proofs.Endings.{ending_as}
 use Rattle.ocl_check.proofs.Described.{said_as}
-use Rattle.ocl_check.proofs.commands.asking.answer_sized.Goals as goal
+use Rattle.ocl_check.proofs.commands.rules.answer_sized.Goals as goal
 
 pub returns-in-Bounds : goal.returns-in-Bounds
 returns-in-Bounds g c =

@@ -1,10 +1,10 @@
 use Rattle.std.proofs.Common.{rules, Ok}
 use Rattle.rule_code.specs.View.{content}
 use Rattle.ocl_check.specs.Asking.{answer_to}
-use Rattle.ocl_check.specs.ThreeInputs.{code_answer}
+use Rattle.ocl_check.specs.CodeRules.{code_answer}
 use Rattle.ocl_check.proofs.Endings.{ending_as}
 use Rattle.ocl_check.proofs.Accepting.{accepted_is}
-use Rattle.ocl_check.proofs.commands.asking.answer_unit.Goals as goal
+use Rattle.ocl_check.proofs.commands.rules.answer_unit.Goals as goal
 
 pub returns-in-Ok : goal.returns-in-Ok
 returns-in-Ok g c =

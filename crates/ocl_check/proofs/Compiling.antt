@@ -1,0 +1,53 @@
+-- What compiling came to, and what is written of it.
+use Rattle.std.proofs.Common.{◌≡◌, ℕ, List, length, take, Option, Some, None, Result, Ok, Err, IfOk, refl, sym, ap, ◌∙◌, subst}
+use Rattle.std.specs.Io.KnownBytes.{Appends}
+use Rattle.std.proofs.Math.Seq.{take-length}
+use Rattle.std.proofs.KnownBytes.{Appends-nil}
+use Rattle.imkl_model.specs.ClassModel.{Model}
+use Rattle.rule_code.specs.Content.{Content}
+use Rattle.ocl_check.specs.declared.reply.Reply as reply
+use Rattle.ocl_check.specs.declared.outcome.Cause.{Cause}
+use Rattle.ocl_check.specs.declared.outcome.Outcome.TheVariants.{Failed}
+use Rattle.ocl_check.specs.declared.commands.compile.Compiled.{Compiled}
+use Rattle.ocl_check.specs.declared.commands.compile.Compiled.TheVariants as compiled
+use Rattle.ocl_check.specs.Reply.{Answer, said}
+use Rattle.ocl_check.specs.RuleText.{TextReading, ReadsAs}
+use Rattle.ocl_check.specs.TextRules.{compiled_rules}
+use Rattle.ocl_check.specs.Compile.{CompileAnswer, nothing_compiled, compiled_code, compiled_answer, compile_answer, IsCodeWritten}
+use Rattle.ocl_check.specs.TextParts.{IsUnitOf, compiled_seen, IsRefusalOf}
+
+-- one answer for another that is equal
+pub seen_as : {E : Type 0} (result : Result Compiled E) (a b : CompileAnswer) → a ≡ b → IfOk result (λ c. compiled_seen c ≡ a) → IfOk result (λ c. compiled_seen c ≡ b)
+seen_as (Ok c) a b same h = h ∙ same
+seen_as (Err e) a b same h = tt
+
+-- the code of a text's unit is what is answered of it
+pub unit_seen : {E : Type 0} (result : Result Compiled E) (m : Model) (t : TextReading) (u : Content) → IsUnitOf m t u → IfOk result (λ c. compiled_seen c ≡ compiled_code u) → IfOk result (λ c. compiled_seen c ≡ compiled_answer (compiled_rules m t))
+unit_seen result m t u unit h = seen_as result (compiled_code u) (compiled_answer (compiled_rules m t)) (sym (ap compiled_answer unit.1)) h
+
+-- a reply that says what is answered of a refused input
+pub refusal_seen : {E : Type 0} (made : Result reply.Reply E) (result : Result Compiled E) (answer : CompileAnswer) → IfOk made (λ r. nothing_compiled (said r) ≡ answer) → IsRefusalOf made result → IfOk result (λ c. compiled_seen c ≡ answer)
+refusal_seen (Ok r) result answer h is = subst (λ (x : Result Compiled _). IfOk x (λ c. compiled_seen c ≡ answer)) (sym is) h
+refusal_seen (Err e) result answer h is = subst (λ (x : Result Compiled _). IfOk x (λ c. compiled_seen c ≡ answer)) (sym is) tt
+
+-- the same where the answer says what rules out a case
+pub refusal_unless : {E : Type 0} (made : Result reply.Reply E) (C : Type 0) (a : Answer) (b : CompileAnswer) → ((C → ⊥) → nothing_compiled a ≡ b)
+    → IfOk made (λ r. said r ≡ a) → IfOk made (λ r. C → ⊥) → IfOk made (λ r. nothing_compiled (said r) ≡ b)
+refusal_unless (Ok r) C a b same h other = ap nothing_compiled h ∙ same other
+refusal_unless (Err e) C a b same h other = tt
+
+-- equal inputs are compiled alike
+pub compiled_alike : (c : Compiled) (model rules model' rules' : List ℕ) → model ≡ model' → rules ≡ rules' → ((t : TextReading) × ReadsAs rules t × (compiled_seen c ≡ compile_answer model t))
+    → (t : TextReading) × ReadsAs rules' t × (compiled_seen c ≡ compile_answer model' t)
+compiled_alike c model rules model' rules' m r h =
+    subst (λ (x : List ℕ). (t : TextReading) × ReadsAs x t × (compiled_seen c ≡ compile_answer model' t)) r
+    (subst (λ (x : List ℕ). (t : TextReading) × ReadsAs rules t × (compiled_seen c ≡ compile_answer x t)) m h)
+
+-- nothing is written where a command failed before it began
+pub nothing_written : {S : Type 0} (contents : S → Option (List ℕ)) (code : Option (List ℕ)) (s : S) (cause : Cause) → IsCodeWritten contents code s s (Failed cause)
+nothing_written contents None s cause = refl
+nothing_written contents (Some code) s cause = (0, Appends-nil (contents s))
+
+-- bytes that were written whole are a prefix of themselves
+pub whole_is_prefix : (old new : Option (List ℕ)) (bytes : List ℕ) → Appends old new bytes → Appends old new (take (length bytes) bytes)
+whole_is_prefix old new bytes h = subst (Appends old new) (sym (take-length bytes)) h

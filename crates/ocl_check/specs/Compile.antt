@@ -1,0 +1,42 @@
+-- What the command `compile` answers.
+use Rattle.std.specs.Prelude.{◌≡◌, ℕ, List, length, take, Option, Some, None, Result, Ok, Err}
+use Rattle.std.specs.Io.KnownBytes.{Appends}
+use Rattle.imkl_model.specs.declared.fault.ModelFault.{ModelFault}
+use Rattle.imkl_model.specs.ClassModel.{Model}
+use Rattle.rule_code.specs.Content.{Content}
+use Rattle.rule_code.specs.Spelling.{spelling}
+use Rattle.ocl_check.specs.declared.outcome.Outcome.{Outcome}
+use Rattle.ocl_check.specs.declared.outcome.Outcome.TheVariants.{Status, Failed}
+use Rattle.ocl_check.specs.ThreeInputs.{model_of}
+use Rattle.ocl_check.specs.Reply.{Answer, refused_model, refused_rules, compiled_reply}
+use Rattle.ocl_check.specs.RuleText.{TextReading}
+use Rattle.ocl_check.specs.TextRules.{CompiledRules, TextRefusal, compiled_rules}
+
+-- the code file, unless an input is refused, and what is printed
+pub record CompileAnswer : Type 0 where
+  pub code : Option (List ℕ)
+  pub said : Answer
+
+abbrev pub nothing_compiled : Answer → CompileAnswer
+nothing_compiled answer = record { code = None; said = answer }
+
+abbrev pub compiled_code : Content → CompileAnswer
+compiled_code u = record { code = Some (spelling u); said = compiled_reply (length u.rules) }
+
+abbrev pub compiled_answer : Result CompiledRules TextRefusal → CompileAnswer
+compiled_answer (Err refusal) = nothing_compiled (refused_rules refusal)
+compiled_answer (Ok c) = compiled_code c.unit
+
+abbrev pub compile_model_answer : Result Model ModelFault → TextReading → CompileAnswer
+compile_model_answer (Err e) t = nothing_compiled (refused_model e)
+compile_model_answer (Ok m) t = compiled_answer (compiled_rules m t)
+
+-- what `compile` answers of the bytes of a class model and what a rule text is read as
+abbrev pub compile_answer : List ℕ → TextReading → CompileAnswer
+compile_answer model t = compile_model_answer (model_of model) t
+
+-- what was written of a code file: all of it, or a prefix where the command failed; nothing was touched where there is none
+abbrev pub IsCodeWritten : {S : Type 0} → (S → Option (List ℕ)) → Option (List ℕ) → S → S → Outcome → Type 0
+IsCodeWritten contents None old new outcome = new ≡ old
+IsCodeWritten contents (Some code) old new (Status s) = Appends (contents old) (contents new) code
+IsCodeWritten contents (Some code) old new (Failed cause) = (n : ℕ) × Appends (contents old) (contents new) (take n code)

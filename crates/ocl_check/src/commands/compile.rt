@@ -1,0 +1,155 @@
+//! The command `compile`.
+
+ghost use Rattle.std.specs.Prelude.{◌≡◌, ◌≢◌, ◌⊎◌, ◌||◌, true, false, IfOk, IfErr};
+ghost use Rattle.std.specs.Io.KnownBytes.{IsAtEnd};
+ghost use Rattle.rule_code.specs.View.{content};
+ghost use Rattle.ocl_check.specs.declared.outcome.Cause.TheVariants.{Write};
+ghost use Rattle.ocl_check.specs.Answers.{IsAnswered, KeepsSink, ReadBy, ReadWithin, fails_write};
+ghost use Rattle.ocl_check.specs.Compile.{compiled_code, compiled_answer, compile_answer, IsCodeWritten};
+ghost use Rattle.ocl_check.specs.Reply.{said};
+ghost use Rattle.ocl_check.specs.RuleText.{TextReading, ReadsAs};
+ghost use Rattle.ocl_check.specs.TextParts.{compiled_seen, IsRefusalOf};
+ghost use Rattle.ocl_check.specs.TextRules.{compiled_rules};
+
+use crate::input::{MOST_BYTES, read_input};
+use crate::laws::each_text_is_read;
+use crate::outcome::{Cause, Outcome, say};
+use crate::reply::{Reply, compiled_reply, refused_model, refused_text};
+use crate::text_rules::compile_text;
+use imkl_model::ClassModel;
+use rule_code::{Unit, write_unit};
+use rule_machine::OutOfMemory;
+use rule_report::{Sink, write_and_flush};
+use std::alloc::Global;
+use std::io::Read;
+
+/// What compiling came to.
+#[derive(Drop)]
+pub(crate) enum Compiled {
+    /// The bytes of a code file, and the reply.
+    Code(Vec<u8>, Reply),
+    /// The reply to an input that is refused.
+    Refused(Reply),
+}
+
+/// What compiling came to where an input is refused, if there was memory to say so.
+fn refused(reply: Result<Reply, OutOfMemory>) -> Result<Compiled, OutOfMemory>
+    ensures { IsRefusalOf reply result }
+{
+    match reply {
+        Ok(reply) => Ok(Compiled::Refused(reply)),
+        Err(OutOfMemory) => Err(OutOfMemory),
+    }
+}
+
+/// The code file of a unit, and the reply.
+fn compiled_unit(alloc: Global, unit: &Unit) -> Result<Compiled, OutOfMemory>
+    ensures { IfOk result (λ c. compiled_seen c ≡ compiled_code (content unit.now)) }
+{
+    let Ok(code) = write_unit(alloc, unit) else {
+        return Err(OutOfMemory);
+    };
+    let reply = compiled_reply(alloc, unit.rules.len())?;
+    Ok(Compiled::Code(code, reply))
+}
+
+/// Compiles a rule text for a class model.
+fn compile_rule_text(
+    alloc: Global,
+    model: &ClassModel,
+    text: &[u8],
+) -> Result<Compiled, OutOfMemory>
+    ensures { (t : TextReading) × ReadsAs text.now t ×
+        IfOk result (λ c. compiled_seen c ≡ compiled_answer (compiled_rules model.now t)) }
+{
+    match compile_text(alloc, model, text) {
+        Ok(unit) => compiled_unit(alloc, &unit),
+        Err(fault) => refused(refused_text(alloc, fault)),
+    }
+}
+
+/// Compiles a rule text for a class model that is read first.
+fn compile_inputs(alloc: Global, model: &[u8], text: &[u8]) -> Result<Compiled, OutOfMemory>
+    ensures { (t : TextReading) × ReadsAs text.now t ×
+        IfOk result (λ c. compiled_seen c ≡ compile_answer model.now t) }
+{
+    each_text_is_read();
+    match ClassModel::read(alloc, model) {
+        Ok(model) => compile_rule_text(alloc, &model, text),
+        Err(fault) => refused(refused_model(alloc, &fault)),
+    }
+}
+
+/// Compiles two inputs, each read whole before the first is judged.
+fn compile_readers<M: Read, R: Read>(
+    alloc: Global,
+    model: &mut M,
+    rules: &mut R,
+) -> Result<Compiled, Cause>
+    ensures compiled { IfOk result (λ c. ReadWithin (M.remaining model.old) (λ xs.
+        ReadWithin (R.remaining rules.old) (λ ys.
+        (t : TextReading) × ReadsAs ys t × (compiled_seen c ≡ compile_answer xs t)))) }
+    ensures cause { IfErr result (λ c. c ≢ Write) }
+    ensures rules_wait { IsAtEnd (M.remaining model.new) ⊎ (rules.new ≡ rules.old) }
+{
+    let model = read_input(alloc, model, MOST_BYTES)?;
+    let rules = read_input(alloc, rules, MOST_BYTES)?;
+    Ok(compile_inputs(alloc, &model, &rules)?)
+}
+
+/// Writes a code file, and only then the reply.
+fn write_compiled<O: Sink, S: Sink>(
+    code: &[u8],
+    reply: &Reply,
+    out: &mut O,
+    sink: &mut S,
+) -> Outcome
+    requires out_well { O.has_failed out.old ≡ false }
+    requires well { S.has_failed sink.old ≡ false }
+    ensures code { IsCodeWritten O.contents (Some code.now) out.old out.new result }
+    ensures said { IsAnswered (said reply.now) (S.contents sink.old) (S.contents sink.new) result }
+    ensures sinks { (O.has_failed out.new || S.has_failed sink.new) ≡ fails_write result }
+    ensures code_first { O.has_failed out.new ≡ true → sink.new ≡ sink.old }
+    ensures written { KeepsSink result out.old out.new }
+    ensures kept { KeepsSink result sink.old sink.new }
+{
+    let Ok(()) = write_and_flush(out, code) else {
+        return Outcome::Failed(Cause::Write);
+    };
+    match write_and_flush(sink, reply.text.as_bytes()) {
+        Ok(()) => Outcome::Status(reply.status),
+        Err(_failed) => Outcome::Failed(Cause::Write),
+    }
+}
+
+/// Compiles a rule text: reads the class model and the text, each whole, and then writes the code
+/// file, and after it how many rules there are; or one line on the first of them that is refused,
+/// and then `out` is untouched. Where `out` can't be written, nothing is printed. The text is
+/// untouched until the class model has ended, and where memory or a read fails both sinks are as
+/// they were.
+pub fn run_compile<M: Read, R: Read, O: Sink, S: Sink>(
+    alloc: Global,
+    model: &mut M,
+    rules: &mut R,
+    out: &mut O,
+    sink: &mut S,
+) -> Outcome
+    requires out_well { O.has_failed out.old ≡ false }
+    requires well { S.has_failed sink.old ≡ false }
+    ensures answered { ReadBy result (M.remaining model.old) (λ xs.
+        ReadBy result (R.remaining rules.old) (λ ys. (t : TextReading) × ReadsAs ys t
+        × IsCodeWritten O.contents (compile_answer xs t).code out.old out.new result
+        × IsAnswered (compile_answer xs t).said (S.contents sink.old) (S.contents sink.new) result)) }
+    ensures sinks { (O.has_failed out.new || S.has_failed sink.new) ≡ fails_write result }
+    ensures code_first { O.has_failed out.new ≡ true → sink.new ≡ sink.old }
+    ensures kept_code { KeepsSink result out.old out.new }
+    ensures kept { KeepsSink result sink.old sink.new }
+    ensures rules_wait { IsAtEnd (M.remaining model.new) ⊎ (rules.new ≡ rules.old) }
+{
+    each_text_is_read();
+    match compile_readers(alloc, model, rules) {
+        Ok(Compiled::Code(code, reply)) => write_compiled(&code, &reply, out, sink),
+        Ok(Compiled::Refused(reply)) => say(sink, &reply),
+        Err(cause) => Outcome::Failed(cause),
+    }
+}
