@@ -1,19 +1,18 @@
 -- What compiling came to, and what is written of it.
-use Rattle.std.proofs.Common.{◌≡◌, ℕ, List, length, take, Option, Some, None, Result, Ok, Err, IfOk, refl, sym, ap, ◌∙◌, subst}
+use Rattle.std.proofs.Common.{◌≡◌, ◌≢◌, ℕ, Bool, true, false, List, take, Option, Some, None, Result, Ok, Err, IfOk, refl, sym, ap, ◌∙◌, subst}
 use Rattle.std.specs.Io.KnownBytes.{Appends}
-use Rattle.std.proofs.Math.Seq.{take-length}
-use Rattle.std.proofs.KnownBytes.{Appends-nil}
 use Rattle.imkl_model.specs.ClassModel.{Model}
 use Rattle.rule_code.specs.Content.{Content}
 use Rattle.ocl_check.specs.declared.reply.Reply as reply
 use Rattle.ocl_check.specs.declared.outcome.Cause.{Cause}
+use Rattle.ocl_check.specs.declared.outcome.Cause.TheVariants.{Memory, Read, Write}
 use Rattle.ocl_check.specs.declared.outcome.Outcome.TheVariants.{Failed}
 use Rattle.ocl_check.specs.declared.commands.compile.Compiled.{Compiled}
 use Rattle.ocl_check.specs.declared.commands.compile.Compiled.TheVariants as compiled
 use Rattle.ocl_check.specs.Reply.{Answer, said}
 use Rattle.ocl_check.specs.RuleText.{TextReading, ReadsAs}
 use Rattle.ocl_check.specs.TextRules.{compiled_rules}
-use Rattle.ocl_check.specs.Compile.{CompileAnswer, nothing_compiled, compiled_code, compiled_answer, compile_answer, IsCodeWritten}
+use Rattle.ocl_check.specs.Compile.{CompileAnswer, nothing_compiled, compiled_code, compiled_answer, compile_answer, WholeUnless, IsCodeWritten}
 use Rattle.ocl_check.specs.TextParts.{IsUnitOf, compiled_seen, IsRefusalOf}
 
 -- one answer for another that is equal
@@ -44,10 +43,16 @@ compiled_alike c model rules model' rules' m r h =
     (subst (λ (x : List ℕ). (t : TextReading) × ReadsAs rules t × (compiled_seen c ≡ compile_answer x t)) m h)
 
 -- nothing is written where a command failed before it began
-pub nothing_written : {S : Type 0} (contents : S → Option (List ℕ)) (code : Option (List ℕ)) (s : S) (cause : Cause) → IsCodeWritten contents code s s (Failed cause)
-nothing_written contents None s cause = refl
-nothing_written contents (Some code) s cause = (0, Appends-nil (contents s))
+pub nothing_written : {S : Type 0} (contents : S → Option (List ℕ)) (has_failed : S → Bool) (code : Option (List ℕ)) (s : S) (cause : Cause) → cause ≢ Write → IsCodeWritten contents has_failed code s s (Failed cause)
+nothing_written contents has_failed None s cause other = refl
+nothing_written contents has_failed (Some code) s Memory other = refl
+nothing_written contents has_failed (Some code) s Read other = refl
+nothing_written contents has_failed (Some code) s Write other = absurd (other refl)
 
--- bytes that were written whole are a prefix of themselves
-pub whole_is_prefix : (old new : Option (List ℕ)) (bytes : List ℕ) → Appends old new bytes → Appends old new (take (length bytes) bytes)
-whole_is_prefix old new bytes h = subst (Appends old new) (sym (take-length bytes)) h
+-- a sink that failed took a prefix
+pub failed_prefix : (failed : Bool) (old new : Option (List ℕ)) (code : List ℕ) → failed ≡ true → ((n : ℕ) × Appends old new (take n code)) → WholeUnless failed old new code
+failed_prefix failed old new code is h = subst (λ (b : Bool). WholeUnless b old new code) (sym is) h
+
+-- one that didn't took all
+pub unfailed_whole : (failed : Bool) (old new : Option (List ℕ)) (code : List ℕ) → failed ≡ false → Appends old new code → WholeUnless failed old new code
+unfailed_whole failed old new code is h = subst (λ (b : Bool). WholeUnless b old new code) (sym is) h

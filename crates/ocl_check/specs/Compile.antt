@@ -1,5 +1,5 @@
 -- What the command `compile` answers.
-use Rattle.std.specs.Prelude.{◌≡◌, ℕ, List, length, take, Option, Some, None, Result, Ok, Err}
+use Rattle.std.specs.Prelude.{◌≡◌, ℕ, Bool, true, false, List, length, take, Option, Some, None, Result, Ok, Err}
 use Rattle.std.specs.Io.KnownBytes.{Appends}
 use Rattle.imkl_model.specs.declared.fault.ModelFault.{ModelFault}
 use Rattle.imkl_model.specs.ClassModel.{Model}
@@ -7,6 +7,7 @@ use Rattle.rule_code.specs.Content.{Content}
 use Rattle.rule_code.specs.Spelling.{spelling}
 use Rattle.ocl_check.specs.declared.outcome.Outcome.{Outcome}
 use Rattle.ocl_check.specs.declared.outcome.Outcome.TheVariants.{Status, Failed}
+use Rattle.ocl_check.specs.declared.outcome.Cause.TheVariants.{Write}
 use Rattle.ocl_check.specs.ThreeInputs.{model_of}
 use Rattle.ocl_check.specs.Reply.{Answer, refused_model, refused_rules, compiled_reply}
 use Rattle.ocl_check.specs.RuleText.{TextReading}
@@ -35,8 +36,15 @@ compile_model_answer (Ok m) t = compiled_answer (compiled_rules m t)
 abbrev pub compile_answer : List ℕ → TextReading → CompileAnswer
 compile_answer model t = compile_model_answer (model_of model) t
 
--- what was written of a code file: all of it, or a prefix where the command failed; nothing was touched where there is none
-abbrev pub IsCodeWritten : {S : Type 0} → (S → Option (List ℕ)) → Option (List ℕ) → S → S → Outcome → Type 0
-IsCodeWritten contents None old new outcome = new ≡ old
-IsCodeWritten contents (Some code) old new (Status s) = Appends (contents old) (contents new) code
-IsCodeWritten contents (Some code) old new (Failed cause) = (n : ℕ) × Appends (contents old) (contents new) (take n code)
+-- all of it was written, but where the sink has failed a prefix
+abbrev pub WholeUnless : Bool → Option (List ℕ) → Option (List ℕ) → List ℕ → Type 0
+WholeUnless false old new code = Appends old new code
+WholeUnless true old new code = (n : ℕ) × Appends old new (take n code)
+
+-- What was written of a code file: all of it where the command ended with a status, or where only its reply couldn't be written; a prefix where
+-- the file couldn't. Its sink is as it was where there is no code file, or memory or a read failed.
+abbrev pub IsCodeWritten : {S : Type 0} → (S → Option (List ℕ)) → (S → Bool) → Option (List ℕ) → S → S → Outcome → Type 0
+IsCodeWritten contents has_failed None old new outcome = new ≡ old
+IsCodeWritten contents has_failed (Some code) old new (Status s) = Appends (contents old) (contents new) code
+IsCodeWritten contents has_failed (Some code) old new (Failed Write) = WholeUnless (has_failed new) (contents old) (contents new) code
+IsCodeWritten contents has_failed (Some code) old new (Failed cause) = new ≡ old

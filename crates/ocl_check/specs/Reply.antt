@@ -1,4 +1,4 @@
--- What is answered to an input that is refused.
+-- Replies: the lines that commands print, and their statuses. Reports and bounds are defined elsewhere.
 use Rattle.std.specs.Prelude.{ℕ, List, [], ◌∷◌, ◌++◌, codes, string_bytes}
 use Rattle.std.specs.Fmt.{decimal}
 use Rattle.imkl_model.specs.declared.fault.ModelFault.{ModelFault}

@@ -30,7 +30,7 @@ IsFaultRead bytes text.OutOfMemory = ⊤
 
 -- ---- faults
 
--- how the fault of a part is told as one of the rules of a text
+-- the fault of one stage, as a fault of the rules of a text
 abbrev pub of_text : TextFault → TextRulesFault
 of_text (text.At flaw offset) = rules.Text flaw offset
 of_text text.OutOfMemory = rules.OutOfMemory

@@ -1,4 +1,5 @@
-//! The commands, a file for each. Those on a delivery ask about rules: the chain over their inputs is one.
+//! The commands, one file each. `judge` and `bound` share the chain over a class model, a delivery and
+//! rules (`asking`, `rules`).
 
 pub mod asking;
 pub mod bound;

@@ -21,7 +21,7 @@ const REFUSED: u8 = 2;
 pub struct Reply {
     /// What is printed, all of it.
     pub text: String,
-    /// The exit status: 0, 1 or 2.
+    /// The exit status: 0, or 2 where an input is refused.
     pub status: u8,
 }
 

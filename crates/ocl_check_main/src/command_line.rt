@@ -154,7 +154,8 @@ fn rule_files<'a>(matches: Option<&ArgMatches<'a>>, rules: &str) -> RuleFiles<'a
     }
 }
 
-/// How `judge` is to judge: the largest budget where none is given, and by a code file where not by a text.
+/// The options of `judge`. Without `--budget` the budget is `MOST_STEPS`; without `--text` the rules are a
+/// code file.
 fn options(matches: Option<&ArgMatches<'_>>) -> JudgeOptions {
     let Some(matches) = matches else {
         return JudgeOptions {

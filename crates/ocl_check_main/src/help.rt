@@ -2,7 +2,7 @@
 
 /// Of the program.
 pub const PROGRAM: &str = "\
-Inputs are read whole before the first is judged, each of at most 268,435,456 bytes; a path may be
+Inputs are read whole before the first is checked, each of at most 268,435,456 bytes; a path may be
 a pipe. `ocl_check COMMAND --help` says what a command prints and how it ends. The pages are in
 docs/: language.md for rules, class-model.md, delivery.md, code-file.md, commands.md.";
 
@@ -36,7 +36,7 @@ docs/commands.md has every line, docs/machine.md what is accepted.";
 
 /// Of `bound`.
 pub const BOUND: &str = "\
-Prints for each rule `bound RULE N`, or `bound RULE over` where N would be 2^63 or more. A refused
+Prints for each rule `bound NAME N`, or `bound NAME over` where N would be 2^63 or more. A refused
 input prints one line instead: `refused INPUT NUMBER ..`.
 
 Status 0: printed. 2: an input or the command line is refused. 3: memory, a read or a write failed.

@@ -24,7 +24,7 @@ fn ended(rt: &impl Eprint, outcome: Outcome) -> ExitCode {
     ExitCode::from(outcome.status())
 }
 
-/// Reports why the words are no command. Help and the version are asked for in the same way, and have status 0.
+/// Reports why the command line was refused, with status 2. Help and the version come here too, with status 0.
 fn refused(rt: &HostRuntime, error: &Error) -> ExitCode {
     if error.kind() == ErrorKind::OutOfMemory {
         return ended(rt, Outcome::Failed(Cause::Memory));

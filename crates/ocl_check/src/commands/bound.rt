@@ -52,8 +52,8 @@ pub(crate) fn bounds_reply(
 /// Bounds the rules of a code file: reads the class model, the delivery and the code file, each
 /// whole, and then writes for each rule how many steps it makes at most for an object, or that this
 /// bound is 2^63 or more; or one line on the first of the inputs that is refused. An input is
-/// untouched until the one before it has ended, and where memory or a read fails the sink is as it
-/// was.
+/// untouched until the one before it has ended. Status 0 with the bounds, 2 with a refusal; it fails
+/// as `run_judge` does.
 pub fn run_bound<M: Read, D: Read, C: Read, S: Sink>(
     alloc: Global,
     model: &mut M,

@@ -23,7 +23,7 @@ use rule_report::{Sink, write_and_flush};
 use std::alloc::Global;
 use std::io::Read;
 
-/// What compiling came to.
+/// The result of compiling.
 #[derive(Drop)]
 pub(crate) enum Compiled {
     /// The bytes of a code file, and the reply.
@@ -32,7 +32,7 @@ pub(crate) enum Compiled {
     Refused(Reply),
 }
 
-/// What compiling came to where an input is refused, if there was memory to say so.
+/// The result of compiling where an input is refused, if there was memory for the reply.
 fn refused(reply: Result<Reply, OutOfMemory>) -> Result<Compiled, OutOfMemory>
     ensures { IsRefusalOf reply result }
 {
@@ -80,7 +80,7 @@ fn compile_inputs(alloc: Global, model: &[u8], text: &[u8]) -> Result<Compiled, 
     }
 }
 
-/// Compiles two inputs, each read whole before the first is judged.
+/// Compiles a rule text for a class model, each read whole before the first is checked.
 fn compile_readers<M: Read, R: Read>(
     alloc: Global,
     model: &mut M,
@@ -106,11 +106,10 @@ fn write_compiled<O: Sink, S: Sink>(
 ) -> Outcome
     requires out_well { O.has_failed out.old ≡ false }
     requires well { S.has_failed sink.old ≡ false }
-    ensures code { IsCodeWritten O.contents (Some code.now) out.old out.new result }
+    ensures code { IsCodeWritten O.contents O.has_failed (Some code.now) out.old out.new result }
     ensures said { IsAnswered (said reply.now) (S.contents sink.old) (S.contents sink.new) result }
     ensures sinks { (O.has_failed out.new || S.has_failed sink.new) ≡ fails_write result }
     ensures code_first { O.has_failed out.new ≡ true → sink.new ≡ sink.old }
-    ensures written { KeepsSink result out.old out.new }
     ensures kept { KeepsSink result sink.old sink.new }
 {
     let Ok(()) = write_and_flush(out, code) else {
@@ -123,10 +122,12 @@ fn write_compiled<O: Sink, S: Sink>(
 }
 
 /// Compiles a rule text: reads the class model and the text, each whole, and then writes the code
-/// file, and after it how many rules there are; or one line on the first of them that is refused,
-/// and then `out` is untouched. Where `out` can't be written, nothing is printed. The text is
-/// untouched until the class model has ended, and where memory or a read fails both sinks are as
-/// they were.
+/// file, and after it how many rules there are, with status 0; or, with status 2, one line on the
+/// first of them that is refused, and then `out` is untouched. The text is untouched until the class
+/// model has ended.
+///
+/// Where memory or a read fails both sinks are as they were. Where `out` can't be written it took a
+/// prefix of the code file, and nothing is printed; where only the reply can't, `out` took it whole.
 pub fn run_compile<M: Read, R: Read, O: Sink, S: Sink>(
     alloc: Global,
     model: &mut M,
@@ -138,11 +139,10 @@ pub fn run_compile<M: Read, R: Read, O: Sink, S: Sink>(
     requires well { S.has_failed sink.old ≡ false }
     ensures answered { ReadBy result (M.remaining model.old) (λ xs.
         ReadBy result (R.remaining rules.old) (λ ys. (t : TextReading) × ReadsAs ys t
-        × IsCodeWritten O.contents (compile_answer xs t).code out.old out.new result
+        × IsCodeWritten O.contents O.has_failed (compile_answer xs t).code out.old out.new result
         × IsAnswered (compile_answer xs t).said (S.contents sink.old) (S.contents sink.new) result)) }
     ensures sinks { (O.has_failed out.new || S.has_failed sink.new) ≡ fails_write result }
     ensures code_first { O.has_failed out.new ≡ true → sink.new ≡ sink.old }
-    ensures kept_code { KeepsSink result out.old out.new }
     ensures kept { KeepsSink result sink.old sink.new }
     ensures rules_wait { IsAtEnd (M.remaining model.new) ⊎ (rules.new ≡ rules.old) }
 {

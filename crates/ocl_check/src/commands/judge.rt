@@ -77,7 +77,7 @@ pub(crate) fn judge_within<S: Sink>(
     }
 }
 
-/// In what form rules come.
+/// The form of the rules that `judge` is given.
 #[derive(Clone, Copy, Debug, PartialEq, Eq)]
 pub enum RulesForm {
     /// A code file.
@@ -108,11 +108,15 @@ impl JudgeOptions {
     }
 }
 
-/// Judges a delivery: reads the class model, the delivery and the rules, each whole, and then
-/// writes the report, or one line on the first of them that is refused, last on the first rule whose
-/// bound is 2^63 or more or above the budget of steps. Rules of a text are judged by what they mean.
-/// An input is untouched until the one before it has ended, and where memory or a read fails the
-/// sink is as it was.
+/// Judges a delivery. Reads the class model (JSON), the delivery (JSON) and the rules (a code file or
+/// a text), each whole and of at most 268,435,456 bytes; an input is untouched until the one before
+/// it has ended. Then writes the report, with status 0 where every rule holds for each object of its
+/// context class, else 1; or, with status 2, the line of the first input that is refused, or of the
+/// first rule whose bound is 2^63 or more or above the budget. Rules of a text are judged by what
+/// they mean.
+///
+/// `Failed(Read)`: an input can't be read, or is too long. `Failed(Memory)`: memory ran out. In both
+/// the sink is as it was. `Failed(Write)`: the sink took a prefix of the answer.
 pub fn run_judge<M: Read, D: Read, R: Read, S: Sink>(
     alloc: Global,
     options: JudgeOptions,

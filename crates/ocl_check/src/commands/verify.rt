@@ -54,7 +54,7 @@ fn verify_inputs(alloc: Global, model: &[u8], code: &[u8]) -> Result<Reply, OutO
     }
 }
 
-/// The reply to two inputs, each read whole before the first is judged.
+/// The reply to a class model and a code file, each read whole before the first is checked.
 fn verify_readers<M: Read, C: Read>(
     alloc: Global,
     model: &mut M,
@@ -72,7 +72,8 @@ fn verify_readers<M: Read, C: Read>(
 
 /// Verifies a code file: reads the class model and the code file, each whole, and then writes that
 /// the code is accepted, or one line on the first of them that is refused. The code file is
-/// untouched until the class model has ended.
+/// untouched until the class model has ended. Status 0 where it is accepted, 2 with a refusal; it
+/// fails as `run_judge` does.
 pub fn run_verify<M: Read, C: Read, S: Sink>(
     alloc: Global,
     model: &mut M,
