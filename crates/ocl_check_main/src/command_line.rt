@@ -36,9 +36,9 @@ pub struct CompileFiles<'a> {
     pub out: &'a str,
 }
 
-/// What the words ask for.
+/// A command with its files.
 #[derive(Clone, Copy, Drop)]
-pub enum Asked<'a> {
+pub enum Request<'a> {
     /// `judge` with its files and options.
     Judge(RuleFiles<'a>, JudgeOptions),
     /// `compile` with its files.
@@ -173,19 +173,19 @@ fn options(matches: Option<&ArgMatches<'_>>) -> JudgeOptions {
     }
 }
 
-/// What the words ask for: a command with its files.
-pub(crate) fn read_words<'a>(alloc: Global, words: &'a [String]) -> Result<Asked<'a>, Error> {
+/// The command that the words give, with its files.
+pub(crate) fn read_words<'a>(alloc: Global, words: &'a [String]) -> Result<Request<'a>, Error> {
     let matches = command(alloc)?.try_get_matches_from(words)?;
     let verify = matches.subcommand_matches("verify");
     if verify.is_some() {
-        return Ok(Asked::Verify(VerifyFiles {
+        return Ok(Request::Verify(VerifyFiles {
             model: word(verify, "MODEL"),
             code: word(verify, "CODE"),
         }));
     }
     let compile = matches.subcommand_matches("compile");
     if compile.is_some() {
-        return Ok(Asked::Compile(CompileFiles {
+        return Ok(Request::Compile(CompileFiles {
             model: word(compile, "MODEL"),
             rules: word(compile, "RULES"),
             out: word(compile, "OUT"),
@@ -193,8 +193,8 @@ pub(crate) fn read_words<'a>(alloc: Global, words: &'a [String]) -> Result<Asked
     }
     let bound = matches.subcommand_matches("bound");
     if bound.is_some() {
-        return Ok(Asked::Bound(rule_files(bound, "CODE")));
+        return Ok(Request::Bound(rule_files(bound, "CODE")));
     }
     let judge = matches.subcommand_matches("judge");
-    Ok(Asked::Judge(rule_files(judge, "RULES"), options(judge)))
+    Ok(Request::Judge(rule_files(judge, "RULES"), options(judge)))
 }

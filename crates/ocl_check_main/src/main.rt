@@ -7,7 +7,7 @@ mod help;
 mod opening;
 
 use clap::error::{Error, ErrorKind};
-use command_line::{Asked, CompileFiles, RuleFiles, VerifyFiles, read_words};
+use command_line::{CompileFiles, Request, RuleFiles, VerifyFiles, read_words};
 use creating::Creating;
 use ocl_check::{
     Cause, JudgeOptions, Outcome, Telling, run_bound, run_compile, run_judge, run_verify,
@@ -91,10 +91,10 @@ fn main(rt: HostRuntime) -> ExitCode {
         return ended(&rt, Outcome::Failed(Cause::Memory));
     };
     match read_words(rt.alloc(), words.as_slice()) {
-        Ok(Asked::Judge(files, options)) => ended(&rt, judge(&rt, files, options)),
-        Ok(Asked::Compile(files)) => ended(&rt, compile(&rt, files)),
-        Ok(Asked::Bound(files)) => ended(&rt, bound(&rt, files)),
-        Ok(Asked::Verify(files)) => ended(&rt, verify(&rt, files)),
+        Ok(Request::Judge(files, options)) => ended(&rt, judge(&rt, files, options)),
+        Ok(Request::Compile(files)) => ended(&rt, compile(&rt, files)),
+        Ok(Request::Bound(files)) => ended(&rt, bound(&rt, files)),
+        Ok(Request::Verify(files)) => ended(&rt, verify(&rt, files)),
         Err(error) => refused(&rt, &error),
     }
 }
