@@ -7,7 +7,10 @@ here=$(dirname -- "$(readlink -f -- "$0")")
 : >"$room/none.rules"
 
 # The first run builds the floor; what is measured is the program alone.
-(cd "$root/crates/json_floor" && rt run -- "$root/examples/cable-600.json") </dev/null >/dev/null || fail "the floor isn't built"
+(cd "$root/crates/json_floor" && rt run -- "$root/examples/cable-600.json") </dev/null >"$room/said" 2>&1 || {
+    cat "$room/said" >&2
+    fail "the floor isn't built"
+}
 floor=$root/crates/json_floor/out/json_floor
 
 # Runs a command three times, and keeps the least seconds, with their memory.
