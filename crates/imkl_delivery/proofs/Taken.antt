@@ -76,6 +76,7 @@ pub record_there : (n : ℕ) (m : BTreeMap (String Global) Value) (b : Bool) →
 unfolding record_from
 record_there n m b is = rw (view-Object m, members_len-view m.entries, is) (whole b (members_view m.entries))
 
+-- a list's values
 pub list_there : (v : Vec Value Global) → found {E = DeliveryFault} (list_from (view (Array v))) Shape ≡ Ok (map view v.items)
 unfolding list_from
 list_there v = rw (view-Array v, elements_of-view v.items) refl
@@ -105,6 +106,7 @@ pub record IsNext {X : Type 0} (xs : List X) (k : ℕ) (x : X) (more : List X) :
   pub here : x ≡ get_or xs k x
   pub later : drop (suc k) xs ≡ more
 
+-- what stands before what is left stands at that index
 pub next_left : {X : Type 0} (xs : List X) (k : ℕ) (x : X) (more : List X) → drop k xs ≡ x ∷ more → IsNext xs k x more
 next_left [] zero x more is = absurd (let bad : [] ≡ x ∷ more = is in cc)
 next_left [] (suc k) x more is = absurd (let bad : [] ≡ x ∷ more = is in cc)
