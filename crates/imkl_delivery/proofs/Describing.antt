@@ -1,5 +1,5 @@
 -- A described population is the one of its entries.
-use Rattle.std.proofs.Common.{◌≡◌, ◌≢◌, ◌⊎◌, ◌∙◌, ℕ, zero, suc, ◌==◌, ◌<◌, ◌≤◌, Bool, true, false, cond, not, List, [], ◌∷◌, ◌++◌, length, Option, Some, None, Result, Ok, Err, refl, sym, ap, subst, arith, if◌then◌else◌, inl, inr, bytes_eq, length-append, is_some}
+use Rattle.std.proofs.Common.{◌≡◌, ◌≢◌, ◌⊎◌, ◌∙◌, ℕ, zero, suc, ◌==◌, ◌<◌, ◌≤◌, Bool, true, false, cond, not, List, [], ◌∷◌, length, Option, Some, None, Result, Ok, Err, refl, sym, ap, subst, arith, if◌then◌else◌, inl, inr, bytes_eq, length-append, is_some}
 use Rattle.std.specs.Prelude.{nat_le}
 use Rattle.imkl_population.specs.Written.{written_in}
 use Rattle.std.proofs.lemmas.Bool.{false≢true, cases_eq, eq-eqb, ne_eqb}
@@ -27,7 +27,7 @@ use Rattle.imkl_delivery.specs.Steps.{steps, at_object}
 use Rattle.imkl_delivery.specs.Document.{Written, Document, document_from}
 use Rattle.imkl_delivery.specs.Scalars.{is_absent, member_values, scalar_from, all_found}
 use Rattle.imkl_delivery.specs.Loading.{entry_at, add_entry, add_entries, are_features, left_out, put_values, put_targets, put_by, put_member, put_members, put_entries, finish, empty, population_from, describes_population}
-use Rattle.imkl_delivery.specs.Described.{WritesTargets, WritesBy, WritesMember, IsDescribed}
+use Rattle.imkl_delivery.specs.Described.{WritesBy, WritesMember, IsDescribed}
 
 -- functions that agree everywhere are one
 funext : {A B : Type 0} {f g : A → B} → ((x : A) → f x ≡ g x) → f ≡ g

@@ -3,4 +3,5 @@ pub mod Describing
 pub mod Passed
 pub mod Refusals
 pub mod Runs
+pub mod Taken
 pub mod Walks

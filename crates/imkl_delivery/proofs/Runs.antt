@@ -1,5 +1,5 @@
 -- Steps as a loop makes them: those made so far, and what a fault of one is for all.
-use Rattle.std.proofs.Common.{◌≡◌, ℕ, zero, suc, ◌+◌, ◌<◌, true, false, List, length, map, get_or, Result, Ok, Err, refl, sym, ap, ◌∙◌, add-one, arith, inl, inr}
+use Rattle.std.proofs.Common.{◌≡◌, ℕ, zero, suc, ◌+◌, ◌<◌, true, false, List, length, get_or, Result, Ok, Err, refl, sym, ap, ◌∙◌, add-one, arith, inl, inr}
 use Rattle.std.proofs.lemmas.Bool.{cases_lt}
 use Rattle.std.proofs.lemmas.List.{get_or-map}
 use Rattle.std.specs.Result.{is_err, OnOk}
@@ -7,7 +7,6 @@ use Rattle.ocl_base.specs.Steps.{◌>>=◌, Fails}
 use Rattle.ocl_base.proofs.ForAbove.{fails_whole, fails_along}
 use Rattle.imkl_delivery.specs.declared.fault.DeliveryFault.{DeliveryFault}
 use Rattle.imkl_delivery.specs.declared.document.Entry as entry
-use Rattle.imkl_delivery.specs.Document.{Written}
 use Rattle.imkl_delivery.specs.Faults.{delivery_fault}
 use Rattle.imkl_delivery.specs.Seen.{written_of, all_written}
 use Rattle.imkl_delivery.specs.Loading.{entry_at, nothing_written}

@@ -9,4 +9,5 @@ pub mod Described
 -- Bookkeeping: views, layouts, walks and tables that only proofs and private contracts use.
 pub mod Named
 pub mod Seen
+pub mod Taken
 pub mod Targets

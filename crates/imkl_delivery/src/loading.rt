@@ -27,24 +27,24 @@ use std::alloc::Global;
 fn add(
     builder: &mut PopulationBuilder<'_>,
     place: usize,
-    entry: &Entry<'_>,
+    entry: &Entry,
 ) -> Result<(), DeliveryFault>
     ensures leaves { Leaves result (add_entry place (written_of entry.now) builder.old)
         builder.new }
     ensures count { OnOk result (length builder.new.objects ≡ length builder.old.objects + 1) }
     ensures model { KeepsModel builder.old builder.new }
 {
-    let Some(class) = builder.model().class(entry.class) else {
+    let Some(class) = builder.model().class(entry.class.as_str()) else {
         return Err(DeliveryFault::UnknownClass { object: place });
     };
-    match builder.add_object(entry.id, class) {
+    match builder.add_object(entry.id.as_str(), class) {
         Ok(_) => Ok(()),
         Err(fault) => Err(placed_fault(place, fault)),
     }
 }
 
 /// Adds all objects, before anything is written on any.
-fn add_all(builder: &mut PopulationBuilder<'_>, entries: &[Entry<'_>]) -> Result<(), DeliveryFault>
+fn add_all(builder: &mut PopulationBuilder<'_>, entries: &[Entry]) -> Result<(), DeliveryFault>
     ensures leaves { Leaves result (add_entries (all_written entries.now) builder.old) builder.new }
     ensures count { OnOk result
         (length builder.new.objects ≡ length builder.old.objects + length entries.now) }
@@ -59,43 +59,45 @@ fn add_all(builder: &mut PopulationBuilder<'_>, entries: &[Entry<'_>]) -> Result
     Ok(())
 }
 
-/// Writes on an object.
+/// Writes on an object what its entry says.
 fn put(
     builder: &mut PopulationBuilder<'_>,
     alloc: Global,
     object: ObjectNo,
-    entry: &Entry<'_>,
+    entry: Entry,
     required: &mut RequiredFeatures<'_>,
 ) -> Result<(), DeliveryFault>
     requires object { object < length builder.old.objects }
     requires required { required.old ≡ written_requirements builder.old.model }
-    ensures leaves { Leaves result
-        (put_members object (written_of entry.now).features builder.old) builder.new }
+    ensures leaves { Leaves result (put_members object (written_of entry).features builder.old)
+        builder.new }
     ensures kept { KeepsObjects builder.old builder.new }
     ensures same { required.new ≡ required.old }
 {
-    put_members(builder, alloc, object, entry.features, required)
+    put_members(builder, alloc, object, &entry.features, required)
 }
 
-/// Writes on all objects.
+/// Writes on all objects. Each entry is dropped before the next is written.
 fn put_all(
     builder: &mut PopulationBuilder<'_>,
     alloc: Global,
-    entries: &[Entry<'_>],
+    entries: Vec<Entry>,
     required: &mut RequiredFeatures<'_>,
 ) -> Result<(), DeliveryFault>
-    requires objects { length entries.now ≤ length builder.old.objects }
+    requires objects { length entries.items ≤ length builder.old.objects }
     requires required { required.old ≡ written_requirements builder.old.model }
-    ensures leaves { Leaves result (put_entries (all_written entries.now) builder.old) builder.new }
+    ensures leaves { Leaves result (put_entries (all_written entries.items) builder.old)
+        builder.new }
     ensures kept { KeepsObjects builder.old builder.new }
     ensures same { required.new ≡ required.old }
 {
-    for place in 0..entries.len() {
-        let object = ObjectNo::new(place);
-        let written = put(builder, alloc, object, &entries[place], required);
+    let mut place = 0;
+    for entry in entries {
+        let written = put(builder, alloc, ObjectNo::new(place), entry, required);
         if written.is_err() {
             return written;
         }
+        place += 1;
     }
     Ok(())
 }
@@ -116,15 +118,15 @@ fn finished_fault(fault: PopulationFault) -> DeliveryFault
 #[tactic(auto, unfolding(crate::specs::Loading::population_from))]
 fn population_of<'m>(
     alloc: Global,
-    entries: &[Entry<'_>],
+    entries: Vec<Entry>,
     model: &'m ClassModel,
 ) -> Result<Population<'m>, DeliveryFault>
     ensures gives { Gives delivery_fault (λ p. p.content) result
-        (population_from model.now (all_written entries.now)) }
+        (population_from model.now (all_written entries.items)) }
     ensures model { IfOk result (λ p. p.content.model ≡ model.now) }
 {
     let mut builder = PopulationBuilder::new(alloc, model);
-    add_all(&mut builder, entries)?;
+    add_all(&mut builder, &entries)?;
     let mut required = RequiredFeatures::new(alloc, model, Side::Written);
     put_all(&mut builder, alloc, entries, &mut required)?;
     match builder.finish() {
@@ -137,18 +139,18 @@ fn population_of<'m>(
 #[tactic(auto, unfolding(crate::specs::Loading::describes_population))]
 fn described_of<'m>(
     alloc: Global,
-    value: &Value,
+    value: Value,
     model: &'m ClassModel,
 ) -> Result<Population<'m>, DeliveryFault>
     ensures gives { Gives delivery_fault (λ p. p.content) result
-        (describes_population model.now (view value.now)) }
+        (describes_population model.now (view value)) }
     ensures model { IfOk result (λ p. p.content.model ≡ model.now) }
 {
     let document = document_of(alloc, value)?;
-    if document.model != model.name() {
+    if document.model.as_str() != model.name() {
         return Err(DeliveryFault::OtherModel);
     }
-    population_of(alloc, &document.entries, model)
+    population_of(alloc, document.entries, model)
 }
 
 /// The population that a delivery's bytes describe, or their first fault.
@@ -161,5 +163,5 @@ pub fn load<'m>(
     ensures exact { DeliveryAnswers model.now bytes.now result }
 {
     let value = tree(alloc, bytes)?;
-    described_of(alloc, &value, model)
+    described_of(alloc, value, model)
 }

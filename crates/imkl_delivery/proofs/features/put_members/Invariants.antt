@@ -1,4 +1,4 @@
-use Rattle.std.proofs.Common.{◌≡◌, ◌<◌, All, List, drop, length}
+use Rattle.std.proofs.Common.{◌≡◌, ◌<◌, All, drop, length}
 use Rattle.serde_json.specs.View.{members_view}
 use Rattle.imkl_population.specs.Building.{KeepsObjects}
 use Rattle.imkl_delivery.specs.Loading.{put_member, put_members}
