@@ -48,7 +48,7 @@ or_true : (b : Bool) → (b || true) ≡ true
 or_true true = refl
 or_true false = refl
 
-or_untouched : (b c : Bool) → c ≡ false → b ≡ (b || c)
+pub or_untouched : (b c : Bool) → c ≡ false → b ≡ (b || c)
 or_untouched true c e = refl
 or_untouched false c e = sym e
 

@@ -88,7 +88,8 @@ fn groups_of(
         let name = String::from_str(alloc, feature.name.as_str())?;
         let none = FeatureGroup::new(alloc, classes)?;
         let group = groups.entry(name)?.or_insert(none);
-        group.push(feature.owner, FeatureNo::new(number))?;
+        let place = FeatureNo::new(number);
+        group.push(feature.owner, place)?;
     }
     Ok(groups)
 }
