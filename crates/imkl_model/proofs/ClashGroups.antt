@@ -1,5 +1,5 @@
 -- Clashes, looked for among the features of one name.
-use Rattle.std.proofs.Common.{find, ◌≡◌, ◌≢◌, ℕ, zero, suc, ◌<◌, not, Bool, true, false, List, [], ◌∷◌, length, get_or, eqb, Option, Some, None, refl, sym, ap, ◌∙◌, subst, arith, ◌⊎◌, inl, inr}
+use Rattle.std.proofs.Common.{find, ◌≡◌, ◌≢◌, ℕ, zero, suc, ◌<◌, ◌&&◌, ◌||◌, not, Bool, true, false, List, [], ◌∷◌, length, get_or, eqb, Option, Some, None, refl, sym, ap, ◌∙◌, subst, arith, ◌⊎◌, inl, inr}
 use Rattle.std.specs.List.{list_any}
 use Rattle.std.proofs.lemmas.Bool.{false≢true, and_parts, or_cases, or_right}
 use Rattle.std.proofs.lemmas.Bool.Decides.{eqb_tells}
@@ -135,3 +135,21 @@ not_both m false e none = e
 
 pub no_clash : (m : Model) → any_below (group_meets m) (length m.features) ≡ false → has_clash m ≡ false
 no_clash m none = not_both m (has_clash m) refl none
+
+-- ---- a feature that is alone under its name meets no other
+
+itself : (a : ℕ) → not (eqb a a) ≡ false
+itself a = elim (eqb_tells a a) [ inl h ↦ rw h.0 refl | inr h ↦ absurd (h.1 refl) ]
+
+no_other : (b : Bool) → ((b && false) || false) ≡ false
+no_other true = refl
+no_other false = refl
+
+alone_there : (m : Model) (c x : ℕ) (b : Bool) → belongs m c x ≡ b → meets m c (x ∷ []) ≡ false
+alone_there m c x true e = rw (e, itself (feature_at m x).owner) (no_other (belongs m c x))
+alone_there m c x false e = rw e refl
+
+pub alone : (m : Model) (c : ℕ) (xs : List ℕ) → length xs < 2 → meets m c xs ≡ false
+alone m c [] lt = refl
+alone m c (x ∷ []) lt = alone_there m c x (belongs m c x) refl
+alone m c (x ∷ y ∷ xs) lt = absurd (omega (arith, lt))

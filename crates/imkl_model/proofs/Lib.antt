@@ -9,6 +9,8 @@ pub mod Named
 pub mod Lookup
 pub mod Repeated
 pub mod Positions
+pub mod SortedTexts
+pub mod Ranks
 pub mod ClashLaws
 pub mod ClashGroups
 pub mod Parts

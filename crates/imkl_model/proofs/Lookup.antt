@@ -1,14 +1,15 @@
 -- The feature of a name that belongs to a class.
-use Rattle.std.proofs.Common.{find, ◌≡◌, ◌∙◌, ◌&&◌, ◌<◌, ℕ, Bool, true, List, length, Option, Some, None, eqb, refl, sym, ap, subst, IfSome}
-use Rattle.std.proofs.lemmas.Bool.{and_from, and_parts}
+use Rattle.std.proofs.Common.{find, ◌≡◌, ◌∙◌, ◌&&◌, ◌<◌, ℕ, Bool, true, List, length, Option, Some, None, eqb, refl, sym, ap, subst, IfSome, inl, inr}
+use Rattle.std.proofs.lemmas.Bool.{and_from, and_parts, or_cases, or_right}
 use Rattle.std.proofs.lemmas.Bool.Decides.{Decides-eqb}
 use Rattle.std.proofs.lemmas.Slice.Eq.{bytes_eq-Decides}
-use Rattle.imkl_model.specs.Chains.{is_or_reaches}
+use Rattle.imkl_model.specs.Chains.{is_or_reaches, reaches}
 use Rattle.imkl_model.specs.ClassModel.{Model, supers, is_named, belongs, feature_at, feature_number}
 use Rattle.imkl_model.specs.WellFormed.{IsClassModel}
 use Rattle.imkl_model.specs.Held.{Group, IsGroup, own_in, is_own_in}
+use Rattle.imkl_model.specs.Groups.{IsInherited}
 use Rattle.imkl_model.proofs.Warshall.{is_or_reaches-decides}
-use Rattle.ocl_base.proofs.ForAbove.{find_places, least_passes, least_is}
+use Rattle.ocl_base.proofs.ForAbove.{find_places, least_passes, least_found, least_is}
 
 passes_at : (o q : Option ℕ) (P Q : ℕ → Type 0) → o ≡ q → ((k : ℕ) → P k → Q k) → IfSome q P → IfSome o Q
 passes_at o None P Q e f h = rw e tt
@@ -65,3 +66,42 @@ module _ (m : Model) (c : ℕ) (q : List ℕ) (g : Group) (group : IsGroup m.fea
       let n = length m.features in
       let found : IfSome (Some f) (λ k. (k < n) × (is_own_in m.features q c k ≡ true)) = subst (λ (o : Option ℕ). IfSome o (λ k. (k < n) × (is_own_in m.features q c k ≡ true))) (sym (group.own c) ∙ own) (least_passes (is_own_in m.features q c) n) in
       the_feature m c q well f (feature_of m c q f found.0 (own_passes f found.1))
+
+  -- a feature that some class itself has
+  owned : (d f : ℕ) → own_in g d ≡ Some f → (f < length m.features) × (is_named m q f ≡ true) × ((feature_at m f).owner ≡ d)
+  owned d f own =
+      let n = length m.features in
+      let found : IfSome (Some f) (λ k. (k < n) × (is_own_in m.features q d k ≡ true)) = subst (λ (o : Option ℕ). IfSome o (λ k. (k < n) × (is_own_in m.features q d k ≡ true))) (sym (group.own d) ∙ own) (least_passes (is_own_in m.features q d) n) in
+      let p = and_parts (is_named m q f) (eqb (feature_at m f).owner d) found.1 in
+      (found.0, p.0, (Decides-eqb (feature_at m f).owner d).0 p.1)
+
+  -- a class above has a feature of this name
+  above_is : IsClassModel m → (d f : ℕ) → reaches (supers m) c d ≡ true → own_in g d ≡ Some f → feature_number m c q ≡ Some f
+  above_is well d f above own =
+      let h = owned d f own in
+      let here : belongs m c f ≡ true = ap (is_or_reaches (supers m) c) h.2 ∙ or_right (eqb c d) (reaches (supers m) c d) above in
+      the_feature m c q well f (feature_of m c q f h.0 (and_from (is_named m q f) (belongs m c f) h.1 here))
+
+  none_and_some : (f : ℕ) → None ≡ Some f → ⊥
+  none_and_some f e = cc
+
+  -- neither the class nor one above has a feature of this name
+  none_above : IsClassModel m → own_in g c ≡ None → ((d : ℕ) → d < length m.classes → reaches (supers m) c d ≡ true → own_in g d ≡ None) → (o : Option ℕ) → feature_number m c q ≡ o → None ≡ o
+  none_above well own none None e = refl
+  none_above well own none (Some f) e =
+      let n = length m.features in
+      let found : IfSome (Some f) (λ k. (k < n) × (passes m c q k ≡ true)) = subst (λ (o : Option ℕ). IfSome o (λ k. (k < n) × (passes m c q k ≡ true))) e (least_passes (passes m c q) n) in
+      let p = and_parts (is_named m q f) (belongs m c f) found.1 in
+      let d = (feature_at m f).owner in
+      let w = least_found (is_own_in m.features q d) n f found.0 (and_from (is_named m q f) (eqb d d) p.0 ((Decides-eqb d d).1 refl)) in
+      let own_d : own_in g d ≡ Some w.0 = group.own d ∙ w.1 in
+      elim (or_cases (eqb c d) (reaches (supers m) c d) p.1) [
+        | inl same ↦ absurd (none_and_some w.0 (sym own ∙ ap (own_in g) ((Decides-eqb c d).0 same) ∙ own_d))
+        | inr above ↦ absurd (none_and_some w.0 (sym (none d (well.known_owners f found.0) above) ∙ own_d))
+      ]
+
+  -- what is inherited is the feature of the name, where the class has none of its own
+  pub inherited_is : IsClassModel m → own_in g c ≡ None → (o : Option ℕ) → IsInherited m c g o → o ≡ feature_number m c q
+  inherited_is well own o (inl e) = e ∙ first_is
+  inherited_is well own None (inr h) = none_above well own (h.1 refl) (feature_number m c q) refl
+  inherited_is well own (Some f) (inr h) = sym (above_is well h.0.0 f h.0.1 h.0.2)

@@ -1,11 +1,11 @@
 -- Marks as bits of words.
-use Rattle.std.proofs.Common.{◌≡◌, ℕ, ◌+◌, ◌*◌, ◌^◌, zero, suc, ◌<◌, ◌≤◌, ◌/◌, ◌%◌, ◌||◌, Bool, true, false, eqb, List, [], ◌∷◌, ◌++◌, length, get_or, set, max, refl, sym, ap, ◌∙◌, arith, bit_or, w64, replicate, inl, inr}
+use Rattle.std.proofs.Common.{◌≡◌, ℕ, ◌+◌, ◌*◌, ◌^◌, zero, suc, ◌<◌, ◌≤◌, ◌/◌, ◌%◌, ◌-◌, ◌&&◌, ◌||◌, min, bit_and, Bool, true, false, eqb, List, [], ◌∷◌, ◌++◌, length, get_or, set, max, refl, sym, ap, ◌∙◌, arith, bit_or, w64, replicate, inl, inr}
 use Rattle.std.proofs.lemmas.Bool.{eq-eqb, ne_eqb}
 use Rattle.std.proofs.lemmas.Bool.Decides.{leb_tells, eqb_tells}
 use Rattle.std.proofs.Math.Nat.{div-add-mod}
 use Rattle.std.proofs.lemmas.List.{get_or-set_other, get_or-set_same, length_push, get_or_push, get_or_past}
 use Rattle.std.proofs.lemmas.Grind.{common_steps}
-use Rattle.std.proofs.lemmas.Nat.Bits.{bit_at_or, bit_at_set_same, bit_at_set_other, bit_at-lt, bit_at-zero}
+use Rattle.std.proofs.lemmas.Nat.Bits.{bit_at_or, bit_at_and, bit_at_set_same, bit_at_set_other, bit_at-lt, bit_at-zero}
 use Rattle.std.specs.Int.{bit_at}
 use Rattle.imkl_model.specs.Tables.{has_mark, is_marked, marks}
 
@@ -48,7 +48,7 @@ or_true : (b : Bool) → (b || true) ≡ true
 or_true true = refl
 or_true false = refl
 
-or_untouched : (b c : Bool) → c ≡ false → b ≡ (b || c)
+pub or_untouched : (b c : Bool) → c ≡ false → b ≡ (b || c)
 or_untouched true c e = refl
 or_untouched false c e = sym e
 
@@ -121,3 +121,52 @@ new_row k n j =
       | inl le ↦ has-marks_past (zeros k) n j le.1
       | inr less ↦ has-marks (zeros k) n j less.1 ∙ rw (none_marked k (j / 64), bit_at-zero (j % 64)) refl
     ]
+
+-- ---- marks that two rows share
+
+no_pair : (x y : ℕ) → min x y ≡ 0 → (eqb x 1 && eqb y 1) ≡ false
+no_pair x y e =
+    elim (eqb_tells x 1) [
+      | inl h ↦ elim (eqb_tells y 1) [
+        | inl g ↦ absurd (one_not_zero (rw (h.1, g.1) at e))
+        | inr g ↦ rw (h.0, g.0) refl
+      ]
+      | inr h ↦ rw h.0 refl
+    ]
+  where
+    one_not_zero : ◌≡◌ {A = ℕ} 1 0 → ⊥
+    one_not_zero f = omega (arith, f)
+
+-- words without a common bit share no number
+pub word_apart : (ws vs : List ℕ) (i j : ℕ) → j / 64 ≡ i → bit_and (get_or ws i 0) (get_or vs i 0) ≡ 0 → (is_marked ws j && is_marked vs j) ≡ false
+word_apart ws vs i j d e =
+    rw d (no_pair (bit_at (get_or ws i 0) (j % 64)) (bit_at (get_or vs i 0) (j % 64))
+    (sym (bit_at_and (get_or ws i 0) (get_or vs i 0) (j % 64)) ∙ ap (λ (w : ℕ). bit_at w (j % 64)) e ∙ bit_at-zero (j % 64)))
+
+-- the numbers from one to the end of its word are in that word
+pub one_word_on : (n j : ℕ) → n ≤ j → j < n + (64 - n % 64) → j / 64 ≡ n / 64
+one_word_on n j le lt = omega (arith, le, lt, div-add-mod n 64, div-add-mod j 64)
+
+and_false : (a b : Bool) → b ≡ false → (a && b) ≡ false
+and_false true b e = e
+and_false false b e = refl
+
+module _ (ws vs : List ℕ) (n m : ℕ) (row other : List Bool) (e : marks ws n ≡ row) (f : marks vs m ≡ other) where
+  pub both_marked : (j : ℕ) → j < min n m → is_marked ws j ≡ true → is_marked vs j ≡ true → (j < length row) × (has_mark row j ≡ true) × (has_mark other j ≡ true)
+  both_marked j lt here there =
+      let in_row : j < length row = omega (arith, lt, row_length ws n row e) in
+      let in_other : j < length other = omega (arith, lt, row_length vs m other f) in
+      (in_row, sym (row_has ws n j row e in_row) ∙ here, sym (row_has vs m j other f in_other) ∙ there)
+
+  pub none_marked_both : ((j : ℕ) → j < min n m → (is_marked ws j && is_marked vs j) ≡ false) → (j : ℕ) → (has_mark row j && has_mark other j) ≡ false
+  none_marked_both none j =
+      elim (leb_tells n j) [
+        | inl le ↦ rw (row_past ws n j row e le.1) refl
+        | inr less ↦ elim (leb_tells m j) [
+          | inl le ↦ and_false (has_mark row j) (has_mark other j) (row_past vs m j other f le.1)
+          | inr lower ↦
+              let in_row : j < length row = omega (arith, less.1, row_length ws n row e) in
+              let in_other : j < length other = omega (arith, lower.1, row_length vs m other f) in
+              rw (← row_has ws n j row e in_row, ← row_has vs m j other f in_other) (none j (omega (arith, less.1, lower.1)))
+        ]
+      ]

@@ -1,37 +1,11 @@
 -- Names that stand twice.
-use Rattle.std.proofs.Common.{◌≡◌, ℕ, Bool, true, false, ◌||◌, List, [], ◌∷◌, ◌++◌, map, String, string_bytes, refl, sym, ap, ◌∙◌, bytes_eq, not, append_assoc, suc, ◌<◌, length, take, drop, get_or, drop-cons}
+use Rattle.std.proofs.Common.{◌≡◌, ℕ, Bool, true, false, ◌||◌, List, [], ◌∷◌, ◌++◌, map, refl, sym, ap, ◌∙◌, bytes_eq, append_assoc, suc, ◌<◌, length, take, drop, get_or, drop-cons}
 use Rattle.std.proofs.lemmas.Bool.{false≢true, or_right}
 use Rattle.std.proofs.lemmas.Slice.Eq.{bytes_eq-Decides}
 use Rattle.std.proofs.lemmas.Cmp.{nat_list_eq_equiv}
-use Rattle.std.specs.declared.alloc.Global.{Global}
-use Rattle.std.specs.List.{list_any}
-use Rattle.std.specs.String.{string_eq}
-use Rattle.std.proofs.lemmas.List.{map_push, map-append, take-append-drop}
-use Rattle.indexmap.specs.IndexSet.{insert_key}
+use Rattle.std.proofs.lemmas.List.{map-append, take-append-drop}
 use Rattle.ocl_base.specs.Lists.{is_among, repeats}
-use Rattle.ocl_base.proofs.ForAbove.{stands_once, apart_push, found_again}
-
-among_is : (x : String Global) (ks : List (String Global)) → list_any (string_eq x) ks ≡ is_among bytes_eq (map string_bytes ks) (string_bytes x)
-among_is x [] = refl
-among_is x (k ∷ ks) = ap (λ (b : Bool). string_eq x k || b) (among_is x ks)
-
-not_not : (b : Bool) → not (not b) ≡ b
-not_not true = refl
-not_not false = refl
-
--- ---- a set of names after one was added
-
--- the name is there or not, as the insertion reports
-pub was_there : (x : String Global) (ks : List (String Global)) (y : List ℕ) (is_new : Bool) → string_bytes x ≡ y → is_new ≡ not (list_any (string_eq x) ks) → not is_new ≡ is_among bytes_eq (map string_bytes ks) y
-was_there x ks y is_new text e = ap not e ∙ not_not (list_any (string_eq x) ks) ∙ among_is x ks ∙ ap (is_among bytes_eq (map string_bytes ks)) text
-
-kept_apart : (b : Bool) (x : String Global) (ks : List (String Global)) → list_any (string_eq x) ks ≡ b → repeats bytes_eq (map string_bytes ks) ≡ false → repeats bytes_eq (map string_bytes (insert_key string_eq ks x)) ≡ false
-kept_apart true x ks e apart = rw e apart
-kept_apart false x ks e apart =
-    rw (e, map_push string_bytes ks x) (apart_push bytes_eq nat_list_eq_equiv.symm (map string_bytes ks) (string_bytes x) apart (sym (among_is x ks) ∙ e))
-
-pub still_apart : (x : String Global) (ks new : List (String Global)) → new ≡ insert_key string_eq ks x → repeats bytes_eq (map string_bytes ks) ≡ false → repeats bytes_eq (map string_bytes new) ≡ false
-still_apart x ks new keys apart = ap (λ (l : List (String Global)). repeats bytes_eq (map string_bytes l)) keys ∙ kept_apart (list_any (string_eq x) ks) x ks refl apart
+use Rattle.ocl_base.proofs.ForAbove.{stands_once, found_again}
 
 -- ---- a list of names, and its parts
 

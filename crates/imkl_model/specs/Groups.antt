@@ -1,10 +1,11 @@
 -- Clashes, looked for among the features of one name.
-use Rattle.std.specs.Prelude.{ℕ, ◌<◌, ◌&&◌, ◌==◌, Bool, false, not, List, [], ◌∷◌, length, find, Option, Some, None}
+use Rattle.std.specs.Prelude.{◌≡◌, ◌⊎◌, IfSome, true, ℕ, ◌<◌, ◌&&◌, ◌==◌, Bool, false, not, List, [], ◌∷◌, length, find, Option, Some, None}
 use Rattle.std.specs.List.{list_any}
 use Rattle.imkl_model.specs.declared.entry.Class.{Class}
 use Rattle.imkl_model.specs.declared.feature.FeatureInfo.{FeatureInfo}
-use Rattle.imkl_model.specs.ClassModel.{Model, feature_at, feature_in, belongs, is_named}
-use Rattle.imkl_model.specs.Chains.{any_below}
+use Rattle.imkl_model.specs.ClassModel.{Model, supers, feature_at, feature_in, belongs, is_named}
+use Rattle.imkl_model.specs.Chains.{any_below, reaches}
+use Rattle.imkl_model.specs.Held.{Group, own_in}
 use Rattle.ocl_base.specs.Numbers.{places}
 
 -- classes and features alone
@@ -45,3 +46,11 @@ group_meets m f = begins_with (group m f) f && any_below (λ c. meets m c (group
 -- each feature's owner is a class
 abbrev pub AreOwned : List Class → List FeatureInfo → Type 0
 AreOwned classes features = (f : ℕ) → f < length features → (feature_in features f).owner < length classes
+
+-- what a look-up among the features of one name answers for a class that has none of its own: the first that belongs, or
+-- that of some class above, and none only where no class above has one
+abbrev pub IsInherited : Model → ℕ → Group → Option ℕ → Type 0
+IsInherited m c g o =
+    (o ≡ find (belongs m c) g.numbers)
+    ⊎ (IfSome o (λ f. (d : ℕ) × (reaches (supers m) c d ≡ true) × (own_in g d ≡ Some f))
+    × (o ≡ None → (d : ℕ) → d < length m.classes → reaches (supers m) c d ≡ true → own_in g d ≡ None))

@@ -1,5 +1,5 @@
 -- What the tables of a class model keep beside its content, for look-ups.
-use Rattle.std.specs.Prelude.{◌≡◌, ℕ, ◌<◌, ◌==◌, ◌&&◌, [], Bool, List, Option, length, unwrap_or}
+use Rattle.std.specs.Prelude.{◌≡◌, ℕ, ◌<◌, ◌==◌, ◌&&◌, [], Bool, List, Option, is_some, length, unwrap_or}
 use Rattle.std.specs.Map.{lookup}
 use Rattle.std.specs.Ordering.{nat_cmp}
 use Rattle.std.specs.BTreeMap.{is_at}
@@ -8,7 +8,7 @@ use Rattle.imkl_model.specs.declared.entry.Class.{Class}
 use Rattle.imkl_model.specs.declared.feature.FeatureInfo.{FeatureInfo}
 use Rattle.imkl_model.specs.ClassModel.{supers_in, names_of_classes, feature_in, is_named_in}
 use Rattle.imkl_model.specs.Chains.{reaches}
-use Rattle.imkl_model.specs.Tables.{IsSquare, mark_at}
+use Rattle.imkl_model.specs.Tables.{IsSquare, mark_at, has_mark}
 
 -- classes, their names in order, and a row of the classes that each class reaches
 pub record ClassesHold (cs : List Class) (ns : List (List ℕ)) (rows : List (List Bool)) : Type 0 where
@@ -27,6 +27,10 @@ no_group = record { numbers = []; own = [] }
 -- the first feature that a class itself has
 abbrev pub own_in : Group → ℕ → Option ℕ
 own_in g c = lookup (is_at (nat_cmp c)) g.own
+
+-- a row marks the owners, among the numbers that it has marks for
+abbrev pub MarksOwners : List Bool → Group → Type 0
+MarksOwners row g = (c : ℕ) → c < length row → has_mark row c ≡ is_some (own_in g c)
 
 -- a feature of this name that the class itself has
 abbrev pub is_own_in : List FeatureInfo → List ℕ → ℕ → ℕ → Bool

@@ -19,4 +19,5 @@ pub mod Spelled
 pub mod Drafts
 pub mod Tables
 pub mod Held
+pub mod Ranks
 pub mod Groups

@@ -2,9 +2,10 @@
 
 ghost use Rattle.std.specs.Prelude.{◌≡◌, ◌<◌, length, find, All, IfSome};
 ghost use Rattle.imkl_model.specs.ClassModel.{belongs};
-ghost use Rattle.imkl_model.specs.Groups.{model_with, AreOwned};
+ghost use Rattle.imkl_model.specs.Groups.{model_with, AreOwned, IsInherited};
 
 use crate::class_table::ClassTable;
+use crate::feature_group::FeatureGroup;
 use crate::feature_table::FeatureTable;
 use crate::numbers::{ClassNo, FeatureNo};
 
@@ -28,4 +29,24 @@ pub(crate) fn first_belonging(
         }
     }
     None
+}
+
+/// The feature of a group that a class has from a class above it. The class has none of its own.
+pub(crate) fn inherited(
+    classes: &ClassTable,
+    features: &FeatureTable,
+    class: ClassNo,
+    group: &FeatureGroup,
+) -> Option<FeatureNo>
+    requires class { class < length classes.now }
+    requires numbers { All (λ f. f < length features.now) group.now.numbers }
+    requires owners { AreOwned classes.now features.now }
+    ensures { IsInherited (model_with classes.now features.now) class group.now result }
+{
+    let owners = group.owners();
+    if owners.len() != classes.len() {
+        return first_belonging(classes, features, class, group.numbers());
+    }
+    let owner = classes.above(class).common(owners)?;
+    group.own(ClassNo::new(owner))
 }

@@ -55,13 +55,17 @@ fn meet(
     }
 }
 
-/// Whether two of some features have different owners and belong to one class.
+/// Whether two of some features have different owners and belong to one class. One feature alone needs no look at the
+/// classes.
 fn meet_somewhere(classes: &ClassTable, features: &FeatureTable, numbers: &[FeatureNo]) -> bool
     requires numbers { All (λ f. f < length features.now) numbers.now }
     requires owners { AreOwned classes.now features.now }
     ensures { result ≡ any_below (λ c. meets (model_with classes.now features.now) c numbers.now)
         (length classes.now) }
 {
+    if numbers.len() < 2 {
+        return false;
+    }
     for class in 0..classes.len() {
         if meet(classes, features, ClassNo::new(class), numbers) {
             return true;

@@ -1,8 +1,8 @@
 //! The classes of a class model, with tables for look-ups.
 
-ghost use Rattle.std.specs.Prelude.{◌≡◌, ◌<◌, length, position, bytes_eq, slice_index_or, IfOk};
-ghost use Rattle.imkl_model.specs.Chains.{is_or_reaches, is_cyclic};
-ghost use Rattle.imkl_model.specs.Tables.{AreWithin};
+ghost use Rattle.std.specs.Prelude.{◌≡◌, ◌<◌, ℕ, length, position, bytes_eq, slice_index_or, IfOk};
+ghost use Rattle.imkl_model.specs.Chains.{is_or_reaches, reaches, is_cyclic};
+ghost use Rattle.imkl_model.specs.Tables.{AreWithin, has_mark};
 ghost use Rattle.imkl_model.specs.ClassModel.{supers_in, names_of_classes, no_class};
 
 use crate::ancestors::{ancestor_rows, reaches_itself};
@@ -87,6 +87,15 @@ impl ClassTable {
     {
         let row = &self.reached[from.index()];
         from.index() == to.index() || row.has(to.index())
+    }
+
+    /// The classes above a class, as marks.
+    pub(crate) fn above(&self, class: ClassNo) -> &Row
+        requires { class < length self.now }
+        ensures long { length result.now ≡ length self.now }
+        ensures marks { (d : ℕ) → has_mark result.now d ≡ reaches (supers_in self.now) class d }
+    {
+        &self.reached[class.index()]
     }
 
     /// Whether a class is above itself.

@@ -47,7 +47,7 @@ pub(crate) fn draft_of(
     let name = written.name.copy(alloc)?;
     let classes = ClassTable::new(alloc, classes, scope.classes)?;
     let enumerations = EnumerationTable::new(enumerations, scope.enumerations);
-    let features = FeatureTable::new(alloc, features)?;
+    let features = FeatureTable::new(alloc, features, classes.len())?;
     Ok(Draft {
         name,
         enumerations,

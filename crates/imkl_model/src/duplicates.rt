@@ -1,8 +1,8 @@
 //! Repeated names.
 
-ghost use Rattle.std.specs.Prelude.{◌≡◌, ◌++◌, ◌∷◌, [], false, map, IfOk, bytes_eq};
+ghost use Rattle.std.specs.Prelude.{◌≡◌, ◌++◌, false, not, map, is_some, IfOk, IfSome, OnOk, bytes_eq, string_bytes};
 ghost use Rattle.std.specs.List.{list_any};
-ghost use Rattle.ocl_base.specs.Lists.{is_among, repeats};
+ghost use Rattle.ocl_base.specs.Lists.{repeats};
 ghost use Rattle.imkl_model.specs.Words.{is_predefined, qualified};
 ghost use Rattle.imkl_model.specs.Checks.{repeats_type, repeats_literal, repeats_super, repeats_association, repeats_feature, repeats_name, feature_names};
 ghost use Rattle.imkl_model.specs.WrittenFeatures.{written_features};
@@ -17,48 +17,45 @@ use std::alloc::{AllocError, Global};
 
 /// What has a name of its own.
 pub(crate) trait Named {
-    ghost use Rattle.std.specs.Prelude.{◌≡◌, ◌++◌, ◌∷◌, [], false, List, ℕ, IfOk, bytes_eq};
-    ghost use Rattle.ocl_base.specs.Lists.{is_among};
+    ghost use Rattle.std.specs.Prelude.{◌≡◌, List, ℕ, IfOk, string_bytes};
 
     /// The name's bytes.
     ghost label: { Self → List ℕ };
 
-    /// Adds the name unless it is there already, and returns whether it was.
-    fn add_to(&self, alloc: Global, names: &mut Names) -> Result<bool, AllocError>
-        ensures there { IfOk result (λ b. b ≡ is_among bytes_eq names.old (label self.now)) }
-        ensures added { IfOk result (λ b. b ≡ false
-            → names.new ≡ names.old ++ label self.now ∷ []) };
+    /// A copy of the name.
+    fn text(&self, alloc: Global) -> Result<String, AllocError>
+        ensures { IfOk result (λ text. string_bytes text ≡ label self.now) };
 }
 
 impl Named for Name {
     ghost label = { λ n. n };
 
-    fn add_to(&self, alloc: Global, names: &mut Names) -> Result<bool, AllocError> {
-        names.add(alloc, self.as_str())
+    fn text(&self, alloc: Global) -> Result<String, AllocError> {
+        String::from_str(alloc, self.as_str())
     }
 }
 
 impl Named for WrittenEnumeration {
     ghost label = { λ e. e.name };
 
-    fn add_to(&self, alloc: Global, names: &mut Names) -> Result<bool, AllocError> {
-        names.add(alloc, self.name.as_str())
+    fn text(&self, alloc: Global) -> Result<String, AllocError> {
+        String::from_str(alloc, self.name.as_str())
     }
 }
 
 impl Named for WrittenClass {
     ghost label = { λ c. c.name };
 
-    fn add_to(&self, alloc: Global, names: &mut Names) -> Result<bool, AllocError> {
-        names.add(alloc, self.name.as_str())
+    fn text(&self, alloc: Global) -> Result<String, AllocError> {
+        String::from_str(alloc, self.name.as_str())
     }
 }
 
 impl Named for WrittenAssociation {
     ghost label = { λ a. a.name };
 
-    fn add_to(&self, alloc: Global, names: &mut Names) -> Result<bool, AllocError> {
-        names.add(alloc, self.name.as_str())
+    fn text(&self, alloc: Global) -> Result<String, AllocError> {
+        String::from_str(alloc, self.name.as_str())
     }
 }
 
@@ -67,36 +64,52 @@ impl Named for WrittenFeature {
 
     ghost label = { λ f. qualified f.owner f.name };
 
-    fn add_to(&self, alloc: Global, names: &mut Names) -> Result<bool, AllocError> {
-        let text = format!(in alloc; "{}.{}", self.owner.as_str(), self.name.as_str())?;
-        names.add(alloc, text.as_str())
+    fn text(&self, alloc: Global) -> Result<String, AllocError> {
+        format!(in alloc; "{}.{}", self.owner.as_str(), self.name.as_str())
     }
 }
 
-/// Adds names as long as they differ, and returns whether one was there already.
-pub(crate) fn add_all<T: Named>(
+/// Adds the names of these after others.
+fn push_texts<T: Named>(
     alloc: Global,
-    names: &mut Names,
+    texts: &mut Vec<String>,
     items: &[T],
-) -> Result<bool, AllocError>
-    ensures twice { IfOk result (λ b. b ≡ repeats bytes_eq (names.old ++ map T.label items.now)) }
-    ensures added { IfOk result (λ b. b ≡ false → names.new ≡ names.old ++ map T.label items.now) }
+) -> Result<(), AllocError>
+    ensures { OnOk result (map string_bytes texts.new.items
+        ≡ map string_bytes texts.old.items ++ map T.label items.now) }
 {
     for item in items {
-        if item.add_to(alloc, names)? {
-            return Ok(true);
-        }
+        texts.push(item.text(alloc)?)?;
     }
-    names.distinct();
-    Ok(false)
+    Ok(())
+}
+
+/// The names of these in their order, if they differ.
+pub(crate) fn names_of<T: Named>(alloc: Global, items: &[T]) -> Result<Option<Names>, AllocError>
+    ensures names { IfOk result (λ found. IfSome found (λ n. n ≡ map T.label items.now)) }
+    ensures differ { IfOk result (λ found. is_some found
+        ≡ not (repeats bytes_eq (map T.label items.now))) }
+{
+    let mut texts = Vec::new(alloc);
+    push_texts(alloc, &mut texts, items)?;
+    Names::of(alloc, texts.as_slice())
+}
+
+/// The names of these in their order. They differ.
+pub(crate) fn distinct_names<T: Named>(alloc: Global, items: &[T]) -> Result<Names, AllocError>
+    requires { repeats bytes_eq (map T.label items.now) ≡ false }
+    ensures { IfOk result (λ n. n ≡ map T.label items.now) }
+{
+    let found = names_of(alloc, items)?;
+    Ok(found.unwrap())
 }
 
 /// Whether a name is repeated.
 fn any_twice<T: Named>(alloc: Global, items: &[T]) -> Result<bool, AllocError>
     ensures { IfOk result (λ b. b ≡ repeats bytes_eq (map T.label items.now)) }
 {
-    let mut names = Names::new(alloc);
-    add_all(alloc, &mut names, items)
+    let found = names_of(alloc, items)?;
+    Ok(found.is_none())
 }
 
 fn predefined_enumeration(enumerations: &[WrittenEnumeration]) -> bool
@@ -131,11 +144,11 @@ fn repeats_type(alloc: Global, written: &Written) -> Result<bool, AllocError>
     if predefined_enumeration(enumerations) || predefined_class(classes) {
         return Ok(true);
     }
-    let mut names = Names::new(alloc);
-    if add_all(alloc, &mut names, enumerations)? {
-        return Ok(true);
-    }
-    add_all(alloc, &mut names, classes)
+    let mut texts = Vec::new(alloc);
+    push_texts(alloc, &mut texts, enumerations)?;
+    push_texts(alloc, &mut texts, classes)?;
+    let found = Names::of(alloc, texts.as_slice())?;
+    Ok(found.is_none())
 }
 
 fn repeats_literal(alloc: Global, enumerations: &[WrittenEnumeration]) -> Result<bool, AllocError>

@@ -1,38 +1,47 @@
 //! The features of one name.
 
-ghost use Rattle.std.specs.Prelude.{◌≡◌, ◌++◌, ◌∷◌, ◌==◌, [], ℕ, OnOk, Some, None, if◌then◌else◌};
+ghost use Rattle.std.specs.Prelude.{◌≡◌, ◌++◌, ◌∷◌, ◌==◌, [], ℕ, IfOk, OnOk, Some, None, if◌then◌else◌};
 ghost use Rattle.std.specs.Option.{option_or};
-ghost use Rattle.imkl_model.specs.Held.{Group, no_group, own_in};
+ghost use Rattle.imkl_model.specs.Held.{Group, MarksOwners, no_group, own_in};
 
 use crate::numbers::{ClassNo, FeatureNo};
+use crate::row::Row;
 use std::alloc::{AllocError, Global};
 use std::collections::BTreeMap;
 use std::marker::Model;
 
-/// The numbers of the features of one name, in order, and for each owner the first that it has.
+/// The numbers of the features of one name, in order, and for each owner the first that it has. The owners are marked in
+/// a row too, so that those above a class are found without a look at each.
 #[derive(Drop)]
 pub(crate) struct FeatureGroup {
     numbers: Vec<FeatureNo>,
     by_owner: BTreeMap<usize, FeatureNo>,
+    owners: Row,
 }
 
 impl Model for FeatureGroup {
-    ghost use Rattle.imkl_model.specs.Held.{Group};
+    ghost use Rattle.imkl_model.specs.Held.{Group, MarksOwners};
 
     ghost Value = { Group };
 
     ghost view = { λ g. record { numbers = g.numbers.items; own = g.by_owner.entries } };
+
+    ghost invariant = { λ g. MarksOwners g.owners (record {
+      numbers = g.numbers.items;
+      own = g.by_owner.entries;
+    }) };
 }
 
 impl FeatureGroup {
-    /// No features.
-    pub(crate) fn new(alloc: Global) -> FeatureGroup
-        ensures { result ≡ no_group }
+    /// No features, in a class model of so many classes.
+    pub(crate) fn new(alloc: Global, classes: usize) -> Result<FeatureGroup, AllocError>
+        ensures { IfOk result (λ g. g ≡ no_group) }
     {
-        FeatureGroup {
+        Ok(FeatureGroup {
             numbers: Vec::new(alloc),
             by_owner: BTreeMap::new(alloc),
-        }
+            owners: Row::new(alloc, classes)?,
+        })
     }
 
     /// Adds a feature after the others.
@@ -43,6 +52,7 @@ impl FeatureGroup {
     {
         self.numbers.push(number)?;
         self.by_owner.entry(owner.index())?.or_insert(number);
+        self.owners.add_within(owner.index());
         Ok(())
     }
 
@@ -57,5 +67,12 @@ impl FeatureGroup {
         ensures { result ≡ own_in self.now class }
     {
         self.by_owner.get(&class.index()).copied()
+    }
+
+    /// The owners, as marks.
+    pub(crate) fn owners(&self) -> &Row
+        ensures { MarksOwners result.now self.now }
+    {
+        &self.owners
     }
 }

@@ -35,11 +35,15 @@ impl Model for FeatureTable {
 }
 
 impl FeatureTable {
-    /// The table of these features.
-    pub(crate) fn new(alloc: Global, features: Vec<FeatureInfo>) -> Result<FeatureTable, AllocError>
+    /// The table of these features, in a class model of so many classes.
+    pub(crate) fn new(
+        alloc: Global,
+        features: Vec<FeatureInfo>,
+        classes: usize,
+    ) -> Result<FeatureTable, AllocError>
         ensures { IfOk result (λ t. t ≡ features.items) }
     {
-        let groups = groups_of(alloc, &features)?;
+        let groups = groups_of(alloc, &features, classes)?;
         Ok(FeatureTable { features, groups })
     }
 
@@ -75,16 +79,17 @@ impl FeatureTable {
 fn groups_of(
     alloc: Global,
     features: &[FeatureInfo],
+    classes: usize,
 ) -> Result<BTreeMap<String, FeatureGroup>, AllocError>
     ensures { IfOk result (λ m. AreGroups features.now (length features.now) (get_by_text m)) }
 {
     let mut groups: BTreeMap<String, FeatureGroup> = BTreeMap::new(alloc);
     for (number, feature) in features.iter().enumerate() {
         let name = String::from_str(alloc, feature.name.as_str())?;
-        let group = groups
-            .entry(name)?
-            .or_insert_with(|| FeatureGroup::new(alloc));
-        group.push(feature.owner, FeatureNo::new(number))?;
+        let none = FeatureGroup::new(alloc, classes)?;
+        let group = groups.entry(name)?.or_insert(none);
+        let place = FeatureNo::new(number);
+        group.push(feature.owner, place)?;
     }
     Ok(groups)
 }

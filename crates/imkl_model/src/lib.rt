@@ -27,6 +27,7 @@ mod numbers;
 mod reading;
 mod row;
 mod same;
+mod sorted_texts;
 mod tree;
 mod words;
 mod written;

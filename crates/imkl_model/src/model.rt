@@ -8,7 +8,7 @@ ghost use Rattle.imkl_model.specs.Faults.{model_fault};
 ghost use Rattle.imkl_model.specs.Drafts.{IsNumbered, model_of_draft};
 ghost use Rattle.imkl_model.specs.Description.{ModelAnswers, checked_model};
 
-use crate::belonging::first_belonging;
+use crate::belonging::inherited;
 use crate::checks::have_multiplicities;
 use crate::clash::has_clash;
 use crate::class_table::ClassTable;
@@ -212,7 +212,7 @@ impl ClassModel {
         let group = self.features.group(name)?;
         match group.own(class) {
             Some(own) => Some(own),
-            None => first_belonging(&self.classes, &self.features, class, group.numbers()),
+            None => inherited(&self.classes, &self.features, class, group),
         }
     }
 

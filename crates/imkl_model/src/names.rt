@@ -1,54 +1,64 @@
 //! Names that differ, numbered in their order.
 
-ghost use Rattle.std.specs.Prelude.{◌≡◌, ◌<◌, ◌++◌, ◌∷◌, [], false, length, position, bytes_eq, slice_index_or, IfOk, Decides};
-ghost use Rattle.ocl_base.specs.Lists.{is_among, repeats};
+ghost use Rattle.std.specs.Prelude.{◌≡◌, ◌<◌, [], not, length, map, position, bytes_eq, slice_index_or, string_bytes, is_some, IfOk, IfSome, Decides};
+ghost use Rattle.ocl_base.specs.Lists.{repeats};
 
+use crate::sorted_texts::{in_order, rank_of};
 use indexmap::IndexSet;
 use std::alloc::{AllocError, Global};
 use std::marker::Model;
 
-/// Names that differ, in the order in which they were added.
+/// Names that differ, in their order.
+///
+/// A name is looked up by the order of bytes, and then by its rank. Only ranks are hashed, so no choice of names makes
+/// their hashes collide.
 #[derive(Drop)]
 pub struct Names {
-    texts: IndexSet<String>,
+    /// The names in order of their bytes.
+    sorted: Vec<String>,
+    /// The rank of each name among these.
+    ranks: IndexSet<usize>,
 }
 
 impl Model for Names {
-    ghost use Rattle.std.specs.Prelude.{◌≡◌, List, ℕ, map, string_bytes, bytes_eq, false};
-    ghost use Rattle.ocl_base.specs.Lists.{repeats};
+    ghost use Rattle.std.specs.Prelude.{List, ℕ, map, string_bytes};
+    ghost use Rattle.imkl_model.specs.Ranks.{named, HoldsNames};
 
     ghost Value = { List (List ℕ) };
 
-    ghost view = { λ n. map string_bytes n.texts.keys };
+    ghost view = { λ n. map (named (map string_bytes n.sorted.items)) n.ranks.keys };
 
-    ghost invariant = { λ n. repeats bytes_eq (map string_bytes n.texts.keys) ≡ false };
+    ghost invariant = { λ n. HoldsNames n.sorted.items n.ranks.keys };
 }
 
 impl Names {
-    /// No names.
-    pub(crate) fn new(alloc: Global) -> Names
-        ensures { result ≡ [] }
+    /// These names in their order, if they differ.
+    pub(crate) fn of(alloc: Global, texts: &[String]) -> Result<Option<Names>, AllocError>
+        ensures names { IfOk result (λ found. IfSome found (λ n. n ≡ map string_bytes texts.now)) }
+        ensures differ { IfOk result (λ found. is_some found
+            ≡ not (repeats bytes_eq (map string_bytes texts.now))) }
     {
-        Names {
-            texts: IndexSet::new(alloc),
+        let sorted = in_order(alloc, texts)?;
+        let mut ranks = IndexSet::new(alloc);
+        for text in texts {
+            let Some(rank) = rank_of(sorted.as_slice(), text.as_str()) else {
+                return Ok(None);
+            };
+            if !ranks.insert(rank)? {
+                return Ok(None);
+            }
         }
-    }
-
-    /// Adds a name unless it is there already, and returns whether it was.
-    pub(crate) fn add(&mut self, alloc: Global, name: &str) -> Result<bool, AllocError>
-        ensures there { IfOk result (λ b. b ≡ is_among bytes_eq self.old name.now) }
-        ensures added { IfOk result (λ b. b ≡ false → self.new ≡ self.old ++ name.now ∷ []) }
-    {
-        let text = String::from_str(alloc, name)?;
-        let is_new = self.texts.insert(text)?;
-        Ok(!is_new)
+        Ok(Some(Names { sorted, ranks }))
     }
 
     /// The index of a name.
     pub(crate) fn number_of(&self, name: &str) -> Option<usize>
         ensures { result ≡ position (bytes_eq name.now) self.now }
     {
-        self.texts.get_index_of(name)
+        match rank_of(self.sorted.as_slice(), name) {
+            Some(rank) => self.ranks.get_index_of(&rank),
+            None => None,
+        }
     }
 
     /// The name at an index.
@@ -56,14 +66,14 @@ impl Names {
         requires { index < length self.now }
         ensures { result.now ≡ slice_index_or self.now index [] }
     {
-        self.texts[index].as_str()
+        self.sorted[self.ranks[index]].as_str()
     }
 
     /// How many names there are.
     pub(crate) fn len(&self) -> usize
         ensures { result ≡ length self.now }
     {
-        self.texts.len()
+        self.ranks.len()
     }
 
     /// Whether two lists have the same names in the same order.
@@ -79,12 +89,5 @@ impl Names {
             }
         }
         true
-    }
-
-    /// The names differ.
-    pub(crate) fn distinct(&self)
-        ensures { repeats bytes_eq self.now ≡ false }
-    {
-        let _texts = &self.texts;
     }
 }

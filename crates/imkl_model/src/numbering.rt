@@ -10,7 +10,7 @@ ghost use Rattle.imkl_model.specs.WrittenFeatures.{written_features};
 ghost use Rattle.imkl_model.specs.Scopes.{scope_of};
 ghost use Rattle.imkl_model.specs.Numbering.{number_in, scalar_type, element_type, kind_of, collection_kind, feature_in_scope, class_in_scope, enumeration_as_written};
 
-use crate::duplicates::add_all;
+use crate::duplicates::distinct_names;
 use crate::entry::{Class, Enumeration};
 use crate::fault::ModelFault;
 use crate::feature::{ElementType, FeatureInfo, Role, is_single};
@@ -37,10 +37,8 @@ pub(crate) fn scope_of(alloc: Global, written: &Written) -> Result<Scope, AllocE
     requires enumerations { repeats bytes_eq (written_enumeration_names written.now) ≡ false }
     ensures { IfOk result (λ s. s ≡ scope_of written.now) }
 {
-    let mut classes = Names::new(alloc);
-    add_all(alloc, &mut classes, written.classes.as_slice())?;
-    let mut enumerations = Names::new(alloc);
-    add_all(alloc, &mut enumerations, written.enumerations.as_slice())?;
+    let classes = distinct_names(alloc, written.classes.as_slice())?;
+    let enumerations = distinct_names(alloc, written.enumerations.as_slice())?;
     Ok(Scope {
         classes,
         enumerations,
@@ -193,8 +191,7 @@ fn enumeration_of(
     ensures { IfOk result (λ e. e ≡ enumeration_as_written enumeration.now) }
 {
     let name = enumeration.name.copy(alloc)?;
-    let mut literals = Names::new(alloc);
-    add_all(alloc, &mut literals, enumeration.literals.as_slice())?;
+    let literals = distinct_names(alloc, enumeration.literals.as_slice())?;
     Ok(Enumeration { name, literals })
 }
 

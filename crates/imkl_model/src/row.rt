@@ -1,6 +1,6 @@
 //! A set of class numbers, as bits.
 
-ghost use Rattle.std.specs.Prelude.{◌≡◌, ℕ, ◌<◌, ◌==◌, ◌||◌, ◌/◌, false, length, IfOk};
+ghost use Rattle.std.specs.Prelude.{◌≡◌, ℕ, ◌<◌, ◌==◌, ◌&&◌, ◌||◌, ◌/◌, true, false, length, None, IfOk, IfSome};
 ghost use Rattle.imkl_model.specs.Tables.{has_mark, is_marked};
 
 use std::alloc::{AllocError, Global};
@@ -51,6 +51,24 @@ impl Row {
         mark(&mut self.words, number);
     }
 
+    /// Marks a number if it is one of so many.
+    pub(crate) fn add_within(&mut self, number: usize)
+        ensures same { length self.new ≡ length self.old }
+        ensures marks { (j : ℕ) → j < length self.old
+            → has_mark self.new j ≡ (has_mark self.old j || (number == j)) }
+    {
+        if number < self.count {
+            self.add(number);
+        }
+    }
+
+    /// How many numbers may be marked.
+    pub(crate) fn len(&self) -> usize
+        ensures { result ≡ length self.now }
+    {
+        self.count
+    }
+
     /// Adds the marks of another.
     pub(crate) fn merge(&mut self, other: &Row)
         requires { length self.old ≡ length other.now }
@@ -59,6 +77,17 @@ impl Row {
             ≡ (has_mark self.old j || has_mark other.now j) }
     {
         merge(&mut self.words, &other.words);
+    }
+
+    /// A number that is marked in both, if there is one.
+    pub(crate) fn common(&self, other: &Row) -> Option<usize>
+        ensures found { IfSome result (λ j. (j < length self.now) × (has_mark self.now j ≡ true)
+            × (has_mark other.now j ≡ true)) }
+        ensures none { result ≡ None
+            → (j : ℕ) → (has_mark self.now j && has_mark other.now j) ≡ false }
+    {
+        let count = self.count.min(other.count);
+        common(self.words.as_slice(), other.words.as_slice(), count)
     }
 
     /// Takes over the marks of another.
@@ -95,4 +124,26 @@ fn merge(words: &mut Vec<u64>, more: &Vec<u64>)
     for i in 0..words.len() {
         words[i] |= more[i];
     }
+}
+
+/// The least number below a bound that is marked in both. Words with no such number are passed over whole.
+fn common(words: &[u64], others: &[u64], count: usize) -> Option<usize>
+    requires words { count / 64 < length words.now }
+    requires others { count / 64 < length others.now }
+    ensures found { IfSome result (λ j. (j < count) × (is_marked words.now j ≡ true)
+        × (is_marked others.now j ≡ true)) }
+    ensures none { result ≡ None → (j : ℕ) → j < count
+        → (is_marked words.now j && is_marked others.now j) ≡ false }
+{
+    let mut number = 0;
+    while number < count {
+        if words[number / 64] & others[number / 64] == 0 {
+            number = number.saturating_add(64 - number % 64);
+        } else if is_marked(words, number) && is_marked(others, number) {
+            return Some(number);
+        } else {
+            number += 1;
+        }
+    }
+    None
 }

@@ -3,13 +3,13 @@ use Rattle.imkl_model.specs.ClassModel.{Model, is_named, feature_number}
 use Rattle.imkl_model.specs.contracts.model.ClassModel.{the_view}
 use Rattle.imkl_model.specs.Held.{no_group}
 use Rattle.ocl_base.proofs.ForAbove.{places_below}
-use Rattle.imkl_model.proofs.Lookup.{first_is, own_is, found_in_range, found_belongs, found_named}
+use Rattle.imkl_model.proofs.Lookup.{first_is, own_is, inherited_is, found_in_range, found_belongs, found_named}
 use Rattle.imkl_model.proofs.model.ClassModel.feature.Goals as goal
 
-pub first_belonging-requires-clause-numbers : goal.first_belonging-requires-clause-numbers
-first_belonging-requires-clause-numbers c =
+pub inherited-requires-clause-numbers : goal.inherited-requires-clause-numbers
+inherited-requires-clause-numbers c =
     let features = c.self.inside.features in
-    rw (c.numbers.ensures, c.in_ok-group.ensures.numbers) (places_below (is_named (the_view c.self.inside) c.args.name.now) (length features))
+    rw c.in_ok-group.ensures.numbers (places_below (is_named (the_view c.self.inside) c.args.name.now) (length features))
 
 pub returns-in_err-group-clause-number : goal.returns-in_err-group-clause-number
 returns-in_err-group-clause-number c =
@@ -26,9 +26,9 @@ returns-in-Some-clause-number c =
 pub returns-in-None-clause-number : goal.returns-in-None-clause-number
 returns-in-None-clause-number c =
     let q = c.args.name.now in
-    let first = first_is (the_view c.self.inside) c.args.class q c.in_ok-group.group.now c.in_ok-group.ensures in
-    let inherited = c.first_belonging.ensures.found ∙ rw c.numbers.ensures first in
-    subst (λ (m : Model). c.first_belonging.result ≡ feature_number m c.args.class q) c.self.view_is inherited
+    let none = sym c.own.ensures ∙ c.in-None.is in
+    let inherited = inherited_is (the_view c.self.inside) c.args.class q c.in_ok-group.group.now c.in_ok-group.ensures c.self.invariant none c.inherited.result c.inherited.ensures in
+    subst (λ (m : Model). c.inherited.result ≡ feature_number m c.args.class q) c.self.view_is inherited
 
 pub returns-in-Some-clause-in_range : goal.returns-in-Some-clause-in_range
 returns-in-Some-clause-in_range c = found_in_range c.args.self.now c.args.class c.args.name.now (Some c.in-Some.own) (returns-in-Some-clause-number c)
@@ -40,7 +40,10 @@ pub returns-in-Some-clause-named : goal.returns-in-Some-clause-named
 returns-in-Some-clause-named c = found_named c.args.self.now c.args.class c.args.name.now (Some c.in-Some.own) (returns-in-Some-clause-number c)
 
 pub returns-in-None-clause-belongs : goal.returns-in-None-clause-belongs
-returns-in-None-clause-belongs c = found_belongs c.args.self.now c.args.class c.args.name.now c.first_belonging.result (returns-in-None-clause-number c)
+returns-in-None-clause-belongs c = found_belongs c.args.self.now c.args.class c.args.name.now c.inherited.result (returns-in-None-clause-number c)
 
 pub returns-in-None-clause-named : goal.returns-in-None-clause-named
-returns-in-None-clause-named c = found_named c.args.self.now c.args.class c.args.name.now c.first_belonging.result (returns-in-None-clause-number c)
+returns-in-None-clause-named c = found_named c.args.self.now c.args.class c.args.name.now c.inherited.result (returns-in-None-clause-number c)
+
+pub returns-in-None-clause-in_range : goal.returns-in-None-clause-in_range
+returns-in-None-clause-in_range c = found_in_range c.args.self.now c.args.class c.args.name.now c.inherited.result (returns-in-None-clause-number c)
