@@ -2,7 +2,7 @@
 use Rattle.std.proofs.Common.{◌≡◌, ℕ, ◌==◌, ◌<◌, ◌≤◌, Bool, true, false, ◌&&◌, not, cond, List, [], ◌∷◌, ◌++◌, length, Option, Some, None, refl, sym, ap, subst, ◌∙◌, bytes_eq, arith, if◌then◌else◌, is_none, is_some, get_or, set, inl, inr, nat_lt, length-append, Ordering, Less, Equal, Greater}
 use Rattle.std.proofs.lemmas.Bool.{false≢true, and_parts, and_from, cases_eq}
 use Rattle.std.proofs.lemmas.Bool.Decides.{leb_tells}
-use Rattle.std.proofs.lemmas.List.{get_or_default, get_or-set_same, get_or-set_other, length-set}
+use Rattle.std.proofs.lemmas.List.{get_or-set_same, get_or-set_other, length-set}
 use Rattle.std.proofs.Math.ListN.{get_or-append}
 use Rattle.std.proofs.Math.Seq.{get_or-append_seam}
 use Rattle.std.specs.List.{list_all}
@@ -35,7 +35,7 @@ use Rattle.imkl_population.proofs.Bools.{list_all-weaker, list_all-none}
 use Rattle.imkl_population.proofs.Ids.{object_number-push, absent_differs, object_number_in-set}
 
 -- nothing written is a map
-nothing_mapped : IsMap []
+pub nothing_mapped : IsMap []
 unfolding IsStrictlySortedBy
 nothing_mapped = tt
 
@@ -221,13 +221,3 @@ no_targets p element.Boolean vs none = list_all-none (is_target_of p element.Boo
 no_targets p element.Integer vs none = list_all-none (is_target_of p element.Integer) (λ v. refl) vs
 no_targets p element.String vs none = list_all-none (is_target_of p element.String) (λ v. refl) vs
 no_targets p (element.Enumeration e) vs none = list_all-none (is_target_of p (element.Enumeration e)) (λ v. refl) vs
-
--- the same, for an object found by its place
-pub draft-written : (m : Model) (os : List Object) (at o f n : ℕ) (vs : List Scalar) (slot : Object) (w : List (ℕ × List Scalar)) (ids : List ℕ → Option ℕ) → at ≡ o → n ≡ f → o < length os → f < length m.features
-    → slot ≡ get_or os at slot → w ≡ insert_entry nat_cmp slot.written n vs → IsMap w → IsDraft (of m os) ids → is_sound (of m os) o (f, vs) ≡ true
-    → IsDraft (of m (set os at (record { id = slot.id; class = slot.class; written = w }))) ids
-draft-written m os at o f n vs slot w ids here named inside below found put mapped draft sound =
-    let stands : slot ≡ get_or os o no_object = found ∙ rw here (get_or_default os o slot no_object inside) in
-    let written : w ≡ insert_entry nat_cmp (get_or os o no_object).written f vs = put ∙ rw named (ap (λ (x : Object). insert_entry nat_cmp x.written f vs) stands) in
-    let same : record { id = slot.id; class = slot.class; written = w } ≡ with_written (get_or os o no_object) f vs = rw (written, ← stands) refl in
-    rw (here, same) (draft-put m os o f vs ids inside below draft (subst IsMap written mapped) sound)

@@ -1,6 +1,6 @@
 -- Whether numbers are the sizes of a population.
-use Rattle.std.proofs.Common.{rules, ◌≡◌, ℕ, zero, suc, ◌+◌, ◌<◌, ◌≤◌, ◌≢◌, Bool, true, false, List, [], ◌∷◌, ◌++◌, length, get_or, take, Option, Some, None, refl, sym, ap, subst, ◌∙◌, arith, All, inl, inr, if◌then◌else◌}
-use Rattle.std.specs.Prelude.{max, unwrap_or, Decides, is_none, is_some}
+use Rattle.std.proofs.Common.{rules, ◌≡◌, ℕ, zero, suc, ◌+◌, ◌<◌, ◌≤◌, Bool, true, false, List, [], ◌∷◌, ◌++◌, length, get_or, take, Option, Some, None, refl, sym, ap, ◌∙◌, arith, inl, inr, if◌then◌else◌}
+use Rattle.std.specs.Prelude.{max, unwrap_or, is_some}
 use Rattle.std.specs.Map.{lookup}
 use Rattle.std.specs.Ordering.{nat_cmp, ord_max}
 use Rattle.std.specs.BTreeMap.{is_at}
@@ -11,11 +11,9 @@ use Rattle.std.proofs.lemmas.List.{take_more, take_all, append-nil}
 use Rattle.std.proofs.lemmas.Bool.{false≢true}
 use Rattle.std.proofs.lemmas.Bool.Decides.{leb_tells}
 use Rattle.ocl_base.specs.Numbers.{places}
-use Rattle.imkl_model.specs.declared.feature.FeatureInfo.{FeatureInfo}
-use Rattle.imkl_model.specs.ClassModel.{feature_at, belongs}
+use Rattle.imkl_model.specs.ClassModel.{feature_at}
 use Rattle.imkl_population.specs.declared.scalar.Scalar.{Scalar}
-use Rattle.imkl_population.specs.Written.{is_set, written_in}
-use Rattle.imkl_population.specs.Population.{Population, object_at, class_of, values_of, written_at, is_instance}
+use Rattle.imkl_population.specs.Population.{Population, object_at, values_of, is_instance}
 use Rattle.imkl_population.specs.Consistency.{IsConsistent}
 use Rattle.imkl_population.specs.Sizes.{list_below, is_unbounded, longest_below}
 use Rattle.imkl_population.proofs.Lengths.{length-list_below, unbounded_written}

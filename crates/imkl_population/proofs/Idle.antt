@@ -1,25 +1,18 @@
 -- Features at which nothing can be wrong when a population is finished.
-use Rattle.std.proofs.Common.{◌≡◌, ℕ, ◌<◌, Bool, true, false, ◌&&◌, ◌||◌, not, List, [], length, get_or, Option, Some, None, nat_lt, refl, sym, ap, ◌∙◌, arith, if◌then◌else◌}
+use Rattle.std.proofs.Common.{◌≡◌, ℕ, zero, suc, ◌<◌, Bool, true, false, ◌&&◌, ◌||◌, not, List, length, Some, None, nat_lt, refl, sym, ◌∙◌, arith, if◌then◌else◌}
 use Rattle.std.proofs.lemmas.Bool.{false≢true, lt-ltb, ltb-true, le-ltb, or_parts}
-use Rattle.std.proofs.lemmas.List.{get_or_default}
 use Rattle.imkl_model.specs.declared.feature.FeatureInfo.{FeatureInfo}
 use Rattle.imkl_model.specs.ClassModel.{feature_at, belongs}
-use Rattle.imkl_population.specs.declared.scalar.Scalar.{Scalar}
 use Rattle.imkl_population.specs.declared.required.Side.TheVariants.{Written, Opposite}
 use Rattle.imkl_population.specs.Building.{bounds_fault}
-use Rattle.imkl_population.specs.Ends.{AreEnds}
+use Rattle.imkl_population.specs.Ends.{IsUncrowdedBelow}
 use Rattle.imkl_population.specs.Finishing.{gap, end_fault}
-use Rattle.ocl_base.specs.Numbers.{places}
 use Rattle.imkl_population.specs.Numbers.{first_below}
 use Rattle.imkl_population.specs.Population.{Population, class_of, written_at, values_of}
 use Rattle.imkl_population.specs.Required.{Requirements, is_required, is_one_of, with_required}
 use Rattle.imkl_model.specs.Features.{is_opposite}
 use Rattle.imkl_population.specs.Values.{is_over}
-use Rattle.imkl_population.specs.Written.{is_set}
-use Rattle.imkl_population.proofs.EndLaws.{ends_values}
 use Rattle.imkl_population.proofs.Firsts.{first_in, first_in-places}
-use Rattle.imkl_population.proofs.Orders.{one_of-places}
-use Rattle.imkl_population.proofs.Soundness.{unset_in}
 
 abbrev pub written_side : Population → Requirements
 written_side p = record { model = p.model; side = Written }
@@ -42,26 +35,23 @@ no_gap p o f fs idle =
     none_by (belongs p.model (class_of p o) f) (not (is_opposite i.role)) (nat_lt 0 i.lower) (nat_lt n i.lower) _
     (λ h. lt-ltb 0 i.lower (omega (arith, ltb-true n i.lower h))) (or_parts (is_required (written_side p) (class_of p o) f) (is_one_of fs f) idle).0
 
-over_none : (upper : Option ℕ) → is_over upper 0 ≡ false
-over_none None = refl
-over_none (Some u) = le-ltb u 0 (omega arith)
+few_none : (n lower : ℕ) → nat_lt 0 lower ≡ false → nat_lt n lower ≡ false
+few_none n zero h = le-ltb n 0 (omega arith)
+few_none n (suc k) h = absurd (false≢true (sym h ∙ lt-ltb 0 (suc k) (omega arith)))
 
-end_by : (a b l : Bool) (i : FeatureInfo) (o f n : ℕ) → nat_lt 0 i.lower ≡ l → (a && b && l) ≡ false → (b ≡ true → n ≡ 0) → (if a && b then bounds_fault i o f n else None) ≡ None
-end_by false b l i o f n is idle empty = refl
-end_by true false l i o f n is idle empty = refl
-end_by true true true i o f n is idle empty = absurd (false≢true (sym idle))
-end_by true true false i o f n is idle empty = rw (empty refl, is, over_none i.upper) refl
+end_by : (a b l : Bool) (i : FeatureInfo) (o f n : ℕ) → nat_lt 0 i.lower ≡ l → (a && b && l) ≡ false → (b ≡ true → is_over i.upper n ≡ false) → (if a && b then bounds_fault i o f n else None) ≡ None
+end_by false b l i o f n is idle few = refl
+end_by true false l i o f n is idle few = refl
+end_by true true true i o f n is idle few = absurd (false≢true (sym idle))
+end_by true true false i o f n is idle few = rw (few_none n i.lower is, few refl) refl
 
--- where a class requires no holder and there is none, the bounds are kept
-pub no_end_fault : (p : Population) (ends : List (List (ℕ × List Scalar))) → AreEnds p ends → (o f : ℕ) (held : List ℕ) → o < length p.objects → f < length p.model.features
-    → held ≡ places (is_set (get_or ends o [])) (length p.model.features) → (is_required (opposite_side p) (class_of p o) f || is_one_of held f) ≡ false → end_fault p o f ≡ None
-no_end_fault p ends are o f held inside within set idle =
+-- where a class requires no holder and no end is crowded, the bounds are kept
+pub no_end_fault : (p : Population) (o f crowded : ℕ) (extra : List ℕ) → o < length p.objects → IsUncrowdedBelow p crowded f → (is_one_of extra f ≡ false → o < crowded)
+    → (is_required (opposite_side p) (class_of p o) f || is_one_of extra f) ≡ false → end_fault p o f ≡ None
+no_end_fault p o f crowded extra inside uncrowded others idle =
     let i : FeatureInfo = feature_at p.model f in
-    let w : List (ℕ × List Scalar) = get_or ends o [] in
-    let parts = or_parts (is_required (opposite_side p) (class_of p o) f) (is_one_of held f) idle in
-    let unset : is_set w f ≡ false = sym (one_of-places (is_set w) (length p.model.features) f within) ∙ ap (λ (l : List ℕ). is_one_of l f) (sym set) ∙ parts.1 in
-    end_by (belongs p.model (class_of p o) f) (is_opposite i.role) (nat_lt 0 i.lower) i o f (length (values_of p o f)) refl parts.0
-    (λ end. ap length (sym (ends_values p ends are o f inside end) ∙ unset_in w f unset))
+    let parts = or_parts (is_required (opposite_side p) (class_of p o) f) (is_one_of extra f) idle in
+    end_by (belongs p.model (class_of p o) f) (is_opposite i.role) (nat_lt 0 i.lower) i o f (length (values_of p o f)) refl parts.0 (uncrowded o inside (others parts.1))
 
 -- the first gap of an object is the first at what its class requires
 pub first_gap_in : (p : Population) (o : ℕ) (r : Requirements) (c : ℕ) (fs items : List ℕ) → r ≡ written_side p → c ≡ class_of p o → items ≡ with_required r c fs → first_in (gap p o) items ≡ first_below (gap p o) (length p.model.features)
@@ -69,17 +59,11 @@ first_gap_in p o r c fs items side class are =
     let list_below : items ≡ with_required (written_side p) (class_of p o) fs = are ∙ rw (side, class) refl in
     rw list_below (first_in-places (gap p o) (λ f. is_required (written_side p) (class_of p o) f || is_one_of fs f) (length p.model.features) (λ f lt idle. no_gap p o f fs idle))
 
--- the features with holders, of ends that are found by their place
-pub held_there : (p : Population) (ends : List (List (ℕ × List Scalar))) → AreEnds p ends → (o at count : ℕ) (w : List (ℕ × List Scalar)) (held : List ℕ) → o < length p.objects → at ≡ o → w ≡ get_or ends at w
-    → held ≡ places (is_set w) count → count ≡ length p.model.features → held ≡ places (is_set (get_or ends o [])) (length p.model.features)
-held_there p ends ok o at count w held inside here found are all =
-    let there : o < length ends = omega (arith, inside, ok.count) in
-    let stands : w ≡ get_or ends o [] = found ∙ ap (λ (k : ℕ). get_or ends k w) here ∙ get_or_default ends o w [] there in
-    are ∙ rw (stands, all) refl
-
--- the first fault of an object's opposite ends is the first at what its class requires and what is held
-pub first_end_fault_in : (p : Population) (ends : List (List (ℕ × List Scalar))) → AreEnds p ends → (o : ℕ) (r : Requirements) (c : ℕ) (held items : List ℕ) → o < length p.objects
-    → held ≡ places (is_set (get_or ends o [])) (length p.model.features) → r ≡ opposite_side p → c ≡ class_of p o → items ≡ with_required r c held → first_in (end_fault p o) items ≡ first_below (end_fault p o) (length p.model.features)
-first_end_fault_in p ends ok o r c held items inside set side class are =
-    let list_below : items ≡ with_required (opposite_side p) (class_of p o) held = are ∙ rw (side, class) refl in
-    rw list_below (first_in-places (end_fault p o) (λ f. is_required (opposite_side p) (class_of p o) f || is_one_of held f) (length p.model.features) (λ f lt idle. no_end_fault p ends ok o f held inside lt set idle))
+-- the first fault of an object's opposite ends is the first at what its class requires, and elsewhere where an end may be crowded
+pub first_end_fault_in : (p : Population) (o crowded : ℕ) (r : Requirements) (c : ℕ) (extra items : List ℕ) → o < length p.objects → ((f : ℕ) → f < length p.model.features → IsUncrowdedBelow p crowded f)
+    → ((f : ℕ) → f < length p.model.features → is_one_of extra f ≡ false → o < crowded) → r ≡ opposite_side p → c ≡ class_of p o → items ≡ with_required r c extra
+    → first_in (end_fault p o) items ≡ first_below (end_fault p o) (length p.model.features)
+first_end_fault_in p o crowded r c extra items inside uncrowded others side class are =
+    let list_below : items ≡ with_required (opposite_side p) (class_of p o) extra = are ∙ rw (side, class) refl in
+    rw list_below (first_in-places (end_fault p o) (λ f. is_required (opposite_side p) (class_of p o) f || is_one_of extra f) (length p.model.features)
+    (λ f lt idle. no_end_fault p o f crowded extra inside (uncrowded f lt) (others f lt) idle))

@@ -6,9 +6,12 @@ pub mod Sets
 pub mod Twice
 pub mod Pairs
 pub mod Stored
+pub mod Rows
 pub mod Firsts
 pub mod EndLaws
 pub mod Layouts
+pub mod Holdings
+pub mod Making
 pub mod Ranges
 pub mod Soundness
 pub mod Holders
@@ -17,7 +20,6 @@ pub mod Places
 pub mod Lengths
 pub mod Fitting
 pub mod Orders
-pub mod Held
 pub mod Idle
 pub mod SourceEnds
 pub mod Gathering

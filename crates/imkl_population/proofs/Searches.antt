@@ -1,9 +1,13 @@
 -- What is found by a key in a list whose keys ascend strictly.
-use Rattle.std.proofs.Common.{◌≡◌, ◌≢◌, ℕ, zero, suc, ◌<◌, ◌≤◌, ◌==◌, List, [], ◌∷◌, length, map, get_or, Some, None, Result, Ok, Err, MatchResult, refl, sym, arith, All, inl, inr}
+use Rattle.std.proofs.Common.{◌≡◌, ◌≢◌, ℕ, zero, suc, ◌<◌, ◌≤◌, ◌==◌, List, [], ◌∷◌, length, map, get_or, set, Some, None, Result, Ok, Err, MatchResult, refl, sym, arith, All, inl, inr}
 use Rattle.std.specs.Prelude.{find}
+use Rattle.std.specs.List.{insert}
 use Rattle.std.specs.List.Sorted.{IsStrictlySortedBy, IsNonDecreasingBy, IsBinarySearchResult, IsSearchInRange}
 use Rattle.std.specs.Ordering.{nat_cmp, ordering_index}
 use Rattle.std.proofs.lemmas.Cmp.{ranked}
+use Rattle.imkl_population.specs.declared.column.Entry.{Entry}
+use Rattle.imkl_population.specs.Store.{objects_in, put_entry}
+use Rattle.imkl_population.proofs.Stored.{none, put-between, put-over}
 use Rattle.std.proofs.lemmas.Bool.{eq-eqb, ne_eqb}
 use Rattle.std.proofs.lemmas.Bool.Decides.{nat_tests, leb_tells}
 use Rattle.std.proofs.lemmas.List.{length-map, get_or-map}
@@ -52,3 +56,29 @@ module _ {X : Type 0} (key : X → ℕ) where
             let below : key (get_or xs i d) < k = ranked (key (get_or xs i d)) k _ (sym (split.0 i d (omega arith) less.1)) in
             λ e. absurd (omega (arith, below, e))
       ])
+
+-- ---- an entry is put where a search ends
+
+abbrev object_of : Entry → ℕ
+object_of e = e.object
+
+module _ (es : List Entry) (x : Entry) (ascend : IsStrictlySortedBy nat_cmp (objects_in es)) where
+  counted : length (objects_in es) ≡ length es
+  counted = length-map es object_of
+
+  earlier : (place k : ℕ) → place < length es → k < place → (get_or es k none).object < (get_or es place none).object
+  earlier place k inside lt =
+      let below : get_or (objects_in es) k 0 < get_or (objects_in es) place 0 = below_from_sorted (objects_in es) k place 0 ascend lt (omega (arith, counted, inside)) in
+      omega (arith, below, get_or-map object_of es k none 0 (omega arith), get_or-map object_of es place none 0 inside)
+
+  -- what a binary search for its object answers is where the entry is put
+  pub searched-put : (r : Result ℕ ℕ) → IsSearchInRange r (length es) → IsBinarySearchResult (λ e. nat_cmp e.object x.object) es r
+      → MatchResult r (λ place. set es place x ≡ put_entry es x) (λ place. insert es place x ≡ put_entry es x)
+  searched-put (Ok place) inside equal =
+      let same : (get_or es place none).object ≡ x.object = ranked (get_or es place none).object x.object _ (sym (equal none)) in
+      put-over es place x inside (λ k lt. omega (arith, earlier place k inside lt, same)) same
+  searched-put (Err gap) inside parted =
+      let split = parted (comparisons_rise object_of x.object es ascend) in
+      put-between es gap x inside
+      (λ k lt. ranked (get_or es k none).object x.object _ (sym (split.0 k none (omega arith) lt)))
+      (λ k le lt. ranked (get_or es k none).object x.object _ (sym (split.1 k none le lt)))

@@ -1,80 +1,103 @@
--- Finite maps in one list of values, and for each map the range of each of its features.
-use Rattle.std.specs.Prelude.{◌≡◌, ℕ, zero, suc, ◌==◌, ◌≤◌, List, [], ◌∷◌, ◌++◌, map, length, max, slice_range, slice_index_or, All, if◌then◌else◌}
+-- Values by feature: for each feature a column, which is one list of values and for each of its objects a range.
+use Rattle.std.specs.Prelude.{ℕ, zero, suc, ◌+◌, ◌≤◌, List, [], ◌∷◌, ◌++◌, Option, Some, None, map, length, slice_range, slice_index_or, All}
+use Rattle.std.specs.Map.{lookup}
+use Rattle.std.specs.BTreeMap.{is_at}
+use Rattle.std.specs.Ordering.{nat_cmp, match_ordering}
+use Rattle.std.specs.List.Sorted.{IsStrictlySortedBy}
 use Rattle.imkl_population.specs.declared.scalar.Scalar.{Scalar}
-use Rattle.imkl_population.specs.declared.store.Entry.{Entry}
+use Rattle.imkl_population.specs.declared.column.Entry.{Entry}
 use Rattle.imkl_population.specs.declared.store.Segment.{Segment}
-use Rattle.imkl_population.specs.Written.{written_in, IsMap}
+use Rattle.imkl_population.specs.Population.{pairs_of}
 
--- an entry's feature with its values
+-- ---- a column
+
+-- an entry's object with its values
 abbrev pub entry_of : List Scalar → Entry → ℕ × List Scalar
-entry_of scalars e = (e.feature, slice_range scalars e.start e.end)
+entry_of scalars e = (e.object, slice_range scalars e.start e.end)
 
--- the features of entries, in their order
-abbrev pub features_of : List Entry → List ℕ
-features_of entries = map (λ e. e.feature) entries
-
--- all values, and for each map the range of each feature that is set in it
-pub record Stored : Type 0 where
-  pub scalars : List Scalar
-  pub ranges : List (List (ℕ × Segment))
-
--- a feature with the values of its range
-abbrev pub values_in : List Scalar → (ℕ × Segment) → ℕ × List Scalar
-values_in scalars r = (r.0, slice_range scalars r.1.start r.1.end)
-
--- the maps
-abbrev pub maps_in : List Scalar → List (List (ℕ × Segment)) → List (List (ℕ × List Scalar))
-maps_in scalars ranges = map (map (values_in scalars)) ranges
-
-abbrev pub maps_of : Stored → List (List (ℕ × List Scalar))
-maps_of s = maps_in s.scalars s.ranges
-
--- an entry's feature with its range
-abbrev pub range_of : Entry → ℕ × Segment
-range_of e = (e.feature, record { start = e.start; end = e.end })
-
--- the ranges of a segment's entries
-abbrev pub ranges_in : List Entry → Segment → List (ℕ × Segment)
-ranges_in entries s = map range_of (slice_range entries s.start s.end)
-
--- the map of a segment
-abbrev pub shown : List Scalar → List Entry → Segment → List (ℕ × List Scalar)
-shown scalars entries s = map (entry_of scalars) (slice_range entries s.start s.end)
+-- the objects of entries, in their order
+abbrev pub objects_in : List Entry → List ℕ
+objects_in entries = map (λ e. e.object) entries
 
 abbrev pub IsEntry : ℕ → Entry → Type 0
 IsEntry n e = (e.start ≤ e.end) × (e.end ≤ n)
 
+-- each entry lies within the values, and the objects ascend
+pub record IsLaidOut (scalars : List Scalar) (entries : List Entry) : Type 0 where
+  pub within : All (IsEntry (length scalars)) entries
+  pub ascend : IsStrictlySortedBy nat_cmp (objects_in entries)
+
+-- an entry at its place, in the place of the one of the same object
+abbrev pub put_entry : List Entry → Entry → List Entry
+put_entry [] x = x ∷ []
+put_entry (e ∷ es) x = match_ordering (nat_cmp x.object e.object) (x ∷ e ∷ es) (x ∷ es) (e ∷ put_entry es x)
+
+-- the values, and for each object that has some the range of its own
+pub record Stored : Type 0 where
+  pub scalars : List Scalar
+  pub ranges : List (ℕ × Segment)
+
+-- an entry's object with its range
+abbrev pub range_of : Entry → ℕ × Segment
+range_of e = (e.object, record { start = e.start; end = e.end })
+
+-- an object with the values of its range
+abbrev pub values_in : List Scalar → (ℕ × Segment) → ℕ × List Scalar
+values_in scalars r = (r.0, slice_range scalars r.1.start r.1.end)
+
+-- a column as a finite map from objects to values
+abbrev pub map_of : Stored → List (ℕ × List Scalar)
+map_of c = map (values_in c.scalars) c.ranges
+
 abbrev pub IsSegment : ℕ → Segment → Type 0
 IsSegment n s = (s.start ≤ s.end) × (s.end ≤ n)
 
--- each entry lies within the values, and each segment within the entries, and shows a map
-pub record IsLaidOut (scalars : List Scalar) (entries : List Entry) (segments : List Segment) : Type 0 where
-  pub within : All (IsEntry (length scalars)) entries
-  pub inside : All (IsSegment (length entries)) segments
-  pub maps : All IsMap (map (shown scalars entries) segments)
-
--- a map's values and entries stand after those that were there
-pub record Appended (old new : List Scalar) (before after : List Entry) (written : List (ℕ × List Scalar)) : Type 0 where
-  pub more : List Scalar
-  pub added : List Entry
-  pub scalars_are : new ≡ old ++ more
-  pub entries_are : after ≡ before ++ added
-  pub within : All (IsEntry (length new)) added
-  pub same : map (entry_of new) added ≡ written
-
 -- each range lies within the values
 abbrev pub AreRangesWithin : Stored → Type 0
-AreRangesWithin s = All (All (λ r. IsSegment (length s.scalars) r.1)) s.ranges
+AreRangesWithin c = All (λ r. IsSegment (length c.scalars) r.1) c.ranges
 
--- a number raised to the length of an entry's values, where the entry is of the feature
-abbrev pub longer : ℕ → (ℕ × List Scalar) → ℕ → ℕ
-longer f e n = if e.0 == f then max n (length e.1) else n
+-- ---- all columns
 
-abbrev pub raised : List (ℕ × List Scalar) → ℕ → ℕ → ℕ
-raised [] f n = n
-raised (e ∷ written) f n = raised written f (longer f e n)
+abbrev pub maps_of : List Stored → List (List (ℕ × List Scalar))
+maps_of cs = map map_of cs
 
--- the greatest number of values at a feature in the first n maps
-abbrev pub longest_in : List (List (ℕ × List Scalar)) → ℕ → ℕ → ℕ
-longest_in maps f zero = 0
-longest_in maps f (suc n) = max (longest_in maps f n) (length (written_in (slice_index_or maps n []) f))
+-- the column of a feature: nothing where there is none
+abbrev pub column_at : List Stored → ℕ → List (ℕ × List Scalar)
+column_at cs f = slice_index_or (maps_of cs) f []
+
+-- what the column of the feature f has for an object
+abbrev pub cell : {A : Type 0} → ℕ → Option A → List (ℕ × A)
+cell f None = []
+cell f (Some a) = (f, a) ∷ []
+
+-- what columns have for an object, by their features; the first is the column of the feature f
+abbrev pub row_from : {A : Type 0} → ℕ → List (List (ℕ × A)) → ℕ → List (ℕ × A)
+row_from f [] o = []
+row_from f (c ∷ cs) o = cell f (lookup (is_at (nat_cmp o)) c) ++ row_from (suc f) cs o
+
+abbrev pub object_row : {A : Type 0} → List (List (ℕ × A)) → ℕ → List (ℕ × A)
+object_row cs o = row_from 0 cs o
+
+-- what they have for each object below n
+abbrev pub rows : {A : Type 0} → List (List (ℕ × A)) → ℕ → List (List (ℕ × A))
+rows cs zero = []
+rows cs (suc n) = rows cs n ++ object_row cs n ∷ []
+
+-- all values, column by column
+abbrev pub scalars_of : List Stored → List Scalar
+scalars_of [] = []
+scalars_of (c ∷ cs) = c.scalars ++ scalars_of cs
+
+-- a range in a list that n values stand before
+abbrev pub shifted : ℕ → (ℕ × Segment) → ℕ × Segment
+shifted n r = (r.0, record { start = n + r.1.start; end = n + r.1.end })
+
+-- the ranges of each column in all values, where n values stand before them
+abbrev pub ranges_from : ℕ → List Stored → List (List (ℕ × Segment))
+ranges_from n [] = []
+ranges_from n (c ∷ cs) = map (shifted n) c.ranges ∷ ranges_from (n + length c.scalars) cs
+
+-- the pairs of a column that is a source end
+abbrev pub pairs_in : List (ℕ × List Scalar) → List (ℕ × ℕ)
+pairs_in [] = []
+pairs_in (e ∷ es) = pairs_of e.0 e.1 ++ pairs_in es

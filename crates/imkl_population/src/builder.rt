@@ -2,14 +2,14 @@
 
 ghost use Rattle.std.specs.Prelude.{◌≡◌, ◌<◌, [], true, length, ◌+◌, All, IfOk, OnOk, IfSome, Ok};
 ghost use Rattle.imkl_model.specs.ClassModel.{feature_at};
-ghost use Rattle.ocl_base.specs.Numbers.{places};
-ghost use Rattle.imkl_population.specs.Written.{is_set};
-ghost use Rattle.imkl_population.specs.Population.{object_at, class_of, written_at, object_number};
+ghost use Rattle.imkl_population.specs.Population.{class_of, written_at, object_number, pairs};
 ghost use Rattle.std.specs.List.{list_all};
 ghost use Rattle.imkl_population.specs.Draft.{is_sound};
 ghost use Rattle.imkl_population.specs.Values.{is_target_of};
 ghost use Rattle.imkl_population.specs.Finishing.{finish_outcome, Finishes};
 ghost use Rattle.imkl_population.specs.declared.fault.PopulationFault.{PopulationFault};
+ghost use Rattle.imkl_population.specs.Store.{maps_of};
+ghost use Rattle.imkl_population.specs.Layout.{stored_content};
 ghost use Rattle.imkl_population.specs.Building.{BuilderAnswers, KeepsObjects, add_outcome, set_outcome, link_outcome, attribute_fault, list_fault, source_fault, targets_fault, with_values, as_objects};
 
 use crate::checks::{are_of_type, bounds_fault, is_id};
@@ -18,11 +18,11 @@ use crate::fault::PopulationFault;
 use crate::finishing::{first_end_fault, first_gap};
 use crate::layout::lay_out;
 use crate::numbers::ObjectNo;
-use crate::object::{Id, Object};
+use crate::object::{Head, Id};
 use crate::population::Population;
 use crate::repeats::repeats;
 use crate::scalar::Scalar;
-use crate::written::{Values, Written};
+use crate::store::Store;
 use imkl_model::{ClassModel, ClassNo, ElementType, FeatureNo};
 use std::alloc::{AllocError, Global};
 use std::collections::BTreeMap;
@@ -33,21 +33,22 @@ use std::marker::Model;
 pub struct PopulationBuilder<'m> {
     alloc: Global,
     model: &'m ClassModel,
-    objects: Vec<Object>,
+    heads: Vec<Head>,
+    written: Store,
     ids: BTreeMap<String, usize>,
 }
 
 impl<'m> Model for PopulationBuilder<'m> {
     ghost use Rattle.std.specs.BTreeMap.{get_by_text};
     ghost use Rattle.imkl_population.specs.Population.{Population};
-    ghost use Rattle.std.specs.List.{list_all};
-    ghost use Rattle.imkl_population.specs.Draft.{IsDraft};
+    ghost use Rattle.imkl_population.specs.Store.{maps_of};
+    ghost use Rattle.imkl_population.specs.Layout.{stored_content, IsInMaking};
 
     ghost Value = { Population };
 
-    ghost view = { λ b. record { model = b.model.now; objects = b.objects.items } };
+    ghost view = { λ b. stored_content b.model.now b.heads.items (maps_of b.written) };
 
-    ghost invariant = { λ b. IsDraft (record { model = b.model.now; objects = b.objects.items })
+    ghost invariant = { λ b. IsInMaking b.model.now b.heads.items (maps_of b.written)
         (get_by_text b.ids) };
 }
 
@@ -59,7 +60,8 @@ impl<'m> PopulationBuilder<'m> {
         PopulationBuilder {
             alloc,
             model,
-            objects: Vec::new(alloc),
+            heads: Vec::new(alloc),
+            written: Store::new(alloc),
             ids: BTreeMap::new(alloc),
         }
     }
@@ -85,16 +87,15 @@ impl<'m> PopulationBuilder<'m> {
         if self.model.is_abstract(class) {
             return Err(PopulationFault::AbstractClass);
         }
-        let number = self.objects.len();
+        let number = self.objects();
         if number >= 1_000_000 {
             return Err(PopulationFault::Limit);
         }
         let key = String::from_str(self.alloc, id)?;
         let id = Id::new(String::from_str(self.alloc, id)?);
-        let written = Written::new(self.alloc);
-        self.objects.reserve(1)?;
+        self.heads.reserve(1)?;
         self.ids.insert(key, number)?;
-        self.objects.push_reserved(Object { id, class, written });
+        self.heads.push_reserved(Head { id, class });
         Ok(ObjectNo::new(number))
     }
 
@@ -102,7 +103,7 @@ impl<'m> PopulationBuilder<'m> {
     pub fn objects(&self) -> usize
         ensures { result ≡ length self.now.objects }
     {
-        self.objects.len()
+        self.heads.len()
     }
 
     /// The object that has an id.
@@ -122,7 +123,8 @@ impl<'m> PopulationBuilder<'m> {
         ensures class { result ≡ class_of self.now object }
         ensures known { result < length self.now.model.classes }
     {
-        self.objects[object.index()].class
+        let head = &self.heads[object.index()];
+        head.class
     }
 
     /// The class model.
@@ -136,18 +138,18 @@ impl<'m> PopulationBuilder<'m> {
         self.alloc
     }
 
-    /// The class model and the objects.
-    pub(crate) fn into_parts(self) -> (&'m ClassModel, Vec<Object>)
-        ensures model { result.0.now ≡ self.entry.model }
-        ensures objects { result.1.items ≡ self.entry.objects }
+    /// The class model, the objects' ids and classes, and what is written on them.
+    pub(crate) fn into_parts(self) -> (&'m ClassModel, Vec<Head>, Store)
+        ensures { stored_content result.0.now result.1.items (maps_of result.2) ≡ self.entry }
     {
         let PopulationBuilder {
             alloc: _,
             model,
-            objects,
+            heads,
+            written,
             ids: _,
         } = self;
-        (model, objects)
+        (model, heads, written)
     }
 
     /// What is written at a feature of an object.
@@ -155,18 +157,14 @@ impl<'m> PopulationBuilder<'m> {
         requires { object < length self.now.objects }
         ensures { result.now ≡ written_at self.now object feature }
     {
-        self.objects[object.index()].written.get(feature.index())
+        self.written.get(feature.index(), object.index())
     }
 
-    /// The features that are set on an object, in their order.
-    pub(crate) fn features(&self, object: ObjectNo) -> Result<Vec<FeatureNo>, AllocError>
-        requires { object < length self.now.objects }
-        ensures features { IfOk result (λ v. v.items ≡
-            places (is_set (object_at self.now object).written) (length self.now.model.features)) }
-        ensures known { IfOk result (λ v. All (λ f. f < length self.now.model.features) v.items) }
+    /// The pairs of an association, named by its source end, in the order of the holders.
+    pub(crate) fn pairs(&self, source: FeatureNo) -> Result<Vec<(usize, usize)>, AllocError>
+        ensures { IfOk result (λ v. v.items ≡ pairs self.now source) }
     {
-        let written = &self.objects[object.index()].written;
-        written.features(self.alloc, self.model.feature_count())
+        self.written.pairs(self.alloc, source.index())
     }
 
     /// What is wrong with the feature or the types of values at an attribute.
@@ -220,7 +218,7 @@ impl<'m> PopulationBuilder<'m> {
         let Scalar::Object(object) = value else {
             return false;
         };
-        object.index() < self.objects.len() && self.model.conforms(self.class_of(*object), class)
+        object.index() < self.objects() && self.model.conforms(self.class_of(*object), class)
     }
 
     /// Whether all values are objects whose classes conform to the feature's class.
@@ -276,18 +274,24 @@ impl<'m> PopulationBuilder<'m> {
         &mut self,
         object: ObjectNo,
         feature: FeatureNo,
-        values: Values,
+        values: Vec<Scalar>,
     ) -> Result<(), PopulationFault>
         requires object { object < length self.old.objects }
         requires feature { feature < length self.old.model.features }
-        requires sound { is_sound self.old object (feature, values) ≡ true }
-        ensures answers { BuilderAnswers result (Ok (with_values self.old object feature values))
-            self.old self.new }
+        requires sound { is_sound self.old object (feature, values.items) ≡ true }
+        ensures answers { BuilderAnswers result
+            (Ok (with_values self.old object feature values.items)) self.old self.new }
         ensures kept { KeepsObjects self.old self.new }
     {
-        let index = object.index();
-        let slot = &mut self.objects[index];
-        slot.written.set(feature.index(), values)?;
+        let mut values = values;
+        let features = self.model.feature_count();
+        self.written.put(
+            self.alloc,
+            features,
+            feature.index(),
+            object.index(),
+            &mut values,
+        )?;
         Ok(())
     }
 
@@ -314,7 +318,7 @@ impl<'m> PopulationBuilder<'m> {
         let unique = self.model.feature_info(feature).is_unique();
         match self.list_fault(object, feature, unique, &values)? {
             Some(fault) => Err(fault),
-            None => self.put(object, feature, Values::new(values)),
+            None => self.put(object, feature, values),
         }
     }
 
@@ -341,7 +345,7 @@ impl<'m> PopulationBuilder<'m> {
         let targets = as_objects(self.alloc, targets)?;
         match self.targets_fault(object, feature, &targets)? {
             Some(fault) => Err(fault),
-            None => self.put(object, feature, Values::new(targets)),
+            None => self.put(object, feature, targets),
         }
     }
 

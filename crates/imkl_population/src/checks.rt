@@ -68,7 +68,7 @@ pub(crate) fn are_of_type(model: &ClassModel, element: ElementType, values: &[Sc
     }
 }
 
-fn is_over(upper: Option<u32>, count: usize) -> bool
+pub(crate) fn is_over(upper: Option<u32>, count: usize) -> bool
     ensures { result ≡ is_over upper count }
 {
     match upper {

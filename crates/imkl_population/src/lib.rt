@@ -3,6 +3,7 @@
 
 mod builder;
 mod checks;
+mod column;
 mod ends;
 mod fault;
 mod finishing;
@@ -18,7 +19,6 @@ mod required;
 mod scalar;
 mod sizes;
 mod store;
-mod written;
 
 pub use builder::PopulationBuilder;
 pub use fault::PopulationFault;

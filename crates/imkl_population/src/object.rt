@@ -2,7 +2,7 @@
 
 ghost use Rattle.std.specs.Prelude.{◌≡◌, string_bytes};
 
-use crate::written::Written;
+use crate::scalar::Scalar;
 use imkl_model::ClassNo;
 use std::marker::Model;
 
@@ -34,7 +34,32 @@ impl Id {
     }
 }
 
-/// An object: its id, its class, and what is written on it.
+/// An object's id and class.
+#[derive(Drop)]
+pub struct Head {
+    /// The object's id.
+    pub id: Id,
+    /// The class that it is directly of.
+    pub class: ClassNo,
+}
+
+/// What is written at the features of one object. Contracts see it as a finite map from features
+/// to values; in memory values lie feature by feature, in a `Store`.
+#[derive(Drop)]
+pub struct Written {
+    entries: Vec<(usize, Vec<Scalar>)>,
+}
+
+impl Model for Written {
+    ghost use Rattle.std.specs.Prelude.{List, ℕ, map};
+    ghost use Rattle.imkl_population.specs.declared.scalar.Scalar.{Scalar};
+
+    ghost Value = { List (ℕ × List Scalar) };
+
+    ghost view = { λ w. map (λ e. (e.0, e.1.items)) w.entries.items };
+}
+
+/// An object as contracts see it: its id, its class, and what is written on it.
 #[derive(Drop)]
 pub struct Object {
     /// The object's id.

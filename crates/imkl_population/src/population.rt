@@ -1,30 +1,20 @@
 //! Finished populations.
 
 ghost use Rattle.std.specs.Prelude.{◌≡◌, ◌<◌, ◌≤◌, ℕ, true, false, length, slice_range, slice_index, All, IfOk};
-ghost use Rattle.imkl_model.specs.ClassModel.{feature_at, belongs};
+ghost use Rattle.imkl_model.specs.ClassModel.{belongs};
 ghost use Rattle.imkl_population.specs.Population.{object_at, class_of, values_of, instances, IsInstance};
 ghost use Rattle.imkl_population.specs.Consistency.{IsConsistent};
 ghost use Rattle.imkl_population.specs.FinishedPopulation.{AreValueRanges, AreInstanceRanges};
-ghost use Rattle.imkl_model.specs.Features.{is_opposite};
-ghost use Rattle.imkl_population.specs.Sizes.{list_below, count_of, longest_below, longest_of, sizes_of};
+ghost use Rattle.imkl_population.specs.Sizes.{list_below, count_of, longest_of, sizes_of};
 
 use crate::numbers::ObjectNo;
-use crate::object::Id;
+use crate::object::Head;
 use crate::scalar::Scalar;
-use crate::sizes::{Sizes, is_unbounded};
+use crate::sizes::{Sizes, longest_of};
 use crate::store::{Segment, Store};
 use imkl_model::{ClassModel, ClassNo, FeatureNo};
 use std::alloc::{AllocError, Global};
 use std::marker::Model;
-
-/// An object's id and class.
-#[derive(Drop)]
-pub struct Head {
-    /// The object's id.
-    pub id: Id,
-    /// The class that it is directly of.
-    pub class: ClassNo,
-}
 
 /// A consistent population of a class model. Contracts see its content, which is its objects with what is written on
 /// them, and the two lists that its values and its instances are parts of.
@@ -32,7 +22,8 @@ pub struct Head {
 pub struct Population<'m> {
     pub(crate) model: &'m ClassModel,
     pub(crate) heads: Vec<Head>,
-    pub(crate) store: Store,
+    pub(crate) written: Store,
+    pub(crate) ends: Store,
     pub(crate) instances: Vec<ObjectNo>,
     pub(crate) ranges: Vec<Segment>,
 }
@@ -44,11 +35,11 @@ impl<'m> Model for Population<'m> {
 
     ghost Value = { FinishedPopulation };
 
-    ghost view = { λ p. finished_of p.model.now p.heads.items p.store p.instances.items
-        p.ranges.items };
+    ghost view = { λ p. finished_of p.model.now p.heads.items p.written p.ends
+        p.instances.items p.ranges.items };
 
     ghost invariant = { λ p.
-        IsFinished (stored_content p.model.now p.heads.items p.store) (maps_of p.store)
+        IsFinished (stored_content p.model.now p.heads.items (maps_of p.written)) p.ends
         p.instances.items p.ranges.items };
 }
 
@@ -65,7 +56,8 @@ impl<'m> Population<'m> {
         ensures values { AreValueRanges self.now }
         ensures instances { AreInstanceRanges self.now }
     {
-        self.store.within();
+        self.written.within();
+        self.ends.within();
     }
 
     /// The class model.
@@ -111,11 +103,10 @@ impl<'m> Population<'m> {
             feature ≡ true }
         ensures { result.now ≡ values_of self.now.content object feature }
     {
-        let index = object.index();
         if self.model.feature_info(feature).role.is_opposite() {
-            self.store.get(self.heads.len() + index, feature.index())
+            self.ends.get(feature.index(), object.index())
         } else {
-            self.store.get(index, feature.index())
+            self.written.get(feature.index(), object.index())
         }
     }
 
@@ -164,35 +155,15 @@ impl<'m> Population<'m> {
         Ok(counts)
     }
 
-    /// How many values are written at most at each feature of an object.
-    fn longest_written(&self, alloc: Global) -> Result<Vec<u64>, AllocError>
-        ensures count { IfOk result (λ v. length v.items ≡ length self.now.content.model.features) }
-        ensures each { IfOk result (λ v. (f : ℕ) →
-            f < length self.now.content.model.features →
-            is_opposite (feature_at self.now.content.model f).role ≡ false →
-            slice_index v.items f ≡ longest_below self.now.content f (length
-            self.now.content.objects)) }
-    {
-        let features = self.model.feature_count();
-        self.store.longest(alloc, self.heads.len(), features)
-    }
-
     /// The greatest length of each attribute without upper bound.
     fn longest(&self, alloc: Global) -> Result<Vec<u64>, AllocError>
         ensures { IfOk result (λ v. v.items ≡
             list_below (longest_of self.now.content) (length self.now.content.model.features)) }
     {
-        let written = self.longest_written(alloc)?;
-        let model = self.model();
-        let mut longest = Vec::with_capacity(alloc, written.len())?;
-        for feature in 0..written.len() {
-            let info = model.feature_info(FeatureNo::new(feature));
-            let count = if is_unbounded(info) {
-                written[feature]
-            } else {
-                0
-            };
-            longest.push(count)?;
+        let features = self.model().feature_count();
+        let mut longest = Vec::with_capacity(alloc, features)?;
+        for feature in 0..features {
+            longest.push(longest_of(self, FeatureNo::new(feature)))?;
         }
         Ok(longest)
     }

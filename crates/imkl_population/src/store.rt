@@ -1,28 +1,18 @@
-//! Many finite maps from features to values, in three lists.
+//! The values of all objects, feature by feature.
 
-ghost use Rattle.std.specs.Prelude.{◌≡◌, ◌<◌, ◌≤◌, ◌==◌, ◌++◌, ◌∷◌, ℕ, [], length, map, find, max, All, IfOk, OnOk, slice_index, slice_index_or, slice_range, if◌then◌else◌};
-ghost use Rattle.std.specs.List.Sorted.{IsStrictlySortedBy};
+ghost use Rattle.std.specs.Prelude.{◌≡◌, ◌<◌, ◌≤◌, ◌++◌, ◌∷◌, ◌==◌, ℕ, [], false, length, All, IfOk, OnOk, OnErr, if◌then◌else◌};
 ghost use Rattle.std.specs.Ordering.{nat_cmp};
+ghost use Rattle.std.specs.BTreeMap.{insert_entry};
 ghost use Rattle.imkl_population.specs.Written.{written_in, IsMap};
-ghost use Rattle.imkl_population.specs.Store.{Appended, IsEntry, IsSegment, AreRangesWithin, entry_of, features_of, raised, longest_in, maps_of};
+ghost use Rattle.imkl_population.specs.Values.{is_over};
+ghost use Rattle.imkl_population.specs.Store.{AreRangesWithin, map_of, maps_of, column_at, object_row, pairs_in};
 
+use crate::column::Column;
 use crate::scalar::Scalar;
-use crate::written::{Values, Written};
 use std::alloc::{AllocError, Global};
 use std::marker::Model;
 
-/// The values at one feature: those from `start` to before `end` in the list of values.
-#[derive(Clone, Copy, Debug)]
-pub struct Entry {
-    /// The feature's place in the class model, from 0.
-    pub feature: usize,
-    /// The place of the first value, from 0.
-    pub start: usize,
-    /// The place behind the last value: `start` where there are none.
-    pub end: usize,
-}
-
-/// A part of a list, from `start` to before `end`: a map's entries, or a class's objects.
+/// A part of a list, from `start` to before `end`: an object's values, or a class's objects.
 #[derive(Clone, Copy, Debug)]
 pub struct Segment {
     /// The place of the first element, from 0.
@@ -31,177 +21,137 @@ pub struct Segment {
     pub end: usize,
 }
 
-/// Finite maps in the order in which they were pushed. Contracts see the list of all values, and for each map the range of
-/// each feature in it.
+/// A column of values for each of the first features. Contracts see the columns.
 #[derive(Drop)]
 pub struct Store {
-    scalars: Vec<Scalar>,
-    entries: Vec<Entry>,
-    segments: Vec<Segment>,
+    columns: Vec<Column>,
 }
 
 impl Model for Store {
-    ghost use Rattle.std.specs.Prelude.{map};
-    ghost use Rattle.imkl_population.specs.Store.{Stored, ranges_in, IsLaidOut};
+    ghost use Rattle.std.specs.Prelude.{List, All};
+    ghost use Rattle.imkl_population.specs.Store.{Stored, AreRangesWithin};
 
-    ghost Value = { Stored };
+    ghost Value = { List Stored };
 
-    ghost view = { λ s. record {
-      scalars = s.scalars.items;
-      ranges = map (ranges_in
-          s.entries.items) s.segments.items;
-    } };
+    ghost view = { λ s. s.columns.items };
 
-    ghost invariant = { λ s. IsLaidOut s.scalars.items s.entries.items s.segments.items };
-}
-
-/// Appends a map's values and entries.
-fn append(
-    scalars: &mut Vec<Scalar>,
-    entries: &mut Vec<Entry>,
-    written: Written,
-) -> Result<(), AllocError>
-    ensures appended { OnOk result (Appended scalars.old.items scalars.new.items
-        entries.old.items entries.new.items written) }
-    ensures map { OnOk result (IsMap written) }
-{
-    for (feature, values) in written.into_entries() {
-        let start = scalars.len();
-        let mut values = values.into_items();
-        scalars.append(&mut values)?;
-        let end = scalars.len();
-        entries.push(Entry {
-            feature,
-            start,
-            end,
-        })?;
-    }
-    Ok(())
-}
-
-/// The entry of a feature among entries whose features ascend.
-fn find_entry(entries: &[Entry], feature: usize) -> Option<Entry>
-    requires { IsStrictlySortedBy nat_cmp (features_of entries.now) }
-    ensures { result ≡ find (λ e. e.feature == feature) entries.now }
-{
-    match entries.binary_search_by_key(&feature, |entry| entry.feature) {
-        Ok(place) => Some(entries[place]),
-        Err(_) => None,
-    }
-}
-
-fn entries_of(entries: &[Entry], segment: Segment) -> &[Entry]
-    requires { IsSegment (length entries.now) segment }
-    ensures { result.now ≡ slice_range entries.now segment.start segment.end }
-{
-    &entries[segment.start..segment.end]
-}
-
-fn values_of(scalars: &[Scalar], entry: Entry) -> &[Scalar]
-    requires { IsEntry (length scalars.now) entry }
-    ensures { result.now ≡ slice_range scalars.now entry.start entry.end }
-{
-    &scalars[entry.start..entry.end]
-}
-
-/// Raises the number at a place, if there is one, to a length that is greater.
-fn raise(longest: &mut [u64], place: usize, count: usize)
-    ensures same { length longest.new ≡ length longest.old }
-    ensures raised { (k : ℕ) → k < length longest.old →
-        slice_index longest.new k ≡
-        (if place == k then max (slice_index longest.old k) count else slice_index longest.old k) }
-{
-    if place < longest.len() {
-        longest[place] = longest[place].max(count as u64);
-    }
-}
-
-/// Raises the number at each feature to the length of its values.
-fn raise_all(longest: &mut [u64], scalars: &[Scalar], entries: &[Entry])
-    requires { All (IsEntry (length scalars.now)) entries.now }
-    ensures same { length longest.new ≡ length longest.old }
-    ensures raised { (f : ℕ) → f < length longest.old →
-        slice_index longest.new f ≡
-        raised (map (entry_of scalars.now) entries.now) f (slice_index longest.old f) }
-{
-    for entry in entries {
-        let count = values_of(scalars, *entry).len();
-        raise(longest, entry.feature, count);
-    }
+    ghost invariant = { λ s. All AreRangesWithin s.columns.items };
 }
 
 impl Store {
-    /// No maps.
+    /// No columns.
     pub(crate) fn new(alloc: Global) -> Store
-        ensures { maps_of result ≡ [] }
+        ensures { result ≡ [] }
     {
         Store {
-            scalars: Vec::new(alloc),
-            entries: Vec::new(alloc),
-            segments: Vec::new(alloc),
+            columns: Vec::new(alloc),
         }
     }
 
-    /// Each range lies within the values.
+    /// Each range lies within the values of its column.
     pub(crate) fn within(&self)
-        ensures { AreRangesWithin self.now }
+        ensures { All AreRangesWithin self.now }
     {
-        let _scalars = &self.scalars;
+        let _columns = &self.columns;
     }
 
-    /// These maps and one more.
-    pub(crate) fn with(self, written: Written) -> Result<Store, AllocError>
-        ensures { IfOk result (λ s. maps_of s ≡ maps_of self ++ written ∷ []) }
+    /// One column more.
+    pub(crate) fn push(&mut self, column: Column) -> Result<(), AllocError>
+        ensures ok { OnOk result (self.new ≡ self.old ++ column ∷ []) }
+        ensures err { OnErr result (self.new ≡ self.old) }
     {
-        let Store {
-            mut scalars,
-            mut entries,
-            mut segments,
-        } = self;
-        let start = entries.len();
-        append(&mut scalars, &mut entries, written)?;
-        let end = entries.len();
-        segments.push(Segment { start, end })?;
-        Ok(Store {
-            scalars,
-            entries,
-            segments,
-        })
+        column.within();
+        self.columns.push(column)?;
+        Ok(())
     }
 
-    /// The values at a feature in the map at a place.
-    pub(crate) fn get(&self, place: usize, feature: usize) -> &[Scalar]
-        requires { place < length (maps_of self.now) }
-        ensures { result.now ≡ written_in (slice_index_or (maps_of self.now) place []) feature }
+    /// The values of an object at a feature: none where nothing is set.
+    pub(crate) fn get(&self, feature: usize, object: usize) -> &[Scalar]
+        ensures { result.now ≡ written_in (column_at self.now feature) object }
     {
-        let segment = self.segments[place];
-        match find_entry(entries_of(&self.entries, segment), feature) {
-            Some(entry) => values_of(&self.scalars, entry),
+        match self.columns.get(feature) {
+            Some(column) => column.get(object),
             None => &[],
         }
     }
 
-    /// For each feature below a number the greatest number of values that it has in the first maps.
-    pub(crate) fn longest(
+    /// Adds columns without values, up to a number.
+    fn grow(&mut self, alloc: Global, count: usize) -> Result<(), AllocError>
+        ensures long { OnOk result (count ≤ length self.new) }
+        ensures same { (o : ℕ) → object_row (maps_of self.new) o ≡ object_row (maps_of self.old) o }
+    {
+        for _ in self.columns.len()..count {
+            self.push(Column::new(alloc))?;
+        }
+        Ok(())
+    }
+
+    /// Moves values to an object at a feature that has a column.
+    fn set(
+        &mut self,
+        feature: usize,
+        object: usize,
+        values: &mut Vec<Scalar>,
+    ) -> Result<(), AllocError>
+        requires { feature < length self.old }
+        ensures ok { OnOk result ((o : ℕ) → object_row (maps_of self.new) o ≡
+            (if o == object
+            then insert_entry nat_cmp (object_row (maps_of self.old) o) feature values.old.items
+            else object_row (maps_of self.old) o)) }
+        ensures err { OnErr result ((o : ℕ) →
+            object_row (maps_of self.new) o ≡ object_row (maps_of self.old) o) }
+    {
+        let column = &mut self.columns[feature];
+        let result = column.set(object, values);
+        column.within();
+        result
+    }
+
+    /// Moves values to an object at one of so many features, in the place of those that stand there.
+    pub(crate) fn put(
+        &mut self,
+        alloc: Global,
+        features: usize,
+        feature: usize,
+        object: usize,
+        values: &mut Vec<Scalar>,
+    ) -> Result<(), AllocError>
+        requires { feature < features }
+        ensures ok { OnOk result ((o : ℕ) → object_row (maps_of self.new) o ≡
+            (if o == object
+            then insert_entry nat_cmp (object_row (maps_of self.old) o) feature values.old.items
+            else object_row (maps_of self.old) o)) }
+        ensures err { OnErr result ((o : ℕ) →
+            object_row (maps_of self.new) o ≡ object_row (maps_of self.old) o) }
+    {
+        self.grow(alloc, features)?;
+        self.set(feature, object, values)
+    }
+
+    /// The pairs of an object and each object among its values at a feature.
+    pub(crate) fn pairs(
         &self,
         alloc: Global,
-        maps: usize,
-        features: usize,
-    ) -> Result<Vec<u64>, AllocError>
-        requires { maps ≤ length (maps_of self.now) }
-        ensures count { IfOk result (λ v. length v.items ≡ features) }
-        ensures each { IfOk result (λ v. (f : ℕ) → f < features →
-            slice_index v.items f ≡ longest_in (maps_of self.now) f maps) }
+        feature: usize,
+    ) -> Result<Vec<(usize, usize)>, AllocError>
+        ensures pairs { IfOk result (λ v. v.items ≡ pairs_in (column_at self.now feature)) }
+        ensures map { IsMap (column_at self.now feature) }
     {
-        let mut longest = vec![in alloc; 0; features]?;
-        for place in 0..maps {
-            let segment = self.segments[place];
-            raise_all(
-                &mut longest,
-                &self.scalars,
-                entries_of(&self.entries, segment),
-            );
+        match self.columns.get(feature) {
+            Some(column) => column.pairs(alloc),
+            None => Ok(Vec::new(alloc)),
         }
-        Ok(longest)
+    }
+
+    /// The first object that has more values at a feature than an upper bound, if there is one, or
+    /// an earlier object.
+    pub(crate) fn first_over(&self, feature: usize, upper: Option<u32>) -> usize
+        ensures { (o : ℕ) → o < result →
+            is_over upper (length (written_in (column_at self.now feature) o)) ≡ false }
+    {
+        match self.columns.get(feature) {
+            Some(column) => column.first_over(upper),
+            None => usize::MAX,
+        }
     }
 }

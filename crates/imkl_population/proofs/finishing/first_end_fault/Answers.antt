@@ -8,4 +8,4 @@ pub returns-then-is_some : goal.returns-then-is_some
 returns-then-is_some c =
     let p = c.args.builder.now in
     let g = λ (o : ℕ). first_below (end_fault p o) (length p.model.features) in
-    first_found g (length p.objects) c.loop-object.object c.in_ok-found.found (omega arith) c.loop-object.invariant.none (c.in_ok-found.ensures.first ∙ ap g c.new.ensures) (sym c.if-is_some.ensures)
+    first_found g (length p.objects) c.loop-object.object c.in_ok-found.found (omega arith) c.loop-object.invariant.none (c.in_ok-found.ensures.first ∙ ap g c.new-object.ensures) (sym c.if-is_some.ensures)

@@ -8,5 +8,5 @@ use Rattle.imkl_population.proofs.builder.PopulationBuilder.finish.Goals as goal
 
 pub lay_out-requires-clause-consistent : goal.lay_out-requires-clause-consistent
 lay_out-requires-clause-consistent c =
-    let draft : IsDraft c.args.self (get_by_text c.self.inside.ids) = subst (λ (p : Population). IsDraft p (get_by_text c.self.inside.ids)) c.self.view_is c.self.invariant in
+    let draft : IsDraft c.args.self (get_by_text c.self.inside.ids) = subst (λ (p : Population). IsDraft p (get_by_text c.self.inside.ids)) c.self.view_is c.self.invariant.draft in
     consistent c.args.self (get_by_text c.self.inside.ids) draft (subst (λ (p : Population). IsClassModel p.model) c.self.view_is c.well_formed-2.ensures) (sym c.in_ok-fault.ensures ∙ c.in_default.is) (sym c.in_ok-fault-2.ensures ∙ c.in_default-2.is)

@@ -1,0 +1,166 @@
+//! The values at one feature, of all objects that have some.
+
+ghost use Rattle.std.specs.Prelude.{◌≡◌, ◌<◌, ◌==◌, ◌++◌, ℕ, [], false, length, find, slice_range, IfOk, OnOk, OnErr};
+ghost use Rattle.std.specs.List.Sorted.{IsStrictlySortedBy};
+ghost use Rattle.std.specs.Ordering.{nat_cmp};
+ghost use Rattle.std.specs.BTreeMap.{insert_entry};
+ghost use Rattle.imkl_population.specs.Written.{written_in, IsMap};
+ghost use Rattle.imkl_population.specs.Population.{pairs_of};
+ghost use Rattle.imkl_population.specs.Values.{is_over};
+ghost use Rattle.imkl_population.specs.Store.{IsEntry, AreRangesWithin, entry_of, objects_in, put_entry, map_of, pairs_in};
+
+use crate::checks::is_over;
+use crate::scalar::Scalar;
+use std::alloc::{AllocError, Global};
+use std::marker::Model;
+
+/// The values of one object: those from `start` to before `end` in the list of values.
+#[derive(Clone, Copy, Debug)]
+pub struct Entry {
+    /// The object's number, from 0.
+    pub object: usize,
+    /// The place of the first value, from 0.
+    pub start: usize,
+    /// The place behind the last value: `start` where there are none.
+    pub end: usize,
+}
+
+/// The values at one feature, and for each object that has some the range of its own. Objects
+/// ascend. Contracts see the list of all values and the ranges.
+#[derive(Drop)]
+pub struct Column {
+    scalars: Vec<Scalar>,
+    entries: Vec<Entry>,
+}
+
+impl Model for Column {
+    ghost use Rattle.std.specs.Prelude.{map};
+    ghost use Rattle.imkl_population.specs.Store.{Stored, range_of, IsLaidOut};
+
+    ghost Value = { Stored };
+
+    ghost view = { λ c. record { scalars = c.scalars.items; ranges = map range_of c.entries.items } };
+
+    ghost invariant = { λ c. IsLaidOut c.scalars.items c.entries.items };
+}
+
+/// The entry of an object among entries whose objects ascend.
+fn find_entry(entries: &[Entry], object: usize) -> Option<Entry>
+    requires { IsStrictlySortedBy nat_cmp (objects_in entries.now) }
+    ensures { result ≡ find (λ e. e.object == object) entries.now }
+{
+    match entries.binary_search_by_key(&object, |entry| entry.object) {
+        Ok(place) => Some(entries[place]),
+        Err(_) => None,
+    }
+}
+
+fn values_of(scalars: &[Scalar], entry: Entry) -> &[Scalar]
+    requires { IsEntry (length scalars.now) entry }
+    ensures { result.now ≡ slice_range scalars.now entry.start entry.end }
+{
+    &scalars[entry.start..entry.end]
+}
+
+/// Puts an entry at its place, in the place of the one of the same object.
+fn put_entry(entries: &mut Vec<Entry>, entry: Entry) -> Result<(), AllocError>
+    requires { IsStrictlySortedBy nat_cmp (objects_in entries.old.items) }
+    ensures ok { OnOk result (entries.new.items ≡ put_entry entries.old.items entry) }
+    ensures err { OnErr result (entries.new.items ≡ entries.old.items) }
+{
+    match entries.binary_search_by_key(&entry.object, |e| e.object) {
+        Ok(place) => {
+            entries[place] = entry;
+        }
+        Err(place) => {
+            entries.insert(place, entry)?;
+        }
+    }
+    Ok(())
+}
+
+/// Adds the pairs of a holder and the objects among its values.
+fn add_pairs(
+    pairs: &mut Vec<(usize, usize)>,
+    holder: usize,
+    values: &[Scalar],
+) -> Result<(), AllocError>
+    ensures { OnOk result (pairs.new.items ≡ pairs.old.items ++ pairs_of holder values.now) }
+{
+    for value in values {
+        if let Scalar::Object(target) = value {
+            pairs.push((holder, target.index()))?;
+        }
+    }
+    Ok(())
+}
+
+impl Column {
+    /// No values.
+    pub(crate) fn new(alloc: Global) -> Column
+        ensures { map_of result ≡ [] }
+    {
+        Column {
+            scalars: Vec::new(alloc),
+            entries: Vec::new(alloc),
+        }
+    }
+
+    /// Each range lies within the values.
+    pub(crate) fn within(&self)
+        ensures { AreRangesWithin self.now }
+    {
+        let _scalars = &self.scalars;
+    }
+
+    /// The values of an object: none where it has no entry.
+    pub(crate) fn get(&self, object: usize) -> &[Scalar]
+        ensures { result.now ≡ written_in (map_of self.now) object }
+    {
+        match find_entry(&self.entries, object) {
+            Some(entry) => values_of(&self.scalars, entry),
+            None => &[],
+        }
+    }
+
+    /// Moves values to an object, in the place of those that it has. What stood there stays in the
+    /// list of values, where nothing leads to it.
+    pub(crate) fn set(&mut self, object: usize, values: &mut Vec<Scalar>) -> Result<(), AllocError>
+        ensures ok { OnOk result (map_of self.new ≡
+            insert_entry nat_cmp (map_of self.old) object values.old.items) }
+        ensures err { OnErr result (map_of self.new ≡ map_of self.old) }
+        ensures moved { OnOk result (values.new.items ≡ []) }
+    {
+        let start = self.scalars.len();
+        self.scalars.append(values)?;
+        let end = self.scalars.len();
+        let entry = Entry { object, start, end };
+        put_entry(&mut self.entries, entry)
+    }
+
+    /// The pairs of an object and each object among its values.
+    pub(crate) fn pairs(&self, alloc: Global) -> Result<Vec<(usize, usize)>, AllocError>
+        ensures pairs { IfOk result (λ v. v.items ≡ pairs_in (map_of self.now)) }
+        ensures map { IsMap (map_of self.now) }
+    {
+        let mut pairs = Vec::new(alloc);
+        for entry in self.entries.as_slice() {
+            add_pairs(&mut pairs, entry.object, values_of(&self.scalars, *entry))?;
+        }
+        Ok(pairs)
+    }
+
+    /// The first object that has more values than an upper bound, if there is one, or an earlier
+    /// object.
+    pub(crate) fn first_over(&self, upper: Option<u32>) -> usize
+        ensures { (o : ℕ) → o < result → is_over upper (length (written_in (map_of self.now) o)) ≡ false }
+    {
+        let mut first = usize::MAX;
+        for entry in self.entries.as_slice() {
+            if is_over(upper, entry.end - entry.start) {
+                first = first.min(entry.object);
+            }
+        }
+        first
+    }
+}
