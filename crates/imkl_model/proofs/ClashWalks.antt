@@ -1,8 +1,8 @@
 -- Owners compared one by one with those before them.
-use Rattle.std.proofs.Common.{find, ◌≡◌, ◌≢◌, ◌∙◌, ℕ, zero, suc, ◌<◌, ◌≤◌, ◌+◌, ◌&&◌, ◌||◌, not, Bool, true, false, List, [], length, get_or, eqb, Option, None, Some, refl, sym, ap, arith, inl, inr}
+use Rattle.std.proofs.Common.{find, ◌≡◌, ◌∙◌, ℕ, ◌<◌, ◌≤◌, ◌+◌, ◌&&◌, ◌||◌, not, Bool, true, false, List, length, get_or, eqb, Option, None, Some, refl, sym, ap, arith, inl, inr}
 use Rattle.std.specs.List.{list_any}
 use Rattle.std.proofs.lemmas.Bool.{false≢true, and_parts, or_cases, or_left, or_right, cases_Bool, eq-eqb}
-use Rattle.std.proofs.lemmas.Bool.Decides.{eqb_tells, leb_tells, Decides-eqb}
+use Rattle.std.proofs.lemmas.Bool.Decides.{leb_tells, Decides-eqb}
 use Rattle.imkl_model.specs.Chains.{any_below, is_or_reaches}
 use Rattle.imkl_model.specs.ClassModel.{Model, supers, feature_at, belongs}
 use Rattle.imkl_model.specs.Tables.{has_mark}

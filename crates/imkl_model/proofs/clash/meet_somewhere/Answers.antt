@@ -1,10 +1,10 @@
-use Rattle.std.proofs.Common.{◌≡◌, ◌∙◌, ◌<◌, ◌&&◌, ℕ, List, Bool, [], true, false, length, get_or, IfSome, Option, Some, None, is_some, refl, sym, ap, subst, arith}
+use Rattle.std.proofs.Common.{◌≡◌, ◌∙◌, ◌<◌, ℕ, List, Bool, [], true, false, length, get_or, IfSome, Option, Some, None, is_some, refl, sym, ap, subst, arith}
 use Rattle.std.proofs.lemmas.Bool.{false≢true}
 use Rattle.std.proofs.lemmas.List.{get_or_default, get_or_read}
 use Rattle.imkl_model.specs.declared.feature.FeatureInfo.{FeatureInfo}
 use Rattle.imkl_model.specs.Chains.{is_or_reaches}
 use Rattle.imkl_model.specs.Tables.{has_mark}
-use Rattle.imkl_model.specs.ClassModel.{feature_at, feature_in, belongs, supers}
+use Rattle.imkl_model.specs.ClassModel.{feature_at, belongs, supers}
 use Rattle.imkl_model.specs.Groups.{model_with, meets}
 use Rattle.imkl_model.proofs.Below.{any_none}
 use Rattle.imkl_model.proofs.ClashGroups.{alone}
