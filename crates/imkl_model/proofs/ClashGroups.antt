@@ -102,7 +102,7 @@ begins (x ∷ xs) lt = elim (eqb_tells x x) [ inl h ↦ h.0 | inr h ↦ absurd (
 other : (m : Model) (c owner g : ℕ) → belongs m c g ≡ true → owner ≢ (feature_at m g).owner → has_other_owner m c owner g ≡ true
 other m c owner g there apart = rw (there, unequal owner (feature_at m g).owner apart) refl
 
-meets_at : (m : Model) (c : ℕ) (xs : List ℕ) (f g : ℕ) → IsIn f xs → IsIn g xs → belongs m c f ≡ true → belongs m c g ≡ true → (feature_at m f).owner ≢ (feature_at m g).owner → meets m c xs ≡ true
+pub meets_at : (m : Model) (c : ℕ) (xs : List ℕ) (f g : ℕ) → IsIn f xs → IsIn g xs → belongs m c f ≡ true → belongs m c g ≡ true → (feature_at m f).owner ≢ (feature_at m g).owner → meets m c xs ≡ true
 meets_at m c xs f g at_f at_g in_f in_g apart =
     let w = is_found (belongs m c) xs at_f.0 at_f.1 (rw at_f.2 in_f) in
     let owner = (feature_at m w.0).owner in

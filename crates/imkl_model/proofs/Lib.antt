@@ -13,6 +13,7 @@ pub mod SortedTexts
 pub mod Ranks
 pub mod ClashLaws
 pub mod ClashGroups
+pub mod ClashWalks
 pub mod Parts
 pub mod Ends
 pub mod FeatureParts

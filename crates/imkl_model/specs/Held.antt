@@ -7,7 +7,7 @@ use Rattle.ocl_base.specs.Numbers.{places, least}
 use Rattle.imkl_model.specs.declared.entry.Class.{Class}
 use Rattle.imkl_model.specs.declared.feature.FeatureInfo.{FeatureInfo}
 use Rattle.imkl_model.specs.ClassModel.{supers_in, names_of_classes, feature_in, is_named_in}
-use Rattle.imkl_model.specs.Chains.{reaches}
+use Rattle.imkl_model.specs.Chains.{reaches, is_or_reaches}
 use Rattle.imkl_model.specs.Tables.{IsSquare, mark_at, has_mark}
 
 -- classes, their names in order, and a row of the classes that each class reaches
@@ -44,3 +44,8 @@ pub record IsGroup (fs : List FeatureInfo) (n : ℕ) (name : List ℕ) (g : Grou
 -- the groups of all names
 abbrev pub AreGroups : List FeatureInfo → ℕ → (List ℕ → Option Group) → Type 0
 AreGroups fs n by_name = (name : List ℕ) → IsGroup fs n name (unwrap_or (by_name name) no_group)
+
+-- for each class, a row that marks the classes that conform to it
+pub record AreDescendants (cs : List Class) (rows : List (List Bool)) : Type 0 where
+  pub square : IsSquare (length cs) rows
+  pub marks : (d c : ℕ) → d < length cs → c < length cs → mark_at rows d c ≡ is_or_reaches (supers_in cs) c d

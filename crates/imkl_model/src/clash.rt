@@ -1,77 +1,52 @@
 //! Features of one name and different owners that belong to one class.
 
-ghost use Rattle.std.specs.Prelude.{◌≡◌, ◌<◌, ℕ, length, All};
-ghost use Rattle.std.specs.List.{list_any};
+ghost use Rattle.std.specs.Prelude.{◌≡◌, ◌<◌, length, All, IfOk};
 ghost use Rattle.imkl_model.specs.Chains.{any_below};
 ghost use Rattle.imkl_model.specs.ClassModel.{has_clash};
-ghost use Rattle.imkl_model.specs.Groups.{model_with, begins_with, has_other_owner, meets, group_meets, AreOwned};
+ghost use Rattle.imkl_model.specs.Groups.{model_with, begins_with, meets, group_meets, AreOwned};
+ghost use Rattle.imkl_model.specs.Held.{AreDescendants};
 
-use crate::belonging::first_belonging;
 use crate::class_table::ClassTable;
+use crate::descendants::descendants;
 use crate::feature_table::FeatureTable;
-use crate::numbers::{ClassNo, FeatureNo};
+use crate::numbers::FeatureNo;
+use crate::row::Row;
+use std::alloc::{AllocError, Global};
 
-/// Whether one of some features belongs to a class and has another owner than this.
-fn any_other(
+/// Whether two of some features have different owners and belong to one class. Each owner in turn is compared with all
+/// those before it, by the classes that conform to them. One feature alone needs no look at the classes.
+fn meet_somewhere(
+    alloc: Global,
     classes: &ClassTable,
     features: &FeatureTable,
-    class: ClassNo,
-    owner: ClassNo,
+    below: &[Row],
     numbers: &[FeatureNo],
-) -> bool
-    requires class { class < length classes.now }
+) -> Result<bool, AllocError>
     requires numbers { All (λ f. f < length features.now) numbers.now }
     requires owners { AreOwned classes.now features.now }
-    ensures { result
-        ≡ list_any (has_other_owner (model_with classes.now features.now) class owner) numbers.now }
-{
-    for number in numbers {
-        let other = features.at(*number).owner;
-        if classes.conforms(class, other) && owner.index() != other.index() {
-            return true;
-        }
-    }
-    false
-}
-
-/// Whether two of some features have different owners and belong to a class.
-fn meet(
-    classes: &ClassTable,
-    features: &FeatureTable,
-    class: ClassNo,
-    numbers: &[FeatureNo],
-) -> bool
-    requires class { class < length classes.now }
-    requires numbers { All (λ f. f < length features.now) numbers.now }
-    requires owners { AreOwned classes.now features.now }
-    ensures { result ≡ meets (model_with classes.now features.now) class numbers.now }
-{
-    match first_belonging(classes, features, class, numbers) {
-        None => false,
-        Some(feature) => {
-            let owner = features.at(feature).owner;
-            any_other(classes, features, class, owner, numbers)
-        }
-    }
-}
-
-/// Whether two of some features have different owners and belong to one class. One feature alone needs no look at the
-/// classes.
-fn meet_somewhere(classes: &ClassTable, features: &FeatureTable, numbers: &[FeatureNo]) -> bool
-    requires numbers { All (λ f. f < length features.now) numbers.now }
-    requires owners { AreOwned classes.now features.now }
-    ensures { result ≡ any_below (λ c. meets (model_with classes.now features.now) c numbers.now)
-        (length classes.now) }
+    requires below { AreDescendants classes.now below.now }
+    ensures { IfOk result (λ b. b
+        ≡ any_below (λ c. meets (model_with classes.now features.now) c numbers.now)
+        (length classes.now)) }
 {
     if numbers.len() < 2 {
-        return false;
+        return Ok(false);
     }
-    for class in 0..classes.len() {
-        if meet(classes, features, ClassNo::new(class), numbers) {
-            return true;
+    let mut owners = Row::new(alloc, classes.len())?;
+    let mut taken = Row::new(alloc, classes.len())?;
+    for number in numbers {
+        let owner = features.at(*number).owner.index();
+        if owners.has(owner) {
+            continue;
         }
+        let row = &below[owner];
+        if taken.common(row).is_some() {
+            return Ok(true);
+        }
+        taken.merge(row);
+        owners.add(owner);
     }
-    false
+    Ok(false)
 }
 
 fn begins_with(numbers: &[FeatureNo], number: FeatureNo) -> bool
@@ -84,30 +59,45 @@ fn begins_with(numbers: &[FeatureNo], number: FeatureNo) -> bool
 }
 
 /// Whether a feature is the first of its name, and two of that name and of different owners belong to one class.
-fn group_meets(classes: &ClassTable, features: &FeatureTable, feature: FeatureNo) -> bool
+fn group_meets(
+    alloc: Global,
+    classes: &ClassTable,
+    features: &FeatureTable,
+    below: &[Row],
+    feature: FeatureNo,
+) -> Result<bool, AllocError>
     requires feature { feature < length features.now }
     requires owners { AreOwned classes.now features.now }
-    ensures { result ≡ group_meets (model_with classes.now features.now) feature }
+    requires below { AreDescendants classes.now below.now }
+    ensures { IfOk result (λ b. b ≡ group_meets (model_with classes.now features.now) feature) }
 {
     match features.group(features.at(feature).name.as_str()) {
-        None => false,
+        None => Ok(false),
         Some(group) => {
             let numbers = group.numbers();
-            begins_with(numbers, feature) && meet_somewhere(classes, features, numbers)
+            if !begins_with(numbers, feature) {
+                return Ok(false);
+            }
+            meet_somewhere(alloc, classes, features, below, numbers)
         }
     }
 }
 
 /// Whether two features of one name and different owners belong to one class. The features of each name are looked at
 /// once, with the first of them.
-pub(crate) fn has_clash(classes: &ClassTable, features: &FeatureTable) -> bool
+pub(crate) fn has_clash(
+    alloc: Global,
+    classes: &ClassTable,
+    features: &FeatureTable,
+) -> Result<bool, AllocError>
     requires { AreOwned classes.now features.now }
-    ensures { result ≡ has_clash (model_with classes.now features.now) }
+    ensures { IfOk result (λ b. b ≡ has_clash (model_with classes.now features.now)) }
 {
+    let below = descendants(alloc, classes)?;
     for number in 0..features.len() {
-        if group_meets(classes, features, FeatureNo::new(number)) {
-            return true;
+        if group_meets(alloc, classes, features, &below, FeatureNo::new(number))? {
+            return Ok(true);
         }
     }
-    false
+    Ok(false)
 }

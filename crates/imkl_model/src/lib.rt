@@ -6,6 +6,7 @@ mod belonging;
 mod checks;
 mod clash;
 mod class_table;
+mod descendants;
 mod draft;
 mod duplicates;
 mod each;

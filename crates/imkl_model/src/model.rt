@@ -229,14 +229,14 @@ impl ClassModel {
 
     /// The class model of a draft, after the checks over numbers.
     #[tactic(auto, unfolding(crate::specs::Description::checked_model))]
-    pub(crate) fn new(draft: Draft) -> Result<ClassModel, ModelFault>
+    pub(crate) fn new(alloc: Global, draft: Draft) -> Result<ClassModel, ModelFault>
         requires { IsNumbered (model_of_draft draft) }
         ensures { Gives model_fault (λ m. m) result (checked_model (model_of_draft draft)) }
     {
         if draft.classes.is_cyclic() {
             return Err(ModelFault::Cycle);
         }
-        if has_clash(&draft.classes, &draft.features) {
+        if has_clash(alloc, &draft.classes, &draft.features)? {
             return Err(ModelFault::FeatureClash);
         }
         if !have_multiplicities(draft.features.entries()) {

@@ -30,7 +30,7 @@ fn model_from(alloc: Global, value: &Value) -> Result<ClassModel, ModelFault>
         return Err(ModelFault::DuplicateName);
     }
     let draft = draft_of(alloc, &written, &features)?;
-    ClassModel::new(draft)
+    ClassModel::new(alloc, draft)
 }
 
 /// The class model that the bytes describe, or their first fault.

@@ -4,10 +4,10 @@ use Rattle.imkl_model.proofs.Below.{any_none}
 use Rattle.imkl_model.proofs.ClashGroups.{clash_in_group, no_clash}
 use Rattle.imkl_model.proofs.clash.has_clash.Goals as goal
 
-pub returns-then-group_meets : goal.returns-then-group_meets
-returns-then-group_meets c =
+pub returns-then-branch : goal.returns-then-branch
+returns-then-branch c =
     let m = model_with c.args.classes.now c.args.features.now in
-    let here : group_meets m c.loop-number.number ≡ true = ap (group_meets m) (sym c.new.ensures) ∙ sym c.group_meets.ensures ∙ c.if-group_meets.true in
+    let here : group_meets m c.loop-number.number ≡ true = ap (group_meets m) (sym c.new.ensures) ∙ sym c.in_ok-group_meets.ensures ∙ c.if-branch.true in
     sym (clash_in_group m c.loop-number.number here)
 
 pub returns : goal.returns

@@ -12,4 +12,4 @@ pub invariant_of-result : goal.invariant_of-result
 invariant_of-result c =
     let m = model_of_draft c.args.draft in
     let bounds = rw c.entries.ensures at c.have_multiplicities.ensures in
-    well_formed m c.requires (sym c.is_cyclic.ensures ∙ c.if-is_cyclic.false) (sym c.has_clash.ensures ∙ c.if-has_clash.false) (sym bounds ∙ c.if-not-have_multiplicities.false)
+    well_formed m c.requires (sym c.is_cyclic.ensures ∙ c.if-is_cyclic.false) (sym c.in_ok-has_clash.ensures ∙ c.if-branch.false) (sym bounds ∙ c.if-not-have_multiplicities.false)
