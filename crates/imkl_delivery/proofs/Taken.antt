@@ -1,102 +1,125 @@
--- What is left of an object's members and of a list when parts of them were taken out.
-use Rattle.std.proofs.Common.{◌≡◌, ◌∙◌, ℕ, zero, suc, ◌==◌, ◌<◌, ◌≤◌, Bool, true, false, List, [], ◌∷◌, length, map, drop, get_or, Option, Some, None, Ok, Err, Ordering, Less, Equal, Greater, codes, cond, is_eq, bytes_eq, string_bytes, String, Vec, BTreeMap, Global, refl, sym, ap, arith, if◌then◌else◌}
-use Rattle.std.proofs.lemmas.Map.Lookups.{exact_bytes}
-use Rattle.std.proofs.lemmas.Slice.Eq.{bytes_eq-Decides}
-use Rattle.std.specs.BTreeMap.{is_at}
-use Rattle.std.specs.Cmp.Lexicographic.{slice_cmp}
-use Rattle.std.specs.Map.{remove_entry}
-use Rattle.std.specs.Ordering.{nat_cmp, match_ordering}
-use Rattle.serde_json.specs.Data.{Data, null, boolean, number, string, array, object, Members, no_members, member}
-use Rattle.serde_json.specs.Events.{members_len}
-use Rattle.serde_json.specs.Find.{get, get_member}
-use Rattle.serde_json.specs.View.{view, members_view}
-use Rattle.serde_json.proofs.Views.{Entry, view-Array, view-Object}
-use Rattle.serde_json.specs.declared.value.Value.{Value, Array, Object}
-use Rattle.ocl_base.specs.Steps.{found}
-use Rattle.imkl_model.specs.Json.{record_from, list_from}
-use Rattle.imkl_model.proofs.ForAbove.{members_len-view, elements_of-view}
+-- What was taken out of a document's tree is what the document says; a population by what was added and what is then written.
+use Rattle.std.proofs.Common.{◌≡◌, ◌∙◌, ℕ, zero, suc, ◌<◌, ◌≤◌, Bool, true, false, List, [], ◌∷◌, length, map, drop, get_or, Option, Some, option_and_then, Result, Ok, Err, Vec, Global, codes, bytes_eq, refl, sym, ap, arith, if◌then◌else◌}
+use Rattle.std.proofs.lemmas.List.{length-map, get_or-map}
+use Rattle.serde_json.specs.Data.{Data}
+use Rattle.serde_json.specs.Find.{get, as_str, as_object}
+use Rattle.serde_json.specs.View.{view}
+use Rattle.serde_json.specs.declared.value.Value.{Value, Array}
+use Rattle.serde_json.proofs.Views.{view-Array}
+use Rattle.ocl_base.specs.Steps.{◌>>=◌, found, each, Fails}
+use Rattle.ocl_base.proofs.ForAbove.{both_steps, found_is, ok_is, not_okay, fails_whole, each_at, each_length}
+use Rattle.imkl_model.specs.ClassModel.{Model}
+use Rattle.imkl_model.specs.Json.{list_from, record_from}
+use Rattle.imkl_model.proofs.ForAbove.{elements_of-view}
+use Rattle.imkl_population.specs.Population.{Population}
 use Rattle.imkl_delivery.specs.declared.fault.DeliveryFault.{DeliveryFault}
+use Rattle.imkl_delivery.specs.declared.fault.DeliveryFault.TheVariants as fault
 use Rattle.imkl_delivery.specs.declared.fault.DeliveryFault.TheVariants.{Shape}
-use Rattle.imkl_delivery.specs.Document.{entry_from, document_from}
-use Rattle.imkl_delivery.specs.Taken.{without, entry_of_members, document_of_members}
+use Rattle.imkl_delivery.specs.Faults.{delivery_fault}
+use Rattle.imkl_delivery.specs.Document.{Written, Document, entry_from, document_from}
+use Rattle.imkl_delivery.specs.Loading.{entry_at, nothing_written, empty, add_entries, population_from, describes_population}
+use Rattle.imkl_delivery.specs.Taken.{objects_in, features_in, added_from, written_from}
 
--- ---- members
+-- ---- the tree
 
-by_order : (o : Ordering) (e : Entry) (es rest : List Entry) → members_view (cond (is_eq o) es (e ∷ rest)) ≡ match_ordering o (members_view (e ∷ rest)) (members_view es) (members_view (e ∷ rest))
-by_order Less e es rest = refl
-by_order Equal e es rest = refl
-by_order Greater e es rest = refl
+-- the features of an entry are what is taken out of its tree
+pub features_there : (d : Data) (w : Written) → entry_from d ≡ Ok w → features_in d ≡ Some w.features
+unfolding entry_from features_in
+features_there d w is =
+    let sized = both_steps (found (record_from 3 d) Shape) _ w is in
+    let i = both_steps (found (get (codes "id") d) Shape) _ w sized.2 in
+    let id = both_steps (found (as_str i.0) Shape) _ w i.2 in
+    let c = both_steps (found (get (codes "class") d) Shape) _ w id.2 in
+    let class = both_steps (found (as_str c.0) Shape) _ w c.2 in
+    let f = both_steps (found (get (codes "features") d) Shape) _ w class.2 in
+    let features = both_steps (found (as_object f.0) Shape) _ w f.2 in
+    let whole = ok_is (record { id = id.0; class = class.0; features = features.0 }) w features.2 in
+    ap (λ (o : Option Data). option_and_then as_object o) (found_is (get (codes "features") d) Shape f.0 f.1) ∙ found_is (as_object f.0) Shape features.0 features.1 ∙ ap (λ (x : Written). Some x.features) whole
 
--- what a map keeps when an entry is removed
-pub left_of_map : (name : List ℕ) (es : List Entry) → members_view (remove_entry (is_at (λ k. slice_cmp nat_cmp name (string_bytes k))) es) ≡ without name (members_view es)
-left_of_map name [] = refl
-left_of_map name (e ∷ es) = by_order (slice_cmp nat_cmp name (string_bytes e.0)) e es _ ∙ rw (left_of_map name es) refl
+-- the objects of a document are what is taken out of its tree, and its entries are theirs
+pub record IsTaken (d : Data) (x : Document) : Type 0 where
+  pub objects : List Data
+  pub taken : objects_in d ≡ Some objects
+  pub entries : each entry_from objects ≡ Ok x.entries
 
-skipped : (o : Ordering) (other l : List ℕ) (d : Data) (r : Option Data) → slice_cmp nat_cmp other l ≡ o → (other ≡ l → ⊥) → match_ordering o r (Some d) r ≡ r
-skipped Less other l d r is apart = refl
-skipped Equal other l d r is apart = absurd (apart (exact_bytes other l is))
-skipped Greater other l d r is apart = refl
+pub objects_there : (d : Data) (x : Document) → document_from d ≡ Ok x → IsTaken d x
+unfolding document_from objects_in
+objects_there d x is =
+    let sized = both_steps (found (record_from 2 d) Shape) _ x is in
+    let m = both_steps (found (get (codes "model") d) Shape) _ x sized.2 in
+    let model = both_steps (found (as_str m.0) Shape) _ x m.2 in
+    let os = both_steps (found (get (codes "objects") d) Shape) _ x model.2 in
+    let ds = both_steps (found (list_from os.0) Shape) _ x os.2 in
+    let entries = both_steps (each entry_from ds.0) _ x ds.2 in
+    let whole = ok_is (record { model = model.0; entries = entries.0 }) x entries.2 in
+    record {
+      objects = ds.0;
+      taken = ap (λ (o : Option Data). option_and_then list_from o) (found_is (get (codes "objects") d) Shape os.0 os.1) ∙ found_is (list_from os.0) Shape ds.0 ds.1;
+      entries = entries.1 ∙ ap (λ (y : Document). Ok y.entries) whole;
+    }
 
-differ : (other name : List ℕ) → bytes_eq other name ≡ false → other ≡ name → ⊥
-differ other name apart same = let equal : bytes_eq other name ≡ true = (bytes_eq-Decides other name).1 same in let bad : false ≡ true = sym apart ∙ equal in cc
+-- the features of an object are those of its entry
+pub features_at : (vs : List Value) (ws : List Written) (i : ℕ) (v : Value) → each entry_from (map view vs) ≡ Ok ws → i < length vs → v ≡ get_or vs i v → features_in (view v) ≡ Some (entry_at ws i).features
+features_at vs ws i v is lt here =
+    let at : view v ≡ get_or (map view vs) i (view v) = ap view here ∙ sym (get_or-map view vs i v (view v) lt) in
+    let read = each_at entry_from (map view vs) ws i (view v) nothing_written is (omega (arith, length-map vs view, lt)) in
+    features_there (view v) (entry_at ws i) (ap entry_from at ∙ read)
 
-after_first : (o : Ordering) (name other l : List ℕ) (d : Data) (ms rest : Members) → slice_cmp nat_cmp name l ≡ o → bytes_eq other name ≡ false → get_member other rest ≡ get_member other ms
-    → get_member other (match_ordering o (member l d rest) ms (member l d rest)) ≡ get_member other (member l d ms)
-after_first Less name other l d ms rest is apart later = ap (λ (r : Option Data). match_ordering (slice_cmp nat_cmp other l) r (Some d) r) later
-after_first Equal name other l d ms rest is apart later = sym (skipped (slice_cmp nat_cmp other l) other l d (get_member other ms) refl (λ same. differ other name apart (same ∙ sym (exact_bytes name l is))))
-after_first Greater name other l d ms rest is apart later = ap (λ (r : Option Data). match_ordering (slice_cmp nat_cmp other l) r (Some d) r) later
-
--- the members of other names stay
-others_stay : (name other : List ℕ) (ms : Members) → bytes_eq other name ≡ false → get_member other (without name ms) ≡ get_member other ms
-others_stay name other no_members apart = refl
-others_stay name other (member l d ms) apart = after_first (slice_cmp nat_cmp name l) name other l d ms (without name ms) refl apart (others_stay name other ms apart)
-
--- ---- objects
-
-counted : (b : Bool) (os ms : Members) (name : List ℕ) → found {E = DeliveryFault} (if b then Some os else None) Shape ≡ Ok ms → get_member name os ≡ get_member name ms
-counted true os ms name is = let same : os ≡ ms = (let whole : Ok os ≡ Ok ms = is in cc) in rw same refl
-counted false os ms name is = absurd (let bad : Err Shape ≡ Ok ms = is in cc)
-
--- the members of an object are those that are found in it
-found_in : (n : ℕ) (d : Data) (ms : Members) (name : List ℕ) → found {E = DeliveryFault} (record_from n d) Shape ≡ Ok ms → get name d ≡ get_member name ms
-unfolding record_from
-found_in n null ms name is = absurd (let bad : Err Shape ≡ Ok ms = is in cc)
-found_in n (boolean b) ms name is = absurd (let bad : Err Shape ≡ Ok ms = is in cc)
-found_in n (number x) ms name is = absurd (let bad : Err Shape ≡ Ok ms = is in cc)
-found_in n (string s) ms name is = absurd (let bad : Err Shape ≡ Ok ms = is in cc)
-found_in n (array ds) ms name is = absurd (let bad : Err Shape ≡ Ok ms = is in cc)
-found_in n (object os) ms name is = counted (members_len os == n) os ms name is
-
-whole : (b : Bool) (ms : Members) → found {E = DeliveryFault} (if b then Some ms else None) Shape ≡ (if b then Ok ms else Err Shape)
-whole true ms = refl
-whole false ms = refl
-
--- an object's map, by the number of its members
-pub record_there : (n : ℕ) (m : BTreeMap (String Global) Value) (b : Bool) → (length m.entries == n) ≡ b → found {E = DeliveryFault} (record_from n (view (Object m))) Shape ≡ (if b then Ok (members_view m.entries) else Err Shape)
-unfolding record_from
-record_there n m b is = rw (view-Object m, members_len-view m.entries, is) (whole b (members_view m.entries))
+-- as many objects as entries
+pub objects_counted : (d : Data) (x : Document) (ds : List Data) → document_from d ≡ Ok x → objects_in d ≡ Some ds → length x.entries ≡ length ds
+objects_counted d x ds is taken =
+    let there = objects_there d x is in
+    let same : there.objects ≡ ds = (let whole : Some there.objects ≡ Some ds = sym there.taken ∙ taken in cc) in
+    each_length entry_from there.objects x.entries there.entries ∙ ap length same
 
 -- a list's values
-pub list_there : (v : Vec Value Global) → found {E = DeliveryFault} (list_from (view (Array v))) Shape ≡ Ok (map view v.items)
+pub list_there : (v : Vec Value Global) → list_from (view (Array v)) ≡ Some (map view v.items)
 unfolding list_from
 list_there v = rw (view-Array v, elements_of-view v.items) refl
 
--- an entry by its members
-pub entry_by_members : (d : Data) (ms : Members) → found {E = DeliveryFault} (record_from 3 d) Shape ≡ Ok ms → entry_of_members ms ≡ entry_from d
-unfolding entry_of_members entry_from
-entry_by_members d ms is =
-    let id = found_in 3 d ms (codes "id") is in
-    let class = found_in 3 d ms (codes "class") is ∙ sym (others_stay (codes "id") (codes "class") ms refl) in
-    let features = found_in 3 d ms (codes "features") is ∙ sym (others_stay (codes "class") (codes "features") (without (codes "id") ms) refl ∙ others_stay (codes "id") (codes "features") ms refl) in
-    rw (is, id, class, features) refl
+-- ---- the population
 
--- a document by its members
-pub document_by_members : (d : Data) (ms : Members) → found {E = DeliveryFault} (record_from 2 d) Shape ≡ Ok ms → document_of_members ms ≡ document_from d
-unfolding document_of_members document_from
-document_by_members d ms is =
-    let model = found_in 2 d ms (codes "model") is in
-    let objects = found_in 2 d ms (codes "objects") is ∙ sym (others_stay (codes "model") (codes "objects") ms refl) in
-    rw (is, model, objects) refl
+-- a fault while objects are added is the delivery's
+passes_test : (e : DeliveryFault) (m : Model) (ws : List Written) (b : Bool) → Fails delivery_fault e (if b then add_entries ws (empty m) else Err fault.OtherModel) → Fails delivery_fault e (if b then population_from m ws else Err fault.OtherModel)
+unfolding population_from written_from
+passes_test e m ws true h = fails_whole delivery_fault e (add_entries ws (empty m)) (written_from ws) (add_entries ws (empty m) >>= written_from ws) refl h
+passes_test e m ws false h = h
+
+passes : (e : DeliveryFault) (m : Model) (r : Result Document DeliveryFault) → Fails delivery_fault e (r >>= λ document. if bytes_eq document.model m.name then add_entries document.entries (empty m) else Err fault.OtherModel)
+    → Fails delivery_fault e (r >>= λ document. if bytes_eq document.model m.name then population_from m document.entries else Err fault.OtherModel)
+passes e m (Ok x) h = passes_test e m x.entries (bytes_eq x.model m.name) h
+passes e m (Err z) h = h
+
+pub added_passes : (e : DeliveryFault) (m : Model) (d : Data) → Fails delivery_fault e (added_from m d) → Fails delivery_fault e (describes_population m d)
+unfolding added_from describes_population
+added_passes e m d h = passes e m (document_from d) h
+
+-- a delivery whose objects were added, by what is then written on them
+pub record IsAdded (m : Model) (d : Data) (p : Population) : Type 0 where
+  pub objects : List Data
+  pub entries : List Written
+  pub taken : objects_in d ≡ Some objects
+  pub written : each entry_from objects ≡ Ok entries
+  pub whole : describes_population m d ≡ written_from entries p
+
+tested : (m : Model) (ws : List Written) (p : Population) (b : Bool) → (if b then add_entries ws (empty m) else Err fault.OtherModel) ≡ Ok p → (if b then population_from m ws else Err fault.OtherModel) ≡ written_from ws p
+unfolding population_from written_from
+tested m ws p true is = rw is refl
+tested m ws p false is = absurd (not_okay fault.OtherModel p is)
+
+pub added_there : (m : Model) (d : Data) (p : Population) → added_from m d ≡ Ok p → IsAdded m d p
+unfolding added_from describes_population
+added_there m d p is =
+    let read = both_steps (document_from d) (λ document. if bytes_eq document.model m.name then add_entries document.entries (empty m) else Err fault.OtherModel) p is in
+    let x = read.0 in
+    let there = objects_there d x read.1 in
+    record {
+      objects = there.objects;
+      entries = x.entries;
+      taken = there.taken;
+      written = there.entries;
+      whole = ap (λ (r : Result Document DeliveryFault). r >>= λ document. if bytes_eq document.model m.name then population_from m document.entries else Err fault.OtherModel) read.1 ∙ tested m x.entries p (bytes_eq x.model m.name) read.2;
+    }
 
 -- ---- the list
 

@@ -1,37 +1,33 @@
--- Taking members out of an object, one after another: what is left of them, and what an entry and a document are so read.
-use Rattle.std.specs.Prelude.{ℕ, List, Result, Ok, codes}
-use Rattle.std.specs.Ordering.{nat_cmp, match_ordering}
-use Rattle.std.specs.Cmp.Lexicographic.{slice_cmp}
-use Rattle.serde_json.specs.Data.{Members, no_members, member}
-use Rattle.serde_json.specs.Find.{get_member, as_str, as_object}
-use Rattle.ocl_base.specs.Steps.{◌>>=◌, found, each}
+-- What is taken out of a document's tree once the document was read, and what is left to do when its objects were added.
+use Rattle.std.specs.Prelude.{List, Option, Result, Err, codes, bytes_eq, option_and_then, if◌then◌else◌}
+use Rattle.serde_json.specs.Data.{Data, Members}
+use Rattle.serde_json.specs.Find.{get, as_object}
+use Rattle.ocl_base.specs.Steps.{◌>>=◌}
+use Rattle.imkl_model.specs.ClassModel.{Model}
 use Rattle.imkl_model.specs.Json.{list_from}
+use Rattle.imkl_population.specs.Population.{Population}
+use Rattle.imkl_population.specs.Finishing.{finish_outcome}
 use Rattle.imkl_delivery.specs.declared.fault.DeliveryFault.{DeliveryFault}
-use Rattle.imkl_delivery.specs.declared.fault.DeliveryFault.TheVariants.{Shape}
-use Rattle.imkl_delivery.specs.Document.{Written, Document, entry_from}
+use Rattle.imkl_delivery.specs.declared.fault.DeliveryFault.TheVariants as fault
+use Rattle.imkl_delivery.specs.Document.{Written, document_from}
+use Rattle.imkl_delivery.specs.Loading.{empty, add_entries, put_entries, finish}
 
--- the members, without the first of a name
-abbrev pub without : List ℕ → Members → Members
-without k no_members = no_members
-without k (member l e ms) = match_ordering (slice_cmp nat_cmp k l) (member l e (without k ms)) ms (member l e (without k ms))
+-- the objects of a document
+unfoldable pub objects_in : Data → Option (List Data)
+objects_in d = option_and_then list_from (get (codes "objects") d)
 
--- the entry that an object's members write
-unfoldable pub entry_of_members : Members → Result Written DeliveryFault
-entry_of_members ms = do
-  i ← found (get_member (codes "id") ms) Shape
-  id ← found (as_str i) Shape
-  c ← found (get_member (codes "class") (without (codes "id") ms)) Shape
-  class ← found (as_str c) Shape
-  f ← found (get_member (codes "features") (without (codes "class") (without (codes "id") ms))) Shape
-  features ← found (as_object f) Shape
-  Ok (record { id = id; class = class; features = features })
+-- the members of an object's features
+unfoldable pub features_in : Data → Option Members
+features_in d = option_and_then as_object (get (codes "features") d)
 
--- the document that an object's members write
-unfoldable pub document_of_members : Members → Result Document DeliveryFault
-document_of_members ms = do
-  m ← found (get_member (codes "model") ms) Shape
-  model ← found (as_str m) Shape
-  os ← found (get_member (codes "objects") (without (codes "model") ms)) Shape
-  ds ← found (list_from os) Shape
-  entries ← each entry_from ds
-  Ok (record { model = model; entries = entries })
+-- the objects of a document, added
+unfoldable pub added_from : Model → Data → Result Population DeliveryFault
+added_from m d = do
+  document ← document_from d
+  if bytes_eq document.model m.name then add_entries document.entries (empty m) else Err fault.OtherModel
+
+-- the population of what entries write on objects that were added
+unfoldable pub written_from : List Written → Population → Result Population DeliveryFault
+written_from ws p = do
+  q ← put_entries ws p
+  finish (finish_outcome q)

@@ -7,6 +7,7 @@ mod features;
 pub mod laws;
 mod loading;
 mod scalars;
+mod taking;
 
 pub use fault::DeliveryFault;
 pub use loading::load;

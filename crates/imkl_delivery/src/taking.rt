@@ -1,0 +1,62 @@
+//! Taking the tree of a document apart, once its objects have been added.
+
+ghost use Rattle.std.specs.Prelude.{◌≡◌, map, option_map};
+ghost use Rattle.serde_json.specs.View.{view, members_view};
+ghost use Rattle.serde_json.specs.Find.{get, as_object};
+ghost use Rattle.imkl_model.specs.Json.{list_from};
+ghost use Rattle.imkl_delivery.specs.Taken.{features_in, objects_in};
+
+use serde_json::{Map, Value};
+
+/// A member's value, out of its object.
+fn take(object: Value, name: &str) -> Option<Value>
+    ensures { option_map view result ≡ get name.now (view object) }
+{
+    match object {
+        Value::Object(mut members) => members.remove(name),
+        _ => None,
+    }
+}
+
+/// A list's values.
+#[tactic(auto, unfolding(imkl_model::specs::Json::list_from))]
+fn list(value: Value) -> Option<Vec<Value>>
+    ensures { option_map (λ vs. map view vs.items) result ≡ list_from (view value) }
+{
+    match value {
+        Value::Array(values) => Some(values),
+        _ => None,
+    }
+}
+
+/// An object's members.
+fn members(value: Value) -> Option<Map<String, Value>>
+    ensures { option_map (λ ms. members_view ms.entries) result ≡ as_object (view value) }
+{
+    match value {
+        Value::Object(members) => Some(members),
+        _ => None,
+    }
+}
+
+/// The objects of a document, out of its tree.
+#[tactic(auto, unfolding(crate::specs::Taken::objects_in))]
+pub(crate) fn objects_of(document: Value) -> Option<Vec<Value>>
+    ensures { option_map (λ vs. map view vs.items) result ≡ objects_in (view document) }
+{
+    match take(document, "objects") {
+        Some(objects) => list(objects),
+        None => None,
+    }
+}
+
+/// The members of an object's features, out of its tree.
+#[tactic(auto, unfolding(crate::specs::Taken::features_in))]
+pub(crate) fn features_of(object: Value) -> Option<Map<String, Value>>
+    ensures { option_map (λ ms. members_view ms.entries) result ≡ features_in (view object) }
+{
+    match take(object, "features") {
+        Some(features) => members(features),
+        None => None,
+    }
+}
