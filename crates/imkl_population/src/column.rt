@@ -7,7 +7,7 @@ ghost use Rattle.std.specs.BTreeMap.{insert_entry};
 ghost use Rattle.imkl_population.specs.Written.{written_in, IsMap};
 ghost use Rattle.imkl_population.specs.Population.{pairs_of};
 ghost use Rattle.imkl_population.specs.Values.{is_over};
-ghost use Rattle.imkl_population.specs.Store.{IsEntry, AreRangesWithin, entry_of, objects_in, put_entry, map_of, pairs_in};
+ghost use Rattle.imkl_population.specs.Store.{IsEntry, AreRangesWithin, entry_of, objects_in, put_entry, map_of, longest_in, pairs_in};
 
 use crate::checks::is_over;
 use crate::scalar::Scalar;
@@ -148,6 +148,18 @@ impl Column {
             add_pairs(&mut pairs, entry.object, values_of(&self.scalars, *entry))?;
         }
         Ok(pairs)
+    }
+
+    /// The greatest number of values of an object.
+    pub(crate) fn longest(&self) -> usize
+        ensures longest { result ≡ longest_in (map_of self.now) }
+        ensures map { IsMap (map_of self.now) }
+    {
+        let mut longest = 0;
+        for entry in self.entries.as_slice() {
+            longest = longest.max(entry.end - entry.start);
+        }
+        longest
     }
 
     /// The first object that has more values than an upper bound, if there is one, or an earlier
