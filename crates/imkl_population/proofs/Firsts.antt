@@ -1,5 +1,5 @@
 -- The first number that has something.
-use Rattle.std.proofs.Common.{◌≡◌, ℕ, zero, suc, ◌+◌, ◌<◌, ◌++◌, [], ◌∷◌, List, Bool, true, false, Option, Some, None, refl, sym, ap, ◌∙◌, arith, inl, inr, add-one, is_some, length, take, drop, drop-cons, get_or, if◌then◌else◌}
+use Rattle.std.proofs.Common.{◌≡◌, ℕ, zero, suc, ◌+◌, ◌<◌, ◌++◌, [], ◌∷◌, List, Bool, true, false, Option, Some, None, refl, sym, ap, ◌∙◌, arith, inl, inr, is_some, length, take, drop, drop-cons, get_or, if◌then◌else◌}
 use Rattle.std.specs.Option.{option_or}
 use Rattle.std.proofs.lemmas.List.{append-nil, take_more, take-append-drop}
 use Rattle.std.proofs.lemmas.Bool.{false≢true}
@@ -14,9 +14,6 @@ first_of-found g (suc n) k a lt none found =
       | inl le ↦ let same : k ≡ n = omega arith in rw (← same, none, found) refl
       | inr less ↦ rw (first_of-found g n k a less.1 none found) refl
     ]
-
-pub first_of-more : {A : Type 0} (g : ℕ → Option A) (k : ℕ) → first_below g k ≡ None → g k ≡ None → first_below g (k + 1) ≡ None
-first_of-more g k none here = rw (add-one, none, here) refl
 
 -- what is found at a number below which nothing is found is the first
 pub first_found : {A : Type 0} (g : ℕ → Option A) (n k : ℕ) (r : Option A) → k < n → first_below g k ≡ None → r ≡ g k → is_some r ≡ true → r ≡ first_below g n

@@ -1,5 +1,5 @@
 -- The pairs of an association, from the column of its source end; and its holders, from pairs in the order of their targets.
-use Rattle.std.proofs.Common.{◌≡◌, ◌≢◌, ℕ, zero, suc, ◌+◌, ◌<◌, ◌≤◌, ◌==◌, ◌&&◌, not, List, [], ◌∷◌, ◌++◌, length, map, take, filter, get_or, slice_range, Bool, true, false, cond, Option, Some, None, Less, refl, sym, ap, subst, ◌∙◌, arith, append_assoc, All, inl, inr, if◌then◌else◌}
+use Rattle.std.proofs.Common.{◌≡◌, ℕ, zero, suc, ◌+◌, ◌<◌, ◌≤◌, ◌==◌, ◌&&◌, not, List, [], ◌∷◌, ◌++◌, length, map, take, filter, get_or, slice_range, Bool, true, false, cond, Option, Some, None, Less, refl, sym, ap, subst, ◌∙◌, arith, append_assoc, All, inl, inr, if◌then◌else◌}
 use Rattle.std.specs.Prelude.{unwrap_or}
 use Rattle.std.specs.List.{AllByRecursion}
 use Rattle.std.specs.List.Sorted.{IsStrictlySortedBy, IsStableByKey, ties}
@@ -27,7 +27,7 @@ use Rattle.imkl_population.proofs.Stored.{weaker, less_is}
 use Rattle.imkl_population.proofs.Rows.{row-lookup}
 use Rattle.imkl_population.proofs.Layouts.{length-content, written-column}
 
-abbrev Map : Type 0
+abbrev pub Map : Type 0
 Map = List (ℕ × List Scalar)
 
 -- ---- all objects, or the entries of a column
@@ -38,7 +38,7 @@ pairs_from w a zero = []
 pairs_from w a (suc m) = pairs_of a (written_in w a) ++ pairs_from w (suc a) m
 
 -- nothing is at a key before all
-absent : (w : Map) (a : ℕ) → AllByRecursion (λ k. a < k) (keys_of w) → lookup (is_at (nat_cmp a)) w ≡ None
+pub absent : (w : Map) (a : ℕ) → AllByRecursion (λ k. a < k) (keys_of w) → lookup (is_at (nat_cmp a)) w ≡ None
 absent [] a h = refl
 absent (e ∷ w) a h =
     let apart : (e.0 == a) ≡ false = ne_eqb e.0 a (λ same. absurd (omega (arith, h.0, same))) in
@@ -56,10 +56,10 @@ nothing_from a zero = refl
 nothing_from a (suc m) = nothing_from (suc a) m
 
 -- nothing is at a key from n on
-abbrev IsBelow : ℕ → Map → Type 0
+abbrev pub IsBelow : ℕ → Map → Type 0
 IsBelow n w = (o : ℕ) → n ≤ o → lookup (is_at (nat_cmp o)) w ≡ None
 
-below_here : (e : ℕ × List Scalar) (w : Map) (n : ℕ) → IsBelow n (e ∷ w) → n ≤ e.0 → ⊥
+pub below_here : (e : ℕ × List Scalar) (w : Map) (n : ℕ) → IsBelow n (e ∷ w) → n ≤ e.0 → ⊥
 below_here e w n below le =
     let here : lookup (is_at (nat_cmp e.0)) (e ∷ w) ≡ Some e.1 = rw (is_eq-nat_cmp e.0 e.0, eq-eqb e.0 e.0 refl) refl in
     let bad : Some e.1 ≡ None = sym here ∙ below e.0 le in
@@ -69,12 +69,12 @@ later_none : (b : Bool) (vs : List Scalar) (r : Option (List Scalar)) → cond b
 later_none true vs r h = absurd (let bad : Some vs ≡ None = h in cc)
 later_none false vs r h = h
 
-below_later : (e : ℕ × List Scalar) (w : Map) (n : ℕ) → IsBelow n (e ∷ w) → IsBelow n w
+pub below_later : (e : ℕ × List Scalar) (w : Map) (n : ℕ) → IsBelow n (e ∷ w) → IsBelow n w
 below_later e w n below o le =
     let b : Bool = e.0 == o in
     later_none b e.1 (lookup (is_at (nat_cmp o)) w) (rw (is_eq-nat_cmp o e.0) at (below o le))
 
-above : (w : Map) (a : ℕ) → AllByRecursion (λ k. nat_cmp a k ≡ Less) (keys_of w) → AllByRecursion (λ k. suc a ≤ k) (keys_of w)
+pub above : (w : Map) (a : ℕ) → AllByRecursion (λ k. nat_cmp a k ≡ Less) (keys_of w) → AllByRecursion (λ k. suc a ≤ k) (keys_of w)
 above w a h = weaker (λ k. nat_cmp a k ≡ Less) (λ k. suc a ≤ k) (λ k c. omega (arith, less_is a k c)) (keys_of w) h
 
 -- the objects have the pairs of the entries
@@ -196,19 +196,6 @@ pub put-written : (w new : Map) (t : ℕ) (vs : List Scalar) → new ≡ insert_
 put-written w new t vs put none o =
     ap (λ (m : Map). written_in m o) put ∙ ap (λ (r : Option (List Scalar)). unwrap_or r []) (lookup-put t o vs w)
     ∙ put_by (t == o) vs (lookup (is_at (nat_cmp o)) w) (λ same. ap (written_in w) (sym (eqb-true t o same)) ∙ none)
-
-nothing_either : (b : Bool) → ◌≡◌ {A = List Scalar} (if b then [] else []) []
-nothing_either true = refl
-nothing_either false = refl
-
--- with nothing left to move
-pub all-moved : (w new : Map) (t next : ℕ) (vs left : List Scalar) → ((o : ℕ) → written_in new o ≡ written_in w o ++ (if t == o then vs else [])) → left ≡ []
-    → (o : ℕ) → written_in new o ++ (if next == o then left else []) ≡ written_in w o ++ (if t == o then vs else [])
-all-moved w new t next vs left put none o = rw (none, nothing_either (next == o)) (append-nil (written_in new o) ∙ put o)
-
--- and nothing is at another target
-pub none-at : (w new : Map) (t next : ℕ) (vs : List Scalar) → ((o : ℕ) → written_in new o ≡ written_in w o ++ (if t == o then vs else [])) → t ≢ next → written_in w next ≡ [] → written_in new next ≡ []
-none-at w new t next vs put apart none = put next ∙ rw (ne_eqb t next apart, none) refl
 
 -- ---- pairs met one by one
 

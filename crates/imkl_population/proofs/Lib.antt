@@ -11,6 +11,7 @@ pub mod Firsts
 pub mod EndLaws
 pub mod Layouts
 pub mod Holdings
+pub mod Longest
 pub mod Making
 pub mod Ranges
 pub mod Soundness

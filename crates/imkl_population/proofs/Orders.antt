@@ -1,28 +1,24 @@
 -- Numbers in order: the places that pass a test, and the numbers of a list.
-use Rattle.std.proofs.Common.{◌≡◌, ℕ, zero, suc, ◌<◌, ◌==◌, Bool, true, false, ◌||◌, List, [], ◌∷◌, ◌++◌, refl, sym, ap, subst, ◌∙◌, eqb, arith, All, Less, Some, is_some, cond, filter, nat_lt, ◌&&◌, if◌then◌else◌, inl, inr}
+use Rattle.std.proofs.Common.{◌≡◌, ℕ, zero, suc, ◌<◌, ◌==◌, Bool, true, false, ◌||◌, List, [], ◌∷◌, ◌++◌, refl, sym, ap, subst, ◌∙◌, eqb, arith, All, Less, if◌then◌else◌, inl, inr}
 use Rattle.std.specs.List.{AllByRecursion, Contains, list_any}
-use Rattle.std.specs.Map.{keys_of, lookup}
 use Rattle.std.specs.List.Sorted.{IsStrictlySortedBy}
 use Rattle.std.specs.Ordering.{nat_cmp}
 use Rattle.std.specs.Cmp.{nat_cmp_is, IsEquivalence}
 use Rattle.std.specs.BTreeMap.{is_at}
 use Rattle.std.specs.BTreeSet.{BTreeSet}
-use Rattle.std.proofs.lemmas.Bool.{eq-eqb, eqb-true, ne_eqb, or_from, and_parts, and_from, ltb-true, lt-ltb}
+use Rattle.std.proofs.lemmas.Bool.{eq-eqb, eqb-true, ne_eqb, or_from}
 use Rattle.std.proofs.lemmas.Bool.Decides.{leb_tells}
-use Rattle.std.proofs.Math.Bool.{or-false, or_comm, and-false}
+use Rattle.std.proofs.Math.Bool.{or-false, or_comm}
 use Rattle.std.proofs.lemmas.List.{append-nil}
 use Rattle.std.specs.FinMap.{nat_cmp-IsAntisymmetric}
 use Rattle.std.proofs.lemmas.List.Folds.{list_any-append, list_any-from_Any}
-use Rattle.std.proofs.lemmas.List.Kept.{IsStrictlySortedBy-filter}
 use Rattle.std.proofs.lemmas.Map.Lookups.{btree_set_from_contains}
 use Rattle.std.proofs.lemmas.Map.Views.{Contains-from_any, list_any-from_Contains}
 use Rattle.std.proofs.lemmas.List.Elements.{All-append, All-contains, All-weaker}
 use Rattle.std.proofs.lemmas.Cmp.{nat_cmp_total}
 use Rattle.ocl_base.specs.Numbers.{places}
-use Rattle.imkl_population.specs.declared.scalar.Scalar.{Scalar}
 use Rattle.imkl_population.specs.Order.{AreInOrder}
 use Rattle.imkl_population.specs.Required.{is_one_of}
-use Rattle.imkl_population.specs.Written.{is_set, IsMap}
 use Rattle.imkl_population.proofs.Bools.{same_test}
 use Rattle.imkl_population.proofs.Encoded.{is_eq-nat_cmp}
 use Rattle.imkl_population.proofs.Places.{Passes, places-pass}
@@ -148,32 +144,3 @@ ordered_with p n xs all zs small joined order =
     ordered all zs order n all_small
     ∙ places-same (is_one_of all) (λ f. p f || is_one_of xs f) n
     (λ f lt. ap (λ (l : List ℕ). is_one_of l f) joined ∙ list_any-append (λ g. f == g) xs (places p n) ∙ ap (λ (b : Bool). is_one_of xs f || b) (one_of-places p n f lt) ∙ or_comm (is_one_of xs f) (p f))
-
--- ---- the keys of a map
-
-one_of-filter_by : (q : ℕ → Bool) (k : ℕ) (ks : List ℕ) (f : ℕ) (b c : Bool) → q k ≡ b → (f == k) ≡ c → is_one_of (filter q ks) f ≡ (q f && is_one_of ks f) → is_one_of (filter q (k ∷ ks)) f ≡ (q f && is_one_of (k ∷ ks) f)
-one_of-filter_by q k ks f true true e d later = let here : q f ≡ true = ap q (eqb-true f k d) ∙ e in rw (e, d, here) refl
-one_of-filter_by q k ks f true false e d later = rw (e, d) later
-one_of-filter_by q k ks f false true e d later = let here : q f ≡ false = ap q (eqb-true f k d) ∙ e in rw (e, d, later, here) refl
-one_of-filter_by q k ks f false false e d later = rw (e, d) later
-
-one_of-filter : (q : ℕ → Bool) (ks : List ℕ) (f : ℕ) → is_one_of (filter q ks) f ≡ (q f && is_one_of ks f)
-one_of-filter q [] f = sym (and-false (q f))
-one_of-filter q (k ∷ ks) f = one_of-filter_by q k ks f (q k) (f == k) refl refl (one_of-filter q ks f)
-
-keys_by : (b : Bool) (e : ℕ × List Scalar) (w : List (ℕ × List Scalar)) (f : ℕ) → is_one_of (keys_of w) f ≡ is_set w f → (b || is_one_of (keys_of w) f) ≡ is_some (cond b (Some e.1) (lookup (is_at (nat_cmp f)) w))
-keys_by true e w f later = refl
-keys_by false e w f later = later
-
-one_of-keys : (w : List (ℕ × List Scalar)) (f : ℕ) → is_one_of (keys_of w) f ≡ is_set w f
-one_of-keys [] f = refl
-one_of-keys (e ∷ w) f = rw (is_eq-nat_cmp f e.0, eqb_laws.symm f e.0) (keys_by (eqb e.0 f) e w f (one_of-keys w f))
-
--- the features below a bound that are set
-pub set_below : (w : List (ℕ × List Scalar)) (n : ℕ) → IsMap w → filter (λ f. nat_lt f n) (keys_of w) ≡ places (is_set w) n
-set_below w n map =
-    ascending (filter (λ f. nat_lt f n) (keys_of w)) (is_set w) n (IsStrictlySortedBy-filter nat_cmp (λ f. nat_lt f n) (keys_of w) map)
-    (λ f h.
-    let parts = and_parts (nat_lt f n) (is_one_of (keys_of w) f) (sym (one_of-filter (λ g. nat_lt g n) (keys_of w) f) ∙ h) in
-    (ltb-true f n parts.0, sym (one_of-keys w f) ∙ parts.1))
-    (λ f lt h. one_of-filter (λ g. nat_lt g n) (keys_of w) f ∙ and_from (nat_lt f n) (is_one_of (keys_of w) f) (lt-ltb f n lt) (one_of-keys w f ∙ h))

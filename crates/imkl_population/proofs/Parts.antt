@@ -84,7 +84,7 @@ row-range : (rs : List (List (ℕ × Segment))) (n o f : ℕ) → o < n → rang
 row-range rs n o f lt =
     ap (λ (r : Option Segment). unwrap_or r no_segment) (sym (row-lookup rs f o)) ∙ ap (λ (r : List (ℕ × Segment)). range_in r f) (sym (rows-at rs n o lt))
 
-module _ (m : Model) (hs : List Head) (written ends : List Stored) (all : List ℕ) (ranges : List Segment) (finished : IsFinished (stored_content m hs (maps_of written)) ends all ranges) where
+module _ (m : Model) (hs : List Head) (written ends : List Stored) (all : List ℕ) (ranges : List Segment) (finished : IsFinished (stored_content m hs (maps_of written)) (maps_of written) ends all ranges) where
   abbrev content : Population
   content = stored_content m hs (maps_of written)
 

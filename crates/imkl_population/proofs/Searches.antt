@@ -1,5 +1,5 @@
 -- What is found by a key in a list whose keys ascend strictly.
-use Rattle.std.proofs.Common.{◌≡◌, ◌≢◌, ℕ, zero, suc, ◌<◌, ◌≤◌, ◌==◌, List, [], ◌∷◌, length, map, get_or, set, Some, None, Result, Ok, Err, MatchResult, refl, sym, arith, All, inl, inr}
+use Rattle.std.proofs.Common.{ap, ◌++◌, ◌-◌, ◌≡◌, ◌≢◌, ℕ, zero, suc, ◌<◌, ◌≤◌, ◌==◌, List, [], ◌∷◌, length, map, get_or, set, Some, None, Result, Ok, Err, MatchResult, refl, sym, arith, All, inl, inr}
 use Rattle.std.specs.Prelude.{find}
 use Rattle.std.specs.List.{insert}
 use Rattle.std.specs.List.Sorted.{IsStrictlySortedBy, IsNonDecreasingBy, IsBinarySearchResult, IsSearchInRange}
@@ -7,10 +7,10 @@ use Rattle.std.specs.Ordering.{nat_cmp, ordering_index}
 use Rattle.std.proofs.lemmas.Cmp.{ranked}
 use Rattle.imkl_population.specs.declared.column.Entry.{Entry}
 use Rattle.imkl_population.specs.Store.{objects_in, put_entry}
-use Rattle.imkl_population.proofs.Stored.{none, put-between, put-over}
+use Rattle.imkl_population.proofs.Stored.{none, is_greater, put-between, put-over}
 use Rattle.std.proofs.lemmas.Bool.{eq-eqb, ne_eqb}
 use Rattle.std.proofs.lemmas.Bool.Decides.{nat_tests, leb_tells}
-use Rattle.std.proofs.lemmas.List.{length-map, get_or-map}
+use Rattle.std.proofs.lemmas.List.{length-map, get_or-map, get_or_default}
 use Rattle.std.proofs.lemmas.List.Elements.{All-head, All-tail}
 use Rattle.std.proofs.lemmas.Map.Keys.{below_from_sorted, non_decreasing_from_sorted, sorted_tail}
 
@@ -82,3 +82,22 @@ module _ (es : List Entry) (x : Entry) (ascend : IsStrictlySortedBy nat_cmp (obj
       put-between es gap x inside
       (λ k lt. ranked (get_or es k none).object x.object _ (sym (split.0 k none (omega arith) lt)))
       (λ k le lt. ranked (get_or es k none).object x.object _ (sym (split.1 k none le lt)))
+
+  -- where the last entry is of an earlier object, all are
+  pub all-earlier : 0 < length es → (get_or es (length es - 1) none).object < x.object → All (λ e. e.object < x.object) es
+  all-earlier some last k d lt =
+      let here : (get_or es k d).object ≡ (get_or es k none).object = ap object_of (get_or_default es k d none lt) in
+      elim (leb_tells (length es - 1) k) [
+        | inl le ↦
+            let same : k ≡ length es - 1 = omega (arith, lt, le.1) in
+            let there : (get_or es k none).object ≡ (get_or es (length es - 1) none).object = ap (λ (n : ℕ). (get_or es n none).object) same in
+            omega (arith, here, there, last)
+        | inr less ↦ omega (arith, here, last, earlier (length es - 1) k (omega (arith, some)) less.1)
+      ]
+
+-- an entry put behind those of earlier objects
+pub put-last : (es : List Entry) (x : Entry) → All (λ e. e.object < x.object) es → es ++ x ∷ [] ≡ put_entry es x
+put-last [] x before = refl
+put-last (e ∷ es) x before =
+    rw (is_greater x.object e.object (All-head (λ e. e.object < x.object) e es before))
+    (ap (λ (l : List Entry). e ∷ l) (put-last es x (All-tail (λ e. e.object < x.object) e es before)))

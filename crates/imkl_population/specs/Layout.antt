@@ -49,9 +49,10 @@ AreInstances p all ranges n =
     × ((slice_index_or ranges c no_segment).end ≤ length all)
     × (slice_range all (slice_index_or ranges c no_segment).start (slice_index_or ranges c no_segment).end ≡ instances p c)
 
--- the columns of the opposite ends, and the instances of each class
-pub record IsFinished (p : Population) (ends : List Stored) (all : List ℕ) (ranges : List Segment) : Type 0 where
+-- the columns have nothing for objects that aren't there; the columns of the opposite ends, and the instances of each class
+pub record IsFinished (p : Population) (maps : List (List (ℕ × List Scalar))) (ends : List Stored) (all : List ℕ) (ranges : List Segment) : Type 0 where
   pub consistent : IsConsistent p
+  pub idle : (o : ℕ) → length p.objects ≤ o → object_row maps o ≡ []
   pub derived : AreEnds p (maps_of ends)
   pub classes : length ranges ≡ length p.model.classes
   pub instances_are : AreInstances p all ranges (length p.model.classes)

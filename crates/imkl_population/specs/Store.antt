@@ -1,5 +1,5 @@
 -- Values by feature: for each feature a column, which is one list of values and for each of its objects a range.
-use Rattle.std.specs.Prelude.{ℕ, zero, suc, ◌+◌, ◌≤◌, List, [], ◌∷◌, ◌++◌, Option, Some, None, map, length, slice_range, slice_index_or, All}
+use Rattle.std.specs.Prelude.{ℕ, zero, suc, ◌+◌, ◌≤◌, List, [], ◌∷◌, ◌++◌, Option, Some, None, map, length, max, slice_range, slice_index_or, All}
 use Rattle.std.specs.Map.{lookup}
 use Rattle.std.specs.BTreeMap.{is_at}
 use Rattle.std.specs.Ordering.{nat_cmp, match_ordering}
@@ -96,6 +96,11 @@ shifted n r = (r.0, record { start = n + r.1.start; end = n + r.1.end })
 abbrev pub ranges_from : ℕ → List Stored → List (List (ℕ × Segment))
 ranges_from n [] = []
 ranges_from n (c ∷ cs) = map (shifted n) c.ranges ∷ ranges_from (n + length c.scalars) cs
+
+-- the greatest number of values of an object in a column
+abbrev pub longest_in : List (ℕ × List Scalar) → ℕ
+longest_in [] = 0
+longest_in (e ∷ es) = max (length e.1) (longest_in es)
 
 -- the pairs of a column that is a source end
 abbrev pub pairs_in : List (ℕ × List Scalar) → List (ℕ × ℕ)

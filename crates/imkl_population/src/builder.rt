@@ -1,6 +1,6 @@
 //! Building a population object by object.
 
-ghost use Rattle.std.specs.Prelude.{◌≡◌, ◌<◌, [], true, length, ◌+◌, All, IfOk, OnOk, IfSome, Ok};
+ghost use Rattle.std.specs.Prelude.{◌≡◌, ◌<◌, ◌≤◌, ℕ, [], true, length, ◌+◌, All, IfOk, OnOk, IfSome, Ok};
 ghost use Rattle.imkl_model.specs.ClassModel.{feature_at};
 ghost use Rattle.imkl_population.specs.Population.{class_of, written_at, object_number, pairs};
 ghost use Rattle.std.specs.List.{list_all};
@@ -8,7 +8,7 @@ ghost use Rattle.imkl_population.specs.Draft.{is_sound};
 ghost use Rattle.imkl_population.specs.Values.{is_target_of};
 ghost use Rattle.imkl_population.specs.Finishing.{finish_outcome, Finishes};
 ghost use Rattle.imkl_population.specs.declared.fault.PopulationFault.{PopulationFault};
-ghost use Rattle.imkl_population.specs.Store.{maps_of};
+ghost use Rattle.imkl_population.specs.Store.{maps_of, object_row};
 ghost use Rattle.imkl_population.specs.Layout.{stored_content};
 ghost use Rattle.imkl_population.specs.Building.{BuilderAnswers, KeepsObjects, add_outcome, set_outcome, link_outcome, attribute_fault, list_fault, source_fault, targets_fault, with_values, as_objects};
 
@@ -140,7 +140,10 @@ impl<'m> PopulationBuilder<'m> {
 
     /// The class model, the objects' ids and classes, and what is written on them.
     pub(crate) fn into_parts(self) -> (&'m ClassModel, Vec<Head>, Store)
-        ensures { stored_content result.0.now result.1.items (maps_of result.2) ≡ self.entry }
+        ensures content { stored_content result.0.now result.1.items (maps_of result.2) ≡
+            self.entry }
+        ensures idle { (o : ℕ) → length self.entry.objects ≤ o →
+            object_row (maps_of result.2) o ≡ [] }
     {
         let PopulationBuilder {
             alloc: _,

@@ -1,13 +1,14 @@
 //! The values at one feature, of all objects that have some.
 
-ghost use Rattle.std.specs.Prelude.{◌≡◌, ◌<◌, ◌==◌, ◌++◌, ℕ, [], false, length, find, slice_range, IfOk, OnOk, OnErr};
+ghost use Rattle.std.specs.Prelude.{◌≡◌, ◌<◌, ◌==◌, ◌++◌, ℕ, [], true, false, Some, length, find, slice_range, All, IfOk, OnOk, OnErr};
 ghost use Rattle.std.specs.List.Sorted.{IsStrictlySortedBy};
 ghost use Rattle.std.specs.Ordering.{nat_cmp};
 ghost use Rattle.std.specs.BTreeMap.{insert_entry};
 ghost use Rattle.imkl_population.specs.Written.{written_in, IsMap};
 ghost use Rattle.imkl_population.specs.Population.{pairs_of};
 ghost use Rattle.imkl_population.specs.Values.{is_over};
-ghost use Rattle.imkl_population.specs.Store.{IsEntry, AreRangesWithin, entry_of, objects_in, put_entry, map_of, pairs_in};
+ghost use Rattle.imkl_population.specs.declared.column.Entry.{Entry};
+ghost use Rattle.imkl_population.specs.Store.{IsEntry, AreRangesWithin, entry_of, objects_in, put_entry, map_of, longest_in, pairs_in};
 
 use crate::checks::is_over;
 use crate::scalar::Scalar;
@@ -44,11 +45,36 @@ impl Model for Column {
     ghost invariant = { λ c. IsLaidOut c.scalars.items c.entries.items };
 }
 
-/// The entry of an object among entries whose objects ascend.
+/// The entry at a place, if there is one and it is the object's.
+fn entry_at(entries: &[Entry], place: usize, object: usize) -> Option<Entry>
+    requires { IsStrictlySortedBy nat_cmp (objects_in entries.now) }
+    ensures { (e : Entry) → result ≡ Some e → Some e ≡ find (λ e. e.object == object) entries.now }
+{
+    if place < entries.len() && entries[place].object == object {
+        Some(entries[place])
+    } else {
+        None
+    }
+}
+
+/// The object of the first entry.
+fn first_object(entries: &[Entry]) -> usize {
+    match entries.first() {
+        Some(first) => first.object,
+        None => 0,
+    }
+}
+
+/// The entry of an object among entries whose objects ascend. Where objects follow each other from
+/// the first on, it is found at once.
 fn find_entry(entries: &[Entry], object: usize) -> Option<Entry>
     requires { IsStrictlySortedBy nat_cmp (objects_in entries.now) }
     ensures { result ≡ find (λ e. e.object == object) entries.now }
 {
+    let place = object.saturating_sub(first_object(entries));
+    if let Some(entry) = entry_at(entries, place, object) {
+        return Some(entry);
+    }
     match entries.binary_search_by_key(&object, |entry| entry.object) {
         Ok(place) => Some(entries[place]),
         Err(_) => None,
@@ -62,12 +88,27 @@ fn values_of(scalars: &[Scalar], entry: Entry) -> &[Scalar]
     &scalars[entry.start..entry.end]
 }
 
+/// Whether an object comes behind those of entries whose objects ascend.
+fn goes_last(entries: &[Entry], object: usize) -> bool
+    requires { IsStrictlySortedBy nat_cmp (objects_in entries.now) }
+    ensures { result ≡ true → All (λ e. e.object < object) entries.now }
+{
+    if entries.is_empty() {
+        return true;
+    }
+    entries[entries.len() - 1].object < object
+}
+
 /// Puts an entry at its place, in the place of the one of the same object.
 fn put_entry(entries: &mut Vec<Entry>, entry: Entry) -> Result<(), AllocError>
     requires { IsStrictlySortedBy nat_cmp (objects_in entries.old.items) }
     ensures ok { OnOk result (entries.new.items ≡ put_entry entries.old.items entry) }
     ensures err { OnErr result (entries.new.items ≡ entries.old.items) }
 {
+    if goes_last(entries, entry.object) {
+        entries.push(entry)?;
+        return Ok(());
+    }
     match entries.binary_search_by_key(&entry.object, |e| e.object) {
         Ok(place) => {
             entries[place] = entry;
@@ -148,6 +189,18 @@ impl Column {
             add_pairs(&mut pairs, entry.object, values_of(&self.scalars, *entry))?;
         }
         Ok(pairs)
+    }
+
+    /// The greatest number of values of an object.
+    pub(crate) fn longest(&self) -> usize
+        ensures longest { result ≡ longest_in (map_of self.now) }
+        ensures map { IsMap (map_of self.now) }
+    {
+        let mut longest = 0;
+        for entry in self.entries.as_slice() {
+            longest = longest.max(entry.end - entry.start);
+        }
+        longest
     }
 
     /// The first object that has more values than an upper bound, if there is one, or an earlier

@@ -1,16 +1,17 @@
 //! Finished populations.
 
 ghost use Rattle.std.specs.Prelude.{◌≡◌, ◌<◌, ◌≤◌, ℕ, true, false, length, slice_range, slice_index, All, IfOk};
-ghost use Rattle.imkl_model.specs.ClassModel.{belongs};
+ghost use Rattle.imkl_model.specs.ClassModel.{feature_at, belongs};
+ghost use Rattle.imkl_model.specs.Features.{is_opposite};
 ghost use Rattle.imkl_population.specs.Population.{object_at, class_of, values_of, instances, IsInstance};
 ghost use Rattle.imkl_population.specs.Consistency.{IsConsistent};
 ghost use Rattle.imkl_population.specs.FinishedPopulation.{AreValueRanges, AreInstanceRanges};
-ghost use Rattle.imkl_population.specs.Sizes.{list_below, count_of, longest_of, sizes_of};
+ghost use Rattle.imkl_population.specs.Sizes.{list_below, count_of, longest_below, longest_of, sizes_of};
 
 use crate::numbers::ObjectNo;
 use crate::object::Head;
 use crate::scalar::Scalar;
-use crate::sizes::{Sizes, longest_of};
+use crate::sizes::{Sizes, is_unbounded};
 use crate::store::{Segment, Store};
 use imkl_model::{ClassModel, ClassNo, FeatureNo};
 use std::alloc::{AllocError, Global};
@@ -39,8 +40,8 @@ impl<'m> Model for Population<'m> {
         p.instances.items p.ranges.items };
 
     ghost invariant = { λ p.
-        IsFinished (stored_content p.model.now p.heads.items (maps_of p.written)) p.ends
-        p.instances.items p.ranges.items };
+        IsFinished (stored_content p.model.now p.heads.items (maps_of p.written))
+        (maps_of p.written) p.ends p.instances.items p.ranges.items };
 }
 
 impl<'m> Population<'m> {
@@ -155,6 +156,28 @@ impl<'m> Population<'m> {
         Ok(counts)
     }
 
+    /// Of an attribute without upper bound the greatest length of its value over all objects, of
+    /// every other feature 0.
+    fn longest_of(&self, feature: FeatureNo) -> u64
+        requires { feature < length self.now.content.model.features }
+        ensures { result ≡ longest_of self.now.content feature }
+    {
+        if is_unbounded(self.model().feature_info(feature)) {
+            self.longest_written(feature) as u64
+        } else {
+            0
+        }
+    }
+
+    /// The greatest length of what is written at a feature.
+    fn longest_written(&self, feature: FeatureNo) -> usize
+        requires { is_opposite (feature_at self.now.content.model feature).role ≡ false }
+        ensures { result ≡ longest_below self.now.content feature (length
+            self.now.content.objects) }
+    {
+        self.written.longest(feature.index())
+    }
+
     /// The greatest length of each attribute without upper bound.
     fn longest(&self, alloc: Global) -> Result<Vec<u64>, AllocError>
         ensures { IfOk result (λ v. v.items ≡
@@ -163,7 +186,7 @@ impl<'m> Population<'m> {
         let features = self.model().feature_count();
         let mut longest = Vec::with_capacity(alloc, features)?;
         for feature in 0..features {
-            longest.push(longest_of(self, FeatureNo::new(feature)))?;
+            longest.push(self.longest_of(FeatureNo::new(feature)))?;
         }
         Ok(longest)
     }

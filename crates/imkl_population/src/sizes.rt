@@ -103,7 +103,7 @@ impl<'m> Sizes<'m> {
 
 /// Of an attribute without upper bound the greatest length of its value over all objects, of every
 /// other feature 0.
-pub(crate) fn longest_of(population: &Population<'_>, feature: FeatureNo) -> u64
+fn longest_of(population: &Population<'_>, feature: FeatureNo) -> u64
     requires { feature < length population.now.content.model.features }
     ensures { result ≡ longest_of population.now.content feature }
 {
@@ -132,7 +132,7 @@ fn longest_value(population: &Population<'_>, feature: FeatureNo) -> usize
 }
 
 /// Whether a feature is an attribute without upper bound.
-fn is_unbounded(info: &FeatureInfo) -> bool
+pub(crate) fn is_unbounded(info: &FeatureInfo) -> bool
     ensures { result ≡ is_unbounded info.now }
 {
     info.role.is_attribute() && info.upper.is_none()

@@ -5,7 +5,7 @@ ghost use Rattle.std.specs.Ordering.{nat_cmp};
 ghost use Rattle.std.specs.BTreeMap.{insert_entry};
 ghost use Rattle.imkl_population.specs.Written.{written_in, IsMap};
 ghost use Rattle.imkl_population.specs.Values.{is_over};
-ghost use Rattle.imkl_population.specs.Store.{AreRangesWithin, map_of, maps_of, column_at, object_row, pairs_in};
+ghost use Rattle.imkl_population.specs.Store.{AreRangesWithin, map_of, maps_of, column_at, object_row, longest_in, pairs_in};
 
 use crate::column::Column;
 use crate::scalar::Scalar;
@@ -140,6 +140,17 @@ impl Store {
         match self.columns.get(feature) {
             Some(column) => column.pairs(alloc),
             None => Ok(Vec::new(alloc)),
+        }
+    }
+
+    /// The greatest number of values of an object at a feature.
+    pub(crate) fn longest(&self, feature: usize) -> usize
+        ensures longest { result ≡ longest_in (column_at self.now feature) }
+        ensures map { IsMap (column_at self.now feature) }
+    {
+        match self.columns.get(feature) {
+            Some(column) => column.longest(),
+            None => 0,
         }
     }
 

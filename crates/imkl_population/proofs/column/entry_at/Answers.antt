@@ -1,0 +1,12 @@
+use Rattle.std.proofs.Common.{◌≡◌, ◌∙◌, ◌==◌, ◌<◌, ℕ, List, Option, Some, None, ap, sym, arith, get_or, length}
+use Rattle.std.specs.Prelude.{find}
+use Rattle.std.proofs.lemmas.Bool.{eqb-true}
+use Rattle.imkl_population.specs.declared.column.Entry.{Entry}
+use Rattle.imkl_population.proofs.Searches.{find-at}
+use Rattle.imkl_population.proofs.Stored.{none}
+use Rattle.imkl_population.proofs.column.entry_at.Goals as goal
+
+pub returns-then-entries-place : goal.returns-then-entries-place
+returns-then-entries-place c = λ e is.
+    let es : List Entry = c.args.entries.now in
+    sym is ∙ sym (find-at (λ (x : Entry). x.object) es c.args.place c.args.object none c.requires (omega (arith, c.if-place-entries.true)) c.if-entries-place.true)
