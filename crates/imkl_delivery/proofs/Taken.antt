@@ -18,13 +18,13 @@ use Rattle.imkl_delivery.specs.declared.fault.DeliveryFault.TheVariants.{Shape}
 use Rattle.imkl_delivery.specs.Faults.{delivery_fault}
 use Rattle.imkl_delivery.specs.Document.{Written, Document, entry_from, document_from}
 use Rattle.imkl_delivery.specs.Loading.{entry_at, nothing_written, empty, add_entries, population_from, describes_population}
-use Rattle.imkl_delivery.specs.Taken.{objects_in, features_in, added_from, written_from}
+use Rattle.imkl_delivery.specs.Taken.{document_objects, object_features, added_from, finished_with}
 
 -- ---- the tree
 
 -- the features of an entry are what is taken out of its tree
-pub features_there : (d : Data) (w : Written) → entry_from d ≡ Ok w → features_in d ≡ Some w.features
-unfolding entry_from features_in
+pub features_there : (d : Data) (w : Written) → entry_from d ≡ Ok w → object_features d ≡ Some w.features
+unfolding entry_from object_features
 features_there d w is =
     let sized = both_steps (found (record_from 3 d) Shape) _ w is in
     let i = both_steps (found (get (codes "id") d) Shape) _ w sized.2 in
@@ -39,11 +39,11 @@ features_there d w is =
 -- the objects of a document are what is taken out of its tree, and its entries are theirs
 pub record IsTaken (d : Data) (x : Document) : Type 0 where
   pub objects : List Data
-  pub taken : objects_in d ≡ Some objects
+  pub taken : document_objects d ≡ Some objects
   pub entries : each entry_from objects ≡ Ok x.entries
 
 pub objects_there : (d : Data) (x : Document) → document_from d ≡ Ok x → IsTaken d x
-unfolding document_from objects_in
+unfolding document_from document_objects
 objects_there d x is =
     let sized = both_steps (found (record_from 2 d) Shape) _ x is in
     let m = both_steps (found (get (codes "model") d) Shape) _ x sized.2 in
@@ -59,14 +59,14 @@ objects_there d x is =
     }
 
 -- the features of an object are those of its entry
-pub features_at : (vs : List Value) (ws : List Written) (i : ℕ) (v : Value) → each entry_from (map view vs) ≡ Ok ws → i < length vs → v ≡ get_or vs i v → features_in (view v) ≡ Some (entry_at ws i).features
+pub features_at : (vs : List Value) (ws : List Written) (i : ℕ) (v : Value) → each entry_from (map view vs) ≡ Ok ws → i < length vs → v ≡ get_or vs i v → object_features (view v) ≡ Some (entry_at ws i).features
 features_at vs ws i v is lt here =
     let at : view v ≡ get_or (map view vs) i (view v) = ap view here ∙ sym (get_or-map view vs i v (view v) lt) in
     let read = each_at entry_from (map view vs) ws i (view v) nothing_written is (omega (arith, length-map vs view, lt)) in
     features_there (view v) (entry_at ws i) (ap entry_from at ∙ read)
 
 -- as many objects as entries
-pub objects_counted : (d : Data) (x : Document) (ds : List Data) → document_from d ≡ Ok x → objects_in d ≡ Some ds → length x.entries ≡ length ds
+pub objects_counted : (d : Data) (x : Document) (ds : List Data) → document_from d ≡ Ok x → document_objects d ≡ Some ds → length x.entries ≡ length ds
 objects_counted d x ds is taken =
     let there = objects_there d x is in
     let same : there.objects ≡ ds = (let whole : Some there.objects ≡ Some ds = sym there.taken ∙ taken in cc) in
@@ -81,8 +81,8 @@ list_there v = rw (view-Array v, elements_of-view v.items) refl
 
 -- a fault while objects are added is the delivery's
 passes_test : (e : DeliveryFault) (m : Model) (ws : List Written) (b : Bool) → Fails delivery_fault e (if b then add_entries ws (empty m) else Err fault.OtherModel) → Fails delivery_fault e (if b then population_from m ws else Err fault.OtherModel)
-unfolding population_from written_from
-passes_test e m ws true h = fails_whole delivery_fault e (add_entries ws (empty m)) (written_from ws) (add_entries ws (empty m) >>= written_from ws) refl h
+unfolding population_from finished_with
+passes_test e m ws true h = fails_whole delivery_fault e (add_entries ws (empty m)) (finished_with ws) (add_entries ws (empty m) >>= finished_with ws) refl h
 passes_test e m ws false h = h
 
 passes : (e : DeliveryFault) (m : Model) (r : Result Document DeliveryFault) → Fails delivery_fault e (r >>= λ document. if bytes_eq document.model m.name then add_entries document.entries (empty m) else Err fault.OtherModel)
@@ -98,12 +98,12 @@ added_passes e m d h = passes e m (document_from d) h
 pub record IsAdded (m : Model) (d : Data) (p : Population) : Type 0 where
   pub objects : List Data
   pub entries : List Written
-  pub taken : objects_in d ≡ Some objects
+  pub taken : document_objects d ≡ Some objects
   pub written : each entry_from objects ≡ Ok entries
-  pub whole : describes_population m d ≡ written_from entries p
+  pub whole : describes_population m d ≡ finished_with entries p
 
-tested : (m : Model) (ws : List Written) (p : Population) (b : Bool) → (if b then add_entries ws (empty m) else Err fault.OtherModel) ≡ Ok p → (if b then population_from m ws else Err fault.OtherModel) ≡ written_from ws p
-unfolding population_from written_from
+tested : (m : Model) (ws : List Written) (p : Population) (b : Bool) → (if b then add_entries ws (empty m) else Err fault.OtherModel) ≡ Ok p → (if b then population_from m ws else Err fault.OtherModel) ≡ finished_with ws p
+unfolding population_from finished_with
 tested m ws p true is = rw is refl
 tested m ws p false is = absurd (not_okay fault.OtherModel p is)
 

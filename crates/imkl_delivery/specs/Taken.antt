@@ -13,12 +13,12 @@ use Rattle.imkl_delivery.specs.Document.{Written, document_from}
 use Rattle.imkl_delivery.specs.Loading.{empty, add_entries, put_entries, finish}
 
 -- the objects of a document
-unfoldable pub objects_in : Data → Option (List Data)
-objects_in d = option_and_then list_from (get (codes "objects") d)
+unfoldable pub document_objects : Data → Option (List Data)
+document_objects d = option_and_then list_from (get (codes "objects") d)
 
 -- the members of an object's features
-unfoldable pub features_in : Data → Option Members
-features_in d = option_and_then as_object (get (codes "features") d)
+unfoldable pub object_features : Data → Option Members
+object_features d = option_and_then as_object (get (codes "features") d)
 
 -- the objects of a document, added
 unfoldable pub added_from : Model → Data → Result Population DeliveryFault
@@ -27,7 +27,7 @@ added_from m d = do
   if bytes_eq document.model m.name then add_entries document.entries (empty m) else Err fault.OtherModel
 
 -- the population of what entries write on objects that were added
-unfoldable pub written_from : List Written → Population → Result Population DeliveryFault
-written_from ws p = do
+unfoldable pub finished_with : List Written → Population → Result Population DeliveryFault
+finished_with ws p = do
   q ← put_entries ws p
   finish (finish_outcome q)

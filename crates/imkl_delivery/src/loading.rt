@@ -10,7 +10,7 @@ ghost use Rattle.imkl_delivery.specs.Steps.{Leaves, placed_fault};
 ghost use Rattle.imkl_delivery.specs.Seen.{written_of, all_written};
 ghost use Rattle.imkl_delivery.specs.Loading.{add_entry, add_entries, put_entries, fault_place, describes_population};
 ghost use Rattle.imkl_delivery.specs.Document.{Written, entry_from};
-ghost use Rattle.imkl_delivery.specs.Taken.{objects_in, added_from, written_from};
+ghost use Rattle.imkl_delivery.specs.Taken.{document_objects, added_from, finished_with};
 ghost use Rattle.imkl_delivery.specs.Named.{written_requirements};
 ghost use Rattle.imkl_delivery.specs.Description.{DeliveryAnswers};
 
@@ -114,7 +114,7 @@ fn added<'m>(
     ensures gives { Gives delivery_fault (λ b. b) result
         (added_from model.now (view value.now)) }
     ensures model { IfOk result (λ b. b.model ≡ model.now) }
-    ensures count { IfOk result (λ b. (ds : List Data) → objects_in (view value.now) ≡ Some ds →
+    ensures count { IfOk result (λ b. (ds : List Data) → document_objects (view value.now) ≡ Some ds →
         length b.objects ≡ length ds) }
 {
     let document = document_of(alloc, value)?;
@@ -127,7 +127,7 @@ fn added<'m>(
 }
 
 /// The population of objects that were added, with what their values in the document say, or its first fault.
-#[tactic(auto, unfolding(crate::specs::Taken::written_from))]
+#[tactic(auto, unfolding(crate::specs::Taken::finished_with))]
 fn written<'m>(
     alloc: Global,
     mut builder: PopulationBuilder<'m>,
@@ -137,7 +137,7 @@ fn written<'m>(
     requires model { builder.model ≡ model.now }
     requires objects { length objects.items ≤ length builder.objects }
     ensures gives { (ws : List Written) → each entry_from (map view objects.items) ≡ Ok ws →
-        Gives delivery_fault (λ p. p.content) result (written_from ws builder.entry) }
+        Gives delivery_fault (λ p. p.content) result (finished_with ws builder.entry) }
     ensures model { IfOk result (λ p. p.content.model ≡ model.now) }
 {
     let mut required = RequiredFeatures::new(alloc, model, Side::Written);

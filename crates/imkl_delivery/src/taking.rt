@@ -4,7 +4,7 @@ ghost use Rattle.std.specs.Prelude.{◌≡◌, map, option_map};
 ghost use Rattle.serde_json.specs.View.{view, members_view};
 ghost use Rattle.serde_json.specs.Find.{get, as_object};
 ghost use Rattle.imkl_model.specs.Json.{list_from};
-ghost use Rattle.imkl_delivery.specs.Taken.{features_in, objects_in};
+ghost use Rattle.imkl_delivery.specs.Taken.{object_features, document_objects};
 
 use serde_json::{Map, Value};
 
@@ -40,9 +40,9 @@ fn members(value: Value) -> Option<Map<String, Value>>
 }
 
 /// The objects of a document, out of its tree.
-#[tactic(auto, unfolding(crate::specs::Taken::objects_in))]
+#[tactic(auto, unfolding(crate::specs::Taken::document_objects))]
 pub(crate) fn objects_of(document: Value) -> Option<Vec<Value>>
-    ensures { option_map (λ vs. map view vs.items) result ≡ objects_in (view document) }
+    ensures { option_map (λ vs. map view vs.items) result ≡ document_objects (view document) }
 {
     match take(document, "objects") {
         Some(objects) => list(objects),
@@ -51,9 +51,9 @@ pub(crate) fn objects_of(document: Value) -> Option<Vec<Value>>
 }
 
 /// The members of an object's features, out of its tree.
-#[tactic(auto, unfolding(crate::specs::Taken::features_in))]
+#[tactic(auto, unfolding(crate::specs::Taken::object_features))]
 pub(crate) fn features_of(object: Value) -> Option<Map<String, Value>>
-    ensures { option_map (λ ms. members_view ms.entries) result ≡ features_in (view object) }
+    ensures { option_map (λ ms. members_view ms.entries) result ≡ object_features (view object) }
 {
     match take(object, "features") {
         Some(features) => members(features),
