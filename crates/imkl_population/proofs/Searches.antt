@@ -19,12 +19,15 @@ ordering_index-le : (a b k : ℕ) → a ≤ b → ordering_index (nat_cmp a k) �
 ordering_index-le a b k le = grind (arith, nat_tests)
 
 module _ {X : Type 0} (key : X → ℕ) where
+  -- later elements have no lower keys
+  keys_rise : (xs : List X) (i j : ℕ) (d : X) → IsStrictlySortedBy nat_cmp (map key xs) → i ≤ j → j < length xs → key (get_or xs i d) ≤ key (get_or xs j d)
+  keys_rise xs i j d ascend le inside =
+      let rise : get_or (map key xs) i (key d) ≤ get_or (map key xs) j (key d) = non_decreasing_from_sorted (map key xs) ascend i j (key d) le (omega (arith, length-map xs key, inside)) in
+      omega (arith, rise, get_or-map key xs i d (key d) (omega arith), get_or-map key xs j d (key d) inside)
+
   -- the comparisons with a number rise along the list
   pub comparisons_rise : (k : ℕ) (xs : List X) → IsStrictlySortedBy nat_cmp (map key xs) → IsNonDecreasingBy (λ x. ordering_index (nat_cmp (key x) k)) xs
-  comparisons_rise k xs ascend i j d le inside =
-      let long : length (map key xs) ≡ length xs = length-map xs key in
-      let keys_rise : get_or (map key xs) i (key d) ≤ get_or (map key xs) j (key d) = non_decreasing_from_sorted (map key xs) ascend i j (key d) le (omega (arith, long, inside)) in
-      ordering_index-le (key (get_or xs i d)) (key (get_or xs j d)) k (omega (arith, keys_rise, get_or-map key xs i d (key d) (omega arith), get_or-map key xs j d (key d) inside))
+  comparisons_rise k xs ascend i j d le inside = ordering_index-le (key (get_or xs i d)) (key (get_or xs j d)) k (keys_rise xs i j d ascend le inside)
 
   -- the element at a place is the first that has its key
   pub find-at : (xs : List X) (place k : ℕ) (d : X) → IsStrictlySortedBy nat_cmp (map key xs) → place < length xs → key (get_or xs place d) ≡ k → find (λ x. key x == k) xs ≡ Some (get_or xs place d)
@@ -41,6 +44,22 @@ module _ {X : Type 0} (key : X → ℕ) where
   pub find-none : (xs : List X) (k : ℕ) → All (λ x. key x ≢ k) xs → find (λ x. key x == k) xs ≡ None
   find-none [] k apart = refl
   find-none (x ∷ xs) k apart = rw (ne_eqb (key x) k (All-head (λ y. key y ≢ k) x xs apart)) (find-none xs k (All-tail (λ y. key y ≢ k) x xs apart))
+
+  -- no element has the key where a place parts lower keys from greater ones
+  pub find-gap : (xs : List X) (place k : ℕ) (d : X) → IsStrictlySortedBy nat_cmp (map key xs) → place ≤ length xs
+      → (0 < place → key (get_or xs (place - 1) d) < k) → (place < length xs → k < key (get_or xs place d)) → find (λ x. key x == k) xs ≡ None
+  find-gap xs place k d ascend inside before behind = find-none xs k (λ i e lt.
+      let same : key (get_or xs i e) ≡ key (get_or xs i d) = ap key (get_or_default xs i e d lt) in
+      elim (leb_tells place i) [
+        | inl le ↦
+            let above : k < key (get_or xs place d) = behind (omega (arith, le.1, lt)) in
+            let rise = keys_rise xs place i d ascend le.1 lt in
+            λ eq. absurd (omega (arith, same, above, rise, eq))
+        | inr less ↦
+            let below : key (get_or xs (place - 1) d) < k = before (omega (arith, less.1)) in
+            let rise = keys_rise xs i (place - 1) d ascend (omega (arith, less.1)) (omega (arith, less.1, inside)) in
+            λ eq. absurd (omega (arith, same, below, rise, eq))
+      ])
 
   -- what a binary search by the key answers is what is found
   pub searched-find : (xs : List X) (k : ℕ) (r : Result ℕ ℕ) → IsStrictlySortedBy nat_cmp (map key xs) → IsSearchInRange r (length xs) → IsBinarySearchResult (λ x. nat_cmp (key x) k) xs r

@@ -155,6 +155,13 @@ impl<'m> PopulationBuilder<'m> {
         (model, heads, written)
     }
 
+    /// Has what is written found without a search from now on.
+    fn rank(&mut self) -> Result<(), AllocError>
+        ensures { self.new ≡ self.old }
+    {
+        self.written.rank(self.alloc)
+    }
+
     /// What is written at a feature of an object.
     pub(crate) fn written(&self, object: ObjectNo, feature: FeatureNo) -> &[Scalar]
         requires { object < length self.now.objects }
@@ -356,6 +363,15 @@ impl<'m> PopulationBuilder<'m> {
     /// feature, that was never set and needs a value; else with `TooFew` or `TooMany` at the first
     /// object, and its first opposite end, that has too few or too many holders.
     pub fn finish(self) -> Result<Population<'m>, PopulationFault>
+        ensures finished { Finishes (finish_outcome self.entry) result }
+        ensures same { IfOk result (λ p. p.content ≡ self.entry) }
+    {
+        let mut builder = self;
+        builder.rank()?;
+        builder.finish_ranked()
+    }
+
+    fn finish_ranked(self) -> Result<Population<'m>, PopulationFault>
         ensures finished { Finishes (finish_outcome self.entry) result }
         ensures same { IfOk result (λ p. p.content ≡ self.entry) }
     {

@@ -1,6 +1,6 @@
 //! The values at one feature, of all objects that have some.
 
-ghost use Rattle.std.specs.Prelude.{◌≡◌, ◌<◌, ◌==◌, ◌++◌, ℕ, [], true, false, Some, length, find, slice_range, All, IfOk, OnOk, OnErr};
+ghost use Rattle.std.specs.Prelude.{◌≡◌, ◌<◌, ◌≤◌, ◌==◌, ◌++◌, ℕ, [], true, false, Some, None, length, find, slice_range, All, IfOk, OnOk, OnErr};
 ghost use Rattle.std.specs.List.Sorted.{IsStrictlySortedBy};
 ghost use Rattle.std.specs.Ordering.{nat_cmp};
 ghost use Rattle.std.specs.BTreeMap.{insert_entry};
@@ -11,6 +11,7 @@ ghost use Rattle.imkl_population.specs.declared.column.Entry.{Entry};
 ghost use Rattle.imkl_population.specs.Store.{IsEntry, AreRangesWithin, entry_of, objects_in, put_entry, map_of, longest_in, pairs_in};
 
 use crate::checks::is_over;
+use crate::ranks::Ranks;
 use crate::scalar::Scalar;
 use std::alloc::{AllocError, Global};
 use std::marker::Model;
@@ -32,6 +33,7 @@ pub struct Entry {
 pub struct Column {
     scalars: Vec<Scalar>,
     entries: Vec<Entry>,
+    ranks: Ranks,
 }
 
 impl Model for Column {
@@ -43,6 +45,16 @@ impl Model for Column {
     ghost view = { λ c. record { scalars = c.scalars.items; ranges = map range_of c.entries.items } };
 
     ghost invariant = { λ c. IsLaidOut c.scalars.items c.entries.items };
+}
+
+/// Whether a place lies between the entries of earlier objects and those of later ones.
+fn is_gap(entries: &[Entry], place: usize, object: usize) -> bool
+    requires ascend { IsStrictlySortedBy nat_cmp (objects_in entries.now) }
+    requires place { place ≤ length entries.now }
+    ensures { result ≡ true → find (λ e. e.object == object) entries.now ≡ None }
+{
+    (place == 0 || entries[place - 1].object < object)
+        && (place == entries.len() || object < entries[place].object)
 }
 
 /// The entry at a place, if there is one and it is the object's.
@@ -57,23 +69,17 @@ fn entry_at(entries: &[Entry], place: usize, object: usize) -> Option<Entry>
     }
 }
 
-/// The object of the first entry.
-fn first_object(entries: &[Entry]) -> usize {
-    match entries.first() {
-        Some(first) => first.object,
-        None => 0,
-    }
-}
-
-/// The entry of an object among entries whose objects ascend. Where objects follow each other from
-/// the first on, it is found at once.
-fn find_entry(entries: &[Entry], object: usize) -> Option<Entry>
+/// The entry of an object among entries whose objects ascend. Where the guess of its place is right, nothing is searched.
+fn find_entry(entries: &[Entry], guess: usize, object: usize) -> Option<Entry>
     requires { IsStrictlySortedBy nat_cmp (objects_in entries.now) }
     ensures { result ≡ find (λ e. e.object == object) entries.now }
 {
-    let place = object.saturating_sub(first_object(entries));
+    let place = guess.min(entries.len());
     if let Some(entry) = entry_at(entries, place, object) {
         return Some(entry);
+    }
+    if is_gap(entries, place, object) {
+        return None;
     }
     match entries.binary_search_by_key(&object, |entry| entry.object) {
         Ok(place) => Some(entries[place]),
@@ -144,6 +150,7 @@ impl Column {
         Column {
             scalars: Vec::new(alloc),
             entries: Vec::new(alloc),
+            ranks: Ranks::new(alloc),
         }
     }
 
@@ -158,7 +165,8 @@ impl Column {
     pub(crate) fn get(&self, object: usize) -> &[Scalar]
         ensures { result.now ≡ written_in (map_of self.now) object }
     {
-        match find_entry(&self.entries, object) {
+        let guess = self.ranks.guess(object);
+        match find_entry(&self.entries, guess, object) {
             Some(entry) => values_of(&self.scalars, entry),
             None => &[],
         }
@@ -177,6 +185,14 @@ impl Column {
         let end = self.scalars.len();
         let entry = Entry { object, start, end };
         put_entry(&mut self.entries, entry)
+    }
+
+    /// Counts the entries anew, so that what is read from now on is found without a search.
+    pub(crate) fn rank(&mut self, alloc: Global) -> Result<(), AllocError>
+        ensures { self.new ≡ self.old }
+    {
+        self.ranks = Ranks::of(alloc, &self.entries)?;
+        Ok(())
     }
 
     /// The pairs of an object and each object among its values.

@@ -96,7 +96,9 @@ fn opposite_end(
     ensures { IfOk result (λ c. AreHolders builder.now source (map_of c)) }
 {
     let pairs = by_target(builder, source)?;
-    holders(alloc, &pairs)
+    let mut column = holders(alloc, &pairs)?;
+    column.rank(alloc)?;
+    Ok(column)
 }
 
 /// The column of a feature, if it is an opposite end.

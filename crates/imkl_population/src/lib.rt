@@ -14,6 +14,7 @@ mod numbers;
 mod object;
 mod order;
 mod population;
+mod ranks;
 mod repeats;
 mod required;
 mod scalar;

@@ -61,6 +61,9 @@ fn is_new(seen: &mut Seen, alloc: Global, value: &Scalar) -> Result<bool, AllocE
 pub(crate) fn repeats(alloc: Global, values: &[Scalar]) -> Result<bool, AllocError>
     ensures { IfOk result (λ b. b ≡ repeats_value values.now) }
 {
+    if values.len() < 2 {
+        return Ok(false);
+    }
     let mut seen = nothing_seen(alloc);
     for value in values {
         if !is_new(&mut seen, alloc, value)? {

@@ -128,6 +128,27 @@ impl Store {
         self.set(feature, object, values)
     }
 
+    /// Counts the entries of a column anew.
+    fn rank_column(&mut self, alloc: Global, feature: usize) -> Result<(), AllocError>
+        requires { feature < length self.old }
+        ensures { self.new ≡ self.old }
+    {
+        let column = &mut self.columns[feature];
+        let result = column.rank(alloc);
+        column.within();
+        result
+    }
+
+    /// Counts the entries of all columns anew, so that values are found without a search.
+    pub(crate) fn rank(&mut self, alloc: Global) -> Result<(), AllocError>
+        ensures { self.new ≡ self.old }
+    {
+        for feature in 0..self.columns.len() {
+            self.rank_column(alloc, feature)?;
+        }
+        Ok(())
+    }
+
     /// The pairs of an object and each object among its values at a feature.
     pub(crate) fn pairs(
         &self,

@@ -81,6 +81,35 @@ fn reads_each_type(rt: HostRuntime) {
     assert!(rt; first_wrong(rt.alloc(), TYPES).is_none());
 }
 
+/// Values of few among many objects, set out of their order: at one feature too far apart to be counted.
+const SCATTERED: &str = "fill 200: done
+set o130 Leiding.diepten = 130: done
+set o2 Leiding.diepten = 2: done
+set o199 Leiding.diepten = 199: done
+set o3 Leiding.diepten = 3: done
+set o199 Leiding.naam = 'last: done
+set o0 Leiding.naam = 'first: done
+finish: done
+values 0 naam: 'first
+values 1 naam:
+values 198 naam:
+values 199 naam: 'last
+values 1 diepten:
+values 2 diepten: 2
+values 3 diepten: 3
+values 4 diepten:
+values 64 diepten:
+values 129 diepten:
+values 130 diepten: 130
+values 131 diepten:
+values 198 diepten:
+values 199 diepten: 199";
+
+#[test]
+fn reads_scattered_values(rt: HostRuntime) {
+    assert!(rt; first_wrong(rt.alloc(), SCATTERED).is_none());
+}
+
 const EMPTY: &str = "finish: done
 instances Leiding:
 count Leiding: 0

@@ -1,6 +1,4 @@
-use Rattle.std.proofs.Common.{◌≡◌, ◌∙◌, ◌==◌, ◌<◌, ℕ, List, Option, Some, None, ap, sym, arith, get_or, length}
-use Rattle.std.specs.Prelude.{find}
-use Rattle.std.proofs.lemmas.Bool.{eqb-true}
+use Rattle.std.proofs.Common.{◌∙◌, List, sym, arith}
 use Rattle.imkl_population.specs.declared.column.Entry.{Entry}
 use Rattle.imkl_population.proofs.Searches.{find-at}
 use Rattle.imkl_population.proofs.Stored.{none}

@@ -4,7 +4,7 @@ use Rattle.imkl_model.specs.WellFormed.{IsClassModel}
 use Rattle.imkl_population.specs.Population.{Population}
 use Rattle.imkl_population.specs.Draft.{IsDraft}
 use Rattle.imkl_population.proofs.ConsistencyLaws.{consistent}
-use Rattle.imkl_population.proofs.builder.PopulationBuilder.finish.Goals as goal
+use Rattle.imkl_population.proofs.builder.PopulationBuilder.finish_ranked.Goals as goal
 
 pub lay_out-requires-clause-consistent : goal.lay_out-requires-clause-consistent
 lay_out-requires-clause-consistent c =
