@@ -17,6 +17,7 @@ mod population;
 mod repeats;
 mod required;
 mod scalar;
+mod sharing;
 mod sizes;
 mod store;
 
