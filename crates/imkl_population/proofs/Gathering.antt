@@ -1,19 +1,18 @@
 -- The objects of a class, gathered class by class.
-use Rattle.std.proofs.Common.{◌≡◌, ℕ, ◌+◌, ◌<◌, ◌==◌, Bool, true, false, List, [], ◌∷◌, ◌++◌, ◌&&◌, ◌||◌, All, Vec, length, map, get_or, set, nat_lt, refl, sym, ap, subst, ◌∙◌, eqb, arith, if◌then◌else◌}
+use Rattle.std.proofs.Common.{◌≡◌, ℕ, ◌<◌, ◌==◌, Bool, true, false, List, [], ◌∷◌, ◌++◌, ◌&&◌, ◌||◌, All, Vec, length, map, filter, get_or, set, nat_lt, refl, sym, ap, subst, ◌∙◌, eqb, arith, if◌then◌else◌}
 use Rattle.std.specs.declared.alloc.Global.{Global}
 use Rattle.std.specs.Ordering.{nat_cmp}
-use Rattle.std.proofs.lemmas.Bool.{false≢true, eq-eqb, eqb-true, ltb-true, lt-ltb}
-use Rattle.std.proofs.Math.Bool.{or-true, or-false, and-false, and-or_distrib_left}
+use Rattle.std.proofs.lemmas.Bool.{false≢true, eq-eqb, eqb-true, lt-ltb}
+use Rattle.std.proofs.Math.Bool.{and-false}
 use Rattle.std.proofs.lemmas.List.{append-nil, get_or-map, map-set, get_or-set_same, get_or-set_other, length-map}
-use Rattle.std.proofs.lemmas.List.Elements.{All-append}
+use Rattle.std.proofs.lemmas.List.Elements.{All-append, All-filter, All-head, All-tail}
 use Rattle.std.proofs.lemmas.List.Folds.{list_any-append}
-use Rattle.imkl_model.specs.ClassModel.{conforms}
+use Rattle.imkl_model.specs.ClassModel.{Model, conforms}
 use Rattle.ocl_base.specs.Numbers.{places}
 use Rattle.imkl_population.specs.Population.{Population, class_of, is_instance, instances}
 use Rattle.imkl_population.specs.Required.{is_one_of}
 use Rattle.imkl_population.specs.Order.{AreInOrder}
-use Rattle.imkl_population.specs.Instances.{is_direct, list_of, AreDirect}
-use Rattle.imkl_population.proofs.Bools.{same_test}
+use Rattle.imkl_population.specs.Instances.{is_direct, list_of, AreDirect, has_objects, inhabited, conforming, direct_of, objects_of_classes}
 use Rattle.imkl_population.proofs.Orders.{ordered, one_of-places, places-same, places-small}
 
 -- ---- the list of a class
@@ -43,54 +42,83 @@ pub list_more : (lists : List (Vec ℕ Global)) (c k : ℕ) (old new : Vec ℕ G
     → list_of (set lists c new) k ≡ list_of lists k ++ (if c == k then o ∷ [] else [])
 list_more lists c k old new o = set_by lists c k old new o (c == k) refl
 
--- ---- a class's objects more, where the class conforms
+-- ---- the objects of some classes
 
-below_more : (a d : ℕ) (b : Bool) → (a == d) ≡ b → nat_lt a (d + 1) ≡ (nat_lt a d || a == d)
-below_more a d true e = let same : a ≡ d = eqb-true a d e in rw (e, lt-ltb a (d + 1) (omega (arith, same))) (sym (or-true (nat_lt a d)))
-below_more a d false e =
-    rw e
-    (same_test (nat_lt a (d + 1)) (nat_lt a d)
-    (λ h. let apart : (a ≡ d) → ⊥ = λ same. false≢true (sym e ∙ eq-eqb a d same) in lt-ltb a d (omega (arith, ltb-true a (d + 1) h, apart)))
-    (λ h. lt-ltb a (d + 1) (omega (arith, ltb-true a d h)))
-    ∙ sym (or-false (nat_lt a d)))
+-- the objects of some classes, class by class
+pub direct-each : (p : Population) (lists : List (Vec ℕ Global)) → AreDirect p (length p.objects) lists → (cs : List ℕ) → All (λ c. c < length lists) cs → (o : ℕ) → o < length p.objects
+    → is_one_of (direct_of lists cs) o ≡ is_one_of cs (class_of p o)
+direct-each p lists direct [] known o lt = refl
+direct-each p lists direct (c ∷ cs) known o lt =
+    let inside : c < length p.model.classes = omega (arith, direct.count, All-head (λ (d : ℕ). d < length lists) c cs known) in
+    list_any-append (λ g. o == g) (list_of lists c) (direct_of lists cs)
+    ∙ ap (λ (l : List ℕ). is_one_of l o || is_one_of (direct_of lists cs) o) (direct.parts c inside)
+    ∙ ap (λ (b : Bool). b || is_one_of (direct_of lists cs) o) (one_of-places (is_direct p c) (length p.objects) o lt)
+    ∙ ap (λ (b : Bool). is_direct p c o || b) (direct-each p lists direct cs (All-tail (λ (d : ℕ). d < length lists) c cs known) o lt)
 
-one_of_more : (b : Bool) (xs ys all : List ℕ) (o : ℕ) → all ≡ xs ++ (if b then ys else []) → is_one_of all o ≡ (is_one_of xs o || b && is_one_of ys o)
-one_of_more true xs ys all o are = ap (λ (l : List ℕ). is_one_of l o) are ∙ list_any-append (λ g. o == g) xs ys
-one_of_more false xs ys all o are = ap (λ (l : List ℕ). is_one_of l o) (are ∙ append-nil xs) ∙ sym (or-false (is_one_of xs o))
+direct-small : (p : Population) (lists : List (Vec ℕ Global)) → AreDirect p (length p.objects) lists → (cs : List ℕ) → All (λ c. c < length lists) cs → All (λ o. o < length p.objects) (direct_of lists cs)
+direct-small p lists direct [] known = λ k d lt. absurd (omega (arith, lt))
+direct-small p lists direct (c ∷ cs) known =
+    let inside : c < length p.model.classes = omega (arith, direct.count, All-head (λ (d : ℕ). d < length lists) c cs known) in
+    All-append (λ o. o < length p.objects) (list_of lists c) (direct_of lists cs)
+    (places-small (is_direct p c) (length p.objects) (list_of lists c) (direct.parts c inside))
+    (direct-small p lists direct cs (All-tail (λ (d : ℕ). d < length lists) c cs known))
 
-own_class : (p : Population) (c d o : ℕ) (b : Bool) → (class_of p o == d) ≡ b → (conforms p.model d c && is_direct p d o) ≡ (is_instance p c o && is_direct p d o)
-own_class p c d o true e = ap (λ (k : ℕ). conforms p.model k c && is_direct p d o) (sym (eqb-true (class_of p o) d e))
-own_class p c d o false e = rw e (and-false (conforms p.model d c) ∙ sym (and-false (is_instance p c o)))
+-- the same, in order
+pub direct-in_order : (p : Population) (lists : List (Vec ℕ Global)) (cs xs zs : List ℕ) → AreDirect p (length p.objects) lists → All (λ c. c < length lists) cs → xs ≡ direct_of lists cs → AreInOrder nat_cmp eqb xs zs
+    → zs ≡ objects_of_classes p cs
+direct-in_order p lists cs xs zs direct known are order =
+    let small : All (λ o. o < length p.objects) xs = subst (All (λ o. o < length p.objects)) (sym are) (direct-small p lists direct cs known) in
+    ordered xs zs order (length p.objects) small
+    ∙ places-same (is_one_of xs) (λ o. is_one_of cs (class_of p o)) (length p.objects)
+    (λ o lt. ap (λ (l : List ℕ). is_one_of l o) are ∙ direct-each p lists direct cs known o lt)
 
--- the objects of the classes below n that conform to a class
-pub record IsGathered (p : Population) (c n : ℕ) (xs : List ℕ) : Type 0 where
-  pub known : All (λ o. o < length p.objects) xs
-  pub each : (o : ℕ) → o < length p.objects → is_one_of xs o ≡ (is_instance p c o && nat_lt (class_of p o) n)
+-- ---- the classes whose objects are the instances of a class
 
-all_small : (n : ℕ) (b : Bool) (xs ys all : List ℕ) → All (λ o. o < n) xs → All (λ o. o < n) ys → all ≡ xs ++ (if b then ys else []) → All (λ o. o < n) all
-all_small n true xs ys all xs_small ys_small are = subst (All (λ o. o < n)) (sym are) (All-append (λ o. o < n) xs ys xs_small ys_small)
-all_small n false xs ys all xs_small ys_small are = subst (All (λ o. o < n)) (sym (are ∙ append-nil xs)) xs_small
+kept_by : (q : ℕ → Bool) (x k : ℕ) (xs ys : List ℕ) (b e : Bool) → q x ≡ b → (k == x) ≡ e → is_one_of ys k ≡ (is_one_of xs k && q k) → is_one_of (if b then x ∷ ys else ys) k ≡ ((e || is_one_of xs k) && q k)
+kept_by q x k xs ys true true passes same rest = rw same (sym (ap q (eqb-true k x same) ∙ passes))
+kept_by q x k xs ys true false passes same rest = rw same rest
+kept_by q x k xs ys false true passes same rest =
+    let fails : q k ≡ false = ap q (eqb-true k x same) ∙ passes in
+    rest ∙ rw fails (and-false (is_one_of xs k))
+kept_by q x k xs ys false false passes same rest = rest
 
-pub gathered_more : (p : Population) (lists : List (Vec ℕ Global)) (c d : ℕ) (xs all : List ℕ) → AreDirect p (length p.objects) lists → d < length p.model.classes
-    → all ≡ xs ++ (if conforms p.model d c then list_of lists d else []) → IsGathered p c d xs → IsGathered p c (d + 1) all
-gathered_more p lists c d xs all direct lt are before =
-    let n : ℕ = length p.objects in
-    let ys : List ℕ = list_of lists d in
-    let part : ys ≡ places (is_direct p d) n = direct.parts d lt in
-    record {
-      known = all_small n (conforms p.model d c) xs ys all before.known (places-small (is_direct p d) n ys part) are;
-      each = λ o less.
-          let here : is_one_of ys o ≡ is_direct p d o = ap (λ (l : List ℕ). is_one_of l o) part ∙ one_of-places (is_direct p d) n o less in
-          one_of_more (conforms p.model d c) xs ys all o are
-          ∙ ap (λ (b : Bool). b || conforms p.model d c && is_one_of ys o) (before.each o less)
-          ∙ ap (λ (b : Bool). is_instance p c o && nat_lt (class_of p o) d || conforms p.model d c && b) here
-          ∙ ap (λ (b : Bool). is_instance p c o && nat_lt (class_of p o) d || b) (own_class p c d o (class_of p o == d) refl)
-          ∙ sym (and-or_distrib_left (is_instance p c o) (nat_lt (class_of p o) d) (class_of p o == d))
-          ∙ ap (λ (b : Bool). is_instance p c o && b) (sym (below_more (class_of p o) d (class_of p o == d) refl));
-    }
+-- what is among the numbers that pass
+one_of-filter : (q : ℕ → Bool) (xs : List ℕ) (k : ℕ) → is_one_of (filter q xs) k ≡ (is_one_of xs k && q k)
+one_of-filter q [] k = refl
+one_of-filter q (x ∷ xs) k = kept_by q x k xs (filter q xs) (q x) (k == x) refl refl (one_of-filter q xs k)
 
--- ---- what was gathered, in order
+some_where : (xs : List ℕ) (k : ℕ) → is_one_of xs k ≡ true → nat_lt 0 (length xs) ≡ true
+some_where [] k h = absurd (false≢true h)
+some_where (x ∷ xs) k h = lt-ltb 0 (length (x ∷ xs)) (omega arith)
 
-pub all_gathered : (p : Population) (c : ℕ) (xs zs : List ℕ) → All (λ o. o < length p.objects) xs → ((o : ℕ) → o < length p.objects → is_one_of xs o ≡ is_instance p c o) → AreInOrder nat_cmp eqb xs zs
-    → zs ≡ instances p c
-all_gathered p c xs zs known each order = ordered xs zs order (length p.objects) known ∙ places-same (is_one_of xs) (is_instance p c) (length p.objects) each
+-- an object's class has objects of its own
+own_class : (p : Population) (lists : List (Vec ℕ Global)) → AreDirect p (length p.objects) lists → (o : ℕ) → o < length p.objects → is_one_of (inhabited lists) (class_of p o) ≡ true
+own_class p lists direct o lt =
+    let c : ℕ = class_of p o in
+    let known : c < length p.model.classes = direct.known o lt in
+    let here : is_one_of (list_of lists c) o ≡ true =
+    ap (λ (l : List ℕ). is_one_of l o) (direct.parts c known) ∙ one_of-places (is_direct p c) (length p.objects) o lt ∙ eq-eqb c c refl in
+    one_of-places (has_objects lists) (length lists) c (omega (arith, direct.count, known)) ∙ some_where (list_of lists c) o here
+
+-- classes with objects are classes of the model
+pub inhabited-known : (lists : List (Vec ℕ Global)) (cs : List ℕ) (n : ℕ) → length lists ≡ n → cs ≡ inhabited lists → All (λ c. c < n) cs
+inhabited-known lists cs n count are = subst (λ (m : ℕ). All (λ c. c < m) cs) count (places-small (has_objects lists) (length lists) cs are)
+
+pub conforming-known : (m : Model) (lists : List (Vec ℕ Global)) (cs : List ℕ) (c n : ℕ) → length lists ≡ n → cs ≡ conforming m (inhabited lists) c → All (λ d. d < n) cs
+conforming-known m lists cs c n count are =
+    subst (All (λ d. d < n)) (sym are) (All-filter (λ d. conforms m d c) (λ d. d < n) (inhabited lists) (inhabited-known lists (inhabited lists) n count refl))
+
+-- the same classes, of equals
+pub conforming-same : (m n : Model) (cs ds found : List ℕ) (c d : ℕ) → found ≡ conforming m cs c → m ≡ n → cs ≡ ds → c ≡ d → found ≡ conforming n ds d
+conforming-same m n cs ds found c d are model classes class =
+    are ∙ ap (λ (k : Model). conforming k cs c) model ∙ ap (λ (l : List ℕ). conforming n l c) classes ∙ ap (conforming n ds) class
+
+-- the instances of a class are the objects of those classes with objects that conform to it
+pub conforming-instances : (p : Population) (lists : List (Vec ℕ Global)) (cs : List ℕ) (c : ℕ) → AreDirect p (length p.objects) lists → cs ≡ conforming p.model (inhabited lists) c
+    → objects_of_classes p cs ≡ instances p c
+conforming-instances p lists cs c direct are =
+    places-same (λ o. is_one_of cs (class_of p o)) (is_instance p c) (length p.objects)
+    (λ o lt.
+    ap (λ (l : List ℕ). is_one_of l (class_of p o)) are
+    ∙ one_of-filter (λ d. conforms p.model d c) (inhabited lists) (class_of p o)
+    ∙ ap (λ (b : Bool). b && is_instance p c o) (own_class p lists direct o lt))

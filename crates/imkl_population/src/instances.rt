@@ -1,15 +1,12 @@
 //! The objects of each class, those of its subclasses included.
 
 ghost use Rattle.std.specs.Prelude.{◌≡◌, ◌<◌, ◌++◌, ℕ, [], ◌∷◌, length, All, IfOk, OnOk, if◌then◌else◌, ◌==◌};
-ghost use Rattle.imkl_model.specs.ClassModel.{conforms};
-ghost use Rattle.imkl_population.specs.Population.{is_instance, instances};
-ghost use Rattle.imkl_population.specs.Required.{is_one_of};
-ghost use Rattle.imkl_population.specs.Instances.{AreDirect, list_of};
+ghost use Rattle.imkl_population.specs.Instances.{AreDirect, conforming, inhabited, list_of};
 ghost use Rattle.imkl_population.specs.Layout.{AreInstances};
 
 use crate::builder::PopulationBuilder;
 use crate::numbers::ObjectNo;
-use crate::order::in_order;
+use crate::sharing::{list_of_all, no_lists, range_of};
 use crate::store::Segment;
 use imkl_model::{ClassModel, ClassNo};
 use std::alloc::{AllocError, Global};
@@ -55,65 +52,41 @@ fn direct_objects(
     Ok(lists)
 }
 
-/// Adds the objects directly of a class, if it conforms to another one.
-fn add_conforming(
-    list: &mut Vec<ObjectNo>,
-    objects: &[ObjectNo],
+/// The classes that have objects of their own.
+fn inhabited(alloc: Global, direct: &[Vec<ObjectNo>]) -> Result<Vec<ClassNo>, AllocError>
+    ensures { IfOk result (λ v. v.items ≡ inhabited direct.now) }
+{
+    let mut classes = Vec::new(alloc);
+    for class in 0..direct.len() {
+        if !direct[class].is_empty() {
+            classes.push(ClassNo::new(class))?;
+        }
+    }
+    Ok(classes)
+}
+
+/// Those of some classes that conform to a class.
+fn conforming(
+    alloc: Global,
     model: &ClassModel,
-    from: ClassNo,
+    classes: &[ClassNo],
     class: ClassNo,
-) -> Result<(), AllocError>
-    requires from { from < length model.now.classes }
+) -> Result<Vec<ClassNo>, AllocError>
+    requires classes { All (λ c. c < length model.now.classes) classes.now }
     requires class { class < length model.now.classes }
-    ensures { OnOk result (list.new.items ≡ list.old.items ++
-        (if conforms model.now from class then objects.now else [])) }
+    ensures { IfOk result (λ v. v.items ≡ conforming model.now classes.now class) }
 {
-    if !objects.is_empty() && model.conforms(from, class) {
-        list.extend_from_slice(objects)?;
+    let mut found = Vec::new(alloc);
+    for from in classes {
+        if model.conforms(*from, class) {
+            found.push(*from)?;
+        }
     }
-    Ok(())
+    Ok(found)
 }
 
-/// The objects of a class: those directly of each class that conforms to it, class by class.
-fn gather(
-    alloc: Global,
-    builder: &PopulationBuilder<'_>,
-    direct: &[Vec<ObjectNo>],
-    class: ClassNo,
-) -> Result<Vec<ObjectNo>, AllocError>
-    requires class { class < length builder.now.model.classes }
-    requires direct { AreDirect builder.now (length builder.now.objects) direct.now }
-    ensures known { IfOk result (λ v. All (λ o. o < length builder.now.objects) v.items) }
-    ensures each { IfOk result (λ v. (o : ℕ) → o < length builder.now.objects →
-        is_one_of v.items o ≡ is_instance builder.now class o) }
-{
-    let model = builder.model();
-    let mut gathered = Vec::new(alloc);
-    for from in 0..model.class_count() {
-        let objects = direct[from].as_slice();
-        add_conforming(&mut gathered, objects, model, ClassNo::new(from), class)?;
-    }
-    Ok(gathered)
-}
-
-/// Adds the objects of a class.
-fn add_instances(
-    list: &mut Vec<ObjectNo>,
-    alloc: Global,
-    builder: &PopulationBuilder<'_>,
-    direct: &[Vec<ObjectNo>],
-    class: ClassNo,
-) -> Result<(), AllocError>
-    requires class { class < length builder.now.model.classes }
-    requires direct { AreDirect builder.now (length builder.now.objects) direct.now }
-    ensures { OnOk result (list.new.items ≡ list.old.items ++ instances builder.now class) }
-{
-    let mut objects = in_order(gather(alloc, builder, direct, class)?);
-    list.append(&mut objects)?;
-    Ok(())
-}
-
-/// All classes' objects in one list, and the range of each class.
+/// All classes' objects in one list, and the range of each class. Classes that the same classes
+/// with objects conform to have the same objects, and share their range.
 pub(crate) fn instances(
     alloc: Global,
     builder: &PopulationBuilder<'_>,
@@ -122,13 +95,13 @@ pub(crate) fn instances(
         AreInstances builder.now r.0.items r.1.items (length builder.now.model.classes)) }
 {
     let direct = direct_objects(alloc, builder)?;
-    let mut list = Vec::new(alloc);
+    let inhabited = inhabited(alloc, &direct)?;
+    let mut shared = no_lists(alloc);
     let mut ranges = Vec::new(alloc);
     for class in 0..builder.model().class_count() {
-        let start = list.len();
-        add_instances(&mut list, alloc, builder, &direct, ClassNo::new(class))?;
-        let end = list.len();
-        ranges.push(Segment { start, end })?;
+        let sources = conforming(alloc, builder.model(), &inhabited, ClassNo::new(class))?;
+        let range = range_of(&mut shared, builder, &direct, sources)?;
+        ranges.push(range)?;
     }
-    Ok((list, ranges))
+    Ok((list_of_all(shared), ranges))
 }

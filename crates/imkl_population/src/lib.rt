@@ -18,6 +18,7 @@ mod ranks;
 mod repeats;
 mod required;
 mod scalar;
+mod sharing;
 mod sizes;
 mod store;
 

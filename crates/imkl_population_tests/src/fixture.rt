@@ -144,10 +144,15 @@ fn first_wrong_of<'t>(alloc: Global, model: &ClassModel, rows: &'t str) -> Optio
     }
 }
 
-/// The first row that isn't so, for the class model of the fixture.
-pub(crate) fn first_wrong<'t>(alloc: Global, rows: &'t str) -> Option<&'t str> {
-    match ClassModel::read(alloc, MODEL.as_bytes()) {
+/// The first row that isn't so, for a class model.
+pub(crate) fn first_wrong_in<'t>(alloc: Global, model: &str, rows: &'t str) -> Option<&'t str> {
+    match ClassModel::read(alloc, model.as_bytes()) {
         Ok(model) => first_wrong_of(alloc, &model, rows),
         Err(_) => Some("the class model"),
     }
+}
+
+/// The first row that isn't so, for the class model of the fixture.
+pub(crate) fn first_wrong<'t>(alloc: Global, rows: &'t str) -> Option<&'t str> {
+    first_wrong_in(alloc, MODEL, rows)
 }

@@ -15,3 +15,5 @@ mod names;
 mod reads;
 #[cfg(test)]
 mod requirements;
+#[cfg(test)]
+mod sharing;
