@@ -8,7 +8,6 @@ use Rattle.std.proofs.lemmas.List.{append-nil, get_or-map, map-set, get_or-set_s
 use Rattle.std.proofs.lemmas.List.Elements.{All-append, All-filter, All-head, All-tail}
 use Rattle.std.proofs.lemmas.List.Folds.{list_any-append}
 use Rattle.imkl_model.specs.ClassModel.{Model, conforms}
-use Rattle.ocl_base.specs.Numbers.{places}
 use Rattle.imkl_population.specs.Population.{Population, class_of, is_instance, instances}
 use Rattle.imkl_population.specs.Required.{is_one_of}
 use Rattle.imkl_population.specs.Order.{AreInOrder}
