@@ -8,7 +8,6 @@ use Rattle.std.proofs.lemmas.List.{append-nil, get_or-map, map-set, get_or-set_s
 use Rattle.std.proofs.lemmas.List.Elements.{All-append, All-filter, All-head, All-tail}
 use Rattle.std.proofs.lemmas.List.Folds.{list_any-append}
 use Rattle.imkl_model.specs.ClassModel.{Model, conforms}
-use Rattle.ocl_base.specs.Numbers.{places}
 use Rattle.imkl_population.specs.Population.{Population, class_of, is_instance, instances}
 use Rattle.imkl_population.specs.Required.{is_one_of}
 use Rattle.imkl_population.specs.Order.{AreInOrder}
@@ -20,7 +19,7 @@ use Rattle.imkl_population.proofs.Orders.{ordered, one_of-places, places-same, p
 abbrev items_of : Vec ℕ Global → List ℕ
 items_of v = v.items
 
-pub list_at : (lists : List (Vec ℕ Global)) (c : ℕ) (v : Vec ℕ Global) → c < length lists → v ≡ get_or lists c v → list_of lists c ≡ v.items
+list_at : (lists : List (Vec ℕ Global)) (c : ℕ) (v : Vec ℕ Global) → c < length lists → v ≡ get_or lists c v → list_of lists c ≡ v.items
 list_at lists c v lt is = get_or-map items_of lists c v [] lt ∙ ap items_of (sym is)
 
 set_by : (lists : List (Vec ℕ Global)) (c k : ℕ) (old new : Vec ℕ Global) (o : ℕ) (b : Bool) → (c == k) ≡ b → c < length lists → old ≡ get_or lists c old → new.items ≡ old.items ++ o ∷ []
@@ -45,7 +44,7 @@ list_more lists c k old new o = set_by lists c k old new o (c == k) refl
 -- ---- the objects of some classes
 
 -- the objects of some classes, class by class
-pub direct-each : (p : Population) (lists : List (Vec ℕ Global)) → AreDirect p (length p.objects) lists → (cs : List ℕ) → All (λ c. c < length lists) cs → (o : ℕ) → o < length p.objects
+direct-each : (p : Population) (lists : List (Vec ℕ Global)) → AreDirect p (length p.objects) lists → (cs : List ℕ) → All (λ c. c < length lists) cs → (o : ℕ) → o < length p.objects
     → is_one_of (direct_of lists cs) o ≡ is_one_of cs (class_of p o)
 direct-each p lists direct [] known o lt = refl
 direct-each p lists direct (c ∷ cs) known o lt =
@@ -100,7 +99,7 @@ own_class p lists direct o lt =
     ap (λ (l : List ℕ). is_one_of l o) (direct.parts c known) ∙ one_of-places (is_direct p c) (length p.objects) o lt ∙ eq-eqb c c refl in
     one_of-places (has_objects lists) (length lists) c (omega (arith, direct.count, known)) ∙ some_where (list_of lists c) o here
 
--- classes with objects are classes of the model
+-- classes with objects are classes of the model, and so are those of them that conform to a class
 pub inhabited-known : (lists : List (Vec ℕ Global)) (cs : List ℕ) (n : ℕ) → length lists ≡ n → cs ≡ inhabited lists → All (λ c. c < n) cs
 inhabited-known lists cs n count are = subst (λ (m : ℕ). All (λ c. c < m) cs) count (places-small (has_objects lists) (length lists) cs are)
 

@@ -1,8 +1,10 @@
 //! Lists of objects that several classes share.
 
 ghost use Rattle.std.specs.Prelude.{◌≡◌, ◌<◌, ◌++◌, length, All, IfOk, OnOk};
+ghost use Rattle.std.specs.BTreeMap.{get};
+ghost use Rattle.imkl_population.specs.declared.store.Segment.{Segment};
 ghost use Rattle.imkl_population.specs.Population.{Population};
-ghost use Rattle.imkl_population.specs.Instances.{AreDirect, AreShared, Begins, IsRangeOf, direct_of, objects_of_classes};
+ghost use Rattle.imkl_population.specs.Instances.{AreDirect, AreShared, Begins, IsRangeOf, by_classes, direct_of, objects_of_classes};
 
 use crate::builder::PopulationBuilder;
 use crate::numbers::ObjectNo;
@@ -68,7 +70,7 @@ fn add_objects(
     Ok(Segment { start, end })
 }
 
-/// The range of the objects of some classes. They are added if they have none yet.
+/// The range of the objects of some classes, which are added only if no range is kept for them.
 pub(crate) fn range_of(
     lists: &mut SharedLists,
     builder: &PopulationBuilder<'_>,
@@ -81,6 +83,9 @@ pub(crate) fn range_of(
     ensures range { IfOk result (λ r. IsRangeOf builder.now lists.new.list.items classes.items r) }
     ensures shared { OnOk result (AreShared builder.now lists.new) }
     ensures kept { OnOk result (Begins lists.old.list.items lists.new.list.items) }
+    ensures stored { IfOk result (λ r. get by_classes lists.new.ranges classes ≡ Some r) }
+    ensures once { (r : Segment) → get by_classes lists.old.ranges classes ≡ Some r →
+        (result ≡ Ok r) × (lists.new ≡ lists.old) }
 {
     if let Some(range) = lists.ranges.get(&classes) {
         return Ok(*range);
