@@ -1,5 +1,6 @@
 pub mod Alls
 pub mod Describing
+pub mod Members
 pub mod Passed
 pub mod Refusals
 pub mod Runs

@@ -35,11 +35,11 @@ use Rattle.imkl_delivery.proofs.Walks.{walk, walk-places}
 
 -- ---- the model and the object's class stay
 
-record IsSameAt (o : ℕ) (p q : Population) : Type 0 where
-  model : q.model ≡ p.model
-  class : class_of q o ≡ class_of p o
+pub record IsSameAt (o : ℕ) (p q : Population) : Type 0 where
+  pub model : q.model ≡ p.model
+  pub class : class_of q o ≡ class_of p o
 
-same : (o : ℕ) (p : Population) → IsSameAt o p p
+pub same : (o : ℕ) (p : Population) → IsSameAt o p p
 same o p = record { model = refl; class = refl }
 
 class_stays : (os : List Object) (o : ℕ) (x : Object) → x.class ≡ (get_or os o no_object).class → (get_or (set os o x) o no_object).class ≡ (get_or os o no_object).class
@@ -91,6 +91,12 @@ keeps-put_by (OppositeEnd g) o f v p = search (keeps_either, keeps_err, keeps_ok
 keeps-put_member : (ms : Members) (o f : ℕ) (p : Population) → Keeps o p (put_member o ms f p)
 unfolding put_member
 keeps-put_member ms o f p = search (keeps_either, keeps-put_by, keeps_ok, same)
+
+-- what was the same before something is put is the same after
+pub stays_along : (ms : Members) (o f : ℕ) (p q r : Population) → IsSameAt o p q → put_member o ms f q ≡ Ok r → IsSameAt o p r
+stays_along ms o f p q r before is =
+    let here = keeps-put_member ms o f q r is in
+    record { model = here.model ∙ before.model; class = here.class ∙ before.class }
 
 -- ---- a feature that no member names
 
@@ -160,7 +166,7 @@ walk-put_members ms o p fs formed named =
     let c = class_of p o in
     let names : are_features m c ms ≡ true = sym (named_is m c ms) ∙ ap is_some named in
     let walked = walk-places (put_member o ms) (IsSameAt o p)
-    (λ k t u i is. let j = keeps-put_member ms o k t u is in record { model = j.model ∙ i.model; class = j.class ∙ i.class })
+    (λ k t u i is. stays_along ms o k p t u i is)
     (λ f. is_required (written_requirements m) c f || is_one_of fs f) (length m.features) p
     (λ k t lt no i.
     let h : IsPassed m c ms fs k = record { formed = formed; below = lt; named = named; unasked = no } in

@@ -1,19 +1,20 @@
 //! What is written at the features of one object.
 
-ghost use Rattle.std.specs.Prelude.{◌≡◌, ◌<◌, true, List, Option, All, map, length, option_map, IfOk, IfSome};
+ghost use Rattle.std.specs.Prelude.{◌≡◌, ◌<◌, true, [], ◌∷◌, Option, All, map, length, option_map, IfOk, IfSome};
 ghost use Rattle.serde_json.specs.Data.{Data};
-ghost use Rattle.serde_json.specs.Find.{get_member};
 ghost use Rattle.serde_json.specs.View.{view, members_view};
 ghost use Rattle.imkl_model.specs.ClassModel.{feature_at};
-ghost use Rattle.imkl_population.specs.Population.{Population};
+ghost use Rattle.imkl_population.specs.Population.{Population, class_of};
 ghost use Rattle.imkl_population.specs.Building.{KeepsObjects};
 ghost use Rattle.imkl_delivery.specs.Steps.{Leaves, placed_fault};
-ghost use Rattle.imkl_delivery.specs.Scalars.{is_absent};
+ghost use Rattle.imkl_delivery.specs.Scalars.{is_absent, values_from};
 ghost use Rattle.imkl_delivery.specs.Loading.{put_values, put_targets, put_by, put_member, put_members};
 ghost use Rattle.imkl_delivery.specs.Named.{named_features, written_requirements};
+ghost use Rattle.imkl_delivery.specs.Taken.{TakesOnly};
 
 use crate::fault::DeliveryFault;
 use crate::scalars::{Targets, scalars_of, targets_of, values_of};
+use crate::taking::take_member;
 use imkl_model::{ClassModel, ClassNo, FeatureInfo, FeatureNo, Role};
 use imkl_population::{ObjectNo, PopulationBuilder, PopulationFault, RequiredFeatures};
 use serde_json::{Map, Value};
@@ -36,18 +37,18 @@ fn put_values(
     alloc: Global,
     object: ObjectNo,
     feature: FeatureNo,
-    values: &[Value],
+    value: Value,
 ) -> Result<(), DeliveryFault>
     requires object { object < length builder.old.objects }
     requires feature { feature < length builder.old.model.features }
-    ensures leaves { Leaves result (put_values object feature (map view values.now) builder.old)
-        builder.new }
+    ensures leaves { Leaves result (put_values object feature (values_from (view value))
+        builder.old) builder.new }
     ensures kept { KeepsObjects builder.old builder.new }
 {
     let model = builder.model();
     model.well_formed();
     let info = model.feature_info(feature);
-    let Some(scalars) = scalars_of(alloc, model, info, values)? else {
+    let Some(scalars) = scalars_of(alloc, model, info, value)? else {
         return Err(placed_fault(object.index(), PopulationFault::WrongKind));
     };
     match builder.set_value(object, feature, scalars) {
@@ -89,12 +90,12 @@ fn put_written(
     alloc: Global,
     object: ObjectNo,
     feature: FeatureNo,
-    value: Option<&Value>,
+    value: Option<Value>,
 ) -> Result<(), DeliveryFault>
     requires object { object < length builder.old.objects }
     requires feature { feature < length builder.old.model.features }
     ensures leaves { Leaves result (put_by (feature_at builder.old.model feature).role object
-        feature (option_map (λ v. view v.now) value.entry) builder.old) builder.new }
+        feature (option_map view value) builder.old) builder.new }
     ensures kept { KeepsObjects builder.old builder.new }
 {
     let info = builder.model().feature_info(feature);
@@ -103,8 +104,8 @@ fn put_written(
         _ => return left_out(object, feature, info),
     };
     match info.role {
-        Role::Attribute => put_values(builder, alloc, object, feature, values_of(value)),
-        Role::SourceEnd { .. } => put_targets(builder, alloc, object, feature, values_of(value)),
+        Role::Attribute => put_values(builder, alloc, object, feature, value),
+        Role::SourceEnd { .. } => put_targets(builder, alloc, object, feature, values_of(&value)),
         Role::OppositeEnd { .. } => Err(placed_fault(object.index(), PopulationFault::Derived)),
     }
 }
@@ -120,35 +121,30 @@ fn left_out(object: ObjectNo, feature: FeatureNo, info: &FeatureInfo) -> Result<
     Err(placed_fault(object.index(), PopulationFault::TooFew { object, feature }))
 }
 
-/// Puts what the members write at a feature, where it belongs to the object's class.
+/// Puts what the members write at a feature, where it belongs to the object's class. The member is taken out.
 #[tactic(auto, unfolding(crate::specs::Loading::put_member))]
 fn put_member(
     builder: &mut PopulationBuilder<'_>,
     alloc: Global,
     object: ObjectNo,
     feature: FeatureNo,
-    members: &Map<String, Value>,
+    members: &mut Map<String, Value>,
 ) -> Result<(), DeliveryFault>
     requires object { object < length builder.old.objects }
     requires feature { feature < length builder.old.model.features }
     ensures leaves { Leaves result
-        (put_member object (members_view members.now.entries) feature builder.old) builder.new }
+        (put_member object (members_view members.old.entries) feature builder.old) builder.new }
     ensures kept { KeepsObjects builder.old builder.new }
+    ensures taken { TakesOnly builder.old.model (class_of builder.old object) (feature ∷ [])
+        (members_view members.old.entries) (members_view members.new.entries) }
 {
     let model = builder.model();
+    model.well_formed();
     if !model.belongs(builder.class_of(object), feature) {
         return Ok(());
     }
     let name = model.feature_info(feature).name.as_str();
-    put_written(builder, alloc, object, feature, member(members, name))
-}
-
-/// The value of a member.
-fn member<'v>(members: &'v Map<String, Value>, name: &str) -> Option<&'v Value>
-    ensures { option_map (λ v. view v.now) result ≡
-        get_member name.now (members_view members.now.entries) }
-{
-    members.get(name)
+    put_written(builder, alloc, object, feature, take_member(members, name))
 }
 
 /// The features of the class that the members name, or nothing where a member names none.
@@ -180,27 +176,27 @@ pub(crate) fn put_members(
     builder: &mut PopulationBuilder<'_>,
     alloc: Global,
     object: ObjectNo,
-    members: &Map<String, Value>,
+    mut members: Map<String, Value>,
     required: &mut RequiredFeatures<'_>,
 ) -> Result<(), DeliveryFault>
     requires object { object < length builder.old.objects }
     requires required { required.old ≡ written_requirements builder.old.model }
     ensures leaves { Leaves result
-        (put_members object (members_view members.now.entries) builder.old) builder.new }
+        (put_members object (members_view members.entries) builder.old) builder.new }
     ensures kept { KeepsObjects builder.old builder.new }
     ensures same { required.new ≡ required.old }
 {
     let model = builder.model();
     model.well_formed();
     let class = builder.class_of(object);
-    let Some(named) = named_features(alloc, model, class, members)? else {
+    let Some(named) = named_features(alloc, model, class, &members)? else {
         return Err(DeliveryFault::UnknownFeature {
             object: object.index(),
         });
     };
     let features = required.with_required(class, named)?;
     for feature in &features {
-        put_member(builder, alloc, object, *feature, members)?;
+        put_member(builder, alloc, object, *feature, &mut members)?;
     }
     Ok(())
 }

@@ -82,7 +82,7 @@ fn put_all(
         let Some(features) = features_of(object) else {
             return Err(DeliveryFault::Shape);
         };
-        let written = put_members(builder, alloc, ObjectNo::new(place), &features, required);
+        let written = put_members(builder, alloc, ObjectNo::new(place), features, required);
         if written.is_err() {
             return written;
         }

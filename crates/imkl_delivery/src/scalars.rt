@@ -1,7 +1,8 @@
 //! From JSON values to values of attributes and ids of targets.
 
-ghost use Rattle.std.specs.Prelude.{◌≡◌, ◌<◌, ℕ, length, map, Option, option_map, option_and_then, is_some, IfOk};
+ghost use Rattle.std.specs.Prelude.{◌≡◌, ◌<◌, ℕ, [], ◌∷◌, length, map, Option, option_map, option_and_then, is_some, IfOk};
 ghost use Rattle.std.specs.List.{list_all};
+ghost use Rattle.std.specs.Str.{chars};
 ghost use Rattle.serde_json.specs.View.{view};
 ghost use Rattle.serde_json.specs.Find.{as_str};
 ghost use Rattle.imkl_model.specs.ClassModel.{literal_number};
@@ -47,55 +48,87 @@ fn literal_of(model: &ClassModel, enumeration: EnumNo, value: &Value) -> Option<
     Some(Scalar::Literal(enumeration, literal))
 }
 
-fn text_of(alloc: Global, model: &ClassModel, value: &Value) -> Result<Option<Scalar>, AllocError>
-    ensures { IfOk result (λ s. s ≡ scalar_from model.now ElementType.String (view value.now)) }
+/// A text, moved out of the value that is one.
+fn text_of(value: Value) -> Option<Scalar>
+    ensures { result ≡ option_map (λ s. Scalar.Text (chars s)) (as_str (view value)) }
 {
-    let Some(text) = value.as_str() else {
-        return Ok(None);
-    };
-    let text = ScalarText::new(String::from_str(alloc, text)?);
-    Ok(Some(Scalar::Text(text)))
-}
-
-/// A value of an attribute of this type, if it is one.
-pub(crate) fn scalar_of(
-    alloc: Global,
-    model: &ClassModel,
-    element: ElementType,
-    value: &Value,
-) -> Result<Option<Scalar>, AllocError>
-    requires { (e : ℕ) → element ≡ ElementType.Enumeration e → e < length model.now.enumerations }
-    ensures { IfOk result (λ s. s ≡ scalar_from model.now element (view value.now)) }
-{
-    match element {
-        ElementType::Boolean => Ok(value.as_bool().map(Scalar::Bool)),
-        ElementType::Integer => Ok(value.as_i64().map(Scalar::Int)),
-        ElementType::String => text_of(alloc, model, value),
-        ElementType::Enumeration(enumeration) => Ok(literal_of(model, enumeration, value)),
-        ElementType::Class(_) => Ok(None),
+    match value {
+        Value::String(text) => Some(Scalar::Text(ScalarText::new(text))),
+        _ => None,
     }
 }
 
-/// The values of an attribute, if all are of its type.
-pub(crate) fn scalars_of(
+/// A value of an attribute of this type, if it is one.
+fn scalar_of(model: &ClassModel, element: ElementType, value: Value) -> Option<Scalar>
+    requires { (e : ℕ) → element ≡ ElementType.Enumeration e → e < length model.now.enumerations }
+    ensures { result ≡ scalar_from model.now element (view value) }
+{
+    match element {
+        ElementType::Boolean => value.as_bool().map(Scalar::Bool),
+        ElementType::Integer => value.as_i64().map(Scalar::Int),
+        ElementType::String => text_of(value),
+        ElementType::Enumeration(enumeration) => literal_of(model, enumeration, &value),
+        ElementType::Class(_) => None,
+    }
+}
+
+/// The values of an attribute that a list writes, if all are of its type.
+fn listed_scalars(
     alloc: Global,
     model: &ClassModel,
     info: &FeatureInfo,
-    values: &[Value],
+    values: Vec<Value>,
 ) -> Result<Option<Vec<Scalar>>, AllocError>
     requires { (e : ℕ) → info.now.element ≡ ElementType.Enumeration e →
         e < length model.now.enumerations }
     ensures { IfOk result (λ r. option_map (λ v. v.items) r ≡
-        all_found (scalar_from model.now info.now.element) (map view values.now)) }
+        all_found (scalar_from model.now info.now.element) (map view values.items)) }
 {
     let mut scalars = Vec::with_capacity(alloc, values.len())?;
     for value in values {
-        match scalar_of(alloc, model, info.element, value)? {
+        match scalar_of(model, info.element, value) {
             Some(scalar) => scalars.push(scalar)?,
             None => return Ok(None),
         }
     }
     Ok(Some(scalars))
+}
+
+/// The one value of an attribute that a member writes, if it is of its type.
+fn single_scalar(
+    alloc: Global,
+    model: &ClassModel,
+    info: &FeatureInfo,
+    value: Value,
+) -> Result<Option<Vec<Scalar>>, AllocError>
+    requires { (e : ℕ) → info.now.element ≡ ElementType.Enumeration e →
+        e < length model.now.enumerations }
+    ensures { IfOk result (λ r. option_map (λ v. v.items) r ≡
+        all_found (scalar_from model.now info.now.element) (view value ∷ [])) }
+{
+    let Some(scalar) = scalar_of(model, info.element, value) else {
+        return Ok(None);
+    };
+    Ok(Some(vec![in alloc; scalar]?))
+}
+
+/// The values of an attribute that a member writes, if all are of its type. Texts are moved.
+pub(crate) fn scalars_of(
+    alloc: Global,
+    model: &ClassModel,
+    info: &FeatureInfo,
+    value: Value,
+) -> Result<Option<Vec<Scalar>>, AllocError>
+    requires { (e : ℕ) → info.now.element ≡ ElementType.Enumeration e →
+        e < length model.now.enumerations }
+    ensures { IfOk result (λ r. option_map (λ v. v.items) r ≡
+        all_found (scalar_from model.now info.now.element) (values_from (view value))) }
+{
+    match value {
+        Value::Null => Ok(Some(Vec::new(alloc))),
+        Value::Array(values) => listed_scalars(alloc, model, info, values),
+        value => single_scalar(alloc, model, info, value),
+    }
 }
 
 /// The object whose id a value is, if it is a text and the id of one.

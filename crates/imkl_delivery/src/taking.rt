@@ -2,18 +2,28 @@
 
 ghost use Rattle.std.specs.Prelude.{◌≡◌, map, option_map};
 ghost use Rattle.serde_json.specs.View.{view, members_view};
-ghost use Rattle.serde_json.specs.Find.{get, as_object};
+ghost use Rattle.serde_json.specs.Find.{get, get_member, as_object};
 ghost use Rattle.imkl_model.specs.Json.{list_from};
-ghost use Rattle.imkl_delivery.specs.Taken.{object_features, document_objects};
+ghost use Rattle.imkl_delivery.specs.Taken.{KeepsOthers, object_features, document_objects};
 
 use serde_json::{Map, Value};
+
+/// A member's value, out of the members. Those of other names stay.
+pub(crate) fn take_member(members: &mut Map<String, Value>, name: &str) -> Option<Value>
+    ensures value { option_map view result ≡
+        get_member name.now (members_view members.old.entries) }
+    ensures others { KeepsOthers name.now (members_view members.old.entries)
+        (members_view members.new.entries) }
+{
+    members.remove(name)
+}
 
 /// A member's value, out of its object.
 fn take(object: Value, name: &str) -> Option<Value>
     ensures { option_map view result ≡ get name.now (view object) }
 {
     match object {
-        Value::Object(mut members) => members.remove(name),
+        Value::Object(mut members) => take_member(&mut members, name),
         _ => None,
     }
 }

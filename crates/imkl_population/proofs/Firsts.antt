@@ -6,6 +6,7 @@ use Rattle.std.proofs.lemmas.Bool.{false≢true}
 use Rattle.std.proofs.lemmas.Bool.Decides.{leb_tells}
 use Rattle.ocl_base.specs.Numbers.{places}
 use Rattle.imkl_population.specs.Numbers.{first_below}
+use Rattle.imkl_population.specs.Order.{first_in}
 
 pub first_of-found : {A : Type 0} (g : ℕ → Option A) (n k : ℕ) (a : A) → k < n → first_below g k ≡ None → g k ≡ Some a → first_below g n ≡ Some a
 first_of-found g zero k a lt none found = absurd (omega arith)
@@ -21,11 +22,6 @@ first_found g n k None lt none is h = absurd (false≢true h)
 first_found g n k (Some a) lt none is h = sym (first_of-found g n k a lt none (sym is))
 
 -- ---- over a list
-
--- what the first of some numbers has that has something
-abbrev pub first_in : {A : Type 0} → (ℕ → Option A) → List ℕ → Option A
-first_in g [] = None
-first_in g (x ∷ xs) = option_or (g x) (first_in g xs)
 
 option_or-none : {A : Type 0} (a : Option A) → option_or a None ≡ a
 option_or-none None = refl

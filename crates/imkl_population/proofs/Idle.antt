@@ -1,5 +1,6 @@
 -- Features at which nothing can be wrong when a population is finished.
-use Rattle.std.proofs.Common.{◌≡◌, ℕ, zero, suc, ◌<◌, Bool, true, false, ◌&&◌, ◌||◌, not, List, length, Some, None, nat_lt, refl, sym, ◌∙◌, arith, if◌then◌else◌}
+use Rattle.std.proofs.Common.{◌≡◌, ℕ, zero, suc, ◌<◌, Bool, true, false, ◌&&◌, ◌||◌, not, List, [], length, Some, None, nat_lt, refl, sym, ◌∙◌, arith, if◌then◌else◌}
+use Rattle.std.proofs.Math.Bool.{or-false}
 use Rattle.std.proofs.lemmas.Bool.{false≢true, lt-ltb, ltb-true, le-ltb, or_parts}
 use Rattle.imkl_model.specs.declared.feature.FeatureInfo.{FeatureInfo}
 use Rattle.imkl_model.specs.ClassModel.{feature_at, belongs}
@@ -9,10 +10,12 @@ use Rattle.imkl_population.specs.Ends.{IsUncrowdedBelow}
 use Rattle.imkl_population.specs.Finishing.{gap, end_fault}
 use Rattle.imkl_population.specs.Numbers.{first_below}
 use Rattle.imkl_population.specs.Population.{Population, class_of, written_at, values_of}
-use Rattle.imkl_population.specs.Required.{Requirements, is_required, is_one_of, with_required}
+use Rattle.imkl_population.specs.Required.{Requirements, is_required, is_one_of, required, with_required}
 use Rattle.imkl_model.specs.Features.{is_opposite}
 use Rattle.imkl_population.specs.Values.{is_over}
-use Rattle.imkl_population.proofs.Firsts.{first_in, first_in-places}
+use Rattle.imkl_population.specs.Order.{first_in}
+use Rattle.imkl_population.proofs.Firsts.{first_in-places}
+use Rattle.imkl_population.proofs.Orders.{places-same}
 
 abbrev pub written_side : Population → Requirements
 written_side p = record { model = p.model; side = Written }
@@ -52,6 +55,10 @@ no_end_fault p o f crowded extra inside uncrowded others idle =
     let i : FeatureInfo = feature_at p.model f in
     let parts = or_parts (is_required (opposite_side p) (class_of p o) f) (is_one_of extra f) idle in
     end_by (belongs p.model (class_of p o) f) (is_opposite i.role) (nat_lt 0 i.lower) i o f (length (values_of p o f)) refl parts.0 (uncrowded o inside (others parts.1))
+
+-- what a class requires is what it requires with nothing else
+pub required-alone : (r : Requirements) (c : ℕ) → required r c ≡ with_required r c []
+required-alone r c = places-same (is_required r c) (λ f. is_required r c f || is_one_of [] f) (length r.model.features) (λ f lt. sym (or-false (is_required r c f)))
 
 -- the first gap of an object is the first at what its class requires
 pub first_gap_in : (p : Population) (o : ℕ) (r : Requirements) (c : ℕ) (fs items : List ℕ) → r ≡ written_side p → c ≡ class_of p o → items ≡ with_required r c fs → first_in (gap p o) items ≡ first_below (gap p o) (length p.model.features)

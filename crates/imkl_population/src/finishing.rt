@@ -4,6 +4,7 @@ ghost use Rattle.std.specs.Prelude.{◌≡◌, ◌<◌, ℕ, false, length, All,
 ghost use Rattle.imkl_population.specs.Numbers.{first_below};
 ghost use Rattle.imkl_population.specs.Finishing.{gap, end_fault, first_object_fault};
 ghost use Rattle.imkl_population.specs.Ends.{AreEnds, IsUncrowdedBelow};
+ghost use Rattle.imkl_population.specs.Order.{first_in};
 ghost use Rattle.imkl_population.specs.Required.{is_one_of};
 ghost use Rattle.imkl_population.specs.Store.{maps_of};
 ghost use Rattle.imkl_population.specs.declared.required.Side.TheVariants as side;
@@ -39,6 +40,25 @@ fn gap(
     }
 }
 
+/// The first gap of an object at some features.
+fn first_gap_at(
+    builder: &PopulationBuilder<'_>,
+    object: ObjectNo,
+    features: &[FeatureNo],
+) -> Option<PopulationFault>
+    requires object { object < length builder.now.objects }
+    requires features { All (λ f. f < length builder.now.model.features) features.now }
+    ensures { result ≡ first_in (gap builder.now object) features.now }
+{
+    for feature in features {
+        let found = gap(builder, object, *feature);
+        if found.is_some() {
+            return found;
+        }
+    }
+    None
+}
+
 /// The first gap of an object: only at what its class requires can there be one.
 fn first_gap_of(
     builder: &PopulationBuilder<'_>,
@@ -52,14 +72,11 @@ fn first_gap_of(
     ensures same { required.new ≡ required.old }
 {
     let class = builder.class_of(object);
-    let features = required.with_required(class, Vec::new(builder.alloc()))?;
-    for feature in &features {
-        let found = gap(builder, object, *feature);
-        if found.is_some() {
-            return Ok(found);
-        }
+    if let Some(features) = required.listed(class) {
+        return Ok(first_gap_at(builder, object, features));
     }
-    Ok(None)
+    let features = required.with_required(class, Vec::new(builder.alloc()))?;
+    Ok(first_gap_at(builder, object, &features))
 }
 
 /// The first object, and its first feature, that was never set and needs a value.
@@ -143,6 +160,27 @@ fn suspects(
     Ok(features)
 }
 
+/// The first fault of an object's opposite ends at some of them.
+fn first_end_fault_at(
+    builder: &PopulationBuilder<'_>,
+    ends: &Store,
+    object: ObjectNo,
+    features: &[FeatureNo],
+) -> Option<PopulationFault>
+    requires ends { AreEnds builder.now (maps_of ends.now) }
+    requires object { object < length builder.now.objects }
+    requires features { All (λ f. f < length builder.now.model.features) features.now }
+    ensures { result ≡ first_in (end_fault builder.now object) features.now }
+{
+    for feature in features {
+        let found = end_fault(builder, ends, object, *feature);
+        if found.is_some() {
+            return found;
+        }
+    }
+    None
+}
+
 /// The first fault of an object's opposite ends. Before the first crowded object it is at what the
 /// class requires.
 fn first_end_fault_of(
@@ -162,15 +200,14 @@ fn first_end_fault_of(
     ensures same { required.new ≡ required.old }
 {
     let class = builder.class_of(object);
+    if object.index() < crowded
+        && let Some(features) = required.listed(class)
+    {
+        return Ok(first_end_fault_at(builder, ends, object, features));
+    }
     let extra = suspects(builder, object, crowded)?;
     let features = required.with_required(class, extra)?;
-    for feature in &features {
-        let found = end_fault(builder, ends, object, *feature);
-        if found.is_some() {
-            return Ok(found);
-        }
-    }
-    Ok(None)
+    Ok(first_end_fault_at(builder, ends, object, &features))
 }
 
 /// The first object, and its first opposite end, out of its bounds.

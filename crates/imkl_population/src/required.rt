@@ -1,6 +1,6 @@
 //! The features that a class needs values at.
 
-ghost use Rattle.std.specs.Prelude.{◌≡◌, ◌<◌, ◌++◌, ℕ, length, All, IfOk, OnOk};
+ghost use Rattle.std.specs.Prelude.{◌≡◌, ◌<◌, ◌++◌, ℕ, length, All, IfOk, IfSome, OnOk};
 ghost use Rattle.ocl_base.specs.Numbers.{places};
 ghost use Rattle.imkl_population.specs.Required.{is_on, is_required, required, with_required};
 
@@ -116,6 +116,19 @@ impl<'m> RequiredFeatures<'m> {
         Ok(required)
     }
 
+    /// The features that a class requires, in the model's order, once `with_required` has listed
+    /// them.
+    pub(crate) fn listed(&self, class: ClassNo) -> Option<&[FeatureNo]>
+        ensures list { IfSome result (λ fs. fs.now ≡ required self.now class) }
+        ensures known { IfSome result (λ fs. All (λ f. f < length self.now.model.features)
+            fs.now) }
+    {
+        match self.lists.get(&class.index()) {
+            Some(list) => Some(list.as_slice()),
+            None => None,
+        }
+    }
+
     /// Adds the features that a class requires to a list.
     fn add_required(
         &mut self,
@@ -127,8 +140,8 @@ impl<'m> RequiredFeatures<'m> {
             required self.old class) }
         ensures same { self.new ≡ self.old }
     {
-        if let Some(list) = self.lists.get(&class.index()) {
-            return features.extend_from_slice(list.as_slice());
+        if let Some(list) = self.listed(class) {
+            return features.extend_from_slice(list);
         }
         let list = self.required(class)?;
         features.extend_from_slice(&list)?;

@@ -1,24 +1,18 @@
-use Rattle.std.proofs.Common.{◌∙◌, ℕ, List, sym, ap}
-use Rattle.std.proofs.lemmas.List.{take_all}
-use Rattle.imkl_population.specs.Finishing.{gap}
-use Rattle.imkl_population.proofs.Firsts.{first_in, first_in-found, first_in-more}
-use Rattle.imkl_population.proofs.Idle.{first_gap_in}
+use Rattle.std.proofs.Common.{◌∙◌, []}
+use Rattle.imkl_population.proofs.Idle.{first_gap_in, required-alone}
 use Rattle.imkl_population.proofs.finishing.first_gap_of.Goals as goal
 
-pub returns-then-is_some-clause-first : goal.returns-then-is_some-clause-first
-returns-then-is_some-clause-first c =
-    let p = c.args.builder.now in
-    let items : List ℕ = c.deref-feature-items.result.now in
-    first_in-found (gap p c.args.object) items c.loop-feature.feature-index c.feature-item.result c.gap-found.result c.loop-feature-test.true c.feature-item.is c.loop-feature.invariant c.gap-found.ensures (sym c.if-is_some.ensures)
-    ∙ first_gap_in p c.args.object c.args.required.now c.class_of-class.result _ items c.requires.required c.class_of-class.ensures.class (c.deref-feature-items.ensures.value ∙ c.in_ok-features.ensures.list)
+pub first_gap_at-requires-clause-features : goal.first_gap_at-requires-clause-features
+first_gap_at-requires-clause-features c = rw c.requires.required at c.in-Some.ensures.known
 
-pub loop-feature-preserved : goal.loop-feature-preserved
-loop-feature-preserved c =
-    first_in-more (gap c.args.builder.now c.args.object) c.deref-feature-items.result.now c.loop-feature.feature-index c.feature-item.result c.gap-found.result c.loop-feature-test.true c.feature-item.is c.loop-feature.invariant c.gap-found.ensures (sym c.if-is_some.ensures)
+pub returns-in-Some-clause-first : goal.returns-in-Some-clause-first
+returns-in-Some-clause-first c =
+    let r = c.args.required.now in
+    let class = c.class_of-class.result in
+    c.first_gap_at.ensures
+    ∙ first_gap_in c.args.builder.now c.args.object r class [] c.in-Some.features.now c.requires.required c.class_of-class.ensures.class (c.in-Some.ensures.list ∙ required-alone r class)
 
 pub returns-clause-first : goal.returns-clause-first
 returns-clause-first c =
-    let p = c.args.builder.now in
-    let items : List ℕ = c.deref-feature-items.result.now in
-    sym c.loop-feature.invariant ∙ ap (first_in (gap p c.args.object)) (take_all c.loop-feature.feature-index items c.loop-feature-test.false)
-    ∙ first_gap_in p c.args.object c.args.required.now c.class_of-class.result _ items c.requires.required c.class_of-class.ensures.class (c.deref-feature-items.ensures.value ∙ c.in_ok-features.ensures.list)
+    c.first_gap_at-2.ensures
+    ∙ first_gap_in c.args.builder.now c.args.object c.args.required.now c.class_of-class.result c.new.result.items c.deref.result.now c.requires.required c.class_of-class.ensures.class (c.deref.ensures.value ∙ c.in_ok-features.ensures.list)
