@@ -1,15 +1,18 @@
 -- What a builder keeps of its columns, after an object is added and after values are put.
-use Rattle.std.proofs.Common.{◌≡◌, ◌==◌, ℕ, ◌<◌, ◌≤◌, List, [], ◌∷◌, ◌++◌, length, length-append, get_or, Bool, true, false, Option, Some, Ok, nat_le, refl, sym, ap, subst, ◌∙◌, arith, cond, bytes_eq, is_some, if◌then◌else◌}
+use Rattle.std.proofs.Common.{◌≡◌, ◌==◌, ℕ, ◌<◌, ◌≤◌, List, [], ◌∷◌, ◌++◌, length, length-append, get_or, Bool, true, false, Option, Some, None, Result, Ok, Err, nat_le, refl, sym, ap, subst, ◌∙◌, arith, cond, bytes_eq, is_some, if◌then◌else◌}
 use Rattle.std.specs.Ordering.{nat_cmp}
 use Rattle.std.specs.BTreeMap.{insert_entry}
 use Rattle.std.proofs.lemmas.Bool.{eq-eqb, ne_eqb}
 use Rattle.std.proofs.lemmas.Bool.Decides.{nat_tests}
 use Rattle.imkl_model.specs.ClassModel.{Model, class_at}
 use Rattle.imkl_population.specs.declared.scalar.Scalar.{Scalar}
+use Rattle.imkl_population.specs.declared.fault.PopulationFault.{PopulationFault}
+use Rattle.imkl_population.specs.declared.fault.PopulationFault.TheVariants.{DuplicateId, AbstractClass, Limit}
 use Rattle.imkl_population.specs.declared.object.Object.{Object}
 use Rattle.imkl_population.specs.declared.object.Head.{Head}
 use Rattle.imkl_population.specs.Building.{is_id, most_objects, with_object, add_outcome}
 use Rattle.imkl_population.specs.Draft.{IsDraft, is_sound}
+use Rattle.imkl_population.specs.Adding.{class_fault, id_fault_or, AddsId}
 use Rattle.imkl_population.specs.Population.{Population, object_number, no_object}
 use Rattle.imkl_population.specs.Store.{object_row, rows}
 use Rattle.imkl_population.specs.Written.{IsMap}
@@ -65,9 +68,36 @@ module _ (m : Model) (hs : List Head) (old new : Maps) (o f : ℕ) (vs : List Sc
     idle = λ k le. same k ∙ made.idle k le;
   }
 
--- an object that nothing speaks against is added
-pub add-ok : (p q : Population) (id : List ℕ) (c : ℕ) → is_id id ≡ true → is_some (object_number p id) ≡ false → (class_at p.model c).is_abstract ≡ false → length p.objects < most_objects → q ≡ with_object p id c
-    → add_outcome p id c ≡ Ok q
-add-ok p q id c formed absent concrete room is =
-    let few : nat_le most_objects (length p.objects) ≡ false = grind (arith, nat_tests, room) in
-    rw (formed, absent, concrete, few, is) refl
+-- a class that nothing speaks against isn't abstract, and there is room for one more object
+open-tests : (abstract full : Bool) → (if abstract then Some AbstractClass else (if full then Some Limit else None)) ≡ None → (abstract ≡ false) × (full ≡ false)
+open-tests true full none = cc
+open-tests false true none = cc
+open-tests false false none = (refl, refl)
+
+pub class-open : (p : Population) (c : ℕ) → class_fault p c ≡ None → ((class_at p.model c).is_abstract ≡ false) × (length p.objects < most_objects)
+class-open p c none =
+    let tests = open-tests (class_at p.model c).is_abstract (nat_le most_objects (length p.objects)) none in
+    (tests.0, grind (arith, nat_tests, tests.1))
+
+-- an id that was given a number had none
+pub id-added : (b : Bool) (old : List ℕ → Option ℕ) (id : List ℕ) (n : ℕ) (new : List ℕ → Option ℕ) → b ≡ true → AddsId (Ok b) old id n new
+    → (is_some (old id) ≡ false) × ((q : List ℕ) → new q ≡ cond (bytes_eq id q) (Some n) (old q))
+id-added true old id n new is given = given
+id-added false old id n new is given = cc
+
+-- an object is refused for its class, unless its id is there
+refused-tests : (known abstract full : Bool) (q : Population) (f : PopulationFault) → (if abstract then Some AbstractClass else (if full then Some Limit else None)) ≡ Some f
+    → (if known then Err DuplicateId else (if abstract then Err AbstractClass else (if full then Err Limit else Ok q))) ≡ Err (if known then DuplicateId else f)
+refused-tests true abstract full q f is = refl
+refused-tests false true full q f is = let same : AbstractClass ≡ f = cc in ap (λ (e : PopulationFault). Err e) same
+refused-tests false false true q f is = let same : Limit ≡ f = cc in ap (λ (e : PopulationFault). Err e) same
+refused-tests false false false q f is = cc
+
+err-injective : {A : Type 0} (f g : PopulationFault) → ◌≡◌ {A = Result A PopulationFault} (Err f) (Err g) → f ≡ g
+err-injective f g same = cc
+
+pub class-refused : {A : Type 0} (p : Population) (id : List ℕ) (c : ℕ) (f answer : PopulationFault) → is_id id ≡ true → class_fault p c ≡ Some f → answer ≡ id_fault_or p id f
+    → (fault : PopulationFault) → add_outcome p id c ≡ Err fault → ◌≡◌ {A = Result A PopulationFault} (Err answer) (Err fault)
+class-refused p id c f answer formed is answers fault given =
+    let outcome : add_outcome p id c ≡ Err (id_fault_or p id f) = rw formed (refused-tests (is_some (object_number p id)) (class_at p.model c).is_abstract (nat_le most_objects (length p.objects)) (with_object p id c) f is) in
+    ap (λ (e : PopulationFault). Err e) (answers ∙ err-injective {A = Population} (id_fault_or p id f) fault (sym outcome ∙ given))

@@ -12,6 +12,7 @@ pub mod Sizes
 -- Bookkeeping: views, layouts, walks and tables that only proofs and private contracts use.
 pub mod Seen
 pub mod Draft
+pub mod Adding
 pub mod Ends
 pub mod Store
 pub mod Layout

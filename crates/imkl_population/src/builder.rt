@@ -10,12 +10,14 @@ ghost use Rattle.imkl_population.specs.Finishing.{finish_outcome, Finishes};
 ghost use Rattle.imkl_population.specs.declared.fault.PopulationFault.{PopulationFault};
 ghost use Rattle.imkl_population.specs.Store.{maps_of, object_row};
 ghost use Rattle.imkl_population.specs.Layout.{stored_content};
-ghost use Rattle.imkl_population.specs.Building.{BuilderAnswers, KeepsObjects, add_outcome, set_outcome, link_outcome, attribute_fault, list_fault, source_fault, targets_fault, with_values, as_objects};
+ghost use Rattle.imkl_population.specs.Adding.{AddsNew, class_fault, id_fault_or};
+ghost use Rattle.imkl_population.specs.Building.{BuilderAnswers, KeepsObjects, is_id, add_outcome, set_outcome, link_outcome, attribute_fault, list_fault, source_fault, targets_fault, with_values, as_objects};
 
 use crate::checks::{are_of_type, bounds_fault, is_id};
 use crate::ends::opposite_ends;
 use crate::fault::PopulationFault;
 use crate::finishing::{first_end_fault, first_gap};
+use crate::id_index::add_id;
 use crate::layout::lay_out;
 use crate::numbers::ObjectNo;
 use crate::object::{Head, Id};
@@ -67,7 +69,7 @@ impl<'m> PopulationBuilder<'m> {
     }
 
     /// Adds an object, and answers its number. Refused with `BadId`, `DuplicateId`, `AbstractClass`
-    /// or `Limit`, in this order, before anything is allocated; refused, it changes nothing.
+    /// or `Limit`, in this order, whatever memory there is; refused, it changes nothing.
     pub fn add_object(&mut self, id: &str, class: ClassNo) -> Result<ObjectNo, PopulationFault>
         requires { class < length self.old.model.classes }
         ensures answers { BuilderAnswers result (add_outcome self.old id.now class) self.old
@@ -81,22 +83,55 @@ impl<'m> PopulationBuilder<'m> {
         if !is_id(id) {
             return Err(PopulationFault::BadId);
         }
-        if self.ids.contains_key(id) {
-            return Err(PopulationFault::DuplicateId);
+        if let Some(fault) = self.class_fault(class) {
+            return Err(self.id_fault_or(id, fault));
         }
+        match self.add_new(id, class) {
+            Ok(Some(object)) => Ok(object),
+            Ok(None) => Err(PopulationFault::DuplicateId),
+            Err(_) => Err(self.id_fault_or(id, PopulationFault::OutOfMemory)),
+        }
+    }
+
+    /// What is wrong with one more object of a class, whatever its id.
+    fn class_fault(&self, class: ClassNo) -> Option<PopulationFault>
+        requires { class < length self.now.model.classes }
+        ensures { result ≡ class_fault self.now class }
+    {
         if self.model.is_abstract(class) {
-            return Err(PopulationFault::AbstractClass);
+            return Some(PopulationFault::AbstractClass);
         }
+        if self.objects() >= 1_000_000 {
+            return Some(PopulationFault::Limit);
+        }
+        None
+    }
+
+    /// That an object has the id already, or else another fault.
+    fn id_fault_or(&self, id: &str, fault: PopulationFault) -> PopulationFault
+        ensures { result ≡ id_fault_or self.now id.now fault }
+    {
+        if self.ids.contains_key(id) {
+            return PopulationFault::DuplicateId;
+        }
+        fault
+    }
+
+    /// Adds an object if no object has its id. One search finds that out, and the id's place.
+    fn add_new(&mut self, id: &str, class: ClassNo) -> Result<Option<ObjectNo>, AllocError>
+        requires class { class < length self.old.model.classes }
+        requires formed { is_id id.now ≡ true }
+        requires sound { class_fault self.old class ≡ None }
+        ensures { AddsNew result self.old id.now class self.new }
+    {
         let number = self.objects();
-        if number >= 1_000_000 {
-            return Err(PopulationFault::Limit);
-        }
-        let key = String::from_str(self.alloc, id)?;
-        let id = Id::new(String::from_str(self.alloc, id)?);
+        let text = Id::new(String::from_str(self.alloc, id)?);
         self.heads.reserve(1)?;
-        self.ids.insert(key, number)?;
-        self.heads.push_reserved(Head { id, class });
-        Ok(ObjectNo::new(number))
+        if !add_id(self.alloc, &mut self.ids, id, number)? {
+            return Ok(None);
+        }
+        self.heads.push_reserved(Head { id: text, class });
+        Ok(Some(ObjectNo::new(number)))
     }
 
     /// How many objects were added.

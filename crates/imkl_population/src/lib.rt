@@ -7,6 +7,7 @@ mod column;
 mod ends;
 mod fault;
 mod finishing;
+mod id_index;
 mod instances;
 pub mod laws;
 mod layout;
