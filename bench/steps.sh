@@ -1,6 +1,7 @@
 #!/bin/sh
-# Nanoseconds a step of judge: four rules with iterations, each ten times, on a delivery of 200,000 objects that hold one another. What
-# reading takes is measured by a code file without rules, and taken off; of each the best of three runs counts.
+# Nanoseconds a step of judge, on a delivery of 200,000 objects that hold one another: of four rules with iterations, each ten times, and of
+# a rule of four instructions, two hundred times. What reading takes is measured by a code file without rules, and taken off; of each the
+# best of three runs counts.
 
 here=$(dirname -- "$(readlink -f -- "$0")")
 . "$here/measure.sh"
@@ -22,9 +23,16 @@ judge() {
     cat "$room/$kept".[1-3] | sort -n | head -n 1 >"$room/$kept"
 }
 
+# Says what the steps of the code file took that was judged last.
+tell() {
+    awk -v objects="$objects" -v steps="$(cat "$room/steps")" -v rules="$1" \
+        'NR == 1 { reading = $1 }
+         NR == 2 { printf "%s, %d objects, %d steps: %.2f s, of which reading %.2f s, %.1f MiB, %.1f ns a step\n",
+                   rules, objects, steps, $1, reading, $2 / 1024, ($1 - reading) * 1e9 / steps }' "$room/reading" "$room/whole"
+}
+
 judge reading --none
 judge whole
-awk -v objects="$objects" -v steps="$(cat "$room/steps")" \
-    'NR == 1 { reading = $1 }
-     NR == 2 { printf "%d objects, %d steps: %.2f s, of which reading %.2f s, %.1f MiB, %.0f ns a step\n",
-               objects, steps, $1, reading, $2 / 1024, ($1 - reading) * 1e9 / steps }' "$room/reading" "$room/whole"
+tell iterations
+judge whole --short
+tell "four instructions"

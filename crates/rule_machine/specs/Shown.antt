@@ -1,5 +1,5 @@
 -- What the parts of a machine stand for.
-use Rattle.std.specs.Prelude.{◌≡◌, ℕ, ◌+◌, ◌<◌, ◌≤◌, Bool, true, List, [], ◌∷◌, ◌++◌, Vec, length, map, drop, Option, Some, None, slice_range}
+use Rattle.std.specs.Prelude.{◌≡◌, ℕ, ◌+◌, ◌<◌, ◌≤◌, Bool, true, List, [], ◌∷◌, ◌++◌, Vec, vec_capacity, length, map, drop, Option, Some, None, slice_range}
 use Rattle.std.specs.Global.{Global}
 use Rattle.rule_code.specs.declared.instruction.Instr.{Instr}
 use Rattle.rule_verify.specs.CodeTree.{CodeTree, code_tree}
@@ -66,12 +66,12 @@ pub record IsIterationIn (code : List Instr) (i : Iteration) : Type 0 where
   pub within : i.end ≤ length code
   pub next : i.next ≤ length i.elements.items
 
--- a body gave something in each turn that is over
+-- a body gave something in each turn that is over, and there is room for what it gives in all
 abbrev pub IsControlIn : List Instr → Control → Type 0
 IsControlIn code (control.Rest from end) = (from ≤ end) × (end ≤ length code)
 IsControlIn code control.LetEnd = Unit {0}
 IsControlIn code (control.Opened i) = IsIterationIn code i × (i.next ≡ 0) × (length i.bodies.items ≡ 0)
-IsControlIn code (control.Turning i) = IsIterationIn code i × (length i.bodies.items + 1 ≡ i.next)
+IsControlIn code (control.Turning i) = IsIterationIn code i × (length i.bodies.items + 1 ≡ i.next) × (length i.elements.items ≤ vec_capacity i.bodies)
 IsControlIn code control.Skipped = Unit {0}
 
 abbrev pub AreControlsIn : List Instr → List Control → Type 0
@@ -188,6 +188,7 @@ pub record BodyBack (i : Iteration) (old new : State) : Type 0 where
   pub body : Held
   pub before : Vec Held Global
   pub bodies : i.bodies.items ≡ before.items ++ body ∷ []
+  pub room : vec_capacity before ≡ vec_capacity i.bodies
   pub controls : new.controls.0 ≡ control.Turning (record i { bodies = before }) ∷ old.controls.0
   pub operands : new.operands.0 ≡ body ∷ old.operands.0
   pub variables : new.variables.0 ≡ old.variables.0

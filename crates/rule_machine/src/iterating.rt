@@ -27,6 +27,7 @@ pub(crate) struct Iteration<'a> {
 }
 
 /// What an iteration gives when no element is left.
+#[inline(always)]
 pub(crate) fn ending<'a>(alloc: Global, iteration: &Iteration<'a>) -> Result<Value<'a>, OutOfMemory>
     requires iterates { is_iteration iteration.now.instr ≡ true }
     requires whole { length iteration.now.bodies.items ≡ length iteration.now.elements.items }

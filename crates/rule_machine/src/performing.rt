@@ -50,6 +50,7 @@ fn below<'s, 'a>(operands: &'s ReservedStack<Value<'a>>, number: usize) -> &'s V
 }
 
 /// A copy of a variable.
+#[inline(always)]
 fn variable<'a>(
     alloc: Global,
     variables: &ReservedStack<Value<'a>>,

@@ -1,6 +1,6 @@
 //! The steps at the end of a body, and those of iterations.
 
-ghost use Rattle.std.specs.Prelude.{◌≡◌, ◌+◌, ◌<◌, length, OnOk, OnErr};
+ghost use Rattle.std.specs.Prelude.{◌≡◌, ◌+◌, ◌<◌, ◌≤◌, length, vec_capacity, OnOk, OnErr};
 ghost use Rattle.rule_machine.specs.declared.control.Control.TheVariants.{Opened, Turning};
 ghost use Rattle.rule_machine.specs.Shown.{code_in, LiesIn, Room, IsIterationIn, IsMarkBefore, Passed, PutBack, Begun, BodyBack};
 
@@ -38,8 +38,12 @@ impl<'a> State<'a> {
         }
     }
 
-    /// The first turn of an iteration, or its end.
-    fn first_turn(&mut self, task: Task<'a>, iteration: Iteration<'a>) -> Result<(), OutOfMemory>
+    /// The first turn of an iteration, or its end. There is room then for what the body gives in all turns.
+    fn first_turn(
+        &mut self,
+        task: Task<'a>,
+        mut iteration: Iteration<'a>,
+    ) -> Result<(), OutOfMemory>
         requires place { LiesIn task self.old }
         requires mark { IsMarkBefore task (Opened iteration) self.old }
         requires room { Room self.old }
@@ -47,7 +51,12 @@ impl<'a> State<'a> {
         ensures refused { OnErr result
             (PutBack task.entry (Opened iteration.entry) self.old self.new) }
     {
-        if iteration.next < iteration.elements.len() {
+        let turns = iteration.elements.len();
+        if let Err(refused) = iteration.bodies.reserve(turns) {
+            self.controls.push(Control::Opened(iteration));
+            return Err(refused.into());
+        }
+        if iteration.next < turns {
             self.begin_turn(task, iteration);
             return Ok(());
         }
@@ -72,10 +81,6 @@ impl<'a> State<'a> {
         ensures refused { OnErr result
             (PutBack task.entry (Turning iteration.entry) self.old self.new) }
     {
-        if let Err(refused) = iteration.bodies.reserve(1) {
-            self.controls.push(Control::Turning(iteration));
-            return Err(refused.into());
-        }
         let Some(body) = self.operands.pop() else {
             unreachable!()
         };
@@ -109,6 +114,7 @@ impl<'a> State<'a> {
         requires iteration { IsIterationIn (code_in task) iteration }
         requires left { iteration.next < length iteration.elements.items }
         requires kept { length iteration.bodies.items ≡ iteration.next }
+        requires bodies { length iteration.elements.items ≤ vec_capacity iteration.bodies }
         requires room { Room self.old }
         ensures { Begun task.entry iteration.entry self.old self.new }
     {

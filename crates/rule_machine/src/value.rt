@@ -115,6 +115,7 @@ pub(crate) fn truth_known<'a>(is_so: bool, is_not: bool) -> Value<'a>
 }
 
 /// The same value again.
+#[inline(always)]
 pub(crate) fn copy_value<'a>(alloc: Global, value: &Value<'a>) -> Result<Value<'a>, OutOfMemory>
     ensures { IfOk result (λ v. meant v ≡ meant value.now) }
 {

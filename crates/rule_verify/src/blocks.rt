@@ -14,6 +14,7 @@ use ocl_kinds::{Kind, ScalarKind, collected_kind, elements_kind};
 use rule_code::Instr;
 
 /// How many bodies an instruction has, with the number of instructions of each.
+#[inline(always)]
 pub fn shape_of(instr: Instr) -> Shape
     ensures { result ≡ shape_of instr }
 {

@@ -15,7 +15,7 @@ returns c =
       place = record {
         order = r.iteration.order;
         within = r.iteration.within;
-        pending = subst (AreControlsIn (code_in c.args.task)) (sym c.push-2.ensures.items) ((inside, omega (arith, r.kept)), r.place.pending);
+        pending = subst (AreControlsIn (code_in c.args.task)) (sym c.push-2.ensures.items) ((inside, omega (arith, r.kept), r.bodies), r.place.pending);
       };
       kept = record { started = refl; count = refl };
     }
