@@ -1,5 +1,6 @@
 pub mod Bools
 pub mod Ids
+pub mod IdIndex
 pub mod Drafts
 pub mod Encoded
 pub mod Sets

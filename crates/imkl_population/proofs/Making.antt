@@ -12,7 +12,8 @@ use Rattle.imkl_population.specs.declared.object.Object.{Object}
 use Rattle.imkl_population.specs.declared.object.Head.{Head}
 use Rattle.imkl_population.specs.Building.{is_id, most_objects, with_object, add_outcome}
 use Rattle.imkl_population.specs.Draft.{IsDraft, is_sound}
-use Rattle.imkl_population.specs.Adding.{class_fault, id_fault_or, AddsId}
+use Rattle.imkl_population.specs.Adding.{class_fault, id_fault_or}
+use Rattle.imkl_population.specs.IdIndex.{AddsId}
 use Rattle.imkl_population.specs.Population.{Population, object_number, no_object}
 use Rattle.imkl_population.specs.Store.{object_row, rows}
 use Rattle.imkl_population.specs.Written.{IsMap}
@@ -80,10 +81,28 @@ class-open p c none =
     (tests.0, grind (arith, nat_tests, tests.1))
 
 -- an id that was given a number had none
-pub id-added : (b : Bool) (old : List ℕ → Option ℕ) (id : List ℕ) (n : ℕ) (new : List ℕ → Option ℕ) → b ≡ true → AddsId (Ok b) old id n new
-    → (is_some (old id) ≡ false) × ((q : List ℕ) → new q ≡ cond (bytes_eq id q) (Some n) (old q))
-id-added true old id n new is given = given
-id-added false old id n new is given = cc
+id-added-here : (b : Bool) (old new : List Head → List ℕ → Option ℕ) (hs : List Head) (id : List ℕ) (n : ℕ) → b ≡ true → AddsId (Ok b) old hs id n new
+    → (is_some (old hs id) ≡ false) × ((h : Head) → h.id ≡ id → (q : List ℕ) → new (hs ++ h ∷ []) q ≡ cond (bytes_eq id q) (Some n) (old hs q))
+id-added-here true old new hs id n is given = given
+id-added-here false old new hs id n is given = cc
+
+pub id-added : (b : Bool) (old new : List Head → List ℕ → Option ℕ) (hs there : List Head) (id : List ℕ) (n : ℕ) → there ≡ hs → b ≡ true → AddsId (Ok b) old there id n new
+    → (is_some (old hs id) ≡ false) × ((h : Head) → h.id ≡ id → (q : List ℕ) → new (hs ++ h ∷ []) q ≡ cond (bytes_eq id q) (Some n) (old hs q))
+id-added b old new hs there id n same is given =
+    let P : List Head → Type 0 = λ l. (is_some (old l id) ≡ false) × ((h : Head) → h.id ≡ id → (q : List ℕ) → new (l ++ h ∷ []) q ≡ cond (bytes_eq id q) (Some n) (old l q)) in
+    subst P same (id-added-here b old new there id n is given)
+
+-- an id that has a number already changes nothing
+pub id-known : (b : Bool) (old new : List Head → List ℕ → Option ℕ) (hs there : List Head) (id : List ℕ) (n : ℕ) → there ≡ hs → b ≡ false → AddsId (Ok b) old there id n new → (is_some (old hs id) ≡ true) × (new ≡ old)
+id-known true old new hs there id n same is given = cc
+id-known false old new hs there id n same is given = (ap (λ (l : List Head). is_some (old l id)) (sym same) ∙ given.0, given.1)
+
+-- where no id was added, the builder keeps what it kept
+pub making-unchanged : (m : Model) (hs there : List Head) (maps : Maps) (old new : List Head → List ℕ → Option ℕ) → IsInMaking m hs maps (old hs) → there ≡ hs → new ≡ old → IsInMaking m there maps (new there)
+making-unchanged m hs there maps old new made same kept =
+    let P : List Head → Type 0 = λ l. IsInMaking m l maps (new l) in
+    let Q : (List Head → List ℕ → Option ℕ) → Type 0 = λ f. IsInMaking m hs maps (f hs) in
+    subst P (sym same) (subst Q (sym kept) made)
 
 -- an object is refused for its class, unless its id is there
 refused-tests : (known abstract full : Bool) (q : Population) (f : PopulationFault) → (if abstract then Some AbstractClass else (if full then Some Limit else None)) ≡ Some f

@@ -1,7 +1,6 @@
 -- How a builder adds an object: what its steps answer.
-use Rattle.std.specs.Prelude.{◌≡◌, ℕ, Bool, true, false, List, Option, Some, None, Result, Ok, Err, length, nat_le, bytes_eq, is_some, if◌then◌else◌}
+use Rattle.std.specs.Prelude.{◌≡◌, ℕ, true, false, List, Option, Some, None, Result, Ok, Err, length, nat_le, is_some, if◌then◌else◌}
 use Rattle.std.specs.declared.alloc.AllocError.{AllocError}
-use Rattle.std.specs.Map.{update}
 use Rattle.imkl_model.specs.ClassModel.{class_at}
 use Rattle.imkl_population.specs.declared.fault.PopulationFault.{PopulationFault}
 use Rattle.imkl_population.specs.declared.fault.PopulationFault.TheVariants.{DuplicateId, AbstractClass, Limit}
@@ -17,12 +16,6 @@ class_fault p c =
 -- that an object has the id already, or else another fault
 abbrev pub id_fault_or : Population → List ℕ → PopulationFault → PopulationFault
 id_fault_or p id fault = if is_some (object_number p id) then DuplicateId else fault
-
--- An id is given a number if it has none. If it has one, or memory runs out, nothing changes.
-abbrev pub AddsId : Result Bool AllocError → (List ℕ → Option ℕ) → List ℕ → ℕ → (List ℕ → Option ℕ) → Type 0
-AddsId (Ok true) old id n new = (is_some (old id) ≡ false) × ((q : List ℕ) → new q ≡ update bytes_eq old id (Some n) q)
-AddsId (Ok false) old id n new = (is_some (old id) ≡ true) × (new ≡ old)
-AddsId (Err e) old id n new = new ≡ old
 
 -- An object is added if no object has its id. If one has it, or memory runs out, nothing changes.
 abbrev pub AddsNew : Result (Option ℕ) AllocError → Population → List ℕ → ℕ → Population → Type 0

@@ -13,6 +13,7 @@ pub mod Sizes
 pub mod Seen
 pub mod Draft
 pub mod Adding
+pub mod IdIndex
 pub mod Ends
 pub mod Store
 pub mod Layout

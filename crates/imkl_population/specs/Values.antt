@@ -1,5 +1,5 @@
 -- Which values may stand at a feature.
-use Rattle.std.specs.Prelude.{ℕ, ◌-◌, ◌^◌, ◌==◌, ℤ, pos, negsuc, int_le, ◌&&◌, ◌||◌, Bool, true, false, not, List, [], ◌∷◌, Option, Some, None, nat_lt, bytes_eq, length, if◌then◌else◌}
+use Rattle.std.specs.Prelude.{ℕ, ◌-◌, ◌^◌, ◌==◌, ℤ, pos, negsuc, int_le, ◌&&◌, Bool, true, false, not, List, Option, Some, None, nat_lt, bytes_eq, length, if◌then◌else◌}
 use Rattle.std.specs.Ordering.{int_eq}
 use Rattle.ocl_base.specs.Lists.{is_among, repeats}
 use Rattle.imkl_model.specs.declared.feature.ElementType.{ElementType}

@@ -17,7 +17,7 @@ use crate::checks::{are_of_type, bounds_fault, is_id};
 use crate::ends::opposite_ends;
 use crate::fault::PopulationFault;
 use crate::finishing::{first_end_fault, first_gap};
-use crate::id_index::add_id;
+use crate::id_index::IdIndex;
 use crate::layout::lay_out;
 use crate::numbers::ObjectNo;
 use crate::object::{Head, Id};
@@ -27,7 +27,6 @@ use crate::scalar::Scalar;
 use crate::store::Store;
 use imkl_model::{ClassModel, ClassNo, ElementType, FeatureNo};
 use std::alloc::{AllocError, Global};
-use std::collections::BTreeMap;
 use std::marker::Model;
 
 /// A population in the making. Contracts see the population of what was added so far.
@@ -37,11 +36,12 @@ pub struct PopulationBuilder<'m> {
     model: &'m ClassModel,
     heads: Vec<Head>,
     written: Store,
-    ids: BTreeMap<String, usize>,
+    ids: IdIndex,
 }
 
 impl<'m> Model for PopulationBuilder<'m> {
     ghost use Rattle.std.specs.BTreeMap.{get_by_text};
+    ghost use Rattle.imkl_population.specs.IdIndex.{found};
     ghost use Rattle.imkl_population.specs.Population.{Population};
     ghost use Rattle.imkl_population.specs.Store.{maps_of};
     ghost use Rattle.imkl_population.specs.Layout.{stored_content, IsInMaking};
@@ -51,7 +51,7 @@ impl<'m> Model for PopulationBuilder<'m> {
     ghost view = { λ b. stored_content b.model.now b.heads.items (maps_of b.written) };
 
     ghost invariant = { λ b. IsInMaking b.model.now b.heads.items (maps_of b.written)
-        (get_by_text b.ids) };
+        (found b.ids.slots.items (get_by_text b.ids.others) b.heads.items) };
 }
 
 impl<'m> PopulationBuilder<'m> {
@@ -64,8 +64,27 @@ impl<'m> PopulationBuilder<'m> {
             model,
             heads: Vec::new(alloc),
             written: Store::new(alloc),
-            ids: BTreeMap::new(alloc),
+            ids: IdIndex::new(alloc),
         }
+    }
+
+    /// A builder of a population of this class model, without objects, and with room for so many. Up to then
+    /// they are added without moving what was added before.
+    pub fn with_capacity(
+        alloc: Global,
+        model: &'m ClassModel,
+        objects: usize,
+    ) -> Result<PopulationBuilder<'m>, AllocError>
+        ensures { IfOk result (λ b. b ≡ record { model = model.now; objects = [] }) }
+    {
+        let objects = objects.min(1_000_000);
+        Ok(PopulationBuilder {
+            alloc,
+            model,
+            heads: Vec::with_capacity(alloc, objects)?,
+            written: Store::new(alloc),
+            ids: IdIndex::with_capacity(alloc, objects)?,
+        })
     }
 
     /// Adds an object, and answers its number. Refused with `BadId`, `DuplicateId`, `AbstractClass`
@@ -111,7 +130,7 @@ impl<'m> PopulationBuilder<'m> {
     fn id_fault_or(&self, id: &str, fault: PopulationFault) -> PopulationFault
         ensures { result ≡ id_fault_or self.now id.now fault }
     {
-        if self.ids.contains_key(id) {
+        if self.object(id).is_some() {
             return PopulationFault::DuplicateId;
         }
         fault
@@ -127,7 +146,7 @@ impl<'m> PopulationBuilder<'m> {
         let number = self.objects();
         let text = Id::new(String::from_str(self.alloc, id)?);
         self.heads.reserve(1)?;
-        if !add_id(self.alloc, &mut self.ids, id, number)? {
+        if !self.ids.add(self.alloc, &self.heads, id, number)? {
             return Ok(None);
         }
         self.heads.push_reserved(Head { id: text, class });
@@ -146,10 +165,8 @@ impl<'m> PopulationBuilder<'m> {
         ensures number { result ≡ object_number self.now id.now }
         ensures known { IfSome result (λ o. o < length self.now.objects) }
     {
-        match self.ids.get(id) {
-            Some(number) => Some(ObjectNo::new(*number)),
-            None => None,
-        }
+        let number = self.ids.find(&self.heads, id)?;
+        Some(ObjectNo::new(number))
     }
 
     /// The class that an object is directly of.
@@ -330,10 +347,12 @@ impl<'m> PopulationBuilder<'m> {
     {
         let mut values = values;
         let features = self.model.feature_count();
+        let objects = self.objects();
         self.written.put(
             self.alloc,
             features,
             feature.index(),
+            objects,
             object.index(),
             &mut values,
         )?;

@@ -142,6 +142,15 @@ fn add_pairs(
     Ok(())
 }
 
+/// How many more are expected behind so many that the objects before one have, of so many objects: at most seven times as
+/// many, so that a guess that is wrong costs little.
+fn expected(count: usize, object: usize, objects: usize) -> usize {
+    let left = objects.saturating_sub(object);
+    let more = count.saturating_mul(left) / object.max(1);
+    let spare = more / 16;
+    more.saturating_add(spare).min(count.saturating_mul(7))
+}
+
 impl Column {
     /// No values.
     pub(crate) fn new(alloc: Global) -> Column
@@ -152,6 +161,17 @@ impl Column {
             entries: Vec::new(alloc),
             ranks: Ranks::new(alloc),
         }
+    }
+
+    /// No values, and room for so many, each of an object of its own.
+    pub(crate) fn with_capacity(alloc: Global, values: usize) -> Result<Column, AllocError>
+        ensures { IfOk result (λ c. map_of c ≡ []) }
+    {
+        Ok(Column {
+            scalars: Vec::with_capacity(alloc, values)?,
+            entries: Vec::with_capacity(alloc, values)?,
+            ranks: Ranks::new(alloc),
+        })
     }
 
     /// Each range lies within the values.
@@ -187,6 +207,29 @@ impl Column {
         put_entry(&mut self.entries, entry)
     }
 
+    /// Makes room for so many values of an object, of so many objects that come in their order. Where room is made, it is
+    /// for as many as there will be if the objects to come have as many values as those before.
+    pub(crate) fn make_room(
+        &mut self,
+        object: usize,
+        objects: usize,
+        values: usize,
+    ) -> Result<(), AllocError>
+        ensures { self.new ≡ self.old }
+    {
+        let scalars = self.scalars.len();
+        if self.scalars.capacity().saturating_sub(scalars) < values {
+            let more = expected(scalars, object, objects);
+            self.scalars.reserve(more.max(values))?;
+        }
+        let entries = self.entries.len();
+        if entries == self.entries.capacity() {
+            let more = expected(entries, object, objects);
+            self.entries.reserve(more.max(1))?;
+        }
+        Ok(())
+    }
+
     /// Counts the entries anew, so that what is read from now on is found without a search.
     pub(crate) fn rank(&mut self, alloc: Global) -> Result<(), AllocError>
         ensures { self.new ≡ self.old }
@@ -200,7 +243,7 @@ impl Column {
         ensures pairs { IfOk result (λ v. v.items ≡ pairs_in (map_of self.now)) }
         ensures map { IsMap (map_of self.now) }
     {
-        let mut pairs = Vec::new(alloc);
+        let mut pairs = Vec::with_capacity(alloc, self.scalars.len())?;
         for entry in self.entries.as_slice() {
             add_pairs(&mut pairs, entry.object, values_of(&self.scalars, *entry))?;
         }

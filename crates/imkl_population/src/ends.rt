@@ -75,7 +75,7 @@ fn holders(alloc: Global, pairs: &[(usize, usize)]) -> Result<Column, AllocError
     ensures { IfOk result (λ c. (o : ℕ) →
         written_in (map_of c) o ≡ as_objects (holders_of o pairs.now)) }
 {
-    let mut column = Column::new(alloc);
+    let mut column = Column::with_capacity(alloc, pairs.len())?;
     let mut holders = Vec::new(alloc);
     let mut target = 0;
     for pair in pairs {

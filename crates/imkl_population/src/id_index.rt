@@ -1,27 +1,146 @@
 //! The numbers of objects by their ids.
 
+ghost use Rattle.std.specs.Prelude.{◌≡◌, ◌<◌, ◌≤◌, ℕ, List, [], ◌∷◌, true, false, Some, None, length, bytes_eq, IfOk, OnOk, OnErr};
+ghost use Rattle.std.specs.Map.{update};
 ghost use Rattle.std.specs.BTreeMap.{get_by_text};
-ghost use Rattle.imkl_population.specs.Adding.{AddsId};
+ghost use Rattle.imkl_population.specs.declared.object.Head.{Head};
+ghost use Rattle.imkl_population.specs.IdIndex.{place_of, has_id, found, IsGuarded, TakesSlot, IsTaken, AddsId};
 
+use crate::object::Head;
 use std::alloc::{AllocError, Global};
 use std::collections::BTreeMap;
-use std::collections::btree_map::Entry;
+use std::hash::{FoldHasher, Hasher};
 
-/// Gives an id its number unless it has one, and answers whether it had none.
-pub(crate) fn add_id(
+/// Finds objects by their ids. The hash of an id picks a slot, which holds the number of one object. Ids whose slot holds
+/// another object's number stand in an ordered map, so no choice of ids makes a search slow. The index keeps no text of ids
+/// with slots: it is asked together with the objects, and contracts see which number is found for an id among these.
+#[derive(Drop)]
+pub(crate) struct IdIndex {
+    /// One above an object's number, or 0 in an empty slot.
+    slots: Vec<u32>,
+    /// The numbers of objects whose slots hold another's.
+    others: BTreeMap<String, usize>,
+    ghost guarded: { IsGuarded slots.items (get_by_text others) },
+}
+
+/// The slot of an id, of so many.
+fn place_of(id: &str, slots: usize) -> usize
+    requires { 0 < slots }
+    ensures place { result ≡ place_of id.now slots }
+    ensures known { result < slots }
+{
+    let mut hasher = FoldHasher::default();
+    hasher.write(id.as_bytes());
+    hasher.finish() as usize % slots
+}
+
+/// Whether an object is there and has an id.
+fn has_id(heads: &[Head], number: usize, id: &str) -> bool
+    ensures { result ≡ has_id heads.now number id.now }
+{
+    match heads.get(number) {
+        Some(head) => head.id.as_str() == id,
+        None => false,
+    }
+}
+
+/// Gives an id a number.
+fn put_number(
     alloc: Global,
     numbers: &mut BTreeMap<String, usize>,
     id: &str,
     number: usize,
-) -> Result<bool, AllocError>
-    ensures { AddsId result (get_by_text numbers.old) id.now number (get_by_text numbers.new) }
+) -> Result<(), AllocError>
+    ensures ok { OnOk result ((q : List ℕ) → get_by_text numbers.new q ≡
+        update bytes_eq (get_by_text numbers.old) id.now (Some number) q) }
+    ensures err { OnErr result (get_by_text numbers.new ≡ get_by_text numbers.old) }
 {
     let key = String::from_str(alloc, id)?;
-    match numbers.entry(key)? {
-        Entry::Vacant(slot) => {
-            slot.insert(number);
-            Ok(true)
+    numbers.insert(key, number)?;
+    Ok(())
+}
+
+impl IdIndex {
+    /// No ids. Takes no memory.
+    pub(crate) fn new(alloc: Global) -> IdIndex
+        ensures { (hs : List Head) (id : List ℕ) →
+            found result.slots.items (get_by_text result.others) hs id ≡ None }
+    {
+        IdIndex {
+            slots: Vec::new(alloc),
+            others: BTreeMap::new(alloc),
         }
-        Entry::Occupied(_) => Ok(false),
+    }
+
+    /// No ids, and slots for so many.
+    pub(crate) fn with_capacity(alloc: Global, ids: usize) -> Result<IdIndex, AllocError>
+        ensures { IfOk result (λ x. (hs : List Head) (id : List ℕ) →
+            found x.slots.items (get_by_text x.others) hs id ≡ None) }
+    {
+        let slots = vec![in alloc; 0; ids.saturating_mul(4)]?;
+        Ok(IdIndex {
+            slots,
+            others: BTreeMap::new(alloc),
+        })
+    }
+
+    /// The number of the object that has an id.
+    pub(crate) fn find(&self, heads: &[Head], id: &str) -> Option<usize>
+        ensures { result ≡ found self.now.slots.items (get_by_text self.now.others)
+            heads.now id.now }
+    {
+        if self.slots.is_empty() {
+            return self.others.get(id).copied();
+        }
+        let slot = self.slots[place_of(id, self.slots.len())];
+        let number = slot.checked_sub(1)? as usize;
+        if has_id(heads, number, id) {
+            return Some(number);
+        }
+        self.others.get(id).copied()
+    }
+
+    /// Gives the id of the next object its number unless it has one, and answers whether it had none.
+    pub(crate) fn add(
+        &mut self,
+        alloc: Global,
+        heads: &[Head],
+        id: &str,
+        number: usize,
+    ) -> Result<bool, AllocError>
+        requires next { number ≡ length heads.now }
+        requires small { number < 1000000 }
+        ensures { AddsId result
+            (found self.old.slots.items (get_by_text self.old.others)) heads.now id.now number
+            (found self.new.slots.items (get_by_text self.new.others)) }
+    {
+        if self.find(heads, id).is_some() {
+            return Ok(false);
+        }
+        if self.take_slot(id, number) {
+            return Ok(true);
+        }
+        put_number(alloc, &mut self.others, id, number)?;
+        Ok(true)
+    }
+
+    /// Gives an id's slot to a number, if no id has it, and answers whether it did.
+    fn take_slot(&mut self, id: &str, number: usize) -> bool
+        requires { number < 1000000 }
+        ensures taken { result ≡ true →
+            TakesSlot self.old.slots.items id.now number self.new.slots.items }
+        ensures others { result ≡ true → self.new.others ≡ self.old.others }
+        ensures full { result ≡ false → IsTaken self.old.slots.items id.now }
+        ensures same { result ≡ false → self.new ≡ self.old }
+    {
+        if self.slots.is_empty() {
+            return false;
+        }
+        let place = place_of(id, self.slots.len());
+        if self.slots[place] != 0 {
+            return false;
+        }
+        self.slots[place] = number as u32 + 1;
+        true
     }
 }

@@ -107,12 +107,30 @@ impl Store {
         result
     }
 
-    /// Moves values to an object at one of so many features, in the place of those that stand there.
+    /// Makes room for so many values of an object at a feature that has a column.
+    fn make_room(
+        &mut self,
+        feature: usize,
+        object: usize,
+        objects: usize,
+        values: usize,
+    ) -> Result<(), AllocError>
+        requires { feature < length self.old }
+        ensures { self.new ≡ self.old }
+    {
+        let column = &mut self.columns[feature];
+        let result = column.make_room(object, objects, values);
+        column.within();
+        result
+    }
+
+    /// Moves values to an object, of so many, at one of so many features, in the place of those that stand there.
     pub(crate) fn put(
         &mut self,
         alloc: Global,
         features: usize,
         feature: usize,
+        objects: usize,
         object: usize,
         values: &mut Vec<Scalar>,
     ) -> Result<(), AllocError>
@@ -125,6 +143,7 @@ impl Store {
             object_row (maps_of self.new) o ≡ object_row (maps_of self.old) o) }
     {
         self.grow(alloc, features)?;
+        self.make_room(feature, object, objects, values.len())?;
         self.set(feature, object, values)
     }
 

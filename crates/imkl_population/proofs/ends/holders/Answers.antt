@@ -1,7 +1,9 @@
 use Rattle.std.proofs.Common.{◌≡◌, ◌∙◌, ◌+◌, ℕ, List, ◌∷◌, [], ◌++◌, ap, arith, take, get_or}
-use Rattle.std.proofs.lemmas.List.{get_or_default}
+use Rattle.std.proofs.lemmas.List.{get_or_default, take_all}
 use Rattle.imkl_population.specs.declared.scalar.Scalar.{Scalar}
 use Rattle.imkl_population.specs.declared.scalar.Scalar.TheVariants as scalar
+use Rattle.imkl_population.specs.Building.{as_objects}
+use Rattle.imkl_population.specs.Population.{holders_of}
 use Rattle.imkl_population.specs.Store.{map_of}
 use Rattle.imkl_population.proofs.Holdings.{AreMet, none-ahead, met-more, low-more}
 use Rattle.imkl_population.proofs.ends.holders.Goals as goal
@@ -33,3 +35,8 @@ loop-pair-preserved c =
           let rises = c.requires i (i + 1) d (omega arith) next in
           rw (get_or_default qs i (0, 0) d lt) rises;
     }
+
+pub returns : goal.returns
+returns c o =
+    c.in_ok-put_holders.ensures.put o ∙ c.loop-pair.invariant.met o
+    ∙ ap (λ (qs : List (ℕ × ℕ)). as_objects (holders_of o qs)) (take_all c.loop-pair.pair-index c.args.pairs.now c.loop-pair-test.false)

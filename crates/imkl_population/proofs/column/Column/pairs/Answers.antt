@@ -8,6 +8,11 @@ use Rattle.imkl_population.proofs.Stored.{none, map-is, ascending}
 use Rattle.imkl_population.proofs.Holdings.{entries-met}
 use Rattle.imkl_population.proofs.column.Column.pairs.Goals as goal
 
+pub returns-in_err-pairs-clause-map : goal.returns-in_err-pairs-clause-map
+returns-in_err-pairs-clause-map c =
+    let i = c.self.inside in
+    subst IsMap (ap map_of c.self.view_is) (ascending i.scalars.items i.entries.items c.self.invariant.ascend)
+
 pub returns-in_err-add_pairs-clause-map : goal.returns-in_err-add_pairs-clause-map
 returns-in_err-add_pairs-clause-map c =
     let i = c.self.inside in

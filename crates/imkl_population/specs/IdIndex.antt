@@ -1,0 +1,44 @@
+-- How objects are found by their ids.
+use Rattle.std.specs.Prelude.{◌≡◌, ℕ, zero, suc, ◌+◌, ◌<◌, ◌%◌, Bool, true, false, List, [], ◌∷◌, ◌++◌, Option, Some, None, Result, Ok, Err, length, bytes_eq, is_some, slice_index_or, slice_set, if◌then◌else◌}
+use Rattle.std.specs.declared.alloc.AllocError.{AllocError}
+use Rattle.std.specs.Hash.FoldHasher as folding
+use Rattle.std.specs.Map.{update}
+use Rattle.imkl_population.specs.declared.object.Head.{Head}
+
+-- the slot of an id, of so many
+unfoldable pub place_of : List ℕ → ℕ → ℕ
+place_of id n = folding.finish (folding.write folding.initial id) % n
+
+-- whether an object is there and has an id
+abbrev pub has_id : List Head → ℕ → List ℕ → Bool
+has_id [] n id = false
+has_id (h ∷ hs) zero id = bytes_eq h.id id
+has_id (h ∷ hs) (suc n) id = has_id hs n id
+
+-- what a slot says of an id: nothing where it is empty, its object if that has the id, else what the others say
+abbrev pub held : ℕ → (List ℕ → Option ℕ) → List Head → List ℕ → Option ℕ
+held zero others hs id = None
+held (suc n) others hs id = if has_id hs n id then Some n else others id
+
+-- the number found for an id, among objects with these ids
+abbrev pub found : List ℕ → (List ℕ → Option ℕ) → List Head → List ℕ → Option ℕ
+found [] others hs id = others id
+found (s ∷ ss) others hs id = held (slice_index_or (s ∷ ss) (place_of id (length (s ∷ ss))) 0) others hs id
+
+-- an id whose slot is empty isn't among the others
+abbrev pub IsGuarded : List ℕ → (List ℕ → Option ℕ) → Type 0
+IsGuarded slots others = (id : List ℕ) → 0 < length slots → slice_index_or slots (place_of id (length slots)) 0 ≡ 0 → others id ≡ None
+
+-- an id's slot is given to the next object's number; it was empty
+abbrev pub TakesSlot : List ℕ → List ℕ → ℕ → List ℕ → Type 0
+TakesSlot old id n new = (0 < length old) × (slice_index_or old (place_of id (length old)) 0 ≡ 0) × (new ≡ slice_set old (place_of id (length old)) (n + 1))
+
+-- an id's slot isn't empty, if there are slots
+abbrev pub IsTaken : List ℕ → List ℕ → Type 0
+IsTaken slots id = 0 < length slots → slice_index_or slots (place_of id (length slots)) 0 ≡ 0 → ⊥
+
+-- The next object's id is given its number if it has none. If it has one, or memory runs out, nothing changes.
+abbrev pub AddsId : Result Bool AllocError → (List Head → List ℕ → Option ℕ) → List Head → List ℕ → ℕ → (List Head → List ℕ → Option ℕ) → Type 0
+AddsId (Ok true) old hs id n new = (is_some (old hs id) ≡ false) × ((h : Head) → h.id ≡ id → (q : List ℕ) → new (hs ++ h ∷ []) q ≡ update bytes_eq (old hs) id (Some n) q)
+AddsId (Ok false) old hs id n new = (is_some (old hs id) ≡ true) × (new ≡ old)
+AddsId (Err e) old hs id n new = new ≡ old
