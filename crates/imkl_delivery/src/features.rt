@@ -1,9 +1,9 @@
 //! What is written at the features of one object.
 
-ghost use Rattle.std.specs.Prelude.{◌≡◌, ◌<◌, true, [], ◌∷◌, Option, All, map, length, option_map, IfOk, IfSome};
+ghost use Rattle.std.specs.Prelude.{◌≡◌, ◌<◌, true, [], ◌∷◌, Option, Some, All, map, length, option_map, IfOk, IfSome};
 ghost use Rattle.serde_json.specs.Data.{Data};
 ghost use Rattle.serde_json.specs.View.{view, members_view};
-ghost use Rattle.imkl_model.specs.ClassModel.{feature_at};
+ghost use Rattle.imkl_model.specs.ClassModel.{feature_at, feature_number};
 ghost use Rattle.imkl_population.specs.Population.{Population, class_of};
 ghost use Rattle.imkl_population.specs.Building.{KeepsObjects};
 ghost use Rattle.imkl_delivery.specs.Steps.{Leaves, placed_fault};
@@ -13,6 +13,7 @@ ghost use Rattle.imkl_delivery.specs.Named.{named_features, written_requirements
 ghost use Rattle.imkl_delivery.specs.Taken.{TakesOnly};
 
 use crate::fault::DeliveryFault;
+use crate::guesses::Guesses;
 use crate::scalars::{Targets, scalars_of, targets_of, values_of};
 use crate::taking::take_member;
 use imkl_model::{ClassModel, ClassNo, FeatureInfo, FeatureNo, Role};
@@ -147,12 +148,65 @@ fn put_member(
     put_written(builder, alloc, object, feature, take_member(members, name))
 }
 
-/// The features of the class that the members name, or nothing where a member names none.
+/// Whether a feature is the one that a class has of a name.
+fn is_feature(model: &ClassModel, class: ClassNo, feature: FeatureNo, name: &str) -> bool
+    requires { class < length model.now.classes }
+    ensures number { result ≡ true → feature_number model.now class name.now ≡ Some feature }
+    ensures in_range { result ≡ true → feature < length model.now.features }
+{
+    model.well_formed();
+    if feature.index() >= model.feature_count() || !model.belongs(class, feature) {
+        return false;
+    }
+    model.feature_info(feature).name.as_str() == name
+}
+
+/// A guess of the feature that a class has of a name, if it is right.
+fn guessed(
+    model: &ClassModel,
+    class: ClassNo,
+    guess: Option<&FeatureNo>,
+    name: &str,
+) -> Option<FeatureNo>
+    requires { class < length model.now.classes }
+    ensures number { IfSome result (λ f. feature_number model.now class name.now ≡ Some f) }
+    ensures in_range { IfSome result (λ f. f < length model.now.features) }
+{
+    match guess {
+        Some(feature) if is_feature(model, class, *feature, name) => Some(*feature),
+        _ => None,
+    }
+}
+
+/// The feature that a class has of a name. Where a guess, the one at a place or the next, is right, nothing is searched.
+fn feature_of(
+    model: &ClassModel,
+    class: ClassNo,
+    guesses: &[FeatureNo],
+    place: usize,
+    name: &str,
+) -> Option<FeatureNo>
+    requires { class < length model.now.classes }
+    ensures number { result ≡ feature_number model.now class name.now }
+    ensures in_range { IfSome result (λ f. f < length model.now.features) }
+{
+    if let Some(feature) = guessed(model, class, guesses.get(place), name) {
+        return Some(feature);
+    }
+    if let Some(feature) = guessed(model, class, guesses.get(place.saturating_add(1)), name) {
+        return Some(feature);
+    }
+    model.feature(class, name)
+}
+
+/// The features of the class that the members name, or nothing where a member names none. Each is guessed to be that
+/// near the same place of a list.
 fn named_features(
     alloc: Global,
     model: &ClassModel,
     class: ClassNo,
     members: &Map<String, Value>,
+    guesses: &[FeatureNo],
 ) -> Result<Option<Vec<FeatureNo>>, AllocError>
     requires { class < length model.now.classes }
     ensures named { IfOk result (λ r. option_map (λ v. v.items) r ≡
@@ -162,7 +216,8 @@ fn named_features(
 {
     let mut features = Vec::with_capacity(alloc, members.len())?;
     for (name, _) in members {
-        match model.feature(class, name.as_str()) {
+        let place = features.len();
+        match feature_of(model, class, guesses, place, name.as_str()) {
             Some(feature) => features.push(feature)?,
             None => return Ok(None),
         }
@@ -178,6 +233,7 @@ pub(crate) fn put_members(
     object: ObjectNo,
     mut members: Map<String, Value>,
     required: &mut RequiredFeatures<'_>,
+    guesses: &mut Guesses,
 ) -> Result<(), DeliveryFault>
     requires object { object < length builder.old.objects }
     requires required { required.old ≡ written_requirements builder.old.model }
@@ -189,11 +245,12 @@ pub(crate) fn put_members(
     let model = builder.model();
     model.well_formed();
     let class = builder.class_of(object);
-    let Some(named) = named_features(alloc, model, class, &members)? else {
+    let Some(named) = named_features(alloc, model, class, &members, guesses.of(class))? else {
         return Err(DeliveryFault::UnknownFeature {
             object: object.index(),
         });
     };
+    guesses.keep(alloc, class, &named)?;
     let features = required.with_required(class, named)?;
     for feature in &features {
         put_member(builder, alloc, object, *feature, &mut members)?;

@@ -4,6 +4,7 @@
 mod document;
 mod fault;
 mod features;
+mod guesses;
 pub mod laws;
 mod loading;
 mod scalars;

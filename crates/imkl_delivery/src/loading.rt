@@ -17,6 +17,7 @@ ghost use Rattle.imkl_delivery.specs.Description.{DeliveryAnswers};
 use crate::document::{Entry, document_of};
 use crate::fault::DeliveryFault;
 use crate::features::{placed_fault, put_members};
+use crate::guesses::Guesses;
 use crate::taking::{features_of, objects_of};
 use imkl_model::ClassModel;
 use imkl_model::json::tree;
@@ -69,6 +70,7 @@ fn put_all(
     alloc: Global,
     objects: Vec<Value>,
     required: &mut RequiredFeatures<'_>,
+    guesses: &mut Guesses,
 ) -> Result<(), DeliveryFault>
     requires objects { length objects.items ≤ length builder.old.objects }
     requires required { required.old ≡ written_requirements builder.old.model }
@@ -82,7 +84,14 @@ fn put_all(
         let Some(features) = features_of(object) else {
             return Err(DeliveryFault::Shape);
         };
-        let written = put_members(builder, alloc, ObjectNo::new(place), features, required);
+        let written = put_members(
+            builder,
+            alloc,
+            ObjectNo::new(place),
+            features,
+            required,
+            guesses,
+        );
         if written.is_err() {
             return written;
         }
@@ -121,7 +130,7 @@ fn added<'m>(
     if document.model != model.name() {
         return Err(DeliveryFault::OtherModel);
     }
-    let mut builder = PopulationBuilder::new(alloc, model);
+    let mut builder = PopulationBuilder::with_capacity(alloc, model, document.entries.len())?;
     add_all(&mut builder, &document.entries)?;
     Ok(builder)
 }
@@ -141,7 +150,8 @@ fn written<'m>(
     ensures model { IfOk result (λ p. p.content.model ≡ model.now) }
 {
     let mut required = RequiredFeatures::new(alloc, model, Side::Written);
-    put_all(&mut builder, alloc, objects, &mut required)?;
+    let mut guesses = Guesses::new(alloc, model.class_count())?;
+    put_all(&mut builder, alloc, objects, &mut required, &mut guesses)?;
     match builder.finish() {
         Ok(population) => Ok(population),
         Err(fault) => Err(finished_fault(fault)),

@@ -10,5 +10,5 @@ pub returns-clause-count : goal.returns-clause-count
 returns-clause-count c = λ ds taken.
     let document = c.in_ok-document.document in
     let many = objects_counted (view c.args.value.now) (document_of document) ds c.in_ok-document.ensures taken in
-    let none : length c.new-builder.result.objects ≡ 0 = ap (λ (p : Population). length p.objects) c.new-builder.ensures in
+    let none : length c.in_ok-builder.builder.objects ≡ 0 = ap (λ (p : Population). length p.objects) c.in_ok-builder.ensures in
     omega (arith, many, none, length-map document.entries.items written_of, c.in_ok-add_all.ensures.count, c.deref.ensures.value)
