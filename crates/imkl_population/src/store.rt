@@ -107,7 +107,7 @@ impl Store {
         result
     }
 
-    /// Moves values to an object at one of so many features, in the place of those that stand there.
+    /// Moves values to an object at a feature, in the place of those that stand there.
     pub(crate) fn put(
         &mut self,
         alloc: Global,
