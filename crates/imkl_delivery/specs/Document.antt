@@ -1,4 +1,4 @@
--- A delivery's document: exactly the members of the format, each of its sort.
+-- A delivery's document: exactly the members of the format, each of its type. Ids and names are lists of UTF-8 bytes.
 use Rattle.std.specs.Prelude.{ℕ, List, Result, Ok, codes}
 use Rattle.serde_json.specs.Data.{Data, Members}
 use Rattle.serde_json.specs.Find.{get, as_str, as_object}
@@ -7,16 +7,18 @@ use Rattle.imkl_model.specs.Json.{list_from, record_from}
 use Rattle.imkl_delivery.specs.declared.fault.DeliveryFault.{DeliveryFault}
 use Rattle.imkl_delivery.specs.declared.fault.DeliveryFault.TheVariants.{Shape}
 
--- an object of the document: its id, the name of its class, and the members of its features
+-- what an entry of the document writes: an object's id, the name of its class, and the members of its features
 pub record Written : Type 0 where
   pub id : List ℕ
   pub class : List ℕ
   pub features : Members
 
+-- the name of the class model, and the entries
 pub record Document : Type 0 where
   pub model : List ℕ
   pub entries : List Written
 
+-- the entry that a JSON value is, else `Shape`
 unfoldable pub entry_from : Data → Result Written DeliveryFault
 entry_from d = do
   _ ← found (record_from 3 d) Shape
@@ -28,6 +30,7 @@ entry_from d = do
   features ← found (as_object f) Shape
   Ok (record { id = id; class = class; features = features })
 
+-- the document that a JSON value is, else `Shape`
 unfoldable pub document_from : Data → Result Document DeliveryFault
 document_from d = do
   _ ← found (record_from 2 d) Shape

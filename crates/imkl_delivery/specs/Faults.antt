@@ -16,13 +16,14 @@ delivery_fault_number (UnknownTarget o) = 6
 delivery_fault_number (Population o p) = 7
 delivery_fault_number OutOfMemory = 8
 
--- A function on a JSON tree has the faults of its definition, but that memory may run out. A tree is JSON.
+-- What a fault means where a function on a JSON tree returns it: the definition has this fault, or memory ran out.
+-- `NotJson` is for bytes alone, and never returned there.
 abbrev pub delivery_fault : DeliveryFault → FaultMeaning DeliveryFault
 delivery_fault OutOfMemory = out_of_memory
 delivery_fault NotJson = never
 delivery_fault e = fault e
 
--- the fault of a delivery whose bytes are no JSON text, or for which memory ran out
+-- the delivery's fault where its bytes have no JSON tree, or memory ran out while they were read
 abbrev pub json_delivery_fault : JsonFault → DeliveryFault
 json_delivery_fault json.NotJson = NotJson
 json_delivery_fault json.OutOfMemory = OutOfMemory

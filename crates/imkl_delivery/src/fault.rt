@@ -1,4 +1,4 @@
-//! Why a delivery was refused.
+//! Why a delivery could not be loaded.
 
 ghost use Rattle.std.specs.Prelude.{◌≡◌};
 ghost use Rattle.imkl_delivery.specs.declared.fault.DeliveryFault.TheVariants.{OutOfMemory};
@@ -9,13 +9,14 @@ use imkl_population::PopulationFault;
 use std::alloc::{AllocError, AllocFailed};
 use thiserror::Error;
 
-/// The first fault of a delivery. Objects are named by their places in the document, from 0.
+/// The first fault of a delivery, or that memory ran out. Objects are named by their indices in the document, from 0.
 #[derive(Clone, Copy, Debug, PartialEq, Eq, Error)]
 pub enum DeliveryFault {
     /// The bytes are no JSON text.
     #[error("not JSON")]
     NotJson,
-    /// The JSON text isn't that of a delivery: a member is missing or more than asked, or a value is of another sort.
+    /// The JSON text isn't that of a delivery: a member is missing or there is one too many, or a value has the wrong
+    /// type.
     #[error("not the shape of a delivery")]
     Shape,
     /// The delivery names another class model.
@@ -24,36 +25,36 @@ pub enum DeliveryFault {
     /// An object's class isn't in the class model.
     #[error("object {object}: an unknown class")]
     UnknownClass {
-        /// The object's place.
+        /// The object's index.
         object: usize,
     },
     /// An object has a member that is no feature of its class.
     #[error("object {object}: an unknown feature")]
     UnknownFeature {
-        /// The object's place.
+        /// The object's index.
         object: usize,
     },
-    /// An object names a target that isn't in the document.
+    /// A target on an object is the id of no object of the document.
     #[error("object {object}: an unknown target")]
     UnknownTarget {
-        /// The object's place.
+        /// The object's index.
         object: usize,
     },
-    /// An object can't be in a population as it is written.
+    /// The population refuses an object as it is written.
     #[error("object {object}: {fault}")]
     Population {
-        /// The object's place.
+        /// The object's index.
         object: usize,
         /// What is wrong with it; never out of memory.
         fault: PopulationFault,
     },
-    /// There is no memory for the population.
+    /// Memory ran out.
     #[error("out of memory")]
     OutOfMemory,
 }
 
 impl DeliveryFault {
-    /// The fault's number in the documentation, 1 to 8.
+    /// The documented number of the fault, 1 to 8.
     pub fn number(&self) -> u8
         ensures { result ≡ delivery_fault_number self.now }
     {

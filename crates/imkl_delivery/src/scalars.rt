@@ -16,19 +16,19 @@ use serde_json::Value;
 use std::alloc::{AllocError, Global};
 use std::slice;
 
-/// What the values at a source end come to.
+/// What the JSON values at a source end stand for.
 #[derive(Drop)]
 pub enum Targets {
-    /// Some value is no text.
+    /// Some value is no string.
     NotTexts,
-    /// Some text is the id of no object.
+    /// Each value is a string, but some is the id of no object.
     Unknown,
-    /// The objects.
+    /// The objects of these ids.
     Found(Vec<ObjectNo>),
 }
 
+/// The values that a member writes: null stands for none, a list for its elements, anything else for itself alone.
 #[tactic(auto, using(imkl_model::proofs::ForAbove::trees))]
-/// The values that a member writes: null is none, a list its elements, anything else one.
 pub(crate) fn values_of(value: &Value) -> &[Value]
     ensures { map view result.now ≡ values_from (view value.now) }
 {
@@ -39,6 +39,7 @@ pub(crate) fn values_of(value: &Value) -> &[Value]
     }
 }
 
+/// The literal of an enumeration whose name a value is. `None` where the value is no string, or the name of no literal.
 fn literal_of(model: &ClassModel, enumeration: EnumNo, value: &Value) -> Option<Scalar>
     requires { enumeration < length model.now.enumerations }
     ensures { result ≡ scalar_from model.now (ElementType.Enumeration enumeration)
@@ -48,7 +49,7 @@ fn literal_of(model: &ClassModel, enumeration: EnumNo, value: &Value) -> Option<
     Some(Scalar::Literal(enumeration, literal))
 }
 
-/// A text, moved out of the value that is one.
+/// A string's text, moved out of it. `None` where the value is no string.
 fn text_of(value: Value) -> Option<Scalar>
     ensures { result ≡ option_map (λ s. Scalar.Text (chars s)) (as_str (view value)) }
 {
@@ -58,7 +59,7 @@ fn text_of(value: Value) -> Option<Scalar>
     }
 }
 
-/// A value of an attribute of this type, if it is one.
+/// A value of an attribute of this type. `None` where the JSON value isn't of the type.
 fn scalar_of(model: &ClassModel, element: ElementType, value: Value) -> Option<Scalar>
     requires { (e : ℕ) → element ≡ ElementType.Enumeration e → e < length model.now.enumerations }
     ensures { result ≡ scalar_from model.now element (view value) }
@@ -72,7 +73,7 @@ fn scalar_of(model: &ClassModel, element: ElementType, value: Value) -> Option<S
     }
 }
 
-/// The values of an attribute that a list writes, if all are of its type.
+/// The values of an attribute that a list writes. `None` where one isn't of the attribute's type.
 fn listed_scalars(
     alloc: Global,
     model: &ClassModel,
@@ -94,7 +95,7 @@ fn listed_scalars(
     Ok(Some(scalars))
 }
 
-/// The one value of an attribute that a member writes, if it is of its type.
+/// The one value of an attribute that a member writes. `None` where it isn't of the attribute's type.
 fn single_scalar(
     alloc: Global,
     model: &ClassModel,
@@ -112,7 +113,8 @@ fn single_scalar(
     Ok(Some(vec![in alloc; scalar]?))
 }
 
-/// The values of an attribute that a member writes, if all are of its type. Texts are moved.
+/// The values of an attribute that a member writes. `None` where one isn't of the attribute's type. Strings are moved
+/// and not copied.
 pub(crate) fn scalars_of(
     alloc: Global,
     model: &ClassModel,
@@ -131,14 +133,14 @@ pub(crate) fn scalars_of(
     }
 }
 
-/// The object whose id a value is, if it is a text and the id of one.
+/// The object whose id a value is. `None` where the value is no string, or the id of no object.
 fn target_of(builder: &PopulationBuilder<'_>, value: &Value) -> Option<ObjectNo>
     ensures { result ≡ option_and_then (object_number builder.now) (as_str (view value.now)) }
 {
     builder.object(value.as_str()?)
 }
 
-/// The objects that have these ids, if each value is the id of one.
+/// The objects whose ids the values are. `None` where some value is the id of no object.
 fn objects_of(
     alloc: Global,
     builder: &PopulationBuilder<'_>,
@@ -158,14 +160,14 @@ fn objects_of(
     Ok(Some(targets))
 }
 
-/// Whether each value is a text.
+/// Whether each value is a string.
 fn are_texts(values: &[Value]) -> bool
     ensures { result ≡ list_all (λ v. is_some (as_str (view v))) values.now }
 {
     values.iter().all(|value| value.is_string())
 }
 
-/// The objects that have these ids: none where a value is no text, and then where an id is no object's.
+/// What the values at a source end stand for. All are looked at for being strings before the first is looked up.
 pub(crate) fn targets_of(
     alloc: Global,
     builder: &PopulationBuilder<'_>,

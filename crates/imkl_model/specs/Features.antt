@@ -23,6 +23,7 @@ abbrev pub is_single : Option ℕ → Bool
 is_single None = false
 is_single (Some n) = n == 1
 
--- a unique feature holds nothing twice: each end is unique, and an attribute as its kind says, but for one with upper bound 1
+-- a unique feature holds nothing twice: each end is unique, and an attribute as its kind says, but for one with upper
+-- bound 1
 abbrev pub is_unique : FeatureInfo → Bool
 is_unique f = is_end f.role || (not (is_single f.upper) && is_unique_kind f.kind)

@@ -1,4 +1,4 @@
--- JSON trees: the bytes that write one, records with so many members, and lists.
+-- JSON trees: the bytes that write one, JSON objects with a given number of members, and lists.
 use Rattle.std.specs.Prelude.{◌≡◌, ℕ, List, [], ◌∷◌, Option, Some, None, IsUtf8, ◌==◌, is_some, option_map, option_and_then, if◌then◌else◌}
 use Rattle.serde_json.specs.Data.{Data, Items, no_items, item, Members}
 use Rattle.serde_json.specs.Events.{members_len}
@@ -36,7 +36,7 @@ record_from n d = option_and_then (λ ms. if members_len ms == n then Some ms el
 abbrev pub natural_from : Data → Option ℕ
 natural_from d = option_and_then as_u64 (as_number d)
 
--- How many members of this name an object has, one or none. An object with n members and an optional one has as many
--- more than n.
+-- How many members of this name a value has, 1 or 0. An object of n members, and perhaps this one, has that many more
+-- than n.
 abbrev pub member_count : List ℕ → Data → ℕ
 member_count name d = if is_some (get name d) then 1 else 0

@@ -1,4 +1,4 @@
-//! Why a class model could not be read.
+//! Why a file describes no class model.
 
 ghost use Rattle.std.specs.Prelude.{◌≡◌};
 ghost use Rattle.imkl_model.specs.declared.fault.ModelFault.TheVariants.{OutOfMemory};
@@ -8,14 +8,14 @@ use crate::json::JsonFault;
 use std::alloc::{AllocError, AllocFailed};
 use thiserror::Error;
 
-/// The first fault of a class model's file.
+/// The first fault of a class model's file, or that memory ran out.
 #[derive(Clone, Copy, PartialEq, Eq, Debug, Error)]
 pub enum ModelFault {
     /// The bytes are no JSON text.
     #[error("not JSON")]
     NotJson,
-    /// The JSON text is none of a class model: a member is missing or more than asked, a value is of another sort, a
-    /// name is no identifier or too long, or a bound is above 1,000,000.
+    /// The JSON text isn't that of a class model: a member is missing or there is one too many, a value has the wrong
+    /// type, a name is no identifier, is reserved or too long, or a bound isn't a whole number from 0 to 1,000,000.
     #[error("not the shape of a class model")]
     Shape,
     /// A name is repeated where names must differ, or a class or enumeration has the name of a predefined type.
@@ -42,7 +42,7 @@ pub enum ModelFault {
 }
 
 impl ModelFault {
-    /// The fault's number in texts.
+    /// The documented number of the fault, 1 to 9.
     pub fn number(&self) -> u8
         ensures { result ≡ model_fault_number self.now }
     {

@@ -10,8 +10,8 @@ use std::alloc::{AllocError, Global};
 use std::collections::BTreeMap;
 use std::marker::Model;
 
-/// The numbers of the features of one name, in order, and for each owner the first that it has. The owners are marked in
-/// a row too, so that those above a class are found without a look at each.
+/// The numbers of the features of one name, in order, and for each owner the first that it has. The owners are marked
+/// in a row too, so that those above a class are found without a look at each.
 #[derive(Drop)]
 pub(crate) struct FeatureGroup {
     numbers: Vec<FeatureNo>,
@@ -33,7 +33,7 @@ impl Model for FeatureGroup {
 }
 
 impl FeatureGroup {
-    /// No features, in a class model of so many classes.
+    /// No features, in a class model with this number of classes.
     pub(crate) fn new(alloc: Global, classes: usize) -> Result<FeatureGroup, AllocError>
         ensures { IfOk result (λ g. g ≡ no_group) }
     {

@@ -35,7 +35,7 @@ impl Model for FeatureTable {
 }
 
 impl FeatureTable {
-    /// The table of these features, in a class model of so many classes.
+    /// The table of these features, in a class model with this number of classes.
     pub(crate) fn new(
         alloc: Global,
         features: Vec<FeatureInfo>,

@@ -1,4 +1,4 @@
-//! JSON trees, for readers with faults of their own: the tree of some bytes, records and lists.
+//! JSON trees, for readers with faults of their own: the tree of some bytes, JSON objects and lists.
 
 ghost use Rattle.std.specs.Prelude.{◌≡◌, map, option_map, IfOk, IfErr};
 ghost use Rattle.serde_json.specs.View.{view, members_view};
@@ -19,7 +19,7 @@ pub enum JsonFault {
     OutOfMemory,
 }
 
-/// The JSON tree of some bytes.
+/// The JSON tree of some bytes. The one place where the bytes of an input become JSON.
 pub fn tree(alloc: Global, bytes: &[u8]) -> Result<Value, JsonFault>
     ensures tree { IfOk result (λ v. IsTree bytes.now (view v)) }
     ensures fault { IfErr result (λ e. IsJsonFault e bytes.now) }
@@ -31,7 +31,7 @@ pub fn tree(alloc: Global, bytes: &[u8]) -> Result<Value, JsonFault>
     }
 }
 
-/// The members of an object that has so many.
+/// The members of a JSON object that has exactly this number of them. `None` for any other value.
 #[tactic(auto, using(crate::proofs::Trees::trees), unfolding(crate::specs::Json::record_from))]
 pub fn record_of(value: &Value, members: usize) -> Option<&Map<String, Value>>
     ensures { option_map (λ ms. members_view ms.now.entries) result
@@ -43,7 +43,7 @@ pub fn record_of(value: &Value, members: usize) -> Option<&Map<String, Value>>
     }
 }
 
-/// The values of a list.
+/// The values of a list. `None` for any other value.
 #[tactic(auto, using(crate::proofs::Trees::trees), unfolding(crate::specs::Json::list_from))]
 pub fn list_of(value: &Value) -> Option<&[Value]>
     ensures { option_map (λ vs. map view vs.now) result ≡ list_from (view value.now) }
@@ -54,7 +54,8 @@ pub fn list_of(value: &Value) -> Option<&[Value]>
     }
 }
 
-/// How many members of this name an object has, one or none: an object with an optional member has as many more.
+/// How many members of this name a value has: 1, or 0. A reader adds it to the number of members that it asks for,
+/// where this one is optional.
 pub fn member_count(value: &Value, name: &str) -> usize
     ensures { result ≡ member_count name.now (view value.now) }
 {

@@ -6,7 +6,7 @@ ghost use Rattle.imkl_model.specs.Tables.{has_mark, is_marked};
 use std::alloc::{AllocError, Global};
 use std::marker::Model;
 
-/// A mark for each of so many numbers, 64 to a word.
+/// A mark for each number below a count, 64 to a word.
 #[derive(Drop)]
 pub(crate) struct Row {
     words: Vec<u64>,
@@ -51,7 +51,7 @@ impl Row {
         mark(&mut self.words, number);
     }
 
-    /// Marks a number if it is one of so many.
+    /// Marks a number, if it is below the count.
     pub(crate) fn add_within(&mut self, number: usize)
         ensures same { length self.new ≡ length self.old }
         ensures marks { (j : ℕ) → j < length self.old

@@ -28,7 +28,7 @@ use std::alloc::Global;
 /// The greatest bound of a feature.
 const BOUND_LIMIT: u64 = 1_000_000;
 
-/// The members of an object that has so many.
+/// The members of a JSON object that has exactly this number of them; else the fault is `Shape`.
 fn record(value: &Value, members: usize) -> Result<&Map<String, Value>, ModelFault>
     ensures { Gives model_fault (λ ms. members_view ms.now.entries) result
         (found (record_from members (view value.now)) Shape) }

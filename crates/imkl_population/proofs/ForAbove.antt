@@ -1,5 +1,5 @@
--- What the crates above cite: a population after an object is added, and after values are put at a feature; how long its sizes are;
--- and tests of all elements.
+-- What the crates above cite: a population after an object is added, and after values are put at a feature; how long
+-- its sizes are; and tests of all elements.
 pub use Rattle.imkl_population.proofs.Lengths.{length-list_below}
 pub use Rattle.imkl_population.proofs.Fitting.{get_or-list_below}
 pub use Rattle.imkl_population.proofs.Bools.{list_all-weaker}

@@ -1,4 +1,5 @@
--- The pairs of an association, from the column of its source end; and its holders, from pairs in the order of their targets.
+-- The pairs of an association, from the column of its source end; and its holders, from pairs in the order of their
+-- targets.
 use Rattle.std.proofs.Common.{◌≡◌, ℕ, zero, suc, ◌+◌, ◌<◌, ◌≤◌, ◌==◌, ◌&&◌, not, List, [], ◌∷◌, ◌++◌, length, map, take, filter, get_or, slice_range, Bool, true, false, cond, Option, Some, None, Less, refl, sym, ap, subst, ◌∙◌, arith, append_assoc, All, inl, inr, if◌then◌else◌}
 use Rattle.std.specs.Prelude.{unwrap_or}
 use Rattle.std.specs.List.{AllByRecursion}

@@ -66,7 +66,8 @@ first_gap_in p o r c fs items side class are =
     let list_below : items ≡ with_required (written_side p) (class_of p o) fs = are ∙ rw (side, class) refl in
     rw list_below (first_in-places (gap p o) (λ f. is_required (written_side p) (class_of p o) f || is_one_of fs f) (length p.model.features) (λ f lt idle. no_gap p o f fs idle))
 
--- the first fault of an object's opposite ends is the first at what its class requires, and elsewhere where an end may be crowded
+-- the first fault of an object's opposite ends is the first at what its class requires, and elsewhere where an end may
+-- be crowded
 pub first_end_fault_in : (p : Population) (o crowded : ℕ) (r : Requirements) (c : ℕ) (extra items : List ℕ) → o < length p.objects → ((f : ℕ) → f < length p.model.features → IsUncrowdedBelow p crowded f)
     → ((f : ℕ) → f < length p.model.features → is_one_of extra f ≡ false → o < crowded) → r ≡ opposite_side p → c ≡ class_of p o → items ≡ with_required r c extra
     → first_in (end_fault p o) items ≡ first_below (end_fault p o) (length p.model.features)

@@ -17,7 +17,8 @@ pub record IsConsistent (p : Population) : Type 0 where
   -- ids have their form, and differ
   pub formed : (o : ℕ) → o < length p.objects → is_id (object_at p o).id ≡ true
   pub distinct : (n o : ℕ) → n < o → o < length p.objects → bytes_eq (object_at p n).id (object_at p o).id ≡ false
-  -- what is written on an object is a finite map, from features of the model that belong to its class and are no opposite ends
+  -- what is written on an object is a finite map, from features of the model that belong to its class and are no
+  -- opposite ends
   pub mapped : (o : ℕ) → o < length p.objects → IsMap (object_at p o).written
   pub known : (o f : ℕ) → o < length p.objects → is_set (object_at p o).written f ≡ true → f < length p.model.features
   pub owned : (o f : ℕ) → o < length p.objects → is_set (object_at p o).written f ≡ true → belongs p.model (class_of p o) f ≡ true

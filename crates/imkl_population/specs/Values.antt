@@ -17,7 +17,7 @@ abbrev pub is_whole_number : Scalar → Bool
 is_whole_number (scalar.Int n) = is_integer n
 is_whole_number v = false
 
--- a value is a literal of an enumeration that has so many
+-- a value is a literal of an enumeration that has this number of literals
 abbrev pub is_literal_of : ℕ → ℕ → Scalar → Bool
 is_literal_of e literals (scalar.Literal d l) = d == e && nat_lt l literals
 is_literal_of e literals v = false

@@ -29,7 +29,7 @@ pub(crate) fn is_id(id: &str) -> bool
     !id.is_empty() && id.len() <= 128 && are_id_bytes(id.as_bytes())
 }
 
-/// Whether a value is a literal of an enumeration that has so many.
+/// Whether a value is a literal of an enumeration that has this number of literals.
 fn is_literal_of(enumeration: EnumNo, literals: usize, value: &Scalar) -> bool
     ensures { result ≡ is_literal_of enumeration literals value.now }
 {

@@ -55,13 +55,13 @@ pub enum PopulationFault {
     /// The id doesn't have 1 to 128 characters of `A-Z a-z 0-9 . _ : -`.
     #[error("the id is not well formed")]
     BadId,
-    /// There is no memory for what the call adds.
+    /// Memory ran out.
     #[error("out of memory")]
     OutOfMemory,
 }
 
 impl PopulationFault {
-    /// The fault's number in the documentation, 1 to 12.
+    /// The documented number of the fault, 1 to 12.
     pub fn number(&self) -> u8
         ensures { result ≡ population_fault_number self.now }
     {

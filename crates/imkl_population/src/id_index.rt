@@ -77,7 +77,7 @@ impl IdIndex {
         ensures { IfOk result (λ x. (hs : List Head) (id : List ℕ) →
             found x.slots.items (get_by_text x.others) hs id ≡ None) }
     {
-        let slots = vec![in alloc; 0; ids.saturating_mul(4)]?;
+        let slots = vec![in alloc; 0; ids.saturating_mul(8)]?;
         Ok(IdIndex {
             slots,
             others: BTreeMap::new(alloc),

@@ -107,7 +107,7 @@ impl Store {
         result
     }
 
-    /// Makes room for so many values of an object at a feature that has a column.
+    /// Makes room for a number of values of an object at a feature that has a column.
     fn make_room(
         &mut self,
         feature: usize,
@@ -124,7 +124,7 @@ impl Store {
         result
     }
 
-    /// Moves values to an object, of so many, at one of so many features, in the place of those that stand there.
+    /// Moves values to an object at a feature, in the place of those that stand there.
     pub(crate) fn put(
         &mut self,
         alloc: Global,

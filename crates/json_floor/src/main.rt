@@ -1,5 +1,5 @@
-//! The program `json_floor`: makes the tree of a JSON file, as reading a delivery does, and drops it. What that takes is the
-//! least that judging the file takes.
+//! The program `json_floor`: makes the tree of a JSON file, as reading a delivery does, and drops it. What that takes
+//! is the least that judging the file takes.
 #![tactic(auto)]
 
 ghost use Rattle.std.specs.Prelude.{◌≡◌, true, IsUtf8, Some};

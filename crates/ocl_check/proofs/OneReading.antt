@@ -19,7 +19,8 @@ use Rattle.ocl_check.specs.TextLaws.{is_loose}
 abbrev Spelled : List ℕ → List Rule → Type 0
 Spelled text rules = TextSpellsWithin MAX_NESTING MAX_CHAIN text rules
 
--- rules whose names differ; a flaw of the tokens; tokens that spell no rules within the limits; or rules of which one repeats a name
+-- rules whose names differ; a flaw of the tokens; tokens that spell no rules within the limits; or rules of which one
+-- repeats a name
 data Stands (text : List ℕ) : TextReading → Type 0 where
   spelled : (rules : List Rule) → Spelled text rules → NamesDiffer rules → Stands text (Ok rules)
   flawed : (flaw : TextFlaw) (offset : ℕ) → HasFlaw text flaw offset → Stands text (Err (text_fault_at flaw offset))

@@ -38,6 +38,7 @@ bound_lines u z = bounds_below u z (length u.rules)
 abbrev pub bounds_answer : Population → Content → Answer
 bounds_answer p u = (bound_lines u (sizes_of p), 0)
 
--- what `bound` answers of the bytes of its three inputs: the line of the first that is refused, else the bounds of the rules
+-- what `bound` answers of the bytes of its three inputs: the line of the first that is refused, else the bounds of the
+-- rules
 abbrev pub bound_answer : List ℕ → List ℕ → List ℕ → Answer
 bound_answer model delivery code = inputs_answer (code_file_answer bounds_answer code) model delivery

@@ -41,8 +41,9 @@ abbrev pub WholeUnless : Bool → Option (List ℕ) → Option (List ℕ) → Li
 WholeUnless false old new code = Appends old new code
 WholeUnless true old new code = (n : ℕ) × Appends old new (take n code)
 
--- What was written of a code file: all of it where the command ended with a status, or where only its reply couldn't be written; a prefix where
--- the file couldn't. Its sink is as it was where there is no code file, or memory or a read failed.
+-- What was written of a code file: all of it where the command ended with a status, or where only its reply couldn't be
+-- written; a prefix where the file couldn't. Its sink is as it was where there is no code file, or memory or a read
+-- failed.
 abbrev pub IsCodeWritten : {S : Type 0} → (S → Option (List ℕ)) → (S → Bool) → Option (List ℕ) → S → S → Outcome → Type 0
 IsCodeWritten contents has_failed None old new outcome = new ≡ old
 IsCodeWritten contents has_failed (Some code) old new (Status s) = Appends (contents old) (contents new) code

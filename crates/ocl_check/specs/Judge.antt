@@ -27,11 +27,12 @@ abbrev pub admitted_answer : Population → Content → Result (Unit {0}) ℕ �
 admitted_answer p u (Err r) = refused_cost r
 admitted_answer p u (Ok _) = report_answer p u
 
--- what is answered, within a budget of steps for each rule and object, of a population and a unit accepted in its class model
+-- what is answered, within a budget of steps for each rule and object, of a population and a unit accepted in its class
+-- model
 abbrev pub budget_answer : ℕ → Population → Content → Answer
 budget_answer budget p u = admitted_answer p u (admission u (sizes_of p) budget)
 
--- what `judge` answers, within a budget, of the bytes of a class model, a delivery and a code file: the line of the first that is refused,
--- else the report
+-- what `judge` answers, within a budget, of the bytes of a class model, a delivery and a code file: the line of the
+-- first that is refused, else the report
 abbrev pub judge_answer : ℕ → List ℕ → List ℕ → List ℕ → Answer
 judge_answer budget model delivery code = inputs_answer (code_file_answer (budget_answer budget) code) model delivery

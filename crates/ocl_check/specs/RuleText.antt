@@ -37,8 +37,8 @@ abbrev pub TextReadsAs : List ℕ → TextReading → Type 0
 TextReadsAs text (Ok rules) = TextSpellsWithin MAX_NESTING MAX_CHAIN text rules × NamesDiffer rules
 TextReadsAs text (Err fault) = HasTextFlaw text fault.flaw fault.offset
 
--- Bytes that aren't UTF-8 have a bad character where the first ill-formed sequence begins. All bytes are read in one way, but for Syntax and TooDeep, which
--- may be reported of different tokens.
+-- Bytes that aren't UTF-8 have a bad character where the first ill-formed sequence begins. All bytes are read in one
+-- way, but for Syntax and TooDeep, which may be reported of different tokens.
 abbrev pub BytesReadAs : Bool → List ℕ → TextReading → Type 0
 BytesReadAs true bytes t = TextReadsAs bytes t
 BytesReadAs false bytes t = t ≡ Err (text_fault_at BadCharacter (utf8_valid_len bytes))

@@ -93,8 +93,8 @@ fn read_whole<R: Read>(
     Err(InputFault::Read)
 }
 
-/// All bytes of a reader, at most `limit`. Whatever the answer is, at most `limit + 1` bytes were read; the reads are counted
-/// by `read_whole`.
+/// All bytes of a reader, at most `limit`. Whatever the answer is, at most `limit + 1` bytes were read; the reads are
+/// counted by `read_whole`.
 pub fn read_input<R: Read>(alloc: Global, reader: &mut R, limit: u64) -> Result<Vec<u8>, InputFault>
     requires { limit < 2 ^ 63 }
     ensures bytes { IfOk result (λ v. Consumes (R.remaining reader.old)

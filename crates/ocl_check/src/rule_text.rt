@@ -10,7 +10,8 @@ use ocl_text::{SurfaceRule, parse_rules};
 use ocl_tokens::{TextFault, TextFlaw};
 use std::alloc::Global;
 
-/// The rules of the bytes of a text. Bytes that aren't UTF-8 have a bad character where the first ill-formed sequence begins.
+/// The rules of the bytes of a text. Bytes that aren't UTF-8 have a bad character where the first ill-formed sequence
+/// begins.
 pub(crate) fn read_text(alloc: Global, bytes: &[u8]) -> Result<Vec<SurfaceRule>, TextFault>
     ensures rules { IfOk result (λ v. ReadsAs bytes.now (Ok (map rule_of v.items))) }
     ensures names { IfOk result (λ v. NamesDiffer (map rule_of v.items)) }

@@ -4,8 +4,8 @@ use std::fs::File;
 use std::io::Write;
 use std::{fs, io};
 
-/// A file that is created, or emptied, at its first write, so that it is untouched where nothing is written. A file that can't be
-/// created is a failed write.
+/// A file that is created, or emptied, at its first write, so that it is untouched where nothing is written. A file
+/// that can't be created is a failed write.
 #[derive(Drop)]
 pub struct Creating<'a> {
     rt: &'a HostRuntime,

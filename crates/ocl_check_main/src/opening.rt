@@ -4,8 +4,8 @@ use std::fs::File;
 use std::io::Read;
 use std::{fs, io};
 
-/// A file that is opened at its first read, so that no file is opened before the inputs named earlier have ended: a writer that
-/// feeds several pipes in turn is not kept waiting. A file that can't be opened is a failed read.
+/// A file that is opened at its first read, so that no file is opened before the inputs named earlier have ended: a
+/// writer that feeds several pipes in turn is not kept waiting. A file that can't be opened is a failed read.
 #[derive(Drop)]
 pub struct Opening<'a> {
     rt: &'a HostRuntime,

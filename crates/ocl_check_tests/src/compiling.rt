@@ -77,7 +77,8 @@ fn judges_what_it_compiled(rt: HostRuntime) {
     );
 }
 
-/// How `compile` of the empty text ends over a code file that takes so many bytes and a sink that takes as many, and what both took.
+/// How `compile` of the empty text ends over a code file that takes so many bytes and a sink that takes as many, and
+/// what both took.
 fn compiled_into(alloc: Global, code: usize, printed: usize) -> (Outcome, usize, usize) {
     let mut model = CATALOGUE.as_bytes();
     let mut rules = b"".as_slice();

@@ -18,7 +18,8 @@ enum Event {
     IsInterrupted,
 }
 
-/// A reader that does one thing in its first reads, another in the next one, and a third thing from then on; it counts its reads.
+/// A reader that does one thing in its first reads, another in the next one, and a third thing from then on; it counts
+/// its reads.
 #[derive(Drop)]
 struct Scripted {
     first: Event,
@@ -99,7 +100,8 @@ fn reads_up_to_the_limit(rt: HostRuntime) {
     }
 }
 
-/// How `judge` ends where the reader of one input, by its number from 0, fails at once, and how many bytes the others have left.
+/// How `judge` ends where the reader of one input, by its number from 0, fails at once, and how many bytes the others
+/// have left.
 fn judged_with_failing(alloc: Global, which: usize) -> (Outcome, usize, usize) {
     let mut failing = Scripted {
         first: Event::Fails,

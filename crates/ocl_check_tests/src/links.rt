@@ -17,9 +17,9 @@ pub(crate) const NETWORK: &str =
 "end":{"name":"omvat","lower":0,"upper":null,"ordered":false},
 "opposite":{"name":"ligtIn","lower":0,"upper":1,"ordered":false}}]}"#;
 
-/// The rule d of Mantelbuis, that what it holds is 600 deep (SELF, ATTR omvat, FORALL 4, GET 1, ATTR diepte, INT 600, GE), and the
-/// rule p of Utiliteitsnet, that all nets have one theme (ALL Utiliteitsnet, LET 9, GET 1, FORALL 7, GET 1, FORALL 5, GET 2, ATTR
-/// thema, GET 3, ATTR thema, EQ Thema).
+/// The rule d of Mantelbuis, that what it holds is 600 deep (SELF, ATTR omvat, FORALL 4, GET 1, ATTR diepte, INT 600,
+/// GE), and the rule p of Utiliteitsnet, that all nets have one theme (ALL Utiliteitsnet, LET 9, GET 1, FORALL 7, GET
+/// 1, FORALL 5, GET 2, ATTR thema, GET 3, ATTR thema, EQ Thema).
 pub(crate) const TWO_RULES: &[u8] =
     b"OCLB\x00\x01\x00\x09\x00\x01d\x00\x01p\x00\x0aMantelbuis\x00\x05omvat\
 \x00\x0eKabelOfLeiding\x00\x06diepte\x00\x0dUtiliteitsnet\x00\x05thema\x00\x05Thema\
@@ -40,7 +40,8 @@ fn judges_objects_to(
     Ok(judges_to(alloc, NETWORK, delivery.as_str(), TWO_RULES, status, text))
 }
 
-/// Whether `judge` of the duct M1 that holds the cables E1 and E2 of these features ends with status 1 and writes this text.
+/// Whether `judge` of the duct M1 that holds the cables E1 and E2 of these features ends with status 1 and writes this
+/// text.
 fn judges_duct_to(
     alloc: Global,
     first: &str,

@@ -1,4 +1,5 @@
--- The code of a tree in parts, as it is written: what follows a tree follows its code, and links follow their first operand.
+-- The code of a tree in parts, as it is written: what follows a tree follows its code, and links follow their first
+-- operand.
 use Rattle.std.proofs.Common.{◌≡◌, ℕ, ◌+◌, ◌<◌, ◌≤◌, List, [], ◌∷◌, ◌++◌, map, length, drop, Result, Ok, Err, OnOk, refl, sym, ap, ◌∙◌, subst, arith, rules, get_or, length-append, append_assoc, append-nil, Box, Vec, Global}
 use Rattle.std.proofs.lemmas.List.{drop_more}
 use Rattle.std.specs.List.{AllByRecursion}

@@ -43,8 +43,8 @@ CompiledKeepsRules =
     → IsClassModel m → AreTypedRules m rs → compile_of m rs ≡ Ok u
     → KeepsRules m rs u
 
--- a rule of a unit that is compiled from typed rules, a consistent population of its class model, and an object of the rule's
--- context class
+-- a rule of a unit that is compiled from typed rules, a consistent population of its class model, and an object of the
+-- rule's context class
 pub record IsCompiledRun (rs : List CheckedRule) (u : Content) (p : Population) (n : ℕ) (r : CheckedRule) (o : ℕ) : Type 0 where
   pub model : IsClassModel p.model
   pub population : IsConsistent p

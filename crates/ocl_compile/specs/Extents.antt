@@ -21,7 +21,7 @@ one_instruction = extent 1 1 0
 abbrev pub then_instruction : Extent → Extent
 then_instruction x = extent (x.instructions + 1) x.operands x.blocks
 
--- code that stands above so many operands, after other code
+-- code that stands above `below` operands, after other code
 abbrev pub then_above : ℕ → Extent → Extent → Extent
 then_above below x y = extent (x.instructions + y.instructions) (max x.operands (below + y.operands)) (max x.blocks y.blocks)
 
@@ -47,7 +47,7 @@ abbrev mutual
   extent_of (tree.Let v body) = then_block (extent_of v) (extent_of body)
   extent_of (tree.If k condition first second) = then_branches (extent_of condition) (extent_of first) (extent_of second)
 
-  -- operands after code that leaves so many below
+  -- operands one after another, after code that leaves `below` values under them
   pub extent_after : ℕ → Extent → CoreTrees → Extent
   extent_after below x tree.no_core = x
   extent_after below x (tree.one_core first rest) = extent_after (suc below) (then_above below x (extent_of first)) rest
@@ -58,8 +58,8 @@ cut_extent x = extent (min x.instructions 65536) (min x.operands 65536) (min x.b
 
 -- ---- limits by measures
 
--- the limit that a rule of an index passes, by whether a text that it uses is too long, by the numbers of texts and symbols so far,
--- and by the extent of its code
+-- the limit that a rule of an index passes, by whether a text that it uses is too long, by the numbers of texts and
+-- symbols so far, and by the extent of its code
 abbrev pub limit_by : ℕ → Bool → ℕ → ℕ → Extent → Option Limit
 limit_by index is_long texts symbols x =
     if nat_le most_rules index || nat_lt most_counted texts || nat_lt most_counted symbols || is_long || nat_lt most_counted x.instructions

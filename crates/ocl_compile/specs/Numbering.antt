@@ -1,5 +1,5 @@
--- The texts and the symbols of a unit, numbered by first use: for each rule its name, its context class, and then its code in
--- order. A symbol's own texts are numbered where it is first used, the class or the enumeration first.
+-- The texts and the symbols of a unit, numbered by first use: for each rule its name, its context class, and then its
+-- code in order. A symbol's own texts are numbered where it is first used, the class or the enumeration first.
 use Rattle.std.specs.Prelude.{ℕ, ◌==◌, ◌&&◌, Bool, false, List, [], ◌∷◌, ◌++◌, position, unwrap_or, bytes_eq, slice_index_or, if◌then◌else◌}
 use Rattle.ocl_base.specs.Lists.{is_among}
 use Rattle.imkl_model.specs.ClassModel.{Model, class_at, enumeration_at, feature_at}

@@ -55,7 +55,7 @@ impl Extent {
         }
     }
 
-    /// This code, and then code above so many operands.
+    /// This code, and then code above `below` operands.
     pub(crate) fn then_above(self, below: usize, next: Extent) -> Extent
         ensures { result ≡ cut_extent (extents.then_above below self next) }
     {

@@ -117,7 +117,7 @@ pub(crate) fn operator_instr(numbers: &Numbers, operator: Operator) -> Instr
     }
 }
 
-/// The instruction of an iteration whose body has so many instructions.
+/// The instruction of an iteration whose body has `length` instructions.
 pub(crate) fn iteration_instr(numbers: &Numbers, iteration: Iteration, length: u16) -> Instr
     requires counts { AreCounted numbers.now }
     ensures { result ≡ spec.iteration_instr numbers.now iteration length }

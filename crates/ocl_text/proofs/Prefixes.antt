@@ -1,6 +1,6 @@
--- What a parser makes of a list it makes of each that agrees with it through the first token that is left. Under wider limits it
--- reads the same and refuses the same, but for what was too deep. Where it stops, what it has passed can be completed under wider
--- limits, before each list that may follow.
+-- What a parser makes of a list it makes of each that agrees with it through the first token that is left. Under wider
+-- limits it reads the same and refuses the same, but for what was too deep. Where it stops, what it has passed can be
+-- completed under wider limits, before each list that may follow.
 use Rattle.std.proofs.Common.{◌≡◌, ◌≤◌, List, [], ◌∷◌, ◌++◌, length, drop, Result, Ok, Err, refl, sym, ap, ◌∙◌, subst, Bool, true, false, arith, inl, inr, ◌⊎◌}
 use Rattle.std.specs.Prelude.{if◌then◌else◌}
 use Rattle.std.proofs.lemmas.List.{append_assoc, append-nil, length-append}

@@ -1,4 +1,5 @@
--- The grammar, a case for each line. A repetition or an option ends, or is left out, only where the next token does not begin it.
+-- The grammar, a case for each line. A repetition or an option ends, or is left out, only where the next token does not
+-- begin it.
 --   rules = { "context" id inv { inv } }          inv = "inv" [ id ] ":" expr
 --   expr = "let" bind { "," bind } "in" expr | level 8
 --   bind = id ":" type "=" level 8        type = id [ "(" type ")" ]        var = id [ ":" type ]
@@ -174,8 +175,8 @@ pub data IsVariable : ℕ → List Terminal → VariableTree → List Terminal �
 
 -- ---- expressions, with offset most `chain` operators or steps in one chain
 
--- Every token of a construct but its first is inside it: a parenthesis, an `if`, a `let`, a prefix operator. Where a construct
--- opens, n falls by one, and no token stands where it is zero.
+-- Every token of a construct but its first is inside it: a parenthesis, an `if`, a `let`, a prefix operator. Where a
+-- construct opens, n falls by one, and no token stands where it is zero.
 mutual
   pub data IsExpr (chain : ℕ) : ℕ → List Terminal → SurfaceTree → List Terminal → Type 0 where
     let_expression : {m offset in_offset : ℕ} {text in_text : List ℕ} {ts mid rest : List Terminal} {bindings : List Bound} {body : SurfaceTree} → IsBinds chain (suc m) [] ts bindings (token k.In in_offset in_text ∷ mid) → IsExpr chain (suc m) mid body rest → IsExpr chain (suc (suc m)) (token k.Let offset text ∷ ts) (lets_at offset bindings body) rest

@@ -49,8 +49,8 @@ Agrees (t ∷ ts) other = (more : List Terminal) × (other ≡ t ∷ more)
 abbrev pub BeginsRules : List Terminal → Type 0
 BeginsRules before = (more : List Terminal) × (rules : List Rule) × Spells (before ++ more) rules
 
--- The tokens before the rest begin a list that spells rules, and no list that agrees with these through the rest's first token
--- does: where nothing is left, the whole list spells none.
+-- The tokens before the rest begin a list that spells rules, and no list that agrees with these through the rest's
+-- first token does: where nothing is left, the whole list spells none.
 pub record IsWrongAt (ts rest : List Terminal) : Type 0 where
   pub before : List Terminal
   pub split : ts ≡ before ++ rest

@@ -21,7 +21,8 @@ pub data Variables : Type 0 where
   Single : (variable : VariableTree) → Variables
   Pair : (first second : VariableTree) → Variables
 
--- An expression. A `let` binds one variable: one that is written with several bindings stands for as many, one inside the other.
+-- An expression. A `let` binds one variable: one that is written with several bindings stands for as many, one inside
+-- the other.
 mutual
   pub data SurfaceTree : Type 0 where
     Number : (value offset : ℕ) → SurfaceTree
@@ -45,8 +46,8 @@ abbrev pub trees_of : List SurfaceTree → Trees
 trees_of [] = none
 trees_of (t ∷ ts) = some t (trees_of ts)
 
--- where an expression stands: an operator at its token, a step by a dot or an arrow at the name after it, everything else at
--- its first token
+-- where an expression stands: an operator at its token, a step by a dot or an arrow at the name after it, everything
+-- else at its first token
 abbrev pub offset_of : SurfaceTree → ℕ
 offset_of (Number value offset) = offset
 offset_of (String value offset) = offset

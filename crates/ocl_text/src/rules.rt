@@ -168,7 +168,7 @@ fn contexts(
     }
 }
 
-/// The rules of all the tokens, with so many constructs open round a token.
+/// The rules of all the tokens, with at most this number of constructs open round a token.
 #[tactic(auto, unfolding(crate::specs::Parse::all_rules))]
 pub(crate) fn rules_of(
     alloc: Global,

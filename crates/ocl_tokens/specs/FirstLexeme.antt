@@ -21,7 +21,8 @@ abbrev pub bad_after : Bool → Option ℕ → ℕ → ℕ → Option ℕ
 bad_after escaped (Some place) at b = Some place
 bad_after escaped None at b = if escaped && not (is_escape b) then Some at else None
 
--- After the opening quote and `at` bytes more: how long the string is with both quotes, and how far from the opening quote its first bad escape lies.
+-- After the opening quote and `at` bytes more: how long the string is with both quotes, and how far from the opening
+-- quote its first bad escape lies.
 unfoldable pub string_from : Bool → Option ℕ → ℕ → List ℕ → Option (ℕ × Option ℕ)
 string_from escaped bad at [] = None
 string_from escaped bad at (b ∷ bs) =

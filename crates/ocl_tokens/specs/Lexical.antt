@@ -131,8 +131,9 @@ pub data CommentStaysOpen : List ℕ → Type 0 where
 abbrev pub is_plain : ℕ → Bool
 is_plain b = not (b == 39) && not (b == 92)
 
--- Inside a string, so many bytes past its quote: it closes at the first quote that is part of no escape, after this many bytes
--- more. An escape is two bytes wide, good or bad; the distance of the first bad one from the quote is given, if there is one.
+-- Inside a string, `past` bytes behind its quote: it closes at the first quote that is part of no escape, n bytes
+-- further on. An escape is two bytes wide, good or bad; `bad` is the distance of the first bad one from the quote, if
+-- there is one.
 pub data StringCloses : ℕ → List ℕ → ℕ → Option ℕ → Type 0 where
   quote : {past : ℕ} {text : List ℕ} → StringCloses past (39 ∷ text) 1 None
   plain : {past b n : ℕ} {text : List ℕ} {bad : Option ℕ} → is_plain b ≡ true → StringCloses (past + 1) text n bad → StringCloses past (b ∷ text) (suc n) bad
@@ -148,13 +149,13 @@ pub data StringStaysOpen : List ℕ → Type 0 where
 
 -- ---- what a text begins with
 
--- the first bytes, so many, are no token: white space or a comment
+-- the first bytes of a text, as many as are given, are no token: white space or a comment
 pub data IsBlank : List ℕ → ℕ → Type 0 where
   white_space : {b : ℕ} {text : List ℕ} → is_white b ≡ true → IsBlank (b ∷ text) 1
   line_comment : {text : List ℕ} → IsBlank (45 ∷ 45 ∷ text) (prefix_len in_line (45 ∷ 45 ∷ text))
   block_comment : {n : ℕ} {text : List ℕ} → CommentEnds text n → IsBlank (47 ∷ 42 ∷ text) (n + 2)
 
--- the first bytes, so many, are a token of this kind: the longest that fits
+-- the first bytes of a text, as many as are given, are a token of this kind: the longest that fits
 pub data IsToken : List ℕ → TokenKind → ℕ → Type 0 where
   a_word : {b : ℕ} {text : List ℕ} → is_letter b ≡ true → IsToken (b ∷ text) (word_kind (take_while is_letter_or_digit (b ∷ text))) (prefix_len is_letter_or_digit (b ∷ text))
   a_number : {b value : ℕ} {text : List ℕ} → is_ascii_digit b ≡ true → value_of (take_while is_ascii_digit (b ∷ text)) ≡ value → value ≤ MAX_NUMBER → IsToken (b ∷ text) (Number value) (prefix_len is_ascii_digit (b ∷ text))

@@ -118,7 +118,7 @@ fn is_escape(byte: u8) -> bool
     )
 }
 
-/// The first bad escape, once this byte after so many was read too.
+/// The first bad escape, once this byte, which stands at `at`, was read too.
 fn bad_after(escaped: bool, bad: Option<usize>, at: usize, byte: u8) -> Option<usize>
     ensures { result ≡ spec.bad_after escaped bad at byte }
 {

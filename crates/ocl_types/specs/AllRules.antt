@@ -21,7 +21,7 @@ abbrev pub in_rule : ℕ → Result CheckedRule TypeFaultAt → Result CheckedRu
 in_rule rule (Ok r) = Ok r
 in_rule rule (Err f) = Err (record { flaw = f.flaw; rule = rule; offset = f.offset })
 
--- rules that stand after so many others
+-- rules that stand after i others
 abbrev pub elaborate_rules : Model → ℕ → List Rule → Result (List CheckedRule) RulesFaultAt
 elaborate_rules m i [] = Ok []
 elaborate_rules m i (r ∷ rs) = do

@@ -1,6 +1,6 @@
--- What an expression is elaborated to, or its first fault: children before their node, the source before the arguments, left
--- before right. Whatever the text leaves out is written out: implicit sources, the shorthand on collections, two variables,
--- conversions to a collection.
+-- What an expression is elaborated to, or its first fault: children before their node, the source before the arguments,
+-- left before right. Whatever the text leaves out is written out: implicit sources, the shorthand on collections, two
+-- variables, conversions to a collection.
 use Rattle.std.specs.Prelude.{ℕ, ◌==◌, ◌&&◌, ◌||◌, Bool, true, false, List, [], ◌∷◌, length, Option, Some, None, option_map, Result, Ok, Err, codes, bytes_eq, if◌then◌else◌}
 use Rattle.std.specs.Option.{option_or}
 use Rattle.imkl_model.specs.ClassModel.{Model, class_number, enumeration_number, literal_number}
@@ -185,7 +185,8 @@ abbrev pub equal_collections : Bool → CollectionKind → Option ScalarKind →
 equal_collections true c common = option_map (λ e. Equal (Collection c e)) common
 equal_collections false c common = Some (Plain plain.BothNull)
 
--- values are compared as values of what their kinds have in common; collections of one kind must have something in common
+-- values are compared as values of what their kinds have in common; collections of one kind must have something in
+-- common
 abbrev pub equality_operator : Kind → Kind → Option Operator
 equality_operator (Scalar d) (Scalar e) = Some (equal_scalars (common_kind d e))
 equality_operator (Scalar d) (Collection c e) = Some (Plain plain.BothNull)

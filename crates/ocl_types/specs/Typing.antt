@@ -1,5 +1,5 @@
--- When a core tree is typed in a class model: by its own kinds, whatever it came from. The variables that it sees have the kinds
--- of a list, the one of number n at index n.
+-- When a core tree is typed in a class model: by its own kinds, whatever it came from. The variables that it sees have
+-- the kinds of a list, the one of number n at index n.
 use Rattle.std.specs.Prelude.{◌≡◌, ◌<◌, ◌&&◌, Bool, true, false, List, [], ◌∷◌, ◌++◌, length, Some, slice_get}
 use Rattle.imkl_model.specs.ClassModel.{Model, enumeration_at, feature_at}
 use Rattle.imkl_model.specs.WellFormed.{IsFeature}

@@ -1,5 +1,5 @@
-//! The class model of the rows: the catalogue of the examples, classes above and below each other, and a class whose features are
-//! of each kind.
+//! The class model of the rows: the catalogue of the examples, classes above and below each other, and a class whose
+//! features are of each kind.
 
 pub(crate) const MODEL: &str = r#"{"model":"imkl-profile","enums":[
 {"name":"Thema","literals":["elektriciteit","water","riool","telecom"]},

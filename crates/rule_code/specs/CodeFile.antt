@@ -58,7 +58,7 @@ pub record CodeFaultAt : Type 0 where
   pub flaw : Flaw
   pub offset : ℕ
 
--- a fault with so many bytes left, in a file of so many bytes
+-- the offset of a fault, in a file of `size` bytes: the fault says how many were left
 abbrev pub code_fault_at : ℕ → Fault → CodeFaultAt
 code_fault_at size fault = record { flaw = fault.flaw; offset = size - fault.left }
 

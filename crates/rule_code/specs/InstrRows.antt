@@ -8,8 +8,8 @@ use Rattle.rule_code.specs.declared.kind.WrittenKind.{WrittenKind}
 use Rattle.rule_code.specs.declared.symbol.SymbolTag.{SymbolTag}
 use Rattle.rule_code.specs.declared.symbol.SymbolTag.TheVariants as tags
 
--- A field with its value: an Integer, a Boolean, a number of 16 bits, the number of a text, the number of a symbol that names
--- that sort of thing, the kind of a single value, that of a collection, and any kind.
+-- A field with its value: an Integer, a Boolean, a number of 16 bits, the number of a text, the number of a symbol that
+-- names that sort of thing, the kind of a single value, that of a collection, and any kind.
 pub data FieldValue : Type 0 where
   integer_field : ℤ → FieldValue
   boolean_field : Bool → FieldValue

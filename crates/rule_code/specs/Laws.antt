@@ -15,8 +15,8 @@ may_be_cut flaws.Magic = true
 may_be_cut flaws.Truncated = true
 may_be_cut flaw = false
 
--- The wrong field begins in the file or at its end, and `through` ends with it. What follows doesn't matter, unless it is the end
--- of the file that cuts the field.
+-- The wrong field begins in the file or at its end, and `through` ends with it. What follows doesn't matter, unless it
+-- is the end of the file that cuts the field.
 abbrev pub IsOfField : List ℕ → CodeFaultAt → Type 0
 IsOfField bytes fault = (through rest : List ℕ) × (bytes ≡ through ++ rest)
     × (fault.offset ≤ length through) × (length through ≤ fault.offset + most_field_bytes)

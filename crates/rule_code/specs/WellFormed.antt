@@ -35,7 +35,7 @@ abbrev pub EachFits : {A : Type 0} → (List A → A → Type 0) → List A → 
 EachFits Fits before [] = Unit {0}
 EachFits Fits before (x ∷ xs) = Fits before x × EachFits Fits (before ++ x ∷ []) xs
 
--- so many bytes at most, in UTF-8
+-- UTF-8, of at most `most_text_bytes` bytes
 abbrev pub IsTextOfUnit : List ℕ → Type 0
 IsTextOfUnit bytes = (length bytes ≤ most_text_bytes) × (is_utf8 bytes ≡ true)
 

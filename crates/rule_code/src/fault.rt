@@ -1,4 +1,4 @@
-//! Why a code file could not be read.
+//! Why bytes are no code file.
 
 ghost use Rattle.std.specs.Prelude.{◌≡◌};
 ghost use Rattle.rule_code.specs.declared.fault.FieldFault.TheVariants as field;
@@ -65,7 +65,7 @@ impl CodeFault {
     }
 }
 
-/// Why a field could not be read. Its place is how many bytes are left where it begins.
+/// What is wrong with a field, or that memory ran out. Its place is how many bytes are left where it begins.
 #[derive(Debug, Drop)]
 pub(crate) enum FieldFault {
     At { flaw: Flaw, left: usize },

@@ -5,7 +5,8 @@ use std::alloc::{AllocError, Global};
 use std::test::*;
 use test_support::bytes_of;
 
-/// Files in hexadecimal digits, and what reading answers. A line that begins with `#` says what is wrong with those below it.
+/// Files in hexadecimal digits, and what reading answers. A line that begins with `#` says what is wrong with those
+/// below it.
 const FAULTS: &str = "\
 # other bytes than the magic's, or fewer
 4f434c58 0001 0000 0000 0000: Magic at 0

@@ -92,7 +92,7 @@ pub record Cost : Type 0 where
   pub steps : ℕ
   pub lengths : List ℕ
 
--- so many steps before
+-- the cost with n more steps before it
 abbrev pub more_steps : ℕ → Cost → Cost
 more_steps n c = record { steps = n + c.steps; lengths = c.lengths }
 
@@ -116,6 +116,6 @@ cost_of s z (Branch i first second rest) vars ls =
     ∷ lengths_below s i ls))
 cost_of s z (Torn i left) vars ls = record { steps = 0; lengths = ls }
 
--- the most steps that a rule's code makes, whose variable 0 is an object
+-- an upper limit on the steps that a rule's code makes, whose variable 0 is an object
 abbrev pub step_bound : Surroundings → Sizes → CodeTree → ℕ
 step_bound s z t = (cost_of s z t (0 ∷ []) []).steps

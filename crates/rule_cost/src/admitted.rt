@@ -60,7 +60,7 @@ impl<'a> Admitted<'a> {
         self.budget
     }
 
-    /// The most steps that a rule makes for an object, at most the budget.
+    /// The bound of a rule: an upper limit on the steps that it makes for an object. It is at most the budget.
     pub fn bound(&self, rule: usize) -> u64
         requires { rule < length self.now.linked.unit.rules }
         ensures { result ≡ rule_step_bound self.now.linked.unit self.now.sizes rule }

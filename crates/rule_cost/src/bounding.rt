@@ -14,8 +14,8 @@ use imkl_population::Sizes;
 use rule_verify::{Accepted, Stack};
 use std::alloc::Global;
 
-/// The most steps that a rule makes for an object of its context class, in populations of these
-/// sizes. It is not known only where memory runs out.
+/// The bound of a rule: an upper limit on the steps that it makes for an object of its context class, in populations of
+/// these sizes. A run may need fewer. Refused only where memory runs out.
 pub fn bound(
     alloc: Global,
     accepted: &Accepted<'_>,

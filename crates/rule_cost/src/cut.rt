@@ -8,10 +8,10 @@ use std::marker::Model;
 /// From here on a bound is over.
 const STEP_LIMIT: u64 = 9_223_372_036_854_775_808;
 
-/// The most steps that a rule makes for an object.
+/// An upper limit on the steps that a rule makes for an object.
 #[derive(Clone, Copy, Debug, PartialEq, Eq)]
 pub enum Bound {
-    /// At most so many, fewer than 2^63.
+    /// At most this number of steps, which is below 2^63.
     Steps(u64),
     /// 2^63 or more.
     Over,
@@ -66,7 +66,7 @@ impl Cut {
         }
     }
 
-    /// The bound that so many steps are.
+    /// This number of steps as a bound.
     pub(crate) fn bound(self) -> Bound
         ensures { result ≡ limited_bound self }
     {

@@ -1,4 +1,4 @@
-//! What instructions make of lengths, and how many steps they take.
+//! What instructions make of lengths, and how many steps they make.
 
 ghost use Rattle.std.specs.Prelude.{◌≡◌, length};
 ghost use Rattle.rule_code.specs.WellFormed.{InstrFits};

@@ -19,7 +19,7 @@ pub(crate) fn top_length(operands: &Stack<Cut>) -> Cut
     }
 }
 
-/// Takes so many operands.
+/// Takes `count` operands.
 fn take(operands: &mut Stack<Cut>, count: usize)
     ensures { operands.new ≡ drop count operands.old }
 {

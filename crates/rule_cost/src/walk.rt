@@ -117,7 +117,7 @@ fn step(
     }
 }
 
-/// A block with one body of so many instructions, which has one variable more.
+/// A block with one body of `length` instructions, which has one variable more.
 #[cycle(walk)]
 fn block(
     alloc: Global,
@@ -152,7 +152,7 @@ fn block(
     })
 }
 
-/// A block with two bodies of so many instructions.
+/// A block with two bodies, of `lengths` instructions.
 #[cycle(walk)]
 fn branches(
     alloc: Global,

@@ -1,4 +1,4 @@
--- What the rules of kinds accept has kinds, at the places after code, and takes no more steps than its bound.
+-- What the rules of kinds accept has kinds, at the places after code, and makes no more steps than its bound.
 use Rattle.std.proofs.Common.{◌≡◌, ℕ, zero, suc, ◌+◌, ◌≤◌, Bool, true, false, List, [], ◌∷◌, length, take, drop, Some, Ok, refl, sym, ap, ◌∙◌, subst, arith}
 use Rattle.std.specs.Prelude.{nat_le, max, if◌then◌else◌}
 use Rattle.std.specs.List.{AllByRecursion}
@@ -227,7 +227,7 @@ module _ (s : Setting) where
       let a = both_steps (taken (judged_by s) e.variables i at (kinds_of ps)) _ ks h in
       let bad = a.2 in cc
 
-  -- what the rules of kinds accept has kinds, and takes no more steps than its bound
+  -- what the rules of kinds accept has kinds, and makes no more steps than its bound
   pub bridge : (t : CodeTree) → Bridge t
   bridge End = λ e vps ps at ks v c self h. all_below_itself ps
   bridge (Plain i rest) = bridge_plain i rest (bridge rest)

@@ -1,4 +1,5 @@
--- Each step of a configuration that can go on leads to one that can, at the marks after the step, and takes one from its bound.
+-- Each step of a configuration that can go on leads to one that can, at the marks after the step, and takes one from
+-- its bound.
 use Rattle.std.proofs.Common.{◌≡◌, ◌⊎◌, ℕ, suc, ◌+◌, ◌-◌, ◌*◌, ◌<◌, ◌≤◌, true, false, List, [], ◌∷◌, ◌++◌, length, drop, Option, Some, None, refl, sym, ap, ◌∙◌, subst, inl, inr, ⊎_elim, arith}
 use Rattle.std.specs.Prelude.{IsSome, option_and_then, if◌then◌else◌}
 use Rattle.std.specs.Option.{option_map}

@@ -21,7 +21,8 @@ pub record SameTask (old new : Seen) : Type 0 where
   pub unit : new.unit ≡ old.unit
   pub population : new.population ≡ old.population
 
--- from the configuration c, where the work was k, the machine has come n steps further, to d; the work stays within the rule's bound
+-- from the configuration c, where the work was k, the machine has come n steps further, to d; the work stays within the
+-- rule's bound
 pub record Further (old : Seen) (r o : ℕ) (c : Configuration) (k n : ℕ) (d : Configuration) (new : Seen) : Type 0 where
   pub ran : run (setting_at old r) n c ≡ Some d
   pub stands : Represents new r o d (k + work_of (setting_at old r) n c)

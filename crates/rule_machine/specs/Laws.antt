@@ -18,8 +18,8 @@ use Rattle.rule_machine.specs.declared.verdict.Verdict.{Verdict}
 use Rattle.rule_machine.specs.Verdict.{outcome}
 use Rattle.rule_machine.specs.Places.{Place, kinds_of, lengths_of, sizes_in, places_after, Mark, marks_before, marks_after, StandsAt}
 
--- A unit that is accepted in a class model, a consistent population of it, the index of a rule, and an object of the rule's context
--- class.
+-- A unit that is accepted in a class model, a consistent population of it, the index of a rule, and an object of the
+-- rule's context class.
 pub record IsAcceptedRun (u : Content) (p : Population) (n o : ℕ) : Type 0 where
   pub model : IsClassModel p.model
   pub population : IsConsistent p
@@ -51,7 +51,8 @@ EndsWithin =
     → (k : ℕ) × (c : Configuration) × (k ≤ rule_bound u p n)
     × (run (setting_of u p n) k (start (tree_of_rule u n) o) ≡ Some c) × IsSome (outcome c)
 
--- a run of an admitted unit, in a population of just the sizes for which it is admitted, comes to a verdict within the budget
+-- a run of an admitted unit, in a population of just the sizes for which it is admitted, comes to a verdict within the
+-- budget
 abbrev pub EndsWithinBudget : Type 0
 EndsWithinBudget =
     (a : Admission) (p : Population) (n o : ℕ)
@@ -61,8 +62,8 @@ EndsWithinBudget =
     → (k : ℕ) × (c : Configuration) × (k ≤ a.budget)
     × (run (setting_of a.linked.unit p n) k (start (tree_of_rule a.linked.unit n) o) ≡ Some c) × IsSome (outcome c)
 
--- In each configuration that a run reaches, every variable and operand is in the kind that the rules of kinds give its place, and
--- each collection, those that iterations hold too, is no longer than its bound there.
+-- In each configuration that a run reaches, every variable and operand is in the kind that the rules of kinds give its
+-- place, and each collection, those that iterations hold too, is no longer than its bound there.
 abbrev pub StandsInKinds : Type 0
 StandsInKinds =
     (u : Content) (p : Population) (n o k : ℕ) (c : Configuration)
@@ -105,7 +106,7 @@ abbrev pub first_there : Option Verdict → Option Verdict → Option Verdict
 first_there (Some v) w = Some v
 first_there None w = w
 
--- the verdict that a run comes to within so many steps, if it does
+-- the verdict that a run comes to within n steps, if it does
 abbrev pub verdict_within : Setting → ℕ → Configuration → Option Verdict
 verdict_within s zero c = outcome c
 verdict_within s (suc n) c = first_there (outcome c) (option_and_then (verdict_within s n) (step s c))

@@ -60,7 +60,7 @@ block_gives s i body vars p = yielded s i p (end_place s body (bound_by i p ∷ 
 abbrev pub branch_gives : Setting → Instr → CodeTree → CodeTree → List Place → Place → Place
 branch_gives s i first second vars p = joined s i p (end_place s first vars) (end_place s second vars)
 
--- a tree has kinds, and takes at most n steps: the operands before it, and those after it
+-- a tree has kinds, and makes at most n steps: the operands before it, and those after it
 abbrev pub Kinded : Setting → CodeTree → List Place → List Place → List Place → ℕ → Type 0
 Kinded s End vars ps out n = AllBelow s ps out
 Kinded s (Plain i rest) vars ps out n =
@@ -86,13 +86,14 @@ pub record NoDeeper (c d : Depths) : Type 0 where
   pub variables : c.variables ≤ d.variables
   pub blocks : c.blocks ≤ d.blocks
 
--- a tree goes no deeper than these depths, with so many variables and operands before it and so many pieces pending below it
+-- a tree goes no deeper than these depths, with these numbers of variables and operands before it and of pieces pending
+-- below it
 pub record GoesNoDeeper (s : Setting) (d : Depths) (t : CodeTree) (variables operands pieces : ℕ) : Type 0 where
   pub blocks : ℕ
   pub covered : pieces ≤ 2 * blocks
   pub within : NoDeeper (deepest (judged_by s) t (record { operands = operands; variables = variables; blocks = blocks })) d
 
--- the depths have room for so many pieces at these places
+-- the depths have room for n pieces at these places
 pub record HasRoom (d : Depths) (n : ℕ) (at : Stand) : Type 0 where
   pub operands : length at.operands ≤ d.operands
   pub variables : length at.variables ≤ d.variables
@@ -100,8 +101,8 @@ pub record HasRoom (d : Depths) (n : ℕ) (at : Stand) : Type 0 where
 
 -- ---- pending code
 
--- An iteration in the middle of its run: its body has kinds and takes at most m steps, its source stands at the place p, and what its
--- body gave in the turns before, and will give, may stand at the place r.
+-- An iteration in the middle of its run: its body has kinds and makes at most m steps, its source stands at the place
+-- p, and what its body gave in the turns before, and will give, may stand at the place r.
 pub record IsOpenIteration (s : Setting) (i : Instr) (body : CodeTree) (source : Source) (left : List Element) (kept : List Value) (vars : List Place) (p r : Place) (m : ℕ) : Type 0 where
   pub iterates : is_iteration i ≡ true
   pub stands : IsSource s p source left
@@ -114,8 +115,8 @@ abbrev pub IsOneBoolean : Setting → List Place → Type 0
 IsOneBoolean s (p ∷ []) = matches s.population.model a_boolean p.kind ≡ true
 IsOneBoolean s ps = ⊥
 
--- Pending code has kinds from its marks on, takes at most n steps, and goes no deeper than these depths. Each piece leaves what the
--- next one stands at.
+-- Pending code has kinds from its marks on, makes at most n steps, and goes no deeper than these depths. Each piece
+-- leaves what the next one stands at.
 abbrev pub Going : Setting → Depths → List Piece → List Mark → ℕ → Type 0
 Going s d [] (Here at ∷ []) n = IsOneBoolean s at.operands
 Going s d (Sequence t ∷ q) (Here at ∷ ms) n =

@@ -139,8 +139,8 @@ performed s vars i os = option_and_then (λ left. option_map (λ v. v ∷ left) 
 
 -- ---- configurations
 
--- What is pending: a sequence of instructions; the end of a LET; an iteration before its first turn, and one in a turn, with the
--- elements that are left and what is kept of the turns before; an iteration over invalid.
+-- What is pending: a sequence of instructions; the end of a LET; an iteration before its first turn, and one in a turn,
+-- with the elements that are left and what is kept of the turns before; an iteration over invalid.
 pub data Piece : Type 0 where
   Sequence : CodeTree → Piece
   LetEnd : Piece
@@ -225,7 +225,7 @@ abbrev pub run : Setting → ℕ → Configuration → Option Configuration
 run s zero c = Some c
 run s (suc n) c = option_and_then (run s n) (step s c)
 
--- the work of so many steps from a configuration: each counts as 1
+-- the work of n steps from a configuration: each counts as 1
 abbrev pub work_of : Setting → ℕ → Configuration → ℕ
 work_of s n c = n
 

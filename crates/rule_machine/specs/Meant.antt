@@ -86,7 +86,7 @@ with_new es e = if is_among same_element es e then es else es ++ e ∷ []
 
 -- ---- sums
 
--- the size of the sum of so many numbers of 64 bits
+-- the size that the sum of `count` numbers of 64 bits may have
 abbrev pub IsTotal : ℕ → ℤ → Type 0
 IsTotal count total = mag total ≤ count * 2 ^ 63
 

@@ -1,5 +1,5 @@
--- Places along a run: of each variable and operand the kind that the rules of kinds give it, and the longest that the bounds let a
--- collection be there.
+-- Places along a run: of each variable and operand the kind that the rules of kinds give it, and the longest that the
+-- bounds let a collection be there.
 use Rattle.std.specs.Prelude.{◌≡◌, ℕ, zero, suc, ◌-◌, ◌≤◌, max, true, List, [], ◌∷◌, ◌++◌, length, drop, Option, Some, option_and_then}
 use Rattle.std.specs.List.{list_all}
 use Rattle.imkl_population.specs.Sizes.{Sizes, sizes_of}
@@ -92,13 +92,14 @@ pub record Stand : Type 0 where
 abbrev pub stand : List Place → List Place → Stand
 stand vars ps = record { variables = vars; operands = ps }
 
--- What a pending piece stands at: the places when its turn comes. Of an iteration: the place where its source stood, the place of
--- what its body ends with, and the places below them.
+-- What a pending piece stands at: the places when its turn comes. Of an iteration: the place where its source stood,
+-- the place of what its body ends with, and the places below them.
 pub data Mark : Type 0 where
   Here : Stand → Mark
   Iterating : Place → Place → Stand → Mark
 
--- the places of a configuration whose pending pieces have these marks; a turn that is over has left its variable and its body's value
+-- the places of a configuration whose pending pieces have these marks; a turn that is over has left its variable and
+-- its body's value
 abbrev pub now_at : List Piece → List Mark → Stand
 now_at q [] = stand [] []
 now_at q (Here at ∷ ms) = at

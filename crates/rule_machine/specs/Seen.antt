@@ -25,7 +25,8 @@ seen_in t m = seen t.accepted.now.unit t.population.now.content m
 abbrev pub IsIdle : Seen → Type 0
 IsIdle m = m.state.started ≡ None
 
--- the machine stands where the run of a rule for an object is in the configuration c, for which the work since the start is k
+-- the machine stands where the run of a rule for an object is in the configuration c, for which the work since the
+-- start is k
 pub record Represents (m : Seen) (r o : ℕ) (c : Configuration) (k : ℕ) : Type 0 where
   pub accepted : IsAcceptedRun m.unit m.population r o
   pub made : ℕ

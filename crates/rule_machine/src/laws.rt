@@ -13,7 +13,8 @@ pub fn ends_within()
     ensures { EndsWithin }
 {}
 
-/// A run of an admitted unit comes to a verdict within the budget, in each population of just the sizes for which it is admitted.
+/// A run of an admitted unit comes to a verdict within the budget, in each population of just the sizes for which it is
+/// admitted.
 pub fn ends_within_budget()
     ensures { EndsWithinBudget }
 {}
@@ -24,8 +25,8 @@ pub fn stands_in_kinds()
     ensures { StandsInKinds }
 {}
 
-/// Each configuration that a run of accepted code reaches has no more operands and variables than the depths of its rule, and at
-/// most two pending pieces for each open block and one more.
+/// Each configuration that a run of accepted code reaches has no more operands and variables than the depths of its
+/// rule, and at most two pending pieces for each open block and one more.
 pub fn stays_within_depths()
     ensures { StaysWithinDepths }
 {}

@@ -80,9 +80,9 @@ impl<'a> Machine<'a> {
         Ok(())
     }
 
-    /// Makes at most so many steps: `Paused` after just so many, where the end isn't reached, or `Done` as soon as it is,
-    /// and again without a step. Where memory runs out, the machine stands before the step that was refused, which the
-    /// next call tries again.
+    /// Makes at most `steps` steps: `Paused` after just that many, where the end isn't reached, or `Done` as soon as it
+    /// is, and again without a step. Where memory runs out, the machine stands before the step that was refused, which
+    /// the next call tries again.
     pub fn run(&mut self, steps: u64) -> Result<Progress, OutOfMemory>
         requires { IsStarted self.old }
         ensures task { SameTask self.old self.new }

@@ -38,7 +38,7 @@ fn topmost<'s, 'a>(operands: &'s ReservedStack<Value<'a>>) -> &'s Value<'a>
     operand
 }
 
-/// The operand below so many topmost ones.
+/// The operand below the `number` topmost ones.
 fn below<'s, 'a>(operands: &'s ReservedStack<Value<'a>>, number: usize) -> &'s Value<'a>
     requires { number < length operands.now.0 }
     ensures { slice_get operands.now.0 number ≡ Some result.now }

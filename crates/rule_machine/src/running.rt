@@ -16,7 +16,7 @@ use std::marker::Brand;
 use std::sync::ledger::{Blank, Ledger};
 
 impl<'a> State<'a> {
-    /// At most so many steps.
+    /// Makes at most `steps` steps.
     pub(crate) fn run(&mut self, task: Task<'a>, steps: u64) -> Result<Progress, OutOfMemory>
         requires task { IsTask task }
         requires rule { IsTaskOf task self.old }

@@ -29,7 +29,7 @@ impl<T: Drop> ReservedStack<T> {
         }
     }
 
-    /// Has room for so many more items.
+    /// Makes room for `count` more items.
     pub(crate) fn reserve(&mut self, count: usize) -> Result<(), OutOfMemory>
         ensures items { self.new.0 ≡ self.old.0 }
         ensures room { OnOk result (length self.new.0 + count ≤ self.new.1) }
@@ -57,7 +57,7 @@ impl<T: Drop> ReservedStack<T> {
         self.items.pop()
     }
 
-    /// Takes so many of the topmost items.
+    /// Takes the `count` topmost items.
     pub(crate) fn drop_top(&mut self, count: usize)
         ensures items { self.new.0 ≡ drop count self.old.0 }
         ensures room { self.new.1 ≡ self.old.1 }
@@ -95,7 +95,7 @@ impl<T: Drop> ReservedStack<T> {
         self.items.last()
     }
 
-    /// The item below so many topmost ones, if it is there.
+    /// The item below the `number` topmost ones, if it is there.
     pub(crate) fn from_top(&self, number: usize) -> Option<&T>
         ensures { MatchOption result (None ≡ slice_get self.now.0 number)
             (λ x. Some x.now ≡ slice_get self.now.0 number) }

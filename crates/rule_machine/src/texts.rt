@@ -26,7 +26,7 @@ pub(crate) fn text_length<'a>(v: &Value<'_>) -> Value<'a>
     }
 }
 
-/// What is left of a text after so many characters.
+/// What is left of a text after `count` characters.
 fn after(text: &str, count: usize) -> &str
     ensures suffix { IsSuffix result.now text.now }
     ensures left { chars result.now ≡ drop count (chars text.now) }

@@ -1,4 +1,5 @@
--- The report on a population: its lines, what it counts, and the parts that it is put together of.
+-- The report on a population: its lines, what it counts, and the parts that it is put together of. `Content` is what a
+-- unit of code holds (`rule_code`); rules and objects are named by their indices.
 use Rattle.std.specs.Prelude.{ℕ, zero, suc, Bool, true, false, List, [], ◌∷◌, ◌++◌, Option, Some, None, length, map, filter, codes}
 use Rattle.std.specs.List.{flat_map}
 use Rattle.std.specs.Fmt.{decimal}
@@ -63,7 +64,7 @@ line_of v name id = []
 abbrev pub object_line : Content → Population → Verdicts → ℕ → ℕ → List ℕ
 object_line u p v r o = line_of (v r o) (name_of u r) (object_at p o).id
 
--- the line of a rule, over so many objects
+-- the line of a rule, by how many objects it was judged for and how many verdicts of each kind there were
 abbrev pub rule_line_of : List ℕ → ℕ → Summary → List ℕ
 rule_line_of name objects s =
     codes "rule " ++ (name ++ (codes " checked " ++ (decimal objects ++ (codes " holds " ++ (decimal s.holds
@@ -90,7 +91,7 @@ reports_below u p v (suc r) = reports_below u p v r ++ rule_report u p v r
 abbrev pub report_by : Content → Population → Verdicts → List ℕ
 report_by u p v = reports_below u p v (length u.rules) ++ total_line (counts_of (all_verdicts u p v))
 
--- the report by the verdicts of the machine's runs, and how many there are of each; of accepted code each is there
+-- the report by the verdicts of the machine's runs, and its counts; of accepted code no verdict is missing
 abbrev pub report_of : Content → Population → List ℕ
 report_of u p = report_by u p (verdict_at u p)
 
@@ -99,14 +100,16 @@ summary_of u p = counts_of (all_verdicts u p (verdict_at u p))
 
 -- ---- its parts
 
--- bytes at the end of the last part
+-- They say how the report could be made and written object by object. `write_report` makes it whole.
+
+-- bytes put behind the last part
 abbrev pub after_last : List (List ℕ) → List ℕ → List (List ℕ)
 after_last [] bytes = bytes ∷ []
 after_last (x ∷ []) bytes = (x ++ bytes) ∷ []
 after_last (x ∷ (y ∷ ys)) bytes = x ∷ after_last (y ∷ ys) bytes
 
--- The line of each object begins a part, in order, also where it is empty; every other line stands at the end of the part before it. So the
--- first part is what stands before the line of the first object.
+-- The line of each object begins a part, in order, also where it is empty; every other line stands at the end of the
+-- part before it. So the first part is what stands before the line of the first object.
 abbrev pub parts_below : Content → Population → Verdicts → ℕ → List (List ℕ)
 parts_below u p v zero = [] ∷ []
 parts_below u p v (suc r) = after_last (parts_below u p v r ++ map (object_line u p v r) (context_objects u p r)) (rule_line u p v r)

@@ -8,7 +8,7 @@ use rule_machine::Verdict;
 use std::alloc::AllocError;
 use std::fmt::Write;
 
-/// Puts the line of an object, if the rule doesn't hold for it.
+/// Appends the line of an object to `out`; nothing where the rule holds for it. It fails only where memory runs out.
 pub(crate) fn put_object_line(
     out: &mut String,
     verdict: Verdict,
@@ -25,7 +25,7 @@ pub(crate) fn put_object_line(
     }
 }
 
-/// Puts the line of a rule.
+/// Appends the line of a rule to `out`. It fails only where memory runs out.
 pub(crate) fn put_rule_line(
     out: &mut String,
     name: &str,
@@ -46,7 +46,7 @@ pub(crate) fn put_rule_line(
     )
 }
 
-/// Puts the line at the end.
+/// Appends the last line of a report to `out`. It fails only where memory runs out.
 pub(crate) fn put_total_line(out: &mut String, counts: Summary) -> Result<(), AllocError>
     ensures { OnOk result (string_bytes out.new ≡ string_bytes out.old ++ total_line counts) }
 {

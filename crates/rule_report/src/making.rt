@@ -21,7 +21,7 @@ pub(crate) struct Report {
     pub(crate) summary: Summary,
 }
 
-/// Puts what is reported of a rule, and counts its verdicts.
+/// Appends what is reported of a rule to `out`, object by object, and counts its verdicts.
 fn put_rule(
     machine: &mut Machine<'_>,
     accepted: &Accepted<'_>,

@@ -8,8 +8,8 @@ use std::io;
 use std::io::Write;
 use std::marker::Model;
 
-/// A writer that knows whether it has failed: a write that fails or takes nothing of a piece that
-/// isn't empty, or a flush that fails, makes it failed for good, and nothing else does.
+/// A writer that knows whether it has failed. It has, for good, once a write or a flush answered an error, or a write
+/// took none of some bytes; nothing else makes it fail.
 pub trait Sink {
     ghost use Rattle.std.specs.Prelude.{ℕ, List, Option, Bool};
 
@@ -19,7 +19,7 @@ pub trait Sink {
     /// A write or a flush has failed.
     ghost has_failed: { Self → Bool };
 
-    /// Takes a prefix of the bytes, and says how many.
+    /// Takes a prefix of the bytes, and answers how many.
     fn write(&mut self, bytes: &[u8]) -> io::Result<usize>
         ensures bound { IfOk result (λ n. n ≤ length bytes.now) }
         ensures bytes { WriteAppends (contents self.old) (contents self.new) result bytes.now }
@@ -104,7 +104,8 @@ impl<W: Write> Sink for Telling<W> {
     }
 }
 
-/// A write that failed or took nothing.
+/// A write that answered an error or took nothing, or a flush that answered an error. An interrupted write is not tried
+/// again.
 #[derive(Clone, Copy, Debug, PartialEq, Eq)]
 pub struct WriteFailed;
 

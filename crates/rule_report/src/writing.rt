@@ -16,9 +16,9 @@ use imkl_population::Population;
 use rule_cost::Admitted;
 use std::alloc::Global;
 
-/// Writes the report on a population that fits the admitted code, and flushes it: no run makes more
-/// steps than the budget. The report is made whole before the first byte is written: where memory
-/// runs out, the sink is as it was.
+/// Writes the report on a population that fits the admitted code, so that no run makes more steps than the budget, and
+/// then flushes the sink. The report is made whole before its first byte is written: where memory runs out, the sink is
+/// as it was.
 pub fn write_report<S: Sink>(
     alloc: Global,
     admitted: &Admitted<'_>,

@@ -19,8 +19,8 @@ shape_of (instrs.CollectFlat n) = OneBody n
 shape_of (instrs.IsUnique k n) = OneBody n
 shape_of i = Single
 
--- A sequence of instructions: each with its bodies, and then what follows it. A block whose bodies are longer than what is left
--- doesn't nest: it ends its sequence, with the number of instructions that are left.
+-- A sequence of instructions: each with its bodies, and then what follows it. A block whose bodies are longer than what
+-- is left doesn't nest: it ends its sequence, with the number of instructions that are left.
 pub data CodeTree : Type 0 where
   End : CodeTree
   Plain : Instr → CodeTree → CodeTree
@@ -45,7 +45,7 @@ cut_one go i (TwoBodies n m) is =
     then Branch i (go (take n is)) (go (take m (drop n is))) (go (drop (n + m) is))
     else Torn i (length is)
 
--- a list cut, with at most so many levels
+-- a list cut into a tree, with at most this number of levels
 abbrev pub cut : ℕ → List Instr → CodeTree
 cut zero is = End
 cut (suc levels) [] = End

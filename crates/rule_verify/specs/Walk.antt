@@ -102,7 +102,8 @@ moved p at = record p { at = at }
 abbrev pub place_inside : Place → List Kind → ℕ → ℕ → Place
 place_inside p left at end = record { at = at; end = end; covered = p.covered + length left; open_blocks = p.open_blocks + 1 }
 
--- The walk came from a place on to the instruction at an index. What is left comes to the same, of operands and of depths.
+-- The walk came from a place on to the instruction at an index. What is left comes to the same, of operands and of
+-- depths.
 pub record Gone (r : RuleCode) (variables : List Kind) (old : Depths) (p : Place) (operands : List Kind) (next : ℕ) (left : List Kind) (new : Depths) (after : List Kind) : Type 0 where
   pub kinds : kinds_from r variables p operands ≡ kinds_from r variables (moved p next) after
   pub kept : left ≡ variables
@@ -115,13 +116,13 @@ abbrev pub Goes : RuleCode → List Kind → Depths → Place → List Kind → 
 Goes r variables old p operands (Ok next) left new after = Gone r variables old p operands next left new after × (p.at < next)
 Goes r variables old p operands (Err e) left new after = Fails verify_fault e (kinds_from r variables p operands)
 
--- the instruction is a block, whose bodies have so many instructions
+-- the instruction is a block, whose bodies have n instructions
 abbrev pub IsBlock : Shape → ℕ → Type 0
 IsBlock Single n = ⊥
 IsBlock (OneBody m) n = n ≡ m
 IsBlock (TwoBodies l m) n = n ≡ l + m
 
--- a block with so many instructions in its bodies was opened, with this operand
+-- a block with n instructions in its bodies was opened, with this operand
 pub record Opened (r : RuleCode) (variables : List Kind) (old : Depths) (p : Place) (operands : List Kind) (i : Instr) (n : ℕ) (operand : Kind) (left : List Kind) (new : Depths) (after : List Kind) : Type 0 where
   pub takes : taken (surroundings_of r) variables i p.at operands ≡ Ok after
   pub first : operand ≡ topmost operands

@@ -114,7 +114,7 @@ fn plain(
     Ok(place.at + 1)
 }
 
-/// Opens a block whose bodies have so many instructions: takes its operand.
+/// Opens a block whose bodies have `length` instructions: takes its operand.
 fn open_block(
     rule: &RuleCode<'_, '_>,
     walk: &mut Walk,
@@ -230,7 +230,7 @@ fn body(
     ended_with(rule, &ends_with(rule, instr), at, &operands)
 }
 
-/// A block with one body of so many instructions, which has one variable more.
+/// A block with one body of `length` instructions, which has one variable more.
 #[cycle(walk)]
 fn block(
     alloc: Global,
@@ -261,7 +261,7 @@ fn block(
     Ok(end)
 }
 
-/// A block with two bodies of so many instructions.
+/// A block with two bodies, of `lengths` instructions.
 #[cycle(walk)]
 fn branches(
     alloc: Global,

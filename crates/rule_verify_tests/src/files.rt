@@ -14,9 +14,9 @@ pub const MODEL: &str = r#"{"model":"m","enums":[{"name":"Mood","literals":["cal
 {"name":"Right","abstract":true,"supers":["Thing"],"attributes":[]},
 {"name":"Both","abstract":false,"supers":["Left","Right"],"attributes":[]}],"associations":[]}"#;
 
-/// A file up to the count of the instructions of its one rule r of context Cable. Its symbols are 0 Cable, 1 Thing, 2 Thing's depth,
-/// 3 Mood, 4 Mood's calm, 5 Cable's depth, 6 Thing again, 7 Both's depth, 8 Both, 9 an unknown class, 10 an unknown feature,
-/// 11 Thing's tags, 12 an unknown enumeration, 13 an unknown literal.
+/// A file up to the count of the instructions of its one rule r of context Cable. Its symbols are 0 Cable, 1 Thing, 2
+/// Thing's depth, 3 Mood, 4 Mood's calm, 5 Cable's depth, 6 Thing again, 7 Both's depth, 8 Both, 9 an unknown class, 10
+/// an unknown feature, 11 Thing's tags, 12 an unknown enumeration, 13 an unknown literal.
 pub const HEAD: &str = "\
 4f434c420001000900017200054361626c6500055468696e670005646570746800044d6f6f64000463616c6d0004426f746800047461677300044e6f\
 7065000e0100010100020300020003020004040004000503000100030100020300060003010006010008030001000803000200070200080400040008\

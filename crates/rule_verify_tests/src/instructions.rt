@@ -6,8 +6,8 @@ use std::alloc::{AllocError, Global};
 use std::test::*;
 use test_support::bytes_of;
 
-/// Rules in hexadecimal digits, the count of their instructions first, and what verifying answers. A line that begins with `#` says
-/// what those below it are.
+/// Rules in hexadecimal digits, the count of their instructions first, and what verifying answers. A line that begins
+/// with `#` says what those below it are.
 const RULES: &str = "\
 # no instruction; one of each value; variables
 0000 : LeftOver at 0

@@ -1,4 +1,4 @@
-//! The catalogue of cables, ducts and nets, and deliveries for it.
+//! The catalogue of cables, ducts and networks, and deliveries for it.
 
 /// The class model.
 pub const CATALOGUE: &str = r#"{"model":"imkl-profile",

@@ -79,7 +79,7 @@ pub(super) fn count_from(limit: u16, bytes: &[u8]) -> Result<(u16, &[u8]), Field
     Ok((count, rest))
 }
 
-/// The number of one of so many texts.
+/// The number of a text, of which there are `texts`.
 #[tactic(auto, unfolding(crate::specs::Reading::text_number_from))]
 pub(super) fn text_number_from(
     texts: usize,
