@@ -15,7 +15,8 @@ pub(crate) fn take_member(members: &mut Map<String, Value>, name: &str) -> Optio
     ensures others { KeepsOthers name.now (members_view members.old.entries)
         (members_view members.new.entries) }
 {
-    members.remove(name)
+    let member = members.get_mut(name)?;
+    Some(member.take())
 }
 
 /// A member's value, out of its object.
