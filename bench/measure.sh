@@ -29,6 +29,9 @@ PYTHON
     fi
 }
 
+# The heap takes large pages, as the launcher has it.
+export GLIBC_TUNABLES="${GLIBC_TUNABLES-glibc.malloc.hugetlb=1}"
+
 # The built program, which the launcher builds if need be; what is measured is the program alone.
 "$root/ocl_check" --help >/dev/null || fail "the program isn't built"
 program=$(ls -1t "$root"/crates/ocl_check_main/out/kept/*/ocl_check | head -n 1)
