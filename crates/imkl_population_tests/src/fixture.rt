@@ -132,15 +132,30 @@ fn finish<'t>(alloc: Global, builder: PopulationBuilder<'_>, rows: &'t str) -> O
     }
 }
 
-/// The first row that isn't so: calls on a new builder, and after `finish: ` how that ends and reads of the population.
-fn first_wrong_of<'t>(alloc: Global, model: &ClassModel, rows: &'t str) -> Option<&'t str> {
-    let mut builder = PopulationBuilder::new(alloc, model);
+/// The first row that isn't so, of calls on a builder without objects, and after `finish: ` of how that ends and of reads of
+/// the population.
+fn first_wrong_by<'t>(
+    alloc: Global,
+    mut builder: PopulationBuilder<'_>,
+    rows: &'t str,
+) -> Option<&'t str> {
     match rows.split_once("finish: ") {
         Some((calls, end)) => match first_wrong_call(&mut builder, alloc, calls) {
             Some(row) => Some(row),
             None => finish(alloc, builder, end),
         },
         None => first_wrong_call(&mut builder, alloc, rows),
+    }
+}
+
+/// The first row that isn't so. The builder is a new one, or after `room 3` one with room for three objects.
+fn first_wrong_of<'t>(alloc: Global, model: &ClassModel, rows: &'t str) -> Option<&'t str> {
+    let Some(rest) = rows.strip_prefix("room 3\n") else {
+        return first_wrong_by(alloc, PopulationBuilder::new(alloc, model), rows);
+    };
+    match PopulationBuilder::with_capacity(alloc, model, 3) {
+        Ok(builder) => first_wrong_by(alloc, builder, rest),
+        Err(_) => Some("room 3"),
     }
 }
 

@@ -27,3 +27,21 @@ link last Buis.omvat =: done";
 fn a_million_objects(rt: HostRuntime) {
     assert!(rt; first_wrong(rt.alloc(), LAST).is_none());
 }
+
+/// More objects than a builder was made for: each is found by its id, and none is added twice.
+const MORE: &str = "room 3
+fill 200: done
+add Buis o0: DuplicateId
+add Buis o77: DuplicateId
+add Leiding o199: DuplicateId
+add Buis o200: done
+add Kabel k: done
+set k Kabel.themas = Thema::gas: done
+link o120 Buis.omvat = k: done
+link o121 Buis.omvat = o120: WrongClass
+finish: done";
+
+#[test]
+fn more_objects_than_expected(rt: HostRuntime) {
+    assert!(rt; first_wrong(rt.alloc(), MORE).is_none());
+}
