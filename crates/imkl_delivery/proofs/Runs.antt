@@ -1,5 +1,5 @@
 -- Steps as a loop makes them: those made so far, and what a fault of one is for all.
-use Rattle.std.proofs.Common.{◌≡◌, ℕ, zero, suc, ◌+◌, ◌<◌, ◌≤◌, true, false, List, [], ◌∷◌, length, drop, get_or, Result, Ok, Err, refl, sym, ap, ◌∙◌, add-one, arith, inl, inr}
+use Rattle.std.proofs.Common.{◌≡◌, ℕ, zero, suc, ◌+◌, ◌<◌, true, false, List, length, get_or, Result, Ok, Err, refl, sym, ap, ◌∙◌, add-one, arith, inl, inr}
 use Rattle.std.proofs.lemmas.Bool.{cases_lt}
 use Rattle.std.proofs.lemmas.List.{get_or-map}
 use Rattle.std.specs.Result.{is_err, OnOk}
@@ -51,26 +51,3 @@ where_ok (Err e) P is h = absurd (let bad : true ≡ false = is in cc)
 -- the entry at a place writes what all write there
 pub written_there : (es : List entry.Entry) (k : ℕ) (e : entry.Entry) → k < length es → e ≡ get_or es k e → written_of e ≡ entry_at (all_written es) k
 written_there es k e lt is = ap written_of is ∙ sym (get_or-map written_of es k e nothing_written lt)
-
--- ---- a list as a loop takes its elements
-
--- the first of what is left of a list, and what is left after it
-pub record IsNext {X : Type 0} (xs : List X) (k : ℕ) (x : X) (more : List X) : Type 0 where
-  pub within : k < length xs
-  pub here : x ≡ get_or xs k x
-  pub later : drop (suc k) xs ≡ more
-
--- what stands before what is left stands at that index
-pub next_left : {X : Type 0} (xs : List X) (k : ℕ) (x : X) (more : List X) → drop k xs ≡ x ∷ more → IsNext xs k x more
-next_left [] zero x more is = absurd (let bad : [] ≡ x ∷ more = is in cc)
-next_left [] (suc k) x more is = absurd (let bad : [] ≡ x ∷ more = is in cc)
-next_left (y ∷ ys) zero x more is = record { within = omega arith; here = let first : y ∷ ys ≡ x ∷ more = is in cc; later = let first : y ∷ ys ≡ x ∷ more = is in cc }
-next_left (y ∷ ys) (suc k) x more is =
-    let h = next_left ys k x more is in
-    record { within = omega (arith, h.within); here = h.here; later = h.later }
-
--- where nothing is left, all were read
-pub none_left : {X : Type 0} (xs : List X) (k : ℕ) → length (drop k xs) ≡ 0 → length xs ≤ k
-none_left [] k is = omega arith
-none_left (y ∷ ys) zero is = absurd (omega (arith, is))
-none_left (y ∷ ys) (suc k) is = let h = none_left ys k is in omega (arith, h)

@@ -1,79 +1,145 @@
--- An entry and a document by what is taken out of their JSON objects.
-use Rattle.std.proofs.Common.{◌≡◌, ◌≢◌, ◌∙◌, ℕ, ◌==◌, Bool, true, false, List, Option, Some, None, Result, Ok, codes, option_and_then, refl, ap, if◌then◌else◌}
-use Rattle.serde_json.specs.Data.{Data, Members, null, boolean, number, string, array, object}
-use Rattle.serde_json.specs.Events.{members_len}
-use Rattle.serde_json.specs.Find.{get, get_member, as_str, as_object}
-use Rattle.ocl_base.specs.Steps.{◌>>=◌, found, each}
-use Rattle.ocl_base.proofs.ForAbove.{found_is}
+-- What was taken out of a document's tree is what the document says; a population by what was added and what is then written.
+use Rattle.std.proofs.Common.{◌≡◌, ◌∙◌, ℕ, zero, suc, ◌<◌, ◌≤◌, Bool, true, false, List, [], ◌∷◌, length, map, drop, get_or, Option, Some, option_and_then, Result, Ok, Err, Vec, Global, codes, bytes_eq, refl, sym, ap, arith, if◌then◌else◌}
+use Rattle.std.proofs.lemmas.List.{length-map, get_or-map}
+use Rattle.serde_json.specs.Data.{Data}
+use Rattle.serde_json.specs.Find.{get, as_str, as_object}
+use Rattle.serde_json.specs.View.{view}
+use Rattle.serde_json.specs.declared.value.Value.{Value, Array}
+use Rattle.serde_json.proofs.Views.{view-Array}
+use Rattle.ocl_base.specs.Steps.{◌>>=◌, found, each, Fails}
+use Rattle.ocl_base.proofs.ForAbove.{both_steps, found_is, ok_is, not_okay, fails_whole, each_at, each_length}
+use Rattle.imkl_model.specs.ClassModel.{Model}
 use Rattle.imkl_model.specs.Json.{list_from, record_from}
+use Rattle.imkl_model.proofs.ForAbove.{elements_of-view}
+use Rattle.imkl_population.specs.Population.{Population}
 use Rattle.imkl_delivery.specs.declared.fault.DeliveryFault.{DeliveryFault}
+use Rattle.imkl_delivery.specs.declared.fault.DeliveryFault.TheVariants as fault
 use Rattle.imkl_delivery.specs.declared.fault.DeliveryFault.TheVariants.{Shape}
-use Rattle.imkl_delivery.specs.Document.{entry_from, document_from}
-use Rattle.imkl_delivery.specs.Taken.{KeepsOthers}
+use Rattle.imkl_delivery.specs.Faults.{delivery_fault}
+use Rattle.imkl_delivery.specs.Document.{Written, Document, entry_from, document_from}
+use Rattle.imkl_delivery.specs.Loading.{entry_at, nothing_written, empty, add_entries, population_from, describes_population}
+use Rattle.imkl_delivery.specs.Taken.{document_objects, object_features, added_from, finished_with}
 
-where_counted : (b : Bool) (k : List ℕ) (all ms : Members) → (if b then Some all else None) ≡ Some ms → get_member k all ≡ get_member k ms
-where_counted true k all ms is = ap (get_member k) (let whole : all ≡ ms = (let same : Some all ≡ Some ms = is in cc) in whole)
-where_counted false k all ms is = absurd (let bad : None ≡ Some ms = is in cc)
+-- ---- the tree
 
-counted : (n : ℕ) (k : List ℕ) (d : Data) (ms : Members) → record_from n d ≡ Some ms → get k d ≡ get_member k ms
-unfolding record_from
-counted n k null ms is = absurd (let bad : None ≡ Some ms = is in cc)
-counted n k (boolean b) ms is = absurd (let bad : None ≡ Some ms = is in cc)
-counted n k (number x) ms is = absurd (let bad : None ≡ Some ms = is in cc)
-counted n k (string s) ms is = absurd (let bad : None ≡ Some ms = is in cc)
-counted n k (array ds) ms is = absurd (let bad : None ≡ Some ms = is in cc)
-counted n k (object all) ms is = where_counted (members_len all == n) k all ms is
+-- the features of an entry are what is taken out of its tree
+pub features_there : (d : Data) (w : Written) → entry_from d ≡ Ok w → object_features d ≡ Some w.features
+unfolding entry_from object_features
+features_there d w is =
+    let sized = both_steps (found (record_from 3 d) Shape) _ w is in
+    let i = both_steps (found (get (codes "id") d) Shape) _ w sized.2 in
+    let id = both_steps (found (as_str i.0) Shape) _ w i.2 in
+    let c = both_steps (found (get (codes "class") d) Shape) _ w id.2 in
+    let class = both_steps (found (as_str c.0) Shape) _ w c.2 in
+    let f = both_steps (found (get (codes "features") d) Shape) _ w class.2 in
+    let features = both_steps (found (as_object f.0) Shape) _ w f.2 in
+    let whole = ok_is (record { id = id.0; class = class.0; features = features.0 }) w features.2 in
+    ap (λ (o : Option Data). option_and_then as_object o) (found_is (get (codes "features") d) Shape f.0 f.1) ∙ found_is (as_object f.0) Shape features.0 features.1 ∙ ap (λ (x : Written). Some x.features) whole
 
--- a member of a JSON object is the one among its members
-member_there : (n : ℕ) (k : List ℕ) (d : Data) (ms : Members) → found (record_from n d) Shape ≡ Ok ms → get k d ≡ get_member k ms
-member_there n k d ms is = counted n k d ms (found_is (record_from n d) Shape ms is)
+-- the objects of a document are what is taken out of its tree, and its entries are theirs
+pub record IsTaken (d : Data) (x : Document) : Type 0 where
+  pub objects : List Data
+  pub taken : document_objects d ≡ Some objects
+  pub entries : each entry_from objects ≡ Ok x.entries
 
--- a member of some type is there, or the fault is the same
-at_once : {A B : Type 0} (o : Option Data) (h : Data → Option A) (f g : A → Result B DeliveryFault) → ((x : A) → f x ≡ g x)
-    → (found o Shape >>= λ d. found (h d) Shape >>= f) ≡ (found (option_and_then h o) Shape >>= g)
-at_once None h f g same = refl
-at_once (Some d) h f g same = then_same (h d) f g same
-  where
-    then_same : {A B : Type 0} (r : Option A) (f g : A → Result B DeliveryFault) → ((x : A) → f x ≡ g x) → (found r Shape >>= f) ≡ (found r Shape >>= g)
-    then_same None f g same = refl
-    then_same (Some x) f g same = same x
+pub objects_there : (d : Data) (x : Document) → document_from d ≡ Ok x → IsTaken d x
+unfolding document_from document_objects
+objects_there d x is =
+    let sized = both_steps (found (record_from 2 d) Shape) _ x is in
+    let m = both_steps (found (get (codes "model") d) Shape) _ x sized.2 in
+    let model = both_steps (found (as_str m.0) Shape) _ x m.2 in
+    let os = both_steps (found (get (codes "objects") d) Shape) _ x model.2 in
+    let ds = both_steps (found (list_from os.0) Shape) _ x os.2 in
+    let entries = both_steps (each entry_from ds.0) _ x ds.2 in
+    let whole = ok_is (record { model = model.0; entries = entries.0 }) x entries.2 in
+    record {
+      objects = ds.0;
+      taken = ap (λ (o : Option Data). option_and_then list_from o) (found_is (get (codes "objects") d) Shape os.0 os.1) ∙ found_is (list_from os.0) Shape ds.0 ds.1;
+      entries = entries.1 ∙ ap (λ (y : Document). Ok y.entries) whole;
+    }
 
--- the value of a member of some type
-abbrev pub taken : {A : Type 0} → (Data → Option A) → List ℕ → Members → Result A DeliveryFault
-taken h k ms = found (option_and_then h (get_member k ms)) Shape
+-- the features of an object are those of its entry
+pub features_at : (vs : List Value) (ws : List Written) (i : ℕ) (v : Value) → each entry_from (map view vs) ≡ Ok ws → i < length vs → v ≡ get_or vs i v → object_features (view v) ≡ Some (entry_at ws i).features
+features_at vs ws i v is lt here =
+    let at : view v ≡ get_or (map view vs) i (view v) = ap view here ∙ sym (get_or-map view vs i v (view v) lt) in
+    let read = each_at entry_from (map view vs) ws i (view v) nothing_written is (omega (arith, length-map vs view, lt)) in
+    features_there (view v) (entry_at ws i) (ap entry_from at ∙ read)
 
--- a member of another name is still there
-still_there : {A : Type 0} (h : Data → Option A) (k name : List ℕ) (old new : Members) → KeepsOthers name old new → k ≢ name → taken h k new ≡ taken h k old
-still_there h k name old new others differ = ap (λ (o : Option Data). found (option_and_then h o) Shape) (others k differ)
+-- as many objects as entries
+pub objects_counted : (d : Data) (x : Document) (ds : List Data) → document_from d ≡ Ok x → document_objects d ≡ Some ds → length x.entries ≡ length ds
+objects_counted d x ds is taken =
+    let there = objects_there d x is in
+    let same : there.objects ≡ ds = (let whole : Some there.objects ≡ Some ds = sym there.taken ∙ taken in cc) in
+    each_length entry_from there.objects x.entries there.entries ∙ ap length same
 
--- the class is there once the id is taken, and the features are once both are
-pub class_there : (old new : Members) → KeepsOthers (codes "id") old new → taken as_str (codes "class") new ≡ taken as_str (codes "class") old
-class_there old new others = still_there as_str (codes "class") (codes "id") old new others (λ same. absurd (let bad : codes "class" ≡ codes "id" = same in cc))
+-- a list's values
+pub list_there : (v : Vec Value Global) → list_from (view (Array v)) ≡ Some (map view v.items)
+unfolding list_from
+list_there v = rw (view-Array v, elements_of-view v.items) refl
 
-pub features_there : (old now new : Members) → KeepsOthers (codes "id") old now → KeepsOthers (codes "class") now new → taken as_object (codes "features") new ≡ taken as_object (codes "features") old
-features_there old now new first second =
-    still_there as_object (codes "features") (codes "class") now new second (λ same. absurd (let bad : codes "features" ≡ codes "class" = same in cc))
-    ∙ still_there as_object (codes "features") (codes "id") old now first (λ same. absurd (let bad : codes "features" ≡ codes "id" = same in cc))
+-- ---- the population
 
--- the objects are there once the model is taken
-pub objects_there : (old new : Members) → KeepsOthers (codes "model") old new → taken list_from (codes "objects") new ≡ taken list_from (codes "objects") old
-objects_there old new others = still_there list_from (codes "objects") (codes "model") old new others (λ same. absurd (let bad : codes "objects" ≡ codes "model" = same in cc))
+-- a fault while objects are added is the delivery's
+passes_test : (e : DeliveryFault) (m : Model) (ws : List Written) (b : Bool) → Fails delivery_fault e (if b then add_entries ws (empty m) else Err fault.OtherModel) → Fails delivery_fault e (if b then population_from m ws else Err fault.OtherModel)
+unfolding population_from finished_with
+passes_test e m ws true h = fails_whole delivery_fault e (add_entries ws (empty m)) (finished_with ws) (add_entries ws (empty m) >>= finished_with ws) refl h
+passes_test e m ws false h = h
 
--- the entry that a JSON object is, by its members
-pub entry_by : (d : Data) (ms : Members) → found (record_from 3 d) Shape ≡ Ok ms
-    → entry_from d ≡ (taken as_str (codes "id") ms >>= λ i. taken as_str (codes "class") ms >>= λ c. taken as_object (codes "features") ms >>= λ fs. Ok (record { id = i; class = c; features = fs }))
-unfolding entry_from
-entry_by d ms is =
-    rw (is, member_there 3 (codes "id") d ms is, member_there 3 (codes "class") d ms is, member_there 3 (codes "features") d ms is)
-    (at_once (get_member (codes "id") ms) as_str _ _
-    (λ i. at_once (get_member (codes "class") ms) as_str _ _
-    (λ c. at_once (get_member (codes "features") ms) as_object _ _ (λ fs. refl))))
+passes : (e : DeliveryFault) (m : Model) (r : Result Document DeliveryFault) → Fails delivery_fault e (r >>= λ document. if bytes_eq document.model m.name then add_entries document.entries (empty m) else Err fault.OtherModel)
+    → Fails delivery_fault e (r >>= λ document. if bytes_eq document.model m.name then population_from m document.entries else Err fault.OtherModel)
+passes e m (Ok x) h = passes_test e m x.entries (bytes_eq x.model m.name) h
+passes e m (Err z) h = h
 
--- the document that a JSON object is, by its members
-pub document_by : (d : Data) (ms : Members) → found (record_from 2 d) Shape ≡ Ok ms
-    → document_from d ≡ (taken as_str (codes "model") ms >>= λ m. taken list_from (codes "objects") ms >>= λ ds. each entry_from ds >>= λ es. Ok (record { model = m; entries = es }))
-unfolding document_from
-document_by d ms is =
-    rw (is, member_there 2 (codes "model") d ms is, member_there 2 (codes "objects") d ms is)
-    (at_once (get_member (codes "model") ms) as_str _ _
-    (λ m. at_once (get_member (codes "objects") ms) list_from _ _ (λ ds. refl)))
+pub added_passes : (e : DeliveryFault) (m : Model) (d : Data) → Fails delivery_fault e (added_from m d) → Fails delivery_fault e (describes_population m d)
+unfolding added_from describes_population
+added_passes e m d h = passes e m (document_from d) h
+
+-- a delivery whose objects were added, by what is then written on them
+pub record IsAdded (m : Model) (d : Data) (p : Population) : Type 0 where
+  pub objects : List Data
+  pub entries : List Written
+  pub taken : document_objects d ≡ Some objects
+  pub written : each entry_from objects ≡ Ok entries
+  pub whole : describes_population m d ≡ finished_with entries p
+
+tested : (m : Model) (ws : List Written) (p : Population) (b : Bool) → (if b then add_entries ws (empty m) else Err fault.OtherModel) ≡ Ok p → (if b then population_from m ws else Err fault.OtherModel) ≡ finished_with ws p
+unfolding population_from finished_with
+tested m ws p true is = rw is refl
+tested m ws p false is = absurd (not_okay fault.OtherModel p is)
+
+pub added_there : (m : Model) (d : Data) (p : Population) → added_from m d ≡ Ok p → IsAdded m d p
+unfolding added_from describes_population
+added_there m d p is =
+    let read = both_steps (document_from d) (λ document. if bytes_eq document.model m.name then add_entries document.entries (empty m) else Err fault.OtherModel) p is in
+    let x = read.0 in
+    let there = objects_there d x read.1 in
+    record {
+      objects = there.objects;
+      entries = x.entries;
+      taken = there.taken;
+      written = there.entries;
+      whole = ap (λ (r : Result Document DeliveryFault). r >>= λ document. if bytes_eq document.model m.name then population_from m document.entries else Err fault.OtherModel) read.1 ∙ tested m x.entries p (bytes_eq x.model m.name) read.2;
+    }
+
+-- ---- the list
+
+-- the first of what is left of a list, and what is left after it
+pub record IsNext {X : Type 0} (xs : List X) (k : ℕ) (x : X) (more : List X) : Type 0 where
+  pub within : k < length xs
+  pub here : x ≡ get_or xs k x
+  pub later : drop (suc k) xs ≡ more
+
+-- what stands before what is left stands at that index
+pub next_left : {X : Type 0} (xs : List X) (k : ℕ) (x : X) (more : List X) → drop k xs ≡ x ∷ more → IsNext xs k x more
+next_left [] zero x more is = absurd (let bad : [] ≡ x ∷ more = is in cc)
+next_left [] (suc k) x more is = absurd (let bad : [] ≡ x ∷ more = is in cc)
+next_left (y ∷ ys) zero x more is = record { within = omega arith; here = let first : y ∷ ys ≡ x ∷ more = is in cc; later = let first : y ∷ ys ≡ x ∷ more = is in cc }
+next_left (y ∷ ys) (suc k) x more is =
+    let h = next_left ys k x more is in
+    record { within = omega (arith, h.within); here = h.here; later = h.later }
+
+-- where nothing is left, all were read
+pub none_left : {X : Type 0} (xs : List X) (k : ℕ) → length (drop k xs) ≡ 0 → length xs ≤ k
+none_left [] k is = omega arith
+none_left (y ∷ ys) zero is = absurd (omega (arith, is))
+none_left (y ∷ ys) (suc k) is = let h = none_left ys k is in omega (arith, h)

@@ -1,13 +1,16 @@
 //! From bytes to a population.
 
-ghost use Rattle.std.specs.Prelude.{◌≡◌, ◌≤◌, ◌+◌, length, OnOk, IfOk};
+ghost use Rattle.std.specs.Prelude.{◌≡◌, ◌≤◌, ◌+◌, List, Some, Ok, length, map, OnOk, IfOk};
+ghost use Rattle.serde_json.specs.Data.{Data};
 ghost use Rattle.serde_json.specs.View.{view};
-ghost use Rattle.ocl_base.specs.Steps.{Gives};
+ghost use Rattle.ocl_base.specs.Steps.{Gives, each};
 ghost use Rattle.imkl_population.specs.Building.{KeepsModel, KeepsObjects};
 ghost use Rattle.imkl_delivery.specs.Faults.{delivery_fault};
 ghost use Rattle.imkl_delivery.specs.Steps.{Leaves, placed_fault};
 ghost use Rattle.imkl_delivery.specs.Seen.{written_of, all_written};
-ghost use Rattle.imkl_delivery.specs.Loading.{add_entry, add_entries, put_entries, fault_place, population_from, describes_population};
+ghost use Rattle.imkl_delivery.specs.Loading.{add_entry, add_entries, put_entries, fault_place, describes_population};
+ghost use Rattle.imkl_delivery.specs.Document.{Written, entry_from};
+ghost use Rattle.imkl_delivery.specs.Taken.{document_objects, added_from, finished_with};
 ghost use Rattle.imkl_delivery.specs.Named.{written_requirements};
 ghost use Rattle.imkl_delivery.specs.Description.{DeliveryAnswers};
 
@@ -15,6 +18,7 @@ use crate::document::{Entry, document_of};
 use crate::fault::DeliveryFault;
 use crate::features::{placed_fault, put_members};
 use crate::guesses::Guesses;
+use crate::taking::{features_of, objects_of};
 use imkl_model::ClassModel;
 use imkl_model::json::tree;
 use imkl_population::{
@@ -23,29 +27,29 @@ use imkl_population::{
 use serde_json::Value;
 use std::alloc::Global;
 
-/// Adds the object of an entry.
+/// Adds an object with its class.
 #[tactic(auto, unfolding(crate::specs::Loading::add_entry))]
 fn add(
     builder: &mut PopulationBuilder<'_>,
     place: usize,
-    entry: &Entry,
+    entry: &Entry<'_>,
 ) -> Result<(), DeliveryFault>
     ensures leaves { Leaves result (add_entry place (written_of entry.now) builder.old)
         builder.new }
     ensures count { OnOk result (length builder.new.objects ≡ length builder.old.objects + 1) }
     ensures model { KeepsModel builder.old builder.new }
 {
-    let Some(class) = builder.model().class(entry.class.as_str()) else {
+    let Some(class) = builder.model().class(entry.class) else {
         return Err(DeliveryFault::UnknownClass { object: place });
     };
-    match builder.add_object(entry.id.as_str(), class) {
+    match builder.add_object(entry.id, class) {
         Ok(_) => Ok(()),
         Err(fault) => Err(placed_fault(place, fault)),
     }
 }
 
-/// Adds the objects of entries.
-fn add_all(builder: &mut PopulationBuilder<'_>, entries: &[Entry]) -> Result<(), DeliveryFault>
+/// Adds all objects, before anything is written on any.
+fn add_all(builder: &mut PopulationBuilder<'_>, entries: &[Entry<'_>]) -> Result<(), DeliveryFault>
     ensures leaves { Leaves result (add_entries (all_written entries.now) builder.old) builder.new }
     ensures count { OnOk result
         (length builder.new.objects ≡ length builder.old.objects + length entries.now) }
@@ -60,25 +64,34 @@ fn add_all(builder: &mut PopulationBuilder<'_>, entries: &[Entry]) -> Result<(),
     Ok(())
 }
 
-/// Writes on each object what its entry says. One entry's members are dropped before the next one's are taken.
+/// Writes on all objects what their values in the document say. Each value is dropped before the next is taken.
 fn put_all(
     builder: &mut PopulationBuilder<'_>,
     alloc: Global,
-    entries: Vec<Entry>,
+    objects: Vec<Value>,
     required: &mut RequiredFeatures<'_>,
     guesses: &mut Guesses,
 ) -> Result<(), DeliveryFault>
-    requires objects { length entries.items ≤ length builder.old.objects }
+    requires objects { length objects.items ≤ length builder.old.objects }
     requires required { required.old ≡ written_requirements builder.old.model }
-    ensures leaves { Leaves result (put_entries (all_written entries.items) builder.old)
-        builder.new }
+    ensures leaves { (ws : List Written) → each entry_from (map view objects.items) ≡ Ok ws →
+        Leaves result (put_entries ws builder.old) builder.new }
     ensures kept { KeepsObjects builder.old builder.new }
     ensures same { required.new ≡ required.old }
 {
     let mut place = 0;
-    for entry in entries {
-        let object = ObjectNo::new(place);
-        let written = put_members(builder, alloc, object, entry.features, required, guesses);
+    for object in objects {
+        let Some(features) = features_of(object) else {
+            return Err(DeliveryFault::Shape);
+        };
+        let written = put_members(
+            builder,
+            alloc,
+            ObjectNo::new(place),
+            features,
+            required,
+            guesses,
+        );
         if written.is_err() {
             return written;
         }
@@ -87,7 +100,7 @@ fn put_all(
     Ok(())
 }
 
-/// A fault of finishing, at its object.
+/// A fault of the finished population, at its object.
 fn finished_fault(fault: PopulationFault) -> DeliveryFault
     ensures { result ≡ placed_fault (fault_place fault) fault }
 {
@@ -99,22 +112,46 @@ fn finished_fault(fault: PopulationFault) -> DeliveryFault
     }
 }
 
-/// The population of entries, or its first fault. All objects are added before anything is written on any.
-#[tactic(auto, unfolding(crate::specs::Loading::population_from))]
-fn population_of<'m>(
+/// The objects of a document, added, or the first fault of the document, of its class model's name, or of an object's class
+/// or id.
+#[tactic(auto, unfolding(crate::specs::Taken::added_from))]
+fn added<'m>(
     alloc: Global,
-    entries: Vec<Entry>,
+    value: &Value,
+    model: &'m ClassModel,
+) -> Result<PopulationBuilder<'m>, DeliveryFault>
+    ensures gives { Gives delivery_fault (λ b. b) result
+        (added_from model.now (view value.now)) }
+    ensures model { IfOk result (λ b. b.model ≡ model.now) }
+    ensures count { IfOk result (λ b. (ds : List Data) → document_objects (view value.now) ≡ Some ds →
+        length b.objects ≡ length ds) }
+{
+    let document = document_of(alloc, value)?;
+    if document.model != model.name() {
+        return Err(DeliveryFault::OtherModel);
+    }
+    let mut builder = PopulationBuilder::with_capacity(alloc, model, document.entries.len())?;
+    add_all(&mut builder, &document.entries)?;
+    Ok(builder)
+}
+
+/// The population of objects that were added, with what their values in the document say, or its first fault.
+#[tactic(auto, unfolding(crate::specs::Taken::finished_with))]
+fn written<'m>(
+    alloc: Global,
+    mut builder: PopulationBuilder<'m>,
+    objects: Vec<Value>,
     model: &'m ClassModel,
 ) -> Result<Population<'m>, DeliveryFault>
-    ensures gives { Gives delivery_fault (λ p. p.content) result
-        (population_from model.now (all_written entries.items)) }
+    requires model { builder.model ≡ model.now }
+    requires objects { length objects.items ≤ length builder.objects }
+    ensures gives { (ws : List Written) → each entry_from (map view objects.items) ≡ Ok ws →
+        Gives delivery_fault (λ p. p.content) result (finished_with ws builder.entry) }
     ensures model { IfOk result (λ p. p.content.model ≡ model.now) }
 {
-    let mut builder = PopulationBuilder::with_capacity(alloc, model, entries.len())?;
-    add_all(&mut builder, &entries)?;
     let mut required = RequiredFeatures::new(alloc, model, Side::Written);
     let mut guesses = Guesses::new(alloc, model.class_count())?;
-    put_all(&mut builder, alloc, entries, &mut required, &mut guesses)?;
+    put_all(&mut builder, alloc, objects, &mut required, &mut guesses)?;
     match builder.finish() {
         Ok(population) => Ok(population),
         Err(fault) => Err(finished_fault(fault)),
@@ -122,7 +159,6 @@ fn population_of<'m>(
 }
 
 /// The population that a JSON tree describes, or its first fault.
-#[tactic(auto, unfolding(crate::specs::Loading::describes_population))]
 fn described_of<'m>(
     alloc: Global,
     value: Value,
@@ -132,11 +168,11 @@ fn described_of<'m>(
         (describes_population model.now (view value)) }
     ensures model { IfOk result (λ p. p.content.model ≡ model.now) }
 {
-    let document = document_of(alloc, value)?;
-    if document.model.as_str() != model.name() {
-        return Err(DeliveryFault::OtherModel);
-    }
-    population_of(alloc, document.entries, model)
+    let builder = added(alloc, &value, model)?;
+    let Some(objects) = objects_of(value) else {
+        return Err(DeliveryFault::Shape);
+    };
+    written(alloc, builder, objects, model)
 }
 
 /// The population that a delivery's bytes describe, or their first fault.

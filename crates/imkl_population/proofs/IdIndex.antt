@@ -4,7 +4,7 @@ use Rattle.std.proofs.lemmas.Bool.Decides.{eqb_tells}
 use Rattle.std.proofs.lemmas.List.{get_or-set_same, get_or-set_other, length-set}
 use Rattle.std.proofs.lemmas.Slice.Eq.{bytes_eq-Decides}
 use Rattle.imkl_population.specs.declared.object.Head.{Head}
-use Rattle.imkl_population.specs.IdIndex.{place_of, has_id, held, found, IsGuarded, TakesSlot, IsTaken}
+use Rattle.imkl_population.specs.IdIndex.{place_of, has_id, held, number_found, IsGuarded, TakesSlot, IsOccupied}
 
 -- an object that is there has its own id
 pub has_id-there : (hs : List Head) (k : ℕ) (d : Head) (q : List ℕ) → k < length hs → has_id hs k q ≡ bytes_eq (get_or hs k d).id q
@@ -38,12 +38,12 @@ has_id-new (g ∷ hs) h zero q fails holds = cc
 has_id-new (g ∷ hs) h (suc k) q fails holds = ap suc (has_id-new hs h k q fails holds)
 
 -- where there are slots, the id's slot says
-pub found-held : (slots : List ℕ) (others : List ℕ → Option ℕ) (hs : List Head) (q : List ℕ) → 0 < length slots → found slots others hs q ≡ held (slice_index_or slots (place_of q (length slots)) 0) others hs q
+pub found-held : (slots : List ℕ) (others : List ℕ → Option ℕ) (hs : List Head) (q : List ℕ) → 0 < length slots → number_found slots others hs q ≡ held (slice_index_or slots (place_of q (length slots)) 0) others hs q
 found-held [] others hs q some = absurd (omega arith)
 found-held (s ∷ ss) others hs q some = refl
 
 -- without slots, the others say
-found-nowhere : (slots : List ℕ) (others : List ℕ → Option ℕ) (hs : List Head) (q : List ℕ) → length slots ≡ 0 → found slots others hs q ≡ others q
+found-nowhere : (slots : List ℕ) (others : List ℕ → Option ℕ) (hs : List Head) (q : List ℕ) → length slots ≡ 0 → number_found slots others hs q ≡ others q
 found-nowhere [] others hs q none = refl
 found-nowhere (s ∷ ss) others hs q none = absurd (omega arith)
 
@@ -77,18 +77,18 @@ module _ (slots new : List ℕ) (others : List ℕ → Option ℕ) (hs : List He
   slot-apart : (r : ℕ) → (r ≡ place_of id (length slots) → ⊥) → slice_index_or new r 0 ≡ slice_index_or slots r 0
   slot-apart r apart = ap (λ (l : List ℕ). slice_index_or l r 0) takes.2 ∙ get_or-set_other slots (place_of id (length slots)) r (n + 1) 0 apart
 
-  mine : (q : List ℕ) → place_of q (length slots) ≡ place_of id (length slots) → found new others (hs ++ h ∷ []) q ≡ cond (bytes_eq id q) (Some n) (found slots others hs q)
+  mine : (q : List ℕ) → place_of q (length slots) ≡ place_of id (length slots) → number_found new others (hs ++ h ∷ []) q ≡ cond (bytes_eq id q) (Some n) (number_found slots others hs q)
   mine q at =
       let empty : slice_index_or slots (place_of q (length slots)) 0 ≡ 0 = ap (λ (x : ℕ). slice_index_or slots x 0) at ∙ takes.1 in
-      let nothing : found slots others hs q ≡ None = found-held slots others hs q takes.0 ∙ ap (λ (s : ℕ). held s others hs q) empty in
-      let held_now : found new others (hs ++ h ∷ []) q ≡ held (suc n) others (hs ++ h ∷ []) q =
+      let nothing : number_found slots others hs q ≡ None = found-held slots others hs q takes.0 ∙ ap (λ (s : ℕ). held s others hs q) empty in
+      let held_now : number_found new others (hs ++ h ∷ []) q ≡ held (suc n) others (hs ++ h ∷ []) q =
       found-held new others (hs ++ h ∷ []) q (subst (λ (x : ℕ). 0 < x) (sym same_length) takes.0)
       ∙ ap (λ (x : ℕ). held (slice_index_or new (place_of q x) 0) others (hs ++ h ∷ []) q) same_length
       ∙ ap (λ (s : ℕ). held s others (hs ++ h ∷ []) q) (slot-at (place_of q (length slots)) at) in
       let has : has_id (hs ++ h ∷ []) n q ≡ bytes_eq id q = ap (λ (k : ℕ). has_id (hs ++ h ∷ []) k q) next ∙ has_id-last hs h q ∙ ap (λ (x : List ℕ). bytes_eq x q) named in
       held_now ∙ rw (has, guarded q takes.0 empty, nothing) refl
 
-  other : (q : List ℕ) → (place_of q (length slots) ≡ place_of id (length slots) → ⊥) → found new others (hs ++ h ∷ []) q ≡ cond (bytes_eq id q) (Some n) (found slots others hs q)
+  other : (q : List ℕ) → (place_of q (length slots) ≡ place_of id (length slots) → ⊥) → number_found new others (hs ++ h ∷ []) q ≡ cond (bytes_eq id q) (Some n) (number_found slots others hs q)
   other q apart =
       let fails : bytes_eq id q ≡ false = differs (bytes_eq id q) id q refl (λ holds. apart (ap (λ (x : List ℕ). place_of x (length slots)) (sym (same_id id q holds)))) in
       let head : bytes_eq h.id q ≡ false = ap (λ (x : List ℕ). bytes_eq x q) named ∙ fails in
@@ -99,12 +99,12 @@ module _ (slots new : List ℕ) (others : List ℕ → Option ℕ) (hs : List He
       ∙ sym (found-held slots others hs q takes.0)
       ∙ rw fails refl
 
-  by_place : (q : List ℕ) → ((eqb (place_of q (length slots)) (place_of id (length slots)) ≡ true) × (place_of q (length slots) ≡ place_of id (length slots))) ⊎ ((eqb (place_of q (length slots)) (place_of id (length slots)) ≡ false) × (place_of q (length slots) ≢ place_of id (length slots))) → found new others (hs ++ h ∷ []) q ≡ cond (bytes_eq id q) (Some n) (found slots others hs q)
+  by_place : (q : List ℕ) → ((eqb (place_of q (length slots)) (place_of id (length slots)) ≡ true) × (place_of q (length slots) ≡ place_of id (length slots))) ⊎ ((eqb (place_of q (length slots)) (place_of id (length slots)) ≡ false) × (place_of q (length slots) ≢ place_of id (length slots))) → number_found new others (hs ++ h ∷ []) q ≡ cond (bytes_eq id q) (Some n) (number_found slots others hs q)
   by_place q (inl at) = mine q at.1
   by_place q (inr apart) = other q apart.1
 
   -- the next object's id is found by its slot, and all others as before
-  pub found-taken : (q : List ℕ) → found new others (hs ++ h ∷ []) q ≡ cond (bytes_eq id q) (Some n) (found slots others hs q)
+  pub found-taken : (q : List ℕ) → number_found new others (hs ++ h ∷ []) q ≡ cond (bytes_eq id q) (Some n) (number_found slots others hs q)
   found-taken q = by_place q (eqb_tells (place_of q (length slots)) (place_of id (length slots)))
 
   empty_by : (q : List ℕ) → slice_index_or new (place_of q (length new)) 0 ≡ 0 → ((eqb (place_of q (length slots)) (place_of id (length slots)) ≡ true) × (place_of q (length slots) ≡ place_of id (length slots))) ⊎ ((eqb (place_of q (length slots)) (place_of id (length slots)) ≡ false) × (place_of q (length slots) ≢ place_of id (length slots))) → others q ≡ None
@@ -115,7 +115,7 @@ module _ (slots new : List ℕ) (others : List ℕ → Option ℕ) (hs : List He
   pub guarded-taken : IsGuarded new others
   guarded-taken q some empty = empty_by q empty (eqb_tells (place_of q (length slots)) (place_of id (length slots)))
 
-module _ (slots : List ℕ) (others after : List ℕ → Option ℕ) (hs : List Head) (h : Head) (id : List ℕ) (n : ℕ) (next : n ≡ length hs) (named : h.id ≡ id) (taken : IsTaken slots id) (follows : (q : List ℕ) → after q ≡ cond (bytes_eq id q) (Some n) (others q)) where
+module _ (slots : List ℕ) (others after : List ℕ → Option ℕ) (hs : List Head) (h : Head) (id : List ℕ) (n : ℕ) (next : n ≡ length hs) (named : h.id ≡ id) (taken : IsOccupied slots id) (follows : (q : List ℕ) → after q ≡ cond (bytes_eq id q) (Some n) (others q)) where
   other_kept : (q : List ℕ) → bytes_eq id q ≡ false → after q ≡ others q
   other_kept q fails = follows q ∙ rw fails refl
 
@@ -129,17 +129,17 @@ module _ (slots : List ℕ) (others after : List ℕ → Option ℕ) (hs : List 
   own zero full none = absurd (full refl)
   own (suc k) full none = own_by (has_id hs k id) (has_id (hs ++ h ∷ []) k id) k refl refl none
 
-  by_test : (b : Bool) (q : List ℕ) → bytes_eq id q ≡ b → 0 < length slots → found slots others hs id ≡ None → found slots after (hs ++ h ∷ []) q ≡ cond b (Some n) (found slots others hs q)
+  by_test : (b : Bool) (q : List ℕ) → bytes_eq id q ≡ b → 0 < length slots → number_found slots others hs id ≡ None → number_found slots after (hs ++ h ∷ []) q ≡ cond b (Some n) (number_found slots others hs q)
   by_test true q same some none =
-      let mine : found slots after (hs ++ h ∷ []) id ≡ Some n =
+      let mine : number_found slots after (hs ++ h ∷ []) id ≡ Some n =
       found-held slots after (hs ++ h ∷ []) id some ∙ own (slice_index_or slots (place_of id (length slots)) 0) (taken some) (sym (found-held slots others hs id some) ∙ none) in
-      subst (λ (x : List ℕ). found slots after (hs ++ h ∷ []) x ≡ Some n) (same_id id q same) mine
+      subst (λ (x : List ℕ). number_found slots after (hs ++ h ∷ []) x ≡ Some n) (same_id id q same) mine
   by_test false q apart some none =
       found-held slots after (hs ++ h ∷ []) q some
       ∙ held-push (slice_index_or slots (place_of q (length slots)) 0) others after hs h q (ap (λ (x : List ℕ). bytes_eq x q) named ∙ apart) (other_kept q apart)
       ∙ sym (found-held slots others hs q some)
 
-  by_length : (ℓ : ℕ) (q : List ℕ) → length slots ≡ ℓ → found slots others hs id ≡ None → found slots after (hs ++ h ∷ []) q ≡ cond (bytes_eq id q) (Some n) (found slots others hs q)
+  by_length : (ℓ : ℕ) (q : List ℕ) → length slots ≡ ℓ → number_found slots others hs id ≡ None → number_found slots after (hs ++ h ∷ []) q ≡ cond (bytes_eq id q) (Some n) (number_found slots others hs q)
   by_length zero q nowhere none = found-nowhere slots after (hs ++ h ∷ []) q nowhere ∙ follows q ∙ ap (λ (x : Option ℕ). cond (bytes_eq id q) (Some n) x) (sym (found-nowhere slots others hs q nowhere))
   by_length (suc k) q some none = by_test (bytes_eq id q) q refl (omega arith) none
 
@@ -148,7 +148,7 @@ module _ (slots : List ℕ) (others after : List ℕ → Option ℕ) (hs : List 
   guard_by false q apart guarded some empty = other_kept q apart ∙ guarded q some empty
 
   -- the next object's id is found among the others, and all others as before
-  pub found-other : found slots others hs id ≡ None → (q : List ℕ) → found slots after (hs ++ h ∷ []) q ≡ cond (bytes_eq id q) (Some n) (found slots others hs q)
+  pub found-other : number_found slots others hs id ≡ None → (q : List ℕ) → number_found slots after (hs ++ h ∷ []) q ≡ cond (bytes_eq id q) (Some n) (number_found slots others hs q)
   found-other none q = by_length (length slots) q refl none
 
   -- an id whose slot is empty isn't among the others

@@ -21,9 +21,9 @@ held zero others hs id = None
 held (suc n) others hs id = if has_id hs n id then Some n else others id
 
 -- the number found for an id, among objects with these ids
-abbrev pub found : List ℕ → (List ℕ → Option ℕ) → List Head → List ℕ → Option ℕ
-found [] others hs id = others id
-found (s ∷ ss) others hs id = held (slice_index_or (s ∷ ss) (place_of id (length (s ∷ ss))) 0) others hs id
+abbrev pub number_found : List ℕ → (List ℕ → Option ℕ) → List Head → List ℕ → Option ℕ
+number_found [] others hs id = others id
+number_found (s ∷ ss) others hs id = held (slice_index_or (s ∷ ss) (place_of id (length (s ∷ ss))) 0) others hs id
 
 -- an id whose slot is empty isn't among the others
 abbrev pub IsGuarded : List ℕ → (List ℕ → Option ℕ) → Type 0
@@ -34,8 +34,8 @@ abbrev pub TakesSlot : List ℕ → List ℕ → ℕ → List ℕ → Type 0
 TakesSlot old id n new = (0 < length old) × (slice_index_or old (place_of id (length old)) 0 ≡ 0) × (new ≡ slice_set old (place_of id (length old)) (n + 1))
 
 -- an id's slot isn't empty, if there are slots
-abbrev pub IsTaken : List ℕ → List ℕ → Type 0
-IsTaken slots id = 0 < length slots → slice_index_or slots (place_of id (length slots)) 0 ≡ 0 → ⊥
+abbrev pub IsOccupied : List ℕ → List ℕ → Type 0
+IsOccupied slots id = 0 < length slots → slice_index_or slots (place_of id (length slots)) 0 ≡ 0 → ⊥
 
 -- The next object's id is given its number if it has none. If it has one, or memory runs out, nothing changes.
 abbrev pub AddsId : Result Bool AllocError → (List Head → List ℕ → Option ℕ) → List Head → List ℕ → ℕ → (List Head → List ℕ → Option ℕ) → Type 0

@@ -41,7 +41,7 @@ pub struct PopulationBuilder<'m> {
 
 impl<'m> Model for PopulationBuilder<'m> {
     ghost use Rattle.std.specs.BTreeMap.{get_by_text};
-    ghost use Rattle.imkl_population.specs.IdIndex.{found};
+    ghost use Rattle.imkl_population.specs.IdIndex.{number_found};
     ghost use Rattle.imkl_population.specs.Population.{Population};
     ghost use Rattle.imkl_population.specs.Store.{maps_of};
     ghost use Rattle.imkl_population.specs.Layout.{stored_content, IsInMaking};
@@ -51,7 +51,7 @@ impl<'m> Model for PopulationBuilder<'m> {
     ghost view = { λ b. stored_content b.model.now b.heads.items (maps_of b.written) };
 
     ghost invariant = { λ b. IsInMaking b.model.now b.heads.items (maps_of b.written)
-        (found b.ids.slots.items (get_by_text b.ids.others) b.heads.items) };
+        (number_found b.ids.slots.items (get_by_text b.ids.others) b.heads.items) };
 }
 
 impl<'m> PopulationBuilder<'m> {

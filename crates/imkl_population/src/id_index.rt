@@ -4,7 +4,7 @@ ghost use Rattle.std.specs.Prelude.{◌≡◌, ◌<◌, ◌≤◌, ℕ, List, []
 ghost use Rattle.std.specs.Map.{update};
 ghost use Rattle.std.specs.BTreeMap.{get_by_text};
 ghost use Rattle.imkl_population.specs.declared.object.Head.{Head};
-ghost use Rattle.imkl_population.specs.IdIndex.{place_of, has_id, found, IsGuarded, TakesSlot, IsTaken, AddsId};
+ghost use Rattle.imkl_population.specs.IdIndex.{place_of, has_id, number_found, IsGuarded, TakesSlot, IsOccupied, AddsId};
 
 use crate::object::Head;
 use std::alloc::{AllocError, Global};
@@ -64,7 +64,7 @@ impl IdIndex {
     /// No ids. Takes no memory.
     pub(crate) fn new(alloc: Global) -> IdIndex
         ensures { (hs : List Head) (id : List ℕ) →
-            found result.slots.items (get_by_text result.others) hs id ≡ None }
+            number_found result.slots.items (get_by_text result.others) hs id ≡ None }
     {
         IdIndex {
             slots: Vec::new(alloc),
@@ -75,7 +75,7 @@ impl IdIndex {
     /// No ids, and slots for so many.
     pub(crate) fn with_capacity(alloc: Global, ids: usize) -> Result<IdIndex, AllocError>
         ensures { IfOk result (λ x. (hs : List Head) (id : List ℕ) →
-            found x.slots.items (get_by_text x.others) hs id ≡ None) }
+            number_found x.slots.items (get_by_text x.others) hs id ≡ None) }
     {
         let slots = vec![in alloc; 0; ids.saturating_mul(8)]?;
         Ok(IdIndex {
@@ -86,7 +86,7 @@ impl IdIndex {
 
     /// The number of the object that has an id.
     pub(crate) fn find(&self, heads: &[Head], id: &str) -> Option<usize>
-        ensures { result ≡ found self.now.slots.items (get_by_text self.now.others)
+        ensures { result ≡ number_found self.now.slots.items (get_by_text self.now.others)
             heads.now id.now }
     {
         if self.slots.is_empty() {
@@ -111,8 +111,8 @@ impl IdIndex {
         requires next { number ≡ length heads.now }
         requires small { number < 1000000 }
         ensures { AddsId result
-            (found self.old.slots.items (get_by_text self.old.others)) heads.now id.now number
-            (found self.new.slots.items (get_by_text self.new.others)) }
+            (number_found self.old.slots.items (get_by_text self.old.others)) heads.now id.now number
+            (number_found self.new.slots.items (get_by_text self.new.others)) }
     {
         if self.find(heads, id).is_some() {
             return Ok(false);
@@ -130,7 +130,7 @@ impl IdIndex {
         ensures taken { result ≡ true →
             TakesSlot self.old.slots.items id.now number self.new.slots.items }
         ensures others { result ≡ true → self.new.others ≡ self.old.others }
-        ensures full { result ≡ false → IsTaken self.old.slots.items id.now }
+        ensures full { result ≡ false → IsOccupied self.old.slots.items id.now }
         ensures same { result ≡ false → self.new ≡ self.old }
     {
         if self.slots.is_empty() {

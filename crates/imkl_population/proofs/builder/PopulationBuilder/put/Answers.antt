@@ -1,7 +1,7 @@
 use Rattle.std.proofs.Common.{◌≡◌, ◌∙◌, ◌==◌, ◌<◌, ℕ, true, Ok, arith, ap, sym, subst, refl, length, if◌then◌else◌}
 use Rattle.std.specs.Ordering.{nat_cmp}
 use Rattle.std.specs.BTreeMap.{get_by_text, insert_entry}
-use Rattle.imkl_population.specs.IdIndex.{found}
+use Rattle.imkl_population.specs.IdIndex.{number_found}
 use Rattle.imkl_population.specs.Population.{Population}
 use Rattle.imkl_population.specs.Building.{with_values}
 use Rattle.imkl_population.specs.Draft.{is_sound}
@@ -14,7 +14,7 @@ use Rattle.imkl_population.proofs.builder.PopulationBuilder.put.Goals.{After-dro
 pub invariant_of-self : goal.invariant_of-self
 invariant_of-self c =
     let i = c.self.inside in
-    making-same i.model.now i.heads.items (maps_of i.written) (maps_of c.put.new.self) c.args.object c.args.feature c.args.values.items (found i.ids.slots.items (get_by_text i.ids.others) i.heads.items) c.self.invariant c.in_err-put.ensures.err
+    making-same i.model.now i.heads.items (maps_of i.written) (maps_of c.put.new.self) c.args.object c.args.feature c.args.values.items (number_found i.ids.slots.items (get_by_text i.ids.others) i.heads.items) c.self.invariant c.in_err-put.ensures.err
 
 -- the rows after the call
 put_row : (c : After-drop-values-2) → (k : ℕ) → object_row (maps_of c.put.new.self) k
@@ -30,7 +30,7 @@ pub invariant_of-self-2 : goal.invariant_of-self-2
 invariant_of-self-2 c =
     let i = c.self.inside in
     let sound = subst (λ (p : Population). is_sound p c.args.object (c.args.feature, c.args.values.items) ≡ true) (sym c.self.view_is) c.requires.sound in
-    making-put i.model.now i.heads.items (maps_of i.written) (maps_of c.put.new.self) c.args.object c.args.feature c.args.values.items (found i.ids.slots.items (get_by_text i.ids.others) i.heads.items) c.self.invariant
+    making-put i.model.now i.heads.items (maps_of i.written) (maps_of c.put.new.self) c.args.object c.args.feature c.args.values.items (number_found i.ids.slots.items (get_by_text i.ids.others) i.heads.items) c.self.invariant
     (there c) (omega (arith, c.requires.feature, ap (λ (p : Population). length p.model.features) c.self.view_is)) (put_row c) sound
 
 pub returns-clause-answers : goal.returns-clause-answers

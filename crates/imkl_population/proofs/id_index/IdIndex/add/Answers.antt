@@ -1,7 +1,7 @@
 use Rattle.std.proofs.Common.{◌≡◌, ◌∙◌, refl, sym, ap, subst, cond, List, ℕ, Some, None, Option, bytes_eq, ◌++◌, [], ◌∷◌, is_some}
 use Rattle.std.specs.BTreeMap.{get_by_text}
 use Rattle.imkl_population.specs.declared.id_index.IdIndex.{IdIndex}
-use Rattle.imkl_population.specs.IdIndex.{found, IsGuarded, IsTaken}
+use Rattle.imkl_population.specs.IdIndex.{number_found, IsGuarded, IsOccupied}
 use Rattle.imkl_population.proofs.IdIndex.{found-taken, found-other, guarded-other, not_found}
 use Rattle.imkl_population.proofs.Stored.{on_either}
 use Rattle.imkl_population.proofs.id_index.IdIndex.add.Goals as goal
@@ -14,7 +14,7 @@ returns-then-take_slot c =
     let same = c.take_slot.ensures.others c.if-take_slot.true in (
       ap is_some (sym c.find.ensures) ∙ sym c.is_some.ensures ∙ c.if-is_some.false,
       λ h named q.
-          ap (λ (ids : List ℕ → Option ℕ). found slots ids (c.args.heads.now ++ h ∷ []) q) (ap get_by_text same)
+          ap (λ (ids : List ℕ → Option ℕ). number_found slots ids (c.args.heads.now ++ h ∷ []) q) (ap get_by_text same)
           ∙ found-taken old.slots.items slots others c.args.heads.now h c.args.id.now c.args.number c.requires.next named (c.take_slot.ensures.taken c.if-take_slot.true) old.guarded q,
     )
 
@@ -22,7 +22,7 @@ pub invariant_of-self : goal.invariant_of-self
 invariant_of-self c =
     let s = c.take_slot.new.self in
     let same = c.take_slot.ensures.same c.if-take_slot.false in
-    let taken : IsTaken s.slots.items c.args.id.now = subst (λ (x : IdIndex). IsTaken x.slots.items c.args.id.now) (sym same) (c.take_slot.ensures.full c.if-take_slot.false) in
+    let taken : IsOccupied s.slots.items c.args.id.now = subst (λ (x : IdIndex). IsOccupied x.slots.items c.args.id.now) (sym same) (c.take_slot.ensures.full c.if-take_slot.false) in
     let after = get_by_text c.put_number.new.numbers in
     record {
       guarded = on_either c.put_number.result c.put_number.ensures.ok c.put_number.ensures.err
@@ -34,12 +34,12 @@ pub returns : goal.returns
 returns c =
     let s = c.take_slot.new.self in
     let same = c.take_slot.ensures.same c.if-take_slot.false in
-    let taken : IsTaken s.slots.items c.args.id.now = subst (λ (x : IdIndex). IsTaken x.slots.items c.args.id.now) (sym same) (c.take_slot.ensures.full c.if-take_slot.false) in
+    let taken : IsOccupied s.slots.items c.args.id.now = subst (λ (x : IdIndex). IsOccupied x.slots.items c.args.id.now) (sym same) (c.take_slot.ensures.full c.if-take_slot.false) in
     let tested = ap is_some (sym c.find.ensures) ∙ sym c.is_some.ensures ∙ c.if-is_some.false in
-    let none : found s.slots.items (get_by_text s.others) c.args.heads.now c.args.id.now ≡ None =
-    ap (λ (x : IdIndex). found x.slots.items (get_by_text x.others) c.args.heads.now c.args.id.now) same ∙ sym c.find.ensures ∙ not_found c.find.result c.is_some.result c.is_some.ensures c.if-is_some.false in (
+    let none : number_found s.slots.items (get_by_text s.others) c.args.heads.now c.args.id.now ≡ None =
+    ap (λ (x : IdIndex). number_found x.slots.items (get_by_text x.others) c.args.heads.now c.args.id.now) same ∙ sym c.find.ensures ∙ not_found c.find.result c.is_some.result c.is_some.ensures c.if-is_some.false in (
       tested,
       λ h named q.
           found-other s.slots.items (get_by_text s.others) (get_by_text c.put_number.new.numbers) c.args.heads.now h c.args.id.now c.args.number c.requires.next named taken c.in_ok-put_number.ensures.ok none q
-          ∙ ap (λ (x : IdIndex). cond (bytes_eq c.args.id.now q) (Some c.args.number) (found x.slots.items (get_by_text x.others) c.args.heads.now q)) same,
+          ∙ ap (λ (x : IdIndex). cond (bytes_eq c.args.id.now q) (Some c.args.number) (number_found x.slots.items (get_by_text x.others) c.args.heads.now q)) same,
     )
