@@ -1,4 +1,4 @@
-//! The document of a delivery, as written: one walk over its tree makes its entries.
+//! The document of a delivery: one walk over its tree makes its entries.
 
 ghost use Rattle.std.specs.Prelude.{◌≡◌, map};
 ghost use Rattle.serde_json.specs.View.{view, members_view};
@@ -15,7 +15,7 @@ use imkl_model::json::{list_of, record_of};
 use serde_json::{Map, Value};
 use std::alloc::Global;
 
-/// An object of a document: its id, the name of its class, and the members of its features.
+/// An entry of a document: an object's id, the name of its class, and the members of its features.
 #[derive(Clone, Copy, Debug, Drop)]
 pub struct Entry<'v> {
     pub id: &'v str,
@@ -23,14 +23,14 @@ pub struct Entry<'v> {
     pub features: &'v Map<String, Value>,
 }
 
-/// A document: the name of its class model, and its objects.
+/// A document: the name of its class model, and its entries.
 #[derive(Drop)]
 pub struct Document<'v> {
     pub model: &'v str,
     pub entries: Vec<Entry<'v>>,
 }
 
-/// An object of so many members.
+/// The members of a JSON object that has exactly this number of them; else the fault is `Shape`.
 fn record(value: &Value, members: usize) -> Result<&Map<String, Value>, DeliveryFault>
     ensures { Gives delivery_fault (λ ms. members_view ms.now.entries) result
         (found (record_from members (view value.now)) Shape) }
@@ -41,6 +41,7 @@ fn record(value: &Value, members: usize) -> Result<&Map<String, Value>, Delivery
     }
 }
 
+/// The value of a JSON object's member; `Shape` where there is no such member, or the value is no JSON object.
 fn member<'v>(value: &'v Value, name: &str) -> Result<&'v Value, DeliveryFault>
     ensures { Gives delivery_fault (λ v. view v.now) result
         (found (get name.now (view value.now)) Shape) }
@@ -51,6 +52,7 @@ fn member<'v>(value: &'v Value, name: &str) -> Result<&'v Value, DeliveryFault>
     }
 }
 
+/// The text of a string; `Shape` where the value is none.
 fn text(value: &Value) -> Result<&str, DeliveryFault>
     ensures { Gives delivery_fault (λ s. s.now) result (found (as_str (view value.now)) Shape) }
 {
@@ -60,6 +62,7 @@ fn text(value: &Value) -> Result<&str, DeliveryFault>
     }
 }
 
+/// The members of a JSON object; `Shape` where the value is none.
 fn members(value: &Value) -> Result<&Map<String, Value>, DeliveryFault>
     ensures { Gives delivery_fault (λ ms. members_view ms.now.entries) result
         (found (as_object (view value.now)) Shape) }
@@ -70,6 +73,7 @@ fn members(value: &Value) -> Result<&Map<String, Value>, DeliveryFault>
     }
 }
 
+/// The values of a list; `Shape` where the value is none.
 fn list(value: &Value) -> Result<&[Value], DeliveryFault>
     ensures { Gives delivery_fault (λ vs. map view vs.now) result
         (found (list_from (view value.now)) Shape) }
@@ -80,6 +84,7 @@ fn list(value: &Value) -> Result<&[Value], DeliveryFault>
     }
 }
 
+/// The entry that a value is; `Shape` where it hasn't exactly an entry's members, each of its type.
 #[tactic(auto, unfolding(crate::specs::Document::entry_from))]
 fn entry_of(value: &Value) -> Result<Entry<'_>, DeliveryFault>
     ensures { Gives delivery_fault written_of result (entry_from (view value.now)) }
@@ -95,7 +100,7 @@ fn entry_of(value: &Value) -> Result<Entry<'_>, DeliveryFault>
     })
 }
 
-/// The objects that values write.
+/// The entries that values are, or the first fault of one.
 fn entries_of(alloc: Global, values: &[Value]) -> Result<Vec<Entry<'_>>, DeliveryFault>
     ensures { Gives delivery_fault (λ es. all_written es.items) result
         (each entry_from (map view values.now)) }
@@ -108,7 +113,7 @@ fn entries_of(alloc: Global, values: &[Value]) -> Result<Vec<Entry<'_>>, Deliver
     Ok(entries)
 }
 
-/// The document that a JSON tree writes.
+/// The document that a JSON tree is, or its first fault.
 #[tactic(auto, unfolding(crate::specs::Document::document_from))]
 pub(crate) fn document_of(alloc: Global, value: &Value) -> Result<Document<'_>, DeliveryFault>
     ensures { Gives delivery_fault document_of result (document_from (view value.now)) }

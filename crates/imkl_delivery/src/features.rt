@@ -21,7 +21,8 @@ use imkl_population::{ObjectNo, PopulationBuilder, PopulationFault, RequiredFeat
 use serde_json::{Map, Value};
 use std::alloc::{AllocError, Global};
 
-/// A fault of the population, at an object.
+/// The delivery's fault for a fault that a call on the population answered at an object: out of memory is the delivery's
+/// own.
 pub(crate) fn placed_fault(object: usize, fault: PopulationFault) -> DeliveryFault
     ensures { result ≡ placed_fault object fault }
 {
@@ -31,7 +32,7 @@ pub(crate) fn placed_fault(object: usize, fault: PopulationFault) -> DeliveryFau
     }
 }
 
-/// Puts the values of an attribute.
+/// Puts the values of an attribute on an object.
 #[tactic(auto, unfolding(crate::specs::Loading::put_values))]
 fn put_values(
     builder: &mut PopulationBuilder<'_>,
@@ -58,7 +59,7 @@ fn put_values(
     }
 }
 
-/// Puts the targets of a source end.
+/// Puts the targets of a source end on an object.
 #[tactic(auto, unfolding(crate::specs::Loading::put_targets))]
 fn put_targets(
     builder: &mut PopulationBuilder<'_>,
@@ -85,7 +86,7 @@ fn put_targets(
     }
 }
 
-/// Puts what is written at a feature of the object's class; no value stands for the empty list.
+/// Puts what a member writes at a feature of the object's class. No member, or null, writes nothing.
 fn put_written(
     builder: &mut PopulationBuilder<'_>,
     alloc: Global,
@@ -111,7 +112,7 @@ fn put_written(
     }
 }
 
-/// Nothing at a feature that needs values is too few; at an opposite end nothing is written.
+/// What comes of a feature at which nothing is written: too few values, if the feature needs some and is no opposite end.
 fn left_out(object: ObjectNo, feature: FeatureNo, info: &FeatureInfo) -> Result<(), DeliveryFault>
     ensures { (p : Population) (v : Option Data) → feature_at p.model feature ≡ info.now →
         is_absent v ≡ true → Leaves result (put_by info.now.role object feature v p) p }
@@ -122,7 +123,7 @@ fn left_out(object: ObjectNo, feature: FeatureNo, info: &FeatureInfo) -> Result<
     Err(placed_fault(object.index(), PopulationFault::TooFew { object, feature }))
 }
 
-/// Puts what the members write at a feature, where it belongs to the object's class. The member is taken out.
+/// Puts what is written at a feature, where it belongs to the object's class, and takes its member out.
 #[tactic(auto, unfolding(crate::specs::Loading::put_member))]
 fn put_member(
     builder: &mut PopulationBuilder<'_>,
@@ -225,8 +226,8 @@ fn named_features(
     Ok(Some(features))
 }
 
-/// Puts what is written on an object, in the model's order of features. A feature that no member names and the class does
-/// not require is passed over, since there is nothing to put.
+/// Puts all that is written on an object, in the class model's order of features. A feature that no member names and that
+/// the class doesn't require is passed over, since there is nothing to put.
 pub(crate) fn put_members(
     builder: &mut PopulationBuilder<'_>,
     alloc: Global,

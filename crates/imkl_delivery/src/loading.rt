@@ -27,7 +27,7 @@ use imkl_population::{
 use serde_json::Value;
 use std::alloc::Global;
 
-/// Adds an object with its class.
+/// Adds the object of an entry.
 #[tactic(auto, unfolding(crate::specs::Loading::add_entry))]
 fn add(
     builder: &mut PopulationBuilder<'_>,
@@ -64,7 +64,7 @@ fn add_all(builder: &mut PopulationBuilder<'_>, entries: &[Entry<'_>]) -> Result
     Ok(())
 }
 
-/// Writes on all objects what their values in the document say. Each value is dropped before the next is taken.
+/// Writes on each object what its entry says. The tree of one entry is dropped before the next is taken.
 fn put_all(
     builder: &mut PopulationBuilder<'_>,
     alloc: Global,
@@ -100,7 +100,7 @@ fn put_all(
     Ok(())
 }
 
-/// A fault of the finished population, at its object.
+/// A fault of finishing, at its object.
 fn finished_fault(fault: PopulationFault) -> DeliveryFault
     ensures { result ≡ placed_fault (fault_place fault) fault }
 {
@@ -135,7 +135,7 @@ fn added<'m>(
     Ok(builder)
 }
 
-/// The population of objects that were added, with what their values in the document say, or its first fault.
+/// The population of objects that were added, with what their entries write, or the first fault.
 #[tactic(auto, unfolding(crate::specs::Taken::finished_with))]
 fn written<'m>(
     alloc: Global,

@@ -8,7 +8,7 @@ ghost use Rattle.imkl_delivery.specs.Taken.{KeepsOthers, object_features, docume
 
 use serde_json::{Map, Value};
 
-/// A member's value, out of the members. Those of other names stay.
+/// Takes the member of this name out, and gives its value; `None` where there is none. Members of other names stay.
 pub(crate) fn take_member(members: &mut Map<String, Value>, name: &str) -> Option<Value>
     ensures value { option_map view result ≡
         get_member name.now (members_view members.old.entries) }
@@ -19,7 +19,8 @@ pub(crate) fn take_member(members: &mut Map<String, Value>, name: &str) -> Optio
     Some(member.take())
 }
 
-/// A member's value, out of its object.
+/// The value of a JSON object's member, taken out of it; `None` where there is no such member, or the value is no JSON
+/// object.
 fn take(object: Value, name: &str) -> Option<Value>
     ensures { option_map view result ≡ get name.now (view object) }
 {
@@ -29,7 +30,7 @@ fn take(object: Value, name: &str) -> Option<Value>
     }
 }
 
-/// A list's values.
+/// The values of a list, taken out of it; `None` where the value is no list.
 #[tactic(auto, unfolding(imkl_model::specs::Json::list_from))]
 fn list(value: Value) -> Option<Vec<Value>>
     ensures { option_map (λ vs. map view vs.items) result ≡ list_from (view value) }
@@ -40,7 +41,7 @@ fn list(value: Value) -> Option<Vec<Value>>
     }
 }
 
-/// An object's members.
+/// The members of a JSON object, taken out of it; `None` where the value is none.
 fn members(value: Value) -> Option<Map<String, Value>>
     ensures { option_map (λ ms. members_view ms.entries) result ≡ as_object (view value) }
 {
@@ -50,7 +51,7 @@ fn members(value: Value) -> Option<Map<String, Value>>
     }
 }
 
-/// The objects of a document, out of its tree.
+/// The values that write a document's objects, taken out of its tree; `None` where the tree is no document.
 #[tactic(auto, unfolding(crate::specs::Taken::document_objects))]
 pub(crate) fn objects_of(document: Value) -> Option<Vec<Value>>
     ensures { option_map (λ vs. map view vs.items) result ≡ document_objects (view document) }
@@ -61,7 +62,7 @@ pub(crate) fn objects_of(document: Value) -> Option<Vec<Value>>
     }
 }
 
-/// The members of an object's features, out of its tree.
+/// The members of an entry's features, taken out of its tree; `None` where the tree is no entry.
 #[tactic(auto, unfolding(crate::specs::Taken::object_features))]
 pub(crate) fn features_of(object: Value) -> Option<Map<String, Value>>
     ensures { option_map (λ ms. members_view ms.entries) result ≡ object_features (view object) }
