@@ -142,8 +142,8 @@ fn add_pairs(
     Ok(())
 }
 
-/// How many more are expected behind so many that the objects before one have, of so many objects: at most seven times as
-/// many, so that a guess that is wrong costs little.
+/// How many more items a list of `count` is expected to get, if the objects from this one on add as many each as those before
+/// it did. At most seven times as many as there are, so that a wrong guess costs little.
 fn expected(count: usize, object: usize, objects: usize) -> usize {
     let left = objects.saturating_sub(object);
     let more = count.saturating_mul(left) / object.max(1);
@@ -207,8 +207,8 @@ impl Column {
         put_entry(&mut self.entries, entry)
     }
 
-    /// Makes room for so many values of an object, of so many objects that come in their order. Where room is made, it is
-    /// for as many as there will be if the objects to come have as many values as those before.
+    /// Makes room for the values of an object. Where a list is full, it gets room for what is expected of all objects, which
+    /// mostly come in their order.
     pub(crate) fn make_room(
         &mut self,
         object: usize,
