@@ -1,6 +1,5 @@
 -- A described population is the one of its entries.
-use Rattle.std.proofs.Common.{◌≡◌, ◌≢◌, ◌⊎◌, ◌∙◌, ℕ, zero, suc, ◌==◌, ◌<◌, ◌≤◌, Bool, true, false, cond, not, List, [], ◌∷◌, length, Option, Some, None, Result, Ok, Err, refl, sym, ap, subst, arith, if◌then◌else◌, inl, inr, bytes_eq, length-append, is_some}
-use Rattle.std.specs.Prelude.{nat_le}
+use Rattle.std.proofs.Common.{◌≡◌, ◌≢◌, ◌⊎◌, ◌∙◌, ℕ, zero, suc, ◌==◌, ◌<◌, ◌≤◌, Bool, true, false, cond, List, [], ◌∷◌, length, Option, Some, None, Result, Ok, Err, refl, sym, ap, subst, arith, if◌then◌else◌, inl, inr, bytes_eq, length-append}
 use Rattle.imkl_population.specs.Written.{written_in}
 use Rattle.std.proofs.lemmas.Bool.{false≢true, cases_eq, eq-eqb, ne_eqb}
 use Rattle.std.proofs.lemmas.Bool.Decides.{leb_tells}
@@ -12,13 +11,12 @@ use Rattle.ocl_base.proofs.ForAbove.{both_steps, found_is, ok_is, not_okay}
 use Rattle.imkl_model.specs.declared.feature.FeatureInfo.{FeatureInfo}
 use Rattle.imkl_model.specs.declared.feature.Role.{Role}
 use Rattle.imkl_model.specs.declared.feature.Role.TheVariants.{Attribute, SourceEnd, OppositeEnd}
-use Rattle.imkl_model.specs.ClassModel.{Model, class_number, class_at, feature_at, belongs}
+use Rattle.imkl_model.specs.ClassModel.{Model, class_number, feature_at, belongs}
 use Rattle.imkl_population.specs.declared.fault.PopulationFault.{PopulationFault}
-use Rattle.imkl_population.specs.declared.fault.PopulationFault.TheVariants.{BadId, DuplicateId, AbstractClass, Limit}
 use Rattle.imkl_population.specs.declared.object.Object.{Object}
 use Rattle.imkl_population.specs.declared.scalar.Scalar.{Scalar}
 use Rattle.imkl_population.specs.Population.{Population, object_at, class_of, written_at, object_number}
-use Rattle.imkl_population.specs.Building.{is_id, most_objects, add_outcome, set_outcome, link_outcome, unless, with_object, with_values, as_objects}
+use Rattle.imkl_population.specs.Building.{object_fault, add_outcome, set_outcome, link_outcome, unless, with_object, with_values, as_objects}
 use Rattle.imkl_population.specs.Finishing.{finish_outcome}
 use Rattle.imkl_population.proofs.ForAbove.{object_before, object_added, object_kept, object_put, objects_counted, written_put, number_kept}
 use Rattle.imkl_delivery.specs.declared.fault.DeliveryFault.{DeliveryFault}
@@ -52,15 +50,8 @@ unless_is : (e : Option PopulationFault) (p q : Population) → unless e p ≡ O
 unless_is None p q is = let same : Ok p ≡ Ok q = is in cc
 unless_is (Some e) p q is = absurd (let bad : Err e ≡ Ok q = is in cc)
 
-add_by : (a b c d : Bool) (r q : Population) → (if a then Err BadId else (if b then Err DuplicateId else (if c then Err AbstractClass else (if d then Err Limit else Ok r)))) ≡ Ok q → r ≡ q
-add_by true b c d r q is = absurd (let bad : Err BadId ≡ Ok q = is in cc)
-add_by false true c d r q is = absurd (let bad : Err DuplicateId ≡ Ok q = is in cc)
-add_by false false true d r q is = absurd (let bad : Err AbstractClass ≡ Ok q = is in cc)
-add_by false false false true r q is = absurd (let bad : Err Limit ≡ Ok q = is in cc)
-add_by false false false false r q is = let same : Ok r ≡ Ok q = is in cc
-
 add_outcome_is : (p : Population) (id : List ℕ) (c : ℕ) (q : Population) → add_outcome p id c ≡ Ok q → with_object p id c ≡ q
-add_outcome_is p id c q is = add_by (not (is_id id)) (is_some (object_number p id)) (class_at p.model c).is_abstract (nat_le most_objects (length p.objects)) (with_object p id c) q is
+add_outcome_is p id c q is = unless_is (object_fault p id c) (with_object p id c) q is
 
 -- ---- objects are added
 

@@ -1,5 +1,5 @@
 -- What a builder keeps, after an object is added and after values are set.
-use Rattle.std.proofs.Common.{◌≡◌, ℕ, ◌==◌, ◌<◌, ◌≤◌, Bool, true, false, ◌&&◌, not, cond, List, [], ◌∷◌, ◌++◌, length, Option, Some, None, refl, sym, ap, subst, ◌∙◌, bytes_eq, arith, if◌then◌else◌, is_none, is_some, get_or, set, inl, inr, nat_lt, length-append, Ordering, Less, Equal, Greater}
+use Rattle.std.proofs.Common.{◌≡◌, ℕ, ◌==◌, ◌<◌, ◌≤◌, Bool, true, false, ◌&&◌, not, cond, List, [], ◌∷◌, ◌++◌, length, Option, Some, None, refl, sym, ap, subst, ◌∙◌, bytes_eq, arith, if◌then◌else◌, is_none, get_or, set, inl, inr, nat_lt, length-append, Ordering, Less, Equal, Greater}
 use Rattle.std.proofs.lemmas.Bool.{false≢true, and_parts, and_from, cases_eq}
 use Rattle.std.proofs.lemmas.Bool.Decides.{leb_tells}
 use Rattle.std.proofs.lemmas.List.{get_or-set_same, get_or-set_other, length-set}
@@ -128,20 +128,15 @@ module _ (m : Model) (os : List Object) (y : Object) where
         (rw unwritten refl);
   }
 
-none_of : (o : Option ℕ) (b : Bool) → b ≡ is_some o → b ≡ false → o ≡ None
-none_of None b e h = refl
-none_of (Some x) b e h = absurd (false≢true (sym h ∙ e))
-
 -- the same, reported by the equations that a call gives
-pub draft-pushed : (m : Model) (os new_os : List Object) (y : Object) (id key : List ℕ) (n : ℕ) (there : Bool) (ids new : List ℕ → Option ℕ) → IsDraft (of m os) ids → n < most_objects
-    → new_os ≡ os ++ y ∷ [] → y.id ≡ id → key ≡ id → n ≡ length os → there ≡ is_some (ids id) → there ≡ false
+pub draft-pushed : (m : Model) (os new_os : List Object) (y : Object) (id : List ℕ) (n : ℕ) (ids new : List ℕ → Option ℕ) → IsDraft (of m os) ids → n < most_objects
+    → new_os ≡ os ++ y ∷ [] → y.id ≡ id → n ≡ length os → ids id ≡ None
     → is_id id ≡ true → y.class < length m.classes → (class_at m y.class).is_abstract ≡ false → y.written ≡ []
-    → ((q : List ℕ) → new q ≡ cond (bytes_eq key q) (Some n) (ids q)) → IsDraft (of m new_os) new
-draft-pushed m os new_os y id key n there ids new draft room items named keyed counted is absent formed classed concrete unwritten after =
-    let none : object_number (of m os) y.id ≡ None = ap (object_number (of m os)) named ∙ sym (draft.found id) ∙ none_of (ids id) there is absent in
+    → ((q : List ℕ) → new q ≡ cond (bytes_eq id q) (Some n) (ids q)) → IsDraft (of m new_os) new
+draft-pushed m os new_os y id n ids new draft room items named counted absent formed classed concrete unwritten after =
+    let none : object_number (of m os) y.id ≡ None = ap (object_number (of m os)) named ∙ sym (draft.found id) ∙ absent in
     let named_so : is_id y.id ≡ true = ap is_id named ∙ formed in
-    let key_is : key ≡ y.id = keyed ∙ sym named in
-    rw items (draft-added m os y ids new draft (omega (arith, room, counted)) named_so none classed concrete unwritten (λ q. after q ∙ rw (key_is, counted) refl))
+    rw items (draft-added m os y ids new draft (omega (arith, room, counted)) named_so none classed concrete unwritten (λ q. after q ∙ rw (sym named, counted) refl))
 
 -- ---- other values on an object
 

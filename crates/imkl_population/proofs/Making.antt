@@ -1,19 +1,16 @@
 -- What a builder keeps of its columns, after an object is added and after values are put.
-use Rattle.std.proofs.Common.{◌≡◌, ◌==◌, ℕ, ◌<◌, ◌≤◌, List, [], ◌∷◌, ◌++◌, length, length-append, get_or, Bool, true, false, Option, Some, None, Result, Ok, Err, nat_le, refl, sym, ap, subst, ◌∙◌, arith, cond, bytes_eq, is_some, if◌then◌else◌}
+use Rattle.std.proofs.Common.{◌≡◌, ◌==◌, ℕ, ◌<◌, ◌≤◌, List, [], ◌∷◌, ◌++◌, length, length-append, get_or, Bool, true, false, not, Option, Some, None, nat_le, refl, sym, ap, subst, ◌∙◌, arith, cond, bytes_eq, is_some, if◌then◌else◌}
 use Rattle.std.specs.Ordering.{nat_cmp}
 use Rattle.std.specs.BTreeMap.{insert_entry}
 use Rattle.std.proofs.lemmas.Bool.{eq-eqb, ne_eqb}
 use Rattle.std.proofs.lemmas.Bool.Decides.{nat_tests}
 use Rattle.imkl_model.specs.ClassModel.{Model, class_at}
 use Rattle.imkl_population.specs.declared.scalar.Scalar.{Scalar}
-use Rattle.imkl_population.specs.declared.fault.PopulationFault.{PopulationFault}
-use Rattle.imkl_population.specs.declared.fault.PopulationFault.TheVariants.{DuplicateId, AbstractClass, Limit}
+use Rattle.imkl_population.specs.declared.fault.PopulationFault.TheVariants.{DuplicateId, AbstractClass, Limit, BadId}
 use Rattle.imkl_population.specs.declared.object.Object.{Object}
 use Rattle.imkl_population.specs.declared.object.Head.{Head}
-use Rattle.imkl_population.specs.Building.{is_id, most_objects, with_object, add_outcome}
+use Rattle.imkl_population.specs.Building.{is_id, most_objects, with_object, object_fault}
 use Rattle.imkl_population.specs.Draft.{IsDraft, is_sound}
-use Rattle.imkl_population.specs.Adding.{class_fault, id_fault_or}
-use Rattle.imkl_population.specs.IdIndex.{AddsId}
 use Rattle.imkl_population.specs.Population.{Population, object_number, no_object}
 use Rattle.imkl_population.specs.Store.{object_row, rows}
 use Rattle.imkl_population.specs.Written.{IsMap}
@@ -27,17 +24,17 @@ pub content-added : (m : Model) (hs new : List Head) (maps : Maps) (h : Head) �
 content-added m hs new maps h grown idle = ap (λ (os : List Object). record { model = m; objects = os }) (content-push hs new maps h grown idle)
 
 -- an object is added
-pub making-added : (m : Model) (hs new : List Head) (maps : Maps) (h : Head) (id key : List ℕ) (n : ℕ) (there : Bool) (ids after : List ℕ → Option ℕ) → IsInMaking m hs maps ids → n < most_objects
-    → new ≡ hs ++ h ∷ [] → h.id ≡ id → key ≡ id → n ≡ length hs → there ≡ is_some (ids id) → there ≡ false
+pub making-added : (m : Model) (hs new : List Head) (maps : Maps) (h : Head) (id : List ℕ) (n : ℕ) (ids after : List ℕ → Option ℕ) → IsInMaking m hs maps ids → n < most_objects
+    → new ≡ hs ++ h ∷ [] → h.id ≡ id → n ≡ length hs → ids id ≡ None
     → is_id id ≡ true → h.class < length m.classes → (class_at m h.class).is_abstract ≡ false
-    → ((q : List ℕ) → after q ≡ cond (bytes_eq key q) (Some n) (ids q)) → IsInMaking m new maps after
-making-added m hs new maps h id key n there ids after made room grown named keyed counted is absent formed classed concrete follows =
+    → ((q : List ℕ) → after q ≡ cond (bytes_eq id q) (Some n) (ids q)) → IsInMaking m new maps after
+making-added m hs new maps h id n ids after made room grown named counted absent formed classed concrete follows =
     let y : Object = record { id = h.id; class = h.class; written = [] } in
     let os : List Object = objects_of hs (rows maps (length hs)) in
     let count : n ≡ length os = counted ∙ sym (length-content m hs maps) in
     record {
-      draft = draft-pushed m os (objects_of new (rows maps (length new))) y id key n there ids after made.draft room
-          (content-push hs new maps h grown (made.idle (length hs) (omega arith))) named keyed count is absent formed classed concrete refl follows;
+      draft = draft-pushed m os (objects_of new (rows maps (length new))) y id n ids after made.draft room
+          (content-push hs new maps h grown (made.idle (length hs) (omega arith))) named count absent formed classed concrete refl follows;
       idle = λ o le. made.idle o (omega (arith, le, ap length grown, length-append hs (h ∷ [])));
     }
 
@@ -69,33 +66,26 @@ module _ (m : Model) (hs : List Head) (old new : Maps) (o f : ℕ) (vs : List Sc
     idle = λ k le. same k ∙ made.idle k le;
   }
 
--- a class that nothing speaks against isn't abstract, and there is room for one more object
-open-tests : (abstract full : Bool) → (if abstract then Some AbstractClass else (if full then Some Limit else None)) ≡ None → (abstract ≡ false) × (full ≡ false)
-open-tests true full none = cc
-open-tests false true none = cc
-open-tests false false none = (refl, refl)
+-- what holds where nothing is wrong with one more object
+pub record IsOpen (p : Population) (id : List ℕ) (c : ℕ) : Type 0 where
+  pub formed : is_id id ≡ true
+  pub absent : object_number p id ≡ None
+  pub concrete : (class_at p.model c).is_abstract ≡ false
+  pub room : length p.objects < most_objects
 
-pub class-open : (p : Population) (c : ℕ) → class_fault p c ≡ None → ((class_at p.model c).is_abstract ≡ false) × (length p.objects < most_objects)
-class-open p c none =
-    let tests = open-tests (class_at p.model c).is_abstract (nat_le most_objects (length p.objects)) none in
-    (tests.0, grind (arith, nat_tests, tests.1))
+open-tests : (formed : Bool) (known : Option ℕ) (abstract full : Bool)
+    → (if not formed then Some BadId else (if is_some known then Some DuplicateId else (if abstract then Some AbstractClass else (if full then Some Limit else None)))) ≡ None
+    → (formed ≡ true) × (known ≡ None) × (abstract ≡ false) × (full ≡ false)
+open-tests false known abstract full none = cc
+open-tests true (Some n) abstract full none = cc
+open-tests true None true full none = cc
+open-tests true None false true none = cc
+open-tests true None false false none = (refl, refl, refl, refl)
 
--- an id that was given a number had none
-id-added-here : (b : Bool) (old new : List Head → List ℕ → Option ℕ) (hs : List Head) (id : List ℕ) (n : ℕ) → b ≡ true → AddsId (Ok b) old hs id n new
-    → (is_some (old hs id) ≡ false) × ((h : Head) → h.id ≡ id → (q : List ℕ) → new (hs ++ h ∷ []) q ≡ cond (bytes_eq id q) (Some n) (old hs q))
-id-added-here true old new hs id n is given = given
-id-added-here false old new hs id n is given = cc
-
-pub id-added : (b : Bool) (old new : List Head → List ℕ → Option ℕ) (hs there : List Head) (id : List ℕ) (n : ℕ) → there ≡ hs → b ≡ true → AddsId (Ok b) old there id n new
-    → (is_some (old hs id) ≡ false) × ((h : Head) → h.id ≡ id → (q : List ℕ) → new (hs ++ h ∷ []) q ≡ cond (bytes_eq id q) (Some n) (old hs q))
-id-added b old new hs there id n same is given =
-    let P : List Head → Type 0 = λ l. (is_some (old l id) ≡ false) × ((h : Head) → h.id ≡ id → (q : List ℕ) → new (l ++ h ∷ []) q ≡ cond (bytes_eq id q) (Some n) (old l q)) in
-    subst P same (id-added-here b old new there id n is given)
-
--- an id that has a number already changes nothing
-pub id-known : (b : Bool) (old new : List Head → List ℕ → Option ℕ) (hs there : List Head) (id : List ℕ) (n : ℕ) → there ≡ hs → b ≡ false → AddsId (Ok b) old there id n new → (is_some (old hs id) ≡ true) × (new ≡ old)
-id-known true old new hs there id n same is given = cc
-id-known false old new hs there id n same is given = (ap (λ (l : List Head). is_some (old l id)) (sym same) ∙ given.0, given.1)
+pub object-open : (p : Population) (id : List ℕ) (c : ℕ) → object_fault p id c ≡ None → IsOpen p id c
+object-open p id c none =
+    let tests = open-tests (is_id id) (object_number p id) (class_at p.model c).is_abstract (nat_le most_objects (length p.objects)) none in
+    record { formed = tests.0; absent = tests.1; concrete = tests.2; room = grind (arith, nat_tests, tests.3) }
 
 -- where no id was added, the builder keeps what it kept
 pub making-unchanged : (m : Model) (hs there : List Head) (maps : Maps) (old new : List Head → List ℕ → Option ℕ) → IsInMaking m hs maps (old hs) → there ≡ hs → new ≡ old → IsInMaking m there maps (new there)
@@ -103,20 +93,3 @@ making-unchanged m hs there maps old new made same kept =
     let P : List Head → Type 0 = λ l. IsInMaking m l maps (new l) in
     let Q : (List Head → List ℕ → Option ℕ) → Type 0 = λ f. IsInMaking m hs maps (f hs) in
     subst P (sym same) (subst Q (sym kept) made)
-
--- an object is refused for its class, unless its id is there
-refused-tests : (known abstract full : Bool) (q : Population) (f : PopulationFault) → (if abstract then Some AbstractClass else (if full then Some Limit else None)) ≡ Some f
-    → (if known then Err DuplicateId else (if abstract then Err AbstractClass else (if full then Err Limit else Ok q))) ≡ Err (if known then DuplicateId else f)
-refused-tests true abstract full q f is = refl
-refused-tests false true full q f is = let same : AbstractClass ≡ f = cc in ap (λ (e : PopulationFault). Err e) same
-refused-tests false false true q f is = let same : Limit ≡ f = cc in ap (λ (e : PopulationFault). Err e) same
-refused-tests false false false q f is = cc
-
-err-injective : {A : Type 0} (f g : PopulationFault) → ◌≡◌ {A = Result A PopulationFault} (Err f) (Err g) → f ≡ g
-err-injective f g same = cc
-
-pub class-refused : {A : Type 0} (p : Population) (id : List ℕ) (c : ℕ) (f answer : PopulationFault) → is_id id ≡ true → class_fault p c ≡ Some f → answer ≡ id_fault_or p id f
-    → (fault : PopulationFault) → add_outcome p id c ≡ Err fault → ◌≡◌ {A = Result A PopulationFault} (Err answer) (Err fault)
-class-refused p id c f answer formed is answers fault given =
-    let outcome : add_outcome p id c ≡ Err (id_fault_or p id f) = rw formed (refused-tests (is_some (object_number p id)) (class_at p.model c).is_abstract (nat_le most_objects (length p.objects)) (with_object p id c) f is) in
-    ap (λ (e : PopulationFault). Err e) (answers ∙ err-injective {A = Population} (id_fault_or p id f) fault (sym outcome ∙ given))

@@ -44,6 +44,11 @@ pub record KeepsObjects (old new : Population) : Type 0 where
   pub model : new.model ≡ old.model
   pub count : length new.objects ≡ length old.objects
 
+-- a fault, where there is one
+abbrev pub unless : {A : Type 0} → Option PopulationFault → A → Result A PopulationFault
+unless None a = Ok a
+unless (Some e) a = Err e
+
 -- ---- objects
 
 abbrev pub is_byte_between : ℕ → ℕ → ℕ → Bool
@@ -64,13 +69,16 @@ most_objects = 1000000
 abbrev pub with_object : Population → List ℕ → ℕ → Population
 with_object p id c = record p { objects = p.objects ++ record { id = id; class = c; written = [] } ∷ [] }
 
+-- what is wrong with one more object of an id and a class
+abbrev pub object_fault : Population → List ℕ → ℕ → Option PopulationFault
+object_fault p id c =
+    if not (is_id id) then Some BadId
+    else (if is_some (object_number p id) then Some DuplicateId
+    else (if (class_at p.model c).is_abstract then Some AbstractClass
+    else (if nat_le most_objects (length p.objects) then Some Limit else None)))
+
 abbrev pub add_outcome : Population → List ℕ → ℕ → Result Population PopulationFault
-add_outcome p id c =
-    if not (is_id id) then Err BadId
-    else (if is_some (object_number p id) then Err DuplicateId
-    else (if (class_at p.model c).is_abstract then Err AbstractClass
-    else (if nat_le most_objects (length p.objects) then Err Limit
-    else Ok (with_object p id c))))
+add_outcome p id c = unless (object_fault p id c) (with_object p id c)
 
 -- ---- values and links
 
@@ -112,10 +120,6 @@ with_written object f vs = record object { written = insert_entry nat_cmp object
 -- a value list or target list in the place of what stood there
 abbrev pub with_values : Population → ℕ → ℕ → List Scalar → Population
 with_values p o f vs = record p { objects = slice_set p.objects o (with_written (object_at p o) f vs) }
-
-abbrev pub unless : {A : Type 0} → Option PopulationFault → A → Result A PopulationFault
-unless None a = Ok a
-unless (Some e) a = Err e
 
 abbrev pub set_outcome : Population → ℕ → ℕ → List Scalar → Result Population PopulationFault
 set_outcome p o f vs = unless (value_fault p o f (feature_at p.model f) vs) (with_values p o f vs)

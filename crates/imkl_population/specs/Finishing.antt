@@ -10,7 +10,8 @@ use Rattle.imkl_population.specs.Population.{Population, class_of, written_at, v
 use Rattle.imkl_model.specs.Features.{is_opposite}
 use Rattle.imkl_population.specs.Building.{bounds_fault, unless}
 
--- a written feature of an object has fewer values than its lower bound: what was set has enough, so it was never set
+-- an attribute or source end of an object has fewer values than its lower bound: what was set has enough, so it was
+-- never set
 abbrev pub gap : Population → ℕ → ℕ → Option PopulationFault
 gap p o f =
     if belongs p.model (class_of p o) f && not (is_opposite (feature_at p.model f).role) && nat_lt (length (written_at p o f)) (feature_at p.model f).lower

@@ -37,14 +37,14 @@ inhabited lists = places (has_objects lists) (length lists)
 abbrev pub conforming : Model → List ℕ → ℕ → List ℕ
 conforming m cs c = filter (λ d. conforms m d c) cs
 
--- the objects of some classes, subclasses left out: class by class, and in order
+-- the objects directly of some classes: class by class, and in order
 abbrev pub direct_of : List (Vec ℕ Global) → List ℕ → List ℕ
 direct_of lists cs = flat_map (list_of lists) cs
 
 abbrev pub objects_of_classes : Population → List ℕ → List ℕ
 objects_of_classes p cs = places (λ o. is_one_of cs (class_of p o)) (length p.objects)
 
--- a range of a list has the objects of some classes
+-- a range of a list has the objects directly of some classes
 pub record IsRangeOf (p : Population) (all cs : List ℕ) (r : Segment) : Type 0 where
   pub ascends : r.start ≤ r.end
   pub within : r.end ≤ length all

@@ -20,7 +20,7 @@ list_below g (suc n) = list_below g n ++ g n ∷ []
 abbrev pub count_of : Population → ℕ → ℕ
 count_of p c = length (instances p c)
 
--- the greatest length of a feature's value over the objects below n, zero without objects
+-- the greatest number of values that one of the objects below n has at a feature, zero without objects
 abbrev pub longest_below : Population → ℕ → ℕ → ℕ
 longest_below p f zero = 0
 longest_below p f (suc o) = max (longest_below p f o) (length (values_of p o f))
@@ -29,7 +29,7 @@ longest_below p f (suc o) = max (longest_below p f o) (length (values_of p o f))
 abbrev pub is_unbounded : FeatureInfo → Bool
 is_unbounded i = is_attribute i.role && is_none i.upper
 
--- of an attribute without upper bound the greatest length of its value over all objects, of every other feature zero
+-- of an attribute without upper bound the greatest number of values that an object has there, of every other feature zero
 abbrev pub longest_of : Population → ℕ → ℕ
 longest_of p f = if is_unbounded (feature_at p.model f) then longest_below p f (length p.objects) else 0
 

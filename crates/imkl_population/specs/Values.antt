@@ -30,7 +30,7 @@ is_of_type m element.String (scalar.Text t) = true
 is_of_type m (element.Enumeration e) v = is_literal_of e (length (enumeration_at m e).literals) v
 is_of_type m t v = false
 
--- a value is an object whose class conforms to an end's class
+-- a value is an object that is there, and whose class conforms to the class whose objects an end holds
 abbrev pub is_target_of : Population → ElementType → Scalar → Bool
 is_target_of p (element.Class c) (scalar.Object o) = nat_lt o (length p.objects) && conforms p.model (class_of p o) c
 is_target_of p t v = false

@@ -1,6 +1,6 @@
 //! Building a population object by object.
 
-ghost use Rattle.std.specs.Prelude.{◌≡◌, ◌<◌, ◌≤◌, ℕ, [], true, length, ◌+◌, All, IfOk, OnOk, IfSome, Ok};
+ghost use Rattle.std.specs.Prelude.{◌≡◌, ◌<◌, ◌≤◌, ℕ, [], true, length, ◌+◌, All, IfOk, OnOk, IfSome, Ok, string_bytes};
 ghost use Rattle.imkl_model.specs.ClassModel.{feature_at};
 ghost use Rattle.imkl_population.specs.Population.{class_of, written_at, object_number, pairs};
 ghost use Rattle.std.specs.List.{list_all};
@@ -10,8 +10,8 @@ ghost use Rattle.imkl_population.specs.Finishing.{finish_outcome, Finishes};
 ghost use Rattle.imkl_population.specs.declared.fault.PopulationFault.{PopulationFault};
 ghost use Rattle.imkl_population.specs.Store.{maps_of, object_row};
 ghost use Rattle.imkl_population.specs.Layout.{stored_content};
-ghost use Rattle.imkl_population.specs.Adding.{AddsNew, class_fault, id_fault_or};
-ghost use Rattle.imkl_population.specs.Building.{BuilderAnswers, KeepsObjects, is_id, add_outcome, set_outcome, link_outcome, attribute_fault, list_fault, source_fault, targets_fault, with_values, as_objects};
+ghost use Rattle.imkl_population.specs.Adding.{AddsNew};
+ghost use Rattle.imkl_population.specs.Building.{BuilderAnswers, KeepsObjects, object_fault, add_outcome, set_outcome, link_outcome, attribute_fault, list_fault, source_fault, targets_fault, with_values, as_objects};
 
 use crate::checks::{are_of_type, bounds_fault, is_id};
 use crate::ends::opposite_ends;
@@ -88,7 +88,7 @@ impl<'m> PopulationBuilder<'m> {
     }
 
     /// Adds an object, and answers its number. Refused with `BadId`, `DuplicateId`, `AbstractClass`
-    /// or `Limit`, in this order, whatever memory there is; refused, it changes nothing.
+    /// or `Limit`, in this order, before anything is allocated; refused, it changes nothing.
     pub fn add_object(&mut self, id: &str, class: ClassNo) -> Result<ObjectNo, PopulationFault>
         requires { class < length self.old.model.classes }
         ensures answers { BuilderAnswers result (add_outcome self.old id.now class) self.old
@@ -99,24 +99,24 @@ impl<'m> PopulationBuilder<'m> {
         ensures count { OnOk result (length self.new.objects ≡ length self.old.objects + 1) }
         ensures model { self.new.model ≡ self.old.model }
     {
-        if !is_id(id) {
-            return Err(PopulationFault::BadId);
+        if let Some(fault) = self.object_fault(id, class) {
+            return Err(fault);
         }
-        if let Some(fault) = self.class_fault(class) {
-            return Err(self.id_fault_or(id, fault));
-        }
-        match self.add_new(id, class) {
-            Ok(Some(object)) => Ok(object),
-            Ok(None) => Err(PopulationFault::DuplicateId),
-            Err(_) => Err(self.id_fault_or(id, PopulationFault::OutOfMemory)),
-        }
+        let id = String::from_str(self.alloc, id)?;
+        Ok(self.add_new(id, class)?)
     }
 
-    /// What is wrong with one more object of a class, whatever its id.
-    fn class_fault(&self, class: ClassNo) -> Option<PopulationFault>
+    /// What is wrong with one more object of an id and a class.
+    fn object_fault(&self, id: &str, class: ClassNo) -> Option<PopulationFault>
         requires { class < length self.now.model.classes }
-        ensures { result ≡ class_fault self.now class }
+        ensures { result ≡ object_fault self.now id.now class }
     {
+        if !is_id(id) {
+            return Some(PopulationFault::BadId);
+        }
+        if self.object(id).is_some() {
+            return Some(PopulationFault::DuplicateId);
+        }
         if self.model.is_abstract(class) {
             return Some(PopulationFault::AbstractClass);
         }
@@ -126,31 +126,18 @@ impl<'m> PopulationBuilder<'m> {
         None
     }
 
-    /// That an object has the id already, or else another fault.
-    fn id_fault_or(&self, id: &str, fault: PopulationFault) -> PopulationFault
-        ensures { result ≡ id_fault_or self.now id.now fault }
-    {
-        if self.object(id).is_some() {
-            return PopulationFault::DuplicateId;
-        }
-        fault
-    }
-
-    /// Adds an object if no object has its id. One search finds that out, and the id's place.
-    fn add_new(&mut self, id: &str, class: ClassNo) -> Result<Option<ObjectNo>, AllocError>
+    /// Adds an object with which nothing is wrong.
+    fn add_new(&mut self, id: String, class: ClassNo) -> Result<ObjectNo, AllocError>
         requires class { class < length self.old.model.classes }
-        requires formed { is_id id.now ≡ true }
-        requires sound { class_fault self.old class ≡ None }
-        ensures { AddsNew result self.old id.now class self.new }
+        requires sound { object_fault self.old (string_bytes id) class ≡ None }
+        ensures { AddsNew result self.old (string_bytes id) class self.new }
     {
         let number = self.objects();
-        let text = Id::new(String::from_str(self.alloc, id)?);
         self.heads.reserve(1)?;
-        if !self.ids.add(self.alloc, &self.heads, id, number)? {
-            return Ok(None);
-        }
-        self.heads.push_reserved(Head { id: text, class });
-        Ok(Some(ObjectNo::new(number)))
+        self.ids.add(self.alloc, id.as_str(), number)?;
+        let id = Id::new(id);
+        self.heads.push_reserved(Head { id, class });
+        Ok(ObjectNo::new(number))
     }
 
     /// How many objects were added.

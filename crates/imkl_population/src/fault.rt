@@ -40,7 +40,7 @@ pub enum PopulationFault {
         /// The feature.
         feature: FeatureNo,
     },
-    /// A target's class doesn't conform to the end's class.
+    /// A target isn't there, or its class doesn't conform to the class whose objects the end holds.
     #[error("a target is not of the end's class")]
     WrongClass,
     /// A value or a target stands twice at a unique feature.

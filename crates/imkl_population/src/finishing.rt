@@ -18,7 +18,7 @@ use crate::store::Store;
 use imkl_model::FeatureNo;
 use std::alloc::AllocError;
 
-/// A written feature of an object that has fewer values than its lower bound.
+/// An attribute or source end of an object, where it has fewer values than its lower bound.
 fn gap(
     builder: &PopulationBuilder<'_>,
     object: ObjectNo,
@@ -140,7 +140,8 @@ fn first_crowded(builder: &PopulationBuilder<'_>, ends: &Store) -> usize
     first
 }
 
-/// Features outside which an object has no fault: none where no end is crowded, else all.
+/// Features outside which an object has no opposite end with too many holders: none before the first object that may have
+/// one, else all.
 fn suspects(
     builder: &PopulationBuilder<'_>,
     object: ObjectNo,

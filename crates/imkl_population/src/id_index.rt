@@ -4,7 +4,7 @@ ghost use Rattle.std.specs.Prelude.{◌≡◌, ◌<◌, ◌≤◌, ℕ, List, []
 ghost use Rattle.std.specs.Map.{update};
 ghost use Rattle.std.specs.BTreeMap.{get_by_text};
 ghost use Rattle.imkl_population.specs.declared.object.Head.{Head};
-ghost use Rattle.imkl_population.specs.IdIndex.{place_of, has_id, number_found, IsGuarded, TakesSlot, IsOccupied, AddsId};
+ghost use Rattle.imkl_population.specs.IdIndex.{slot_of, has_id, number_found, IsGuarded, TakesSlot, IsOccupied, AddsId};
 
 use crate::object::Head;
 use std::alloc::{AllocError, Global};
@@ -24,9 +24,9 @@ pub(crate) struct IdIndex {
 }
 
 /// The slot of an id, of so many.
-fn place_of(id: &str, slots: usize) -> usize
+fn slot_of(id: &str, slots: usize) -> usize
     requires { 0 < slots }
-    ensures place { result ≡ place_of id.now slots }
+    ensures slot { result ≡ slot_of id.now slots }
     ensures known { result < slots }
 {
     let mut hasher = FoldHasher::default();
@@ -92,36 +92,26 @@ impl IdIndex {
         if self.slots.is_empty() {
             return self.others.get(id).copied();
         }
-        let slot = self.slots[place_of(id, self.slots.len())];
-        let number = slot.checked_sub(1)? as usize;
+        let held = self.slots[slot_of(id, self.slots.len())];
+        let number = held.checked_sub(1)? as usize;
         if has_id(heads, number, id) {
             return Some(number);
         }
         self.others.get(id).copied()
     }
 
-    /// Gives the id of the next object its number unless it has one, and answers whether it had none.
-    pub(crate) fn add(
-        &mut self,
-        alloc: Global,
-        heads: &[Head],
-        id: &str,
-        number: usize,
-    ) -> Result<bool, AllocError>
-        requires next { number ≡ length heads.now }
-        requires small { number < 1000000 }
+    /// Gives the id of the next object its number.
+    pub(crate) fn add(&mut self, alloc: Global, id: &str, number: usize) -> Result<(), AllocError>
+        requires { number < 1000000 }
         ensures { AddsId result
-            (number_found self.old.slots.items (get_by_text self.old.others)) heads.now id.now number
+            (number_found self.old.slots.items (get_by_text self.old.others)) id.now number
             (number_found self.new.slots.items (get_by_text self.new.others)) }
     {
-        if self.find(heads, id).is_some() {
-            return Ok(false);
-        }
         if self.take_slot(id, number) {
-            return Ok(true);
+            return Ok(());
         }
         put_number(alloc, &mut self.others, id, number)?;
-        Ok(true)
+        Ok(())
     }
 
     /// Gives an id's slot to a number, if no id has it, and answers whether it did.
@@ -136,11 +126,11 @@ impl IdIndex {
         if self.slots.is_empty() {
             return false;
         }
-        let place = place_of(id, self.slots.len());
-        if self.slots[place] != 0 {
+        let slot = slot_of(id, self.slots.len());
+        if self.slots[slot] != 0 {
             return false;
         }
-        self.slots[place] = number as u32 + 1;
+        self.slots[slot] = number as u32 + 1;
         true
     }
 }

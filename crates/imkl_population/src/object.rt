@@ -1,4 +1,4 @@
-//! Objects while a population is built.
+//! Objects: their ids, their classes, and what is written on them.
 
 ghost use Rattle.std.specs.Prelude.{◌≡◌, string_bytes};
 

@@ -18,9 +18,9 @@ pub struct Seen {
     pub integers: BTreeSet<i64>,
     /// The texts.
     pub texts: BTreeSet<String>,
-    /// Of each literal the place of its enumeration and its place in it, both from 0.
+    /// Of each literal the number of its enumeration and its number in it, both from 0.
     pub literals: BTreeSet<(usize, usize)>,
-    /// The places of the objects, from 0.
+    /// The numbers of the objects, from 0.
     pub objects: BTreeSet<usize>,
 }
 

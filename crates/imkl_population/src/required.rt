@@ -10,7 +10,7 @@ use std::alloc::{AllocError, Global};
 use std::collections::BTreeMap;
 use std::marker::Model;
 
-/// Some of a class's features: those that are written, or those that follow from what is written.
+/// Some of a class's features: those that may be written, or those that follow from what is written.
 #[derive(Clone, Copy, PartialEq, Eq, Debug)]
 pub enum Side {
     /// Attributes and source ends.

@@ -33,7 +33,7 @@ pub(crate) fn no_lists(alloc: Global) -> SharedLists
     }
 }
 
-/// The objects of some classes, class by class.
+/// The objects directly of some classes, class by class.
 fn gather(
     alloc: Global,
     direct: &[Vec<ObjectNo>],
@@ -49,7 +49,7 @@ fn gather(
     Ok(objects)
 }
 
-/// Adds the objects of some classes to a list, in order, and answers with their range.
+/// Adds the objects directly of some classes to a list, in order, and answers with their range.
 fn add_objects(
     list: &mut Vec<ObjectNo>,
     builder: &PopulationBuilder<'_>,

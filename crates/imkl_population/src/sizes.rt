@@ -1,4 +1,4 @@
-//! How many objects the classes of a population have, and how long its values are.
+//! How many objects the classes of a population have, and how many values an object has at most.
 
 ghost use Rattle.std.specs.Prelude.{◌≡◌, ◌<◌, true, length, slice_index, Decides};
 ghost use Rattle.imkl_population.specs.Sizes.{is_unbounded, list_below, count_of, longest_below, longest_of, sizes_of};
@@ -50,7 +50,7 @@ impl<'m> Sizes<'m> {
         self.counts[class.index()]
     }
 
-    /// Of an attribute without upper bound the greatest length of its value over all objects, 0
+    /// Of an attribute without upper bound the greatest number of values that an object has there, 0
     /// without objects; of every other feature 0.
     pub fn longest(&self, feature: FeatureNo) -> u64
         requires { feature < length self.now.model.features }

@@ -12,7 +12,7 @@ use crate::scalar::Scalar;
 use std::alloc::{AllocError, Global};
 use std::marker::Model;
 
-/// A part of a list, from `start` to before `end`: an object's values, or a class's objects.
+/// A range of a list, from `start` to before `end`: an object's values, or a class's objects.
 #[derive(Clone, Copy, Debug)]
 pub struct Segment {
     /// The place of the first element, from 0.
