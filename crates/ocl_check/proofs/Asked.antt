@@ -7,7 +7,7 @@ use Rattle.ocl_check.specs.declared.commands.rules.Asked.{Asked}
 use Rattle.ocl_check.specs.declared.commands.rules.Asked.TheVariants.{Code, Text}
 use Rattle.ocl_check.specs.Answers.{ReadBy, IsAnswered, IsAnsweredBy}
 use Rattle.ocl_check.specs.ThreeInputs.{inputs_answer}
-use Rattle.ocl_check.specs.RuleText.{TextReading, ReadsAs}
+use Rattle.ocl_check.specs.TextReading.{TextReading, ReadsAs}
 use Rattle.ocl_check.specs.JudgeText.{JudgeAnswersBy, text_answer}
 use Rattle.imkl_population.specs.Population.{Population}
 use Rattle.ocl_check.specs.Asking.{ReadingFor, answer_by, asked_by}

@@ -10,8 +10,8 @@ use Rattle.ocl_check.specs.declared.outcome.Outcome.TheVariants.{Failed}
 use Rattle.ocl_check.specs.declared.commands.compile.Compiled.{Compiled}
 use Rattle.ocl_check.specs.declared.commands.compile.Compiled.TheVariants as compiled
 use Rattle.ocl_check.specs.Reply.{Answer, said}
-use Rattle.ocl_check.specs.RuleText.{TextReading, ReadsAs}
-use Rattle.ocl_check.specs.TextRules.{compiled_rules}
+use Rattle.ocl_check.specs.TextReading.{TextReading, ReadsAs}
+use Rattle.ocl_check.specs.CompiledRules.{compiled_rules}
 use Rattle.ocl_check.specs.Compile.{CompileAnswer, nothing_compiled, compiled_code, compiled_answer, compile_answer, WholeUnless, IsCodeWritten}
 use Rattle.ocl_check.specs.TextParts.{IsUnitOf, compiled_seen, IsRefusalOf}
 

@@ -19,8 +19,8 @@ use Rattle.ocl_compile.specs.Meaning.{meant_verdict}
 use Rattle.ocl_compile.specs.Compiling.{compile_of}
 use Rattle.ocl_compile.specs.CompileLaws.{AreTypedRules, KeepsRules}
 use Rattle.ocl_compile.proofs.ForAbove.{compiled_keeps_rules, verdicts_are_meant}
-use Rattle.rule_report.specs.Report.{instances_of, context_objects, rule_verdicts, verdicts_below, all_verdicts, counts_of, line_of, name_of, object_line, rule_line_of, rule_line, total_line, rule_report, reports_below, report_of, summary_of}
-use Rattle.ocl_check.specs.MeantReport.{meant_verdicts, meant_line, meant_rule_report, meant_summary, meant_report}
+use Rattle.rule_report.specs.Report.{instances_of, context_objects, rule_verdicts, verdicts_below, all_verdicts, counts_of, line_of, name_of, object_line, rule_line_of, rule_line, total_line, report_of_rule, reports_below, report_of, summary_of}
+use Rattle.ocl_check.specs.MeantReport.{meant_verdicts, meant_line, meant_report_of_rule, meant_summary, meant_report}
 
 -- ---- lists
 
@@ -98,7 +98,7 @@ module _ (p : Population) (rs : List CheckedRule) (u : Content) (model : IsClass
         ∙ ap (λ (os : List ℕ). rule_line_of r.name (length os) (counts_of (rule_verdicts u p (verdict_at u p) n))) objects_are
         ∙ ap (λ (vs : List (Option Verdict)). rule_line_of r.name (length (instances p r.context)) (counts_of vs)) verdicts_are
 
-    rule_is_meant : rule_report u p (verdict_at u p) n ≡ meant_rule_report p r
+    rule_is_meant : report_of_rule u p (verdict_at u p) n ≡ meant_report_of_rule p r
     rule_is_meant =
         ap (λ (l : List ℕ). l ++ rule_line u p (verdict_at u p) n) lines_are
         ∙ ap (λ (l : List ℕ). flat_map (meant_line p r) (instances p r.context) ++ l) own_line_is
@@ -113,5 +113,5 @@ module _ (p : Population) (rs : List CheckedRule) (u : Content) (model : IsClass
   report_is_meant =
       ap (λ (l : List ℕ). l ++ total_line (summary_of u p))
       (ap (reports_below u p (verdict_at u p)) kept.count
-      ∙ from_rest (reports_below u p (verdict_at u p)) (rule_report u p (verdict_at u p)) (meant_rule_report p) rs [] rs refl (λ n. refl) rule_is_meant refl)
-      ∙ ap (λ s. flat_map (meant_rule_report p) rs ++ total_line s) summary_is_meant
+      ∙ from_rest (reports_below u p (verdict_at u p)) (report_of_rule u p (verdict_at u p)) (meant_report_of_rule p) rs [] rs refl (λ n. refl) rule_is_meant refl)
+      ∙ ap (λ s. flat_map (meant_report_of_rule p) rs ++ total_line s) summary_is_meant

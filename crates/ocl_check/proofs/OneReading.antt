@@ -11,7 +11,7 @@ use Rattle.ocl_text.specs.Tree.{Rule}
 use Rattle.ocl_text.specs.Grammar.{SpellsWithin, Spells}
 use Rattle.ocl_text.specs.RuleText.{TextSpellsWithin, has_name, AreNamedApart, NamesDiffer, RepeatsAt, here, later, Agrees, IsWrong, IsTooDeep}
 use Rattle.ocl_text.specs.Laws.{SpellsOneList}
-use Rattle.ocl_check.specs.RuleText.{TextReading, text_fault_at, HasRuleFlaw, TextReadsAs, BytesReadAs, ReadsAs}
+use Rattle.ocl_check.specs.TextReading.{TextReading, text_fault_at, HasRuleFlaw, TextReadsAs, BytesReadAs, ReadsAs}
 use Rattle.ocl_check.specs.TextLaws.{is_loose}
 
 -- ---- what a reading of a text is

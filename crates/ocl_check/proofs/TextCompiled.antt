@@ -16,8 +16,8 @@ use Rattle.ocl_compile.specs.declared.fault.CompileFault.{CompileFault}
 use Rattle.ocl_compile.specs.declared.fault.CompileFault.TheVariants as limits
 use Rattle.ocl_check.specs.declared.reply.Reply as reply
 use Rattle.ocl_check.specs.Reply.{Answer, said, refused_rules}
-use Rattle.ocl_check.specs.RuleText.{TextReading, ReadsAs, text_fault_at}
-use Rattle.ocl_check.specs.TextRules.{CompiledRules, TextRefusal, InText, in_types, in_code, compiled_rules}
+use Rattle.ocl_check.specs.TextReading.{TextReading, ReadsAs, text_fault_at}
+use Rattle.ocl_check.specs.CompiledRules.{CompiledRules, TextRefusal, InText, in_types, in_code, compiled_rules}
 use Rattle.ocl_check.specs.TextParts.{of_text, of_types, of_limits, text_rules_fault, IsFaultRead, IsRefusedAs}
 
 module _ (m : Model) (rules : List Rule) where

@@ -15,7 +15,7 @@ use Rattle.ocl_text.specs.Tree.{Rule}
 use Rattle.ocl_text.specs.Grammar.{SpellsWithin}
 use Rattle.ocl_text.specs.RuleText.{TextSpellsWithin, has_name, AreNamedApart, NamesDiffer, RepeatsAt, here, later, first_offset, IsWrongAt, IsTooDeepAt, IfLexical, IfSyntax, IfTooDeep, IfDuplicate}
 use Rattle.ocl_text.specs.Laws.{SpellsOrIsRefused}
-use Rattle.ocl_check.specs.RuleText.{TextReading, text_fault_at, TextReadsAs, BytesReadAs, ReadsAs}
+use Rattle.ocl_check.specs.TextReading.{TextReading, text_fault_at, TextReadsAs, BytesReadAs, ReadsAs}
 use Rattle.ocl_check.specs.TextParts.{IsFaultRead}
 
 -- ---- what was returned

@@ -19,8 +19,8 @@ use Rattle.ocl_compile.specs.CompileLaws.{AreTypedRules}
 use Rattle.ocl_compile.proofs.ForAbove.{compiled_is_accepted}
 use Rattle.rule_report.specs.Report.{summary_of}
 use Rattle.ocl_check.specs.CodeRules.{unit_answer, code_answer}
-use Rattle.ocl_check.specs.RuleText.{TextReading}
-use Rattle.ocl_check.specs.TextRules.{CompiledRules, TextRefusal, InTypes, InCode, in_text, in_types, in_code, compiled_rules}
+use Rattle.ocl_check.specs.TextReading.{TextReading}
+use Rattle.ocl_check.specs.CompiledRules.{CompiledRules, TextRefusal, InTypes, InCode, in_text, in_types, in_code, compiled_rules}
 use Rattle.ocl_check.specs.Judge.{status_of, report_answer, admitted_answer, budget_answer}
 use Rattle.ocl_check.specs.JudgeText.{meant_answer, within_answer, rules_answer, text_answer}
 use Rattle.ocl_check.specs.MeantReport.{meant_report}

@@ -6,7 +6,7 @@ use Rattle.ocl_check.specs.declared.commands.rules.Asked.{Asked}
 use Rattle.ocl_check.specs.declared.commands.rules.Asked.TheVariants.{Code, Text}
 use Rattle.ocl_check.specs.declared.commands.judge.RulesForm.{RulesForm}
 use Rattle.ocl_check.specs.declared.commands.judge.RulesForm.TheVariants as form
-use Rattle.ocl_check.specs.RuleText.{TextReading, ReadsAs}
+use Rattle.ocl_check.specs.TextReading.{TextReading, ReadsAs}
 use Rattle.ocl_check.specs.CodeRules.{UnitAnswer, code_file_answer}
 use Rattle.ocl_check.specs.ThreeInputs.{PopulationAnswer}
 use Rattle.ocl_check.specs.Judge.{budget_answer}

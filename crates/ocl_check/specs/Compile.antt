@@ -10,8 +10,8 @@ use Rattle.ocl_check.specs.declared.outcome.Outcome.TheVariants.{Status, Failed}
 use Rattle.ocl_check.specs.declared.outcome.Cause.TheVariants.{Write}
 use Rattle.ocl_check.specs.ThreeInputs.{model_of}
 use Rattle.ocl_check.specs.Reply.{Answer, refused_model, refused_rules, compiled_reply}
-use Rattle.ocl_check.specs.RuleText.{TextReading}
-use Rattle.ocl_check.specs.TextRules.{CompiledRules, TextRefusal, compiled_rules}
+use Rattle.ocl_check.specs.TextReading.{TextReading}
+use Rattle.ocl_check.specs.CompiledRules.{CompiledRules, TextRefusal, compiled_rules}
 
 -- the code file, unless an input is refused, and what is printed
 pub record CompileAnswer : Type 0 where

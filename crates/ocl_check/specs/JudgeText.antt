@@ -8,8 +8,8 @@ use Rattle.ocl_check.specs.declared.commands.judge.RulesForm.{RulesForm}
 use Rattle.ocl_check.specs.declared.commands.judge.RulesForm.TheVariants.{Code, Text}
 use Rattle.ocl_check.specs.declared.commands.judge.JudgeOptions.{JudgeOptions}
 use Rattle.ocl_check.specs.Reply.{Answer, refused_cost, refused_rules}
-use Rattle.ocl_check.specs.RuleText.{TextReading, ReadsAs}
-use Rattle.ocl_check.specs.TextRules.{CompiledRules, TextRefusal, compiled_rules}
+use Rattle.ocl_check.specs.TextReading.{TextReading, ReadsAs}
+use Rattle.ocl_check.specs.CompiledRules.{CompiledRules, TextRefusal, compiled_rules}
 use Rattle.ocl_check.specs.MeantReport.{meant_report, meant_summary}
 use Rattle.ocl_check.specs.ThreeInputs.{inputs_answer}
 use Rattle.ocl_check.specs.Judge.{status_of, judge_answer}

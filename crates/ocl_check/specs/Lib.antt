@@ -5,8 +5,8 @@ pub mod Answers
 pub mod ThreeInputs
 pub mod CodeRules
 pub mod Judge
-pub mod RuleText
-pub mod TextRules
+pub mod TextReading
+pub mod CompiledRules
 pub mod MeantReport
 pub mod JudgeText
 pub mod Bound

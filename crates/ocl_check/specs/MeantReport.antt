@@ -17,8 +17,8 @@ abbrev pub meant_line : Population → CheckedRule → ℕ → List ℕ
 meant_line p r o = line_of (Some (meant_verdict p r o)) r.name (object_at p o).id
 
 -- what is reported of a rule: the lines of its objects, then its own
-abbrev pub meant_rule_report : Population → CheckedRule → List ℕ
-meant_rule_report p r =
+abbrev pub meant_report_of_rule : Population → CheckedRule → List ℕ
+meant_report_of_rule p r =
     flat_map (meant_line p r) (instances p r.context)
     ++ rule_line_of r.name (length (instances p r.context)) (counts_of (meant_verdicts p r))
 
@@ -27,4 +27,4 @@ meant_summary p rs = counts_of (flat_map (meant_verdicts p) rs)
 
 -- what is reported of each rule in the text's order, then the total
 abbrev pub meant_report : Population → List CheckedRule → List ℕ
-meant_report p rs = flat_map (meant_rule_report p) rs ++ total_line (meant_summary p rs)
+meant_report p rs = flat_map (meant_report_of_rule p) rs ++ total_line (meant_summary p rs)

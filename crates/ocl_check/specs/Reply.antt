@@ -17,8 +17,8 @@ use Rattle.rule_code.specs.FaultNumber.{code_flaw_number}
 use Rattle.rule_verify.specs.KindRules.{InstrFault}
 use Rattle.rule_verify.specs.FaultNumber.{verify_flaw_number}
 use Rattle.ocl_check.specs.declared.reply.Reply as reply
-use Rattle.ocl_check.specs.RuleText.{TextFaultAt}
-use Rattle.ocl_check.specs.TextRules.{TextRefusal, InText, InTypes, InCode}
+use Rattle.ocl_check.specs.TextReading.{TextFaultAt}
+use Rattle.ocl_check.specs.CompiledRules.{TextRefusal, InText, InTypes, InCode}
 
 -- the bytes printed, and the status
 abbrev pub Answer : Type 0

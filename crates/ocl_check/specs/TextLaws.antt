@@ -7,8 +7,8 @@ use Rattle.imkl_population.specs.Population.{Population}
 use Rattle.imkl_population.specs.Consistency.{IsConsistent}
 use Rattle.rule_code.specs.WellFormed.{IsUnit}
 use Rattle.rule_code.specs.Spelling.{spelling}
-use Rattle.ocl_check.specs.RuleText.{TextReading, ReadsAs}
-use Rattle.ocl_check.specs.TextRules.{CompiledRules, compiled_rules}
+use Rattle.ocl_check.specs.TextReading.{TextReading, ReadsAs}
+use Rattle.ocl_check.specs.CompiledRules.{CompiledRules, compiled_rules}
 use Rattle.ocl_check.specs.CodeRules.{code_file_answer}
 use Rattle.ocl_check.specs.Judge.{budget_answer}
 use Rattle.ocl_check.specs.JudgeText.{text_answer}

@@ -13,15 +13,15 @@ use Rattle.rule_code.specs.Content.{Content}
 use Rattle.ocl_compile.specs.Compiling.{limit_at}
 use Rattle.ocl_compile.specs.declared.fault.CompileFault.{CompileFault}
 use Rattle.ocl_compile.specs.declared.fault.CompileFault.TheVariants as limits
-use Rattle.ocl_check.specs.declared.text_rules.TextRulesFault.{TextRulesFault}
-use Rattle.ocl_check.specs.declared.text_rules.TextRulesFault.TheVariants as rules
+use Rattle.ocl_check.specs.declared.compiled_rules.TextRulesFault.{TextRulesFault}
+use Rattle.ocl_check.specs.declared.compiled_rules.TextRulesFault.TheVariants as rules
 use Rattle.ocl_check.specs.declared.reply.Reply as reply
 use Rattle.ocl_check.specs.declared.commands.compile.Compiled.{Compiled}
 use Rattle.ocl_check.specs.declared.commands.compile.Compiled.TheVariants as compiled
 use Rattle.ocl_check.specs.Reply.{Answer, said, refused_rules}
 use Rattle.ocl_check.specs.Compile.{CompileAnswer, nothing_compiled}
-use Rattle.ocl_check.specs.RuleText.{TextReading, ReadsAs, text_fault_at}
-use Rattle.ocl_check.specs.TextRules.{CompiledRules, TextRefusal, InText, InTypes, InCode, compiled_rules}
+use Rattle.ocl_check.specs.TextReading.{TextReading, ReadsAs, text_fault_at}
+use Rattle.ocl_check.specs.CompiledRules.{CompiledRules, TextRefusal, InText, InTypes, InCode, compiled_rules}
 
 -- rules or a fault that was returned are a reading of the bytes
 abbrev pub IsFaultRead : List ℕ → TextFault → Type 0

@@ -2,12 +2,12 @@
 #![tactic(auto)]
 
 mod commands;
+mod compiled_rules;
 mod input;
 pub mod laws;
 mod outcome;
 mod reply;
-mod rule_text;
-mod text_rules;
+mod text_reading;
 
 pub use commands::bound::run_bound;
 pub use commands::compile::run_compile;

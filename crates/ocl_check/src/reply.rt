@@ -6,7 +6,7 @@ ghost use Rattle.imkl_delivery.specs.declared.fault.DeliveryFault.TheVariants as
 ghost use Rattle.ocl_check.specs.Reply.{said, refused_model, refused_delivery, refused_code, refused_verify, refused_cost, accepted_reply, compiled_reply};
 ghost use Rattle.ocl_check.specs.TextParts.{text_rules_fault, IsRefusedAs};
 
-use crate::text_rules::TextRulesFault;
+use crate::compiled_rules::TextRulesFault;
 use imkl_delivery::DeliveryFault;
 use imkl_model::ModelFault;
 use rule_machine::OutOfMemory;

@@ -4,7 +4,7 @@ ghost use Rattle.std.specs.Prelude.{◌≡◌, ◌<◌, ◌++◌, length, string
 ghost use Rattle.rule_cost.specs.Admission.{Fits};
 ghost use Rattle.rule_machine.specs.Contract.{SameTask};
 ghost use Rattle.rule_machine.specs.Laws.{verdict_at};
-ghost use Rattle.rule_report.specs.Report.{counts_of, rule_verdicts, rule_report, report_of, summary_of};
+ghost use Rattle.rule_report.specs.Report.{counts_of, rule_verdicts, report_of_rule, report_of, summary_of};
 
 use crate::lines::{put_object_line, put_rule_line, put_total_line};
 use crate::summary::Summary;
@@ -35,7 +35,7 @@ fn put_rule(
     requires rule { rule < length accepted.now.unit.rules }
     ensures task { SameTask machine.old machine.new }
     ensures text { OnOk result (string_bytes out.new ≡ string_bytes out.old ++
-        rule_report accepted.now.unit population.now.content
+        report_of_rule accepted.now.unit population.now.content
         (verdict_at accepted.now.unit population.now.content) rule) }
     ensures counts { IfOk result (λ s. s ≡ counts_of (rule_verdicts accepted.now.unit
         population.now.content (verdict_at accepted.now.unit population.now.content) rule)) }

@@ -7,15 +7,15 @@ ghost use Rattle.ocl_check.specs.declared.outcome.Cause.TheVariants.{Write};
 ghost use Rattle.ocl_check.specs.Answers.{IsAnswered, KeepsSink, ReadBy, ReadWithin, fails_write};
 ghost use Rattle.ocl_check.specs.Compile.{compiled_code, compiled_answer, compile_answer, IsCodeWritten};
 ghost use Rattle.ocl_check.specs.Reply.{said};
-ghost use Rattle.ocl_check.specs.RuleText.{TextReading, ReadsAs};
+ghost use Rattle.ocl_check.specs.TextReading.{TextReading, ReadsAs};
 ghost use Rattle.ocl_check.specs.TextParts.{compiled_seen, IsRefusalOf};
-ghost use Rattle.ocl_check.specs.TextRules.{compiled_rules};
+ghost use Rattle.ocl_check.specs.CompiledRules.{compiled_rules};
 
+use crate::compiled_rules::compile_text;
 use crate::input::{MOST_BYTES, read_input};
 use crate::laws::each_text_is_read;
 use crate::outcome::{Cause, Outcome, say};
 use crate::reply::{Reply, compiled_reply, refused_model, refused_text};
-use crate::text_rules::compile_text;
 use imkl_model::ClassModel;
 use rule_code::{Unit, write_unit};
 use rule_machine::OutOfMemory;

@@ -7,13 +7,13 @@ ghost use Rattle.ocl_check.specs.Asking.{ReadingFor, answer_to, answer_by};
 ghost use Rattle.ocl_check.specs.CodeRules.{code_answer, code_file_answer};
 ghost use Rattle.ocl_check.specs.Ending.{IsEnding};
 ghost use Rattle.ocl_check.specs.JudgeText.{text_answer};
-ghost use Rattle.ocl_check.specs.RuleText.{TextReading, ReadsAs};
+ghost use Rattle.ocl_check.specs.TextReading.{TextReading, ReadsAs};
 
 use crate::commands::bound::bounds_reply;
 use crate::commands::judge::judge_within;
+use crate::compiled_rules::compile_text;
 use crate::outcome::{Cause, Outcome, answer};
 use crate::reply::{refused_code, refused_text, refused_verify};
-use crate::text_rules::compile_text;
 use imkl_population::{Population, Sizes};
 use rule_code::{CodeFault, Unit, read_unit};
 use rule_report::Sink;

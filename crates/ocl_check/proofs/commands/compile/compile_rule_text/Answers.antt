@@ -1,6 +1,6 @@
 use Rattle.std.proofs.Common.{◌≡◌, refl}
 use Rattle.ocl_check.specs.TextParts.{text_rules_fault}
-use Rattle.ocl_check.specs.TextRules.{compiled_rules}
+use Rattle.ocl_check.specs.CompiledRules.{compiled_rules}
 use Rattle.ocl_check.specs.Compile.{nothing_compiled, compiled_answer}
 use Rattle.ocl_check.proofs.TextCompiled.{refusal_said}
 use Rattle.ocl_check.proofs.Compiling.{unit_seen, refusal_seen}

@@ -6,7 +6,7 @@ use Rattle.rule_code.specs.View.{content}
 use Rattle.ocl_check.specs.Reply.{Answer}
 use Rattle.ocl_check.specs.JudgeText.{rules_answer, text_answer}
 use Rattle.ocl_check.specs.TextParts.{text_rules_fault, IsUnitOf}
-use Rattle.ocl_check.specs.TextRules.{TextRefusal, compiled_rules}
+use Rattle.ocl_check.specs.CompiledRules.{TextRefusal, compiled_rules}
 use Rattle.ocl_check.proofs.Endings.{ending_as}
 use Rattle.ocl_check.proofs.TextCompiled.{refusal_said}
 use Rattle.ocl_check.proofs.TextReports.{text_report}

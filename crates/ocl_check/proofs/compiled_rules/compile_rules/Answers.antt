@@ -5,7 +5,7 @@ use Rattle.ocl_types.specs.CoreView.{checked_rule_of}
 use Rattle.rule_code.specs.View.{content}
 use Rattle.ocl_compile.specs.Compiling.{compile_of}
 use Rattle.ocl_check.proofs.TextCompiled.{rules_compiled}
-use Rattle.ocl_check.proofs.text_rules.compile_rules.Goals as goal
+use Rattle.ocl_check.proofs.compiled_rules.compile_rules.Goals as goal
 
 pub returns-clause-unit : goal.returns-clause-unit
 returns-clause-unit c =

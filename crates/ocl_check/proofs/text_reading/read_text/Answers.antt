@@ -1,7 +1,7 @@
 use Rattle.std.proofs.Common.{map, ◌∙◌}
 use Rattle.ocl_text.specs.View.{rule_of}
 use Rattle.ocl_check.proofs.TextReadings.{text_read, text_refused, ill_formed_read}
-use Rattle.ocl_check.proofs.rule_text.read_text.Goals as goal
+use Rattle.ocl_check.proofs.text_reading.read_text.Goals as goal
 
 pub returns-in-Ok-clause-rules : goal.returns-in-Ok-clause-rules
 returns-in-Ok-clause-rules c =

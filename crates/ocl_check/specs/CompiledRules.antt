@@ -7,7 +7,7 @@ use Rattle.ocl_types.specs.Core.{CheckedRule}
 use Rattle.ocl_types.specs.AllRules.{RulesFaultAt, elaborate_rules}
 use Rattle.rule_code.specs.Content.{Content}
 use Rattle.ocl_compile.specs.Compiling.{LimitAt, compile_of}
-use Rattle.ocl_check.specs.RuleText.{TextFaultAt, TextReading}
+use Rattle.ocl_check.specs.TextReading.{TextFaultAt, TextReading}
 
 -- typed rules, and the unit that they are compiled to
 pub record CompiledRules : Type 0 where

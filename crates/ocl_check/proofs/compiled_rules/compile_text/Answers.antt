@@ -1,10 +1,10 @@
 use Rattle.std.proofs.Common.{sym, subst}
 use Rattle.ocl_base.specs.Steps.{Fails}
-use Rattle.ocl_check.specs.declared.text_rules.TextRulesFault.{TextRulesFault}
+use Rattle.ocl_check.specs.declared.compiled_rules.TextRulesFault.{TextRulesFault}
 use Rattle.ocl_check.specs.TextParts.{text_rules_fault}
-use Rattle.ocl_check.specs.TextRules.{compiled_rules}
+use Rattle.ocl_check.specs.CompiledRules.{compiled_rules}
 use Rattle.ocl_check.proofs.TextCompiled.{flawed_text}
-use Rattle.ocl_check.proofs.text_rules.compile_text.Goals as goal
+use Rattle.ocl_check.proofs.compiled_rules.compile_text.Goals as goal
 
 pub returns-in-Err : goal.returns-in-Err
 returns-in-Err c =

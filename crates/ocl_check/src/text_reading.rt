@@ -3,7 +3,7 @@
 ghost use Rattle.std.specs.Prelude.{◌≡◌, map, Ok, IfOk, IfErr};
 ghost use Rattle.ocl_text.specs.RuleText.{NamesDiffer};
 ghost use Rattle.ocl_text.specs.View.{rule_of};
-ghost use Rattle.ocl_check.specs.RuleText.{ReadsAs};
+ghost use Rattle.ocl_check.specs.TextReading.{ReadsAs};
 ghost use Rattle.ocl_check.specs.TextParts.{IsFaultRead};
 
 use ocl_text::{SurfaceRule, parse_rules};

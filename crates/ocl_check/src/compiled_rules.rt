@@ -5,12 +5,12 @@ ghost use Rattle.ocl_base.specs.Steps.{Fails};
 ghost use Rattle.ocl_text.specs.RuleText.{NamesDiffer};
 ghost use Rattle.ocl_text.specs.View.{rule_of};
 ghost use Rattle.rule_code.specs.View.{content};
-ghost use Rattle.ocl_check.specs.RuleText.{TextReading, ReadsAs};
-ghost use Rattle.ocl_check.specs.TextRules.{compiled_rules};
+ghost use Rattle.ocl_check.specs.TextReading.{TextReading, ReadsAs};
+ghost use Rattle.ocl_check.specs.CompiledRules.{compiled_rules};
 ghost use Rattle.ocl_check.specs.TextParts.{of_text, of_types, of_limits, text_rules_fault, IsUnitOf};
 
 use crate::laws::each_text_is_read;
-use crate::rule_text::read_text;
+use crate::text_reading::read_text;
 use imkl_model::ClassModel;
 use ocl_compile::{CompileFault, Limit, compile};
 use ocl_text::SurfaceRule;
