@@ -24,7 +24,7 @@ use Rattle.rule_verify.specs.declared.pattern.Pattern.TheVariants.{Fitting, Anyt
 use Rattle.rule_verify.specs.Patterns.{a_boolean, an_integer, a_string, an_object}
 use Rattle.rule_verify.specs.Symbols.{named_at}
 
--- what the code of a rule is judged by: a class model, the unit, the rule's index and its context class
+-- what the code of a rule is checked against: a class model, the unit, the rule's index and its context class
 pub record Surroundings : Type 0 where
   pub model : Model
   pub unit : Content
@@ -265,13 +265,13 @@ yields s i k r = Scalar element.Boolean
 
 -- ---- memory
 
--- an instruction that may take memory when it is run
-abbrev pub may_take_memory : Instr → Bool
-may_take_memory (instrs.AsColl c k) = true
-may_take_memory (instrs.AsSet k) = true
-may_take_memory (instrs.Select n) = true
-may_take_memory (instrs.Reject n) = true
-may_take_memory (instrs.Collect n) = true
-may_take_memory (instrs.CollectFlat n) = true
-may_take_memory (instrs.IsUnique k n) = true
-may_take_memory i = false
+-- an instruction that gathers a collection of its own when it is run
+abbrev pub gathers : Instr → Bool
+gathers (instrs.AsColl c k) = true
+gathers (instrs.AsSet k) = true
+gathers (instrs.Select n) = true
+gathers (instrs.Reject n) = true
+gathers (instrs.Collect n) = true
+gathers (instrs.CollectFlat n) = true
+gathers (instrs.IsUnique k n) = true
+gathers i = false

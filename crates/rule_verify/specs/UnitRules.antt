@@ -8,7 +8,7 @@ use Rattle.rule_verify.specs.declared.fault.Flaw.TheVariants as flaws
 use Rattle.rule_verify.specs.declared.depths.Depths.{Depths}
 use Rattle.rule_verify.specs.CodeTree.{code_tree}
 use Rattle.rule_verify.specs.CodeDepths.{rule_depths}
-use Rattle.rule_verify.specs.InstrKinds.{surroundings, may_take_memory}
+use Rattle.rule_verify.specs.InstrKinds.{surroundings, gathers}
 use Rattle.rule_verify.specs.KindRules.{InstrFault, instr_fault, rule_ends}
 use Rattle.rule_verify.specs.Symbols.{named_at, class_in}
 
@@ -64,4 +64,4 @@ depths_of_rules m u n (r ∷ rs) = depths_of m u n r ∷ depths_of_rules m u (n 
 
 -- some instruction of the rule may take memory
 abbrev pub takes_memory : RuleContent → Bool
-takes_memory r = list_any may_take_memory r.code
+takes_memory r = list_any gathers r.code

@@ -99,7 +99,7 @@ impl<'m> Accepted<'m> {
         }
     }
 
-    /// What a symbol names, if it is in the class model, as what each used symbol names is.
+    /// What a symbol names; none where the class model doesn't have it. It has what each used symbol names.
     pub fn named(&self, symbol: SymbolNumber) -> Option<Named>
         requires { symbol.0 < length self.now.unit.symbols }
         ensures name { result ≡ named_at self.now.model self.now.unit symbol.0 }
@@ -117,7 +117,8 @@ impl<'m> Accepted<'m> {
         self.depths[rule]
     }
 
-    /// Whether some instruction of a rule may take memory when it is run.
+    /// Whether some instruction of a rule gathers a collection of its own when it is run. (Others take memory too, for
+    /// what they read or go over.)
     pub fn takes_memory(&self, rule: usize) -> bool
         requires { rule < length self.now.unit.rules }
         ensures { result ≡ spec.takes_memory (spec.unit_rule self.now.unit rule) }

@@ -18,20 +18,21 @@ pub enum Flaw {
     WrongKind = 3,
     /// It reads a variable that is not there.
     BadVariable = 4,
-    /// A body is longer than the code around it.
+    /// The bodies of a block are longer than what is left of the sequence that it stands in.
     BadNesting = 5,
     /// A rule or a body does not end with exactly one operand of its kind.
     LeftOver = 6,
     /// There are more than 1,024 operands after it.
     StackLimit = 7,
-    /// More than 64 bodies are nested.
+    /// More than 64 blocks are open.
     NestLimit = 8,
 }
 
 /// Why a unit is not accepted.
 #[derive(Debug, Drop, Error)]
 pub enum VerifyFault {
-    /// The first instruction that is wrong, by its rule and its place in the rule, both from 0.
+    /// The first instruction that is wrong, by its rule and its index in the rule, both from 0; where the rule itself is
+    /// wrong, 0 or the number of its instructions (`docs/machine.md`).
     #[error("{flaw:?} at instruction {at} of rule {rule}")]
     At { flaw: Flaw, rule: usize, at: usize },
     /// Memory ran out.

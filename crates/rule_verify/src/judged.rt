@@ -1,4 +1,4 @@
-//! The code of a rule, with what it is judged by.
+//! The code of a rule, with what it is checked against.
 
 ghost use Rattle.std.specs.Prelude.{◌≡◌};
 

@@ -28,7 +28,6 @@ pub use blocks::shape_of;
 pub use depths::Depths;
 pub use fault::{Flaw, VerifyFault};
 pub use linked::{Linked, link, look_up};
-pub use memory::may_take_memory;
 pub use named::Named;
 pub use pattern::Pattern;
 pub use shape::Shape;

@@ -2,13 +2,13 @@
 
 ghost use Rattle.std.specs.Prelude.{◌≡◌};
 ghost use Rattle.std.specs.List.{list_any};
-ghost use Rattle.rule_verify.specs.InstrKinds.{may_take_memory};
+ghost use Rattle.rule_verify.specs.InstrKinds.{gathers};
 
 use rule_code::Instr;
 
-/// Whether an instruction may take memory when it is run.
-pub fn may_take_memory(instr: Instr) -> bool
-    ensures { result ≡ may_take_memory instr }
+/// Whether an instruction gathers a collection of its own when it is run.
+pub(crate) fn gathers(instr: Instr) -> bool
+    ensures { result ≡ gathers instr }
 {
     match instr {
         Instr::AsColl(_, _)
@@ -22,9 +22,9 @@ pub fn may_take_memory(instr: Instr) -> bool
     }
 }
 
-/// Whether some instruction may take memory when it is run.
+/// Whether some instruction gathers a collection of its own when it is run.
 pub(crate) fn takes_memory(code: &[Instr]) -> bool
-    ensures { result ≡ list_any may_take_memory code.now }
+    ensures { result ≡ list_any gathers code.now }
 {
-    code.iter().any(|instr| may_take_memory(*instr))
+    code.iter().any(|instr| gathers(*instr))
 }

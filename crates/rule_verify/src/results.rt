@@ -12,7 +12,7 @@ use imkl_model::CollectionKind;
 use ocl_kinds::{Kind, ScalarKind, elements_kind};
 use rule_code::Instr;
 
-/// What an instruction without a body gives that depends on none of its fields and of its operands: a Boolean, an
+/// What an instruction without a body gives that depends on neither its fields nor its operands: a Boolean, an
 /// Integer, a String, or nothing but null and invalid.
 fn fixed_result(instr: Instr) -> Kind
     ensures { result ≡ spec.fixed_result instr }

@@ -110,7 +110,7 @@ pub(crate) fn take(
 pub(crate) fn put(kinds: &mut Stack<Kind>, kind: Kind) -> Result<(), AllocError>
     ensures { OnOk result (kinds.new ≡ kind ∷ kinds.old) }
 {
-    // The check takes in the type of a kind's elements only where a variable has it.
+    // (`rt check` takes in the type of a kind's elements only where a variable has it; so in `walk.rt`.)
     let _element = elements_kind(&kind);
     kinds.push(kind)?;
     Ok(())
