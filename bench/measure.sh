@@ -29,8 +29,8 @@ PYTHON
     fi
 }
 
-# The heap takes large pages, as the launcher has it.
-export GLIBC_TUNABLES="${GLIBC_TUNABLES-glibc.malloc.hugetlb=1}"
+# The heap is set as the launcher sets it.
+export GLIBC_TUNABLES="${GLIBC_TUNABLES-glibc.malloc.hugetlb=1:glibc.malloc.mxfast=0}"
 
 # The built program, which the launcher builds if need be; what is measured is the program alone.
 "$root/ocl_check" --help >/dev/null || fail "the program isn't built"
