@@ -34,5 +34,5 @@ export GLIBC_TUNABLES="${GLIBC_TUNABLES-glibc.malloc.hugetlb=1:glibc.malloc.mxfa
 
 # The built program, which the launcher builds if need be; what is measured is the program alone.
 "$root/ocl_check" --help >/dev/null || fail "the program isn't built"
-program=$(ls -1t "$root"/crates/ocl_check_main/out/kept/*/ocl_check | head -n 1)
+program=$(ls -1t "$root"/out/built/*/ocl_check | head -n 1)
 [ -x "$program" ] || fail "the built program isn't where the launcher keeps it: $program"
