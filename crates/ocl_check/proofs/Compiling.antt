@@ -1,8 +1,12 @@
 -- What compiling came to, and what is written of it.
 use Rattle.std.proofs.Common.{◌≡◌, ◌≢◌, ℕ, Bool, true, false, List, take, Option, Some, None, Result, Ok, Err, IfOk, refl, sym, ap, ◌∙◌, subst}
+use Rattle.std.proofs.lemmas.Option.{none-some}
 use Rattle.std.specs.Io.KnownBytes.{Appends}
 use Rattle.imkl_model.specs.ClassModel.{Model}
+use Rattle.imkl_model.specs.declared.fault.ModelFault.{ModelFault}
 use Rattle.rule_code.specs.Content.{Content}
+use Rattle.rule_code.specs.WellFormed.{IsUnit}
+use Rattle.rule_code.specs.Spelling.{spelling}
 use Rattle.ocl_check.specs.declared.reply.Reply as reply
 use Rattle.ocl_check.specs.declared.outcome.Cause.{Cause}
 use Rattle.ocl_check.specs.declared.outcome.Cause.TheVariants.{Memory, Read, Write}
@@ -11,8 +15,9 @@ use Rattle.ocl_check.specs.declared.commands.compile.Compiled.{Compiled}
 use Rattle.ocl_check.specs.declared.commands.compile.Compiled.TheVariants as compiled
 use Rattle.ocl_check.specs.Reply.{Answer, said}
 use Rattle.ocl_check.specs.TextReading.{TextReading, ReadsAs}
-use Rattle.ocl_check.specs.CompiledRules.{compiled_rules}
-use Rattle.ocl_check.specs.Compile.{CompileAnswer, nothing_compiled, compiled_code, compiled_answer, compile_answer, WholeUnless, IsCodeWritten}
+use Rattle.ocl_check.specs.ThreeInputs.{model_of}
+use Rattle.ocl_check.specs.CompiledRules.{CompiledRules, TextRefusal, compiled_rules}
+use Rattle.ocl_check.specs.Compile.{CompileAnswer, nothing_compiled, compiled_code, compiled_answer, compile_model_answer, compile_answer, HasUnit, HasUnitFor, WholeUnless, IsCodeWritten}
 use Rattle.ocl_check.specs.TextParts.{IsUnitOf, compiled_seen, IsRefusalOf}
 
 -- one answer for another that is equal
@@ -23,6 +28,26 @@ seen_as (Err e) a b same h = tt
 -- the code of a text's unit is what is answered of it
 pub unit_seen : {E : Type 0} (result : Result Compiled E) (m : Model) (t : TextReading) (u : Content) → IsUnitOf m t u → IfOk result (λ c. compiled_seen c ≡ compiled_code u) → IfOk result (λ c. compiled_seen c ≡ compiled_answer (compiled_rules m t))
 unit_seen result m t u unit h = seen_as result (compiled_code u) (compiled_answer (compiled_rules m t)) (sym (ap compiled_answer unit.1)) h
+
+-- the unit of a text is one
+pub unit_kept : {E : Type 0} (result : Result Compiled E) (m : Model) (t : TextReading) (u : Content) → IsUnitOf m t u → IsUnit u → IfOk result (λ c. HasUnit (compiled_rules m t))
+unit_kept (Ok c) m t u unit formed = subst HasUnit (sym unit.1) formed
+unit_kept (Err e) m t u unit formed = tt
+
+-- what is answered without code has no unit
+pub no_unit : (x : Result CompiledRules TextRefusal) (a : Answer) → nothing_compiled a ≡ compiled_answer x → HasUnit x
+no_unit (Err refusal) a h = tt
+no_unit (Ok c) a h = absurd (none-some (spelling c.unit) (ap (λ (z : CompileAnswer). z.code) h))
+
+pub no_unit_for : (x : Result Model ModelFault) (t : TextReading) (a : Answer) → nothing_compiled a ≡ compile_model_answer x t → HasUnitFor x t
+no_unit_for (Err e) t a h = tt
+no_unit_for (Ok m) t a h = no_unit (compiled_rules m t) a h
+
+-- a reply to a refused input goes with what an answer without code says
+pub refusal_keeps : {E : Type 0} (made : Result reply.Reply E) (result : Result Compiled E) (answer : CompileAnswer) (K : Type 0) → ((a : Answer) → nothing_compiled a ≡ answer → K)
+    → IfOk made (λ r. nothing_compiled (said r) ≡ answer) → IsRefusalOf made result → IfOk result (λ c. K)
+refusal_keeps (Ok r) result answer K kept h is = subst (λ (x : Result Compiled _). IfOk x (λ c. K)) (sym is) (kept (said r) h)
+refusal_keeps (Err e) result answer K kept h is = subst (λ (x : Result Compiled _). IfOk x (λ c. K)) (sym is) tt
 
 -- a reply that says what is answered of a refused input
 pub refusal_seen : {E : Type 0} (made : Result reply.Reply E) (result : Result Compiled E) (answer : CompileAnswer) → IfOk made (λ r. nothing_compiled (said r) ≡ answer) → IsRefusalOf made result → IfOk result (λ c. compiled_seen c ≡ answer)
@@ -36,11 +61,11 @@ refusal_unless (Ok r) C a b same h other = ap nothing_compiled h ∙ same other
 refusal_unless (Err e) C a b same h other = tt
 
 -- equal inputs are compiled alike
-pub compiled_alike : (c : Compiled) (model rules model' rules' : List ℕ) → model ≡ model' → rules ≡ rules' → ((t : TextReading) × ReadsAs rules t × (compiled_seen c ≡ compile_answer model t))
-    → (t : TextReading) × ReadsAs rules' t × (compiled_seen c ≡ compile_answer model' t)
+pub compiled_alike : (c : Compiled) (model rules model' rules' : List ℕ) → model ≡ model' → rules ≡ rules' → ((t : TextReading) × ReadsAs rules t × (compiled_seen c ≡ compile_answer model t) × HasUnitFor (model_of model) t)
+    → (t : TextReading) × ReadsAs rules' t × (compiled_seen c ≡ compile_answer model' t) × HasUnitFor (model_of model') t
 compiled_alike c model rules model' rules' m r h =
-    subst (λ (x : List ℕ). (t : TextReading) × ReadsAs x t × (compiled_seen c ≡ compile_answer model' t)) r
-    (subst (λ (x : List ℕ). (t : TextReading) × ReadsAs rules t × (compiled_seen c ≡ compile_answer x t)) m h)
+    subst (λ (x : List ℕ). (t : TextReading) × ReadsAs x t × (compiled_seen c ≡ compile_answer model' t) × HasUnitFor (model_of model') t) r
+    (subst (λ (x : List ℕ). (t : TextReading) × ReadsAs rules t × (compiled_seen c ≡ compile_answer x t) × HasUnitFor (model_of x) t) m h)
 
 -- nothing is written where a command failed before it began
 pub nothing_written : {S : Type 0} (contents : S → Option (List ℕ)) (has_failed : S → Bool) (code : Option (List ℕ)) (s : S) (cause : Cause) → cause ≢ Write → IsCodeWritten contents has_failed code s s (Failed cause)

@@ -15,6 +15,7 @@ abbrev pub known_bytes : Option (List ℕ) → List ℕ
 known_bytes None = []
 known_bytes (Some xs) = xs
 
+-- the bytes that a reader says it has are some that it may have
 pub has_known : (known : Option (List ℕ)) → MayHave known (known_bytes known)
 has_known None = tt
 has_known (Some xs) = refl

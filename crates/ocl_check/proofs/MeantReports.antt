@@ -103,12 +103,14 @@ module _ (p : Population) (rs : List CheckedRule) (u : Content) (model : IsClass
         ap (λ (l : List ℕ). l ++ rule_line u p (verdict_at u p) n) lines_are
         ∙ ap (λ (l : List ℕ). flat_map (meant_line p r) (instances p r.context) ++ l) own_line_is
 
+  -- the summary of compiled rules counts the verdicts that are meant
   pub summary_is_meant : summary_of u p ≡ meant_summary p rs
   summary_is_meant =
       ap counts_of
       (ap (verdicts_below u p (verdict_at u p)) kept.count
       ∙ from_rest (verdicts_below u p (verdict_at u p)) (rule_verdicts u p (verdict_at u p)) (meant_verdicts p) rs [] rs refl (λ n. refl) verdicts_are refl)
 
+  -- and their report is the one that is meant
   pub report_is_meant : report_of u p ≡ meant_report p rs
   report_is_meant =
       ap (λ (l : List ℕ). l ++ total_line (summary_of u p))

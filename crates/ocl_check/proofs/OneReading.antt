@@ -107,5 +107,6 @@ module _ (one_list : HasOneTokenList) (one_flaw : HasOneFault) (never_both : Nev
   bytes_read_alike true t u h i = stand_together t u (reading_stands t h) (reading_stands u i)
   bytes_read_alike false t u h i = inr (h ∙ sym i)
 
+  -- two readings of the same bytes are equal, or both are faults whose place the grammar leaves open
   pub read_alike : (t u : TextReading) → ReadsAs text t → ReadsAs text u → ((is_loose t ≡ true) × (is_loose u ≡ true)) ⊎ (t ≡ u)
   read_alike t u h i = bytes_read_alike (is_utf8 text) t u h i

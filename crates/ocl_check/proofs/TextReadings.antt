@@ -44,6 +44,7 @@ pub text_read : {X : Type 0} (view : X → List Rule) (bytes text : List ℕ) (r
 text_read view bytes text (Ok x) same utf8 spells names = rules_read bytes (view x) utf8 (subst (λ (t : List ℕ). TextSpellsWithin MAX_NESTING MAX_CHAIN t (view x)) same spells) names
 text_read view bytes text (Err e) same utf8 spells names = tt
 
+-- and so is the fault that it refused a text with
 pub text_refused : {X : Type 0} (bytes text : List ℕ) (result : Result X TextFault) → text ≡ bytes → IsUtf8 bytes → IfErr result (IfLexical text) → IfErr result (IfSyntax text) → IfErr result (IfTooDeep MAX_NESTING MAX_CHAIN text) → IfErr result (IfDuplicate MAX_NESTING MAX_CHAIN text)
     → IfErr result (IsFaultRead bytes)
 text_refused bytes text (Ok x) same utf8 lexical syntax deep duplicate = tt
@@ -94,5 +95,6 @@ bytes_have_reading : (b : Bool) (bytes : List ℕ) → (t : TextReading) × Text
 bytes_have_reading true bytes h = h
 bytes_have_reading false bytes h = (Err (text_fault_at flaws.BadCharacter (utf8_valid_len bytes)), refl)
 
+-- all bytes have a reading
 pub have_reading : HasTokensOrFault → SpellsOrIsRefused → (bytes : List ℕ) → (t : TextReading) × ReadsAs bytes t
 have_reading lexes spells bytes = bytes_have_reading (is_utf8 bytes) bytes (text_has_reading spells bytes (lexes bytes))

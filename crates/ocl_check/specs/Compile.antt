@@ -1,10 +1,11 @@
 -- What the command `compile` answers.
-use Rattle.std.specs.Prelude.{◌≡◌, ℕ, Bool, true, false, List, length, take, Option, Some, None, Result, Ok, Err}
+use Rattle.std.specs.Prelude.{◌≡◌, ℕ, Bool, true, false, List, length, take, Option, Some, None, Result, Ok, Err, ⊤}
 use Rattle.std.specs.Io.KnownBytes.{Appends}
 use Rattle.imkl_model.specs.declared.fault.ModelFault.{ModelFault}
 use Rattle.imkl_model.specs.ClassModel.{Model}
 use Rattle.rule_code.specs.Content.{Content}
 use Rattle.rule_code.specs.Spelling.{spelling}
+use Rattle.rule_code.specs.WellFormed.{IsUnit}
 use Rattle.ocl_check.specs.declared.outcome.Outcome.{Outcome}
 use Rattle.ocl_check.specs.declared.outcome.Outcome.TheVariants.{Status, Failed}
 use Rattle.ocl_check.specs.declared.outcome.Cause.TheVariants.{Write}
@@ -35,6 +36,20 @@ compile_model_answer (Ok m) t = compiled_answer (compiled_rules m t)
 -- what `compile` answers of the bytes of a class model and what a rule text is read as
 abbrev pub compile_answer : List ℕ → TextReading → CompileAnswer
 compile_answer model t = compile_model_answer (model_of model) t
+
+-- the unit that rules are compiled to, if they are, keeps the conditions of the format
+abbrev pub HasUnit : Result CompiledRules TextRefusal → Type 0
+HasUnit (Err refusal) = ⊤
+HasUnit (Ok c) = IsUnit c.unit
+
+abbrev pub HasUnitFor : Result Model ModelFault → TextReading → Type 0
+HasUnitFor (Err e) t = ⊤
+HasUnitFor (Ok m) t = HasUnit (compiled_rules m t)
+
+-- where a command ended with a status, the unit of its code file, if there is one, keeps the conditions of the format
+abbrev pub IsOfUnit : Outcome → List ℕ → TextReading → Type 0
+IsOfUnit (Status s) model t = HasUnitFor (model_of model) t
+IsOfUnit (Failed cause) model t = ⊤
 
 -- all of it was written, but where the sink has failed a prefix
 abbrev pub WholeUnless : Bool → Option (List ℕ) → Option (List ℕ) → List ℕ → Type 0

@@ -1,8 +1,8 @@
 -- The unit that bytes spell, or the first field that spells none.
 use Rattle.std.specs.Prelude.{◌≡◌, ℕ, ◌-◌, List, [], ◌∷◌, length, take, drop, Result, Ok, Err, Option, Some, None, ◌==◌, if◌then◌else◌, bytes_eq}
 use Rattle.std.specs.Int.{w16}
-use Rattle.rule_code.specs.declared.fault.Flaw.{Flaw}
-use Rattle.rule_code.specs.declared.fault.Flaw.TheVariants as flaws
+use Rattle.rule_code.specs.declared.fault.CodeFlaw.{CodeFlaw}
+use Rattle.rule_code.specs.declared.fault.CodeFlaw.TheVariants as flaws
 use Rattle.rule_code.specs.declared.fault.CodeFault.{CodeFault}
 use Rattle.rule_code.specs.declared.fault.CodeFault.TheVariants as faults
 use Rattle.rule_code.specs.declared.symbol.Symbol.{Symbol}
@@ -55,7 +55,7 @@ whole_from bytes = do
 
 -- what is wrong, and the byte where the wrong field begins
 pub record CodeFaultAt : Type 0 where
-  pub flaw : Flaw
+  pub flaw : CodeFlaw
   pub offset : ℕ
 
 -- the offset of a fault, in a file of `size` bytes: the fault says how many were left
@@ -88,6 +88,11 @@ abbrev pub CodeAnswers : List ℕ → Result unit.Unit CodeFault → Type 0
 CodeAnswers bytes (Ok u) = unit_of bytes ≡ Ok (content u)
 CodeAnswers bytes (Err faults.OutOfMemory) = Unit {0}
 CodeAnswers bytes (Err (faults.At flaw offset)) = unit_of bytes ≡ Err (record { flaw = flaw; offset = offset })
+
+-- a fault of the magic or the version is answered, whatever memory there is
+abbrev pub AnswersHead : {U : Type 0} → List ℕ → Result U CodeFault → Type 0
+AnswersHead bytes result =
+    (f : Fault) → head_from bytes ≡ Err f → result ≡ Err (faults.At f.flaw (length bytes - f.left))
 
 -- this unit was read, unless memory ran out
 abbrev pub IsReadAs : Content → Result unit.Unit CodeFault → Type 0

@@ -1,9 +1,9 @@
 //! Reading a code file.
 
-ghost use Rattle.std.specs.Prelude.{◌≡◌, List, IfOk, IfErr};
+ghost use Rattle.std.specs.Prelude.{◌≡◌, ◌≢◌, List, IfOk, IfErr};
 ghost use Rattle.rule_code.specs.Content.{Content, content_of};
-ghost use Rattle.rule_code.specs.Reading.{Reads};
-ghost use Rattle.rule_code.specs.CodeFile.{head_from, whole_from, CodeAnswers, IsReadAs, IsFirstCodeFault};
+ghost use Rattle.rule_code.specs.Reading.{Fault, Reads};
+ghost use Rattle.rule_code.specs.CodeFile.{head_from, whole_from, AnswersHead, CodeAnswers, IsReadAs, IsFirstCodeFault};
 ghost use Rattle.rule_code.specs.Spelling.{spelling};
 ghost use Rattle.rule_code.specs.View.{content};
 ghost use Rattle.rule_code.specs.WellFormed.{IsUnit};
@@ -15,7 +15,7 @@ mod rules;
 mod symbols;
 mod texts;
 
-use crate::fault::{CodeFault, FieldFault, Flaw};
+use crate::fault::{CodeFault, CodeFlaw, FieldFault};
 use crate::symbol::Symbol;
 use crate::unit::{Rule, Unit};
 use field::{u16_from, wrong};
@@ -27,14 +27,15 @@ use texts::texts_from;
 /// The bytes behind the magic and the version.
 #[tactic(auto, unfolding(crate::specs::CodeFile::head_from))]
 fn after_head(bytes: &[u8]) -> Result<&[u8], FieldFault>
-    ensures { Reads (λ x. x.now) result (head_from bytes.now) }
+    ensures gives { Reads (λ x. x.now) result (head_from bytes.now) }
+    ensures decided { IfErr result (λ e. e ≢ FieldFault.OutOfMemory) }
 {
     let [b'O', b'C', b'L', b'B', rest @ ..] = bytes else {
-        return Err(wrong(Flaw::Magic, bytes));
+        return Err(wrong(CodeFlaw::Magic, bytes));
     };
     let (version, after) = u16_from(rest)?;
     if version != 1 {
-        return Err(wrong(Flaw::Version, rest));
+        return Err(wrong(CodeFlaw::Version, rest));
     }
     Ok(after)
 }
@@ -43,14 +44,17 @@ type Parts = (Vec<String>, Vec<Symbol>, Vec<Rule>);
 
 #[tactic(auto, unfolding(crate::specs::CodeFile::whole_from))]
 fn whole(alloc: Global, bytes: &[u8]) -> Result<Parts, FieldFault>
-    ensures { Reads (λ x. content_of x.0.items x.1.items x.2.items) result (whole_from bytes.now) }
+    ensures gives { Reads (λ x. content_of x.0.items x.1.items x.2.items) result
+        (whole_from bytes.now) }
+    ensures head { (f : Fault) → head_from bytes.now ≡ Err f
+        → result ≡ Err (FieldFault.At f.flaw f.left) }
 {
     let rest = after_head(bytes)?;
     let (texts, rest) = texts_from(alloc, rest)?;
     let (symbols, rest) = symbols_from(alloc, texts.len(), rest)?;
     let (rules, rest) = rules_from(alloc, &texts, &symbols, rest)?;
     if !rest.is_empty() {
-        return Err(wrong(Flaw::Trailing, rest));
+        return Err(wrong(CodeFlaw::Trailing, rest));
     }
     Ok((texts, symbols, rules))
 }
@@ -59,7 +63,8 @@ fn whole(alloc: Global, bytes: &[u8]) -> Result<Parts, FieldFault>
 ///
 /// Bytes that spell none are answered by `CodeFault::At`, with the first field in the order of the
 /// file that isn't whole or that the format forbids, and the byte where it begins.
-/// `CodeFault::OutOfMemory` may come in place of either answer.
+/// `CodeFault::OutOfMemory` may come in place of either answer, but not of Magic, Version or a file that
+/// ends in them: these are found before anything is allocated.
 pub fn read_unit(alloc: Global, bytes: &[u8]) -> Result<Unit, CodeFault>
     // The bytes spell the unit that is given.
     ensures found { IfOk result (λ u. bytes.now ≡ spelling (content u)) }
@@ -69,6 +74,8 @@ pub fn read_unit(alloc: Global, bytes: &[u8]) -> Result<Unit, CodeFault>
     ensures fault { IfErr result (IsFirstCodeFault bytes.now) }
     // The same in one: the unit or the first fault of these bytes.
     ensures exact { CodeAnswers bytes.now result }
+    // A fault of the magic or the version is answered, whatever memory there is.
+    ensures head { AnswersHead bytes.now result }
 {
     match whole(alloc, bytes) {
         Ok((texts, symbols, rules)) => Ok(Unit {

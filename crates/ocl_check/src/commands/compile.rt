@@ -5,9 +5,10 @@ ghost use Rattle.std.specs.Io.KnownBytes.{IsAtEnd};
 ghost use Rattle.rule_code.specs.View.{content};
 ghost use Rattle.ocl_check.specs.declared.outcome.Cause.TheVariants.{Write};
 ghost use Rattle.ocl_check.specs.Answers.{IsAnswered, KeepsSink, ReadBy, ReadWithin, fails_write};
-ghost use Rattle.ocl_check.specs.Compile.{compiled_code, compiled_answer, compile_answer, IsCodeWritten};
+ghost use Rattle.ocl_check.specs.Compile.{compiled_code, compiled_answer, compile_answer, HasUnit, HasUnitFor, IsCodeWritten, IsOfUnit};
 ghost use Rattle.ocl_check.specs.Reply.{said};
 ghost use Rattle.ocl_check.specs.TextReading.{TextReading, ReadsAs};
+ghost use Rattle.ocl_check.specs.ThreeInputs.{model_of};
 ghost use Rattle.ocl_check.specs.TextParts.{compiled_seen, IsRefusalOf};
 ghost use Rattle.ocl_check.specs.CompiledRules.{compiled_rules};
 
@@ -60,10 +61,14 @@ fn compile_rule_text(
     text: &[u8],
 ) -> Result<Compiled, OutOfMemory>
     ensures { (t : TextReading) × ReadsAs text.now t ×
-        IfOk result (λ c. compiled_seen c ≡ compiled_answer (compiled_rules model.now t)) }
+        IfOk result (λ c. compiled_seen c ≡ compiled_answer (compiled_rules model.now t)) ×
+        IfOk result (λ c. HasUnit (compiled_rules model.now t)) }
 {
     match compile_text(alloc, model, text) {
-        Ok(unit) => compiled_unit(alloc, &unit),
+        Ok(unit) => {
+            unit.well_formed();
+            compiled_unit(alloc, &unit)
+        }
         Err(fault) => refused(refused_text(alloc, fault)),
     }
 }
@@ -71,7 +76,8 @@ fn compile_rule_text(
 /// Compiles a rule text for a class model that is read first.
 fn compile_inputs(alloc: Global, model: &[u8], text: &[u8]) -> Result<Compiled, OutOfMemory>
     ensures { (t : TextReading) × ReadsAs text.now t ×
-        IfOk result (λ c. compiled_seen c ≡ compile_answer model.now t) }
+        IfOk result (λ c. compiled_seen c ≡ compile_answer model.now t) ×
+        IfOk result (λ c. HasUnitFor (model_of model.now) t) }
 {
     each_text_is_read();
     match ClassModel::read(alloc, model) {
@@ -88,7 +94,8 @@ fn compile_readers<M: Read, R: Read>(
 ) -> Result<Compiled, Cause>
     ensures compiled { IfOk result (λ c. ReadWithin (M.remaining model.old) (λ xs.
         ReadWithin (R.remaining rules.old) (λ ys.
-        (t : TextReading) × ReadsAs ys t × (compiled_seen c ≡ compile_answer xs t)))) }
+        (t : TextReading) × ReadsAs ys t × (compiled_seen c ≡ compile_answer xs t)
+        × HasUnitFor (model_of xs) t))) }
     ensures cause { IfErr result (λ c. c ≢ Write) }
     ensures rules_wait { IsAtEnd (M.remaining model.new) ⊎ (rules.new ≡ rules.old) }
 {
@@ -139,8 +146,10 @@ pub fn run_compile<M: Read, R: Read, O: Sink, S: Sink>(
     requires well { S.has_failed sink.old ≡ false }
     ensures answered { ReadBy result (M.remaining model.old) (λ xs.
         ReadBy result (R.remaining rules.old) (λ ys. (t : TextReading) × ReadsAs ys t
+        × IsOfUnit result xs t
         × IsCodeWritten O.contents O.has_failed (compile_answer xs t).code out.old out.new result
-        × IsAnswered (compile_answer xs t).said (S.contents sink.old) (S.contents sink.new) result)) }
+        × IsAnswered (compile_answer xs t).said
+        (S.contents sink.old) (S.contents sink.new) result)) }
     ensures sinks { (O.has_failed out.new || S.has_failed sink.new) ≡ fails_write result }
     ensures code_first { O.has_failed out.new ≡ true → sink.new ≡ sink.old }
     ensures kept { KeepsSink result sink.old sink.new }

@@ -1,16 +1,16 @@
 //! The single fields of a code file, each read from the start of the bytes that are left.
 
-ghost use Rattle.std.specs.Prelude.{◌≡◌, ◌<◌, length, IfOk};
+ghost use Rattle.std.specs.Prelude.{◌≡◌, ◌≢◌, ◌<◌, length, IfOk, IfErr};
 ghost use Rattle.std.specs.Int.{w16, w64};
 ghost use Rattle.rule_code.specs.SymbolTag.{has_tag, is_symbol_of};
 ghost use Rattle.rule_code.specs.Reading.{Reads, number_from, count_from, text_number_from, symbol_number_from, text_bytes_from};
 ghost use Rattle.rule_code.specs.Opcodes.{integer_from, boolean_from};
 
-use crate::fault::{FieldFault, Flaw};
+use crate::fault::{CodeFlaw, FieldFault};
 use crate::symbol::{Symbol, SymbolNumber, SymbolTag, TextNumber};
 
 /// The fault of the field that begins at these bytes.
-pub(super) fn wrong(flaw: Flaw, bytes: &[u8]) -> FieldFault
+pub(super) fn wrong(flaw: CodeFlaw, bytes: &[u8]) -> FieldFault
     ensures { result ≡ FieldFault.At flaw (length bytes.now) }
 {
     FieldFault::At {
@@ -21,10 +21,11 @@ pub(super) fn wrong(flaw: Flaw, bytes: &[u8]) -> FieldFault
 
 /// A number of two bytes.
 pub(super) fn u16_from(bytes: &[u8]) -> Result<(u16, &[u8]), FieldFault>
-    ensures { Reads (λ x. (x.0, x.1.now)) result (number_from w16 bytes.now) }
+    ensures gives { Reads (λ x. (x.0, x.1.now)) result (number_from w16 bytes.now) }
+    ensures decided { IfErr result (λ e. e ≢ FieldFault.OutOfMemory) }
 {
     if bytes.len() < 2 {
-        return Err(wrong(Flaw::Truncated, bytes));
+        return Err(wrong(CodeFlaw::Truncated, bytes));
     }
     let (head, rest) = bytes.split_at(2);
     let number = u16::from_be_bytes([head[0], head[1]]);
@@ -36,7 +37,7 @@ fn u64_from(bytes: &[u8]) -> Result<(u64, &[u8]), FieldFault>
     ensures { Reads (λ x. (x.0, x.1.now)) result (number_from w64 bytes.now) }
 {
     if bytes.len() < 8 {
-        return Err(wrong(Flaw::Truncated, bytes));
+        return Err(wrong(CodeFlaw::Truncated, bytes));
     }
     let (head, rest) = bytes.split_at(8);
     let number = u64::from_be_bytes([
@@ -60,10 +61,10 @@ pub(super) fn bool_from(bytes: &[u8]) -> Result<(bool, &[u8]), FieldFault>
     ensures { Reads (λ x. (x.0, x.1.now)) result (boolean_from bytes.now) }
 {
     match bytes {
-        [] => Err(wrong(Flaw::Truncated, bytes)),
+        [] => Err(wrong(CodeFlaw::Truncated, bytes)),
         [0, rest @ ..] => Ok((false, rest)),
         [1, rest @ ..] => Ok((true, rest)),
-        [_, ..] => Err(wrong(Flaw::BadNumber, bytes)),
+        [_, ..] => Err(wrong(CodeFlaw::BadNumber, bytes)),
     }
 }
 
@@ -74,7 +75,7 @@ pub(super) fn count_from(limit: u16, bytes: &[u8]) -> Result<(u16, &[u8]), Field
 {
     let (count, rest) = u16_from(bytes)?;
     if limit < count {
-        return Err(wrong(Flaw::Limit, bytes));
+        return Err(wrong(CodeFlaw::Limit, bytes));
     }
     Ok((count, rest))
 }
@@ -92,7 +93,7 @@ pub(super) fn text_number_from(
     if usize::from(number) < texts {
         Ok((TextNumber(number), rest))
     } else {
-        Err(wrong(Flaw::BadNumber, bytes))
+        Err(wrong(CodeFlaw::BadNumber, bytes))
     }
 }
 
@@ -126,7 +127,7 @@ pub(super) fn symbol_number_from<'b>(
     if is_symbol_of(tag, symbols, number) {
         Ok((SymbolNumber(number), rest))
     } else {
-        Err(wrong(Flaw::BadNumber, bytes))
+        Err(wrong(CodeFlaw::BadNumber, bytes))
     }
 }
 
@@ -136,11 +137,11 @@ pub(super) fn text_bytes_from(len: usize, bytes: &[u8]) -> Result<(&str, &[u8]),
     ensures { Reads (λ x. (x.0.now, x.1.now)) result (text_bytes_from len bytes.now) }
 {
     if bytes.len() < len {
-        return Err(wrong(Flaw::Truncated, bytes));
+        return Err(wrong(CodeFlaw::Truncated, bytes));
     }
     let (head, rest) = bytes.split_at(len);
     match str::from_utf8(head) {
         Ok(text) => Ok((text, rest)),
-        Err(_) => Err(wrong(Flaw::BadText, bytes)),
+        Err(_) => Err(wrong(CodeFlaw::BadText, bytes)),
     }
 }
