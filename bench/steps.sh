@@ -24,7 +24,7 @@ judge() {
 }
 
 # Says what the steps of the code file took that was judged last.
-tell() {
+report() {
     awk -v objects="$objects" -v steps="$(cat "$room/steps")" -v rules="$1" \
         'NR == 1 { reading = $1 }
          NR == 2 { printf "%s, %d objects, %d steps: %.2f s, of which reading %.2f s, %.1f MiB, %.1f ns a step\n",
@@ -33,6 +33,6 @@ tell() {
 
 judge reading --none
 judge whole
-tell iterations
+report iterations
 judge whole --short
-tell "four instructions"
+report "four instructions"

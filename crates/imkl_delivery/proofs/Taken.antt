@@ -42,6 +42,7 @@ pub record IsTaken (d : Data) (x : Document) : Type 0 where
   pub taken : document_objects d ≡ Some objects
   pub entries : each entry_from objects ≡ Ok x.entries
 
+-- a document that was read has the entries of the objects that are taken out of its tree
 pub objects_there : (d : Data) (x : Document) → document_from d ≡ Ok x → IsTaken d x
 unfolding document_from document_objects
 objects_there d x is =
@@ -90,6 +91,7 @@ passes : (e : DeliveryFault) (m : Model) (r : Result Document DeliveryFault) →
 passes e m (Ok x) h = passes_test e m x.entries (bytes_eq x.model m.name) h
 passes e m (Err z) h = h
 
+-- a fault while objects are added is the fault of the delivery
 pub added_passes : (e : DeliveryFault) (m : Model) (d : Data) → Fails delivery_fault e (added_from m d) → Fails delivery_fault e (describes_population m d)
 unfolding added_from describes_population
 added_passes e m d h = passes e m (document_from d) h
@@ -107,6 +109,7 @@ unfolding population_from finished_with
 tested m ws p true is = rw is refl
 tested m ws p false is = absurd (not_okay fault.OtherModel p is)
 
+-- where all objects were added, the delivery's population is the one with what is then written on them
 pub added_there : (m : Model) (d : Data) (p : Population) → added_from m d ≡ Ok p → IsAdded m d p
 unfolding added_from describes_population
 added_there m d p is =

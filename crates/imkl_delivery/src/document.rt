@@ -18,15 +18,20 @@ use std::alloc::Global;
 /// An entry of a document: an object's id, the name of its class, and the members of its features.
 #[derive(Clone, Copy, Debug, Drop)]
 pub struct Entry<'v> {
+    /// The object's id, not checked yet.
     pub id: &'v str,
+    /// The name of the object's class, not looked up yet.
     pub class: &'v str,
+    /// The members of `features`, not looked at yet.
     pub features: &'v Map<String, Value>,
 }
 
 /// A document: the name of its class model, and its entries.
 #[derive(Drop)]
 pub struct Document<'v> {
+    /// The name of the class model that it is for.
     pub model: &'v str,
+    /// An entry for each object, in the document's order.
     pub entries: Vec<Entry<'v>>,
 }
 

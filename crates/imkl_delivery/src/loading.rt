@@ -123,8 +123,8 @@ fn added<'m>(
     ensures gives { Gives delivery_fault (λ b. b) result
         (added_from model.now (view value.now)) }
     ensures model { IfOk result (λ b. b.model ≡ model.now) }
-    ensures count { IfOk result (λ b. (ds : List Data) → document_objects (view value.now) ≡ Some ds →
-        length b.objects ≡ length ds) }
+    ensures count { IfOk result (λ b. (ds : List Data)
+        → document_objects (view value.now) ≡ Some ds → length b.objects ≡ length ds) }
 {
     let document = document_of(alloc, value)?;
     if document.model != model.name() {
@@ -175,7 +175,14 @@ fn described_of<'m>(
     written(alloc, builder, objects, model)
 }
 
-/// The population that a delivery's bytes describe, or their first fault.
+/// The population that a delivery's bytes describe, or their first fault. Entries are checked in the order of
+/// `docs/delivery.md`.
+///
+/// First the whole document: `NotJson`, then `Shape`, then `OtherModel`. Then each object is added, before anything is
+/// written on any: `UnknownClass`, or a fault `Population` for its id, its class or the number of objects. Then each
+/// object is written: `UnknownFeature` for any of its members, then feature by feature `UnknownTarget` where a target
+/// is the id of no object, or a fault `Population`. Last each object's opposite ends: a fault `Population` for too few
+/// or too many. `OutOfMemory` comes when memory runs out, at any time.
 pub fn load<'m>(
     alloc: Global,
     bytes: &[u8],

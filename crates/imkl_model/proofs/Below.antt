@@ -13,6 +13,7 @@ any_found p (suc n) k lt passes =
       | inr less ↦ rw (any_found p n k less.1 passes) refl
     ]
 
+-- where the test says that some number below n passes, one does
 pub found_any : (p : ℕ → Bool) (n : ℕ) → any_below p n ≡ true → (k : ℕ) × (k < n) × (p k ≡ true)
 found_any p zero e = absurd (false≢true e)
 found_any p (suc n) e =

@@ -39,6 +39,7 @@ find_cases p x xs true e k h = inl (some_is k x (sym (rw e at h)), e)
     some_is a b s = cc
 find_cases p x xs false e k h = inr (rw e at h)
 
+-- the number that is found stands in the list and passes
 pub found_at : (p : ℕ → Bool) (xs : List ℕ) (k : ℕ) → find p xs ≡ Some k → (j : ℕ) × (j < length xs) × (get_or xs j 0 ≡ k) × (p k ≡ true)
 found_at p [] k h = absurd (nothing k h)
   where
@@ -54,6 +55,7 @@ some_found : (p : ℕ → Bool) (x : ℕ) (xs : List ℕ) (b : Bool) → p x ≡
 some_found p x xs true e later = (x, rw e refl)
 some_found p x xs false e later = let w = later refl in (w.0, rw e w.1)
 
+-- where a number of the list passes, one is found
 pub is_found : (p : ℕ → Bool) (xs : List ℕ) (k : ℕ) → k < length xs → p (get_or xs k 0) ≡ true → (f : ℕ) × (find p xs ≡ Some f)
 is_found p [] k lt e = absurd (omega (arith, lt))
 is_found p (x ∷ xs) zero lt e = some_found p x xs (p x) refl (λ b. absurd (false≢true (sym b ∙ e)))
@@ -87,6 +89,7 @@ meeting m f c (Some h) lc is e =
     let parts = and_parts (belongs m c (get_or (group m f) b.0 0)) (not (eqb (feature_at m h).owner (feature_at m (get_or (group m f) b.0 0)).owner)) b.2 in
     pair_clash m f c a.0 b.0 lc a.1 b.1 (rw a.2 parts.1) (rw a.2 a.3) parts.0
 
+-- where two features of one name meet in a class, the model has a clash
 pub clash_in_group : (m : Model) (f : ℕ) → group_meets m f ≡ true → has_clash m ≡ true
 clash_in_group m f e =
     let p = and_parts (begins_with (group m f) f) (any_below (λ c. meets m c (group m f)) (length m.classes)) e in
@@ -102,6 +105,7 @@ begins (x ∷ xs) lt = elim (eqb_tells x x) [ inl h ↦ h.0 | inr h ↦ absurd (
 other : (m : Model) (c owner g : ℕ) → belongs m c g ≡ true → owner ≢ (feature_at m g).owner → has_other_owner m c owner g ≡ true
 other m c owner g there apart = rw (there, unequal owner (feature_at m g).owner apart) refl
 
+-- two features of a list that have different owners and belong to a class meet in it
 pub meets_at : (m : Model) (c : ℕ) (xs : List ℕ) (f g : ℕ) → IsIn f xs → IsIn g xs → belongs m c f ≡ true → belongs m c g ≡ true → (feature_at m f).owner ≢ (feature_at m g).owner → meets m c xs ≡ true
 meets_at m c xs f g at_f at_g in_f in_g apart =
     let w = is_found (belongs m c) xs at_f.0 at_f.1 (rw at_f.2 in_f) in
@@ -133,6 +137,7 @@ not_both : (m : Model) (b : Bool) → has_clash m ≡ b → any_below (group_mee
 not_both m true e none = let w = found_clash m e in absurd (false≢true (sym none ∙ grouped m w.0 w.1 w.2 w.3))
 not_both m false e none = e
 
+-- where no features of one name meet in a class, the model has no clash
 pub no_clash : (m : Model) → any_below (group_meets m) (length m.features) ≡ false → has_clash m ≡ false
 no_clash m none = not_both m (has_clash m) refl none
 
@@ -149,6 +154,7 @@ alone_there : (m : Model) (c x : ℕ) (b : Bool) → belongs m c x ≡ b → mee
 alone_there m c x true e = rw (e, itself (feature_at m x).owner) (no_other (belongs m c x))
 alone_there m c x false e = rw e refl
 
+-- fewer than two features never meet
 pub alone : (m : Model) (c : ℕ) (xs : List ℕ) → length xs < 2 → meets m c xs ≡ false
 alone m c [] lt = refl
 alone m c (x ∷ []) lt = alone_there m c x (belongs m c x) refl

@@ -4,6 +4,7 @@ use Rattle.imkl_model.specs.Chains.{IsCyclic, is_cyclic, reaches}
 use Rattle.imkl_model.proofs.Warshall.{in_range, reaches-decides}
 use Rattle.imkl_model.proofs.Below.{any_found, found_any}
 
+-- the test `is_cyclic` decides whether a class reaches itself
 pub cyclic-decides : (supers : List (List ℕ)) → Decides (is_cyclic supers) (IsCyclic supers)
 cyclic-decides supers = (
   λ h. let w = found_any (λ c. reaches supers c c) (length supers) h in (w.0, (reaches-decides supers w.0 w.0).0 w.2),

@@ -102,6 +102,7 @@ attributes : (cs : List WrittenClass) → AllOf (λ d. d.role ≡ role.Attribute
 attributes [] = tt
 attributes (c ∷ cs) = all_joined (λ (d : WrittenFeature). d.role ≡ role.Attribute) (map (written_attribute_of c.name) c.attributes) (written_attributes cs) (all_of_map (λ d. d.role ≡ role.Attribute) (written_attribute_of c.name) (λ a. refl) c.attributes) (attributes cs)
 
+-- the ends that a model writes come in pairs: a source end, and its opposite end right after it
 pub paired : (w : Written) → ArePairs (written_features w) 0
 paired w =
     let xs = written_attributes w.classes in
@@ -120,6 +121,7 @@ ends_unique : (n : ℕ) (as' : List WrittenAssociation) → AllOf IsUniqueEnd (w
 ends_unique n [] = tt
 ends_unique n (a ∷ as') = (λ e. refl, (λ e. refl, ends_unique (n + 2) as'))
 
+-- each end that a model writes is unique
 pub all_unique : (w : Written) → AllOf IsUniqueEnd (written_features w)
 all_unique w = all_joined IsUniqueEnd (written_attributes w.classes) (written_ends (length (written_attributes w.classes)) w.associations) (attributes_unique w.classes) (ends_unique (length (written_attributes w.classes)) w.associations)
 
@@ -138,6 +140,7 @@ ends_spelled : (n : ℕ) (as' : List WrittenAssociation) → AllOf IsSpelledAsso
 ends_spelled n [] h = tt
 ends_spelled n (a ∷ as') h = (h.0.1, (h.0.2, ends_spelled (n + 2) as' h.1))
 
+-- where what a model writes is spelled well, its features have names that are names and small bounds
 pub all_spelled : (w : Written) → IsSpelled w → AllOf IsSpelledWritten (written_features w)
 all_spelled w h =
     all_joined IsSpelledWritten (written_attributes w.classes) (written_ends (length (written_attributes w.classes)) w.associations) (attributes_spelled w.classes (from_all IsSpelledClass w.classes h.2))

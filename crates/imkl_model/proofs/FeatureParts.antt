@@ -26,6 +26,7 @@ pub record IsFrom (s : Scope) (d : WrittenFeature) (f : FeatureInfo) : Type 0 wh
 made : WrittenFeature → ℕ → ElementType → FeatureInfo
 made d owner element = record { name = d.name; owner = owner; element = element; lower = d.lower; upper = d.upper; kind = collection_kind d; role = d.role }
 
+-- a feature that was numbered is the written one with numbers for names
 pub feature_is : (s : Scope) (d : WrittenFeature) (f : FeatureInfo) → feature_in_scope s d ≡ Ok f → IsFrom s d f
 unfolding feature_in_scope made
 feature_is s d f e =
@@ -57,6 +58,7 @@ scalar_from false false false r e h =
     let p = both_steps r (λ n. Ok (element.Enumeration n)) e h in
     record { no_class = λ k g. cc; enumeration = λ n g. p.1 ∙ ap okay (let same : p.0 ≡ n = cc in same) }
 
+-- a scalar type is no class; if it is an enumeration, it is the one of that name
 pub scalar_is : (s : Scope) (name : List ℕ) (e : ElementType) → scalar_type s name ≡ Ok e → IsScalarFrom (number_in s.enumerations name) e
 unfolding scalar_type
 scalar_is s name e h = scalar_from (bytes_eq name (codes "Boolean")) (bytes_eq name (codes "Integer")) (bytes_eq name (codes "String")) (number_in s.enumerations name) e h
@@ -64,6 +66,7 @@ scalar_is s name e h = scalar_from (bytes_eq name (codes "Boolean")) (bytes_eq n
 class_from : (r : Result ℕ ModelFault) (e : ElementType) → (r >>= λ c. Ok (element.Class c)) ≡ Ok e → (c : ℕ) × (r ≡ Ok c) × (e ≡ element.Class c)
 class_from r e h = let p = both_steps r (λ c. Ok (element.Class c)) e h in (p.0, p.1, sym (ok_is (element.Class p.0) e p.2))
 
+-- the element type of an end, be it a source end or an opposite end, is the class of that name
 pub source_is : (s : Scope) (g : ℕ) (name : List ℕ) (e : ElementType) → element_type s (role.SourceEnd g) name ≡ Ok e → (c : ℕ) × (number_in s.classes name ≡ Ok c) × (e ≡ element.Class c)
 unfolding element_type
 source_is s g name e h = class_from (number_in s.classes name) e h
@@ -72,6 +75,7 @@ pub opposite_is : (s : Scope) (g : ℕ) (name : List ℕ) (e : ElementType) → 
 unfolding element_type
 opposite_is s g name e h = class_from (number_in s.classes name) e h
 
+-- the element type of an attribute is a scalar type
 pub attribute_is : (s : Scope) (name : List ℕ) (e : ElementType) → element_type s role.Attribute name ≡ Ok e → IsScalarFrom (number_in s.enumerations name) e
 unfolding element_type
 attribute_is s name e h = scalar_is s name e h
@@ -91,6 +95,7 @@ class_within s role.Attribute name e c h g = absurd ((attribute_is s name e h).n
 class_within s (role.SourceEnd f) name e c h g = found_class s name e c (source_is s f name e h) g
 class_within s (role.OppositeEnd f) name e c h g = found_class s name e c (opposite_is s f name e h) g
 
+-- an enumeration that is an element type is one of the scope
 pub enumeration_within : (s : Scope) (r : Role) (name : List ℕ) (e : ElementType) (n : ℕ) → element_type s r name ≡ Ok e → e ≡ element.Enumeration n → n < length s.enumerations
 enumeration_within s role.Attribute name e n h g = (number_is s.enumerations name n ((attribute_is s name e h).enumeration n g)).0
 enumeration_within s (role.SourceEnd f) name e n h g = let w = source_is s f name e h in absurd (no_enumeration w.0 n e w.2 g)

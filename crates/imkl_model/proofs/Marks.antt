@@ -9,6 +9,7 @@ use Rattle.std.proofs.lemmas.Nat.Bits.{bit_at_or, bit_at_and, bit_at_set_same, b
 use Rattle.std.specs.Int.{bit_at}
 use Rattle.imkl_model.specs.Tables.{has_mark, is_marked, marks}
 
+-- a row of n marks has length n
 pub length-marks : (words : List ℕ) (n : ℕ) → length (marks words n) ≡ n
 length-marks words zero = refl
 length-marks words (suc n) = omega (arith, length_push (marks words n) (is_marked words n), length-marks words n)
@@ -16,6 +17,7 @@ length-marks words (suc n) = omega (arith, length_push (marks words n) (is_marke
 get_or_before : (xs : List Bool) (y : Bool) (j : ℕ) → j < length xs → get_or (xs ++ y ∷ []) j false ≡ get_or xs j false
 get_or_before xs y j lt = grind (arith, common_steps)
 
+-- a number below n is marked in a row of n marks where it is marked in the words
 pub has-marks : (words : List ℕ) (n j : ℕ) → j < n → has_mark (marks words n) j ≡ is_marked words j
 has-marks words zero j lt = absurd (omega (arith, lt))
 has-marks words (suc n) j lt =
@@ -26,6 +28,7 @@ has-marks words (suc n) j lt =
       | inr less ↦ get_or_before (marks words n) (is_marked words n) j (omega (arith, length-marks words n, less.1)) ∙ has-marks words n j less.1
     ]
 
+-- no number from n on has a mark in a row of n
 pub has-marks_past : (words : List ℕ) (n j : ℕ) → n ≤ j → has_mark (marks words n) j ≡ false
 has-marks_past words n j le = get_or_past (marks words n) j false (omega (arith, length-marks words n, le))
 
@@ -38,9 +41,11 @@ one_or (suc (suc a)) b l m = absurd (omega (arith, l))
 one_or zero (suc (suc b)) l m = absurd (omega (arith, m))
 one_or (suc zero) (suc (suc b)) l m = absurd (omega (arith, m))
 
+-- a bit of two words joined by `or` is set where it is set in one of them
 pub is_marked-or : (a b k : ℕ) → eqb (bit_at (bit_or a b) k) 1 ≡ (eqb (bit_at a k) 1 || eqb (bit_at b k) 1)
 is_marked-or a b k = ap (λ (x : ℕ). eqb x 1) (bit_at_or a b k) ∙ one_or (bit_at a k) (bit_at b k) (bit_at-lt a k) (bit_at-lt b k)
 
+-- a number is marked in merged words where it is marked in the one or the other
 pub is_marked-merged : (ws vs us : List ℕ) → ((k : ℕ) → get_or us k 0 ≡ bit_or (get_or ws k 0) (get_or vs k 0)) → (j : ℕ) → is_marked us j ≡ (is_marked ws j || is_marked vs j)
 is_marked-merged ws vs us all j = ap (λ (w : ℕ). eqb (bit_at w (j % 64)) 1) (all (j / 64)) ∙ is_marked-or (get_or ws (j / 64) 0) (get_or vs (j / 64) 0) (j % 64)
 
@@ -48,6 +53,7 @@ or_true : (b : Bool) → (b || true) ≡ true
 or_true true = refl
 or_true false = refl
 
+-- a test joined by `or` with one that fails stays as it is
 pub or_untouched : (b c : Bool) → c ≡ false → b ≡ (b || c)
 or_untouched true c e = refl
 or_untouched false c e = sym e
@@ -70,6 +76,7 @@ one_word w n j within d =
           rw kept (or_untouched (eqb (bit_at w (j % 64)) 1) (eqb n j) (ne_eqb n j (λ e. h.1 (ap (λ (x : ℕ). x % 64) (sym e)))))
     ]
 
+-- once the bit of number n is set, n is marked beside what was marked before
 pub is_marked-set : (ws : List ℕ) (n j : ℕ) → n % 64 < 64 → n / 64 < length ws → is_marked (set ws (n / 64) (with_bit (get_or ws (n / 64) 0) (n % 64))) j ≡ (is_marked ws j || eqb n j)
 is_marked-set ws n j within lt =
     let w = get_or ws (n / 64) 0 in
@@ -84,15 +91,19 @@ is_marked-set ws n j within lt =
 
 -- ---- a row of n marks
 
+-- it has length n
 pub row_length : (ws : List ℕ) (n : ℕ) (row : List Bool) → marks ws n ≡ row → length row ≡ n
 row_length ws n row e = ap length (sym e) ∙ length-marks ws n
 
+-- each number of the row has its bit in one of the words
 pub in_words : (ws : List ℕ) (n j : ℕ) (row : List Bool) → marks ws n ≡ row → length ws ≡ n / 64 + 1 → j < length row → j / 64 < length ws
 in_words ws n j row e long lt = omega (arith, row_length ws n row e, long, lt, div-add-mod n 64, div-add-mod j 64)
 
+-- a number of the row is marked there where it is marked in the words
 pub row_has : (ws : List ℕ) (n j : ℕ) (row : List Bool) → marks ws n ≡ row → j < length row → is_marked ws j ≡ has_mark row j
 row_has ws n j row e lt = rw (← e) (sym (has-marks ws n j (omega (arith, lt, row_length ws n row e))))
 
+-- where the words get further marks below n, the row gets the same
 pub row_joined : (ws us : List ℕ) (n : ℕ) (f : ℕ → Bool) (row : List Bool) → marks ws n ≡ row → ((j : ℕ) → j < n → is_marked us j ≡ (is_marked ws j || f j)) → ((j : ℕ) → n ≤ j → f j ≡ false)
     → (j : ℕ) → has_mark (marks us n) j ≡ (has_mark row j || f j)
 row_joined ws us n f row e inside outside j =
@@ -101,9 +112,11 @@ row_joined ws us n f row e inside outside j =
       | inr less ↦ rw (has-marks us n j less.1, has-marks ws n j less.1) (inside j less.1)
     ])
 
+-- a number below n is not one from n on
 pub apart_past : (number n j : ℕ) → number < n → n ≤ j → eqb number j ≡ false
 apart_past number n j lt le = ne_eqb number j (λ e. absurd (omega (arith, e, lt, le)))
 
+-- no number from n on has a mark in the row
 pub row_past : (vs : List ℕ) (n j : ℕ) (row : List Bool) → marks vs n ≡ row → n ≤ j → has_mark row j ≡ false
 row_past vs n j row e le = rw (← e) (has-marks_past vs n j le)
 
@@ -115,6 +128,7 @@ none_marked zero j = refl
 none_marked (suc k) zero = refl
 none_marked (suc k) (suc j) = none_marked k j
 
+-- a row of words that are zero has no mark
 pub new_row : (k n j : ℕ) → has_mark (marks (zeros k) n) j ≡ false
 new_row k n j =
     elim (leb_tells n j) [

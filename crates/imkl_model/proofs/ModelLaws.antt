@@ -42,17 +42,21 @@ same_or_cyclic : (supers : List (List ℕ)) (c d : ℕ) → IsOrReaches supers c
 same_or_cyclic supers c d (zero, h) r = inl h
 same_or_cyclic supers c d (suc n, h) r = inr (let rest = joins supers n h.0 d c h.2 r in (rest.0, (h.0, h.1, rest.1)))
 
+-- each class conforms to itself
 pub conforms_to_itself : (m : Model) → laws.ConformsToItself m
 conforms_to_itself m c = (is_or_reaches-decides (supers m) c c).1 (0, refl)
 
+-- a class that conforms to another conforms to each one that the other conforms to
 pub conforms_along : (m : Model) → laws.ConformsAlong m
 conforms_along m c d e a b =
     let first = (is_or_reaches-decides (supers m) c d).0 a in
     (is_or_reaches-decides (supers m) c e).1 (joins (supers m) first.0 c d e first.1 ((is_or_reaches-decides (supers m) d e).0 b))
 
+-- a feature of a class belongs to each class that conforms to it
 pub inherits : (m : Model) → laws.Inherits m
 inherits m c d f a b = conforms_along m c d (feature_at m f).owner a b
 
+-- no two classes conform to each other
 pub conforms_one_way : (m : Model) → IsClassModel m → laws.ConformsOneWay m
 conforms_one_way m well c d a b =
     elim (same_or_cyclic (supers m) c d ((is_or_reaches-decides (supers m) c d).0 a) ((is_or_reaches-decides (supers m) d c).0 b)) [
@@ -72,6 +76,7 @@ chain_within : (m : Model) → IsClassModel m → (n c d : ℕ) → c < length m
 chain_within m well zero c d lt h = subst (λ (x : ℕ). x < length m.classes) h lt
 chain_within m well (suc n) c d lt h = chain_within m well n h.0 d (super_within m well c h.0 lt h.1) h.2
 
+-- what a class conforms to is a class of the model
 pub conforms_within : (m : Model) → IsClassModel m → laws.ConformsWithin m
 conforms_within m well c d lt a = let chain = (is_or_reaches-decides (supers m) c d).0 a in chain_within m well chain.0 c d lt chain.1
 
@@ -109,19 +114,23 @@ numbers_of_named f none xs apart name i = (
   λ h. (numbers_of (map f xs) apart name i).1 (omega (arith, h.0, length-map xs f), get_or-map f xs i none [] h.0 ∙ h.1),
 )
 
+-- a name leads to the number of the class that has it, and a number of a class to its name
 pub classes_have_names : (m : Model) → IsClassModel m → laws.ClassesHaveNames m
 classes_have_names m well name c =
     let apart : repeats bytes_eq (class_names m) ≡ false = not_repeated (repeats bytes_eq (class_names m)) (repeats bytes_eq (type_names m)) (repeats_back (enumeration_names m) (class_names m)) well.types_differ in
     numbers_of_named (λ (k : Class). k.name) no_class m.classes apart name c
 
+-- the same of enumerations
 pub enumerations_have_names : (m : Model) → IsClassModel m → laws.EnumerationsHaveNames m
 enumerations_have_names m well name e =
     let apart : repeats bytes_eq (enumeration_names m) ≡ false = not_repeated (repeats bytes_eq (enumeration_names m)) (repeats bytes_eq (type_names m)) (repeats_front (enumeration_names m) (class_names m)) well.types_differ in
     numbers_of_named (λ (k : Enumeration). k.name) no_enumeration m.enumerations apart name e
 
+-- the same of the literals of an enumeration
 pub literals_have_names : (m : Model) → IsClassModel m → laws.LiteralsHaveNames m
 literals_have_names m well e lt name l = numbers_of (laws.literals_at m e) (well.literals_differ e no_enumeration lt) name l
 
+-- the same of the features that belong to a class
 pub features_have_names : (m : Model) → IsClassModel m → laws.FeaturesHaveNames m
 features_have_names m well name c f = (
   λ e. (found_in_range m c name (Some f) (sym e), found_belongs m c name (Some f) (sym e), found_named m c name (Some f) (sym e)),
@@ -145,6 +154,7 @@ class_in_types m c lt = omega (arith, lt, length-append (enumeration_names m) (c
 enumeration_in_types : (m : Model) (e : ℕ) → e < length m.enumerations → e < length (type_names m)
 enumeration_in_types m e lt = omega (arith, lt, length-append (enumeration_names m) (class_names m), length-map m.enumerations (λ (k : Enumeration). k.name))
 
+-- no name is that of a class and of an enumeration
 pub types_differ : (m : Model) → IsClassModel m → laws.TypesDiffer m
 types_differ m well c e lc le same =
     let one : e ≡ length (enumeration_names m) + c =
@@ -156,20 +166,24 @@ none_passes p [] e i lt = absurd (omega (arith, lt))
 none_passes p (x ∷ xs) e zero lt = (or_parts (p x) (list_any p xs) e).0
 none_passes p (x ∷ xs) e (suc i) lt = none_passes p xs (or_parts (p x) (list_any p xs) e).1 i (omega (arith, lt))
 
+-- no class and no enumeration has the name of a predefined type
 pub types_are_defined : (m : Model) → IsClassModel m → laws.TypesAreDefined m
 types_are_defined m well = (
   λ c lt. ap is_predefined (sym (type_of_class m c lt)) ∙ none_passes is_predefined (type_names m) well.types_defined (length (enumeration_names m) + c) (class_in_types m c lt),
   λ e lt. ap is_predefined (sym (type_of_enumeration m e lt)) ∙ none_passes is_predefined (type_names m) well.types_defined e (enumeration_in_types m e lt),
 )
 
+-- no two associations share a name
 pub associations_differ : (m : Model) → IsClassModel m → laws.AssociationsDiffer m
 associations_differ m well i j li lj same = one_place m.associations i j well.associations_differ li lj same
 
+-- no class has a direct superclass twice
 pub supers_differ : (m : Model) → IsClassModel m → laws.SupersDiffer m
 supers_differ m well c lt i j li lj same = stands_once nat_eq 0 (λ x y e. eq-eqb x y e) (class_at m c).supers i j (well.supers_differ c no_class lt) li lj same
 
 -- ---- names are names, and counts are within their limits
 
+-- the model's title is a title, and the names of its parts are names
 pub has_names : (m : Model) → IsClassModel m → laws.HasNames m
 has_names m well = record {
   title = well.title;
@@ -180,6 +194,7 @@ has_names m well = record {
   associations = λ i lt. well.named_associations i [] lt;
 }
 
+-- there are no more classes, enumerations, literals and features than the limits allow
 pub within_limits : (m : Model) → IsClassModel m → laws.IsWithinLimits m
 within_limits m well = record {
   classes = well.few_classes;
@@ -195,6 +210,7 @@ no_clash_at m well c f g h =
     let one : f ≡ g = well.one_feature c f g h.first h.second ((is_or_reaches-decides (supers m) c (feature_at m f).owner).1 h.first_belongs) ((is_or_reaches-decides (supers m) c (feature_at m g).owner).1 h.second_belongs) h.one_name in
     h.two_owners (ap (λ (k : ℕ). (feature_at m k).owner) one)
 
+-- no class has two features of one name and of different owners
 pub no_clash : (m : Model) → IsClassModel m → has_clash m ≡ false
 no_clash m well =
     elim (cases_Bool (has_clash m)) [
@@ -225,6 +241,7 @@ single_is : (upper : Option ℕ) → is_single upper ≡ true → upper ≡ Some
 single_is None e = absurd (false≢true e)
 single_is (Some u) e = ap (λ (n : ℕ). Some n) (eqb-true u 1 e)
 
+-- each feature has an owner, an element type and bounds that a class model allows
 pub features_are_sound : (m : Model) → IsClassModel m → laws.FeaturesAreSound m
 features_are_sound m well f lt =
     let i = feature_at m f in
@@ -238,5 +255,6 @@ features_are_sound m well f lt =
       single = λ e. well.single_values f lt (single_is i.upper e);
     }
 
+-- each source end has its opposite end right after it, and each opposite end its source end right before it
 pub ends_are_paired : (m : Model) → IsClassModel m → laws.EndsArePaired m
 ends_are_paired m well = (λ f g lt e. well.sources f g lt e, λ f g lt e. well.opposites f g lt e)

@@ -25,6 +25,7 @@ use Rattle.ocl_base.proofs.ForAbove.{each_first, each_nothing, okay, ok_is, both
 
 -- ---- names
 
+-- a test that passes only where another does fails where the other fails
 pub not_repeated : (a b : Bool) → (a ≡ true → b ≡ true) → b ≡ false → a ≡ false
 not_repeated true b f e = absurd (false≢true (sym e ∙ f refl))
 not_repeated false b f e = refl
@@ -51,6 +52,7 @@ type_parts w e =
     let q = or_parts (list_any is_predefined es) (list_any is_predefined cs) p.0 in
     (none_defined es cs q.0 q.1, p.1)
 
+-- where the check finds no name twice, the names of each sort differ
 pub differs : (w : Written) → checks.repeats_name w ≡ false → Differs w
 unfolding checks.repeats_name
 differs w e =
@@ -61,16 +63,19 @@ differs w e =
     let t = type_parts w s.0 in
     record { types = t.1; defined = t.0; literals = s.1; supers = r.1; associations = q.1; features = p.1 }
 
+-- then the enumerations' names differ
 pub enumerations_differ : (w : Written) → checks.repeats_name w ≡ false → repeats bytes_eq (checks.written_enumeration_names w) ≡ false
 enumerations_differ w e =
     not_repeated (repeats bytes_eq (checks.written_enumeration_names w)) (repeats bytes_eq (checks.written_enumeration_names w ++ checks.written_class_names w)) (repeats_front (checks.written_enumeration_names w) (checks.written_class_names w)) (differs w e).types
 
+-- then the classes' names differ
 pub classes_differ : (w : Written) → checks.repeats_name w ≡ false → repeats bytes_eq (checks.written_class_names w) ≡ false
 classes_differ w e =
     not_repeated (repeats bytes_eq (checks.written_class_names w)) (repeats bytes_eq (checks.written_enumeration_names w ++ checks.written_class_names w)) (repeats_back (checks.written_enumeration_names w) (checks.written_class_names w)) (differs w e).types
 
 -- ---- numbers of names
 
+-- the number that a name has is an index at which the name stands
 pub number_is : (names : List (List ℕ)) (name : List ℕ) (n : ℕ) → number_in names name ≡ Ok n → (n < length names) × (name ≡ get_or names n [])
 number_is names name n e =
     let p = position-Some (bytes_eq name) names n [] (found_is (position (bytes_eq name) names) faults.UnknownName n e) in
@@ -78,6 +83,7 @@ number_is names name n e =
 
 -- ---- classes
 
+-- a class that was numbered has its written name, and the numbers of its written superclasses
 pub class_is : (s : Scope) (c : WrittenClass) (k : Class) → class_in_scope s c ≡ Ok k → (k.name ≡ c.name) × (each (number_in s.classes) c.supers ≡ Ok k.supers)
 unfolding class_in_scope
 class_is s c k e =
@@ -86,16 +92,19 @@ class_is s c k e =
     let same : made ≡ k = ok_is made k p.2 in
     (ap (λ (x : Class). x.name) (sym same), p.1 ∙ ap (λ (x : Class). okay x.supers) same)
 
+-- classes that were numbered have their written names
 pub class_names_kept : (s : Scope) (cs : List WrittenClass) (ks : List Class) → each (class_in_scope s) cs ≡ Ok ks → names_of_classes ks ≡ map (λ c. c.name) cs
 class_names_kept s cs ks e = each_map (class_in_scope s) (λ k. k.name) (λ c. c.name) (λ c k h. (class_is s c k h).0) cs ks e
 
 abbrev SupersWithin : ℕ → Class → Type 0
 SupersWithin n k = All (λ d. d < n) k.supers
 
+-- the superclasses of classes that were numbered are classes of the scope
 pub supers_within : (s : Scope) (cs : List WrittenClass) (ks : List Class) → each (class_in_scope s) cs ≡ Ok ks → AllOf (SupersWithin (length s.classes)) ks
 supers_within s cs ks e =
     all_each (class_in_scope s) (SupersWithin (length s.classes)) (λ c k h. all_at (λ d. d < length s.classes) k.supers (all_each (number_in s.classes) (λ d. d < length s.classes) (λ name n g. (number_is s.classes name n g).0) c.supers k.supers (class_is s c k h).1)) cs ks e
 
+-- where each class has superclasses below n, each row of superclasses is below n
 pub rows_within : (n : ℕ) (ks : List Class) → AllOf (SupersWithin n) ks → AreWithin n (supers_in ks)
 rows_within n ks h = all_at (λ row. All (λ d. d < n) row) (supers_in ks) (all_mapped (SupersWithin n) (λ row. All (λ d. d < n) row) (λ k. k.supers) (λ k g. g) ks h)
 
@@ -126,6 +135,7 @@ numbers_differ names texts ns e apart =
 abbrev pub SupersDiffer : Class → Type 0
 SupersDiffer k = repeats nat_eq k.supers ≡ false
 
+-- where no class writes a superclass twice, none has a superclass twice once numbered
 pub supers_differ : (s : Scope) (cs : List WrittenClass) (ks : List Class) → each (class_in_scope s) cs ≡ Ok ks → list_any (λ c. repeats bytes_eq c.supers) cs ≡ false → AllOf SupersDiffer ks
 supers_differ s [] ks e apart = rw (each_nothing (class_in_scope s) ks e) tt
 supers_differ s (c ∷ cs) ks e apart =
@@ -135,6 +145,7 @@ supers_differ s (c ∷ cs) ks e apart =
 
 -- ---- enumerations
 
+-- enumerations have their written names
 pub enumeration_names_kept : (es : List WrittenEnumeration) → names_of_enumerations (map enumeration_as_written es) ≡ map (λ e. e.name) es
 enumeration_names_kept [] = refl
 enumeration_names_kept (e ∷ es) = ap (λ (l : List (List ℕ)). e.name ∷ l) (enumeration_names_kept es)

@@ -21,6 +21,7 @@ or_both : (a b c d : Bool) → (a ≡ true → c ≡ true) → (b ≡ true → d
 or_both true b c d f g e = rw (f refl) refl
 or_both false b c d f g e = or_right c d (g e)
 
+-- a name that stands twice at the front of a list, or at its back, stands twice in the whole
 pub repeats_front : (xs ys : List (List ℕ)) → repeats bytes_eq xs ≡ true → repeats bytes_eq (xs ++ ys) ≡ true
 repeats_front [] ys r = absurd (false≢true r)
 repeats_front (x ∷ xs) ys r = or_both (is_among bytes_eq xs x) (repeats bytes_eq xs) (is_among bytes_eq (xs ++ ys) x) (repeats bytes_eq (xs ++ ys)) (among_front xs ys x) (repeats_front xs ys) r
@@ -40,5 +41,6 @@ again_at {X} f old xs i x lt is there =
 
 -- ---- names that differ have one place each
 
+-- where no name stands twice, a name stands at one index
 pub one_place : (xs : List (List ℕ)) (i j : ℕ) → repeats bytes_eq xs ≡ false → i < length xs → j < length xs → get_or xs i [] ≡ get_or xs j [] → i ≡ j
 one_place xs i j apart li lj e = stands_once bytes_eq [] (λ x y. (bytes_eq-Decides x y).1) xs i j apart li lj e

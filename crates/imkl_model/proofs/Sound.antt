@@ -50,6 +50,7 @@ pub record Made (w : Written) (m : Model) : Type 0 where
   pub associations : m.associations ≡ checks.written_association_names w
   pub name : m.name ≡ w.name
 
+-- a class model that was numbered has these parts
 pub made_of : (w : Written) (m : Model) → numbered_model w ≡ Ok m → Made w m
 unfolding numbered_model
 made_of w m e =
@@ -264,6 +265,7 @@ module _ (w : Written) (m : Model) (limits : checks.is_within_limits w ≡ true)
 names_of : {X : Type 0} (P : X → Type 0) (f : X → List ℕ) (xs : List X) → ((x : X) → P x → IsModelName (f x)) → All P xs → AllOf IsModelName (map f xs)
 names_of P f xs step h = all_mapped P IsModelName f step xs (from_all P xs h)
 
+-- a model that was numbered, without a cycle or a clash and with its multiplicities in order, is a class model
 pub well_formed : (m : Model) → IsNumbered m → chains.is_cyclic (supers m) ≡ false → has_clash m ≡ false → list_all checks.has_multiplicity m.features ≡ true → IsClassModel m
 well_formed m n acyclic free bounds =
     let w = n.written in

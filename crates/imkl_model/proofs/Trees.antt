@@ -6,10 +6,12 @@ use Rattle.serde_json.specs.View.{view, items_view, members_view}
 use Rattle.serde_json.specs.declared.value.Value.{Value}
 use Rattle.imkl_model.specs.Json.{elements_of}
 
+-- the tree of a JSON object has as many members as the object has entries
 pub members_len-view : (es : List (String Global × Value)) → members_len (members_view es) ≡ length es
 members_len-view [] = refl
 members_len-view (e ∷ es) = ap suc (members_len-view es)
 
+-- the elements of a list's tree are the trees of its values
 pub elements_of-view : (vs : List Value) → elements_of (items_view vs) ≡ map view vs
 elements_of-view [] = refl
 elements_of-view (v ∷ vs) = ap (λ (ds : List _). view v ∷ ds) (elements_of-view vs)

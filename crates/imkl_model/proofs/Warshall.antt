@@ -12,11 +12,13 @@ lt_or_le a b = elim (leb_tells b a) [ inl h ↦ inr h.1 | inr h ↦ inl h.1 ]
 
 -- ---- a class with a superclass is in range
 
+-- past the end of a list stands the default
 pub row_at : {X : Type 0} (xs : List X) (d : X) (i : ℕ) → (length xs ≤ i → get_or xs i d ≡ d)
 row_at [] d i le = refl
 row_at (x ∷ xs) d zero le = absurd (omega (arith, le))
 row_at (x ∷ xs) d (suc i) le = row_at xs d i (omega (arith, le))
 
+-- a class with a direct superclass is one of the classes
 pub in_range : (supers : List (List ℕ)) (c d : ℕ) → is_super supers c d ≡ true → c < length supers
 in_range supers c d h =
     elim (lt_or_le c (length supers)) [ inl lt ↦ lt | inr le ↦ absurd (false≢true (ap (list_any (λ e. eqb e d)) (sym (row_at supers [] c le)) ∙ h)) ]
@@ -70,6 +72,7 @@ sound supers (suc k) c d h =
           join supers x.0 y.0 c k d x.1 y.1
     ]
 
+-- the test `reaches` decides whether a class reaches another
 pub reaches-decides : (supers : List (List ℕ)) (c d : ℕ) → Decides (reaches supers c d) (Reaches supers c d)
 reaches-decides supers c d = (λ h. sound supers (length supers) c d h, λ h. complete supers h.0 c d h.1)
 
@@ -81,6 +84,7 @@ of_chain : (supers : List (List ℕ)) (n c d : ℕ) → Chain supers n c d → (
 of_chain supers zero c d h = inl h
 of_chain supers (suc n) c d h = inr (n, h)
 
+-- the test `is_or_reaches` decides whether a class is another or reaches it: whether it conforms to it
 pub is_or_reaches-decides : (supers : List (List ℕ)) (c d : ℕ) → Decides (is_or_reaches supers c d) (IsOrReaches supers c d)
 is_or_reaches-decides supers c d =
     Decides-like (is_or_reaches supers c d) (chain_of supers c d) (λ h. of_chain supers h.0 c d h.1) (Decides-or (eqb c d) (reaches supers c d) (Decides-eqb c d) (reaches-decides supers c d))

@@ -9,6 +9,7 @@ use crate::numbers::ClassNo;
 #[derive(Drop)]
 pub struct Enumeration {
     pub name: Name,
+    /// The names of its literals. A literal's number is the index of its name here.
     pub literals: Names,
 }
 
@@ -16,6 +17,8 @@ pub struct Enumeration {
 #[derive(Drop)]
 pub struct Class {
     pub name: Name,
+    /// Whether no object is directly of it.
     pub is_abstract: bool,
+    /// The numbers of its direct superclasses.
     pub supers: Items<ClassNo>,
 }

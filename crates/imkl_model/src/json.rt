@@ -19,7 +19,8 @@ pub enum JsonFault {
     OutOfMemory,
 }
 
-/// The JSON tree of some bytes. The one place where the bytes of an input become JSON.
+/// The JSON tree of some bytes. The one place where the bytes of an input become JSON. The error is `NotJson` where the
+/// bytes are no JSON text, and `OutOfMemory` where memory ran out, whatever the bytes are.
 pub fn tree(alloc: Global, bytes: &[u8]) -> Result<Value, JsonFault>
     ensures tree { IfOk result (λ v. IsTree bytes.now (view v)) }
     ensures fault { IfErr result (λ e. IsJsonFault e bytes.now) }

@@ -27,7 +27,9 @@ use std::alloc::{AllocError, Global};
 /// The names of a class model's classes and enumerations.
 #[derive(Drop)]
 pub struct Scope {
+    /// The names of the classes. A class's number is the index of its name here.
     pub classes: Names,
+    /// The names of the enumerations. An enumeration's number is the index of its name here.
     pub enumerations: Names,
 }
 

@@ -8,10 +8,15 @@ use crate::name::Name;
 #[derive(Debug, Drop)]
 pub struct WrittenAttribute {
     pub name: Name,
+    /// The name of its type: a predefined one, or an enumeration's.
     pub element: Name,
+    /// The least number of values.
     pub lower: u32,
+    /// The greatest number of values, if there is one.
     pub upper: Option<u32>,
+    /// Whether its values have an order. Ignored where the upper bound is 1.
     pub ordered: bool,
+    /// Whether no value may stand twice. Ignored where the upper bound is 1.
     pub unique: bool,
 }
 
@@ -19,8 +24,11 @@ pub struct WrittenAttribute {
 #[derive(Debug, Drop)]
 pub struct WrittenClass {
     pub name: Name,
+    /// Whether no object is directly of it.
     pub is_abstract: bool,
+    /// The names of its direct superclasses.
     pub supers: Items<Name>,
+    /// The attributes that it owns itself.
     pub attributes: Items<WrittenAttribute>,
 }
 
@@ -28,6 +36,7 @@ pub struct WrittenClass {
 #[derive(Debug, Drop)]
 pub struct WrittenEnumeration {
     pub name: Name,
+    /// The names of its literals.
     pub literals: Items<Name>,
 }
 
@@ -35,8 +44,11 @@ pub struct WrittenEnumeration {
 #[derive(Debug, Drop)]
 pub struct WrittenEnd {
     pub name: Name,
+    /// The least number of objects that it holds.
     pub lower: u32,
+    /// The greatest number of objects that it holds, if there is one.
     pub upper: Option<u32>,
+    /// Whether its objects have an order. Ignored where the upper bound is 1.
     pub ordered: bool,
 }
 
@@ -44,15 +56,20 @@ pub struct WrittenEnd {
 #[derive(Debug, Drop)]
 pub struct WrittenAssociation {
     pub name: Name,
+    /// The name of the class that owns `end`.
     pub from: Name,
+    /// The name of the class that owns `opposite`.
     pub to: Name,
+    /// The source end: it holds objects of `to`, and a delivery writes it.
     pub end: WrittenEnd,
+    /// The opposite end: it holds objects of `from`, and follows from the source ends.
     pub opposite: WrittenEnd,
 }
 
 /// A class model.
 #[derive(Debug, Drop)]
 pub struct Written {
+    /// The class model's own name.
     pub name: Name,
     pub enumerations: Items<WrittenEnumeration>,
     pub classes: Items<WrittenClass>,
@@ -62,12 +79,19 @@ pub struct Written {
 /// A feature with names for its owner and its type: an attribute, or an end of an association.
 #[derive(Debug, Drop)]
 pub struct WrittenFeature {
+    /// The name of the class that owns it.
     pub owner: Name,
     pub name: Name,
+    /// The name of its type; for an end, of the class whose objects it holds.
     pub element: Name,
+    /// The least number of elements.
     pub lower: u32,
+    /// The greatest number of elements, if there is one.
     pub upper: Option<u32>,
+    /// Whether its elements have an order. Ignored where the upper bound is 1.
     pub ordered: bool,
+    /// Whether nothing may stand in it twice; so it is for each end. Ignored where the upper bound is 1.
     pub unique: bool,
+    /// Attribute or association end.
     pub role: Role,
 }

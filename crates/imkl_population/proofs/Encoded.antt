@@ -20,9 +20,11 @@ bytes_eq-encoded t u p q =
 pub encoded : (bs t : List ℕ) → IsUtf8 bs → chars bs ≡ t → encode_utf8_all t ≡ bs
 encoded bs t utf8 e = ap encode_utf8_all (sym e) ∙ encodes-chars bs utf8
 
+-- the characters of a text of the program can be encoded
 pub encodable : (bs t : List ℕ) → IsUtf8 bs → chars bs ≡ t → all_scalars t ≡ true
 encodable bs t utf8 e = ap all_scalars (sym e) ∙ scalars-chars bs utf8
 
+-- numbers compare equal where the test finds them equal
 pub is_eq-nat_cmp : (m n : ℕ) → is_eq (nat_cmp m n) ≡ eqb n m
 is_eq-nat_cmp m n =
     elim (cases_order m n) [

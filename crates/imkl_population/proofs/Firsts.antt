@@ -8,6 +8,7 @@ use Rattle.ocl_base.specs.Numbers.{places}
 use Rattle.imkl_population.specs.Numbers.{first_below}
 use Rattle.imkl_population.specs.Order.{first_in}
 
+-- something at a number with nothing before it is the first below each greater number
 pub first_of-found : {A : Type 0} (g : ℕ → Option A) (n k : ℕ) (a : A) → k < n → first_below g k ≡ None → g k ≡ Some a → first_below g n ≡ Some a
 first_of-found g zero k a lt none found = absurd (omega arith)
 first_of-found g (suc n) k a lt none found =

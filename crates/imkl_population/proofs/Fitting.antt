@@ -60,6 +60,7 @@ longest_among p f (o ∷ os) = max (length (values_of p o f)) (longest_among p f
 longer_of : (a b c : ℕ) → max a (max b c) ≡ max (max a b) c
 longer_of a b c = omega arith
 
+-- the greatest length over objects and one more, which stands at the end
 pub among-push : (p : Population) (f : ℕ) (os : List ℕ) (o : ℕ) → longest_among p f (os ++ o ∷ []) ≡ max (longest_among p f os) (length (values_of p o f))
 among-push p f [] o = max-zero (length (values_of p o f)) ∙ sym (zero-max (length (values_of p o f)))
 among-push p f (x ∷ os) o = ap (max (length (values_of p x f))) (among-push p f os o) ∙ longer_of (length (values_of p x f)) (longest_among p f os) (length (values_of p o f))

@@ -24,6 +24,7 @@ held_all_by : (test : ℕ → Bool) (holder o t : ℕ) (vs : List Scalar) (b : B
 held_all_by test holder o t vs true e h later = rw (held_step true holder o t vs e) (and_from (test holder) (list_all test (held_by holder o vs)) h later)
 held_all_by test holder o t vs false e h later = rw (held_step false holder o t vs e) later
 
+-- each holder that the targets of one object give passes a test that this object passes
 pub held_all : (test : ℕ → Bool) (holder o : ℕ) (vs : List Scalar) → test holder ≡ true → list_all test (held_by holder o vs) ≡ true
 held_all test holder o [] h = refl
 held_all test holder o (scalar.Object t ∷ vs) h = held_all_by test holder o t vs (t == o) refl h (held_all test holder o vs h)

@@ -60,6 +60,7 @@ nothing_from a (suc m) = nothing_from (suc a) m
 abbrev pub IsBelow : ℕ → Map → Type 0
 IsBelow n w = (o : ℕ) → n ≤ o → lookup (is_at (nat_cmp o)) w ≡ None
 
+-- where nothing is at a key from n on, the first entry is below n
 pub below_here : (e : ℕ × List Scalar) (w : Map) (n : ℕ) → IsBelow n (e ∷ w) → n ≤ e.0 → ⊥
 below_here e w n below le =
     let here : lookup (is_at (nat_cmp e.0)) (e ∷ w) ≡ Some e.1 = rw (is_eq-nat_cmp e.0 e.0, eq-eqb e.0 e.0 refl) refl in
@@ -70,11 +71,13 @@ later_none : (b : Bool) (vs : List Scalar) (r : Option (List Scalar)) → cond b
 later_none true vs r h = absurd (let bad : Some vs ≡ None = h in cc)
 later_none false vs r h = h
 
+-- where nothing is at a key from n on, nothing is there among the later entries either
 pub below_later : (e : ℕ × List Scalar) (w : Map) (n : ℕ) → IsBelow n (e ∷ w) → IsBelow n w
 below_later e w n below o le =
     let b : Bool = e.0 == o in
     later_none b e.1 (lookup (is_at (nat_cmp o)) w) (rw (is_eq-nat_cmp o e.0) at (below o le))
 
+-- keys that come after a in order are at least a + 1
 pub above : (w : Map) (a : ℕ) → AllByRecursion (λ k. nat_cmp a k ≡ Less) (keys_of w) → AllByRecursion (λ k. suc a ≤ k) (keys_of w)
 above w a h = weaker (λ k. nat_cmp a k ≡ Less) (λ k. suc a ≤ k) (λ k c. omega (arith, less_is a k c)) (keys_of w) h
 

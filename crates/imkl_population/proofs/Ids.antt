@@ -48,6 +48,7 @@ differs_at : (b : Bool) (n : ℕ) (r : Option ℕ) → (if b then Some n else r)
 differs_at true n r h = cc
 differs_at false n r h = (refl, h)
 
+-- an id that leads to no object differs from the id of each object
 pub absent_differs : (n : ℕ) (os : List Object) (q : List ℕ) (k : ℕ) → object_number_in n os q ≡ None → k < length os → bytes_eq (get_or os k no_object).id q ≡ false
 absent_differs n [] q k none lt = absurd (omega arith)
 absent_differs n (o ∷ os) q zero none lt = nat_list_eq_equiv.symm o.id q ∙ (differs_at (bytes_eq q o.id) n (object_number_in (suc n) os q) none).0

@@ -20,6 +20,7 @@ use Rattle.imkl_population.proofs.Rows.{length-rows, rows-at, row-written}
 pub content-is : {a b : FinishedPopulation} → a ≡ b → a.content ≡ b.content
 content-is e = ap (λ (p : FinishedPopulation). p.content) e
 
+-- as many objects as heads
 pub length-objects_of : (hs : List Head) (ws : List (List (ℕ × List Scalar))) → length (objects_of hs ws) ≡ length hs
 length-objects_of [] ws = refl
 length-objects_of (h ∷ hs) ws = ap suc (length-objects_of hs (drop 1 ws))
@@ -53,6 +54,7 @@ Maps = List (List (ℕ × List Scalar))
 
 -- ---- the objects of columns
 
+-- a population of columns has as many objects as heads
 pub length-content : (m : Model) (hs : List Head) (maps : Maps) → length (stored_content m hs maps).objects ≡ length hs
 length-content m hs maps = length-objects_of hs (rows maps (length hs))
 
@@ -131,5 +133,6 @@ rows-same : (old new : Maps) (n : ℕ) → ((k : ℕ) → object_row new k ≡ o
 rows-same old new zero same = refl
 rows-same old new (suc n) same = rw (rows-same old new n same, same n) refl
 
+-- columns with the same rows show the same population
 pub content-same : (m : Model) (hs : List Head) (old new : Maps) → ((k : ℕ) → object_row new k ≡ object_row old k) → stored_content m hs new ≡ stored_content m hs old
 content-same m hs old new same = rw (rows-same old new (length hs) same) refl

@@ -82,6 +82,7 @@ open-tests true None true full none = cc
 open-tests true None false true none = cc
 open-tests true None false false none = (refl, refl, refl, refl)
 
+-- where adding an object has no fault, its id is well formed and new, its class is concrete, and there is room
 pub object-open : (p : Population) (id : List ℕ) (c : ℕ) → object_fault p id c ≡ None → IsOpen p id c
 object-open p id c none =
     let tests = open-tests (is_id id) (object_number p id) (class_at p.model c).is_abstract (nat_le most_objects (length p.objects)) none in

@@ -50,6 +50,7 @@ sorted_by : (p : ℕ → Bool) (n : ℕ) (b : Bool) → IsStrictlySortedBy nat_c
 sorted_by p n true sorted = push_sorted (places p n) n sorted (places-below p n)
 sorted_by p n false sorted = subst (IsStrictlySortedBy nat_cmp) (sym (append-nil (places p n))) sorted
 
+-- the places that pass a test ascend
 pub places-sorted : (p : ℕ → Bool) (n : ℕ) → IsStrictlySortedBy nat_cmp (places p n)
 unfolding IsStrictlySortedBy
 places-sorted p zero = tt
@@ -99,6 +100,7 @@ eqb_laws = record {
   congr = λ x y z h. rw (eqb-true x y h) refl;
 }
 
+-- a number that the test finds in a list stands in it
 pub one_of-contains : (xs : List ℕ) (f : ℕ) → is_one_of xs f ≡ true → Contains xs f
 one_of-contains xs f h = Contains-from_any eqb-true f xs h
 

@@ -57,6 +57,7 @@ all_objects p t (v ∷ vs) h =
     let object = target_is p t v parts.0 in
     rw object.1 (ap (λ (l : List Scalar). scalar.Object object.0 ∷ l) (all_objects p t vs parts.1))
 
+-- in a consistent population the values at a source end are the targets of the pairs from the object
 pub source_is : (p : Population) (source g o : ℕ) → IsConsistent p → (feature_at p.model source).role ≡ SourceEnd g → o < length p.objects → values_of p o source ≡ as_objects (source_end p source o)
 source_is p source g o consistent role there =
     let written : values_of p o source ≡ written_at p o source = rw role refl in

@@ -64,11 +64,13 @@ entries-more xs ys (e ∷ es) h =
     let rest = entries-more xs ys es (All-tail (IsEntry (length xs)) e es h) in
     rw (slice_range-more xs ys e.start e.end here.0 here.1, rest) refl
 
+-- entries within n values are within more values
 pub within-more : (n m : ℕ) (es : List Entry) → n ≤ m → All (IsEntry n) es → All (IsEntry m) es
 within-more n m es le h = All-weaker (IsEntry n) (IsEntry m) (λ e k. (k.0, omega (arith, k.1))) es h
 
 -- ---- an entry is put
 
+-- what a comparison of two numbers says, and when it says it: less, equal and greater
 pub less_is : (m n : ℕ) → nat_cmp m n ≡ Less → m < n
 less_is m n e = ranked m n Less (sym e)
 
@@ -113,6 +115,7 @@ objects-put : (P : ℕ → Type 0) (es : List Entry) (x : Entry) → AllByRecurs
 objects-put P [] x h here = (here, tt)
 objects-put P (e ∷ es) x h here = above_by P (nat_cmp x.object e.object) e x es (put_entry es x) h here (objects-put P es x h.1 here)
 
+-- a property that follows from one that each key has, each key has too
 pub weaker : {K : Type 0} (P Q : K → Type 0) → ((k : K) → P k → Q k) → (ks : List K) → AllByRecursion P ks → AllByRecursion Q ks
 weaker P Q f [] h = tt
 weaker P Q f (k ∷ ks) h = (f k h.0, weaker P Q f ks h.1)
@@ -295,10 +298,12 @@ pub on_either : {X E A B C : Type 0} (r : Result X E) → OnOk r A → OnErr r B
 on_either (Ok x) a b f g = f a
 on_either (Err e) a b f g = g b
 
+-- what follows where a call succeeded
 pub on_ok : {X E A C : Type 0} (r : Result X E) → OnOk r A → (A → C) → OnOk r C
 on_ok (Ok x) a f = f a
 on_ok (Err e) a f = tt
 
+-- what follows where a call failed
 pub on_err : {X E A C : Type 0} (r : Result X E) → OnErr r A → (A → C) → OnErr r C
 on_err (Ok x) a f = tt
 on_err (Err e) a f = f a

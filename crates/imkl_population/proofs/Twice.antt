@@ -19,6 +19,7 @@ same_truth true false = refl
 same_truth false true = refl
 same_truth false false = refl
 
+-- whether two values are the same goes either way
 pub same_scalar-sym : (v w : Scalar) → same_scalar v w ≡ same_scalar w v
 same_scalar-sym (scalar.Bool a) (scalar.Bool b) = same_truth a b
 same_scalar-sym (scalar.Int a) (scalar.Int b) = int_eq_equiv.symm a b
@@ -52,6 +53,7 @@ few_are_apart [] few = refl
 few_are_apart (v ∷ []) few = refl
 few_are_apart (v ∷ w ∷ vs) few = absurd (omega (arith, few))
 
+-- where a value stands among those before it, the values have one twice
 pub again : (xs : List Scalar) (i : ℕ) (y d : Scalar) → i < length xs → y ≡ get_or xs i d → is_value_among (take i xs) y ≡ true → repeats_value xs ≡ true
 again xs i y d lt is a =
     let whole : xs ≡ take i xs ++ y ∷ drop (suc i) xs = sym (take-append-drop i xs) ∙ rw (drop-cons xs i d lt, ← is) refl in
@@ -62,6 +64,7 @@ pub absent_of : (f b a : Bool) → f ≡ not b → f ≡ true → b ≡ a → a 
 absent_of f true a e t s = absurd (false≢true (sym e ∙ t))
 absent_of f false a e t s = sym s
 
+-- a value that isn't new to the earlier ones
 pub there_of : (f b a : Bool) → f ≡ not b → f ≡ false → b ≡ a → a ≡ true
 there_of f true a e t s = sym s
 there_of f false a e t s = absurd (false≢true (sym t ∙ e))

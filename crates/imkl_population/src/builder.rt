@@ -69,7 +69,7 @@ impl<'m> PopulationBuilder<'m> {
     }
 
     /// A builder of a population of this class model, without objects, and with room for so many. Up to then
-    /// they are added without moving what was added before.
+    /// they are added without moving what was added before. An error means that memory ran out.
     pub fn with_capacity(
         alloc: Global,
         model: &'m ClassModel,

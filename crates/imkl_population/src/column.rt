@@ -265,7 +265,8 @@ impl Column {
     /// The first object that has more values than an upper bound, if there is one, or an earlier
     /// object.
     pub(crate) fn first_over(&self, upper: Option<u32>) -> usize
-        ensures { (o : ℕ) → o < result → is_over upper (length (written_in (map_of self.now) o)) ≡ false }
+        ensures { (o : ℕ) → o < result
+            → is_over upper (length (written_in (map_of self.now) o)) ≡ false }
     {
         let mut first = usize::MAX;
         for entry in self.entries.as_slice() {

@@ -129,7 +129,7 @@ impl<'m> Population<'m> {
     }
 
     /// The sizes of the population: how many objects each class has, and how long the values of
-    /// each attribute without upper bound are.
+    /// each attribute without upper bound are. An error means that memory ran out.
     pub fn sizes(&self, alloc: Global) -> Result<Sizes<'m>, AllocError>
         ensures { IfOk result (λ s. s ≡ sizes_of self.now.content) }
     {

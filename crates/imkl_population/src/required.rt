@@ -149,7 +149,8 @@ impl<'m> RequiredFeatures<'m> {
         Ok(())
     }
 
-    /// Some features and those that a class requires, each once, in the model's order.
+    /// Some features and those that a class requires, each once, in the model's order. An error means that memory ran
+    /// out.
     pub fn with_required(
         &mut self,
         class: ClassNo,

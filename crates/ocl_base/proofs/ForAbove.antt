@@ -48,6 +48,7 @@ each_first f x xs ys e =
     let q = both_steps (each f xs) (λ zs. Ok (p.0 ∷ zs)) ys p.2 in
     (p.0, q.0, p.1, q.1, sym (ok_is (p.0 ∷ q.0) ys q.2))
 
+-- of no elements, no values
 pub each_nothing : {X A E : Type 0} (f : X → Result A E) (ys : List A) → each f [] ≡ Ok ys → ys ≡ []
 unfolding each
 each_nothing f ys e = sym (ok_is [] ys e)
@@ -76,19 +77,23 @@ abbrev pub AllOf : {X : Type 0} → (X → Type 0) → List X → Type 0
 AllOf P [] = Unit {0}
 AllOf P (x ∷ xs) = P x × AllOf P xs
 
+-- what holds of each element holds of the one at an index
 pub all_at : {X : Type 0} (P : X → Type 0) (xs : List X) → AllOf P xs → (i : ℕ) (d : X) → i < length xs → P (get_or xs i d)
 all_at P [] h i d lt = absurd (omega (arith, lt))
 all_at P (x ∷ xs) h zero d lt = h.0
 all_at P (x ∷ xs) h (suc i) d lt = all_at P xs h.1 i d (omega (arith, lt))
 
+-- what holds of the element at each index holds of each element
 pub from_all : {X : Type 0} (P : X → Type 0) (xs : List X) → All P xs → AllOf P xs
 from_all P [] h = tt
 from_all P (x ∷ xs) h = (h 0 x (omega arith), from_all P xs (λ k d lt. h (suc k) d (omega (arith, lt))))
 
+-- what holds of each element of two lists holds of each element of the two joined
 pub all_joined : {X : Type 0} (P : X → Type 0) (xs ys : List X) → AllOf P xs → AllOf P ys → AllOf P (xs ++ ys)
 all_joined P [] ys h g = g
 all_joined P (x ∷ xs) ys h g = (h.0, all_joined P xs ys h.1 g)
 
+-- where each element has one property, what is made of each has the property that follows from it
 pub all_mapped : {X Y : Type 0} (P : X → Type 0) (Q : Y → Type 0) (f : X → Y) → ((x : X) → P x → Q (f x)) → (xs : List X) → AllOf P xs → AllOf Q (map f xs)
 all_mapped P Q f step [] h = tt
 all_mapped P Q f step (x ∷ xs) h = (step x h.0, all_mapped P Q f step xs h.1)
@@ -157,6 +162,7 @@ means_whole never r f h = absurd h
 pub fails_whole : {E A B F : Type 0} (meaning : E → FaultMeaning F) (e : E) (r : Result A F) (f : A → Result B F) (total : Result B F) → (r >>= f) ≡ total → Fails meaning e r → Fails meaning e total
 fails_whole meaning e r f total is h = let P : Result _ _ → Type 0 = λ q. Means (meaning e) q in subst P is (means_whole (meaning e) r f h)
 
+-- a fault of a step is the fault of an equal step
 pub fails_along : {E A F : Type 0} (meaning : E → FaultMeaning F) (e : E) (r s : Result A F) → r ≡ s → Fails meaning e r → Fails meaning e s
 fails_along meaning e r s same h = let P : Result _ _ → Type 0 = λ q. Means (meaning e) q in subst P same h
 
@@ -171,6 +177,7 @@ one_more {A} front (Ok x) (Ok xs) = ap (λ (ys : List A). Ok ys) (simp append_as
 one_more front (Ok x) (Err e) = refl
 one_more front (Err e) read = refl
 
+-- where nothing was read before, what is still read is the whole
 pub none_before : {A E : Type 0} (read : Result (List A) E) → with_front [] read ≡ read
 none_before (Ok xs) = refl
 none_before (Err e) = refl
@@ -190,19 +197,22 @@ pub next_plain : {V A E : Type 0} (f : V → Result A E) (front : List A) (vs : 
     → i < length vs → v ≡ get_or vs i v → with_front front (each f (drop i vs)) ≡ total → (f v >>= λ x. with_front (front ++ x ∷ []) (each f (drop (i + 1) vs))) ≡ total
 next_plain f front vs i v total lt is so_far = first_is f front (drop i vs) total so_far v (drop (i + 1) vs) (rw (add-one, drop-cons vs i v, ← is) refl)
 
+-- the next element was read: its value joins what was read before
 pub goes_on_plain : {V A E : Type 0} (f : V → Result A E) (front : List A) (vs : List V) (i : ℕ) (v : V) (x : A) (total : Result (List A) E)
     → i < length vs → v ≡ get_or vs i v → f v ≡ Ok x → with_front front (each f (drop i vs)) ≡ total → with_front (front ++ x ∷ []) (each f (drop (i + 1) vs)) ≡ total
 goes_on_plain f front vs i v x total lt is h so_far = rw h at (next_plain f front vs i v total lt is so_far)
 
+-- nothing is left: what was read before is the whole
 pub is_done_plain : {V A E : Type 0} (f : V → Result A E) (front : List A) (vs : List V) (i : ℕ) (total : Result (List A) E)
     → length vs ≤ i → with_front front (each f (drop i vs)) ≡ total → total ≡ Ok front
 is_done_plain f front vs i total le so_far = none_is f front (drop i vs) total so_far (drop_of_length-le vs le)
 
+-- the next element's fault is the fault of the whole
 pub ends_plain : {V A E F : Type 0} (meaning : E → FaultMeaning F) (f : V → Result A F) (e : E) (front : List A) (vs : List V) (i : ℕ) (v : V) (total : Result (List A) F)
     → i < length vs → v ≡ get_or vs i v → Fails meaning e (f v) → with_front front (each f (drop i vs)) ≡ total → Fails meaning e total
 ends_plain meaning f e front vs i v total lt is h so_far = fails_whole meaning e (f v) _ total (next_plain f front vs i v total lt is so_far) h
 
--- the same of a list seen by a view
+-- the same four of a list whose elements are seen by a view
 pub next : {V D A E : Type 0} (f : D → Result A E) (view : V → D) (front : List A) (vs : List V) (i : ℕ) (v : V) (total : Result (List A) E)
     → i < length vs → v ≡ get_or vs i v → with_front front (each f (map view (drop i vs))) ≡ total → (f (view v) >>= λ x. with_front (front ++ x ∷ []) (each f (map view (drop (i + 1) vs)))) ≡ total
 next f view front vs i v total lt is so_far =

@@ -14,7 +14,7 @@ pub record CompiledRules : Type 0 where
   pub rules : List CheckedRule
   pub unit : Content
 
--- the text has a flaw, a rule has a wrong type, or a rule passes a limit
+-- the text has a flaw, the types of a rule are at fault, or a rule passes a limit
 pub data TextRefusal : Type 0 where
   InText : (fault : TextFaultAt) → TextRefusal
   InTypes : (fault : RulesFaultAt) → TextRefusal

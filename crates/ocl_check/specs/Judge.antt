@@ -10,7 +10,7 @@ use Rattle.ocl_check.specs.Reply.{Answer, refused_cost}
 use Rattle.ocl_check.specs.CodeRules.{code_file_answer}
 use Rattle.ocl_check.specs.ThreeInputs.{inputs_answer}
 
--- 0 where every rule holds for each object of its context class, 1 where an object fails or is undecided
+-- 0 where every rule holds for each object of its context class, 1 where a rule fails or is undecided for one
 abbrev pub status_by : ℕ → ℕ
 status_by zero = 0
 status_by (suc n) = 1

@@ -29,7 +29,7 @@ pub(crate) enum TextRulesFault {
         /// Where, in bytes from 0.
         offset: usize,
     },
-    /// A rule has a wrong type, at a byte of the text.
+    /// The types of a rule are at fault, at a byte of the text.
     Types {
         /// What is wrong with it.
         flaw: TypeFlaw,

@@ -68,7 +68,8 @@ fn read_whole<R: Read>(
         (R.remaining source.new.reader.now) (limit + 1) }
     ensures reads { source.new.reads ≤ limit + 1 }
     ensures read_fault { result ≡ Err fault.Read → (source.new.has_failed ≡ true)
-        ⊎ (ConsumesMore (R.remaining source.old.reader.now) (R.remaining source.new.reader.now) limit
+        ⊎ (ConsumesMore (R.remaining source.old.reader.now)
+        (R.remaining source.new.reader.now) limit
         ⊎ (source.new.reads ≡ limit + 1)) }
     ensures same_reader { source.new.reader.ghost_name ≡ source.old.reader.ghost_name }
     ensures memory { result ≡ Err fault.OutOfMemory → source.new.has_failed ≡ false }
@@ -93,8 +94,9 @@ fn read_whole<R: Read>(
     Err(InputFault::Read)
 }
 
-/// All bytes of a reader, at most `limit`. Whatever the answer is, at most `limit + 1` bytes were read; the reads are
-/// counted by `read_whole`.
+/// All bytes of a reader, at most `limit`, which is below 2^63. `InputFault::Read`: a read failed, or there are more
+/// bytes; `InputFault::OutOfMemory`: there is no memory for them. Whatever the answer is, at most `limit + 1` bytes were
+/// read, by at most `limit + 1` reads.
 pub fn read_input<R: Read>(alloc: Global, reader: &mut R, limit: u64) -> Result<Vec<u8>, InputFault>
     requires { limit < 2 ^ 63 }
     ensures bytes { IfOk result (λ v. Consumes (R.remaining reader.old)

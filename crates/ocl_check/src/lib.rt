@@ -11,7 +11,7 @@ mod text_reading;
 
 pub use commands::bound::run_bound;
 pub use commands::compile::run_compile;
-pub use commands::judge::{JudgeOptions, MOST_STEPS, RulesForm, run_judge};
+pub use commands::judge::{JudgeOptions, MAX_BUDGET, RulesForm, run_judge};
 pub use commands::verify::run_verify;
 pub use input::{InputFault, read_input};
 pub use outcome::{Cause, Outcome};

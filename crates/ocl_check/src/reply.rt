@@ -9,8 +9,9 @@ ghost use Rattle.ocl_check.specs.TextParts.{text_rules_fault, IsRefusedAs};
 use crate::compiled_rules::TextRulesFault;
 use imkl_delivery::DeliveryFault;
 use imkl_model::ModelFault;
+use rule_code::CodeFlaw;
 use rule_machine::OutOfMemory;
-use rule_verify::Flaw;
+use rule_verify::VerifyFlaw;
 use std::alloc::{AllocError, Global};
 
 /// The status of a command whose input is refused.
@@ -101,7 +102,7 @@ pub(crate) fn refused_text(alloc: Global, fault: TextRulesFault) -> Result<Reply
 /// The reply to a code file that is refused at a byte.
 pub(crate) fn refused_code(
     alloc: Global,
-    flaw: rule_code::Flaw,
+    flaw: CodeFlaw,
     offset: usize,
 ) -> Result<Reply, OutOfMemory>
     ensures { IfOk result (λ r. said r ≡ refused_code (record { flaw = flaw; offset = offset })) }
@@ -116,7 +117,7 @@ pub(crate) fn refused_code(
 /// The reply to code that is not accepted, at an instruction of a rule.
 pub(crate) fn refused_verify(
     alloc: Global,
-    flaw: Flaw,
+    flaw: VerifyFlaw,
     rule: usize,
     at: usize,
 ) -> Result<Reply, OutOfMemory>

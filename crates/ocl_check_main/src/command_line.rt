@@ -2,7 +2,7 @@
 
 use crate::help;
 use clap::{Arg, ArgAction, ArgMatches, Command, Error, value_parser};
-use ocl_check::{JudgeOptions, MOST_STEPS, RulesForm};
+use ocl_check::{JudgeOptions, MAX_BUDGET, RulesForm};
 use std::alloc::{AllocError, Global};
 
 /// The files that `judge` and `bound` name.
@@ -154,13 +154,13 @@ fn rule_files<'a>(matches: Option<&ArgMatches<'a>>, rules: &str) -> RuleFiles<'a
     }
 }
 
-/// The options of `judge`. Without `--budget` the budget is `MOST_STEPS`; without `--text` the rules are a
+/// The options of `judge`. Without `--budget` the budget is `MAX_BUDGET`; without `--text` the rules are a
 /// code file.
 fn options(matches: Option<&ArgMatches<'_>>) -> JudgeOptions {
     let Some(matches) = matches else {
         return JudgeOptions {
             form: RulesForm::Code,
-            budget: MOST_STEPS,
+            budget: MAX_BUDGET,
         };
     };
     JudgeOptions {
@@ -169,7 +169,7 @@ fn options(matches: Option<&ArgMatches<'_>>) -> JudgeOptions {
         } else {
             RulesForm::Code
         },
-        budget: matches.get_one::<u64>("budget").unwrap_or(MOST_STEPS),
+        budget: matches.get_one::<u64>("budget").unwrap_or(MAX_BUDGET),
     }
 }
 

@@ -4,22 +4,23 @@
 pub const PROGRAM: &str = "\
 Inputs are read whole before the first is checked, each of at most 268,435,456 bytes; a path may be
 a pipe. `ocl_check COMMAND --help` says what a command prints and how it ends. The pages are in
-docs/: language.md for rules, class-model.md, delivery.md, code-file.md, commands.md.";
+docs/: language.md for rules, class-model.md, delivery.md, code-file.md, machine.md, commands.md.";
 
 /// Of `judge`.
 pub const JUDGE: &str = "\
-Prints a line for each object that fails a rule or is undecided, then a line for each rule and a
-total. A refused input prints one line instead: `refused INPUT NUMBER ..`.
+For each rule prints a line for each object for which it fails or is undecided, then a line of its
+own, and at the end a total. A refused input, or a rule above the budget, prints one line instead:
+`refused WHAT NUMBER ..`.
 
-Status 0: every rule holds for each of its objects. 1: an object fails or is undecided. 2: an input
-or the command line is refused. 3: memory, a read or a write failed.
+Status 0: every rule holds for each of its objects. 1: a rule fails or is undecided for an object.
+2: an input, a rule's cost or the command line is refused. 3: memory, a read or a write failed.
 
 docs/commands.md has every line, docs/language.md how rules are written.";
 
 /// Of `compile`.
 pub const COMPILE: &str = "\
 Writes OUT and prints `compiled N`, N being the number of rules. A refused input prints one line
-instead, and OUT is not touched: `refused INPUT NUMBER ..`.
+instead, and OUT is not touched: `refused WHAT NUMBER ..`.
 
 Status 0: compiled. 2: an input or the command line is refused. 3: memory, a read or a write failed.
 
@@ -28,7 +29,7 @@ docs/commands.md has every line, docs/language.md how rules are written.";
 /// Of `verify`.
 pub const VERIFY: &str = "\
 Prints `accepted N`, N being the number of rules. A refused input prints one line instead:
-`refused INPUT NUMBER ..`.
+`refused WHAT NUMBER ..`.
 
 Status 0: accepted. 2: an input or the command line is refused. 3: memory, a read or a write failed.
 
@@ -37,7 +38,7 @@ docs/commands.md has every line, docs/machine.md what is accepted.";
 /// Of `bound`.
 pub const BOUND: &str = "\
 Prints for each rule `bound NAME N`, or `bound NAME over` where N would be 2^63 or more. A refused
-input prints one line instead: `refused INPUT NUMBER ..`.
+input prints one line instead: `refused WHAT NUMBER ..`.
 
 Status 0: printed. 2: an input or the command line is refused. 3: memory, a read or a write failed.
 

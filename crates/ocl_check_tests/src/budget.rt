@@ -3,7 +3,7 @@
 use crate::bound::{DUCT, DUCT_AND_NETS};
 use crate::files::{DEPTH, MODEL, NO_OBJECTS, NO_RULES, judges_within_to};
 use crate::links::{NETWORK, TWO_RULES};
-use ocl_check::MOST_STEPS;
+use ocl_check::MAX_BUDGET;
 use std::test::*;
 
 /// The report on the duct.
@@ -26,7 +26,7 @@ fn judges_rules_within_the_budget(rt: HostRuntime) {
         (DUCT_AND_NETS, 19, 2, "refused cost 1 1\n"),
         (DUCT_AND_NETS, 37, 2, "refused cost 1 1\n"),
         (DUCT_AND_NETS, 38, 1, REPORT),
-        (DUCT_AND_NETS, MOST_STEPS, 1, REPORT),
+        (DUCT_AND_NETS, MAX_BUDGET, 1, REPORT),
     ];
     for (delivery, budget, status, text) in cases {
         assert!(rt;
@@ -56,7 +56,7 @@ fn judges_without_objects_within_the_budget(rt: HostRuntime) {
         (DEPTH.as_slice(), 1, 2, "refused cost 1 0\n"),
         (DEPTH.as_slice(), 3, 2, "refused cost 1 0\n"),
         (DEPTH.as_slice(), 4, 0, depths),
-        (DEPTH.as_slice(), MOST_STEPS, 0, depths),
+        (DEPTH.as_slice(), MAX_BUDGET, 0, depths),
         (DEPTH.as_slice(), 18_446_744_073_709_551_615, 0, depths),
         // code that is refused is refused before any cost
         (&DEPTH[..74], 0, 2, "refused code 3 74\n"),

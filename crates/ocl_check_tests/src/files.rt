@@ -1,7 +1,7 @@
 //! The files that the tests judge, and how they are judged.
 
 use ocl_check::{
-    JudgeOptions, MOST_STEPS, Outcome, RulesForm, Telling, run_bound, run_judge, run_verify,
+    JudgeOptions, MAX_BUDGET, Outcome, RulesForm, Telling, run_bound, run_judge, run_verify,
 };
 use std::alloc::{AllocError, Global};
 
@@ -29,13 +29,13 @@ const HEAD: &[u8] =
 /// Judging by a code file, within the largest budget.
 pub const BY_CODE: JudgeOptions = JudgeOptions {
     form: RulesForm::Code,
-    budget: MOST_STEPS,
+    budget: MAX_BUDGET,
 };
 
 /// Judging by a rule text, within the largest budget.
 pub const BY_TEXT: JudgeOptions = JudgeOptions {
     form: RulesForm::Text,
-    budget: MOST_STEPS,
+    budget: MAX_BUDGET,
 };
 
 /// What `judge` writes, and how it ends.
@@ -75,7 +75,7 @@ fn judged_within(
 
 /// What `judge` writes within the largest budget, and how it ends.
 pub fn judged(alloc: Global, model: &str, delivery: &str, code: &[u8]) -> (Outcome, Vec<u8>) {
-    judged_within(alloc, MOST_STEPS, model, delivery, code)
+    judged_within(alloc, MAX_BUDGET, model, delivery, code)
 }
 
 /// Whether `judge` within a budget ends with this status and writes this text.

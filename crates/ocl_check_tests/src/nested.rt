@@ -1,7 +1,7 @@
 //! Rules of nested iterations over a thousand objects, which may cost too much.
 
 use crate::files::{bounds_to, judges_within_to};
-use ocl_check::MOST_STEPS;
+use ocl_check::MAX_BUDGET;
 use std::alloc::{AllocError, Global};
 use std::fmt::Write;
 use std::test::*;
@@ -115,7 +115,7 @@ fn judges_nested_iterations_within_a_budget(rt: HostRuntime) -> Result<(), Fail>
         (6, false, 2_004_004_004_004_004_002, 2, refused),
         (6, false, 2_004_004_004_004_004_003, 0, nothing),
         // over, though there is no object to judge
-        (7, false, MOST_STEPS, 2, refused),
+        (7, false, MAX_BUDGET, 2, refused),
         (7, false, 18_446_744_073_709_551_615, 2, refused),
         (11, true, 2, 2, refused),
         (11, true, 3, 0, nothing),

@@ -128,14 +128,14 @@ fn judges_null_and_texts_by_text(rt: HostRuntime) {
 
 /// A pipe and cables, of which two have the greatest voltage and 1; the third has -1, unless it is left out.
 const VOLTAGES: &str = r#"{"model":"imkl-profile","objects":[
-{"id":"W1","class":"Waterleiding","features":{"identificatie":"w","diameter":50}},
+{"id":"P1","class":"Waterleiding","features":{"identificatie":"w","diameter":50}},
 {"id":"E0","class":"Elektriciteitskabel","features":{"identificatie":"a","spanning":9223372036854775807}},
 {"id":"E1","class":"Elektriciteitskabel","features":{"identificatie":"b","spanning":1}},
 {"id":"E2","class":"Elektriciteitskabel","features":{"identificatie":"c","spanning":-1}}]}"#;
 
 /// The same without the cable of -1.
 const TOO_HIGH: &str = r#"{"model":"imkl-profile","objects":[
-{"id":"W1","class":"Waterleiding","features":{"identificatie":"w","diameter":50}},
+{"id":"P1","class":"Waterleiding","features":{"identificatie":"w","diameter":50}},
 {"id":"E0","class":"Elektriciteitskabel","features":{"identificatie":"a","spanning":9223372036854775807}},
 {"id":"E1","class":"Elektriciteitskabel","features":{"identificatie":"b","spanning":1}}]}"#;
 
@@ -145,7 +145,7 @@ fn sums_are_of_whole_numbers(rt: HostRuntime) {
         "context Waterleiding inv s: Elektriciteitskabel.allInstances().spanning->sum() = 9223372036854775807";
     let holds = "rule s checked 1 holds 1 fails 0 undecided 0\ntotal fails 0 undecided 0\n";
     let undecided =
-        "undecided s W1\nrule s checked 1 holds 0 fails 0 undecided 1\ntotal fails 0 undecided 1\n";
+        "undecided s P1\nrule s checked 1 holds 0 fails 0 undecided 1\ntotal fails 0 undecided 1\n";
     assert!(rt; reports(rt.alloc(), VOLTAGES, rule, 0, holds));
     assert!(rt; reports(rt.alloc(), TOO_HIGH, rule, 1, undecided));
 }

@@ -184,6 +184,7 @@ module _ (m : Model) (n : Numbering) where
       (instr (omega (arith, small)), both_all Fits (instrs_of body) (instrs_of rest) (in_body (omega (arith, small, length-append g (x ∷ [])))) (later (omega (arith, small))))
 
   mutual
+    -- the code of a typed tree fits the unit, in front of code that does
     pub tree_fits : (t : CoreTree) (g : List Kind) (k : Kind) → IsTyped m g t k → HasAll (tree_uses m t) → IsWritten t
         → (rest : CodeTree) → IsSmall g (translate m n t rest) → (IsSmall g rest → AllFit rest) → AllFit (translate m n t rest)
     tree_fits (tree.Value c) g k t h w rest small later = (constant_fits c h w, later (omega (arith, small)))

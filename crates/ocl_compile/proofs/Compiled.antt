@@ -45,6 +45,7 @@ module _ (s : Setting) (first : Configuration) (goes_on : (k : ℕ) (c : Configu
   variable_reached (suc v) rest ps vars os r = plain_reached s first goes_on (instrs.Get (suc v)) rest ps vars os r
 
   mutual
+    -- a run that comes to the code of a tree comes to its end, with the tree's meaning on the operands
     pub tree_reached : (t : CoreTree) (g : List Kind) (k : Kind) → IsTyped s.population.model g t k → Known (tree_uses s.population.model t)
         → (rest : CodeTree) (ps : List Piece) (vars os : List Value)
         → At (translate s.population.model n t rest) ps vars os → At rest ps vars (meaning s.population t vars ∷ os)

@@ -27,6 +27,7 @@ use Rattle.ocl_compile.proofs.Resolving.{rules_resolved}
 use Rattle.ocl_compile.proofs.Compiled.{tree_reached}
 use Rattle.ocl_compile.proofs.CompiledUnits.{compiled_is, rule_code_is, context_is, unit_accepted}
 
+-- typed rules that compile are accepted
 pub compiled_is_accepted : CompiledIsAccepted
 compiled_is_accepted m rs u model typed compiled =
     let c = compiled_is (first_passed m rs [] rs) (translate_rules m rs) u compiled in
@@ -71,6 +72,7 @@ module _ (m : Model) (model : IsClassModel m) (rs : List CheckedRule) (typed : A
   tree_is : tree_of_rule (translate_rules m rs) n ≡ rule_tree m (numbering_of m rs) r
   tree_is = ap (λ (x : RuleContent). code_tree x.code) rule_is ∙ rule_code_is m (numbering_of m rs) r
 
+-- compiled rules keep their order, their names and their context classes
 pub compiled_keeps_rules : CompiledKeepsRules
 compiled_keeps_rules m rs u model typed compiled =
     let c = compiled_is (first_passed m rs [] rs) (translate_rules m rs) u compiled in
@@ -95,24 +97,28 @@ module _ (rs : List CheckedRule) (p : Population) (n o : ℕ) (r : CheckedRule) 
   accepted_run =
       record { model = h.model; population = h.population; unit = h.unit; accepted = unit_accepted m h.model rs h.typed none; rule = inside m h.model rs h.typed n r h.rule; object = subst (λ (c : ℕ). IsInstance p c o) (sym context) h.object }
 
+  -- the run of a compiled rule ends with one operand, the meaning of its expression
   pub ends_with_meaning : (k : ℕ) × (run (setting_of u p n) k (start (tree_of_rule u n) o) ≡ Some (configuration [] (object_value o ∷ []) (meaning p r.tree (object_value o ∷ []) ∷ [])))
   ends_with_meaning =
       let typed = typed_at m rs n r h.typed h.rule in
       tree_reached (setting_of u p n) (start (tree_of_rule u n) o) (λ k c reached final. let d = goes_on u p n o k c accepted_run reached final in (d.0, d.1)) numbers r.tree _ typed.1.0 typed.1.1 (resolved m h.model rs h.typed n r h.rule).1.1 End [] (object_value o ∷ []) []
       (0, ap (λ (t : CodeTree). Some (start t o)) (tree_is m h.model rs h.typed n r h.rule))
 
+  -- and its verdict is the one that is meant
   pub verdict_is_meant : verdict_at u p n o ≡ Some (meant_verdict p r o)
   verdict_is_meant =
       let e = ends_with_meaning in
       let d = configuration [] (object_value o ∷ []) (meaning p r.tree (object_value o ∷ []) ∷ []) in
       verdict_found u p n o accepted_run (rule_bound u p n) e.0 (start (tree_of_rule u n) o) d (meant_verdict p r o) e.1 refl (within_bound u p n o e.0 d accepted_run e.1)
 
+-- the law: a run of compiled code ends with one operand, which is what the rule's expression means
 pub runs_end_with_meaning : RunsEndWithMeaning
 runs_end_with_meaning rs u p n o r h =
     let c = compiled_is (first_passed p.model rs [] rs) (translate_rules p.model rs) u h.compiled in
     subst (λ (v : Content). (k : ℕ) × (run (setting_of v p n) k (start (tree_of_rule v n) o) ≡ Some (configuration [] (object_value o ∷ []) (meaning p r.tree (object_value o ∷ []) ∷ [])))) (sym c.1)
     (ends_with_meaning rs p n o r (subst (λ (v : Content). IsCompiledRun rs v p n r o) c.1 h) c.0)
 
+-- the law: the machine's verdict is the one that is meant
 pub verdicts_are_meant : VerdictsAreMeant
 verdicts_are_meant rs u p n o r h =
     let c = compiled_is (first_passed p.model rs [] rs) (translate_rules p.model rs) u h.compiled in

@@ -17,7 +17,7 @@ use Rattle.ocl_types.specs.Typing.{IsTypedRule}
 use Rattle.rule_code.specs.Content.{Content}
 use Rattle.rule_verify.specs.declared.named.Named.{Named}
 use Rattle.rule_verify.specs.declared.depths.Depths.{Depths}
-use Rattle.rule_verify.specs.declared.fault.Flaw.TheVariants as flaws
+use Rattle.rule_verify.specs.declared.fault.VerifyFlaw.TheVariants as flaws
 use Rattle.rule_verify.specs.CodeTree.{CodeTree, End, code_tree, instr_count}
 use Rattle.rule_verify.specs.InstrKinds.{surroundings, variable_at}
 use Rattle.rule_verify.specs.KindRules.{InstrFault, instr_fault, Enclosing, operand_limit, block_limit, ended_with, rule_ends}

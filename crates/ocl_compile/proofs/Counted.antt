@@ -14,6 +14,7 @@ number_fits p xs d few = by_place (position p xs) refl
     by_place (Some k) e = omega (arith, (position-Some p xs k d e).0, few)
     by_place None e = omega (arith)
 
+-- the number of a text fits into two bytes, and so does that of a symbol
 pub text_fits : (n : Numbering) (t : List ℕ) → AreCounted n → text_number n t < 65536
 text_fits n t c = number_fits (bytes_eq t) n.texts [] c.0
 

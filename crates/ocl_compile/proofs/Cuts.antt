@@ -6,6 +6,7 @@ use Rattle.ocl_compile.specs.Extents.{extent, then_instruction, then_above, then
 same_extent : (a b c x y z : ℕ) → a ≡ x → b ≡ y → c ≡ z → extent a b c ≡ extent x y z
 same_extent a b c x y z e f g = rw (e, f, g) refl
 
+-- an extent may be cut before more is put to it: an instruction, operands, a block with one body, or an IF
 pub cut_instruction : (x : Extent) → cut_extent (then_instruction (cut_extent x)) ≡ cut_extent (then_instruction x)
 cut_instruction x = same_extent _ _ _ _ _ _ (omega arith) (omega arith) (omega arith)
 

@@ -45,6 +45,7 @@ module _ (m : Model) (n : Numbering) where
       b ∙ ap (λ l. code_of m n source ++ l) e ∙ sym (append_assoc (code_of m n source) (instrs_of mid) (instrs_of rest)) ∙ ap (λ l. l ++ instrs_of rest) (sym a)
 
   mutual
+    -- what follows a tree comes after the tree's own code
     pub code_then : (t : CoreTree) (rest : CodeTree) → Then t rest
     code_then (tree.Value c) rest = refl
     code_then (tree.Variable v) rest = refl
@@ -64,6 +65,7 @@ module _ (m : Model) (n : Numbering) where
         source_then condition _ _ rest (code_then condition _) (code_then condition _)
         (branch_then (translate m n first code.End) (translate m n second code.End) rest _)
 
+    -- and what follows several trees after theirs
     pub codes_then : (ts : CoreTrees) (rest : CodeTree) → instrs_of (translate_all m n ts rest) ≡ codes_of m n ts ++ instrs_of rest
     codes_then tree.no_core rest = refl
     codes_then (tree.one_core first others) rest =
@@ -75,12 +77,14 @@ module _ (m : Model) (n : Numbering) where
 
   -- ---- blocks
 
+  -- the code of a LET: its value, its instruction, and its body
   pub let_code : (v body : CoreTree) → code_of m n (tree.Let v body) ≡ code_of m n v ++ instrs.Let (length (code_of m n body)) ∷ code_of m n body
   let_code v body =
       code_then v (let_block (translate m n body code.End) code.End)
       ∙ ap (λ (k : ℕ). code_of m n v ++ instrs.Let k ∷ (code_of m n body ++ [])) (sym (code_count body))
       ∙ ap (λ (l : List Instr). code_of m n v ++ instrs.Let (length (code_of m n body)) ∷ l) (append-nil (code_of m n body))
 
+  -- the code of an IF: its condition, its instruction, and its branches
   pub if_code : (k : Kind) (condition first second : CoreTree) → code_of m n (tree.If k condition first second) ≡ code_of m n condition ++ instrs.If (written_kind n k) (length (code_of m n first)) (length (code_of m n second)) ∷ (code_of m n first ++ code_of m n second)
   if_code k condition first second =
       code_then condition (if_block n k (translate m n first code.End) (translate m n second code.End) code.End)
@@ -88,6 +92,7 @@ module _ (m : Model) (n : Numbering) where
       ∙ ap (λ (j : ℕ). code_of m n condition ++ instrs.If (written_kind n k) (length (code_of m n first)) j ∷ (code_of m n first ++ (code_of m n second ++ []))) (sym (code_count second))
       ∙ ap (λ (l : List Instr). code_of m n condition ++ instrs.If (written_kind n k) (length (code_of m n first)) (length (code_of m n second)) ∷ (code_of m n first ++ l)) (append-nil (code_of m n second))
 
+  -- the parts of a LET whose code can be written can be written too
   pub let_emittable : (v body : CoreTree) → IsEmittable m n (tree.Let v body) → IsEmittable m n v × IsEmittable m n body
   let_emittable v body h =
       let l = ap length (let_code v body) ∙ length-append (code_of m n v) (instrs.Let (length (code_of m n body)) ∷ code_of m n body) in (
@@ -95,6 +100,7 @@ module _ (m : Model) (n : Numbering) where
         record { known = h.known.1; variables = h.variables.1; room = omega (arith, l, h.room) },
       )
 
+  -- and so can those of an IF
   pub if_emittable : (k : Kind) (condition first second : CoreTree) → IsEmittable m n (tree.If k condition first second) → IsEmittable m n condition × IsEmittable m n first × IsEmittable m n second
   if_emittable k condition first second h =
       let i = instrs.If (written_kind n k) (length (code_of m n first)) (length (code_of m n second)) in
@@ -107,6 +113,7 @@ module _ (m : Model) (n : Numbering) where
 
   -- ---- operands
 
+  -- the code of operands is that of the first, and then that of the others
   pub operand_code : (first : CoreTree) (others : CoreTrees) → codes_of m n (tree.one_core first others) ≡ code_of m n first ++ codes_of m n others
   operand_code first others = code_then first (translate_all m n others code.End)
 
@@ -182,6 +189,7 @@ module _ (m : Model) (n : Numbering) where
   link_code : (link : CoreLink) (left : CoreTree) → code_of m n (core_link_of link left) ≡ code_of m n left ++ top_code m n (link_node link)
   link_code link left = ap (code_of m n) (link_on_top link left) ∙ top_then (link_node link) (link_has_first link) left
 
+  -- the code of a first operand with its links is the operand's code, and then that of the links
   pub spine_code : (links : List CoreLink) (first : CoreTree) → code_of m n (core_spine first (map core_link_of links)) ≡ code_of m n first ++ links_code m n links
   spine_code [] first = sym (append-nil (code_of m n first))
   spine_code (l ∷ ls) first =
@@ -189,6 +197,7 @@ module _ (m : Model) (n : Numbering) where
       ∙ ap (λ (is : List Instr). is ++ links_code m n ls) (link_code l first)
       ∙ append_assoc (code_of m n first) (top_code m n (link_node l)) (links_code m n ls)
 
+  -- and where it can be written both parts can
   pub spine_emittable : (links : List CoreLink) (first : CoreTree) → IsEmittable m n (core_spine first (map core_link_of links)) → IsEmittable m n first × AreEmittableLinks m n links
   spine_emittable [] first h = (h, tt)
   spine_emittable (l ∷ ls) first h =
@@ -201,9 +210,11 @@ module _ (m : Model) (n : Numbering) where
   emittable : (t : CoreTree) → KnownIn m t → VariablesBelow 65536 t → instr_count (translate m n t code.End) ≤ most_counted → IsEmittable m n t
   emittable t h v room = record { known = h; variables = v; room = omega (arith, code_count t, room) }
 
+  -- what `emit` asks of a tree holds of each whose code can be written
   pub asked : (t : CoreTree) → IsEmittable m n t → KnownIn m t × (VariablesBelow 65536 t × (instr_count (translate m n t code.End) ≤ most_counted))
   asked t h = (h.known, (h.variables, omega (arith, code_count t, h.room)))
 
+  -- nodes in memory, a spine, a LET and an IF: their code is that of their parts, which can be written where it can
   pub spine_is : (core : Core) (first : Box Core Global) (links : Vec CoreLink Global) → core ≡ v.Spine first links → code_of m n (core_view core) ≡ code_of m n (core_view first.value) ++ links_code m n links.items
   spine_is core first links is =
       ap (code_of m n) (ap core_view is ∙ core_view-Spine first links) ∙ spine_code links.items (core_view first.value)
@@ -228,6 +239,7 @@ module _ (m : Model) (n : Numbering) where
   if_parts core k condition first second is h v room =
       if_emittable k (core_view condition.value) (core_view first.value) (core_view second.value) (subst (IsEmittable m n) (ap core_view is ∙ core_view-If k condition first second) (emittable (core_view core) h v room))
 
+  -- the code of a link that iterates: its instruction, and its body
   pub iterate_is : (link : CoreLink) (i : Iteration) (body : Core) → link ≡ l.Iterate i body → top_code m n (link_node link) ≡ iteration_instr n i (length (code_of m n (core_view body))) ∷ code_of m n (core_view body)
   iterate_is link i body is =
       ap (λ (f : CoreTree → CoreTree). top_code m n (f (tree.Value tree.Null))) (ap core_link_of is ∙ core_link_of-Iterate i body)
@@ -235,10 +247,12 @@ module _ (m : Model) (n : Numbering) where
 
   -- ---- loops
 
+  -- of operands that can be written, the one at hand and those after it can
   pub operands_here : (xs : List Core) (i : ℕ) (x : Core) → x ≡ get_or xs i x → i < length xs → AreEmittable m n (cores_of (map core_view (drop i xs))) → IsEmittable m n (core_view x) × AreEmittable m n (cores_of (map core_view (drop (i + 1) xs)))
   operands_here xs i x is lt h =
       subst (λ (ys : List Core). AreEmittable m n (cores_of (map core_view ys))) (drop_more xs i x lt ∙ ap (λ (y : Core). y ∷ drop (i + 1) xs) (sym is)) h
 
+  -- and of links likewise
   pub links_here : (xs : List CoreLink) (i : ℕ) (x : CoreLink) → x ≡ get_or xs i x → i < length xs → AreEmittableLinks m n (drop i xs) → IsTopEmittable m n (link_node x) × AreEmittableLinks m n (drop (i + 1) xs)
   links_here xs i x is lt h =
       subst (AreEmittableLinks m n) (drop_more xs i x lt ∙ ap (λ (y : CoreLink). y ∷ drop (i + 1) xs) (sym is)) h
@@ -274,6 +288,7 @@ walked_on f F step xs i x is lt old new total e h =
     let more = drop_more xs i x lt ∙ ap (λ y. y ∷ rest) (sym is) in
     ap (λ l. l ++ F rest) e ∙ append_assoc old (f x) (F rest) ∙ ap (λ l. old ++ l) (sym (ap F more ∙ step x rest)) ∙ h
 
+-- at the end of a loop, all that was to be added is there
 pub walked : {X Y : Type 0} (F : List X → List Y) → F [] ≡ [] → (xs : List X) (i : ℕ) → length xs ≤ i → (code total : List Y) → code ++ F (drop i xs) ≡ total → code ≡ total
 walked F none xs i le code total h =
     sym (append-nil code) ∙ ap (λ l. code ++ l) (sym (ap F (drop_of_length-le xs le) ∙ none)) ∙ h

@@ -32,6 +32,7 @@ IsCut (code.Branch i first second rest) =
     (shape_of i ≡ TwoBodies (instr_count first) (instr_count second)) × IsCut first × IsCut second × IsCut rest
 IsCut (code.Torn i left) = ⊥
 
+-- a tree has as many instructions as it counts
 pub flat_count : (t : CodeTree) → IsCut t → length (instrs_of t) ≡ instr_count t
 flat_count code.End c = refl
 flat_count (code.Plain i rest) c = omega (arith, flat_count rest c.1)
@@ -150,6 +151,7 @@ iteration_one_body n (iteration.IsUnique k) len = refl
 
 module _ (m : Model) (n : Numbering) where
   mutual
+    -- a core tree is translated to such a tree, in front of such a tree
     pub translated_cut : (t : CoreTree) (rest : CodeTree) → IsCut rest → IsCut (translate m n t rest)
     translated_cut (tree.Value c) rest h = (constant_single n c, h)
     translated_cut (tree.Variable v) rest h = (variable_single v, h)

@@ -38,6 +38,7 @@ module _ (m : Model) (n : Numbering) where
   -- ---- instructions
 
   mutual
+    -- in front of other code, the code of a tree has as many instructions as its extent says
     pub count_is : (t : CoreTree) (rest : CodeTree) → instr_count (translate m n t rest) ≡ (extent_of t).instructions + instr_count rest
     count_is (tree.Value c) rest = refl
     count_is (tree.Variable v) rest = refl
@@ -80,6 +81,7 @@ module _ (s : Surroundings) where
       max o (max (most_operands first (o - length (operands_of s i))) (max (most_operands second (o - length (operands_of s i))) (most_operands rest (o - length (operands_of s i) + 1))))
   most_operands (code.Torn i left) o = o
 
+  -- the operand depth of code is the most operands in it
   pub operands_are : (t : CodeTree) (d : Depths) → (deepest s t d).operands ≡ most_operands t d.operands
   operands_are code.End d = refl
   operands_are (code.Plain i rest) d = ap (max d.operands) (operands_are rest (past_instr s i d))
@@ -98,6 +100,7 @@ module _ (s : Surroundings) where
       max b (max (most_blocks first (b + 1)) (max (most_blocks second (b + 1)) (most_blocks rest b)))
   most_blocks (code.Torn i left) b = b
 
+  -- and its block depth is the most blocks in one another
   pub blocks_are : (t : CodeTree) (d : Depths) → (deepest s t d).blocks ≡ most_blocks t d.blocks
   blocks_are code.End d = refl
   blocks_are (code.Plain i rest) d = ap (max d.blocks) (blocks_are rest (past_instr s i d))
@@ -132,6 +135,7 @@ pub record IsExtent (x : Extent) : Type 0 where
   pub blocks : x.blocks ≤ x.instructions
 
 mutual
+  -- the extent of each tree is so
   pub is_extent : (t : CoreTree) → IsExtent (extent_of t)
   is_extent (tree.Value c) = record { operand = omega arith; instruction = omega arith; operands = omega arith; blocks = omega arith }
   is_extent (tree.Variable v) = record { operand = omega arith; instruction = omega arith; operands = omega arith; blocks = omega arith }
@@ -160,6 +164,7 @@ mutual
       let z = is_extent second in
       record { operand = omega (arith, x.operand); instruction = omega arith; operands = omega (arith, x.operands, y.operands, z.operands); blocks = omega (arith, x.blocks, y.blocks, z.blocks) }
 
+  -- and stays so with operands after it
   pub are_extents : (ts : CoreTrees) (below : ℕ) (x : Extent) → IsExtent x → below ≤ x.instructions → IsExtent (extent_after below x ts)
   are_extents tree.no_core below x h le = h
   are_extents (tree.one_core first others) below x h le =
@@ -270,6 +275,7 @@ module _ (s : Surroundings) (n : Numbering) where
   counted_trees g (tree.one_core first rest) ks t = ap suc (counted_trees g rest t.1 t.3) ∙ ap (λ (l : List Kind). length l) (sym t.4)
 
   mutual
+    -- in front of other code, the code of a typed tree has as many operands as its extent says, and leaves one
     pub tree_operands : (t : CoreTree) (g : List Kind) (k : Kind) → IsTyped s.model g t k → (rest : CodeTree) (o : ℕ) → most_operands s (translate s.model n t rest) o ≡ max (o + (extent_of t).operands) (most_operands s rest (o + 1))
     tree_operands (tree.Value c) g k t rest o = one_operand_more (constant_instr n c) rest o (constant_takes_none c)
     tree_operands (tree.Variable v) g k t rest o = one_operand_more (variable_instr v) rest o (variable_takes_none v)
@@ -332,6 +338,7 @@ module _ (s : Surroundings) (n : Numbering) where
   -- ---- blocks
 
   mutual
+    -- and the code of a tree has as many blocks in one another as its extent says
     pub tree_blocks : (t : CoreTree) (rest : CodeTree) (b : ℕ) → most_blocks s (translate s.model n t rest) b ≡ max (b + (extent_of t).blocks) (most_blocks s rest b)
     tree_blocks (tree.Value c) rest b = omega arith
     tree_blocks (tree.Variable v) rest b = omega arith
@@ -367,6 +374,7 @@ module _ (m : Model) (all before : List CheckedRule) (r : CheckedRule) where
       let s = surroundings m (translate_rules m all) (length before) r.context in
       omega (arith, operands_are s (compiled_tree m all r) (record { operands = 0; variables = 1; blocks = 0 }), tree_operands s (numbering_of m all) r.tree _ typed.1.0 typed.1.1 code.End 0, (is_extent r.tree).operand)
 
+  -- in blocks too
   pub rule_blocks_are : (compiled_depths m all before r).blocks ≡ (extent_of r.tree).blocks
   rule_blocks_are =
       let s = surroundings m (translate_rules m all) (length before) r.context in

@@ -19,6 +19,7 @@ use Rattle.ocl_compile.specs.NumberWalk.{IsUseOf, AreUsesOf, links_uses}
 use Rattle.ocl_compile.proofs.CodeFits.{first_all, rest_all}
 
 module _ (m : Model) where
+  -- uses are numbered one list after another
   pub uses_then : (us vs : List Use) (n : Numbering) → with_uses m n (us ++ vs) ≡ with_uses m (with_uses m n us) vs
   uses_then [] vs n = refl
   uses_then (u ∷ us) vs n = uses_then us vs (with_use m n u)
@@ -28,6 +29,7 @@ module _ (m : Model) where
   numbered_then new mid old us vs whole e f g =
       e ∙ ap (λ (n : Numbering). with_uses m n vs) f ∙ sym (uses_then us vs old) ∙ ap (with_uses m old) (sym g)
 
+  -- where the uses of two parts are in the class model, so are those of each
   pub uses_parts : (us vs : List Use) → AreUsesOf m (us ++ vs) → AreUsesOf m us × AreUsesOf m vs
   uses_parts us vs h = (first_all (IsUseOf m) us vs h, rest_all (IsUseOf m) us vs h)
 
@@ -46,6 +48,7 @@ module _ (m : Model) where
       ∙ ap (λ (us : List Use). us ++ links_uses m ls) (link_then l first)
       ∙ append_assoc (tree_uses m first) (tree_uses m (link_node l)) (links_uses m ls)
 
+  -- nodes in memory, a spine, a LET and an IF, use what their parts use
   pub spine_uses : (core : Core) (first : Box Core Global) (links : Vec CoreLink Global) → core ≡ v.Spine first links → tree_uses m (core_view core) ≡ tree_uses m (core_view first.value) ++ links_uses m links.items
   spine_uses core first links is = ap (tree_uses m) (ap core_view is ∙ core_view-Spine first links) ∙ spine_then links.items (core_view first.value)
 
@@ -55,6 +58,7 @@ module _ (m : Model) where
   pub if_uses : (core : Core) (k : Kind) (condition first second : Box Core Global) → core ≡ v.If k condition first second → tree_uses m (core_view core) ≡ tree_uses m (core_view condition.value) ++ (kind_uses k ++ (tree_uses m (core_view first.value) ++ tree_uses m (core_view second.value)))
   if_uses core k condition first second is = ap (tree_uses m) (ap core_view is ∙ core_view-If k condition first second)
 
+  -- and where what an IF uses is in the class model, so is what its parts use
   pub if_parts : (core : Core) (k : Kind) (condition first second : Box Core Global) → core ≡ v.If k condition first second → AreUsesOf m (tree_uses m (core_view core)) → AreUsesOf m (tree_uses m (core_view condition.value)) × AreUsesOf m (kind_uses k) × AreUsesOf m (tree_uses m (core_view first.value)) × AreUsesOf m (tree_uses m (core_view second.value))
   if_parts core k condition first second is h =
       let a = tree_uses m (core_view first.value) in
@@ -64,6 +68,7 @@ module _ (m : Model) where
       let r = uses_parts a b q.1 in
       (p.0, q.0, r.0, r.1)
 
+  -- an operation uses what its other operands use, and then what its operator does
   pub operation_uses : (link : CoreLink) (operator : Operator) (others : Vec Core Global) → link ≡ l.Operation operator others → tree_uses m (link_node link) ≡ trees_uses m (cores_of (map core_view others.items)) ++ operator_uses operator
   operation_uses link operator others is =
       ap (λ (f : CoreTree → CoreTree). tree_uses m (f (tree.Value tree.Null))) (ap core_link_of is ∙ core_link_of-Operation operator others)
@@ -79,10 +84,12 @@ module _ {X : Type 0} (m : Model) (f : X → List Use) (F : List X → List Use)
   pub uses_here : (xs : List X) (i : ℕ) (x : X) → x ≡ get_or xs i x → i < length xs → AreUsesOf m (F (drop i xs)) → AreUsesOf m (f x) × AreUsesOf m (F (drop (i + 1) xs))
   uses_here xs i x is lt h = uses_parts m (f x) (F (drop (i + 1) xs)) (subst (AreUsesOf m) (from_here xs i x is lt) h)
 
+  -- numbering the item at hand leaves those after it to be numbered
   pub numbered_on : (xs : List X) (i : ℕ) (x : X) → x ≡ get_or xs i x → i < length xs → (old new total : Numbering) → new ≡ with_uses m old (f x) → with_uses m old (F (drop i xs)) ≡ total → with_uses m new (F (drop (i + 1) xs)) ≡ total
   numbered_on xs i x is lt old new total e h =
       let rest = F (drop (i + 1) xs) in
       ap (λ (n : Numbering). with_uses m n rest) e ∙ sym (uses_then m (f x) rest old) ∙ ap (with_uses m old) (sym (from_here xs i x is lt)) ∙ h
 
+  -- at the end of a loop, all is numbered
   pub all_numbered : F [] ≡ [] → (xs : List X) (i : ℕ) → length xs ≤ i → (n total : Numbering) → with_uses m n (F (drop i xs)) ≡ total → n ≡ total
   all_numbered none xs i le n total h = ap (with_uses m n) (sym (ap F (drop_of_length-le xs le) ∙ none)) ∙ h

@@ -58,6 +58,7 @@ module _ (s : Surroundings) (n : Numbering) where
   abbrev Known : List Use → Type 0
   Known us = AreResolved s.model s.unit n us
 
+  -- a scalar kind means itself once it is written, where its symbol stands under its number
   pub scalar_is : (k : ScalarKind) → Known (scalar_uses k) → scalar_meant s (written_scalar n k) ≡ k
   scalar_is element.Void h = refl
   scalar_is element.Boolean h = refl
@@ -67,6 +68,7 @@ module _ (s : Surroundings) (n : Numbering) where
   scalar_is (element.Class c) h = ap class_kind h.0
   scalar_is element.AnyObject h = refl
 
+  -- so does any kind
   pub kind_is : (k : Kind) → Known (kind_uses k) → kind_meant s (written_kind n k) ≡ k
   kind_is (Scalar k) h = ap (λ (x : ScalarKind). Scalar x) (scalar_is k h)
   kind_is (Collection c k) h = ap (λ (x : ScalarKind). Collection c x) (scalar_is k h)
@@ -75,9 +77,11 @@ module _ (s : Surroundings) (n : Numbering) where
   abbrev Named_all : List ℕ → Type 0
   Named_all ns = list_all (λ x. is_some (named_at s.model s.unit x)) ns ≡ true
 
+  -- a symbol that stands under its number names something
   pub one_named : (x : Named) → named_at s.model s.unit (symbol_number n x) ≡ Some x → Named_all (symbol_number n x ∷ [])
   one_named x e = ap (λ (o : Option Named). is_some o && true) e
 
+  -- so do those of a scalar kind as it is written
   pub scalar_named : (k : ScalarKind) → Known (scalar_uses k) → Named_all (scalar_symbols (written_scalar n k) ++ [])
   scalar_named element.Void h = refl
   scalar_named element.Boolean h = refl
@@ -87,6 +91,7 @@ module _ (s : Surroundings) (n : Numbering) where
   scalar_named (element.Class c) h = one_named (named.Class c) h.0
   scalar_named element.AnyObject h = refl
 
+  -- and those of any kind
   pub kind_named : (k : Kind) → Known (kind_uses k) → Named_all (kind_symbols (written_kind n k) ++ [])
   kind_named (Scalar k) h = scalar_named k h
   kind_named (Collection c k) h = scalar_named k h
@@ -197,6 +202,7 @@ module _ (s : Surroundings) (n : Numbering) where
   scalar_matches : (l : Kind) (e k : ScalarKind) → fits s.model l (Scalar e) ≡ true → scalar_fits s.model e k ≡ true → matches s.model (pattern.Fitting (Scalar k)) l ≡ true
   scalar_matches l e k h g = fits_along s.model l (Scalar e) (Scalar k) h g
 
+  -- an instruction with one operand takes it where its kind matches
   pub takes_one : (vars : List Kind) (i : Instr) (w : Pattern) (l : Kind) (ks : List Kind) → operands_of s i ≡ w ∷ [] → has_names s i ≡ true → has_variable vars i ≡ true → matches s.model w l ≡ true → TakesKinds s vars i (l ∷ ks) ks
   takes_one vars i w l ks e names variable h =
       record { names = names; variable = variable; there = ap (λ (ws : List Pattern). are_there ws (l ∷ ks)) e; match = ap (λ (ws : List Pattern). all_match s.model ws (l ∷ ks)) e ∙ and_from _ _ h refl; leaves = ap (λ (ws : List Pattern). below ws (l ∷ ks)) e }
@@ -205,6 +211,7 @@ module _ (s : Surroundings) (n : Numbering) where
   takes_two vars i w x j l ks e names variable h g =
       record { names = names; variable = variable; there = ap (λ (ws : List Pattern). are_there ws (j ∷ l ∷ ks)) e; match = ap (λ (ws : List Pattern). all_match s.model ws (j ∷ l ∷ ks)) e ∙ and_from _ _ h (and_from _ _ g refl); leaves = ap (λ (ws : List Pattern). below ws (j ∷ l ∷ ks)) e }
 
+  -- an instruction without operands takes none
   pub takes_none : (vars : List Kind) (i : Instr) (ks : List Kind) → operands_of s i ≡ [] → has_names s i ≡ true → has_variable vars i ≡ true → TakesKinds s vars i ks ks
   takes_none vars i ks e names variable =
       record { names = names; variable = variable; there = ap (λ (ws : List Pattern). are_there ws ks) e; match = ap (λ (ws : List Pattern). all_match s.model ws ks) e; leaves = ap (λ (ws : List Pattern). below ws ks) e }

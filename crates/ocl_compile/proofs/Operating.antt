@@ -162,6 +162,7 @@ module _ (s : Setting) (n : Numbering) (vars : List Value) (v : Value) (os : Lis
   class_operates of_class.AsType c h =
       record { gives = ap (λ (x : Option Named). or_invalid (on_class_named (λ d. cast s.population d v) x)) h.0; leaves = refl }
 
+  -- the instruction of each operator gives its value, where there are as many operands as it takes
   pub operates : (operator : Operator) (ws : List Value) → suc (length ws) ≡ operand_count operator → AreResolved s.population.model s.unit n (operator_uses operator) → Operates operator ws
   operates (Plain operator) ws e h = plain_operates operator ws e
   operates (OfClass operator c) ws e h = with_none _ ws (none_more ws e) (class_operates operator c h)

@@ -59,11 +59,13 @@ module _ (s : Setting) (first : Configuration) (goes_on : (k : ℕ) (c : Configu
   on_to : (c d : Configuration) → Reached c → step s c ≡ Some d → Reached d
   on_to c d r e = (r.0 + 1, run_more s r.0 first c d r.1 e)
 
+  -- a run that comes to an instruction without a body comes past it, with its result on the operands
   pub plain_reached : (i : Instr) (rest : CodeTree) (ps : List Piece) (vars os : List Value) → Reached (configuration (Sequence (Plain i rest) ∷ ps) vars os) → Reached (configuration (Sequence rest ∷ ps) vars (or_invalid (result_of s vars i os) ∷ drop (length (operands_of (judged_by s) i)) os))
   plain_reached i rest ps vars os r =
       let n = goes_on r.0 (configuration (Sequence (Plain i rest) ∷ ps) vars os) r.1 refl in
       subst Reached (sym (performs s i rest ps vars os n.0 n.1)) (on_to (configuration (Sequence (Plain i rest) ∷ ps) vars os) n.0 r n.1)
 
+  -- one that comes to a LET comes past it, where its body puts a value on the operands
   pub let_reached : (n : ℕ) (body rest : CodeTree) (ps : List Piece) (vars os : List Value) (v w : Value)
       → Reached (configuration (Sequence (Block (instrs.Let n) body rest) ∷ ps) vars (v ∷ os))
       → ((q : List Piece) → Reached (configuration (Sequence body ∷ q) (v ∷ vars) os) → Reached (configuration q (v ∷ vars) (w ∷ os)))
@@ -81,6 +83,7 @@ module _ (s : Setting) (first : Configuration) (goes_on : (k : ℕ) (c : Configu
 
   -- ---- if
 
+  -- one that comes to an IF comes past it, with the value that its condition chooses
   pub if_reached : (i : Instr) (one : length (operands_of (judged_by s) i) ≡ 1) (first_body second_body rest : CodeTree) (ps : List Piece) (vars os : List Value) (v x y : Value)
       → Reached (configuration (Sequence (Branch i first_body second_body rest) ∷ ps) vars (v ∷ os))
       → ((q : List Piece) → Reached (configuration (Sequence first_body ∷ q) vars os) → Reached (configuration q vars (x ∷ os)))
@@ -132,6 +135,7 @@ module _ (s : Setting) (first : Configuration) (goes_on : (k : ℕ) (c : Configu
   is_iterating n iteration.CollectFlat len = record { one = refl; opens = λ body v ps vars os. refl; ends = λ source bs. refl }
   is_iterating n (iteration.IsUnique k) len = record { one = refl; opens = λ body v ps vars os. refl; ends = λ source bs. refl }
 
+  -- and one that comes to an iteration comes past it, with the value over all turns
   pub iteration_reached : (n : Numbering) (it : Iteration) (len : ℕ) (body rest : CodeTree) (ps : List Piece) (vars os : List Value) (v : Value) (f : Element → Value)
       → Reached (configuration (Sequence (Block (iteration_instr n it len) body rest) ∷ ps) vars (v ∷ os))
       → ((e : Element) (q : List Piece) → Reached (configuration (Sequence body ∷ q) (element_value e ∷ vars) os) → Reached (configuration q (element_value e ∷ vars) (f e ∷ os)))

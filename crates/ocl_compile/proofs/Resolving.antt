@@ -24,7 +24,7 @@ use Rattle.ocl_types.specs.declared.core_tree.Iteration.{Iteration}
 use Rattle.ocl_types.specs.declared.core_tree.Iteration.TheVariants as iteration
 use Rattle.ocl_types.specs.Core as tree
 use Rattle.ocl_types.specs.Core.{Constant, CoreTree, CoreTrees, CheckedRule}
-use Rattle.ocl_types.specs.Typing.{IsConstantOf, IsOperation, IsIteration, IsTyped, AreTyped, IsTypedRule}
+use Rattle.ocl_types.specs.Typing.{IsConstantOf, IsOperation, IsTypedIteration, IsTyped, AreTyped, IsTypedRule}
 use Rattle.rule_code.specs.Content.{text_at}
 use Rattle.rule_verify.specs.declared.named.Named.{Named}
 use Rattle.rule_verify.specs.declared.named.Named.TheVariants as named
@@ -73,6 +73,7 @@ is_added same xs x itself = by_test (is_among same xs x) refl
     by_test true h = h
     by_test false h = list_any-append (same x) xs (x ∷ []) ∙ or_true (list_any (same x) xs) (list_any (same x) (x ∷ [])) (ap (λ (t : Bool). t || false) itself)
 
+-- a text is equal to itself
 pub text_itself : (t : List ℕ) → bytes_eq t t ≡ true
 text_itself t = (bytes_eq-Decides t t).1 refl
 
@@ -82,6 +83,7 @@ named_itself (named.Enumeration e) = eq-eqb e e refl
 named_itself (named.Feature c f) = ap (λ (b : Bool). b && (f == f)) (eq-eqb c c refl) ∙ eq-eqb f f refl
 named_itself (named.Literal e l) = ap (λ (b : Bool). b && (l == l)) (eq-eqb e e refl) ∙ eq-eqb l l refl
 
+-- names that are found to be the same are equal
 pub same_is : (x y : Named) → same_named x y ≡ true → x ≡ y
 same_is (named.Class c) (named.Class d) e = ap (λ (k : ℕ). named.Class k) (eqb-true c d e)
 same_is (named.Enumeration c) (named.Enumeration d) e = ap (λ (k : ℕ). named.Enumeration k) (eqb-true c d e)
@@ -107,6 +109,7 @@ text_stays : (texts ts : List (List ℕ)) (t : List ℕ) → is_among bytes_eq t
 text_stays texts [] t e = e
 text_stays texts (x ∷ ts) t e = text_stays (once_more bytes_eq texts x) ts t (stays bytes_eq texts x t e)
 
+-- texts that are added are there
 pub texts_added : (symbols : List Named) (texts ts : List (List ℕ)) → AllByRecursion (HasText (record { texts = with_texts texts ts; symbols = symbols })) ts
 texts_added symbols texts [] = tt
 texts_added symbols texts (t ∷ ts) =
@@ -117,11 +120,13 @@ pub record Grows (n o : Numbering) : Type 0 where
   pub texts : (t : List ℕ) → HasText n t → HasText o t
   pub symbols : (x : Named) → is_among same_named n.symbols x ≡ true → is_among same_named o.symbols x ≡ true
 
+-- a numbering keeps all that it has when a use is numbered
 pub grows_by_use : (m : Model) (n : Numbering) (u : Use) → Grows n (with_use m n u)
 grows_by_use m n (UsedText t) = record { texts = λ x e. text_stays n.texts (t ∷ []) x e; symbols = λ x e. e }
 grows_by_use m n (UsedSymbol s) =
     record { texts = λ x e. text_stays n.texts (names_of_symbol m s) x e; symbols = λ x e. stays same_named n.symbols s x e }
 
+-- texts that are there stay there as a numbering grows
 pub all_texts : (n o : Numbering) → Grows n o → (ts : List (List ℕ)) → AllByRecursion (HasText n) ts → AllByRecursion (HasText o) ts
 all_texts n o g [] h = tt
 all_texts n o g (t ∷ ts) h = (g.texts t h.0, all_texts n o g ts h.1)
@@ -142,6 +147,7 @@ grows_by_uses m n (u ∷ us) =
     let b = grows_by_uses m (with_use m n u) us in
     record { texts = λ t e. b.texts t (a.texts t e); symbols = λ x e. b.symbols x (a.symbols x e) }
 
+-- uses are there once they are numbered
 pub has_uses : (m : Model) (n : Numbering) (us : List Use) → AllByRecursion (Has m (with_uses m n us)) us
 has_uses m n [] = tt
 has_uses m n (u ∷ us) =
@@ -180,7 +186,7 @@ operator_there m (OfClass operator c) x xs gives h = (h.0, tt)
 operator_there m (OfElements operator k) x xs gives h = scalar_there m k h.0
 operator_there m (Equal k) x xs gives h = kind_there m k h.0
 
-iteration_there : (m : Model) (it : Iteration) (c : CollectionKind) (e : ScalarKind) (y gives : Kind) → IsIteration m it c e y gives → AreUsesOf m (iteration_uses it)
+iteration_there : (m : Model) (it : Iteration) (c : CollectionKind) (e : ScalarKind) (y gives : Kind) → IsTypedIteration m it c e y gives → AreUsesOf m (iteration_uses it)
 iteration_there m iteration.ForAll c e y gives h = tt
 iteration_there m iteration.Exists c e y gives h = tt
 iteration_there m iteration.One c e y gives h = tt
@@ -192,6 +198,7 @@ iteration_there m (iteration.IsUnique k) c e y gives h = scalar_there m k h.0
 
 module _ (m : Model) where
   mutual
+    -- all that a typed tree uses is in the class model
     pub tree_there : (t : CoreTree) (g : List Kind) (k : Kind) → IsTyped m g t k → AreUsesOf m (tree_uses m t)
     tree_there (tree.Value c) g k t = constant_there m c t.0
     tree_there (tree.Variable v) g k t = tt
@@ -210,6 +217,7 @@ module _ (m : Model) where
     trees_there tree.no_core g ks t = tt
     trees_there (tree.one_core first others) g ks t = both m (tree_uses m first) _ (tree_there first g t.0 t.2) (trees_there others g t.1 t.3)
 
+  -- and so is all that typed rules use
   pub rules_there : (rs : List CheckedRule) → AllByRecursion (IsTypedRule m) rs → AreUsesOf m (rules_uses m rs)
   rules_there [] h = tt
   rules_there (r ∷ rs) h = both m (rule_uses m r) _ (tt, (h.0.0, tree_there r.tree _ h.0.1.0 h.0.1.1)) (rules_there rs h.1)

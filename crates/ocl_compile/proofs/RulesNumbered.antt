@@ -59,6 +59,7 @@ module _ (m : Model) (all : List CheckedRule) where
     pub typed : AllByRecursion (IsTypedRule m) left
     pub passed : first_passed m all [] all ≡ first_passed m all before left
 
+  -- before the first rule, none is numbered
   pub none_numbered : AllByRecursion (IsTypedRule m) all → NumberedTo no_numbers 0 all
   none_numbered typed =
       record { before = []; numbers = refl; count = refl; parts = refl; short = refl; typed = typed; passed = refl }
@@ -82,12 +83,14 @@ module _ (m : Model) (all : List CheckedRule) where
         ∙ ap (λ (o : Numbering). limit_by (length h.before) (has_long_text m (rule_uses m r)) (length o.texts) (length o.symbols) x) now
         ∙ sym (limit_is m all h.before r h.typed.0)
 
+    -- a limit that the rule at hand passes is the first that is passed
     pub first_is : (l : Limit) → limit_passed m all h.before r ≡ Some l → first_passed m all [] all ≡ Some (limit_at l i)
     first_is l p =
         h.passed
         ∙ ap (λ (o : Option Limit). or_later (length h.before) o (first_passed m all (h.before ++ r ∷ []) left)) p
         ∙ ap (λ (j : ℕ). Some (limit_at l j)) h.count
 
+    -- a rule that passes none is numbered too
     pub one_numbered : limit_passed m all h.before r ≡ None → NumberedTo new (i + 1) left
     one_numbered p =
         record {
@@ -100,5 +103,6 @@ module _ (m : Model) (all : List CheckedRule) where
           passed = h.passed ∙ ap (λ (o : Option Limit). or_later (length h.before) o (first_passed m all (h.before ++ r ∷ []) left)) p;
         }
 
+  -- after the last rule none has passed a limit, and all are numbered
   pub all_numbered : (n : Numbering) (i : ℕ) → NumberedTo n i [] → (first_passed m all [] all ≡ None) × (n ≡ numbering_of m all)
   all_numbered n i h = (h.passed, h.numbers ∙ ap (numbering_of m) (sym (append-nil h.before) ∙ h.parts))

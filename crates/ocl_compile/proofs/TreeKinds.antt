@@ -16,7 +16,7 @@ use Rattle.ocl_types.specs.declared.core_tree.Iteration.TheVariants as iteration
 use Rattle.ocl_types.specs.Core as tree
 use Rattle.ocl_types.specs.Core.{Constant, CoreTree, CoreTrees}
 use Rattle.ocl_types.specs.Elaboration.{truth_kind}
-use Rattle.ocl_types.specs.Typing.{constant_kind, IsIteration, IsTyped, AreTyped}
+use Rattle.ocl_types.specs.Typing.{constant_kind, IsTypedIteration, IsTyped, AreTyped}
 use Rattle.rule_code.specs.declared.instruction.Instr.{Instr}
 use Rattle.rule_code.specs.declared.instruction.Instr.TheVariants as instrs
 use Rattle.rule_verify.specs.declared.depths.Depths.{Depths}
@@ -132,7 +132,7 @@ module _ (s : Surroundings) (n : Numbering) where
   many_matches (Collection c j) y b d e h =
       (refl, (and_parts (is_same_collection c b) (scalar_fits s.model j d) (subst (λ (x : Kind). fits s.model (Collection c j) x ≡ true) e h)).1)
 
-  iteration_ends : (it : Iteration) (len : ℕ) (c : CollectionKind) (e : ScalarKind) (y gives l r : Kind) → IsIteration s.model it c e y gives → Known (iteration_uses it) → fits s.model l (Collection c e) ≡ true → fits s.model r y ≡ true
+  iteration_ends : (it : Iteration) (len : ℕ) (c : CollectionKind) (e : ScalarKind) (y gives l r : Kind) → IsTypedIteration s.model it c e y gives → Known (iteration_uses it) → fits s.model l (Collection c e) ≡ true → fits s.model r y ≡ true
       → (matches s.model (ends_with s (iteration_instr n it len)) r ≡ true) × (fits s.model (yields s (iteration_instr n it len) l r) gives ≡ true)
   iteration_ends iteration.ForAll len c e y gives l r h known f g = (fits_along s.model r y truth_kind g h.0, is_fitting s n _ gives (sym h.1))
   iteration_ends iteration.Exists len c e y gives l r h known f g = (fits_along s.model r y truth_kind g h.0, is_fitting s n _ gives (sym h.1))
@@ -174,6 +174,7 @@ module _ (s : Surroundings) (n : Numbering) where
     shallow : IsShallow s rest depths
 
   mutual
+    -- the rules of kinds come past the code of a typed tree, with one operand of a kind that fits the tree's
     pub tree_past : (t : CoreTree) (g : List Kind) (k : Kind) → IsTyped s.model g t k → IsObject g → Known (tree_uses s.model t)
         → (rest : CodeTree) (e : Enclosing) (d : Depths) (at : ℕ) (ks : List Kind)
         → Narrower s.model e.variables g → StandsDeep d e ks → IsShallow s (translate s.model n t rest) d

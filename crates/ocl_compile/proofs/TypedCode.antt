@@ -12,6 +12,7 @@ use Rattle.ocl_compile.specs.EmitWalk.{KnownIn, KnownIn_all, VariablesBelow, Var
 
 module _ (m : Model) where
   mutual
+    -- a typed tree names features that are there
     pub typed_known : (t : CoreTree) (g : List Kind) (k : Kind) → IsTyped m g t k → KnownIn m t
     typed_known (tree.Value c) g k t = tt
     typed_known (tree.Variable v) g k t = tt
@@ -39,6 +40,7 @@ module _ (m : Model) where
   IsSmall g x = length g + x.instructions ≤ 65536
 
   mutual
+    -- its variables fit into two bytes, where there are few enough of them and of instructions
     pub variables_below : (t : CoreTree) (g : List Kind) (k : Kind) → IsTyped m g t k → IsSmall g (extent_of t) → VariablesBelow 65536 t
     variables_below (tree.Value c) g k t s = tt
     variables_below (tree.Variable v) g k t s = omega (arith, s, slice_get_within g v k t)

@@ -41,6 +41,7 @@ pub record IsRoomy (m : Model) (all before : List CheckedRule) (r : CheckedRule)
   pub short : has_long_text m (rule_uses m r) ≡ false
   pub code : instr_count (compiled_tree m all r) ≤ most_counted
 
+-- each rule that passes no limit is so
 pub is_roomy : (m : Model) (all before : List CheckedRule) (r : CheckedRule) → limit_passed m all before r ≡ None → IsRoomy m all before r
 is_roomy m all before r e =
     let h = not_first (is_too_large m all before r) _ _ e in
@@ -66,6 +67,7 @@ pub record HasRoom (m : Model) (rs : List CheckedRule) : Type 0 where
   pub texts : length (numbering_of m rs).texts ≤ most_counted
   pub symbols : length (numbering_of m rs).symbols ≤ most_counted
 
+-- rules that pass no limit have such room, after others that have it
 pub has_room : (m : Model) (all before rs : List CheckedRule) → first_passed m all before rs ≡ None → HasRoom m before → HasRoom m (before ++ rs)
 has_room m all before [] e h = subst (HasRoom m) (sym (append-nil before)) h
 has_room m all before (r ∷ rs) e h =
@@ -76,6 +78,7 @@ has_room m all before (r ∷ rs) e h =
 
 -- ---- the texts
 
+-- what holds of all holds of all with one added
 pub once_more_all : {A : Type 0} (P : A → Type 0) (same : A → A → Bool) (xs : List A) (x : A) → AllByRecursion P xs → P x → AllByRecursion P (once_more same xs x)
 once_more_all P same xs x h g = by_test (is_among same xs x)
   where

@@ -23,11 +23,13 @@ use Rattle.ocl_compile.proofs.UnitFits.{is_roomy, has_room, once_more_all}
 pub numbered_are : (m : Model) (rs : List CheckedRule) (n : Numbering) → numbered_rules m rs ≡ Ok n → (first_passed m rs [] rs ≡ None) × (n ≡ numbering_of m rs)
 numbered_are m rs n e = compiled_is (first_passed m rs [] rs) (numbering_of m rs) n e
 
+-- the texts and symbols of rules that pass no limit are few enough to be counted in two bytes
 pub are_counted : (m : Model) (rs : List CheckedRule) → first_passed m rs [] rs ≡ None → AreCounted (numbering_of m rs)
 are_counted m rs none =
     let room = has_room m rs [] rs none (record { rules = omega arith; texts = omega arith; symbols = omega arith }) in
     (room.texts, room.symbols)
 
+-- typed rules that pass no limit have code that is short enough
 pub are_codable : (m : Model) (all before rs : List CheckedRule) → AllByRecursion (IsTypedRule m) rs → first_passed m all before rs ≡ None → AllByRecursion (IsCodable m (numbering_of m all)) rs
 are_codable m all before [] typed none = tt
 are_codable m all before (r ∷ rs) typed none =
@@ -44,17 +46,20 @@ uses_named : (m : Model) (us : List Use) (n : Numbering) → AreUsesOf m us → 
 uses_named m [] n there h = h
 uses_named m (u ∷ us) n there h = uses_named m us (with_use m n u) there.1 (use_named m n u (there.0, tt) h)
 
+-- the symbols of typed rules name things of the class model
 pub are_named : (m : Model) (rs : List CheckedRule) → AllByRecursion (IsTypedRule m) rs → AllByRecursion (IsNamedIn m) (numbering_of m rs).symbols
 are_named m rs typed = uses_named m (rules_uses m rs) no_numbers (rules_there m rs typed) tt
 
 -- ---- texts
 
+-- the bytes of strings are UTF-8
 pub strings_are_utf8 : (texts : List (String Global)) → AllByRecursion (λ t. is_utf8 t ≡ true) (map string_bytes texts)
 strings_are_utf8 [] = tt
 strings_are_utf8 (t ∷ ts) = (is_utf8-from_IsUtf8 (string_bytes t) (IsUtf8-string_bytes t), strings_are_utf8 ts)
 
 -- ---- the unit
 
+-- texts, symbols and rules that were translated make up the unit of the rules
 pub unit_is : (m : Model) (rs : List CheckedRule) (n : Numbering) (texts : List (String Global)) (symbols : List Symbol) (rules : List Rule) → n ≡ numbering_of m rs → map string_bytes texts ≡ n.texts → symbols ≡ map (translate_symbol m n) n.symbols
     → map rule_content rules ≡ map (translate_rule m n) rs → content_of texts symbols rules ≡ translate_rules m rs
 unit_is m rs n texts symbols rules e t s r =

@@ -1,7 +1,6 @@
 -- What holds of compiled rules: they are accepted, and their runs end with what the rules mean.
-use Rattle.std.specs.Prelude.{◌≡◌, ℕ, List, [], ◌∷◌, length, map, false, Some, Ok, slice_get, bytes_eq}
+use Rattle.std.specs.Prelude.{◌≡◌, ℕ, List, [], ◌∷◌, length, Some, Ok, slice_get}
 use Rattle.std.specs.List.{AllByRecursion}
-use Rattle.ocl_base.specs.Lists.{repeats}
 use Rattle.imkl_model.specs.ClassModel.{Model}
 use Rattle.imkl_model.specs.WellFormed.{IsClassModel}
 use Rattle.imkl_population.specs.Population.{Population, IsInstance}
@@ -19,9 +18,6 @@ use Rattle.ocl_compile.specs.Compiling.{compile_of}
 
 abbrev pub AreTypedRules : Model → List CheckedRule → Type 0
 AreTypedRules m rs = AllByRecursion (IsTypedRule m) rs
-
-abbrev pub HaveDistinctNames : List CheckedRule → Type 0
-HaveDistinctNames rs = repeats bytes_eq (map (λ r. r.name) rs) ≡ false
 
 -- typed rules that compile are accepted
 abbrev pub CompiledIsAccepted : Type 0

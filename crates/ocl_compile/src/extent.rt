@@ -5,7 +5,7 @@ ghost use Rattle.ocl_compile.specs.Extents as extents;
 ghost use Rattle.ocl_compile.specs.Extents.{cut_extent};
 
 /// Where counting stops, above every limit of a unit.
-const MOST_COUNTED: usize = 65_536;
+const COUNTED_UP_TO: usize = 65_536;
 
 /// How large and how deep code is; numbers above 65,536 are 65,536.
 #[derive(Clone, Copy)]
@@ -22,14 +22,14 @@ pub(crate) struct Extent {
 fn sum(first: usize, second: usize) -> usize
     ensures { result ≡ min (first + second) 65536 }
 {
-    first.saturating_add(second).min(MOST_COUNTED)
+    first.saturating_add(second).min(COUNTED_UP_TO)
 }
 
 /// A number, or 65,536 where it is greater.
 fn cut(number: usize) -> usize
     ensures { result ≡ min number 65536 }
 {
-    number.min(MOST_COUNTED)
+    number.min(COUNTED_UP_TO)
 }
 
 impl Extent {

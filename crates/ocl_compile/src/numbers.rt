@@ -96,7 +96,10 @@ impl Numbers {
     /// Adds a text, unless it is there.
     pub(crate) fn add_text(&mut self, alloc: Global, text: &str) -> Result<(), AllocError>
         ensures { OnOk result (self.new
-            ≡ record { texts = once_more bytes_eq self.old.texts text.now; symbols = self.old.symbols }) }
+            ≡ record {
+              texts = once_more bytes_eq self.old.texts text.now;
+              symbols = self.old.symbols;
+            }) }
     {
         let is_long = text.len() > MOST_TEXT_BYTES;
         let text = String::from_str(alloc, text)?;
@@ -114,7 +117,10 @@ impl Numbers {
     ) -> Result<(), AllocError>
         requires { IsNamedIn model.now symbol.now }
         ensures { OnOk result (self.new
-            ≡ record { texts = with_texts self.old.texts (names_of_symbol model.now symbol.now); symbols = self.old.symbols }) }
+            ≡ record {
+              texts = with_texts self.old.texts (names_of_symbol model.now symbol.now);
+              symbols = self.old.symbols;
+            }) }
     {
         match symbol {
             Named::Class(class) => self.add_text(alloc, model.class_name(*class)),
@@ -134,7 +140,10 @@ impl Numbers {
     /// Adds the key of a symbol, unless it is there.
     fn add_key(&mut self, key: Key) -> Result<(), AllocError>
         ensures { OnOk result (self.new
-            ≡ record { texts = self.old.texts; symbols = once_more same_named self.old.symbols (named_of key) }) }
+            ≡ record {
+              texts = self.old.texts;
+              symbols = once_more same_named self.old.symbols (named_of key);
+            }) }
     {
         self.symbols.insert(key)?;
         Ok(())

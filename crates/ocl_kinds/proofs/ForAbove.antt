@@ -18,6 +18,7 @@ use Rattle.ocl_kinds.specs.Laws as laws
 
 -- ---- fitting is reflexive
 
+-- each scalar kind fits itself
 pub scalar_fits_itself : (m : Model) (k : ScalarKind) → scalar_fits m k k ≡ true
 scalar_fits_itself m Void = refl
 scalar_fits_itself m Boolean = refl
@@ -34,6 +35,7 @@ same_collection_itself collection.OrderedSet = refl
 same_collection_itself collection.Bag = refl
 same_collection_itself collection.Sequence = refl
 
+-- each kind fits itself
 pub fits_itself : (m : Model) → laws.FitsItself m
 fits_itself m (Scalar k) = scalar_fits_itself m k
 fits_itself m (Collection c k) = and_from (is_same_collection c c) (scalar_fits m k k) (same_collection_itself c) (scalar_fits_itself m k)
@@ -44,6 +46,7 @@ fits_itself m (Collection c k) = and_from (is_same_collection c c) (scalar_fits 
 pub same_number : (a b c : ℕ) → (a == b) ≡ true → (b == c) ≡ true → (a == c) ≡ true
 same_number a b c e f = let h : a ≡ b = eqb-true a b e in rw h f
 
+-- a scalar kind that fits another fits each one that the other fits
 pub scalar_fits_along : (m : Model) (j k l : ScalarKind) → scalar_fits m j k ≡ true → scalar_fits m k l ≡ true → scalar_fits m j l ≡ true
 scalar_fits_along m Void k l f g = refl
 scalar_fits_along m Boolean Boolean l f g = g
@@ -64,6 +67,7 @@ same_collection_is collection.Bag collection.Bag e = refl
 same_collection_is collection.Sequence collection.Sequence e = refl
 same_collection_is c d e = cc
 
+-- a kind that fits another fits each one that the other fits
 pub fits_along : (m : Model) → laws.FitsAlong m
 fits_along m (Scalar a) (Scalar b) (Scalar c) f g = scalar_fits_along m a b c f g
 fits_along m (Collection s a) (Collection t b) (Collection u c) f g =
@@ -75,6 +79,7 @@ fits_along m j k l f g = cc
 
 -- ---- it goes one way
 
+-- no two scalar kinds fit each other
 pub scalar_fits_one_way : (m : Model) → IsClassModel m → (j k : ScalarKind) → scalar_fits m j k ≡ true → scalar_fits m k j ≡ true → j ≡ k
 scalar_fits_one_way m well Void Void f g = refl
 scalar_fits_one_way m well Boolean Boolean f g = refl
@@ -85,6 +90,7 @@ scalar_fits_one_way m well (Class c) (Class d) f g = ap (λ (n : ℕ). Class n) 
 scalar_fits_one_way m well AnyObject AnyObject f g = refl
 scalar_fits_one_way m well j k f g = cc
 
+-- no two kinds fit each other
 pub fits_one_way : (m : Model) → IsClassModel m → laws.FitsOneWay m
 fits_one_way m well (Scalar a) (Scalar b) f g = ap (λ (k : ScalarKind). Scalar k) (scalar_fits_one_way m well a b f g)
 fits_one_way m well (Collection s a) (Collection t b) f g =
@@ -106,6 +112,7 @@ either_kind : (m : Model) (b : Bool) (c : CollectionKind) (k : ScalarKind) → I
 either_kind m true c k h = h
 either_kind m false c k h = h
 
+-- the kind of a feature is a kind of its class model
 pub features_have_kinds : (m : Model) → IsClassModel m → laws.FeaturesHaveKinds m
 features_have_kinds m well f lt =
     let i = feature_at m f in
@@ -118,9 +125,11 @@ wider_cases true b j k l e = inl (refl, let same : l ≡ k = cc in same)
 wider_cases false true j k l e = inr (refl, let same : l ≡ j = cc in same)
 wider_cases false false j k l e = cc
 
+-- the wider of two kinds is one of them
 pub wider_is_one : (m : Model) → laws.WiderIsOne m
 wider_is_one m j k l e = elim (wider_cases (fits m j k) (fits m k j) j k l e) [ inl w ↦ inr w.1 | inr w ↦ inl w.1 ]
 
+-- both kinds fit the wider one
 pub both_fit_wider : (m : Model) → laws.BothFitWider m
 both_fit_wider m j k l e =
     elim (wider_cases (fits m j k) (fits m k j) j k l e) [
@@ -133,6 +142,7 @@ wider_by true true j k same = ap (λ (l : Kind). Some l) (sym (same refl refl))
 wider_by true false j k same = refl
 wider_by false b j k same = refl
 
+-- the wider of two kinds is the same whichever comes first
 pub wider_commutes : (m : Model) → IsClassModel m → laws.WiderCommutes m
 wider_commutes m well j k = wider_by (fits m j k) (fits m k j) j k (fits_one_way m well j k)
 
@@ -165,6 +175,7 @@ both_fit_comparable m (Enumeration c) (Enumeration d) l e = common_number m c d 
 both_fit_comparable m AnyObject AnyObject l e = let same : l ≡ AnyObject = cc in (rw same refl, rw same refl)
 both_fit_comparable m j k l e = cc
 
+-- both kinds fit the one that they have in common
 pub both_fit_common : (m : Model) → laws.BothFitCommon m
 both_fit_common m j k l e =
     let p = both_fit_comparable m (comparable j) (comparable k) l e in
@@ -227,5 +238,6 @@ comparable_commutes AnyObject (Enumeration e) = refl
 comparable_commutes AnyObject (Class c') = refl
 comparable_commutes AnyObject AnyObject = refl
 
+-- the kind that two have in common is the same whichever comes first
 pub common_commutes : laws.CommonCommutes
 common_commutes j k = comparable_commutes (comparable j) (comparable k)

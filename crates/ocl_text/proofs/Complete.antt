@@ -29,6 +29,7 @@ shorter_variable (g.untyped h) = omega arith
 shorter_variable (g.typed d) = let a = shorter_type d in omega arith
 
 mutual
+  -- fewer tokens are left after each part of an expression, and no more after one that may be empty
   pub shorter_expr : {c n : ℕ} {ts rest : List Terminal} {tree : SurfaceTree} → IsExpr c n ts tree rest → length rest < length ts
   shorter_expr (g.let_expression d e) = let a = shorter_binds d in let b = shorter_expr e in omega arith
   shorter_expr (g.plain d) = shorter_level d
@@ -226,10 +227,12 @@ module _ (n : ℕ) (operand whole : Reader SurfaceTree) where
   unfolding applied_step
   applied_iterate source text at ts kind h = ap (λ o. applied_by n operand whole o source text at ts) h
 
+-- an iteration whose first tokens begin no variable has none
 pub no_variable_is : (n : ℕ) (two : Bool) (ts : List Terminal) → begins_variable ts ≡ false → optional_variables n two ts ≡ Ok (Unnamed, ts)
 unfolding optional_variables
 no_variable_is n two ts h = rw h refl
 
+-- each type that the grammar allows is read
 pub complete_type : {n : ℕ} {ts rest : List Terminal} {s : TypeTree} → IsType n ts s rest → p.a_type n ts ≡ Ok (s, rest)
 unfolding p.a_type p.type_over expect
 complete_type (g.a_plain_type h) = rw h refl
@@ -238,6 +241,7 @@ complete_type (g.a_type_of {offset = at} {text = text} d) = ap (λ r. r >>= λ x
 abbrev typed_as : List ℕ → TypeTree × List Terminal → Reading (VariableTree)
 typed_as text s = Ok ((text, Some s.0), s.1)
 
+-- each variable of an iteration that the grammar allows is read
 pub complete_variable : {n : ℕ} {ts rest : List Terminal} {v : VariableTree} → IsVariable n ts v rest → p.a_variable n ts ≡ Ok (v, rest)
 unfolding p.a_variable identifier
 complete_variable (g.untyped h) = rw h refl
@@ -267,6 +271,7 @@ after_type operand name s = expect m.Equal s.1 >>= operand >>= named name s.0
 mutual
   unfolding p.name_or_literal unary levels calling unary_over expr expr_over chain link step_list one_step dotted arrowed arguments arguments_in items a_bind let_expression iteration optional_variables variables expect identifier placed_name post prim if_expression variables_by
 
+  -- each part of an expression that the grammar allows is read, under the same limits
   pub complete_expr : {c n : ℕ} {ts rest : List Terminal} {tree : SurfaceTree} → IsExpr c n ts tree rest → expr c n ts ≡ Ok (tree, rest)
   complete_expr {c} (g.let_expression {m = n} {offset = at} {ts = ts} {bindings = bindings} d e) =
       ap (λ r. r >>= λ x. expect m.In x.1 >>= expr c (suc n) >>= λ y. Ok (lets_at at x.0 y.0, y.1)) (complete_binds d (length ts) (omega arith))
@@ -354,11 +359,13 @@ mutual
 
 -- ---- rules
 
+-- fewer tokens are left after an invariant than there were
 pub shorter_invariant : {nesting c n class_at : ℕ} {class : List ℕ} {ts rest : List Terminal} {rule : Rule} → IsInvariant nesting c n class class_at ts rule rest → length rest < length ts
 shorter_invariant (g.named d) = let a = shorter_expr d in omega arith
 shorter_invariant (g.unnamed d) = let a = shorter_expr d in omega arith
 
 mutual
+  -- fewer tokens are left after the invariants of a context
   pub shorter_invariants : {nesting c class_at : ℕ} {class : List ℕ} {found all : List Rule} {ts rest : List Terminal} → IsInvariants nesting c class class_at found ts all rest → length rest < length ts
   shorter_invariants (g.an_invariant d e) = let a = shorter_invariant d in let b = shorter_more_invariants e in omega arith
 
@@ -388,6 +395,7 @@ mutual
   complete_more_invariants (g.no_more_invariants h) f l = rw h refl
   complete_more_invariants (g.next_invariant h d) f l = rw h (complete_invariants d f l)
 
+-- each list of contexts that the grammar allows is read, with as many turns as it has tokens or more
 pub complete_contexts : {nesting c : ℕ} {found all : List Rule} {ts : List Terminal} → IsContexts nesting c found ts all → (f : ℕ) → length ts ≤ f → contexts (expr c (suc nesting)) f found ts ≡ Ok all
 unfolding contexts context placed_name expect
 complete_contexts g.no_context zero h = refl

@@ -274,6 +274,7 @@ short_invariant c nesting class n us = weaker (λ x. IsInvariant nesting c n cla
 short_invariants : (c nesting : ℕ) (class : List ℕ × ℕ) (found : List Rule) (us : List Terminal) → IfOk (all_invariants (expr c (suc nesting)) class found us) (λ x. length x.1 < length us)
 short_invariants c nesting class found us = weaker (λ x. IsInvariants nesting c class.0 class.1 found us x.0 x.1) (λ x. length x.1 < length us) (all_invariants (expr c (suc nesting)) class found us) (λ x d. shorter_invariants d) (sound_invariants nesting c class (length us) found us)
 
+-- where a list of rules stops, it can be completed under wider limits
 pub sees_rules : (a b c nesting : ℕ) (ts : List Terminal) → Sees (read_contexts (expr c (suc nesting)) []) (read_contexts (expr (longer b c) (suc (deeper a nesting))) []) Nothing Nothing ts
 sees_rules a b c nesting ts =
     sees_contexts (expr c (suc nesting)) (expr (longer b c) (suc (deeper a nesting))) (sees_whole_expr a b c (suc nesting)) (short_invariant c nesting) (short_invariant (longer b c) (deeper a nesting))

@@ -59,20 +59,25 @@ module _ (out rest after whole : List ℕ) (c : ℕ) (is : rest ≡ encode c ++ 
   added : (next : List ℕ) (flag : Bool) (piece : List ℕ) → next ≡ out ++ piece → value_from flag (encode c ++ after) ≡ piece ++ value_from false after → Value whole flag out rest → Value whole false next after
   added next flag piece p s inv = rw p (append_assoc out piece (value_from false after) ∙ ap (λ l. out ++ l) (sym s ∙ ap (value_from flag) (sym is)) ∙ inv)
 
+  -- after a backslash a character adds what it escapes to
   pub after_escape : (next : List ℕ) → next ≡ out ++ encode (escaped c) → Value whole true out rest → Value whole false next after
   after_escape next p = added next true (encode (escaped c)) p (character_after c after)
 
+  -- a character that is neither a quote nor a backslash adds itself
   pub after_plain : (next : List ℕ) → c ≢ 39 → c ≢ 92 → next ≡ out ++ encode c → Value whole false out rest → Value whole false next after
   after_plain next q s p = added next false (encode c) p (character_plain c after q s)
 
+  -- a quote adds nothing
   pub after_quote : c ≡ 39 → Value whole false out rest → Value whole false out after
   unfolding value_from
   after_quote e inv = let r : rest ≡ 39 ∷ after = is ∙ ap (λ x. encode x ++ after) e ∙ rw (encode_ascii 39 (lit< tt)) refl in subst (λ (l : List ℕ). out ++ value_from false l ≡ whole) r inv
 
+  -- a backslash adds nothing, and escapes the character after it
   pub after_backslash : c ≡ 92 → Value whole false out rest → Value whole true out after
   unfolding value_from
   after_backslash e inv = let r : rest ≡ 92 ∷ after = is ∙ ap (λ x. encode x ++ after) e ∙ rw (encode_ascii 92 (lit< tt)) refl in subst (λ (l : List ℕ). out ++ value_from false l ≡ whole) r inv
 
+-- at the end of the spelling, what was pushed is the whole value
 pub at_the_end : (flag : Bool) (out rest whole : List ℕ) → length rest ≡ 0 → Value whole flag out rest → out ≡ whole
 unfolding value_from
 at_the_end true out [] whole e inv = sym (append-nil out) ∙ inv

@@ -261,5 +261,6 @@ module _ (a b c : ℕ) where
   )
   sees_all (suc n) = let (u, e, s) = sees_all n in (sees_unary n u e s, sees_expr n u e s, sees_name_expr n u e s)
 
+  -- where an expression stops, it can be completed under wider limits, whatever nesting is left
   pub sees_whole_expr : (n : ℕ) → SeesExpr n
   sees_whole_expr n = (sees_all n).1

@@ -59,5 +59,6 @@ module _ {A : Type 0} (item item' : Reader A) (shortens : Shortens item) (shorte
   within zero found ts h = one_turn found ts (λ x us l. absurd (omega (arith, h, l)))
   within (suc m) found ts h = one_turn found ts (λ x us l. within m (found ++ x ∷ []) us (omega (arith, h, l)))
 
+  -- where a list with commas stops, it can be completed, if each of its items can be
   pub sees_listed : (found : List A) (ts : List Terminal) → Sees (listed item found) (listed item' found) (May stops) S ts
   sees_listed found ts = within (length ts) found ts (omega arith)

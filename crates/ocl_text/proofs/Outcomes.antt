@@ -31,10 +31,12 @@ module _ (chain n : ℕ) (p : Parser) (at : ℕ) where
   expr_found : (x : Expression × ℕ) → expr chain n (from p at) ≡ Ok (view x.0, from p x.1) → IsExpr chain n (from p at) (view x.0) (from p x.1)
   expr_found x h = subst (λ (r : Reading SurfaceTree). IfOk r (λ y. IsExpr chain n (from p at) y.0 y.1)) h (sound_expr chain n (from p at))
 
+  -- an expression that was parsed is what the tokens spell
   pub expr_spells : (x : Result (Expression × ℕ) ParseFault) → Parses p view x (expr chain n (from p at)) → IfOk x (λ y. IsExpr chain n (from p at) (view y.0) (from p y.1))
   expr_spells (Ok x) h = expr_found x h
   expr_spells (Err e) h = tt
 
+  -- the tokens begin with no other expression than the one that was parsed
   pub expr_only : (x : Result (Expression × ℕ) ParseFault) → Parses p view x (expr chain n (from p at))
       → IfOk x (λ y. (tree : SurfaceTree) (rest : List Terminal) → SpellsExpr (from p at) tree rest → (tree ≡ view y.0) × (rest ≡ from p y.1))
   expr_only (Ok x) h = λ tree rest d. one_expr (from p at) tree (view x.0) rest (from p x.1) d (n, chain, expr_found x h)
@@ -43,6 +45,7 @@ module _ (chain n : ℕ) (p : Parser) (at : ℕ) where
   no_expr : (s : TokensFault) → expr chain n (from p at) ≡ Err s → (tree : SurfaceTree) (rest : List Terminal) → IsExpr chain n (from p at) tree rest → ⊥
   no_expr s h tree rest d = let e = complete_expr d in cc (h, e)
 
+  -- where parsing an expression was refused, the tokens begin with none within the limits
   pub expr_refused : (x : Result (Expression × ℕ) ParseFault) → Parses p view x (expr chain n (from p at)) → IfErr x (UnlessOutOfMemory ((tree : SurfaceTree) (rest : List Terminal) → IsExpr chain n (from p at) tree rest → ⊥))
   expr_refused (Ok x) h = tt
   expr_refused (Err r.OutOfMemory) h = tt
@@ -52,9 +55,11 @@ module _ (chain n : ℕ) (p : Parser) (at : ℕ) where
 -- ---- a whole text
 
 module _ (nesting chain : ℕ) (text : List ℕ) (ts : List Terminal) (lexes : Lexes text ts) where
+  -- rules that were read from the tokens are what the text spells
   pub text_spells : (rules : List Rule) → all_rules nesting chain ts ≡ Ok rules → TextSpellsWithin nesting chain text rules
   text_spells rules h = (ts, lexes, read_spells nesting chain ts rules h)
 
+  -- the text spells no other rules than those that were read
   pub text_only : (rules : List Rule) → all_rules nesting chain ts ≡ Ok rules → (others : List Rule) → TextSpells text others → others ≡ rules
   text_only rules h others (us, reads, spells) =
       one_list ts others rules (subst (λ (l : List Terminal). Spells l others) (one_token_list text us ts reads lexes) spells) (nesting, chain, read_spells nesting chain ts rules h)
@@ -65,16 +70,19 @@ module _ (nesting chain : ℕ) (text : List ℕ) (ts : List Terminal) (lexes : L
   text_too_deep : (s : List Terminal) → all_rules nesting chain ts ≡ Err (too_deep s) → IsTooDeep nesting chain text (first_offset (length text) s)
   text_too_deep s h = record { tokens = ts; rest = s; lexes = lexes; stands = refl; too_deep = too_deep_at nesting chain ts s h }
 
+  -- a fault of syntax stands where the text goes wrong
   pub refused_syntax : (p : Parser) (fault : ParseFault) → Means (meaning p fault) (all_rules nesting chain ts) → IfSyntax text (text_fault p (length text) fault)
   refused_syntax p r.OutOfMemory h = tt
   refused_syntax p (r.Syntax i) h = text_wrong (from p i) h
   refused_syntax p (r.TooDeep i) h = tt
 
+  -- a fault of depth stands where the text goes too deep
   pub refused_too_deep : (p : Parser) (fault : ParseFault) → Means (meaning p fault) (all_rules nesting chain ts) → IfTooDeep nesting chain text (text_fault p (length text) fault)
   refused_too_deep p r.OutOfMemory h = tt
   refused_too_deep p (r.Syntax i) h = tt
   refused_too_deep p (r.TooDeep i) h = text_too_deep (from p i) h
 
+  -- a name that is repeated among the rules that were read is repeated in the text
   pub text_repeats : (rules : List Rule) (offset : ℕ) → all_rules nesting chain ts ≡ Ok rules → RepeatsAt [] rules offset → IsRepeated nesting chain text offset
   text_repeats rules offset h repeats = record { rules = rules; spells = text_spells rules h; repeats = repeats }
 
@@ -84,6 +92,7 @@ refused_lexical text p end r.OutOfMemory = tt
 refused_lexical text p end (r.Syntax i) = tt
 refused_lexical text p end (r.TooDeep i) = tt
 
+-- a refusal by the parser is no repeated name
 pub refused_duplicate : (nesting chain : ℕ) (text : List ℕ) (p : Parser) (end : ℕ) (fault : ParseFault) → IfDuplicate nesting chain text (text_fault p end fault)
 refused_duplicate nesting chain text p end r.OutOfMemory = tt
 refused_duplicate nesting chain text p end (r.Syntax i) = tt
@@ -120,16 +129,19 @@ stops_lexical text (f.At w.BadEscape offset) h = h
 stops_lexical text (f.At w.NumberTooLarge offset) h = h
 stops_lexical text (f.At w.OpenComment offset) h = h
 
+-- it is no fault of syntax
 pub stops_no_syntax : (text : List ℕ) (fault : TextFault) → IsLexicalFault text fault → IfSyntax text fault
 stops_no_syntax text f.OutOfMemory h = tt
 stops_no_syntax text (f.At w.Syntax offset) h = let e = only_lexical h in absurd (cc (e))
 stops_no_syntax text (f.At _ offset) h = tt
 
+-- it is no fault of depth
 pub stops_no_depth : (nesting chain : ℕ) (text : List ℕ) (fault : TextFault) → IsLexicalFault text fault → IfTooDeep nesting chain text fault
 stops_no_depth nesting chain text f.OutOfMemory h = tt
 stops_no_depth nesting chain text (f.At w.TooDeep offset) h = let e = only_lexical h in absurd (cc (e))
 stops_no_depth nesting chain text (f.At _ offset) h = tt
 
+-- it is no repeated name
 pub stops_no_duplicate : (nesting chain : ℕ) (text : List ℕ) (fault : TextFault) → IsLexicalFault text fault → IfDuplicate nesting chain text fault
 stops_no_duplicate nesting chain text f.OutOfMemory h = tt
 stops_no_duplicate nesting chain text (f.At w.DuplicateRule offset) h = let e = only_lexical h in absurd (cc (e))

@@ -63,6 +63,7 @@ module _ (b level : ℕ) (operand operand' : Reader SurfaceTree) (sees : (ts : L
       let (x, more, h) = default_of operand operand' (May stops) (Next counts) (sees []) in
       (Binary op left x t.offset, more, λ rest g. goes_on operand' b left t op e (more ++ rest) ∙ ap (λ r. r >>= λ right. chain operand' level b (Binary op left right.0 t.offset) right.1) (h rest g).1 ∙ chain_none operand' level b (Binary op left x t.offset) rest (not_linked (suc level) rest g))
 
+  -- where a chain of operators of one level stops, it can be completed under wider limits
   pub sees_chain : (c : ℕ) (left : SurfaceTree) (ts : List Terminal) → Sees (chain operand level c left) (chain operand' level (longer b c) left) (May stops) (May stops) ts
   unfolding link
   sees_chain c left [] = no_operator_here c left [] (λ us is. rw is refl)
@@ -81,6 +82,7 @@ module _ (b level : ℕ) (operand operand' : Reader SurfaceTree) (sees : (ts : L
           (λ right rest. more (Binary op left right t.offset) rest))
 
 module _ (b c : ℕ) (p p' : Reader SurfaceTree) where
+  -- where an operand with its operators, up to any level, stops, it can be completed under wider limits
   pub sees_levels : ((ts : List Terminal) → Sees p p' (May stops) (Next counts) ts) → (level : ℕ) (ts : List Terminal) → Sees (levels c p level) (levels (longer b c) p' level) (May stops) (Next counts) ts
   unfolding levels
   sees_levels sees zero ts = sees ts
@@ -99,6 +101,7 @@ module _ (b c : ℕ) (p p' : Reader SurfaceTree) where
 
 -- ---- single operands
 
+-- where a name or a literal of an enumeration stops, it can be completed
 pub sees_named : (text : List ℕ) (at : ℕ) (ts : List Terminal) → Sees (p.name_or_literal text at) (p.name_or_literal text at) (May stops) (May stops) ts
 unfolding p.name_or_literal
 sees_named text at ts =
@@ -120,6 +123,7 @@ module _ (whole : Reader SurfaceTree) (at : ℕ) where
 -- ---- what stands inside a construct
 
 module _ (operand operand' whole whole' : Reader SurfaceTree) (sees : (ts : List Terminal) → Sees operand operand' (May stops) (Next counts) ts) (sees_whole : (ts : List Terminal) → Sees whole whole' (May stops) (Next counts) ts) where
+  -- where an `if` stops, it can be completed
   pub sees_conditional : (at : ℕ) (ts : List Terminal) → Sees (if_expression operand whole at) (if_expression operand' whole' at) (May stops) (Next counts) ts
   unfolding if_expression
   sees_conditional at ts =
@@ -136,6 +140,7 @@ module _ (operand operand' whole whole' : Reader SurfaceTree) (sees : (ts : List
   abbrev SeesPrim : List Terminal → Type 0
   SeesPrim ts = Sees (prim operand whole) (prim operand' whole') (May stops) (Next counts) ts
 
+  -- where an operand without prefixes and steps stops, it can be completed
   pub sees_prim : (ts : List Terminal) → Sees (prim operand whole) (prim operand' whole') (May stops) (Next counts) ts
   unfolding prim
   sees_prim [] = stuck (prim operand whole) (prim operand' whole') (May stops) (Next counts) [] (λ us is. rw is refl) (λ us is. rw is refl) (Number 0 0, zero_token ∷ [], λ rest g. (refl, refl))
@@ -201,6 +206,7 @@ module _ (operand operand' : Reader SurfaceTree) (sees : (ts : List Terminal) �
   sees_arguments a n ts = sees_expect m.Open (arguments_in operand n) (arguments_in operand' (deeper a n)) Any Any (sees_arguments_in a n) ts
 
   module _ (a n : ℕ) (whole whole' : Reader SurfaceTree) where
+    -- where the arguments of a call stop, the call can be completed
     pub sees_calling : (source : SurfaceTree) (by : Navigation) (text : List ℕ) (at : ℕ) (ts : List Terminal) → Sees (calling n operand whole source by text at) (calling (deeper a n) operand' whole' source by text at) (May stops) (Next (is_mark m.Open)) ts
     unfolding calling
     sees_calling source by text at ts =
@@ -220,6 +226,7 @@ module _ (operand operand' : Reader SurfaceTree) (sees : (ts : List Terminal) �
         by (k.Number v) = refl
         by _ = refl
 
+    -- where what follows the name of a property or a call stops, it can be completed
     pub sees_called : (source : SurfaceTree) (text : List ℕ) (at : ℕ) (ts : List Terminal) → Sees (called n operand whole source text at) (called (deeper a n) operand' whole' source text at) (May stops) (May stops) ts
     sees_called source text at ts =
         sees_as _ _ _ _ (May stops) (May stops) ts (λ us w. called_is operand whole n source text at us) (λ us w. called_is operand' whole' (deeper a n) source text at us)

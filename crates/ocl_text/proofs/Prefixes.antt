@@ -68,6 +68,7 @@ with_first before first after ts is = is ∙ sym (append_assoc before (first ∷
 
 -- ---- one parser after another
 
+-- three readings in a row may be grouped either way
 pub assoc : {A B C : Type 0} (r : Result A TokensFault) (f : A → Result B TokensFault) (g : B → Result C TokensFault) → (r >>= f >>= g) ≡ (r >>= λ x. f x >>= g)
 assoc (Ok x) f g = refl
 assoc (Err e) f g = refl
@@ -90,6 +91,7 @@ module _ {A B : Type 0} (p : Reader A) (f : A → Reader B) (F G S : List Termin
       let v = ends (after ++ us) u.0 in
       rw (append_assoc more after us) (v.0, ap (λ r. r >>= λ z. f z.0 z.1) v.1 ∙ u.1)
 
+-- what sees the empty list can be completed from nothing under the wider limits
 pub default_of : {A : Type 0} (p p' : Reader A) (F S : List Terminal → Type 0) → Sees p p' F S [] → Completes p' F S []
 default_of {A} p p' F S s = by s.outcome s.before s.rest s.split s.wide
   where
@@ -173,12 +175,14 @@ module _ {A B : Type 0} (p p' : Reader A) (f f' : A → Reader B) (F G R S : Lis
         wide = (first, after, first_is, completes_by (before ++ first ∷ []) default w);
       }
 
+  -- the same, where what comes next is seen whatever is left
   pub bind : Sees p p' F S ts → ((x : A) (rest : List Terminal) → Sees (f x) (f' x) G R rest) → Sees bound bound' G S ts
   bind s h = bind_from s (λ x rest l. h x rest)
 
 -- ---- parsers that do the same on the lists in question
 
 module _ {A : Type 0} (p p' q q' : Reader A) (F S : List Terminal → Type 0) (ts : List Terminal) where
+  -- a parser sees what another sees that does the same on the lists in question
   pub sees_as : ((us : List Terminal) → Agrees ts us ⊎ S us → p us ≡ q us) → ((us : List Terminal) → Agrees ts us ⊎ S us → p' us ≡ q' us) → Sees q q' F S ts → Sees p p' F S ts
   sees_as e e' s = record {
     outcome = s.outcome;
@@ -203,6 +207,7 @@ module _ {A : Type 0} (p p' q q' : Reader A) (F S : List Terminal → Type 0) (t
 
 -- a token is passed
 module _ {A : Type 0} (t : Terminal) (us : List Terminal) (p p' q q' : Reader A) (F R S : List Terminal → Type 0) where
+  -- a parser that passes this token and goes on as another sees what the other sees after it
   pub skip : ((vs : List Terminal) → p (t ∷ vs) ≡ q vs) → ((vs : List Terminal) → p' (t ∷ vs) ≡ q' vs) → Sees q q' F R us → Sees p p' F S (t ∷ us)
   skip e e' s = record {
     outcome = s.outcome;
@@ -223,6 +228,7 @@ module _ {A : Type 0} (t : Terminal) (us : List Terminal) (p p' q q' : Reader A)
 
 -- ---- single parsers
 
+-- a parser that passes no token, and gives a value, sees each list
 pub pass : {A : Type 0} (x : A) (F : List Terminal → Type 0) (ts : List Terminal) → Sees (λ us. Ok (x, us)) (λ us. Ok (x, us)) F F ts
 pass x F ts = record { outcome = read x; before = []; rest = ts; split = refl; same = λ other a. refl; wide = (λ other a. refl, λ rest g. (g, refl)) }
 
@@ -294,6 +300,7 @@ sees_expect {A} mark p p' F R h ts = by ts
         first true e = skip t us _ _ p p' F R _ (λ vs. rw e refl) (λ vs. rw e refl) (h us)
         first false e = stuck _ _ F _ (t ∷ us) (λ vs (more, is). rw is (rw e refl)) (λ vs (more, is). rw is (rw e refl)) (default (default_of p p' F R (h [])))
 
+-- a name with its place: it stands here, or else a name completes it
 pub sees_placed_name : (ts : List Terminal) → Sees placed_name placed_name Any (Next is_identifier_kind) ts
 unfolding placed_name
 sees_placed_name [] = stuck placed_name placed_name Any (Next is_identifier_kind) [] (λ us is. rw is refl) (λ us is. rw is refl) (([], 0), token k.Identifier 0 [] ∷ [], λ rest g. (refl, refl))
@@ -304,6 +311,7 @@ sees_placed_name (t ∷ ts) = by t.kind
     by (k.Number v) = stuck placed_name placed_name Any (Next is_identifier_kind) _ (λ us (more, is). rw is refl) (λ us (more, is). rw is refl) (([], 0), token k.Identifier 0 [] ∷ [], λ rest g. (refl, refl))
     by _ = stuck placed_name placed_name Any (Next is_identifier_kind) _ (λ us (more, is). rw is refl) (λ us (more, is). rw is refl) (([], 0), token k.Identifier 0 [] ∷ [], λ rest g. (refl, refl))
 
+-- a name alone: it stands here, or else a name completes it
 pub sees_identifier : (ts : List Terminal) → Sees identifier identifier Any (Next is_identifier_kind) ts
 unfolding identifier
 sees_identifier [] = stuck identifier identifier Any (Next is_identifier_kind) [] (λ us is. rw is refl) (λ us is. rw is refl) ([], token k.Identifier 0 [] ∷ [], λ rest g. (refl, refl))

@@ -76,6 +76,7 @@ module _ (nesting chain : ℕ) (ts : List Terminal) where
       let spelled = rw (deeper_swap n nesting, longer_swap c chain) at (spelled_read (deeper nesting n) (longer chain c) (before ++ other) rules (wider n c (suc (suc (suc nesting))) (suc chain) (before ++ other) rules d)) in
       cc (refused, spelled)
 
+  -- a refusal of syntax stands where the list goes wrong
   pub wrong_at : (s : List Terminal) → all_rules nesting chain ts ≡ Err (syntax s) → IsWrongAt ts s
   wrong_at s h = let sees = sees_rules 0 0 chain nesting ts in by sees.outcome sees.before sees.rest sees.split sees.same sees.wide
     where
@@ -89,6 +90,7 @@ module _ (nesting chain : ℕ) (ts : List Terminal) where
           let split : ts ≡ before ++ s = is ∙ ap (λ (l : List Terminal). before ++ l) at_rest in
           record { before = before; split = split; begins = spelled_wider before more x (g [] refl).1; cannot = wrong_for_good s h before split }
 
+  -- a refusal of depth stands where the list goes too deep
   pub too_deep_at : (s : List Terminal) → all_rules nesting chain ts ≡ Err (too_deep s) → IsTooDeepAt nesting chain ts s
   too_deep_at s h = let sees = sees_rules 0 0 chain nesting ts in by sees.outcome sees.before sees.rest sees.split sees.same sees.wide
     where

@@ -9,6 +9,7 @@ use Rattle.ocl_text.specs.Parse as p
 use Rattle.ocl_text.specs.Parse.{syntax, Reader, begins, begins_expr, begins_argument, too_deep_at, identifier, levels, unary, unary_over, expr, expr_over, post, prim, arguments_in, items, a_bind, let_expression, placed_name}
 use Rattle.ocl_text.proofs.Turns.{expr_plain}
 
+-- where no name stands, a type is refused
 pub type_shut : (n : ℕ) (ts : List Terminal) → next_is is_identifier_kind ts ≡ false → p.a_type n ts ≡ Err (syntax ts)
 unfolding p.a_type p.type_over too_deep_at
 type_shut zero ts h = rw h refl
@@ -20,11 +21,13 @@ type_shut (suc n) (t ∷ ts) h = by t.kind h
     by (k.Number v) h = refl
     by _ h = refl
 
+-- where an operand is refused, so is one with operators, on each level
 pub levels_shut : (c : ℕ) (p : Reader SurfaceTree) (level : ℕ) (ts : List Terminal) → p ts ≡ Err (syntax ts) → levels c p level ts ≡ Err (syntax ts)
 unfolding levels
 levels_shut c p zero ts h = h
 levels_shut c p (suc level) ts h = rw (levels_shut c p level ts h) refl
 
+-- where no operand can begin, one is refused, whatever the limits
 pub unary_shut : (c n : ℕ) (ts : List Terminal) → next_is begins ts ≡ false → unary c n ts ≡ Err (syntax ts)
 unfolding unary unary_over too_deep_at post prim
 unary_shut c zero ts h = rw h refl
@@ -58,12 +61,14 @@ next_less (t ∷ ts) h = begins_less t.kind h
 not_let : (kind : TokenKind) → begins_expr kind ≡ false → kind ≡ k.Let → ⊥
 not_let kind h e = let f = rw e at h in absurd (cc)
 
+-- where no expression can begin, one is refused, whatever the limits
 pub expr_shut : (c n : ℕ) (ts : List Terminal) → next_is begins_expr ts ≡ false → expr c n ts ≡ Err (syntax ts)
 unfolding expr expr_over too_deep_at unary
 expr_shut c zero ts h = rw h refl
 expr_shut c (suc n) [] h = levels_shut c (unary c (suc n)) top [] (unary_shut c (suc n) [] refl)
 expr_shut c (suc n) (t ∷ ts) h = expr_plain c (suc n) (t ∷ ts) t ts (λ e. cc (e)) refl (not_let t.kind h) ∙ levels_shut c (unary c (suc n)) top (t ∷ ts) (unary_shut c (suc n) (t ∷ ts) (next_less (t ∷ ts) h))
 
+-- where no argument can begin and no parenthesis closes, arguments are refused
 pub argument_shut : (n : ℕ) (operand : Reader SurfaceTree) → ((ts : List Terminal) → next_is begins ts ≡ false → operand ts ≡ Err (syntax ts)) → (ts : List Terminal) → next_is begins_argument ts ≡ false → arguments_in operand n ts ≡ Err (syntax ts)
 unfolding arguments_in too_deep_at items
 argument_shut zero operand h ts e = rw e refl
@@ -80,6 +85,7 @@ argument_shut (suc n) operand h (t ∷ ts) e = rw (no_close t.kind e, h (t ∷ t
     no_begin (k.Number v) e = e
     no_begin _ e = e
 
+-- where no name stands after `let`, it is refused
 pub let_shut : (operand whole : Reader SurfaceTree) (at i : ℕ) (ts : List Terminal) → next_is is_identifier_kind ts ≡ false → let_expression i operand whole at ts ≡ Err (syntax ts)
 unfolding let_expression too_deep_at items a_bind placed_name
 let_shut operand whole at zero ts e = rw e refl

@@ -18,10 +18,12 @@ use Rattle.ocl_text.specs.Parse.{TokensFault, syntax, too_deep, Reading, Reader,
 
 -- ---- how parts are put together
 
+-- what holds after one reading, and then after the next, holds of both in a row
 pub bind_ok : {A B : Type 0} (P : A → Type 0) (Q : B → Type 0) (r : Result A TokensFault) (f : A → Result B TokensFault) → IfOk r P → ((x : A) → P x → IfOk (f x) Q) → IfOk (r >>= f) Q
 bind_ok P Q (Ok x) f h s = s x h
 bind_ok P Q (Err e) f h s = tt
 
+-- what follows from what a reading gives holds of it too
 pub weaker : {A : Type 0} (P Q : A → Type 0) (r : Result A TokensFault) → ((x : A) → P x → Q x) → IfOk r P → IfOk r Q
 weaker P Q (Ok x) f h = f x h
 weaker P Q (Err e) f h = tt
@@ -46,6 +48,7 @@ mark_kind m.Else = k.Else
 mark_kind m.Endif = k.Endif
 mark_kind m.Context = k.Context
 
+-- a token that is this mark is of the mark's kind
 pub mark_is : (mark : Mark) (kind : TokenKind) → is_mark mark kind ≡ true → kind ≡ mark_kind mark
 mark_is m.Identifier k.Identifier h = refl
 mark_is m.Identifier (k.Number v) h = absurd (cc)
@@ -175,6 +178,7 @@ no_deeper : {A : Type 0} (test : TokenKind → Bool) (ts : List Terminal) (P : A
 unfolding too_deep_at
 no_deeper test ts P = if_ok P (next_is test ts) _ _ (λ h. tt) (λ h. tt)
 
+-- a type that is read is one by the grammar
 pub sound_type : (n : ℕ) (ts : List Terminal) → IfOk (p.a_type n ts) (λ x. IsType n ts x.0 x.1)
 unfolding p.a_type p.type_over
 sound_type zero ts = no_deeper g.is_identifier_kind ts _
@@ -398,6 +402,7 @@ module _ (c n level : ℕ) (operand : Reader SurfaceTree) (sound : Sound (IsLeve
       (λ right d. weaker (λ x. GoesOn c n level l (Binary op left right.0 t.offset) right.1 x.0 x.1) _ (chain operand level l (Binary op left right.0 t.offset) right.1)
       (λ x f. rw is (g.more h d f)) (sound_chain l (Binary op left right.0 t.offset) right.1)))
 
+-- operands with their operators, up to any level, are read as the grammar says, if single operands are
 pub sound_levels : (c n : ℕ) (p : Reader SurfaceTree) → Sound (IsUnary c n) p → (level : ℕ) → Sound (IsLevel c n level) (levels c p level)
 unfolding levels
 sound_levels c n p sound zero ts = weaker _ _ (p ts) (λ x d. g.unary d) (sound ts)
@@ -453,10 +458,12 @@ module _ (c n : ℕ) (below whole : Reader SurfaceTree) (sound_below : Sound (Is
 mutual
   unfolding unary expr
 
+  -- an operand that is read is one by the grammar
   pub sound_unary : (c n : ℕ) → Sound (IsUnary c n) (unary c n)
   sound_unary c zero ts = no_deeper _ ts _
   sound_unary c (suc n) ts = sound_unary_over c n (unary c n) (expr c n) (sound_unary c n) (sound_expr c n) ts
 
+  -- an expression that is read is one by the grammar
   pub sound_expr : (c n : ℕ) → Sound (IsExpr c n) (expr c n)
   sound_expr c zero ts = no_deeper _ ts _
   sound_expr c (suc n) ts = sound_expr_over c n (unary c n) (expr c n) (sound_unary c n) (sound_expr c n) ts
@@ -504,6 +511,7 @@ module _ (nesting c : ℕ) where
       (λ colon_at colon us is. weaker (λ x. IsExpr c (suc nesting) us x.0 x.1) _ (expr c (suc nesting) us) (λ x d. give colon_at colon us is x.0 x.1 d) (sound_expr c (suc nesting) us)) v.1 refl)
       (λ x d. d))
 
+  -- an invariant that is read is one by the grammar
   pub sound_invariant : (class : List ℕ × ℕ) (n : ℕ) (ts : List Terminal) → IfOk (invariant (expr c (suc nesting)) class n ts) (λ x. IsInvariant nesting c n class.0 class.1 ts x.0 x.1)
   unfolding invariant
   sound_invariant class n [] = tt
@@ -514,6 +522,7 @@ module _ (nesting c : ℕ) where
       by (k.Number v) at text = tt
       by _ at text = tt
 
+  -- the invariants of a context that are read are so by the grammar
   pub sound_invariants : (class : List ℕ × ℕ) (f : ℕ) (found : List Rule) (ts : List Terminal) → IfOk (invariants (expr c (suc nesting)) class f found ts) (λ x. IsInvariants nesting c class.0 class.1 found ts x.0 x.1)
   unfolding invariants
   sound_invariants class zero found ts = tt
@@ -537,6 +546,7 @@ module _ (nesting c : ℕ) where
       expect_ok m.Context (λ us. ts ≡ us) (OpensContext found ts) placed_name
       (λ at text us is. class_is (OpensContext found ts) us (λ class_at class vs class_is. λ most all mid d e. rw (is, class_is) (g.a_context d e))) ts refl
 
+  -- the contexts that are read are so by the grammar
   pub sound_contexts : (f : ℕ) (found : List Rule) (ts : List Terminal) → IfOk (contexts (expr c (suc nesting)) f found ts) (λ all. IsContexts nesting c found ts all)
   unfolding contexts
   sound_contexts zero found ts = if_ok (λ all. IsContexts nesting c found ts all) (is_done ts) _ _ (λ h. done_is found ts h) (λ h. tt)

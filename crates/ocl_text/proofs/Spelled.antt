@@ -41,11 +41,13 @@ no_operator (suc (suc (suc (suc (suc (suc (suc zero))))))) = (refl, refl, refl, 
 no_operator (suc (suc (suc (suc (suc (suc (suc (suc zero)))))))) = (refl, refl, refl, refl, refl)
 no_operator (suc (suc (suc (suc (suc (suc (suc (suc (suc n))))))))) = (refl, refl, refl, refl, refl)
 
+-- no operator follows where an expression ends
 pub not_linked : (level : ℕ) (us : List Terminal) → May stops us → link level us ≡ None
 unfolding link
 not_linked level [] h = refl
 not_linked level (t ∷ us) h = let n = no_operator level in ap (λ o. link_by o t.offset us) (stop_is (λ kind. operator level kind ≡ None) n.0 n.1 n.2 n.3 n.4 t.kind h)
 
+-- what ends an expression is no step, no `::`, no comma and no opening parenthesis
 pub stop_steps : (kind : TokenKind) → stops kind ≡ true → steps_on kind ≡ false
 stop_steps = stop_is (λ kind. steps_on kind ≡ false) refl refl refl refl refl
 
@@ -66,17 +68,21 @@ levels_done c p (suc level) us x rest e h =
     ap (λ r. r >>= λ left. chain (levels c p level) level c left.0 left.1) (levels_done c p level us x rest e h)
     ∙ chain_none (levels c p level) level c x rest (not_linked (suc level) rest h)
 
+-- no step follows where an expression ends
 pub steps_done : (c n : ℕ) (operand whole : Reader SurfaceTree) (source : SurfaceTree) (rest : List Terminal) → May stops rest → step_list n operand whole c source rest ≡ Ok (source, rest)
 steps_done c n operand whole source rest h = steps_none n operand whole c source rest (may_not stops steps_on stop_steps rest h)
 
+-- an operand without steps, where an expression ends after it
 pub post_done : (c n : ℕ) (operand whole : Reader SurfaceTree) (us : List Terminal) (x : SurfaceTree) (rest : List Terminal) → prim operand whole us ≡ Ok (x, rest) → May stops rest → post c n operand whole us ≡ Ok (x, rest)
 unfolding post
 post_done c n operand whole us x rest e h = ap (λ r. r >>= λ y. step_list n operand whole c y.0 y.1) e ∙ steps_done c n operand whole x rest h
 
+-- an operand alone is an expression, where one ends after it and it begins with no `let`
 pub plain_expr : (c n : ℕ) (t : Terminal) (us : List Terminal) (x : SurfaceTree) (rest : List Terminal) → (t.kind ≡ k.Let → ⊥) → unary c (suc n) (t ∷ us) ≡ Ok (x, rest) → May stops rest → expr c (suc n) (t ∷ us) ≡ Ok (x, rest)
 plain_expr c n t us x rest not_let e h = expr_plain c (suc n) (t ∷ us) t us (λ z. cc (z)) refl not_let ∙ levels_done c (unary c (suc n)) top (t ∷ us) x rest e h
 
 module _ (c n : ℕ) where
+  -- the number 0 is an operand, an operand of each level, and an expression
   pub number_unary : (rest : List Terminal) → May stops rest → unary c (suc n) (zero_token ∷ rest) ≡ Ok (Number 0 0, rest)
   unfolding unary unary_over prim
   number_unary rest h = post_done c n (level_of c n top) (expr c n) (zero_token ∷ rest) (Number 0 0) rest refl h
@@ -87,6 +93,7 @@ module _ (c n : ℕ) where
   pub number_expr : (rest : List Terminal) → May stops rest → expr c (suc n) (zero_token ∷ rest) ≡ Ok (Number 0 0, rest)
   number_expr rest h = plain_expr c n zero_token rest (Number 0 0) rest (λ e. cc (e)) (number_unary rest h) h
 
+  -- a name is an operand, and an expression
   pub name_prim : (at : ℕ) (text : List ℕ) (rest : List Terminal) → May stops rest → prim (level_of c n top) (expr c n) (token k.Identifier at text ∷ rest) ≡ Ok (Name text at, rest)
   unfolding prim p.name_or_literal
   name_prim at text rest h = rw (may_not stops qualifies stop_qualifies rest h) refl
@@ -109,6 +116,7 @@ module _ (c n : ℕ) where
   abbrev with_branches : List Terminal
   with_branches = zero_token ∷ mark_word m.Then ∷ zero_token ∷ mark_word m.Else ∷ zero_token ∷ mark_word m.Endif ∷ []
 
+  -- each token that begins an operand can be completed to one
   pub opened_unary : (t : Terminal) → begins t.kind ≡ true → Opens (unary c (suc (suc n))) (May stops) t
   unfolding unary unary_over prim expect if_expression
   opened_unary t h = by t.kind t.offset t.text h
@@ -151,6 +159,7 @@ abbrev the_bounds : Reader Bound → ℕ → Bound × List Terminal → Reading 
 the_bounds item turns x = if next_is separates x.1 then items item turns ([] ++ x.0 ∷ []) (drop 1 x.1) else Ok ([] ++ x.0 ∷ [], x.1)
 
 module _ (c n l : ℕ) where
+  -- a name with those tokens after it, after `let`, is read as a `let` of one variable
   pub let_done : (place at : ℕ) (text : List ℕ) (rest : List Terminal) → May stops rest
       → let_expression (suc l) (level_of c (suc n) top) (expr c (suc n)) place (token k.Identifier at text ∷ (after_let_name ++ rest)) ≡ Ok (lets_at place (binding (text, at) (t.Named [] 0) (Number 0 0) ∷ []) (Number 0 0), rest)
   unfolding let_expression items a_bind placed_name expect p.a_type p.type_over

@@ -254,6 +254,7 @@ module _ (a b c n : ℕ) (operand operand' : Reader SurfaceTree) (sees : (ts : L
         (λ us. rw on (ap (λ r. r >>= λ x. step_list n operand whole l x.0 x.1) (step_is us))) (λ us. rw on (ap (λ r. r >>= λ x. step_list (deeper a n) operand' whole' (longer b l) x.0 x.1) (step_is' us)))
         (bind q q' (step_list n operand whole l) (step_list (deeper a n) operand' whole' (longer b l)) (May stops) (May stops) (May stops) Any ts (λ us g. g) (sees_step ts) (λ x rest. more x rest))
 
+  -- where the steps by dots and arrows after a source stop, they can be completed under wider limits
   pub sees_steps : (l : ℕ) (source : SurfaceTree) (ts : List Terminal) → Sees (step_list n operand whole l source) (step_list (deeper a n) operand' whole' (longer b l) source) (May stops) (May stops) ts
   unfolding one_step
   sees_steps l source [] = no_step_here l source [] (λ us is. rw is refl)

@@ -40,6 +40,7 @@ stops_type k.Equal = true
 stops_type k.Bar = true
 stops_type _ = false
 
+-- what holds of each token that ends an expression holds of this one
 pub stop_is : (P : TokenKind → Type 0) → P k.Close → P k.In → P k.Then → P k.Else → P k.Endif → (kind : TokenKind) → stops kind ≡ true → P kind
 stop_is P a b c d e k.Close h = a
 stop_is P a b c d e k.In h = b
@@ -56,10 +57,12 @@ type_stop_opens k.Bar h = refl
 type_stop_opens (k.Number v) h = absurd (cc)
 type_stop_opens _ h = absurd (cc)
 
+-- where a token of one sort is next, none of a sort that is apart from it is next
 pub next_not : (test other : TokenKind → Bool) → ((kind : TokenKind) → test kind ≡ true → other kind ≡ false) → (us : List Terminal) → Next test us → next_is other us ≡ false
 next_not test other h [] g = refl
 next_not test other h (t ∷ ts) g = h t.kind g
 
+-- the same, where nothing or a token of that sort is next
 pub may_not : (test other : TokenKind → Bool) → ((kind : TokenKind) → test kind ≡ true → other kind ≡ false) → (us : List Terminal) → May test us → next_is other us ≡ false
 may_not test other h [] g = refl
 may_not test other h (t ∷ ts) g = h t.kind g
@@ -69,10 +72,12 @@ pub mark_next : (mark : Mark) (test : TokenKind → Bool) → test (mark_kind ma
 mark_next mark test h [] g = absurd (cc)
 mark_next mark test h (t ∷ us) g = rw (mark_is mark t.kind g) h
 
+-- the same, where nothing may follow either
 pub mark_may : (mark : Mark) (test : TokenKind → Bool) → test (mark_kind mark) ≡ true → (us : List Terminal) → Next (is_mark mark) us → May test us
 mark_may mark test h [] g = tt
 mark_may mark test h (t ∷ us) g = rw (mark_is mark t.kind g) h
 
+-- a mark is next, and so no token of a sort that it doesn't belong to
 pub mark_not : (mark : Mark) (test : TokenKind → Bool) → test (mark_kind mark) ≡ false → (us : List Terminal) → Next (is_mark mark) us → next_is test us ≡ false
 mark_not mark test h [] g = refl
 mark_not mark test h (t ∷ us) g = rw (mark_is mark t.kind g) h
@@ -125,6 +130,7 @@ module _ (a : ℕ) where
       (pass (t.Named text at) (Next stops_type) ts)
       (next_not stops_type opens type_stop_opens)
 
+  -- where a type stops, it can be completed under wider limits
   pub sees_type : (n : ℕ) (ts : List Terminal) → Sees (p.a_type n) (p.a_type (deeper a n)) (Next stops_type) (Next is_identifier_kind) ts
   unfolding p.a_type p.type_over
   sees_type zero ts = sees_shut is_identifier_kind (p.a_type (suc (suc (suc a)))) (Next stops_type) (Next is_identifier_kind) (type_shut (suc (suc (suc a)))) (type_default (suc (suc a))) (type_opened (suc (suc a))) ts
@@ -139,6 +145,7 @@ module _ (a : ℕ) where
       by (k.Number v) s = refused (k.Number v) (λ l vs. refl)
       by _ s = refused _ (λ l vs. refl)
 
+  -- where the type that a variable may have stops, it can be completed under wider limits
   pub sees_declared : (n : ℕ) (text : List ℕ) (ts : List Terminal) → Sees (declared_after text (p.a_type n)) (declared_after text (p.a_type (deeper a n))) (Next (is_mark m.Bar)) (Next (is_mark m.Bar)) ts
   sees_declared n text ts =
       either declares _ _ _ _ (Next (is_mark m.Bar)) (Next is_identifier_kind) (Next (is_mark m.Bar)) ts
@@ -147,12 +154,14 @@ module _ (a : ℕ) where
       (pass (text, None) (Next (is_mark m.Bar)) ts)
       (mark_not m.Bar declares refl)
 
+  -- where a variable stops, it can be completed under wider limits
   pub sees_variable : (n : ℕ) (ts : List Terminal) → Sees (p.a_variable n) (p.a_variable (deeper a n)) (Next (is_mark m.Bar)) (Next is_identifier_kind) ts
   unfolding p.a_variable
   sees_variable n ts =
       bind identifier identifier (λ text. declared_after text (p.a_type n)) (λ text. declared_after text (p.a_type (deeper a n))) Any (Next (is_mark m.Bar)) (Next (is_mark m.Bar)) (Next is_identifier_kind) ts (λ us h. tt) (sees_identifier ts)
       (λ text rest. sees_declared n text rest)
 
+  -- where the second variable of an iteration stops, or is left out, it can be completed under wider limits
   pub sees_variables_by : (n : ℕ) (two : Bool) (v : VariableTree) (ts : List Terminal) → Sees (variables_by n two v) (variables_by (deeper a n) two v) Any (Next (is_mark m.Bar)) ts
   unfolding variables_by
   sees_variables_by n false v ts = sees_expect m.Bar _ _ Any Any (λ vs. pass (Single v) Any vs) ts

@@ -12,6 +12,7 @@ use Rattle.ocl_text.specs.RuleText.{has_name, AreNamedApart, RepeatsAt, here, la
 use Rattle.ocl_text.specs.Tree.{Rule}
 use Rattle.ocl_text.specs.View.{rule_of}
 
+-- a name that was inserted was not taken before
 pub is_free : (inserted held taken : Bool) → inserted ≡ not held → inserted ≡ true → held ≡ taken → taken ≡ false
 is_free true held taken e t s = by held e s
   where
@@ -20,6 +21,7 @@ is_free true held taken e t s = by held e s
     by false e s = sym s
 is_free false held taken e t s = absurd (false≢true t)
 
+-- a name that was not inserted was taken before
 pub is_held : (inserted held taken : Bool) → inserted ≡ not held → inserted ≡ false → held ≡ taken → taken ≡ true
 is_held inserted true taken e t s = sym s
 is_held inserted false taken e t s = absurd (false≢true (sym t ∙ e))
@@ -41,21 +43,25 @@ module _ (xs : List SurfaceRule) (i : ℕ) (r : SurfaceRule) (is : r ≡ get_or 
   left_more : map rule_of (drop i xs) ≡ rule_of r ∷ map rule_of (drop (i + 1) xs)
   left_more = ap (map rule_of) (drop_more xs i r within ∙ ap (λ x. x ∷ drop (i + 1) xs) (sym is))
 
+  -- after a rule with a free name the rules are named apart, if what is left is apart from those before it
   pub still_apart : has_name (map rule_of (take i xs)) r.name ≡ false
       → (AreNamedApart (map rule_of (take i xs)) (map rule_of (drop i xs)) → AreNamedApart [] (map rule_of xs))
       → AreNamedApart (map rule_of (take (i + 1) xs)) (map rule_of (drop (i + 1) xs)) → AreNamedApart [] (map rule_of xs)
   still_apart free so_far rest = so_far (subst (λ (l : List Rule). AreNamedApart (map rule_of (take i xs)) l) (sym left_more) (free, subst (λ (l : List Rule). AreNamedApart l (map rule_of (drop (i + 1) xs))) taken_more rest))
 
+  -- after a rule with a free name the first repeated name is the first one of what is left
   pub still_repeated : has_name (map rule_of (take i xs)) r.name ≡ false
       → ((place : ℕ) → RepeatsAt (map rule_of (take i xs)) (map rule_of (drop i xs)) place → RepeatsAt [] (map rule_of xs) place)
       → (place : ℕ) → RepeatsAt (map rule_of (take (i + 1) xs)) (map rule_of (drop (i + 1) xs)) place → RepeatsAt [] (map rule_of xs) place
   still_repeated free so_far place rest = so_far place (subst (λ (l : List Rule). RepeatsAt (map rule_of (take i xs)) l place) (sym left_more) (later free (subst (λ (l : List Rule). RepeatsAt l (map rule_of (drop (i + 1) xs)) place) taken_more rest)))
 
+  -- a rule whose name is taken is the first that repeats a name
   pub repeated_here : has_name (map rule_of (take i xs)) r.name ≡ true
       → ((place : ℕ) → RepeatsAt (map rule_of (take i xs)) (map rule_of (drop i xs)) place → RepeatsAt [] (map rule_of xs) place)
       → RepeatsAt [] (map rule_of xs) r.offset
   repeated_here held so_far = so_far r.offset (subst (λ (l : List Rule). RepeatsAt (map rule_of (take i xs)) l r.offset) (sym left_more) (here held))
 
+  -- a name is seen after a rule, if it was seen before it or is the rule's name
   pub still_seen : (name q : List ℕ) (before after : Bool) → name ≡ r.name → before ≡ has_name (map rule_of (take i xs)) q → after ≡ cond (is_eq (slice_cmp nat_cmp name q)) true before → after ≡ has_name (map rule_of (take (i + 1) xs)) q
   still_seen name q before after named old new =
       new

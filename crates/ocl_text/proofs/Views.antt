@@ -18,6 +18,7 @@ use Rattle.ocl_text.specs.Tree as t
 use Rattle.ocl_text.specs.Tree.{trees_of, lets_at}
 use Rattle.ocl_text.specs.View.{view, bound_of, link_of, spine_of, view_type, view_variables}
 
+-- how each kind of expression is seen, one equation for each
 pub view-Number : (value offset : ℕ) → view (e.Number value offset) ≡ t.Number value offset
 view-Number value offset = search (rules, the_lemmas)
 
@@ -47,10 +48,12 @@ pub view-If : (condition then_branch else_branch : Box Expression Global) (offse
     → view (e.If condition then_branch else_branch offset) ≡ t.If (view condition.value) (view then_branch.value) (view else_branch.value) offset
 view-If condition then_branch else_branch offset = search (rules, the_lemmas)
 
+-- how a binding of a `let` is seen
 pub bound_of-Binding : (name : List ℕ) (declared : DeclaredType) (value : Expression) (offset : ℕ)
     → bound_of (record { name = name; declared = declared; value = value; offset = offset }) ≡ record { name = name; declared = view_type declared; value = view value; offset = offset }
 bound_of-Binding name declared value offset = search (rules, the_lemmas)
 
+-- how each link of a chain is seen, as what it makes of what stands before it
 pub link_of-Binary : (operator : BinaryOperator) (right : Expression) (offset : ℕ) → link_of (li.Binary operator right offset) ≡ λ left. t.Binary operator left (view right) offset
 link_of-Binary operator right offset = search (rules, the_lemmas)
 
@@ -65,6 +68,7 @@ pub link_of-Iterate : (iterator : IteratorKind) (variables : Variables) (body : 
     → link_of (li.Iterate iterator variables body offset) ≡ λ source. t.Iterate source iterator (view_variables variables) (view body) offset
 link_of-Iterate iterator variables body offset = search (rules, the_lemmas)
 
+-- how each kind of type is seen
 pub view_type-Named : (name : List ℕ) (offset : ℕ) → view_type (ty.Named name offset) ≡ t.Named name offset
 view_type-Named name offset = search (rules, d.the_lemmas)
 

@@ -12,6 +12,7 @@ abbrev pub plus : ℕ → ℕ → ℕ
 plus zero b = b
 plus (suc a) b = suc (plus a b)
 
+-- addition that counts down its first number is addition
 pub plus_is : (a b : ℕ) → plus a b ≡ a + b
 plus_is zero b = omega arith
 plus_is (suc a) b = let e = plus_is a b in omega arith
@@ -105,22 +106,27 @@ wider_contexts : (a b : ℕ) {nesting c : ℕ} {found all : List Rule} {ts : Lis
 wider_contexts a b g.no_context = g.no_context
 wider_contexts a b (g.a_context d e) = g.a_context (wider_invariants a b d) (wider_contexts a b e)
 
+-- limits may be added in either order
 pub plus_swap : (a b : ℕ) → plus a b ≡ plus b a
 plus_swap a b = plus_is a b ∙ (let e = plus_is b a in omega arith)
 
 -- ---- what is read of a whole list
 
+-- rules that are read from a list are spelled by it within the limits
 pub read_spells : (nesting chain : ℕ) (ts : List Terminal) (rules : List Rule) → all_rules nesting chain ts ≡ Ok rules → SpellsWithin nesting chain ts rules
 unfolding all_rules
 read_spells nesting chain ts rules e = subst (λ (r : Result (List Rule) TokensFault). IfOk r (λ all. IsContexts nesting chain [] ts all)) e (sound_contexts nesting chain (length ts) [] ts)
 
+-- rules that a list spells within the limits are read from it
 pub spelled_read : (nesting chain : ℕ) (ts : List Terminal) (rules : List Rule) → SpellsWithin nesting chain ts rules → all_rules nesting chain ts ≡ Ok rules
 unfolding all_rules
 spelled_read nesting chain ts rules d = complete_contexts d (length ts) (omega arith)
 
+-- what a list spells within limits it spells within wider ones
 pub wider : (nesting chain a b : ℕ) (ts : List Terminal) (rules : List Rule) → SpellsWithin nesting chain ts rules → SpellsWithin (plus nesting a) (plus chain b) ts rules
 wider nesting chain a b ts rules d = wider_contexts a b d
 
+-- a list begins with at most one expression, whatever the limits, and leaves the same tokens after it
 pub one_expr : (ts : List Terminal) (some others : SurfaceTree) (left remains : List Terminal) → SpellsExpr ts some left → SpellsExpr ts others remains → (some ≡ others) × (left ≡ remains)
 one_expr ts some others left remains (n, c, d) (m, e, f) =
     let x = complete_expr (wider_expr m e d) in
@@ -129,6 +135,7 @@ one_expr ts some others left remains (n, c, d) (m, e, f) =
     let same : (some, left) ≡ (others, remains) = cc (x, z) in
     (ap (λ (p : SurfaceTree × List Terminal). p.0) same, ap (λ (p : SurfaceTree × List Terminal). p.1) same)
 
+-- a list spells at most one list of rules, whatever the limits
 pub one_list : (ts : List Terminal) (some others : List Rule) → Spells ts some → Spells ts others → some ≡ others
 one_list ts some others (n, c, d) (m, e, f) =
     let x = spelled_read (plus n m) (plus c e) ts some (wider n c m e ts some d) in
@@ -136,5 +143,6 @@ one_list ts some others (n, c, d) (m, e, f) =
     let z = rw (plus_swap m n, plus_swap e c) at y in
     cc (x, z)
 
+-- the same as `wider`, with limits that are written as sums
 pub wider_sum : (nesting chain a b : ℕ) (ts : List Terminal) (rules : List Rule) → SpellsWithin nesting chain ts rules → SpellsWithin (nesting + a) (chain + b) ts rules
 wider_sum nesting chain a b ts rules d = rw (← plus_is nesting a, ← plus_is chain b) (wider nesting chain a b ts rules d)

@@ -49,7 +49,7 @@ fn text_fault(parser: &Parser<'_>, end: usize, fault: ParseFault) -> TextFault
 
 /// The rules of a text, in the order in which they are written.
 ///
-/// Faults 1 to 5 come before 6 and 7, and those before 8.
+/// Faults 1 to 5 come before 6 and 7, and those before 8. `TextFault::OutOfMemory` may come in place of any answer.
 pub fn parse_rules(alloc: Global, text: &str) -> Result<Vec<SurfaceRule>, TextFault>
     ensures spells { IfOk result (λ rules.
         TextSpellsWithin MAX_NESTING MAX_CHAIN text.now (map rule_of rules.items)) }

@@ -28,11 +28,13 @@ comment_total (b ∷ text) = by (ends_comment b text) (λ h. h) (λ h. h) (comme
     by false ends goes_on (inl found) = inl (suc found.0, l.later (goes_on refl) found.1)
     by false ends goes_on (inr open_) = inr (l.later (goes_on refl) open_)
 
+-- a comment that ends is read up to its end
 pub comment_is : {n : ℕ} {text : List ℕ} → CommentEnds text n → (at len : ℕ) → len ≡ at + n → comment_from at text ≡ Some len
 unfolding comment_from
 comment_is (l.here h) at len e = rw (h, e) refl
 comment_is (l.later h d) at len e = rw h (comment_is d (at + 1) len (omega arith))
 
+-- a comment that stays open has no end
 pub comment_open : {text : List ℕ} → CommentStaysOpen text → (at : ℕ) → comment_from at text ≡ None
 unfolding comment_from
 comment_open l.at_end at = refl
@@ -66,6 +68,7 @@ not_quote b h = grind (arith, nat_tests)
 not_backslash : (b : ℕ) → is_plain b ≡ true → (b == 92) ≡ false
 not_backslash b h = grind (arith, nat_tests)
 
+-- a string that closes is read up to its closing quote, with its first bad escape
 pub string_is : {from n : ℕ} {text : List ℕ} {bad : Option ℕ} → StringCloses from text n bad → (at len : ℕ) (found : Option ℕ) → from ≡ at + 1 → len ≡ from + n → string_from false found at text ≡ Some (len, earlier found bad)
 unfolding string_from
 string_is l.quote at len found e f = let m : at + 2 ≡ len = omega arith in rw (m, earlier_none found) refl
@@ -74,6 +77,7 @@ string_is (l.escape {b = b} h d) at len found e f = rw (none_bad found at 92, no
 string_is {from} (l.bad_escape {b = b} {bad = bad} h d) at len found e f =
     rw (none_bad found at 92) (string_is d (at + 1 + 1) len (bad_after true found (at + 1) b) (omega arith) (omega arith) ∙ ap (λ x. Some (len, x)) (one_more_bad found bad (at + 1) b h ∙ ap (λ p. earlier found (Some p)) (sym e)))
 
+-- a string that stays open has no end
 pub string_open : {text : List ℕ} → StringStaysOpen text → (at : ℕ) (found : Option ℕ) → string_from false found at text ≡ None
 unfolding string_from
 string_open l.at_end at found = refl
@@ -123,6 +127,7 @@ no_less : (value : ℕ) (digits : List ℕ) → value ≤ fold digit_step value 
 no_less value [] = omega arith
 no_less value (d ∷ ds) = let h = no_less (value * 10 + (d - 48)) ds in omega (arith, h)
 
+-- the value that is read of digits is theirs, if it is within the limit
 pub digits_are : (value : ℕ) (text : List ℕ) → value < 2 ^ 63 → digits_after value text ≡ within_limit (fold digit_step value (take_while is_ascii_digit text))
 unfolding digits_after
 digits_are value [] h = let t : nat_lt value (2 ^ 63) ≡ true = lt-ltb value (2 ^ 63) h in rw t refl
@@ -202,6 +207,7 @@ two_dashes b (c ∷ text) h =
     let f : c ≡ 45 = grind (arith, nat_tests) in
     rw (e, f) l.line_comment
 
+-- what is read at the front of a text is what the cases of the text say
 pub first_fits : (text : List ℕ) → Fits text (first_lexeme text)
 unfolding first_lexeme
 first_fits [] = refl
@@ -214,14 +220,18 @@ first_fits (b ∷ text) =
     (λ digit. if_fits (b ∷ text) (is_letter b) _ _ (λ h. l.a_word h)
     (λ letter. mark_fits b text white letter digit (eqb-false b 39 no_quote) (rw (dashes, slash) refl)))))))
 
+-- the end is read only where no text is left
 pub first_end : (text : List ℕ) → first_lexeme text ≡ End → text ≡ []
 first_end text h = subst (Fits text) h (first_fits text)
 
+-- a blank that is read is white space or a comment
 pub first_blank : (text : List ℕ) (n : ℕ) → first_lexeme text ≡ Blank n → IsBlank text n
 first_blank text n h = subst (Fits text) h (first_fits text)
 
+-- a token that is read is the one that the text begins with
 pub first_token : (text : List ℕ) (kind : TokenKind) (n : ℕ) → first_lexeme text ≡ Token kind n → IsToken text kind n
 first_token text kind n h = subst (Fits text) h (first_fits text)
 
+-- a fault that is read is a flaw of the text
 pub first_fault : (at : ℕ) (text : List ℕ) (flaw : TextFlaw) (n : ℕ) → first_lexeme text ≡ Fault flaw n → IsFlaw at text flaw (at + n)
 first_fault at text flaw n h = subst (Fits text) h (first_fits text) at

@@ -187,6 +187,7 @@ flaw_or_end : {at offset : ℕ} {flaw : TextFlaw} → IsFlaw at [] flaw offset �
 unfolding first_lexeme
 flaw_or_end a = let e = (first_of_flaw a).1 in cc (e)
 
+-- a text has at most one list of tokens
 pub one_token_list : {at : ℕ} {text : List ℕ} {vs : List Terminal} → LexesFrom at text vs → (ws : List Terminal) → LexesFrom at text ws → vs ≡ ws
 one_token_list l.at_end ws l.at_end = refl
 one_token_list l.at_end ws (l.blank k d) = absurd (blank_or_end k)
@@ -200,6 +201,7 @@ one_token_list {at} {text} (l.token {n = m} {kind = a} h c) ws (l.token {n = n} 
     let rest = one_token_list c us (subst (λ (i : ℕ). LexesFrom (at + i) (drop i text) us) (token_then h k) d) in
     rw (token_then h k, token_kind h k, rest) refl
 
+-- a text that has tokens has no flaw
 pub tokens_or_flaw : {at offset : ℕ} {text : List ℕ} {flaw : TextFlaw} {ws : List Terminal} → LexesFrom at text ws → HasFlawFrom at text flaw offset → ⊥
 tokens_or_flaw l.at_end (l.here k) = flaw_or_end k
 tokens_or_flaw l.at_end (l.past_blank k d) = blank_or_end k
@@ -211,6 +213,7 @@ tokens_or_flaw (l.token h c) (l.here k) = token_or_flaw h k
 tokens_or_flaw (l.token h c) (l.past_blank k d) = blank_or_token k h
 tokens_or_flaw {at} {offset} {text} {flaw} (l.token h c) (l.past_token k d) = tokens_or_flaw c (subst (λ (i : ℕ). HasFlawFrom (at + i) (drop i text) flaw offset) (token_then h k) d)
 
+-- a text has at most one flaw, at one place
 pub one_flaw : {at here : ℕ} {text : List ℕ} {one : TextFlaw} → HasFlawFrom at text one here → (two : TextFlaw) (there : ℕ) → HasFlawFrom at text two there → Same one two here there
 one_flaw (l.here h) two there (l.here k) = same_flaw h k
 one_flaw (l.here h) two there (l.past_blank k d) = absurd (blank_or_flaw k h)

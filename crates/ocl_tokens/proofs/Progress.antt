@@ -29,15 +29,19 @@ range_is : (source : List ℕ) (i n j : ℕ) → j ≡ i + n → slice_range sou
 range_is source i n j e = let d : j - i ≡ n = omega arith in rw d refl
 
 module _ {text : List ℕ} {out : List t.Token} {at : ℕ} {rest : List ℕ} (b : Before text out at rest) where
+  -- at the end of the text, the tokens so far are its tokens
   pub end_of : End ≡ first_lexeme rest → LexesFrom 0 text (terminals out)
   end_of h = subst (LexesFrom 0 text) (append-nil (terminals out)) (b.tokens [] (rw (first_end rest (sym h)) at_end))
 
+  -- the tokens so far stand where their spans say
   pub spans_of : AreSpanned 0 text out
   spans_of = subst (AreSpanned 0 text) (append-nil out) (b.spans [] tt)
 
+  -- a fault that is read next is the flaw of the text
   pub fault_of : {flaw : TextFlaw} {n : ℕ} → Fault flaw n ≡ first_lexeme rest → HasFlawFrom 0 text flaw (at + n)
   fault_of h = b.fault _ _ (here (first_fault at rest _ _ (sym h)))
 
+  -- a blank that is read next is left behind, and no token is added
   pub blank_of : (n : ℕ) (after : List ℕ) → Blank n ≡ first_lexeme rest → IsCharBoundary rest n → after ≡ drop n rest → Before text out (at + n) after
   blank_of n after h boundary is = record {
     tokens = λ ws d. b.tokens ws (blank (first_blank rest n (sym h)) (rw is at d));
@@ -48,6 +52,7 @@ module _ {text : List ℕ} {out : List t.Token} {at : ℕ} {rest : List ℕ} (b 
     split = rw is (omega (arith, b.split, length-drop n rest, boundary.0));
   }
 
+  -- a token that is read next comes behind those so far
   pub token_of : (x : t.Token) (n : ℕ) (after : List ℕ) → Token x.kind n ≡ first_lexeme rest → IsCharBoundary rest n → x.span.start ≡ at → x.span.end ≡ at + n → x.text.now ≡ take n rest → after ≡ drop n rest → Before text (out ++ x ∷ []) (at + n) after
   token_of x n after h boundary at_is end_is text_is is = record {
     tokens = λ ws d. rw (map-append terminal out (x ∷ []), append_assoc) (b.tokens (terminal x ∷ ws) (rw (at_is, text_is) (token (first_token rest x.kind n (sym h)) (rw is at d))));

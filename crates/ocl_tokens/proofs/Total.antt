@@ -66,6 +66,7 @@ total (suc bytes) from (b ∷ text) h = by (first_lexeme (b ∷ text)) (first_fi
     by (Token kind n) d rest = after_token d (rest n (shorter_token d))
     by (Fault flaw n) d rest = inr (flaw, from + n, l.here (d from))
 
+-- each text has tokens or a fault
 pub tokens_or_a_fault : (text : List ℕ) → Either 0 text
 tokens_or_a_fault text = total (length text) 0 text (omega arith)
 
@@ -85,6 +86,7 @@ no_row (row ∷ rows) h text e =
       | inr t ↦ rw t (no_row rows none.1 text (rw t at e))
     ]
 
+-- a word that is an identifier is not reserved
 pub no_reserved_identifier : (text : List ℕ) → word_kind text ≡ k.Identifier → is_reserved text ≡ false
 unfolding is_reserved
 no_reserved_identifier text e = no_row reserved_kinds refl text e
@@ -144,6 +146,7 @@ one_byte a =
     (either_mark (a == 58) _ _ (λ text. refl) (either_mark (a == 124) _ _ (λ text. refl) (either_mark (a == 43) _ _ (λ text. refl) (either_mark (a == 45) _ _ (λ text. refl)
     (either_mark (a == 42) _ _ (λ text. refl) (either_mark (a == 61) _ _ (λ text. refl) (either_mark (a == 60) _ _ (λ text. refl) (either_mark (a == 62) _ _ (λ text. refl) tt)))))))))))
 
+-- each token is written as its kind asks
 pub token_written : {n : ℕ} {kind : TokenKind} {text : List ℕ} → IsToken text kind n → is_written kind (take n text) ≡ true
 token_written (l.a_word {b = b} {text = text} h) =
     let word = take_while is_letter_or_digit (b ∷ text) in

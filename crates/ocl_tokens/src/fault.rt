@@ -65,7 +65,7 @@ pub enum TextFault {
         /// Where, in bytes from 0.
         offset: usize,
     },
-    /// Memory was refused.
+    /// Memory ran out.
     #[error("out of memory")]
     OutOfMemory,
 }

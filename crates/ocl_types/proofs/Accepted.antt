@@ -10,6 +10,7 @@ and_false : (b : Bool) → (b && false) ≡ false
 and_false true = refl
 and_false false = refl
 
+-- arguments are not accepted where they are not as many as the types that are asked
 pub not_as_many : (m : Model) (ts : List BasicType) (kinds : List Kind) → (length ts ≡ length kinds → ⊥) → accepts m ts kinds ≡ false
 not_as_many m [] [] other = absurd (other refl)
 not_as_many m [] (a ∷ rest) other = refl

@@ -27,6 +27,7 @@ after xs (Err f) = Err f
 abbrev pub CheckedTo : Model → List Rule → List CheckedRule → ℕ → List Rule → Type 0
 CheckedTo m all xs i left = elaborate_rules m 0 all ≡ after xs (elaborate_rules m i left)
 
+-- before the first rule
 pub none_checked : (m : Model) (all : List Rule) → CheckedTo m all [] 0 all
 none_checked m all = by_cases (elaborate_rules m 0 all)
   where
@@ -34,9 +35,11 @@ none_checked m all = by_cases (elaborate_rules m 0 all)
     by_cases (Ok ys) = refl
     by_cases (Err f) = refl
 
+-- after the last rule, all rules are those that were checked
 pub all_checked : (m : Model) (all : List Rule) (xs : List CheckedRule) (i : ℕ) → CheckedTo m all xs i [] → elaborate_rules m 0 all ≡ Ok xs
 all_checked m all xs i h = h ∙ ap (λ (l : List CheckedRule). Ok l) (append-nil xs)
 
+-- one rule more without a fault, behind those before it
 pub one_checked : (m : Model) (all : List Rule) (xs : List CheckedRule) (i : ℕ) (r : Rule) (rs : List Rule) (x : CheckedRule) → CheckedTo m all xs i (r ∷ rs) → in_rule i (elaborate_rule m r) ≡ Ok x → CheckedTo m all (xs ++ x ∷ []) (i + 1) rs
 one_checked m all xs i r rs x h is =
     let next : i + 1 ≡ suc i = omega arith in
@@ -62,6 +65,7 @@ of_rule : (i : ℕ) (o : Result CheckedRule TypeFaultAt) (x : CheckedRule) → i
 of_rule i (Ok y) x e = cc
 of_rule i (Err f) x e = cc
 
+-- where all rules are elaborated, each of them is typed
 pub all_typed : (m : Model) → IsClassModel m → (i : ℕ) (rs : List Rule) (xs : List CheckedRule) → elaborate_rules m i rs ≡ Ok xs → AllByRecursion (IsTypedRule m) xs
 all_typed m well i [] xs e = let none : [] ≡ xs = cc in subst (AllByRecursion (IsTypedRule m)) none tt
 all_typed m well i (r ∷ rs) xs e =

@@ -14,6 +14,7 @@ use Rattle.ocl_types.specs.Core as tree
 use Rattle.ocl_types.specs.Core.{cores_of}
 use Rattle.ocl_types.specs.CoreView.{constant_of, core_view, core_link_of, core_spine}
 
+-- how each kind of core expression is seen, one equation for each
 pub core_view-Constant : (value : ConstantValue) → core_view (v.Constant value) ≡ tree.Value (constant_of value)
 core_view-Constant value = search (rules, the_lemmas)
 
@@ -32,6 +33,7 @@ core_view-Let value body = search (rules, the_lemmas)
 pub core_view-If : (kind : Kind) (condition then_branch else_branch : Box Core Global) → core_view (v.If kind condition then_branch else_branch) ≡ tree.If kind (core_view condition.value) (core_view then_branch.value) (core_view else_branch.value)
 core_view-If kind condition then_branch else_branch = search (rules, the_lemmas)
 
+-- how each link of a chain is seen, as what it makes of what stands before it
 pub core_link_of-Feature : (feature : ℕ) → core_link_of (l.Feature feature) ≡ λ source. tree.Feature source feature
 core_link_of-Feature feature = search (rules, the_lemmas)
 

@@ -21,7 +21,7 @@ use Rattle.ocl_types.specs.Core as tree
 use Rattle.ocl_types.specs.Core.{CoreTree, TypedTree, typed}
 use Rattle.ocl_types.specs.Scope.{Implicit, Hidden, VariableScope, scope_variable, inside, feature_of}
 use Rattle.ocl_types.specs.Elaboration.{Gathered, gathered, gathered_by, source_of_arrow, truth_kind, asks_truth, collect_by, property_by, property_of, declared_kind, declared_element, element_variable, inner_scope, turn_of, unique_by, iterate_by, iterate_twice, iterate_of}
-use Rattle.ocl_types.specs.Typing.{IsIteration, IsTyped}
+use Rattle.ocl_types.specs.Typing.{IsTypedIteration, IsTyped}
 use Rattle.ocl_types.proofs.TypedSteps.{chained, checked, there}
 use Rattle.ocl_types.proofs.TypedScopes.{kinds_of, kinds_inside, as_many_kinds, get_before, get_next, Sound, Scoped, scoped_inside, feature_sound}
 use Rattle.ocl_types.proofs.TypedOperations.{comparable_known}
@@ -109,8 +109,8 @@ module _ (m : Model) where
   -- ---- one iteration
 
   abbrev IsTurn : Turn → Type 0
-  IsTurn (Asks it) = (c : CollectionKind) (e : ScalarKind) (body : Kind) → fits m body truth_kind ≡ true → IsIteration m it c e body truth_kind
-  IsTurn (Keeps it) = (c : CollectionKind) (e : ScalarKind) (body : Kind) → fits m body truth_kind ≡ true → IsIteration m it c e body (Collection c e)
+  IsTurn (Asks it) = (c : CollectionKind) (e : ScalarKind) (body : Kind) → fits m body truth_kind ≡ true → IsTypedIteration m it c e body truth_kind
+  IsTurn (Keeps it) = (c : CollectionKind) (e : ScalarKind) (body : Kind) → fits m body truth_kind ≡ true → IsTypedIteration m it c e body (Collection c e)
   IsTurn Gathers = Unit {0}
   IsTurn Compares = Unit {0}
 

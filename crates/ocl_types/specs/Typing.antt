@@ -134,17 +134,17 @@ IsOperation m (Equal k) x xs gives =
 -- ---- iterations
 
 -- an iteration over a collection with a body of this kind gives this kind
-abbrev pub IsIteration : Model → Iteration → CollectionKind → ScalarKind → Kind → Kind → Type 0
-IsIteration m iteration.ForAll c e body gives = (fits m body truth_kind ≡ true) × (gives ≡ truth_kind)
-IsIteration m iteration.Exists c e body gives = (fits m body truth_kind ≡ true) × (gives ≡ truth_kind)
-IsIteration m iteration.One c e body gives = (fits m body truth_kind ≡ true) × (gives ≡ truth_kind)
-IsIteration m iteration.Select c e body gives = (fits m body truth_kind ≡ true) × (gives ≡ Collection c e)
-IsIteration m iteration.Reject c e body gives = (fits m body truth_kind ≡ true) × (gives ≡ Collection c e)
-IsIteration m iteration.Collect c e body gives =
+abbrev pub IsTypedIteration : Model → Iteration → CollectionKind → ScalarKind → Kind → Kind → Type 0
+IsTypedIteration m iteration.ForAll c e body gives = (fits m body truth_kind ≡ true) × (gives ≡ truth_kind)
+IsTypedIteration m iteration.Exists c e body gives = (fits m body truth_kind ≡ true) × (gives ≡ truth_kind)
+IsTypedIteration m iteration.One c e body gives = (fits m body truth_kind ≡ true) × (gives ≡ truth_kind)
+IsTypedIteration m iteration.Select c e body gives = (fits m body truth_kind ≡ true) × (gives ≡ Collection c e)
+IsTypedIteration m iteration.Reject c e body gives = (fits m body truth_kind ≡ true) × (gives ≡ Collection c e)
+IsTypedIteration m iteration.Collect c e body gives =
     (d : ScalarKind) × (body ≡ Scalar d) × (gives ≡ Collection (collected_kind c) d)
-IsIteration m iteration.CollectFlat c e body gives =
+IsTypedIteration m iteration.CollectFlat c e body gives =
     (b : CollectionKind) × (d : ScalarKind) × (body ≡ Collection b d) × (gives ≡ Collection (collected_kind c) d)
-IsIteration m (iteration.IsUnique k) c e body gives =
+IsTypedIteration m (iteration.IsUnique k) c e body gives =
     IsScalarKindOf m k × ((d : ScalarKind) × (body ≡ Scalar d) × (scalar_fits m d k ≡ true) × (gives ≡ truth_kind))
 
 -- ---- trees
@@ -165,7 +165,7 @@ module _ (m : Model) where
     -- the variable of a body may be of a wider kind than the elements
     IsTyped g (tree.Iterate iteration source body) gives =
         (c : CollectionKind) × (e : ScalarKind) × (wider : Kind) × (y : Kind) × IsTyped g source (Collection c e)
-        × (fits m (Scalar e) wider ≡ true) × IsTyped (g ++ wider ∷ []) body y × IsIteration m iteration c e y gives
+        × (fits m (Scalar e) wider ≡ true) × IsTyped (g ++ wider ∷ []) body y × IsTypedIteration m iteration c e y gives
     -- and that of a `let` than its value
     IsTyped g (tree.Let value body) gives =
         (x : Kind) × (wider : Kind) × IsTyped g value x × (fits m x wider ≡ true) × IsTyped (g ++ wider ∷ []) body gives

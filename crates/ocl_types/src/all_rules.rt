@@ -40,7 +40,7 @@ fn check_at(
 }
 
 /// Checks the types of all rules of a text: see `check`. The first rule that is at fault is reported, with
-/// its first fault. Memory may be refused in place of any fault. Rules keep their names.
+/// its first fault. `RulesFault::OutOfMemory` may come in place of any answer. Rules keep their names.
 pub fn check_rules(
     alloc: Global,
     model: &ClassModel,

@@ -61,7 +61,7 @@ pub enum TypeFault {
         /// Where, in bytes of the text from 0.
         offset: usize,
     },
-    /// Memory was refused.
+    /// Memory ran out.
     #[error("out of memory")]
     OutOfMemory,
 }

@@ -43,7 +43,8 @@ fn core_rule(alloc: Global, model: &ClassModel, rule: &SurfaceRule) -> Result<Co
 /// Checks the types of a rule in a class model, and writes out what its text leaves out: see `docs/language.md`.
 ///
 /// The first fault is reported: the context class comes before the expression; in it children come before their node, a
-/// source before the arguments, left before right. Memory may be refused in place of any fault but that of the context.
+/// source before the arguments, left before right. `TypeFault::OutOfMemory` may come in place of any answer but that the
+/// context class is unknown.
 pub fn check(alloc: Global, model: &ClassModel, rule: &SurfaceRule) -> Result<CoreRule, TypeFault>
     ensures gives { Gives type_fault checked_rule_of result
         (elaborate_rule model.now (rule_of rule.now)) }

@@ -8,9 +8,11 @@ use Rattle.rule_code.specs.Reading.{Fault}
 pub record IsBytes (bytes : List ℕ) : Type 0 where
   pub small : (i : ℕ) → get_or bytes i 0 < 256
 
+-- what is left of bytes after the first ones are bytes
 pub IsBytes-drop : (n : ℕ) (bytes : List ℕ) → IsBytes bytes → IsBytes (drop n bytes)
 IsBytes-drop n bytes h = record { small = λ i. rw get_or-drop (h.small (n + i)) }
 
+-- the first ones of bytes are bytes
 pub IsBytes-take : (n : ℕ) (bytes : List ℕ) → IsBytes bytes → IsBytes (take n bytes)
 IsBytes-take n bytes h = record {
   small = λ i.
@@ -20,6 +22,7 @@ IsBytes-take n bytes h = record {
       ];
 }
 
+-- what is left of bytes after the first one are bytes
 pub IsBytes-rest : (b : ℕ) (bytes : List ℕ) → IsBytes (b ∷ bytes) → IsBytes bytes
 IsBytes-rest b bytes h = record { small = λ i. h.small (suc i) }
 
@@ -28,18 +31,22 @@ pub guard_ok : {A : Type 0} (b : Bool) (d : Fault) (x y : A) → cond b (Err d) 
 guard_ok true d x y e = absurd cc
 guard_ok false d x y e = (refl, cc)
 
+-- the same, where the test has to hold
 pub pass_ok : {A : Type 0} (b : Bool) (d : Fault) (x y : A) → cond b (Ok x) (Err d) ≡ Ok y → (b ≡ true) × (x ≡ y)
 pass_ok true d x y e = (refl, cc)
 pass_ok false d x y e = absurd cc
 
+-- a reading behind a test that has to hold
 pub pass_on : {A : Type 0} (b : Bool) (r : Result A Fault) (d : Fault) (y : A) → cond b r (Err d) ≡ Ok y → (b ≡ true) × (r ≡ Ok y)
 pass_on true r d y e = (refl, e)
 pass_on false r d y e = absurd cc
 
+-- a reading behind a test that has to fail
 pub go_on : {A : Type 0} (b : Bool) (r : Result A Fault) (d : Fault) (y : A) → cond b (Err d) r ≡ Ok y → (b ≡ false) × (r ≡ Ok y)
 go_on true r d y e = absurd cc
 go_on false r d y e = (refl, e)
 
+-- what a test chose: the first where it held, and else the second
 pub chosen : {A : Type 0} (b : Bool) (x y z : Result A Fault) → cond b x y ≡ z → ((b ≡ true) × (x ≡ z)) ⊎ ((b ≡ false) × (y ≡ z))
 chosen true x y z e = inl (refl, e)
 chosen false x y z e = inr (refl, e)
@@ -49,6 +56,7 @@ pub record Takes (bytes text rest : List ℕ) : Type 0 where
   pub parts : bytes ≡ text ++ rest
   pub rest_fits : IsBytes rest
 
+-- what two readers took, one after the other
 pub Takes-then : (a x b y c : List ℕ) → Takes a x b → Takes b y c → Takes a (x ++ y) c
 Takes-then a x b y c p q = record { parts = p.parts ∙ ap (λ (t : List ℕ). x ++ t) q.parts ∙ sym (append_assoc x y c); rest_fits = q.rest_fits }
 

@@ -18,6 +18,7 @@ pub record IsCodec {A : Type 0} (item : A → List ℕ) (Fits : A → Type 0) (i
 abbrev pub AreCodecs : {A : Type 0} → (A → List ℕ) → (List A → A → Type 0) → (List A → List ℕ → FieldRead A) → Type 0
 AreCodecs {A} item Fits item_from = (before : List A) → IsCodec item (Fits before) (item_from before)
 
+-- things that are read one after another were spelled so, are as many as were asked, and fit
 pub many_takes : {A : Type 0} (item : A → List ℕ) (Fits : List A → A → Type 0) (item_from : List A → List ℕ → FieldRead A) → AreCodecs item Fits item_from
     → (before : List A) (n : ℕ) (bytes : List ℕ) (x : List A × List ℕ) → IsBytes bytes → many_from item_from before n bytes ≡ Ok x
     → Takes bytes (flat_map item x.0) x.1 × (length x.0 ≡ n) × EachFits Fits before x.0
@@ -34,6 +35,7 @@ many_takes {A} item Fits item_from codecs before (suc n) bytes x fits e =
     let made : List A × List ℕ = (a.0.0 ∷ b.0.0, b.0.1) in
     subst (λ (y : List A × List ℕ). Takes bytes (flat_map item y.0) y.1 × (length y.0 ≡ suc n) × EachFits Fits before y.0) (ok_is made x b.2) (rw flat_map-cons both, ap suc second.1, (first.1, second.2))
 
+-- things that fit and are spelled one after another are read again
 pub many_again : {A : Type 0} (item : A → List ℕ) (Fits : List A → A → Type 0) (item_from : List A → List ℕ → FieldRead A) → AreCodecs item Fits item_from
     → (before xs : List A) (rest : List ℕ) → EachFits Fits before xs → many_from item_from before (length xs) (flat_map item xs ++ rest) ≡ Ok (xs, rest)
 unfolding many_from
@@ -66,6 +68,7 @@ pub AllByRecursion-from_each : {A : Type 0} (Fits : A → Type 0) (before xs : L
 AllByRecursion-from_each Fits before [] h = tt
 AllByRecursion-from_each Fits before (x ∷ xs) h = (h.0, AllByRecursion-from_each Fits (before ++ x ∷ []) xs h.1)
 
+-- and back
 pub EachFits-from_all : {A : Type 0} (Fits : A → Type 0) (before xs : List A) → AllByRecursion Fits xs → EachFits (λ earlier. Fits) before xs
 EachFits-from_all Fits before [] h = tt
 EachFits-from_all Fits before (x ∷ xs) h = (h.0, EachFits-from_all Fits (before ++ x ∷ []) xs h.1)

@@ -5,8 +5,8 @@ use Rattle.std.proofs.lemmas.Bool.{ltb-false, ltb-true, le-ltb}
 use Rattle.std.proofs.lemmas.List.{take_at, drop_at, take-append-drop, length-append, length-take}
 use Rattle.ocl_base.specs.Steps.{◌>>=◌}
 use Rattle.ocl_base.proofs.ForAbove.{both_steps, ok_is}
-use Rattle.rule_code.specs.declared.fault.Flaw.{Flaw}
-use Rattle.rule_code.specs.declared.fault.Flaw.TheVariants as flaws
+use Rattle.rule_code.specs.declared.fault.CodeFlaw.{CodeFlaw}
+use Rattle.rule_code.specs.declared.fault.CodeFlaw.TheVariants as flaws
 use Rattle.rule_code.specs.Reading.{Fault, FieldRead, wrong, number_from, many_from}
 use Rattle.rule_code.specs.Laws.{most_field_bytes, may_be_cut}
 use Rattle.rule_code.proofs.Bytes.{guard_ok}
@@ -18,7 +18,7 @@ pub record Passed {A : Type 0} (f : List ℕ → FieldRead A) (bytes : List ℕ)
   pub parts : bytes ≡ used ++ x.1
   pub again : (more : List ℕ) → f (used ++ more) ≡ Ok (x.0, more)
 
-abbrev pub fault_of : Flaw → ℕ → Fault
+abbrev pub fault_of : CodeFlaw → ℕ → Fault
 fault_of flaw left = record { flaw = flaw; left = left }
 
 pub record Stopped {B : Type 0} (f : List ℕ → Result B Fault) (bytes : List ℕ) (e : Fault) : Type 0 where
@@ -95,6 +95,7 @@ module _ {A B : Type 0} (f : List ℕ → FieldRead A) (g : A → List ℕ → R
     ];
   }
 
+  -- a fault of two readers in a row comes from the bytes through its field, if theirs do
   pub stops_then : IsReader f → ((bytes : List ℕ) (x : A × List ℕ) → f bytes ≡ Ok x → Stops (g x.0)) → Stops (then f g)
   stops_then first second bytes e h =
       elim (err_of (f bytes) (λ x. g x.0 x.1) e h) [
@@ -122,6 +123,7 @@ module _ {A B : Type 0} (f : List ℕ → FieldRead A) (g : A → List ℕ → F
     stops = stops_then f g first (λ bytes x h. (second bytes x h).stops);
   }
 
+  -- the same, where the second reader counts on nothing
   pub reader_then : IsReader f → ((a : A) → IsReader (g a)) → IsReader (then f g)
   reader_then first second = reader_given first (λ bytes x h. second x.0)
 
@@ -143,7 +145,7 @@ abbrev pub IsShort : {A : Type 0} → (List ℕ → FieldRead A) → Type 0
 IsShort {A} f = (bytes : List ℕ) (x : A × List ℕ) → f bytes ≡ Ok x → length bytes ≤ length x.1 + most_field_bytes
 
 -- a field whose value is tested: it is wrong as a whole
-module _ {A : Type 0} (f : List ℕ → FieldRead A) (test : A → Bool) (flaw : Flaw) where
+module _ {A : Type 0} (f : List ℕ → FieldRead A) (test : A → Bool) (flaw : CodeFlaw) where
   abbrev pub tested : List ℕ → FieldRead A
   tested bytes = f bytes >>= λ x. cond (test x.0) (Ok x) (wrong flaw bytes)
 
@@ -201,9 +203,11 @@ module _ {A : Type 0} (f : List ℕ → FieldRead A) (test : A → Bool) (flaw :
         ];
       }
 
+  -- a field that is tested is read from its own bytes, if the field is
   pub reader_tested : IsReader f → IsShort f → IsReader tested
   reader_tested first few = record { passes = tested_passes first.passes; stops = tested_stops first few }
 
+  -- a field that is tested is short, if the field is
   pub short_tested : IsShort f → IsShort tested
   short_tested few bytes y h =
       let a = both_steps (f bytes) (λ x. cond (test x.0) (Ok x) (wrong flaw bytes)) y h in
@@ -249,6 +253,7 @@ module _ {A : Type 0} (n : ℕ) (give : List ℕ → A) where
             rw (long, take_at (take n bytes) more n len, drop_at (take n bytes) more n len) refl;
       })
 
+  -- a piece of so many bytes is read from those bytes alone
   pub reader_piece : n ≤ most_field_bytes → IsReader piece
   reader_piece few = record {
     passes = piece_passes;
@@ -258,6 +263,7 @@ module _ {A : Type 0} (n : ℕ) (give : List ℕ → A) where
         subst (λ (d : Fault). Stopped piece bytes d) g.1 (cut_at_end piece bytes (omega arith));
   }
 
+  -- a piece of few bytes is short
   pub short_piece : n ≤ most_field_bytes → IsShort piece
   short_piece few bytes x h =
       let g = long_enough bytes x h in
@@ -265,9 +271,11 @@ module _ {A : Type 0} (n : ℕ) (give : List ℕ → A) where
       let after : drop n bytes ≡ x.1 = ap (λ (y : A × List ℕ). y.1) g.1 in
       omega (arith, len, ap length after)
 
+-- a number of fixed width is read from its own bytes
 pub reader_number : (w : Width) → byte_len w ≤ most_field_bytes → IsReader (number_from w)
 reader_number w few = reader_piece (byte_len w) (from_be_bytes w) few
 
+-- a number of fixed width is short
 pub short_number : (w : Width) → byte_len w ≤ most_field_bytes → IsShort (number_from w)
 short_number w few = short_piece (byte_len w) (from_be_bytes w) few
 
@@ -275,7 +283,7 @@ short_number w few = short_piece (byte_len w) (from_be_bytes w) few
 
 -- what a byte leads to: a reader of what follows, or a fault at the byte
 pub record Leads {A : Type 0} (f : List ℕ → FieldRead A) (b : ℕ) : Type 0 where
-  pub leads : ((g : List ℕ → FieldRead A) × IsReader g × ((rest : List ℕ) → f (b ∷ rest) ≡ g rest)) ⊎ ((flaw : Flaw) × ((rest : List ℕ) → f (b ∷ rest) ≡ wrong flaw (b ∷ rest)))
+  pub leads : ((g : List ℕ → FieldRead A) × IsReader g × ((rest : List ℕ) → f (b ∷ rest) ≡ g rest)) ⊎ ((flaw : CodeFlaw) × ((rest : List ℕ) → f (b ∷ rest) ≡ wrong flaw (b ∷ rest)))
 
 module _ {A : Type 0} (f : List ℕ → FieldRead A) (ends : f [] ≡ wrong flaws.Truncated []) (each : (b : ℕ) → Leads f b) where
   byte_passes : Passes f
@@ -321,11 +329,13 @@ module _ {A : Type 0} (f : List ℕ → FieldRead A) (ends : f [] ≡ wrong flaw
             })
       ]
 
+  -- a first byte and what it leads to are read from their own bytes
   pub reader_byte : IsReader f
   reader_byte = record { passes = byte_passes; stops = byte_stops }
 
 -- ---- many things
 
+-- things that are each read from their own bytes are so read one after another
 pub reader_many : {A : Type 0} (item_from : List A → List ℕ → FieldRead A) → ((before : List A) → IsReader (item_from before)) → (before : List A) (n : ℕ) → IsReader (many_from item_from before n)
 unfolding many_from
 reader_many item_from each before zero = reader_of []

@@ -10,7 +10,7 @@ use Rattle.std.proofs.lemmas.Nat.{be_bytes_2, be_bytes_8, from_be_bytes-to_be_by
 use Rattle.std.proofs.lemmas.Int.{of_z-to_z, to_z-of_z}
 use borrow.Author.Gap.{read_sfits}
 use mir.Facts.{Fits-of_z}
-use Rattle.rule_code.specs.declared.fault.Flaw.TheVariants as flaws
+use Rattle.rule_code.specs.declared.fault.CodeFlaw.TheVariants as flaws
 use Rattle.rule_code.specs.declared.symbol.Symbol.{Symbol}
 use Rattle.rule_code.specs.declared.symbol.SymbolTag.{SymbolTag}
 use Rattle.rule_code.specs.SymbolTag.{is_symbol_of}
@@ -32,6 +32,7 @@ pub record IsWide (w : Width) (limit : ℕ) : Type 0 where
   pub again : (n : ℕ) → n < limit → from_be_bytes w (to_be_bytes w n) ≡ n
   pub below : (bytes : List ℕ) → IsBytes bytes → from_be_bytes w bytes < limit
 
+-- numbers of 16 bits have two bytes, and are read back from them
 pub wide16 : IsWide w16 (2 ^ 16)
 wide16 = record {
   len = λ n. refl;
@@ -40,6 +41,7 @@ wide16 = record {
   below = λ bytes fits. omega (arith, fits.small 0, fits.small 1);
 }
 
+-- numbers of 64 bits have eight bytes, and are read back from them
 pub wide64 : IsWide w64 (2 ^ 64)
 wide64 = record {
   len = λ n. refl;
@@ -49,6 +51,7 @@ wide64 = record {
       omega (arith, fits.small 0, fits.small 1, fits.small 2, fits.small 3, fits.small 4, fits.small 5, fits.small 6, fits.small 7);
 }
 
+-- a number of fixed width: what is read was spelled so, and what is spelled so is read
 pub wide_codec : (w : Width) (limit : ℕ) → IsWide w limit → IsCodec (to_be_bytes w) (λ n. n < limit) (number_from w)
 wide_codec w limit wide = record {
   takes = λ bytes x fits e.
@@ -63,9 +66,11 @@ wide_codec w limit wide = record {
       rw (long, take_at (to_be_bytes w n) rest (byte_len w) len, drop_at (to_be_bytes w n) rest (byte_len w) len, wide.again n lt) refl;
 }
 
+-- the same of a number of 16 bits
 pub number_codec : IsCodec number_bytes (λ n. n < 2 ^ 16) (number_from w16)
 number_codec = wide_codec w16 (2 ^ 16) wide16
 
+-- the same of a count within its limit
 pub count_codec : (limit : ℕ) → limit < 2 ^ 16 → IsCodec number_bytes (λ n. n ≤ limit) (count_from limit)
 unfolding count_from
 count_codec limit small = record {
@@ -79,6 +84,7 @@ count_codec limit small = record {
       rw (number_codec.again n rest (omega arith), fine) refl;
 }
 
+-- the same of the number of a text that is there
 pub text_number_codec : (texts : ℕ) → texts < 2 ^ 16 → IsCodec number_bytes (λ n. n < texts) (text_number_from texts)
 unfolding text_number_from
 text_number_codec texts few = record {
@@ -98,6 +104,7 @@ is_symbol_of-lt tag [] n e = absurd (false≢true e)
 is_symbol_of-lt tag (s ∷ symbols) zero e = omega arith
 is_symbol_of-lt tag (s ∷ symbols) (suc n) e = let below = is_symbol_of-lt tag symbols n e in omega arith
 
+-- the same of the number of a symbol that is there and has this tag
 pub symbol_number_codec : (tag : SymbolTag) (symbols : List Symbol) → length symbols < 2 ^ 16 → IsCodec number_bytes (λ n. is_symbol_of tag symbols n ≡ true) (symbol_number_from tag symbols)
 unfolding symbol_number_from
 symbol_number_codec tag symbols few = record {
@@ -119,6 +126,7 @@ integer n = to_be_bytes w64 (cast_unsigned w64 n)
 cast_unsigned-lt : (n : ℤ) → FitsSigned w64 n → cast_unsigned w64 n < 2 ^ 64
 cast_unsigned-lt n fits = let h : Fits w64 (cast_unsigned w64 n) = Fits-of_z fits in omega (arith, h)
 
+-- the same of an integer
 pub integer_codec : IsCodec integer (FitsSigned w64) integer_from
 unfolding integer_from
 integer_codec = record {
@@ -148,11 +156,13 @@ unfolding boolean_from
 boolean_again true rest fits = refl
 boolean_again false rest fits = refl
 
+-- the same of a Boolean
 pub boolean_codec : IsCodec boolean (λ b. Unit {0}) boolean_from
 boolean_codec = record { takes = boolean_takes; again = boolean_again }
 
 -- ---- texts
 
+-- the same of a text
 pub text_codec : IsCodec text IsTextOfUnit text_from
 unfolding text_from text_bytes_from
 text_codec = record {

@@ -9,8 +9,8 @@ use Rattle.std.proofs.lemmas.List.{take_at, drop_at, take-append-drop, length-ap
 use Rattle.ocl_base.specs.Steps.{◌>>=◌}
 use Rattle.ocl_base.specs.Words.{is_name}
 use Rattle.ocl_base.proofs.ForAbove.{both_steps, ok_is}
-use Rattle.rule_code.specs.declared.fault.Flaw.{Flaw}
-use Rattle.rule_code.specs.declared.fault.Flaw.TheVariants as flaws
+use Rattle.rule_code.specs.declared.fault.CodeFlaw.{CodeFlaw}
+use Rattle.rule_code.specs.declared.fault.CodeFlaw.TheVariants as flaws
 use Rattle.ocl_base.specs.declared.collection_kind.CollectionKind.{CollectionKind}
 use Rattle.rule_code.specs.declared.kind.WrittenKind.TheVariants as kinds
 use Rattle.rule_code.specs.declared.symbol.Symbol.{Symbol}
@@ -138,7 +138,7 @@ unfolding symbol_from
 symbol_reader texts = reader_byte (symbol_from texts) refl (λ tag. record { leads = leads tag (eqb tag 1) refl (eqb tag 2) refl (eqb tag 3) refl (eqb tag 4) refl })
   where
     leads : (tag : ℕ) (a : Bool) → eqb tag 1 ≡ a → (b : Bool) → eqb tag 2 ≡ b → (c : Bool) → eqb tag 3 ≡ c → (d : Bool) → eqb tag 4 ≡ d
-        → ((g : List ℕ → FieldRead Symbol) × IsReader g × ((rest : List ℕ) → symbol_from texts (tag ∷ rest) ≡ g rest)) ⊎ ((flaw : Flaw) × ((rest : List ℕ) → symbol_from texts (tag ∷ rest) ≡ wrong flaw (tag ∷ rest)))
+        → ((g : List ℕ → FieldRead Symbol) × IsReader g × ((rest : List ℕ) → symbol_from texts (tag ∷ rest) ≡ g rest)) ⊎ ((flaw : CodeFlaw) × ((rest : List ℕ) → symbol_from texts (tag ∷ rest) ≡ wrong flaw (tag ∷ rest)))
     leads tag true e b f c g d h = inl (named_once_from texts (λ n. symbols.Class (record { 0 = n })), once_reader texts (λ n. symbols.Class (record { 0 = n })), λ rest. rw e refl)
     leads tag false e true f c g d h = inl (named_once_from texts (λ n. symbols.Enumeration (record { 0 = n })), once_reader texts (λ n. symbols.Enumeration (record { 0 = n })), λ rest. rw (e, f) refl)
     leads tag false e false f true g d h = inl (named_twice_from texts (λ m n. symbols.Feature (record { 0 = m }) (record { 0 = n })), twice_reader texts (λ m n. symbols.Feature (record { 0 = m }) (record { 0 = n })), λ rest. rw (e, f, g) refl)
@@ -155,14 +155,14 @@ boolean_reader : IsReader boolean_from
 unfolding boolean_from
 boolean_reader = reader_byte boolean_from refl (λ b. record { leads = leads b })
   where
-    leads : (b : ℕ) → ((g : List ℕ → FieldRead Bool) × IsReader g × ((rest : List ℕ) → boolean_from (b ∷ rest) ≡ g rest)) ⊎ ((flaw : Flaw) × ((rest : List ℕ) → boolean_from (b ∷ rest) ≡ wrong flaw (b ∷ rest)))
+    leads : (b : ℕ) → ((g : List ℕ → FieldRead Bool) × IsReader g × ((rest : List ℕ) → boolean_from (b ∷ rest) ≡ g rest)) ⊎ ((flaw : CodeFlaw) × ((rest : List ℕ) → boolean_from (b ∷ rest) ≡ wrong flaw (b ∷ rest)))
     leads zero = inl ((λ rest. Ok (false, rest)), reader_of false, λ rest. refl)
     leads (suc zero) = inl ((λ rest. Ok (true, rest)), reader_of true, λ rest. refl)
     leads (suc (suc b)) = inr (flaws.BadNumber, λ rest. refl)
 
 -- what follows a byte: a reader, or the fault of the byte
 abbrev Goes : {A : Type 0} → (List ℕ → FieldRead A) → ℕ → Type 0
-Goes {A} f b = ((g : List ℕ → FieldRead A) × IsReader g × ((rest : List ℕ) → f rest ≡ g rest)) ⊎ ((flaw : Flaw) × ((rest : List ℕ) → f rest ≡ wrong flaw (b ∷ rest)))
+Goes {A} f b = ((g : List ℕ → FieldRead A) × IsReader g × ((rest : List ℕ) → f rest ≡ g rest)) ⊎ ((flaw : CodeFlaw) × ((rest : List ℕ) → f rest ≡ wrong flaw (b ∷ rest)))
 
 goes_map : {A B : Type 0} (f : List ℕ → FieldRead A) (make : A → B) (b : ℕ) → Goes f b → Goes (λ rest. f rest >>= λ x. Ok (make x.0, x.1)) b
 goes_map {A} f make b goes = elim goes [
@@ -386,6 +386,7 @@ fault_is : (r : Result Content Fault) (size : ℕ) (fault : CodeFaultAt) → fau
 fault_is (Ok u) size fault h = absurd cc
 fault_is (Err e) size fault h = (e, refl, cc)
 
+-- what follows the field of the first fault doesn't matter, unless the end of the file cuts the field
 pub faults_are_of_fields : FaultsAreOfFields
 faults_are_of_fields bytes fault h =
     let f = fault_is (whole_from bytes) (length bytes) fault h in
@@ -405,6 +406,6 @@ faults_are_of_fields bytes fault h =
             let left_is : s.at + (size - s.at) ≡ size = omega (arith, s.within, length-append s.through more) in
             let again : whole_from (s.through ++ more) ≡ Err (fault_of f.0.flaw (size - s.at)) = on more (size - s.at) left_is in
             let offset_again : size - (size - s.at) ≡ fault.offset = omega (arith, at_offset, s.within, length-append s.through more) in
-            ap (λ (r : Result Content Fault). fault_part (with_offset size r)) again ∙ ap (λ (n : ℕ). Some (record { flaw = f.0.flaw; offset = n })) offset_again ∙ ap (λ (w : Flaw). Some (record { flaw = w; offset = fault.offset })) flaw_is)
+            ap (λ (r : Result Content Fault). fault_part (with_offset size r)) again ∙ ap (λ (n : ℕ). Some (record { flaw = f.0.flaw; offset = n })) offset_again ∙ ap (λ (w : CodeFlaw). Some (record { flaw = w; offset = fault.offset })) flaw_is)
       ],
     )

@@ -32,12 +32,15 @@ rules_small texts symbols before [] h = tt
 rules_small texts symbols before (r ∷ rs) h = (h.0.len, rules_small texts symbols (before ++ rule_content r ∷ []) rs h.1)
 
 module _ (ts : List (String Global)) (ss : List Symbol) (rs : List Rule) (held : ∥ IsUnit (content_of ts ss rs) ∥₁) where
+  -- each text of a unit has fewer than 2^16 bytes
   pub text_small : (i : ℕ) (d : String Global) → i < length ts → length (string_bytes (get_or ts i d)) < 2 ^ 16
   text_small i d lt = ∥∥₁_elim held (hlevel props) (λ h. All-from_recursion (λ t. length (string_bytes t) < 2 ^ 16) ts (texts_small ts h.texts) i d lt)
 
+  -- the code of each rule has fewer than 2^16 instructions
   pub rule_small : (i : ℕ) (d : Rule) → i < length rs → length (get_or rs i d).code.items < 2 ^ 16
   rule_small i d lt = ∥∥₁_elim held (hlevel props) (λ h. All-from_recursion (λ r. length r.code.items < 2 ^ 16) rs (rules_small _ _ [] rs h.rules) i d lt)
 
+  -- a unit has fewer than 2^16 texts, symbols and rules
   pub texts_few : length ts < 2 ^ 16
   texts_few = ∥∥₁_elim held (hlevel props) (λ h. omega (arith, h.text_count, length-map ts string_bytes))
 
@@ -53,6 +56,7 @@ EachFits-at Fits before [] i x e h = absurd cc
 EachFits-at Fits before (y ∷ ys) zero x e h = (before, subst (Fits before) (same_Some y x e) h.0)
 EachFits-at Fits before (y ∷ ys) (suc i) x e h = EachFits-at Fits (before ++ y ∷ []) ys i x e h.1
 
+-- the same, where the things before it don't matter
 pub AllByRecursion-at : {A : Type 0} (Fits : A → Type 0) (xs : List A) (i : ℕ) (x : A) → slice_get xs i ≡ Some x → AllByRecursion Fits xs → Fits x
 AllByRecursion-at Fits xs i x e h = (EachFits-at (λ before. Fits) [] xs i x e (EachFits-from_all Fits [] xs h)).1
 
@@ -124,6 +128,7 @@ module _ (u : Content) (held : ∥ IsUnit u ∥₁) where
     pub context_is_class : is_symbol_of tags.Class u.symbols r.context ≡ true
     context_is_class = ∥∥₁_elim held (hlevel props) (λ h. (rule_fits h).1.context)
 
+    -- the symbol of a rule's context is there
     pub context_in_range : r.context < length u.symbols
     context_in_range = is_symbol_of-lt tags.Class u.symbols r.context context_is_class
 
@@ -137,6 +142,7 @@ module _ (u : Content) (held : ∥ IsUnit u ∥₁) where
 pub symbol_at_number : (ss : List Symbol) (n i : ℕ) (s : Symbol) → i ≡ n → n < length ss → s ≡ get_or ss i s → slice_get ss n ≡ Some s
 symbol_at_number ss n i s e lt is = slice_get_read ss (length ss) n s refl lt (is ∙ ap (λ (k : ℕ). get_or ss k s) e)
 
+-- the same of a rule, by its content
 pub rule_at_place : (rs : List Rule) (i : ℕ) (r : Rule) → i < length (map rule_content rs) → r ≡ get_or rs i r → slice_get (map rule_content rs) i ≡ Some (rule_content r)
 rule_at_place rs i r lt is =
     let within : i < length rs = omega (arith, length-map rs rule_content) in

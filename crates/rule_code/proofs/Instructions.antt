@@ -6,7 +6,7 @@ use Rattle.std.proofs.lemmas.List.{append-nil}
 use Rattle.ocl_base.specs.declared.collection_kind.CollectionKind.{CollectionKind}
 use Rattle.ocl_base.specs.Steps.{◌>>=◌}
 use Rattle.ocl_base.proofs.ForAbove.{both_steps, ok_is}
-use Rattle.rule_code.specs.declared.fault.Flaw.TheVariants as flaws
+use Rattle.rule_code.specs.declared.fault.CodeFlaw.TheVariants as flaws
 use Rattle.rule_code.specs.declared.instruction.Instr.{Instr}
 use Rattle.rule_code.specs.declared.instruction.Instr.TheVariants as instrs
 use Rattle.rule_code.specs.declared.kind.WrittenScalar.{WrittenScalar}
@@ -197,5 +197,6 @@ module _ (texts : ℕ) (symbols : List Symbol) (few_texts : texts < 2 ^ 16) (few
   unfolding instr_from
   instr_again x rest fits = behind_again (row_numbered opcodes (row_of x).opcode) x (row_makes x) fits (instr x ++ rest) rest
 
+  -- an instruction that fits: what is read was spelled so, and what is spelled so is read
   pub instr_codec : IsCodec instr (InstrFits texts symbols) (instr_from texts symbols)
   instr_codec = record { takes = instr_takes; again = instr_again }

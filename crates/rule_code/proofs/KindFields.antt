@@ -7,7 +7,7 @@ use Rattle.ocl_base.specs.declared.collection_kind.CollectionKind.{CollectionKin
 use Rattle.ocl_base.specs.declared.collection_kind.CollectionKind.TheVariants as collection
 use Rattle.ocl_base.specs.Steps.{◌>>=◌}
 use Rattle.ocl_base.proofs.ForAbove.{both_steps, ok_is}
-use Rattle.rule_code.specs.declared.fault.Flaw.TheVariants as flaws
+use Rattle.rule_code.specs.declared.fault.CodeFlaw.TheVariants as flaws
 use Rattle.rule_code.specs.declared.kind.WrittenScalar.{WrittenScalar}
 use Rattle.rule_code.specs.declared.kind.WrittenScalar.TheVariants as scalars
 use Rattle.rule_code.specs.declared.kind.WrittenKind.{WrittenKind}
@@ -84,6 +84,7 @@ module _ (symbols : List Symbol) (few : length symbols < 2 ^ 16) where
   unfolding single_kind_from
   scalar_again k rest fits = element_again k (scalar_bytes k ++ rest) rest fits
 
+  -- a kind of single values: what is read was spelled so, and what is spelled so is read
   pub scalar_codec : IsCodec scalar_bytes (ScalarKindFits symbols) (single_kind_from symbols)
   scalar_codec = record { takes = scalar_takes; again = scalar_again }
 
@@ -130,6 +131,7 @@ module _ (symbols : List Symbol) (few : length symbols < 2 ^ 16) where
       rw (div-mul-add (collection_number p.0) 16 (scalar_number p.1) small, mod-mul-add (collection_number p.0) 16 (scalar_number p.1) small, found_again p.0)
       (rw (element_again p.1 (pair_bytes p ++ rest) rest fits) refl)
 
+  -- the same of a kind of collections
   pub collection_codec : IsCodec pair_bytes PairFits (collection_kind_from symbols)
   collection_codec = record { takes = collection_takes; again = collection_again }
 
@@ -163,5 +165,6 @@ module _ (symbols : List Symbol) (few : length symbols < 2 ^ 16) where
       let high : ltb (collection_number c * 16 + scalar_number k) 16 ≡ false = le-ltb _ _ (omega (arith, collection_large c)) in
       rw (high, collection_again (c, k) rest fits) refl
 
+  -- the same of a kind of either sort
   pub kind_codec : IsCodec kind_bytes (KindFits symbols) (kind_from symbols)
   kind_codec = record { takes = kind_takes; again = kind_again }

@@ -22,11 +22,13 @@ nothing_before : {A : Type 0} (read : FieldRead (List A)) → with_front [] read
 nothing_before (Ok x) = refl
 nothing_before (Err f) = refl
 
+-- before the first thing is read
 pub begins : {A : Type 0} (item_from : List A → List ℕ → FieldRead A) (count : ℕ) (bytes : List ℕ) → HasRead item_from count bytes 0 [] bytes
 begins item_from count bytes =
     let all : count - 0 ≡ count = omega arith in
     record { so_far = rw all (nothing_before (many_from item_from [] count bytes)) }
 
+-- one thing more is read
 pub goes_on : {A : Type 0} (item_from : List A → List ℕ → FieldRead A) (count : ℕ) (bytes : List ℕ) (i : ℕ) (front : List A) (rest : List ℕ) (n : A) (after : List ℕ)
     → i < count → item_from front rest ≡ Ok (n, after) → HasRead item_from count bytes i front rest → HasRead item_from count bytes (i + 1) (front ++ n ∷ []) after
 unfolding many_from
@@ -35,6 +37,7 @@ goes_on item_from count bytes i front rest n after lt h has =
     let one : with_front front (many_from item_from front (count - i) rest) ≡ with_front (front ++ n ∷ []) (many_from item_from (front ++ n ∷ []) (count - (i + 1)) after) = rw (k, h) (regroup front n (many_from item_from (front ++ n ∷ []) (count - (i + 1)) after)) in
     record { so_far = sym one ∙ has.so_far }
 
+-- the fault of a thing is the fault of the whole
 pub ends : {A : Type 0} (item_from : List A → List ℕ → FieldRead A) (count : ℕ) (bytes : List ℕ) (i : ℕ) (front : List A) (rest : List ℕ) (e : FieldFault)
     → i < count → Fails field_fault_meaning e (item_from front rest) → HasRead item_from count bytes i front rest → Fails field_fault_meaning e (many_from item_from [] count bytes)
 unfolding many_from
@@ -44,6 +47,7 @@ ends item_from count bytes i front rest (faults.At flaw left) lt h has =
     let one : with_front front (many_from item_from front (count - i) rest) ≡ Err (record { flaw = flaw; left = left }) = rw (k, h) refl in
     sym has.so_far ∙ one
 
+-- when as many things are read as the count says, they are what the whole gives
 pub is_done : {A : Type 0} (item_from : List A → List ℕ → FieldRead A) (count : ℕ) (bytes : List ℕ) (i : ℕ) (front : List A) (rest : List ℕ)
     → count ≤ i → HasRead item_from count bytes i front rest → many_from item_from [] count bytes ≡ Ok (front, rest)
 unfolding many_from

@@ -1,7 +1,7 @@
 -- Symbols: a tag, then one or two texts.
 use Rattle.std.proofs.Common.{◌≡◌, ℕ, ◌^◌, ◌<◌, true, cond, eqb, List, [], ◌∷◌, ◌++◌, Ok, refl, sym, subst, inl, inr}
 use Rattle.std.proofs.lemmas.Bool.{eqb-true}
-use Rattle.rule_code.specs.declared.fault.Flaw.TheVariants as flaws
+use Rattle.rule_code.specs.declared.fault.CodeFlaw.TheVariants as flaws
 use Rattle.rule_code.specs.declared.symbol.Symbol.{Symbol}
 use Rattle.rule_code.specs.declared.symbol.Symbol.TheVariants as symbols
 use Rattle.rule_code.specs.Spelling.{symbol}
@@ -96,5 +96,6 @@ module _ (texts : ℕ) (few : texts < 2 ^ 16) where
   symbol_again (symbols.Literal e l) rest fits =
       rw ((text_number_codec texts few).again e.0 (number_bytes l.0 ++ rest) fits.0, (text_number_codec texts few).again l.0 rest fits.1) refl
 
+  -- a symbol whose texts are there: what is read was spelled so, and what is spelled so is read
   pub symbol_codec : IsCodec symbol (SymbolFits texts) (symbol_from texts)
   symbol_codec = record { takes = symbol_takes; again = symbol_again }

@@ -5,7 +5,7 @@ use Rattle.std.specs.Int.{w16}
 use Rattle.std.proofs.lemmas.Bool.{eqb-true}
 use Rattle.std.proofs.lemmas.List.{append-nil, take-append-drop}
 use Rattle.std.proofs.lemmas.Slice.Eq.{bytes_eq-Decides}
-use Rattle.rule_code.specs.declared.fault.Flaw.TheVariants as flaws
+use Rattle.rule_code.specs.declared.fault.CodeFlaw.TheVariants as flaws
 use Rattle.rule_code.specs.declared.symbol.Symbol.{Symbol}
 use Rattle.rule_code.specs.declared.symbol.SymbolTag.TheVariants as tags
 use Rattle.ocl_base.specs.Lists.{is_among}
@@ -131,6 +131,7 @@ ended_ok : (u v : Content) (rest : List ℕ) → ended u rest ≡ Ok v → (rest
 ended_ok u v [] e = (refl, cc)
 ended_ok u v (b ∷ rest) e = absurd (let bad : wrong flaws.Trailing (b ∷ rest) ≡ Ok v = e in cc)
 
+-- a file that is read is the spelling of a unit
 pub whole_takes : (bytes : List ℕ) (u : Content) → IsBytes bytes → whole_from bytes ≡ Ok u → IsUnit u × (bytes ≡ spelling u)
 unfolding whole_from
 whole_takes bytes u fits e =
@@ -161,9 +162,11 @@ whole_again_then u rest fits =
     ap whole_from (regrouped u rest)
     ∙ rw (head_again one, texts_codec.again u.texts two (fits.text_count, EachFits-from_all IsTextOfUnit [] u.texts fits.texts), (symbols_codec (length u.texts) fits.text_count).again u.symbols three (fits.symbol_count, EachFits-from_all (SymbolFits (length u.texts)) [] u.symbols fits.symbols), (rules_codec u.texts u.symbols fits.text_count fits.symbol_count).again u.rules rest (fits.rule_count, fits.rules)) refl
 
+-- the spelling of a unit is read as the unit
 pub whole_again : (u : Content) → IsUnit u → whole_from (spelling u) ≡ Ok u
 whole_again u fits = ap whole_from (sym (append-nil (spelling u))) ∙ whole_again_then u [] fits
 
+-- the spelling of a unit is the beginning of no other's
 pub no_beginning : (u v : Content) (rest : List ℕ) → IsUnit u → IsUnit v → spelling v ≡ spelling u ++ rest → (rest ≡ []) × (u ≡ v)
 no_beginning u v rest fits more e = ended_ok u v rest (sym (whole_again_then u rest fits) ∙ ap whole_from (sym e) ∙ whole_again v more)
 
@@ -177,9 +180,11 @@ whole_is bytes u read fits e is = sym is ∙ ap whole_from e ∙ whole_again u f
 no_fault : (u : Content) (fault : Fault) → refused fault ≡ okay u → ⊥
 no_fault u fault e = cc
 
+-- the spelling of a unit is read as no other unit
 pub read_is : (bytes : List ℕ) (u v : Content) → IsUnit u → bytes ≡ spelling u → whole_from bytes ≡ Ok v → v ≡ u
 read_is bytes u v fits e is = ok_is v u (whole_is bytes u (Ok v) fits e is)
 
+-- the spelling of a unit is never refused
 pub never_refused : (bytes : List ℕ) (u : Content) (fault : Fault) → IsUnit u → bytes ≡ spelling u → whole_from bytes ≡ Err fault → ⊥
 never_refused bytes u fault fits e is = no_fault u fault (whole_is bytes u (Err fault) fits e is)
 
@@ -187,6 +192,7 @@ with_offset_ok : (size : ℕ) (read : Result Content Fault) (u : Content) → wi
 with_offset_ok size (Ok v) u e = ap (λ (w : Content). Ok w) cc
 with_offset_ok size (Err fault) u e = absurd cc
 
+-- a file is read as a unit just where it is the unit's spelling
 pub unit_of-iff : (bytes : List ℕ) (u : Content) → ((i : ℕ) → get_or bytes i 0 < 256) → (unit_of bytes ≡ Ok u) ↔ (IsUnit u × (bytes ≡ spelling u))
 unit_of-iff bytes u small = (
   λ e. whole_takes bytes u (record { small = small }) (with_offset_ok (length bytes) (whole_from bytes) u e),

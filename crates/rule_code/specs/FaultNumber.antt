@@ -1,11 +1,11 @@
 -- The documented number and place of a fault.
 use Rattle.std.specs.Prelude.{ℕ, Option, Some, None}
-use Rattle.rule_code.specs.declared.fault.Flaw.{Flaw}
-use Rattle.rule_code.specs.declared.fault.Flaw.TheVariants.{Magic, Version, Truncated, BadOpcode, BadText, BadNumber, Limit, Trailing}
+use Rattle.rule_code.specs.declared.fault.CodeFlaw.{CodeFlaw}
+use Rattle.rule_code.specs.declared.fault.CodeFlaw.TheVariants.{Magic, Version, Truncated, BadOpcode, BadText, BadNumber, Limit, Trailing}
 use Rattle.rule_code.specs.declared.fault.CodeFault.{CodeFault}
 use Rattle.rule_code.specs.declared.fault.CodeFault.TheVariants.{At, OutOfMemory}
 
-abbrev pub code_flaw_number : Flaw → ℕ
+abbrev pub code_flaw_number : CodeFlaw → ℕ
 code_flaw_number Magic = 1
 code_flaw_number Version = 2
 code_flaw_number Truncated = 3

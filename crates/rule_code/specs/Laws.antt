@@ -1,7 +1,7 @@
 -- Laws of code files.
 use Rattle.std.specs.Prelude.{◌≡◌, ◌⊎◌, ◌≤◌, ◌+◌, ℕ, Bool, true, false, List, [], ◌++◌, length, Some}
-use Rattle.rule_code.specs.declared.fault.Flaw.{Flaw}
-use Rattle.rule_code.specs.declared.fault.Flaw.TheVariants as flaws
+use Rattle.rule_code.specs.declared.fault.CodeFlaw.{CodeFlaw}
+use Rattle.rule_code.specs.declared.fault.CodeFlaw.TheVariants as flaws
 use Rattle.rule_code.specs.WellFormed.{most_text_bytes}
 use Rattle.rule_code.specs.CodeFile.{CodeFaultAt, first_code_fault}
 
@@ -10,7 +10,7 @@ abbrev pub most_field_bytes : ℕ
 most_field_bytes = most_text_bytes
 
 -- a field may be wrong because the file ends within it
-abbrev pub may_be_cut : Flaw → Bool
+abbrev pub may_be_cut : CodeFlaw → Bool
 may_be_cut flaws.Magic = true
 may_be_cut flaws.Truncated = true
 may_be_cut flaw = false

@@ -1,7 +1,7 @@
 -- A text, a symbol and a rule of a code file, read from its fields.
 use Rattle.std.specs.Prelude.{bytes_eq, ℕ, Bool, not, ◌&&◌, List, [], ◌∷◌, length, Ok, ◌==◌, if◌then◌else◌}
 use Rattle.std.specs.Int.{w16}
-use Rattle.rule_code.specs.declared.fault.Flaw.TheVariants as flaws
+use Rattle.rule_code.specs.declared.fault.CodeFlaw.TheVariants as flaws
 use Rattle.rule_code.specs.declared.instruction.Instr.{Instr}
 use Rattle.rule_code.specs.declared.symbol.Symbol.{Symbol}
 use Rattle.rule_code.specs.declared.symbol.Symbol.TheVariants as symbols

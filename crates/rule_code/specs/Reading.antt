@@ -3,8 +3,8 @@ use Rattle.std.specs.Prelude.{ℕ, zero, suc, List, [], ◌∷◌, ◌++◌, len
 use Rattle.std.specs.Int.{Width, w16, byte_len, from_be_bytes}
 use Rattle.std.specs.Str.{is_utf8}
 use Rattle.ocl_base.specs.Steps.{◌>>=◌, FaultMeaning, fault, out_of_memory, Gives}
-use Rattle.rule_code.specs.declared.fault.Flaw.{Flaw}
-use Rattle.rule_code.specs.declared.fault.Flaw.TheVariants as flaws
+use Rattle.rule_code.specs.declared.fault.CodeFlaw.{CodeFlaw}
+use Rattle.rule_code.specs.declared.fault.CodeFlaw.TheVariants as flaws
 use Rattle.rule_code.specs.declared.fault.FieldFault.{FieldFault}
 use Rattle.rule_code.specs.declared.fault.FieldFault.TheVariants as faults
 use Rattle.rule_code.specs.declared.symbol.Symbol.{Symbol}
@@ -13,7 +13,7 @@ use Rattle.rule_code.specs.SymbolTag.{is_symbol_of}
 
 -- what is wrong, and how many bytes are left where the wrong field begins
 pub record Fault : Type 0 where
-  pub flaw : Flaw
+  pub flaw : CodeFlaw
   pub left : ℕ
 
 -- what a field gives: its value and the bytes after it, or the fault
@@ -21,7 +21,7 @@ abbrev pub FieldRead : Type 0 → Type 0
 FieldRead A = Result (A × List ℕ) Fault
 
 -- the fault of the field that begins at these bytes
-abbrev pub wrong : {A : Type 0} → Flaw → List ℕ → Result A Fault
+abbrev pub wrong : {A : Type 0} → CodeFlaw → List ℕ → Result A Fault
 wrong flaw bytes = Err (record { flaw = flaw; left = length bytes })
 
 -- a number of fixed width, the high byte first

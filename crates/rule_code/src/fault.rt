@@ -9,7 +9,7 @@ use thiserror::Error;
 
 /// What is wrong with a field of a code file, with its documented number.
 #[derive(Clone, Copy, Debug, PartialEq, Eq)]
-pub enum Flaw {
+pub enum CodeFlaw {
     /// The bytes do not begin with `OCLB`.
     Magic = 1,
     /// The version is not 1.
@@ -35,7 +35,7 @@ pub enum Flaw {
 pub enum CodeFault {
     /// The bytes are no code file: the first field that is wrong begins at byte `offset`, from 0.
     #[error("{flaw:?} at byte {offset}")]
-    At { flaw: Flaw, offset: usize },
+    At { flaw: CodeFlaw, offset: usize },
     /// Memory ran out.
     #[error("out of memory")]
     OutOfMemory,
@@ -68,7 +68,7 @@ impl CodeFault {
 /// What is wrong with a field, or that memory ran out. Its place is how many bytes are left where it begins.
 #[derive(Debug, Drop)]
 pub(crate) enum FieldFault {
-    At { flaw: Flaw, left: usize },
+    At { flaw: CodeFlaw, left: usize },
     OutOfMemory,
 }
 

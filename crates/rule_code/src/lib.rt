@@ -10,7 +10,7 @@ mod symbol;
 mod unit;
 mod writing;
 
-pub use fault::{CodeFault, Flaw};
+pub use fault::{CodeFault, CodeFlaw};
 pub use instruction::Instr;
 pub use kind::{WrittenKind, WrittenScalar};
 pub use reading::read_unit;

@@ -1,6 +1,6 @@
 //! The first fault of bytes that are no code file.
 
-use rule_code::{CodeFault, Flaw, read_unit};
+use rule_code::{CodeFault, CodeFlaw, read_unit};
 use std::alloc::{AllocError, Global};
 use std::test::*;
 use test_support::bytes_of;
@@ -114,14 +114,14 @@ fn answers_the_first_fault(rt: HostRuntime) -> Result<(), Fail> {
 #[test]
 fn numbers_its_faults(rt: HostRuntime) {
     let flaws = [
-        (Flaw::Magic, 1),
-        (Flaw::Version, 2),
-        (Flaw::Truncated, 3),
-        (Flaw::BadOpcode, 4),
-        (Flaw::BadText, 5),
-        (Flaw::BadNumber, 6),
-        (Flaw::Limit, 7),
-        (Flaw::Trailing, 8),
+        (CodeFlaw::Magic, 1),
+        (CodeFlaw::Version, 2),
+        (CodeFlaw::Truncated, 3),
+        (CodeFlaw::BadOpcode, 4),
+        (CodeFlaw::BadText, 5),
+        (CodeFlaw::BadNumber, 6),
+        (CodeFlaw::Limit, 7),
+        (CodeFlaw::Trailing, 8),
     ];
     for (flaw, number) in flaws {
         let fault = CodeFault::At { flaw, offset: 12 };

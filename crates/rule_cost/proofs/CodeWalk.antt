@@ -26,6 +26,7 @@ module _ (c : SizedCode) (vars : List ℕ) (p : Place) (i : Instr) (lt : p.at < 
   by_tree : (t : CodeTree) (k : Cost) → code_tree (slice_range c.code.now p.at p.end) ≡ t → SameCost (cost_of (surroundings_of_code c) c.sizes.now t vars ops) k → SameCost (cost_between c vars p.at p.end ops) k
   by_tree t k is h = subst (λ (x : CodeTree). SameCost (cost_of (surroundings_of_code c) c.sizes.now x vars ops) k) (sym is) h
 
+  -- past an instruction without a body: the cost is its step and the cost of what follows
   pub plain_advances : shape_of i ≡ Single → (l steps next : ℕ) (after : List ℕ) → next ≡ p.at + 1 → SameCut steps 1 → SameCut l (length_given (surroundings_of_code c) c.sizes.now vars i ops) → after ≡ l ∷ lengths_below (surroundings_of_code c) i ops
       → SameCost (cost_between c vars p.at p.end ops) (more_steps steps (cost_between c vars next p.end after))
   plain_advances is l steps next after at one given pushed =
@@ -33,6 +34,7 @@ module _ (c : SizedCode) (vars : List ℕ) (p : Place) (i : Instr) (lt : p.at < 
       (by_tree _ _ (tree_plain c.code.now p.at p.end i lt le here is)
       (more_same 1 steps _ _ (sym one) (cost_same (surroundings_of_code c) c.sizes.now _ vars vars _ _ (same_lengths vars) (sym given, same_lengths (lengths_below (surroundings_of_code c) i ops)))))
 
+  -- past a block with one body: the cost is its steps, by the body's total, and the cost of what follows
   pub block_advances : (n : ℕ) → shape_of i ≡ OneBody n → p.at + 1 + n ≤ p.end → (b l steps next : ℕ) (vs after : List ℕ) (q : Place) (t : Total) → next ≡ p.at + 1 + n → q.at ≡ p.at + 1 → q.end ≡ p.at + 1 + n
       → SameCut b (length_bound_by i (top_length ops)) → vs ≡ b ∷ vars → Totals c vs q t → SameCut steps (block_steps i (top_length ops) t.steps) → SameCut l (length_yielded i (top_length ops) t.length)
       → after ≡ l ∷ lengths_below (surroundings_of_code c) i ops → SameCost (cost_between c vars p.at p.end ops) (more_steps steps (cost_between c vars next p.end after))
@@ -49,6 +51,7 @@ module _ (c : SizedCode) (vars : List ℕ) (p : Place) (i : Instr) (lt : p.at < 
       (more_same (block_steps i top body.steps) steps _ _ (block_same i top top body.steps t.steps refl in_steps ∙ sym takes)
       (cost_same (surroundings_of_code c) c.sizes.now _ vars vars _ _ (same_lengths vars) (yields_same i top top (top_length body.lengths) t.length refl in_length ∙ sym yielded, same_lengths (lengths_below (surroundings_of_code c) i ops)))))
 
+  -- and past one with two bodies, by the totals of both
   pub branches_advance : (n m : ℕ) → shape_of i ≡ TwoBodies n m → p.at + 1 + n + m ≤ p.end → (l steps next : ℕ) (after : List ℕ) (q r : Place) (t u : Total) → next ≡ p.at + 1 + n + m
       → q.at ≡ p.at + 1 → q.end ≡ p.at + 1 + n → r.at ≡ p.at + 1 + n → r.end ≡ p.at + 1 + n + m → Totals c vars q t → Totals c vars r u
       → SameCut steps (branch_steps t.steps u.steps) → SameCut l (max t.length u.length) → after ≡ l ∷ lengths_below (surroundings_of_code c) i ops
@@ -71,6 +74,7 @@ module _ (c : SizedCode) (vars : List ℕ) (p : Place) (i : Instr) (lt : p.at < 
       let e = nothing_left c vars p.end p.end ops (omega arith) in
       rw e (by_tree _ _ is (record { steps = sym (plus_same steps 0 0 0 none refl); lengths = same_lengths ops }))
 
+  -- it costs no step, whether it has one body or two
   pub torn_ends : (n : ℕ) → shape_of i ≡ OneBody n → p.end < p.at + 1 + n → (steps : ℕ) → SameCut steps 0 → SameCost (cost_between c vars p.at p.end ops) (more_steps steps (cost_between c vars p.end p.end ops))
   torn_ends n is long steps none = torn_is _ (tree_torn c.code.now p.at p.end i lt le here n is long) steps none
 
@@ -86,6 +90,7 @@ pub record Reached (c : SizedCode) (vars : List ℕ) (p : Place) (steps at : ℕ
   pub before : at ≤ p.end
   pub cost : SameCost (cost_between c vars p.at p.end []) (more_steps steps (cost_between c vars at p.end ops))
 
+-- at its beginning a walk has come to where it starts
 pub reached_first : (c : SizedCode) (vars : List ℕ) (p : Place) (steps : ℕ) (ops : List ℕ) → p.at ≤ p.end → steps ≡ capped 0 → ops ≡ [] → Reached c vars p steps p.at vars ops
 reached_first c vars p steps ops le none empty =
     let k = cost_between c vars p.at p.end [] in

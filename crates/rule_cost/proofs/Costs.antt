@@ -13,6 +13,7 @@ use Rattle.rule_cost.proofs.Cuts.{plus_same, times_same, max_same}
 
 -- ---- lengths
 
+-- each list of lengths is, cut, the same as itself
 pub same_lengths : (ls : List ℕ) → SameLengths ls ls
 same_lengths [] = tt
 same_lengths (l ∷ ls) = (refl, same_lengths ls)
@@ -31,6 +32,7 @@ as_many (l ∷ ls) (m ∷ ms) h = ap suc (as_many ls ms h.1)
 as_many [] (m ∷ ms) h = absurd h
 as_many (l ∷ ls) [] h = absurd h
 
+-- lengths that are one when they are cut have such topmost ones
 pub top_same : (ls ms : List ℕ) → SameLengths ls ms → SameCut (top_length ls) (top_length ms)
 top_same [] [] h = refl
 top_same (l ∷ ls) (m ∷ ms) h = h.0
@@ -62,6 +64,7 @@ given_same s z (instrs.Get n) vars vars' ls ls' h g = variable_same n vars vars'
 given_same s z (instrs.AsSet k) vars vars' ls ls' h g = top_same ls ls' g
 given_same s z i vars vars' ls ls' h g = refl
 
+-- numbers that are one when they are cut give such ones: lengths bound and yielded, steps of an IF and of a block
 pub binds_same : (i : Instr) (l m : ℕ) → SameCut l m → SameCut (length_bound_by i l) (length_bound_by i m)
 binds_same (instrs.Let n) l m h = h
 binds_same i l m h = refl
@@ -91,9 +94,11 @@ turns_are i l b h = refl
 
 -- ---- code
 
+-- costs that are one when they are cut stay so with steps before them
 pub more_same : (m n : ℕ) (a b : Cost) → SameCut m n → SameCost a b → SameCost (more_steps m a) (more_steps n b)
 more_same m n a b h g = record { steps = plus_same m a.steps n b.steps h g.steps; lengths = g.lengths }
 
+-- of three costs, where two pairs are one when they are cut, so is the third
 pub cost_along : (a b c : Cost) → SameCost a b → SameCost b c → SameCost a c
 cost_along a b c h g = record { steps = h.steps ∙ g.steps; lengths = lengths_along a.lengths b.lengths c.lengths h.lengths g.lengths }
 

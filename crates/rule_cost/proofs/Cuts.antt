@@ -10,9 +10,11 @@ use Rattle.rule_cost.specs.Limits.{step_limit, limited_bound, capped, SameCut}
 
 -- ---- sums, products, maxima
 
+-- a sum, cut, is the sum of cut numbers, cut
 pub plus_cut : (a b : ℕ) → capped (a + b) ≡ capped (capped a + capped b)
 plus_cut a b = omega arith
 
+-- the greater of two, cut, is the greater of the cut ones
 pub max_cut : (a b : ℕ) → capped (max a b) ≡ max (capped a) (capped b)
 max_cut a b = omega arith
 
@@ -31,17 +33,21 @@ factor_cut a b =
       | inr h ↦ past_limit a b h.1 ∙ ap (λ k. capped (k * b)) (sym (min-eq_right (omega (arith, h.1))))
     ]
 
+-- and a product, cut, is the product of cut numbers, cut
 pub times_cut : (a b : ℕ) → capped (a * b) ≡ capped (capped a * capped b)
 times_cut a b = factor_cut a b ∙ ap capped (mul_comm (capped a) b) ∙ factor_cut b (capped a) ∙ ap capped (mul_comm (capped b) (capped a))
 
 -- ---- numbers that are one when they are cut
 
+-- sums of numbers that are one when they are cut are one when they are cut
 pub plus_same : (a b c d : ℕ) → SameCut a c → SameCut b d → SameCut (a + b) (c + d)
 plus_same a b c d e f = plus_cut a b ∙ ap (λ k. capped (k + capped b)) e ∙ ap (λ k. capped (capped c + k)) f ∙ sym (plus_cut c d)
 
+-- and so are products
 pub times_same : (a b c d : ℕ) → SameCut a c → SameCut b d → SameCut (a * b) (c * d)
 times_same a b c d e f = times_cut a b ∙ ap (λ k. capped (k * capped b)) e ∙ ap (λ k. capped (capped c * k)) f ∙ sym (times_cut c d)
 
+-- and the greater ones
 pub max_same : (a b c d : ℕ) → SameCut a c → SameCut b d → SameCut (max a b) (max c d)
 max_same a b c d e f = max_cut a b ∙ ap (λ k. max k (capped b)) e ∙ ap (λ k. max (capped c) k) f ∙ sym (max_cut c d)
 
@@ -61,5 +67,6 @@ bound_cut n =
           rw (h.0, over) refl
     ]
 
+-- numbers that are one when they are cut have one bound
 pub bound_same : (m n : ℕ) → SameCut m n → limited_bound m ≡ limited_bound n
 bound_same m n e = bound_cut m ∙ ap limited_bound e ∙ sym (bound_cut n)

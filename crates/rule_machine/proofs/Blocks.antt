@@ -20,6 +20,7 @@ pub data BlockSort (i : Instr) : Type 0 where
   is_let : (n : ℕ) → i ≡ instrs.Let n → BlockSort i
   iterates : is_iteration i ≡ true → BlockSort i
 
+-- a block with one body is one or the other
 pub block_sort : (i : Instr) → HasBody i → BlockSort i
 block_sort (instrs.Let n) h = is_let n refl
 block_sort (instrs.ForAll n) h = iterates refl
@@ -34,6 +35,7 @@ block_sort i h = let bad = h.1 in cc
 
 -- ---- what they take
 
+-- an iteration takes one operand, which is a collection
 pub iteration_takes : (s : Surroundings) (i : Instr) → is_iteration i ≡ true → operands_of s i ≡ AnyCollection ∷ []
 iteration_takes s (instrs.ForAll n) it = refl
 iteration_takes s (instrs.Exists n) it = refl
@@ -57,24 +59,29 @@ block_takes s i h = by_sort (block_sort i h)
     by_sort (is_let n is) = (Anything, let_takes s i n is)
     by_sort (iterates it) = (AnyCollection, iteration_takes s i it)
 
+-- an IF takes one operand, its condition
 pub branch_takes : (s : Surroundings) (i : Instr) → HasBranches i → operands_of s i ≡ a_boolean ∷ []
 branch_takes s (instrs.If k n m) h = refl
 branch_takes s i h = let bad = h.2 in cc
 
 -- ---- iterations
 
+-- an iteration binds a single element of its source
 pub iteration_binds : (i : Instr) (p : Place) → is_iteration i ≡ true → bound_by i p ≡ place (kind.Scalar (elements_kind p.kind)) 0
 iteration_binds (instrs.Let n) p it = cc
 iteration_binds i p it = refl
 
+-- an iteration makes two steps, and for each element one more than its body
 pub iteration_steps : (i : Instr) (l b : ℕ) → is_iteration i ≡ true → block_steps i l b ≡ 2 + l * (1 + b)
 iteration_steps (instrs.Let n) l b it = cc
 iteration_steps i l b it = refl
 
+-- a block that is an iteration is opened over its operand
 pub iteration_opens : (i : Instr) (body : CodeTree) (v : Value) (q : List Piece) (vars os : List Value) → is_iteration i ≡ true → block_opened i body v q vars os ≡ opened_over i body v q vars os
 iteration_opens (instrs.Let n) body v q vars os it = cc
 iteration_opens i body v q vars os it = refl
 
+-- the marks of an iteration that is opened: its own, and that of the code after it
 pub iteration_marked : (s : Setting) (i : Instr) (body rest : CodeTree) (vps : List Place) (p : Place) (ps : List Place) (ms : List Mark) → is_iteration i ≡ true → sequence_marked s (Block i body rest) vps (p ∷ ps) ms ≡ Iterating p (end_place s body (bound_by i p ∷ vps)) (stand vps ps) ∷ Here (stand vps (block_gives s i body vps p ∷ ps)) ∷ ms
 iteration_marked s (instrs.Let n) body rest vps p ps ms it = cc
 iteration_marked s i body rest vps p ps ms it = refl

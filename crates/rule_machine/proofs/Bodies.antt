@@ -6,9 +6,11 @@ use Rattle.rule_machine.specs.declared.value.Value.{Value as Held}
 use Rattle.rule_machine.specs.Value.{Value}
 use Rattle.rule_machine.specs.Meant.{meant}
 
+-- all values pass a test where all that stand for them do
 pub all_bodies : (test : Value → Bool) (bodies : List Held) → list_all test (map meant bodies) ≡ list_all (λ b. test (meant b)) bodies
 all_bodies test bodies = list_all-map test meant bodies
 
+-- some value passes a test where some that stands for one does
 pub any_bodies : (test : Value → Bool) (bodies : List Held) → list_any test (map meant bodies) ≡ list_any (λ b. test (meant b)) bodies
 any_bodies test [] = refl
 any_bodies test (b ∷ bodies) = ap (λ t. test (meant b) || t) (any_bodies test bodies)

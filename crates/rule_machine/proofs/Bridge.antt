@@ -20,7 +20,7 @@ use Rattle.rule_verify.specs.KindRules.{Enclosing, taken, after_plain, in_block,
 use Rattle.rule_verify.proofs.ForAbove.{Takes}
 use Rattle.rule_cost.specs.Bounds.{cost_of, top_length, length_given, length_yielded, lengths_below}
 use Rattle.rule_machine.specs.Machine.{Setting, judged_by}
-use Rattle.rule_machine.specs.Places.{Place, kinds_of, lengths_of, self_place, sizes_in, given, places_left, bound_by, yielded, joined, places_after, end_place}
+use Rattle.rule_machine.specs.Places.{Place, kinds_of, lengths_of, self_place, sizes_in, given, places_left, bound_by, yielded, branch_place, places_after, end_place}
 use Rattle.rule_machine.specs.Live.{AllBelow, IsTaken, HasBody, HasBranches, Kinded}
 use Rattle.rule_machine.proofs.Blocks.{block_takes, branch_takes}
 use Rattle.rule_machine.proofs.InKinds.{below_itself}
@@ -71,6 +71,7 @@ module _ (s : Setting) where
   all_cut (suc levels) [] a = tt
   all_cut (suc levels) (i ∷ is) a = one_cut (cut levels) i is (shape_of i) refl a.0 a.1 (λ js b. all_cut levels js b)
 
+  -- the tree of code that fits the unit is cut so
   pub code_is_cut : (code : List Instr) → AllFit s code → IsCut s (code_tree code)
   code_is_cut code a = all_cut (length code) code a
 
@@ -190,7 +191,7 @@ module _ (s : Setting) where
       let inner = in_block e e.variables b.left in
       let x = end_place s first vps in
       let y = end_place s second vps in
-      let q = joined s i p x y in
+      let q = branch_place s i p x y in
       let x_kind : x.kind ≡ b.gives = (body_ends_in s first inner vps (at + 1) b.ends b.gives v b.first_ends b.one).1 in
       let y_kind : y.kind ≡ b.other = (body_ends_in s second inner vps (at + 1 + instr_count first) b.others b.other v b.second_ends b.other_one).1 in
       let bx = body_kinded first one inner vps (at + 1) b.ends b.gives v c.2 self b.first_ends b.one in

@@ -107,6 +107,7 @@ fewer_after : (before es : List Element) → length (distinct_after before es) �
 fewer_after before [] = omega arith
 fewer_after before (e ∷ es) = next_fewer before es e (Among before e) (fewer_after before es) (fewer_after (before ++ e ∷ []) es)
 
+-- distinct elements are no more than all
 pub distinct_fewer : (es : List Element) → length (distinct es) ≤ length es
 distinct_fewer es = fewer_after [] es
 
@@ -117,5 +118,6 @@ same_lists_length [] (f ∷ fs) h = cc
 same_lists_length (e ∷ es) [] h = cc
 same_lists_length (e ∷ es) (f ∷ fs) h = ap suc (same_lists_length es fs (and_parts (same_element e f) (same_lists es fs) h).1)
 
+-- lists of different lengths aren't the same
 pub different_lengths : (es fs : List Element) → (length es ≡ length fs → ⊥) → same_lists es fs ≡ false
 different_lengths es fs apart = false_from_ne_true (same_lists es fs) (λ h. apart (same_lists_length es fs h))

@@ -43,6 +43,7 @@ element_fits_in : (p : Population) (e : Element) (j k : ScalarKind) → scalar_f
 element_fits_in p None j k f h = refl
 element_fits_in p (Some v) j k f h = scalar_fits_in p v j k f h
 
+-- elements in a kind are in each kind that it fits
 pub elements_fit_in : (p : Population) (es : List Element) (j k : ScalarKind) → scalar_fits p.model j k ≡ true → list_all (is_element_in p j) es ≡ true → list_all (is_element_in p k) es ≡ true
 elements_fit_in p es j k f h = list_all-weaker (is_element_in p j) (is_element_in p k) (λ e g. element_fits_in p e j k f g) es h
 
@@ -117,9 +118,11 @@ module _ (s : Setting) where
   pub single_at : (v : Value) (k : ScalarKind) (n : ℕ) → is_in s.population v (kind.Scalar k) ≡ true → At s v (place (kind.Scalar k) n)
   single_at v k n h = record { in_kind = h; within = omega (arith, long_single v k h) }
 
+  -- a place is as wide as itself
   pub below_itself : (p : Place) → Below s p p
   below_itself p = record { fit = fits_itself s.population.model p.kind; shorter = omega arith }
 
+  -- a value at a place stands at each wider one too
   pub at_below : (v : Value) (p q : Place) → Below s p q → At s v p → At s v q
   at_below v p q b a = record { in_kind = fits_in s.population v p.kind q.kind b.fit a.in_kind; within = omega (arith, b.shorter, a.within) }
 
@@ -131,6 +134,7 @@ module _ (s : Setting) where
   all_below [] (p ∷ ps) (q ∷ qs) rest b a = absurd a
   all_below (v ∷ vs) (p ∷ ps) (q ∷ qs) rest b a = (at_below v p q b.0 a.0, all_below vs ps qs rest b.1 a.1)
 
+  -- two lists of values that stand at one place stand at it together
   pub each_joined : (p : Place) (vs ws : List Value) → EachAt s p vs → EachAt s p ws → EachAt s p (vs ++ ws)
   each_joined p [] ws a b = b
   each_joined p (v ∷ vs) ws a b = (a.0, each_joined p vs ws a.1 b)

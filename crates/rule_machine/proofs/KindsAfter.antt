@@ -6,7 +6,7 @@ use Rattle.ocl_base.proofs.ForAbove.{ok_is, both_steps}
 use Rattle.ocl_kinds.specs.declared.kind.Kind.{Kind}
 use Rattle.rule_code.specs.declared.instruction.Instr.{Instr}
 use Rattle.rule_verify.specs.declared.pattern.Pattern.{Pattern}
-use Rattle.rule_verify.specs.declared.fault.Flaw.TheVariants as flaws
+use Rattle.rule_verify.specs.declared.fault.VerifyFlaw.TheVariants as flaws
 use Rattle.rule_verify.specs.CodeTree.{CodeTree, End, Plain, Block, Branch, Torn, instr_count}
 use Rattle.rule_verify.specs.Patterns.{matches, below}
 use Rattle.rule_verify.specs.InstrKinds.{Surroundings, operands_of, result_kind, topmost, binds, ends_with, yields}
@@ -14,10 +14,11 @@ use Rattle.rule_verify.specs.KindRules.{instr_fault, Enclosing, operand_limit, b
 use Rattle.rule_verify.proofs.ForAbove.{Takes, takes_from}
 use Rattle.rule_cost.specs.Bounds.{Cost, cost_of, top_length, length_given, length_yielded, lengths_below, length_bound_by}
 use Rattle.rule_machine.specs.Machine.{Setting, judged_by}
-use Rattle.rule_machine.specs.Places.{Place, kinds_of, lengths_of, sizes_in, given, places_left, bound_by, yielded, joined, top_place, places_after, end_place}
+use Rattle.rule_machine.specs.Places.{Place, kinds_of, lengths_of, sizes_in, given, places_left, bound_by, yielded, branch_place, top_place, places_after, end_place}
 
 -- ---- what the rules of kinds say of their parts
 
+-- an instruction without a body that is accepted takes its operands, and leaves its result on those below
 pub plain_says : (s : Surroundings) (e : Enclosing) (i : Instr) (at : ℕ) (ks out : List Kind) → after_plain s e i at ks ≡ Ok out → (left : List Kind) × Takes s e.variables i ks left × (out ≡ result_kind s e.variables i ks ∷ left)
 plain_says s e i at ks out h =
     let a = both_steps (taken s e.variables i at ks) _ out h in
@@ -30,6 +31,7 @@ opened_says s e i at ks out h =
     let b = both_steps (check (nat_lt e.open_blocks block_limit) (instr_fault flaws.NestLimit s.rule at)) _ out a.2 in
     subst (Takes s e.variables i ks) (ok_is _ _ b.2) (takes_from s e.variables i at ks a.0 a.1)
 
+-- a body ends with one operand, which its block's pattern matches
 pub ended_says : (s : Surroundings) (w : Pattern) (at : ℕ) (ks : List Kind) (r : Kind) → ended_with s w at ks ≡ Ok r → (ks ≡ r ∷ []) × (matches s.model w r ≡ true)
 ended_says s w at [] r e = cc
 ended_says s w at (k ∷ []) r e = by_match (matches s.model w k) refl e
@@ -44,6 +46,7 @@ kinds_below [] ps = refl
 kinds_below (w ∷ ws) [] = refl
 kinds_below (w ∷ ws) (p ∷ ps) = kinds_below ws ps
 
+-- the lengths of places that are left are those left of the lengths
 pub lengths_dropped : (n : ℕ) (ps : List Place) → lengths_of (drop n ps) ≡ drop n (lengths_of ps)
 lengths_dropped zero ps = refl
 lengths_dropped (suc n) [] = refl
@@ -60,6 +63,7 @@ pub record BlockSays (s : Surroundings) (e : Enclosing) (i : Instr) (body rest :
   pub fitting : matches s.model (ends_with s i) gives ≡ true
   pub rest_ends : kinds_after s rest e (at + 1 + instr_count body) (yields s i (topmost ks) gives ∷ left) ≡ Ok out
 
+-- the rules of kinds say this of each block that they accept
 pub block_says : (s : Surroundings) (e : Enclosing) (i : Instr) (body rest : CodeTree) (at : ℕ) (ks out : List Kind) → kinds_after s (Block i body rest) e at ks ≡ Ok out → BlockSays s e i body rest at ks out
 block_says s e i body rest at ks out h =
     let a = both_steps (opened s e i at ks) _ out h in
@@ -84,6 +88,7 @@ pub record BranchSays (s : Surroundings) (e : Enclosing) (i : Instr) (first seco
   pub other_fitting : matches s.model (ends_with s i) other ≡ true
   pub rest_ends : kinds_after s rest e (at + 1 + instr_count first + instr_count second) (yields s i (topmost ks) gives ∷ left) ≡ Ok out
 
+-- the rules of kinds say this of each IF that they accept
 pub branch_says : (s : Surroundings) (e : Enclosing) (i : Instr) (first second rest : CodeTree) (at : ℕ) (ks out : List Kind) → kinds_after s (Branch i first second rest) e at ks ≡ Ok out → BranchSays s e i first second rest at ks out
 branch_says s e i first second rest at ks out h =
     let a = both_steps (opened s e i at ks) _ out h in
@@ -111,6 +116,7 @@ branch_says s e i first second rest at ks out h =
 
 -- ---- the places after code
 
+-- the topmost place is as long as the topmost length
 pub top_longest : (ps : List Place) → (top_place ps).longest ≡ top_length (lengths_of ps)
 top_longest [] = refl
 top_longest (p ∷ ps) = refl
@@ -151,7 +157,7 @@ module _ (s : Setting) where
       let a = end_place s first vps in
       let b = end_place s second vps in
       let after : List ℕ → List ℕ = λ l. (cost_of sur (sizes_in s) rest (lengths_of vps) l).lengths in
-      lengths_after rest vps (joined s i (top_place ps) a b ∷ places_left s i ps)
+      lengths_after rest vps (branch_place s i (top_place ps) a b ∷ places_left s i ps)
       ∙ ap (λ l. after (max a.longest b.longest ∷ l)) (lengths_dropped (length (operands_of sur i)) ps)
       ∙ ap (λ n. after (max n b.longest ∷ below)) (top_longest (places_after s first vps []) ∙ ap top_length (lengths_after first vps []))
       ∙ ap (λ n. after (max (top_length (cost first vps []).lengths) n ∷ below)) (top_longest (places_after s second vps []) ∙ ap top_length (lengths_after second vps []))
@@ -201,10 +207,10 @@ module _ (s : Setting) where
       let b = branch_says sur e i first second rest at (kinds_of ps) ks h in
       let p = top_place ps in
       let r = ends_in first inside (in_block e e.variables b.left) vps (at + 1) b.ends b.gives v b.first_ends b.one in
-      let before : kinds_of (joined s i p (end_place s first vps) (end_place s second vps) ∷ places_left s i ps) ≡ yields sur i (topmost (kinds_of ps)) b.gives ∷ b.left =
+      let before : kinds_of (branch_place s i p (end_place s first vps) (end_place s second vps) ∷ places_left s i ps) ≡ yields sur i (topmost (kinds_of ps)) b.gives ∷ b.left =
       ap (λ k. yields sur i p.kind k ∷ kinds_of (places_left s i ps)) r.1 ∙ ap (λ k. yields sur i k b.gives ∷ kinds_of (places_left s i ps)) (top_kind ps)
       ∙ ap (λ l. yields sur i (topmost (kinds_of ps)) b.gives ∷ l) (kinds_below (operands_of sur i) ps ∙ sym b.takes.left_is) in
-      go e vps (joined s i p (end_place s first vps) (end_place s second vps) ∷ places_left s i ps) (at + 1 + instr_count first + instr_count second) ks v
+      go e vps (branch_place s i p (end_place s first vps) (end_place s second vps) ∷ places_left s i ps) (at + 1 + instr_count first + instr_count second) ks v
       (ap (kinds_after sur rest e (at + 1 + instr_count first + instr_count second)) before ∙ b.rest_ends)
 
   after_torn_kinds : (i : Instr) (left : ℕ) → KindsAfter (Torn i left)
@@ -212,6 +218,7 @@ module _ (s : Setting) where
       let a = both_steps (taken (judged_by s) e.variables i at (kinds_of ps)) _ ks h in
       let bad = a.2 in cc
 
+  -- the places after any code that the rules of kinds accept are of the kinds that they give
   pub kinds_of_after : (t : CodeTree) → KindsAfter t
   kinds_of_after End = λ e vps ps at ks v h. ok_is _ _ h
   kinds_of_after (Plain i rest) = after_plain_kinds i rest (kinds_of_after rest)

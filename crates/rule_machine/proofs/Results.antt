@@ -227,6 +227,7 @@ module _ (s : Setting) where
       on_two_integers : (i : Instr) (f : ℤ → ℤ → ℤ) → all_match s.population.model (an_integer ∷ an_integer ∷ []) (kinds_of ps) ≡ true → ((v w : Value) (rest : List Value) → result_of s vars i (w ∷ v ∷ rest) ≡ Some (on_integers (λ a b. integer_value (f a b)) v w)) → Given (result_of s vars i os) (place (kind.Scalar element.Integer) 0)
       on_two_integers i f a e = from_two i an_integer an_integer element.Integer (λ v w. on_integers (λ a b. integer_value (f a b)) v w) a e (λ v w. on_integers_single s.population element.Integer _ v w (λ a b. integer_single s.population (f a b)))
 
+      -- every instruction without a body gives a value, which may stand at the place that is given
       pub results : (i : Instr) → shape_of i ≡ Single → IsTaken s i vps ps → Results i
       results instrs.SelfObject e t = let v = variable_there vars vps 0 (self_place s) va t.object in (v.0, v.1, v.2)
       results (instrs.Get n) e t =

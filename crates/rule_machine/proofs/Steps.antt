@@ -20,7 +20,7 @@ use Rattle.rule_machine.specs.Value.{Value}
 use Rattle.rule_machine.specs.Machine.{Setting, judged_by, are_what, performed, Piece, Sequence, Opened, Configuration, configuration, branched, opened_over, block_opened, on_operand, step}
 use Rattle.rule_machine.specs.Live.{is_iteration}
 use Rattle.rule_machine.specs.Meant.{meant, source}
-use Rattle.rule_machine.specs.Shown.{code_in, setting_in, all_meant, piece, pieces, configuration_at, IsControlIn, AreControlsIn, LiesInAt, HasNext, IsCondition, choice_of, IsSource, IsOpening}
+use Rattle.rule_machine.specs.Shown.{code_in, setting_in, all_meant, piece, pieces, configuration_at, IsControlIn, AreControlsIn, LiesInAt, HasNext, IsCondition, choice_of, IsIterable, IsOpening}
 use Rattle.rule_machine.proofs.Blocks as sorts
 use Rattle.rule_machine.proofs.Blocks.{BlockSort, block_sort, block_takes, branch_takes, iteration_opens}
 
@@ -55,6 +55,7 @@ module _ (s : Setting) (i : Instr) (go : Value → List Value → Option Configu
 
 -- ---- conditions
 
+-- a condition that is known opens the branch that it chooses
 pub chosen : (v : Value) (b : Bool) (x y : CodeTree) (ps : List Piece) (vars os : List Value) → choice_of v ≡ Some b → branched v x y ps vars os ≡ Some (configuration (Sequence (if b then x else y) ∷ ps) vars os)
 chosen (value.Single (scalar.Bool true)) true x y ps vars os e = refl
 chosen (value.Single (scalar.Bool true)) false x y ps vars os e = cc
@@ -62,6 +63,7 @@ chosen (value.Single (scalar.Bool false)) true x y ps vars os e = cc
 chosen (value.Single (scalar.Bool false)) false x y ps vars os e = refl
 chosen v b x y ps vars os e = cc
 
+-- a condition that is null or invalid opens none, and the IF gives invalid
 pub not_chosen : (v : Value) (x y : CodeTree) (ps : List Piece) (vars os : List Value) → IsCondition v → choice_of v ≡ None → branched v x y ps vars os ≡ Some (configuration ps vars (value.Invalid ∷ os))
 not_chosen value.Null x y ps vars os c e = refl
 not_chosen value.Invalid x y ps vars os c e = refl
@@ -74,7 +76,7 @@ condition_of value.Invalid x y ps vars os g = tt
 condition_of (value.Single (scalar.Bool b)) x y ps vars os g = tt
 condition_of v x y ps vars os g = absurd g
 
-source_of : (i : Instr) (body : CodeTree) (v : Value) (ps : List Piece) (vars os : List Value) → HasNext (opened_over i body v ps vars os) → IsSource v
+source_of : (i : Instr) (body : CodeTree) (v : Value) (ps : List Piece) (vars os : List Value) → HasNext (opened_over i body v ps vars os) → IsIterable v
 source_of i body value.Invalid ps vars os g = tt
 source_of i body (value.Collection c es) ps vars os g = tt
 source_of i body v ps vars os g = absurd g
@@ -106,6 +108,7 @@ module _ (t : Task) (at end : ℕ) (cs : List Control) (vs os : List Held) (i : 
   plain_is : shape_of i ≡ Single → step s (configuration_at code at end cs vs os) ≡ option_map (configuration (Sequence (code_tree (slice_range code (at + 1) end)) ∷ pieces code cs) (all_meant vs)) (performed s (all_meant vs) i (all_meant os))
   plain_is e = at_tree (Plain i (code_tree (slice_range code (at + 1) end))) (tree_plain code at end i lt le here e)
 
+  -- an instruction without a body can be carried out where the machine has a next step
   pub can_perform : shape_of i ≡ Single → IsSome (performed s (all_meant vs) i (all_meant os))
   can_perform e = by_result (performed s (all_meant vs) i (all_meant os)) (subst HasNext (plain_is e) goes)
     where
@@ -113,6 +116,7 @@ module _ (t : Task) (at end : ℕ) (cs : List Control) (vs os : List Held) (i : 
       by_result (Some l) g = refl
       by_result None g = absurd g
 
+  -- its step puts what it leaves on the operands
   pub plain_made : shape_of i ≡ Single → (os' : List Held) → performed s (all_meant vs) i (all_meant os) ≡ Some (all_meant os') → Made t at end cs vs os (at + 1) end cs vs os'
   plain_made e os' p = (
     plain_is e ∙ ap (option_map (configuration (Sequence (code_tree (slice_range code (at + 1) end)) ∷ pieces code cs) (all_meant vs))) p,
@@ -134,9 +138,11 @@ module _ (t : Task) (at end : ℕ) (cs : List Control) (vs os : List Held) (i : 
     block_is : at + 1 + n ≤ end → step s (configuration_at code at end cs vs os) ≡ on_operand s i (all_meant os) opens
     block_is nests = at_tree (Block i body (code_tree (slice_range code (at + 1 + n) end))) (tree_block code at end i lt le here n shape nests)
 
+    -- a block that has a step lies within its sequence
     pub block_nests : end < at + 1 + n → ⊥
     block_nests long = subst HasNext (at_tree _ (tree_torn code at end i lt le here n shape long)) goes
 
+    -- and finds its operand there
     pub block_has_operand : at + 1 + n ≤ end → os ≡ [] → ⊥
     block_has_operand nests e = subst HasNext (block_is nests ∙ ap (λ l. on_operand s i (all_meant l) opens) e) goes
 
@@ -146,6 +152,7 @@ module _ (t : Task) (at end : ℕ) (cs : List Control) (vs os : List Held) (i : 
         let first = block_is nests ∙ ap (λ l. on_operand s i (all_meant l) opens) e in
         first ∙ operand_taken s i opens (ap length (block_takes (judged_by s) i (n, shape)).1) (meant o) (all_meant os1) (subst HasNext first goes)
 
+    -- the step of a LET binds its operand and enters its body
     pub let_made : (x : ℕ) → i ≡ instrs.Let x → at + 1 + n ≤ end → (o : Held) (os1 vs1 : List Held) (cs1 cs2 : List Control) → os ≡ o ∷ os1 → vs1 ≡ o ∷ vs → cs1 ≡ control.Rest (at + 1 + n) end ∷ cs → cs2 ≡ control.LetEnd ∷ cs1 → Made t at end cs vs os (at + 1) (at + 1 + n) cs2 vs1 os1
     let_made x is nests o os1 vs1 cs1 cs2 e v c1 c2 =
         let c : cs2 ≡ control.LetEnd ∷ control.Rest (at + 1 + n) end ∷ cs = c2 ∙ ap (λ l. control.LetEnd ∷ l) c1 in (
@@ -156,11 +163,13 @@ module _ (t : Task) (at end : ℕ) (cs : List Control) (vs os : List Held) (i : 
           record { order = omega arith; within = omega arith; pending = subst (AreControlsIn code) (sym c) (tt, ((nests, le), all)) },
         )
 
-    pub has_source : is_iteration i ≡ true → at + 1 + n ≤ end → (o : Held) (os1 : List Held) → os ≡ o ∷ os1 → IsSource (meant o)
+    -- an iteration that has a step finds what it may go over
+    pub has_source : is_iteration i ≡ true → at + 1 + n ≤ end → (o : Held) (os1 : List Held) → os ≡ o ∷ os1 → IsIterable (meant o)
     has_source it nests o os1 e =
         source_of i body (meant o) after (all_meant vs) (all_meant os1)
         (subst HasNext (block_opens nests o os1 e ∙ iteration_opens i body (meant o) after (all_meant vs) (all_meant os1) it) goes)
 
+    -- the step of an iteration marks it as opened over its source, or as skipped
     pub iteration_made : is_iteration i ≡ true → at + 1 + n ≤ end → (o : Held) (os1 : List Held) (mark : Control) (cs1 cs2 : List Control) → os ≡ o ∷ os1 → IsOpening i (at + 1) (at + 1 + n) (meant o) mark → cs1 ≡ control.Rest (at + 1 + n) end ∷ cs → cs2 ≡ mark ∷ cs1 → Made t at end cs vs os (at + 1 + n) (at + 1 + n) cs2 vs os1
     iteration_made it nests o os1 mark cs1 cs2 e opened c1 c2 =
         let c : cs2 ≡ mark ∷ control.Rest (at + 1 + n) end ∷ cs = c2 ∙ ap (λ l. mark ∷ l) c1 in
@@ -199,9 +208,11 @@ module _ (t : Task) (at end : ℕ) (cs : List Control) (vs os : List Held) (i : 
     branch_is : at + 1 + n + m ≤ end → step s (configuration_at code at end cs vs os) ≡ on_operand s i (all_meant os) branches
     branch_is nests = at_tree (Branch i first second (code_tree (slice_range code (at + 1 + n + m) end))) (tree_branch code at end i lt le here n m shape nests)
 
+    -- an IF that has a step lies within its sequence
     pub branch_nests : end < at + 1 + n + m → ⊥
     branch_nests long = subst HasNext (at_tree _ (tree_torn_branch code at end i lt le here n m shape long)) goes
 
+    -- and finds its operand there
     pub branch_has_operand : at + 1 + n + m ≤ end → os ≡ [] → ⊥
     branch_has_operand nests e = subst HasNext (branch_is nests ∙ ap (λ l. on_operand s i (all_meant l) branches) e) goes
 
@@ -210,9 +221,11 @@ module _ (t : Task) (at end : ℕ) (cs : List Control) (vs os : List Held) (i : 
         let head = branch_is nests ∙ ap (λ l. on_operand s i (all_meant l) branches) e in
         head ∙ operand_taken s i branches (ap length (branch_takes (judged_by s) i (n, m, shape))) (meant o) (all_meant os1) (subst HasNext head goes)
 
+    -- which is a condition
     pub has_condition : at + 1 + n + m ≤ end → (o : Held) (os1 : List Held) → os ≡ o ∷ os1 → IsCondition (meant o)
     has_condition nests o os1 e = condition_of (meant o) first second rest (all_meant vs) (all_meant os1) (subst HasNext (branch_goes nests o os1 e) goes)
 
+    -- where the condition is true the step enters the first branch
     pub first_made : at + 1 + n + m ≤ end → (o : Held) (os1 : List Held) (cs1 : List Control) → os ≡ o ∷ os1 → Some true ≡ choice_of (meant o) → cs1 ≡ control.Rest (at + 1 + n + m) end ∷ cs → Made t at end cs vs os (at + 1) (at + 1 + n) cs1 vs os1
     first_made nests o os1 cs1 e b c = (
       branch_goes nests o os1 e
@@ -221,6 +234,7 @@ module _ (t : Task) (at end : ℕ) (cs : List Control) (vs os : List Held) (i : 
       record { order = omega arith; within = omega arith; pending = subst (AreControlsIn code) (sym c) ((nests, le), all) },
     )
 
+    -- where it is false the step enters the second
     pub second_made : at + 1 + n + m ≤ end → (o : Held) (os1 : List Held) (cs1 : List Control) → os ≡ o ∷ os1 → Some false ≡ choice_of (meant o) → cs1 ≡ control.Rest (at + 1 + n + m) end ∷ cs → Made t at end cs vs os (at + 1 + n) (at + 1 + n + m) cs1 vs os1
     second_made nests o os1 cs1 e b c = (
       branch_goes nests o os1 e
@@ -229,6 +243,7 @@ module _ (t : Task) (at end : ℕ) (cs : List Control) (vs os : List Held) (i : 
       record { order = omega arith; within = omega arith; pending = subst (AreControlsIn code) (sym c) ((nests, le), all) },
     )
 
+    -- and where it is neither the step passes both and gives invalid
     pub neither_made : at + 1 + n + m ≤ end → (o : Held) (os1 os2 : List Held) → os ≡ o ∷ os1 → None ≡ choice_of (meant o) → os2 ≡ held.Invalid ∷ os1 → Made t at end cs vs os (at + 1 + n + m) end cs vs os2
     neither_made nests o os1 os2 e b f = (
       branch_goes nests o os1 e

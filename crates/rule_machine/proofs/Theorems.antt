@@ -5,7 +5,7 @@ use Rattle.ocl_base.specs.Steps.{◌>>=◌, found}
 use Rattle.rule_code.specs.Content.{Content}
 use Rattle.rule_code.specs.WellFormed.{RuleFits}
 use Rattle.rule_code.proofs.ForAbove.{EachFits-at}
-use Rattle.rule_verify.specs.declared.fault.Flaw.TheVariants as flaws
+use Rattle.rule_verify.specs.declared.fault.VerifyFlaw.TheVariants as flaws
 use Rattle.rule_verify.specs.UnitRules.{unit_rule, empty_rule}
 use Rattle.rule_verify.specs.InstrKinds.{surroundings}
 use Rattle.imkl_population.specs.Population.{Population}
@@ -77,11 +77,13 @@ pub goes_on_at : (u : Content) (p : Population) (n o k : ℕ) (c : Configuration
 goes_on_at u p n o k c a r =
     stays (setting_of u p n) (rule_depths_in u p n) a.model a.population k (start (tree_of_rule u n) o) c (marks_before (setting_of u p n) (tree_of_rule u n) (start (tree_of_rule u n) o)) (rule_bound u p n) (begins u p n o a) r
 
+-- every value of a configuration that a run reaches is in the kind of its place, and no longer than it allows
 pub stands_in_kinds : StandsInKinds
 stands_in_kinds u p n o k c a r =
     let l = goes_on_at u p n o k c a r in
     (l.0, l.2, record { variables = l.4.variables_at; operands = l.4.operands_at; iterations = held (setting_of u p n) (rule_depths_in u p n) a.model a.population c.pending l.0 l.4.cost l.4.going })
 
+-- no configuration that a run reaches goes deeper than its rule
 pub stays_within_depths : StaysWithinDepths
 stays_within_depths u p n o k c a r =
     let s = setting_of u p n in
@@ -93,18 +95,22 @@ stays_within_depths u p n o k c a r =
       pieces = l.room.pieces;
     }
 
+-- the places after code have the kinds of the rules of kinds, and the lengths that bounds are computed from
 pub places_are_by_rules : PlacesAreByRules
 places_are_by_rules s t e vars ps at ks v h = (kinds_of_after s t e vars ps at ks v h, lengths_after s t vars ps)
 
+-- a configuration that a run reaches has a verdict or a next step
 pub never_stuck : NeverStuck
 never_stuck u p n o k c a r =
     let l = goes_on_at u p n o k c a r in
     ⊎_elim (λ f. inl f) (λ m. inr (ap is_some m.2)) (moves (setting_of u p n) (rule_depths_in u p n) a.model a.population c l.0 l.1 l.4)
 
+-- a run comes to a verdict within its step bound
 pub ends_within : EndsWithin
 ends_within u p n o a =
     ends (setting_of u p n) (rule_depths_in u p n) a.model a.population (rule_bound u p n) (start (tree_of_rule u n) o) (marks_before (setting_of u p n) (tree_of_rule u n) (start (tree_of_rule u n) o)) (rule_bound u p n) (omega arith) (begins u p n o a)
 
+-- a run of an admitted unit comes to a verdict within the budget
 pub ends_within_budget : EndsWithinBudget
 ends_within_budget a p n o admitted fits accepted =
     let e = ends_within a.linked.unit p n o accepted in

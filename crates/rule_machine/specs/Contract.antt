@@ -21,8 +21,8 @@ pub record SameTask (old new : Seen) : Type 0 where
   pub unit : new.unit ≡ old.unit
   pub population : new.population ≡ old.population
 
--- from the configuration c, where the work was k, the machine has come n steps further, to d; the work stays within the
--- rule's bound
+-- from the configuration c, where the work was k, the machine has come n steps further, to d; the work, which is the
+-- number of steps (work_of), stays within the rule's bound
 pub record Further (old : Seen) (r o : ℕ) (c : Configuration) (k n : ℕ) (d : Configuration) (new : Seen) : Type 0 where
   pub ran : run (setting_at old r) n c ≡ Some d
   pub stands : Represents new r o d (k + work_of (setting_at old r) n c)
@@ -36,7 +36,7 @@ IsStarted m = (r o : ℕ) × (c : Configuration) × (k : ℕ) × Represents m r 
 abbrev pub IsBegun : Seen → ℕ → ℕ → Seen → Type 0
 IsBegun old r o new = Represents new r o (beginning old r o) 0
 
--- as many steps are made as the grant g pays for, and the end isn't reached
+-- as many steps are made as the grant g pays for (the argument `steps` of `run`), and the end isn't reached
 abbrev pub IsPaused : Seen → ℕ → Seen → Type 0
 IsPaused old g new =
     (r o : ℕ) (c : Configuration) (k : ℕ) → Represents old r o c k

@@ -63,7 +63,7 @@ EndsWithinBudget =
     × (run (setting_of a.linked.unit p n) k (start (tree_of_rule a.linked.unit n) o) ≡ Some c) × IsSome (outcome c)
 
 -- In each configuration that a run reaches, every variable and operand is in the kind that the rules of kinds give its
--- place, and each collection, those that iterations hold too, is no longer than its bound there.
+-- place, and each collection, those that iterations hold too, is no longer than its greatest length there.
 abbrev pub StandsInKinds : Type 0
 StandsInKinds =
     (u : Content) (p : Population) (n o k : ℕ) (c : Configuration)
@@ -90,7 +90,7 @@ StaysWithinDepths =
     → run (setting_of u p n) k (start (tree_of_rule u n) o) ≡ Some c
     → StaysWithin (rule_depths_in u p n) c
 
--- the places after code have the kinds of the rules of kinds and the lengths of the bounds
+-- the places after code have the kinds of the rules of kinds, and the greatest lengths that bounds are computed from
 abbrev pub PlacesAreByRules : Type 0
 PlacesAreByRules =
     (s : Setting) (t : CodeTree) (e : Enclosing) (vars ps : List Place) (at : ℕ) (ks : List Kind)

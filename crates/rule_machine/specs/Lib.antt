@@ -8,7 +8,8 @@ pub mod Verdict
 pub mod Places
 pub mod Laws
 pub mod Contract
--- Bookkeeping: views, layouts, walks and tables that only proofs and private contracts use.
+-- Bookkeeping: views, layouts, walks and tables that only proofs and private contracts use, and Seen, in whose words
+-- Contract speaks of a machine.
 pub mod Live
 pub mod Meant
 pub mod Shown

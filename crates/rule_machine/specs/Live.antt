@@ -15,7 +15,7 @@ use Rattle.rule_cost.specs.Bounds.{block_steps}
 use Rattle.rule_machine.specs.Value.{Element, Value}
 use Rattle.rule_machine.specs.Endings.{Source}
 use Rattle.rule_machine.specs.Machine.{Setting, judged_by, Piece, Sequence, LetEnd, Opened, Turning, Skipped, Configuration}
-use Rattle.rule_machine.specs.Places.{Place, kinds_of, self_place, given, places_left, bound_by, yielded, joined, end_place, Stand, stand, Mark, Here, Iterating, now_at, AllAt, EachAt, IsSource}
+use Rattle.rule_machine.specs.Places.{Place, kinds_of, self_place, given, places_left, bound_by, yielded, branch_place, end_place, Stand, stand, Mark, Here, Iterating, now_at, AllAt, EachAt, IsSource}
 
 -- what stands at the one may stand at the other
 pub record Below (s : Setting) (r t : Place) : Type 0 where
@@ -58,7 +58,7 @@ abbrev pub block_gives : Setting → Instr → CodeTree → List Place → Place
 block_gives s i body vars p = yielded s i p (end_place s body (bound_by i p ∷ vars))
 
 abbrev pub branch_gives : Setting → Instr → CodeTree → CodeTree → List Place → Place → Place
-branch_gives s i first second vars p = joined s i p (end_place s first vars) (end_place s second vars)
+branch_gives s i first second vars p = branch_place s i p (end_place s first vars) (end_place s second vars)
 
 -- a tree has kinds, and makes at most n steps: the operands before it, and those after it
 abbrev pub Kinded : Setting → CodeTree → List Place → List Place → List Place → ℕ → Type 0

@@ -195,7 +195,7 @@ abbrev pub on_operand : Setting → Instr → List Value → (Value → List Val
 on_operand s i [] go = None
 on_operand s i (o ∷ os) go = option_and_then (go o) (operands_below s i (o ∷ os))
 
--- the first instruction of a sequence
+-- the step of the first instruction of a sequence
 abbrev pub advanced : Setting → CodeTree → List Piece → List Value → List Value → Option Configuration
 advanced s End ps vars os = None
 advanced s (Plain i rest) ps vars os = option_map (configuration (Sequence rest ∷ ps) vars) (performed s vars i os)
@@ -204,7 +204,7 @@ advanced s (Branch i first second rest) ps vars os =
     on_operand s i os (λ o left. branched o first second (Sequence rest ∷ ps) vars left)
 advanced s (Torn i length_left) ps vars os = None
 
--- the first piece that is pending
+-- the step of the first piece that is pending
 abbrev pub piece_advanced : Setting → List Piece → List Value → List Value → Option Configuration
 piece_advanced s [] vars os = None
 piece_advanced s (Sequence t ∷ ps) vars os = advanced s t ps vars os

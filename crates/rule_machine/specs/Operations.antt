@@ -132,7 +132,7 @@ abbrev pub text_length : Value → Value
 text_length (Single (scalar.Text t)) = integer_value (pos (length t))
 text_length v = Invalid
 
--- characters from 1, both ends included; bounds outside the text are invalid
+-- the characters from a to b, counted from 1, both included; invalid unless 1 ≤ a ≤ b ≤ the text's length
 abbrev pub characters : List ℕ → ℤ → ℤ → Value
 characters t (pos a) (pos b) =
     if nat_le 1 a && nat_le a b && nat_le b (length t) then Single (scalar.Text (slice_range t (a - 1) b)) else Invalid

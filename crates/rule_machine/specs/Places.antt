@@ -1,5 +1,5 @@
--- Places along a run: of each variable and operand the kind that the rules of kinds give it, and the longest that the
--- bounds let a collection be there.
+-- Places along a run: of each variable and operand the kind that the rules of kinds give it, and the greatest length
+-- that a collection may have there.
 use Rattle.std.specs.Prelude.{◌≡◌, ℕ, zero, suc, ◌-◌, ◌≤◌, max, true, List, [], ◌∷◌, ◌++◌, length, drop, Option, Some, option_and_then}
 use Rattle.std.specs.List.{list_all}
 use Rattle.imkl_population.specs.Sizes.{Sizes, sizes_of}
@@ -58,8 +58,8 @@ abbrev pub yielded : Setting → Instr → Place → Place → Place
 yielded s i p r = place (yields (judged_by s) i p.kind r.kind) (length_yielded i p.longest r.longest)
 
 -- what an IF gives: of the kind that it writes, and as long as the longer of its branches
-abbrev pub joined : Setting → Instr → Place → Place → Place → Place
-joined s i p a b = place (yields (judged_by s) i p.kind a.kind) (max a.longest b.longest)
+abbrev pub branch_place : Setting → Instr → Place → Place → Place → Place
+branch_place s i p a b = place (yields (judged_by s) i p.kind a.kind) (max a.longest b.longest)
 
 abbrev pub top_place : List Place → Place
 top_place [] = place (kind.Scalar element.Void) 0
@@ -74,7 +74,7 @@ places_after s (Block i body rest) vars ps =
     (yielded s i (top_place ps) (top_place (places_after s body (bound_by i (top_place ps) ∷ vars) [])) ∷ places_left s i ps)
 places_after s (Branch i first second rest) vars ps =
     places_after s rest vars
-    (joined s i (top_place ps) (top_place (places_after s first vars [])) (top_place (places_after s second vars []))
+    (branch_place s i (top_place ps) (top_place (places_after s first vars [])) (top_place (places_after s second vars []))
     ∷ places_left s i ps)
 places_after s (Torn i left) vars ps = ps
 
@@ -118,7 +118,7 @@ sequence_marked s (Plain i rest) vars ps ms = Here (stand vars (given s vars i p
 sequence_marked s (Block i body rest) vars (p ∷ ps) ms =
     block_marked s i body vars p ps ++ Here (stand vars (yielded s i p (end_place s body (bound_by i p ∷ vars)) ∷ ps)) ∷ ms
 sequence_marked s (Branch i first second rest) vars (p ∷ ps) ms =
-    Here (stand vars ps) ∷ Here (stand vars (joined s i p (end_place s first vars) (end_place s second vars) ∷ ps)) ∷ ms
+    Here (stand vars ps) ∷ Here (stand vars (branch_place s i p (end_place s first vars) (end_place s second vars) ∷ ps)) ∷ ms
 sequence_marked s t vars ps ms = ms
 
 -- the marks after a step of the first piece, if nothing ended with it

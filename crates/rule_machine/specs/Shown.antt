@@ -135,10 +135,10 @@ choice_of (value.Single (scalar.Bool b)) = Some b
 choice_of v = None
 
 -- what an iteration may go over
-abbrev pub IsSource : Value → Type 0
-IsSource (value.Collection c es) = Unit {0}
-IsSource value.Invalid = Unit {0}
-IsSource v = ⊥
+abbrev pub IsIterable : Value → Type 0
+IsIterable (value.Collection c es) = Unit {0}
+IsIterable value.Invalid = Unit {0}
+IsIterable v = ⊥
 
 -- the mark that the opening of an iteration puts
 abbrev pub IsOpening : Instr → ℕ → ℕ → Value → Control → Type 0

@@ -74,7 +74,7 @@ pub(crate) fn apply_one<'a>(instr: Instr, v: &Value<'_>) -> Value<'a>
     }
 }
 
-/// Whether an instruction works on one operand alone.
+/// Whether an instruction computes its result from one operand, without the population and without memory.
 pub(crate) fn takes_one(instr: Instr) -> bool
     ensures { Decides result (TakesOne instr) }
 {

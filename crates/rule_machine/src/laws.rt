@@ -20,7 +20,8 @@ pub fn ends_within_budget()
 {}
 
 /// In each configuration that a run of accepted code reaches, every variable and operand is in the kind that the rules of
-/// kinds give its place, and each collection, those that open iterations hold too, is no longer than its bound there.
+/// kinds give its place, and each collection, those that open iterations hold too, is no longer than its greatest
+/// length there.
 pub fn stands_in_kinds()
     ensures { StandsInKinds }
 {}
@@ -31,7 +32,8 @@ pub fn stays_within_depths()
     ensures { StaysWithinDepths }
 {}
 
-/// The places of operands after code have the kinds that the rules of kinds give, and the lengths of the bounds.
+/// The places of operands after code have the kinds that the rules of kinds give, and the greatest lengths that bounds
+/// are computed from.
 pub fn places_are_by_rules()
     ensures { PlacesAreByRules }
 {}

@@ -81,8 +81,8 @@ impl<'a> Machine<'a> {
     }
 
     /// Makes at most `steps` steps: `Paused` after just that many, where the end isn't reached, or `Done` as soon as it
-    /// is, and again without a step. Where memory runs out, the machine stands before the step that was refused, which
-    /// the next call tries again.
+    /// is, and again without a step. Where memory runs out, the machine stands before the step that it didn't
+    /// suffice for, which the next call tries again. Only after `start` or `judge`.
     pub fn run(&mut self, steps: u64) -> Result<Progress, OutOfMemory>
         requires { IsStarted self.old }
         ensures task { SameTask self.old self.new }
@@ -97,7 +97,7 @@ impl<'a> Machine<'a> {
     }
 
     /// Runs a rule for an object of its context class from the start to the end, and gives its verdict. Where memory
-    /// runs out, the machine is as it was, or stands before the step that was refused.
+    /// runs out, the machine is as it was, or stands before the step that it didn't suffice for.
     pub fn judge(&mut self, rule: usize, object: ObjectNo) -> Result<Verdict, OutOfMemory>
         requires rule { rule < length self.old.unit.rules }
         requires object { IsInstance self.old.population

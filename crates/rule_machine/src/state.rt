@@ -51,7 +51,8 @@ impl<'a> State<'a> {
         }
     }
 
-    /// Has room for code that goes so deep: a block has two pending parts at most, and one more is put before these.
+    /// Has room for code that goes so deep: a block has two pending pieces at most, and each step makes sure of room for
+    /// two more.
     pub(crate) fn reserve(&mut self, depths: Depths) -> Result<(), OutOfMemory>
         ensures started { self.new.started ≡ self.old.started }
         ensures count { self.new.count ≡ self.old.count }

@@ -5,7 +5,7 @@ ghost use Rattle.rule_verify.specs.CodeTree.{shape_of};
 ghost use Rattle.rule_verify.specs.declared.shape.Shape.TheVariants.{OneBody, TwoBodies};
 ghost use Rattle.rule_machine.specs.Live.{is_iteration};
 ghost use Rattle.rule_machine.specs.Meant.{meant};
-ghost use Rattle.rule_machine.specs.Shown.{code_in, IsTask, LiesIn, HasStep, Room, Same, Stepped, IsCondition, choice_of, IsSource, IsOpening};
+ghost use Rattle.rule_machine.specs.Shown.{code_in, IsTask, LiesIn, HasStep, Room, Same, Stepped, IsCondition, choice_of, IsIterable, IsOpening};
 
 use crate::control::Control;
 use crate::iterating::Iteration;
@@ -158,7 +158,7 @@ fn condition(value: &Value<'_>) -> Option<bool>
 /// An iteration over a collection, before its first turn; one over invalid is skipped.
 fn opened<'a>(alloc: Global, instr: Instr, from: usize, end: usize, value: Value<'a>) -> Control<'a>
     requires iterates { is_iteration instr ≡ true }
-    requires source { IsSource (meant value) }
+    requires source { IsIterable (meant value) }
     ensures { IsOpening instr from end (meant value.entry) result }
 {
     match value {

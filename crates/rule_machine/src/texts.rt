@@ -38,7 +38,7 @@ fn after(text: &str, count: usize) -> &str
     left.as_str()
 }
 
-/// So many first characters of a text.
+/// The first `count` characters of a text.
 fn first(text: &str, count: usize) -> &str
     ensures { chars result.now ≡ take count (chars text.now) }
 {
@@ -46,7 +46,7 @@ fn first(text: &str, count: usize) -> &str
     &text[..text.len() - left.len()]
 }
 
-/// Characters from 1, both ends included; bounds outside the text are invalid.
+/// The characters from `lower` to `upper`, counted from 1, both included; invalid unless 1 <= lower <= upper <= size.
 pub(crate) fn substring<'a>(v: &Value<'a>, lower: &Value<'_>, upper: &Value<'_>) -> Value<'a>
     ensures { meant result ≡ substring (meant v.now) (meant lower.now) (meant upper.now) }
 {

@@ -15,6 +15,7 @@ use Rattle.rule_report.specs.declared.summary.Summary.{Summary}
 use Rattle.rule_report.specs.Report.{Verdicts, instances_of, context_objects, rule_verdicts, verdicts_below, is_verdict, count, counts_of}
 use Rattle.rule_report.specs.Counting.{all_counted, counted, counts_joined}
 
+-- one more is the next number
 pub plus_one : (n : ℕ) → n + 1 ≡ suc n
 plus_one n = omega arith
 
@@ -48,6 +49,7 @@ counts_next f os i d w s within verdict is =
 pub counts_of_both : (xs ys : List (Option Verdict)) → counts_of (xs ++ ys) ≡ counts_joined (counts_of xs) (counts_of ys)
 counts_of_both xs ys = rw (count_of_both Holds xs ys, count_of_both Fails xs ys, count_of_both Undecided xs ys) refl
 
+-- the counts of the rules before one, with the counts of that one, are those of the rules up to it
 pub rule_counted : (u : Content) (p : Population) (v : Verdicts) (r : ℕ) (s t : Summary)
     → s ≡ counts_of (verdicts_below u p v r) → t ≡ counts_of (rule_verdicts u p v r) → counts_joined s t ≡ counts_of (verdicts_below u p v (r + 1))
 rule_counted u p v r s t before here =

@@ -28,6 +28,7 @@ parts_of_rules u p v (suc r) =
     ∙ ap (λ (x : List ℕ). x ++ (concat lines ++ rule_line u p v r)) (parts_of_rules u p v r)
     ∙ ap (λ (x : List ℕ). reports_below u p v r ++ (x ++ rule_line u p v r)) (concat-map (object_line u p v r) (context_objects u p r))
 
+-- the parts, one after another, are the report
 pub parts_are_the_report : (u : Content) (p : Population) (v : Verdicts) → concat (report_parts u p v) ≡ report_by u p v
 parts_are_the_report u p v =
     let total = total_line (counts_of (all_verdicts u p v)) in
@@ -54,6 +55,7 @@ parts_of_pairs u p v (suc r) =
       length-map (context_objects u p r) (v r),
     ))
 
+-- there is a first part, and then one for each pair of a rule and an object of its context class
 pub one_part_for_each_pair : (u : Content) (p : Population) (v : Verdicts) → length (report_parts u p v) ≡ suc (length (all_verdicts u p v))
 one_part_for_each_pair u p v =
     length-after_last (parts_below u p v (length u.rules)) (total_line (counts_of (all_verdicts u p v))) (length (all_verdicts u p v)) (parts_of_pairs u p v (length u.rules))

@@ -98,7 +98,7 @@ fn with_cable(alloc: Global, objects: &str, id: u32, voltage: &str) -> Result<St
     )
 }
 
-/// Whether the report on the pipe W1 and cables of these voltages is so.
+/// Whether the report on the pipe P1 and cables of these voltages is so.
 fn reports_voltages(
     alloc: Global,
     voltages: &str,
@@ -106,7 +106,7 @@ fn reports_voltages(
     text: &str,
 ) -> Result<bool, AllocError> {
     let mut objects = format!(in alloc;
-        "{{\"id\":\"W1\",\"class\":\"Waterleiding\",\"features\":{{\"identificatie\":\"w\",\"diameter\":50}}}}"
+        "{{\"id\":\"P1\",\"class\":\"Waterleiding\",\"features\":{{\"identificatie\":\"w\",\"diameter\":50}}}}"
     )?;
     let mut id = 0u32;
     for voltage in voltages.split(' ') {
@@ -120,7 +120,7 @@ fn reports_voltages(
 fn reports_sums(rt: HostRuntime) -> Result<(), Fail> {
     let holds = "rule s checked 1 holds 1 fails 0 undecided 0\ntotal fails 0 undecided 0\n";
     let undecided =
-        "undecided s W1\nrule s checked 1 holds 0 fails 0 undecided 1\ntotal fails 0 undecided 1\n";
+        "undecided s P1\nrule s checked 1 holds 0 fails 0 undecided 1\ntotal fails 0 undecided 1\n";
     let cases = [
         ("9223372036854775807 1 -1", (1, 0, 0), holds),
         ("1 9223372036854775807 -1", (1, 0, 0), holds),
@@ -139,14 +139,14 @@ fn reports_sums(rt: HostRuntime) -> Result<(), Fail> {
 /// Two nets; one holds a cable and one a pipe, which are identified alike.
 const NETS: &str = r#"
 {"id":"N1","class":"Utiliteitsnet","features":{"thema":"elektriciteit","leidingen":["E1"]}},
-{"id":"N2","class":"Utiliteitsnet","features":{"thema":"water","leidingen":["W1"]}},
+{"id":"N2","class":"Utiliteitsnet","features":{"thema":"water","leidingen":["P1"]}},
 {"id":"E1","class":"Elektriciteitskabel","features":{"identificatie":"x","spanning":400}},
-{"id":"W1","class":"Waterleiding","features":{"identificatie":"x","diameter":50}}"#;
+{"id":"P1","class":"Waterleiding","features":{"identificatie":"x","diameter":50}}"#;
 
 /// Two pipes in no net.
 const PIPES: &str = r#"
-{"id":"W1","class":"Waterleiding","features":{"identificatie":"v","diameter":50}},
-{"id":"W2","class":"Waterleiding","features":{"identificatie":"w","diameter":50}}"#;
+{"id":"P1","class":"Waterleiding","features":{"identificatie":"v","diameter":50}},
+{"id":"P2","class":"Waterleiding","features":{"identificatie":"w","diameter":50}}"#;
 
 #[test]
 fn reports_each_object(rt: HostRuntime) -> Result<(), Fail> {
@@ -177,14 +177,14 @@ rule z checked 0 holds 0 fails 0 undecided 0\ntotal fails 0 undecided 0\n",
             (2, 2, 0),
             "rule a checked 2 holds 2 fails 0 undecided 0\n\
 rule n checked 0 holds 0 fails 0 undecided 0\n\
-fail z W1\nfail z W2\nrule z checked 2 holds 0 fails 2 undecided 0\ntotal fails 2 undecided 0\n",
+fail z P1\nfail z P2\nrule z checked 2 holds 0 fails 2 undecided 0\ntotal fails 2 undecided 0\n",
         ),
         (
             NETS,
             (1, 1, 2),
             "rule a checked 1 holds 1 fails 0 undecided 0\n\
 undecided n N1\nundecided n N2\nrule n checked 2 holds 0 fails 0 undecided 2\n\
-fail z W1\nrule z checked 1 holds 0 fails 1 undecided 0\ntotal fails 1 undecided 2\n",
+fail z P1\nrule z checked 1 holds 0 fails 1 undecided 0\ntotal fails 1 undecided 2\n",
         ),
     ];
     for (objects, counts, text) in cases {

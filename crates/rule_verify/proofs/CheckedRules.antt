@@ -20,7 +20,7 @@ use Rattle.rule_code.specs.InstrRows.{FieldValue, symbol_field, scalar_field, co
 use Rattle.rule_code.specs.WellFormed.{ScalarKindFits, FieldFits, InstrFits}
 use Rattle.rule_code.specs.Content.{Content, RuleContent}
 use Rattle.rule_code.proofs.ForAbove.{is_symbol_of-lt}
-use Rattle.rule_verify.specs.declared.fault.Flaw.TheVariants as flaws
+use Rattle.rule_verify.specs.declared.fault.VerifyFlaw.TheVariants as flaws
 use Rattle.rule_verify.specs.declared.fault.VerifyFault.{VerifyFault}
 use Rattle.rule_verify.specs.declared.fault.VerifyFault.TheVariants.{At, OutOfMemory}
 use Rattle.rule_verify.specs.declared.judged.RuleCode.{RuleCode}
@@ -67,6 +67,7 @@ symbols_there u v same code h i d lt = subst (λ (w : Content). AreSymbols w (sy
 
 -- ---- one rule
 
+-- the rule of an index is the one that the unit has there
 pub rule_is : (v u : Content) (n : ℕ) (x : RuleContent) → u ≡ v → slice_get u.rules n ≡ Some x → unit_rule v n ≡ x
 rule_is v u n x same is = ap (λ (w : Content). unit_rule w n) (sym same) ∙ get_or_from_slice_get u.rules n x empty_rule is
 
@@ -104,20 +105,24 @@ module _ (r : RuleCode) (vars : List Kind) (end : ℕ) (u : Content) (x : RuleCo
       two_last (Ok x) f g = refl
       two_last (Err e) f g = refl
 
+  -- a fault of the code is the fault of the rule
   pub code_wrong : (e : VerifyFault) → Fails verify_fault e (kinds_from r vars first []) → Fails verify_fault e (check_rule r.linked.now.model r.linked.now.unit r.index (unit_rule r.linked.now.unit r.index))
   code_wrong OutOfMemory h = tt
   code_wrong (At flaw rule at) h = rule_checks ∙ rw h refl
 
+  -- where the code ends with anything but one Boolean, that is the fault of the rule
   pub end_wrong : (ks : List Kind) → kinds_from r vars first [] ≡ Ok ks → (e : VerifyFault) → Fails verify_fault e (ended_with (surroundings_of r) a_boolean end ks) → Fails verify_fault e (check_rule r.linked.now.model r.linked.now.unit r.index (unit_rule r.linked.now.unit r.index))
   end_wrong ks h OutOfMemory g = tt
   end_wrong ks h (At flaw rule at) g = rule_checks ∙ ap (λ (o : Result (List Kind) InstrFault). o >>= (λ l. ended_with (surroundings_of r) a_boolean end l >>= (λ k. Ok tt))) h ∙ ap (λ (o : Result Kind InstrFault). o >>= (λ k. Ok tt)) g
 
+  -- a rule whose code ends with one Boolean has no fault
   pub rule_passes : (ks : List Kind) (k : Kind) → kinds_from r vars first [] ≡ Ok ks → ended_with (surroundings_of r) a_boolean end ks ≡ Ok k → check_rule r.linked.now.model r.linked.now.unit r.index (unit_rule r.linked.now.unit r.index) ≡ Ok tt
   rule_passes ks k h g = rule_checks ∙ ap (λ (o : Result (List Kind) InstrFault). o >>= (λ l. ended_with (surroundings_of r) a_boolean end l >>= (λ j. Ok tt))) h ∙ ap (λ (o : Result Kind InstrFault). o >>= (λ j. Ok tt)) g
 
   from_zero : (d : Depths) → deeper (record { operands = 0; variables = 0; blocks = 0 }) d ≡ d
   from_zero d = rw (zero-max d.operands, zero-max d.variables, zero-max d.blocks) refl
 
+  -- the depths that the walk found are those of the rule
   pub rule_goes_deep : (kept : List Kind) (new : Depths) → Walked r vars (record { operands = 0; variables = 0; blocks = 0 }) first kept new → new ≡ depths_of r.linked.now.model r.linked.now.unit r.index (unit_rule r.linked.now.unit r.index)
   rule_goes_deep kept new w =
       let m = r.linked.now.model in
@@ -138,12 +143,14 @@ module _ (m : Model) (u : Content) where
     pub left : check_unit m u ≡ check_rules m u n (drop n u.rules)
     pub deep : depths_of_rules m u 0 u.rules ≡ depths ++ depths_of_rules m u n (drop n u.rules)
 
+  -- before the first rule
   pub none_checked : (depths : List Depths) → depths ≡ [] → Checked 0 depths
   none_checked depths e = rw e (record { left = refl; deep = refl })
 
   next_rule : (n : ℕ) → n < length u.rules → drop n u.rules ≡ unit_rule u n ∷ drop (n + 1) u.rules
   next_rule n lt = drop_more u.rules n empty_rule lt
 
+  -- one rule more without a fault, with its depths behind those before it
   pub one_checked : (n : ℕ) (before after : List Depths) (d : Depths) → Checked n before → n < length u.rules → check_rule m u n (unit_rule u n) ≡ Ok tt → d ≡ depths_of m u n (unit_rule u n) → after ≡ before ++ d ∷ [] → Checked (n + 1) after
   one_checked n before after d c lt passes deep pushed =
       rw pushed
@@ -156,13 +163,16 @@ module _ (m : Model) (u : Content) where
             ∙ sym (append_assoc before (d ∷ []) (depths_of_rules m u (n + 1) (drop (n + 1) u.rules)));
       })
 
+  -- the first rule with a fault: it is the fault of the unit
   pub one_wrong : (n : ℕ) (before : List Depths) (e : VerifyFault) → Checked n before → n < length u.rules → Fails verify_fault e (check_rule m u n (unit_rule u n)) → Fails verify_fault e (check_unit m u)
   one_wrong n before OutOfMemory c lt h = tt
   one_wrong n before (At flaw rule at) c lt h = c.left ∙ ap (check_rules m u n) (next_rule n lt) ∙ ap (λ (o : Result (Unit {0}) InstrFault). o >>= (λ z. check_rules m u (n + 1) (drop (n + 1) u.rules))) h
 
+  -- when all rules are checked, the unit is accepted
   pub all_checked : (n : ℕ) (depths : List Depths) → Checked n depths → length u.rules ≤ n → check_unit m u ≡ Ok tt
   all_checked n depths c le = c.left ∙ ap (check_rules m u n) (drop_all n u.rules le)
 
+  -- when all rules are checked, the depths are those of all rules
   pub all_deep : (n : ℕ) (depths : List Depths) → Checked n depths → length u.rules ≤ n → depths ≡ depths_of_rules m u 0 u.rules
   all_deep n depths c le = sym (c.deep ∙ ap (λ (rs : List RuleContent). depths ++ depths_of_rules m u n rs) (drop_all n u.rules le) ∙ append-nil depths)
 
@@ -175,6 +185,7 @@ module _ (m : Model) (u : Content) where
       let here : n + suc i ≡ n + 1 + i = omega arith in
       rw here (each_passes (n + 1) xs i (both_steps (check_rule m u n x) (λ z. check_rules m u (n + 1) xs) tt e).2 (omega arith))
 
+  -- each rule of an accepted unit passes
   pub rule_accepted : IsAcceptedUnit m u → (n : ℕ) → n < length u.rules → check_rule m u n (unit_rule u n) ≡ Ok tt
   rule_accepted e n lt = let P : ℕ → Type 0 = λ k. check_rule m u k (unit_rule u n) ≡ Ok tt in subst P (omega arith) (each_passes 0 u.rules n e lt)
 
@@ -195,8 +206,10 @@ module _ (m : Model) (u : Content) where
   deep_at n (x ∷ xs) zero d lt = let here : n + 0 ≡ n = omega arith in rw here refl
   deep_at n (x ∷ xs) (suc i) d lt = let here : n + suc i ≡ n + 1 + i = omega arith in rw here (deep_at (n + 1) xs i d (omega arith))
 
+  -- there are depths for each rule
   pub depths_there : (depths : List Depths) (n : ℕ) → depths ≡ depths_of_rules m u 0 u.rules → n < length u.rules → n < length depths
   depths_there depths n e lt = rw e (omega (arith, depths_count 0 u.rules))
 
+  -- the depths that are read at an index are those of the rule of that index
   pub depth_read : (depths : List Depths) (n : ℕ) (d : Depths) → depths ≡ depths_of_rules m u 0 u.rules → n < length u.rules → d ≡ get_or depths n d → d ≡ depths_of m u n (unit_rule u n)
   depth_read depths n d e lt is = is ∙ ap (λ (l : List Depths). get_or l n d) e ∙ deep_at 0 u.rules n d lt ∙ ap (λ (k : ℕ). depths_of m u k (unit_rule u n)) (zero-add n)

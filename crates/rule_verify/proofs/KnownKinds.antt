@@ -57,6 +57,7 @@ element_known : (m : Model) (k : Kind) → IsKindOf m k → IsScalarKindOf m (el
 element_known m (Scalar k) h = h
 element_known m (Collection c k) h = h
 
+-- where the operands are of known kinds, so is the topmost
 pub topmost_known : (m : Model) (ks : List Kind) → AreKnownKinds m ks → IsKindOf m (topmost ks)
 topmost_known m [] h = tt
 topmost_known m (k ∷ ks) h = h.0
@@ -88,6 +89,7 @@ module _ (s : Surroundings) where
   operands_known (instrs.AsSet k) = (scalar_known k, tt)
   operands_known i = search
 
+  -- the same, where the class model and the list are known by equations alone
   pub wanted_known : (i : Instr) (m : Model) (ws : List Pattern) → m ≡ s.model → ws ≡ operands_of s i → ArePatterns m ws
   wanted_known i m ws same are = subst (λ (n : Model). ArePatterns n ws) (sym same) (subst (λ (l : List Pattern). ArePatterns s.model l) (sym are) (operands_known i))
 
@@ -108,11 +110,13 @@ module _ (s : Surroundings) where
   binds_known (instrs.Let n) k h = h
   binds_known i k h = element_known s.model k h
 
+  -- what a block asks of the end of its body names known kinds alone
   pub ends_known : (i : Instr) → IsPatternOf s.model (ends_with s i)
   ends_known (instrs.If k n m) = kind_known k
   ends_known (instrs.IsUnique k n) = scalar_known k
   ends_known i = tt
 
+  -- what a block gives is of a known kind, where its operand and its body are
   pub yields_known : (i : Instr) (k r : Kind) → IsKindOf s.model k → IsKindOf s.model r → IsKindOf s.model (yields s i k r)
   yields_known (instrs.Let n) k r h g = g
   yields_known (instrs.If w n m) k r h g = kind_known w

@@ -21,6 +21,7 @@ use Rattle.rule_verify.specs.CodeTree.{shape_of, CodeTree, Plain, Block, Branch,
 
 -- ---- symbols
 
+-- what is known of the value of an option, if it has one, holds of the value that it has
 pub at_some : {A : Type 0} (o : Option A) (P : A → Type 0) (x : A) → o ≡ Some x → IfSome o P → P x
 at_some (Some y) P x e h = let same : y ≡ x = cc in subst P same h
 at_some None P x e h = cc
@@ -128,28 +129,34 @@ count_cut zero (i ∷ is) le = absurd (omega arith)
 count_cut (suc f) [] le = refl
 count_cut (suc f) (i ∷ is) le = count_one (cut f) i (shape_of i) is (λ js l. count_cut f js (omega arith))
 
+-- the tree of a list has as many instructions as the list
 pub code_tree_count : (is : List Instr) → instr_count (code_tree is) ≡ length is
 code_tree_count is = count_cut (length is) is (omega arith)
 
 -- ---- stretches of code
 
+-- a stretch that ends where it begins, or before, is empty
 pub stretch_none : (code : List Instr) (at end : ℕ) → end ≤ at → slice_range code at end ≡ []
 stretch_none code at end le = let e : end - at ≡ 0 = omega arith in rw e refl
 
+-- a stretch of code has as many instructions as there are from its beginning to its end
 pub stretch_length : (code : List Instr) (at end : ℕ) → end ≤ length code → length (slice_range code at end) ≡ end - at
 stretch_length code at end le = omega (arith, length-take (end - at) (drop at code), length-drop at code)
 
+-- a stretch is its first instruction and the stretch from the next index on
 pub stretch_first : (code : List Instr) (at end : ℕ) (i : Instr) → at < end → end ≤ length code → i ≡ get_or code at i → slice_range code at end ≡ i ∷ slice_range code (at + 1) end
 stretch_first code at end i lt le is =
     let e : end - at ≡ suc (end - (at + 1)) = omega arith in
     let d = drop_more code at i (omega arith) ∙ ap (λ x. x ∷ drop (at + 1) code) (sym is) in
     ap (λ n. take n (drop at code)) e ∙ ap (take (suc (end - (at + 1)))) d
 
+-- the first instructions of a stretch are a stretch from the same index
 pub stretch_take : (code : List Instr) (at n end : ℕ) → at + n ≤ end → take n (slice_range code at end) ≡ slice_range code at (at + n)
 stretch_take code at n end le =
     let e : at + n - at ≡ n = omega arith in
     take-take n (end - at) (drop at code) (omega arith) ∙ ap (λ k. take k (drop at code)) (sym e)
 
+-- a stretch without its first instructions is a stretch to the same end
 pub stretch_drop : (code : List Instr) (at n end : ℕ) → at + n ≤ end → drop n (slice_range code at end) ≡ slice_range code (at + n) end
 stretch_drop code at n end le =
     let e : end - at ≡ n + (end - (at + n)) = omega arith in
@@ -163,9 +170,11 @@ module _ (code : List Instr) (at end : ℕ) (i : Instr) (lt : at < end) (le : en
       ∙ tree_cons i (slice_range code (at + 1) end)
       ∙ ap (λ s. cut_one code_tree i s (slice_range code (at + 1) end)) is
 
+  -- an instruction without a body, and the tree from the next index on
   pub tree_plain : shape_of i ≡ Single → code_tree (slice_range code at end) ≡ Plain i (code_tree (slice_range code (at + 1) end))
   tree_plain is = by_shape Single is
 
+  -- a block whose body fits: the tree of its body, and the tree after it
   pub tree_block : (n : ℕ) → shape_of i ≡ OneBody n → at + 1 + n ≤ end → code_tree (slice_range code at end) ≡ Block i (code_tree (slice_range code (at + 1) (at + 1 + n))) (code_tree (slice_range code (at + 1 + n) end))
   tree_block n is nests =
       let rest = slice_range code (at + 1) end in
@@ -175,6 +184,7 @@ module _ (code : List Instr) (at end : ℕ) (i : Instr) (lt : at < end) (le : en
       ∙ ap (λ x. Block i (code_tree x) (code_tree (drop n rest))) (stretch_take code (at + 1) n end nests)
       ∙ ap (λ x. Block i (code_tree (slice_range code (at + 1) (at + 1 + n))) (code_tree x)) (stretch_drop code (at + 1) n end nests)
 
+  -- a block whose two bodies fit: their trees, and the tree after them
   pub tree_branch : (n m : ℕ) → shape_of i ≡ TwoBodies n m → at + 1 + n + m ≤ end
       → code_tree (slice_range code at end) ≡ Branch i (code_tree (slice_range code (at + 1) (at + 1 + n))) (code_tree (slice_range code (at + 1 + n) (at + 1 + n + m))) (code_tree (slice_range code (at + 1 + n + m) end))
   tree_branch n m is nests =
@@ -194,6 +204,7 @@ module _ (code : List Instr) (at end : ℕ) (i : Instr) (lt : at < end) (le : en
       let test : nat_le n (length rest) ≡ false = lt-leb n (length rest) (omega (arith, stretch_length code (at + 1) end le)) in
       by_shape (OneBody n) is ∙ ap (λ b. if b then Block i (code_tree (take n rest)) (code_tree (drop n rest)) else Torn i (length rest)) test
 
+  -- the same, with two bodies that are longer together than what is left
   pub tree_torn_branch : (n m : ℕ) → shape_of i ≡ TwoBodies n m → end < at + 1 + n + m → code_tree (slice_range code at end) ≡ Torn i (length (slice_range code (at + 1) end))
   tree_torn_branch n m is long =
       let rest = slice_range code (at + 1) end in

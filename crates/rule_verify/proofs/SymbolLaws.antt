@@ -24,6 +24,7 @@ name_read m u names n i r is e lt read =
     let there = ap (λ (l : List (Option Named)). slice_get l i) (sym is) ∙ here in
     ap (named_at m u) (sym e) ∙ joined (named_by m u.texts) (slice_get u.symbols i) r (sym (slice_get-map (named_by m u.texts) u.symbols i) ∙ there)
 
+-- what is read from the table of names is something that the class model has
 pub known_read : (v : LinkedUnit) (m : Model) (u : Content) (names : List (Option Named)) (n i : ℕ) (r : Option Named) → linked_unit m u ≡ v → names ≡ map (named_by m u.texts) u.symbols → i ≡ n → n < length v.unit.symbols → r ≡ get_or names i r → IfSome r (IsKnownName v.model)
 known_read v m u names n i r same is e lt read =
     let its : n < length u.symbols = subst (λ (x : LinkedUnit). n < length x.unit.symbols) (sym same) lt in

@@ -30,6 +30,7 @@ others_take s i h1 h2 h3 h4 h5 h6 h7 h8 = refl
 
 -- ---- operands that are taken one by one
 
+-- fewer operands than are wanted: they are not all there
 pub too_few : (ws : List Pattern) (ks : List Kind) (n m : ℕ) → n ≡ length ks → m ≡ length ws → n < m → are_there ws ks ≡ false
 too_few [] ks n m e f lt = absurd (omega arith)
 too_few (w ∷ ws) [] n m e f lt = refl
@@ -48,17 +49,21 @@ pub record Taking (m : Model) (ws : List Pattern) (old : List Kind) (i : ℕ) (k
   pub past_is : below ws old ≡ below (drop i ws) ks
   pub known : AreKnownKinds m ks
 
+-- before the first operand is taken, where there are as many as are wanted
 pub begins : (m : Model) (ws : List Pattern) (ks : List Kind) (n : ℕ) → AreKnownKinds m ks → n ≡ length ks → length ws ≤ n → Taking m ws ks 0 ks
 begins m ws ks n known e le = let h = enough ws ks (omega arith) in record { all_there = h; there = h; fit_is = refl; past_is = refl; known = known }
 
+-- where all operands are of known kinds, so is the topmost, and so are those below it
 pub top_known : (m : Model) (ks : List Kind) (k : Kind) (rest : List Kind) → ks ≡ k ∷ rest → AreKnownKinds m ks → IsKindOf m k × AreKnownKinds m rest
 top_known m ks k rest e h = let P : List Kind → Type 0 = λ l. AreKnownKinds m l in subst P e h
 
+-- each pattern of a list is known where all of them are
 pub known_at : (m : Model) (ws : List Pattern) (i : ℕ) (w : Pattern) → ArePatterns m ws → i < length ws → w ≡ get_or ws i w → IsPatternOf m w
 known_at m [] i w h lt e = absurd (omega arith)
 known_at m (v ∷ ws) zero w h lt e = subst (IsPatternOf m) (sym e) h.0
 known_at m (v ∷ ws) (suc i) w h lt e = known_at m ws i w h.1 (omega arith) e
 
+-- one operand more is taken: the topmost one matches the next pattern
 pub one_more : (m : Model) (ws : List Pattern) (old : List Kind) (i : ℕ) (ks : List Kind) (d : Pattern) (k : Kind) (rest : List Kind) → Taking m ws old i ks → i < length ws → ks ≡ k ∷ rest → matches m (get_or ws i d) k ≡ true → Taking m ws old (i + 1) rest
 one_more m ws old i ks d k rest t lt e f =
     let w = get_or ws i d in let dr = drop_more ws i d lt in
@@ -70,6 +75,7 @@ one_more m ws old i ks d k rest t lt e f =
       known = (top_known m ks k rest e t.known).1;
     }
 
+-- no operand is left where one is still wanted: they were not all there
 pub none_left : (m : Model) (ws : List Pattern) (old : List Kind) (i : ℕ) (ks : List Kind) → Taking m ws old i ks → i < length ws → ks ≡ [] → are_there ws old ≡ false
 none_left m ws old i ks t lt e = by_list ws i lt (sym (ap (are_there (drop i ws)) e) ∙ t.there)
   where
@@ -78,11 +84,13 @@ none_left m ws old i ks t lt e = by_list ws i lt (sym (ap (are_there (drop i ws)
     by_list (v ∷ vs) zero lt h = cc
     by_list (v ∷ vs) (suc j) lt h = by_list vs j (omega arith) h
 
+-- the topmost operand doesn't match the next pattern: not all operands match
 pub misfit : (m : Model) (ws : List Pattern) (old : List Kind) (i : ℕ) (ks : List Kind) (d : Pattern) (k : Kind) (rest : List Kind) → Taking m ws old i ks → i < length ws → ks ≡ k ∷ rest → matches m (get_or ws i d) k ≡ false → all_match m ws old ≡ false
 misfit m ws old i ks d k rest t lt e f =
     let w = get_or ws i d in let dr = drop_more ws i d lt in
     t.fit_is ∙ ap (λ l. all_match m l ks) dr ∙ ap (all_match m (w ∷ drop (i + 1) ws)) e ∙ ap (λ b. b && all_match m (drop (i + 1) ws) rest) f
 
+-- when all patterns are done, the operands match them, and what is left lies below them
 pub all_taken : (m : Model) (ws : List Pattern) (old : List Kind) (i : ℕ) (ks : List Kind) → Taking m ws old i ks → length ws ≤ i → (all_match m ws old ≡ true) × (ks ≡ below ws old)
 all_taken m ws old i ks t le =
     let d = drop_all i ws le in (t.fit_is ∙ ap (λ l. all_match m l ks) d, sym (t.past_is ∙ ap (λ l. below l ks) d))

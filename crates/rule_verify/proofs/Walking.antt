@@ -7,7 +7,7 @@ use Rattle.ocl_base.specs.Steps.{◌>>=◌, check, Fails}
 use Rattle.ocl_kinds.specs.declared.kind.Kind.{Kind}
 use Rattle.rule_code.specs.declared.instruction.Instr.{Instr}
 use Rattle.rule_code.specs.declared.instruction.Instr.TheVariants as instrs
-use Rattle.rule_verify.specs.declared.fault.Flaw.TheVariants as flaws
+use Rattle.rule_verify.specs.declared.fault.VerifyFlaw.TheVariants as flaws
 use Rattle.rule_verify.specs.declared.fault.VerifyFault.{VerifyFault}
 use Rattle.rule_verify.specs.declared.fault.VerifyFault.TheVariants.{At, OutOfMemory}
 use Rattle.rule_verify.specs.declared.judged.RuleCode.{RuleCode}
@@ -73,6 +73,7 @@ pub record Takes (s : Surroundings) (vars : List Kind) (i : Instr) (ks left : Li
   pub fitting : all_match s.model (operands_of s i) ks ≡ true
   pub left_is : left ≡ below (operands_of s i) ks
 
+-- an instruction that took its operands passed each check of names, variable and operands
 pub takes_from : (s : Surroundings) (vars : List Kind) (i : Instr) (at : ℕ) (ks left : List Kind) → taken s vars i at ks ≡ Ok left → Takes s vars i ks left
 takes_from s vars i at ks left e =
     let p = taken_by (has_names s i) (has_variable vars i) (are_there (operands_of s i) ks) (all_match s.model (operands_of s i) ks) _ _ _ _ (below (operands_of s i) ks) left e in
@@ -134,6 +135,7 @@ module _ (r : RuleCode) (vars : List Kind) (p : Place) (ks : List Kind) (i : Ins
             | inr w ↦ by_tree _ (tree_torn_branch r.code.now p.at p.end i lt le here n m is w.1) ∙ rw fails refl
           ]
 
+  -- the same, of the fault that a call returned, under variables that are those of the place
   pub take_wrong : (v : List Kind) (e : VerifyFault) → v ≡ vars → Fails verify_fault e (taken (surroundings_of r) v i p.at ks) → Fails verify_fault e (kinds_from r vars p ks)
   take_wrong v OutOfMemory same h = tt
   take_wrong v (At flaw rule n) same h = taken_fails (instr_fault flaw rule n) (ap (λ (w : List Kind). taken (surroundings_of r) w i p.at ks) (sym same) ∙ h)
@@ -182,11 +184,13 @@ module _ (r : RuleCode) (vars : List Kind) (p : Place) (ks : List Kind) (i : Ins
     plain_tree : shape_of i ≡ Single → code_tree (slice_range r.code.now p.at p.end) ≡ Plain i (code_tree (slice_range r.code.now (p.at + 1) p.end))
     plain_tree is = tree_plain r.code.now p.at p.end i lt le here is
 
+    -- an instruction without a body, at the limit of operands, is refused
     pub stack_fails : shape_of i ≡ Single → operand_limit ≤ p.covered + length left → kinds_from r vars p ks ≡ Err (instr_fault flaws.StackLimit r.index p.at)
     stack_fails is full =
         let test : nat_le (p.covered + suc (length left)) operand_limit ≡ false = lt-leb (p.covered + suc (length left)) operand_limit (omega arith) in
         by_tree _ (plain_tree is) ∙ rw (takes, test) refl
 
+    -- the walk goes past an instruction without a body that has room for its result
     pub plain_goes : (old new : Depths) (after kept : List Kind) (y : Kind) → shape_of i ≡ Single → p.covered + length left < operand_limit → AreKnownKinds r.linked.now.model (y ∷ left)
         → y ≡ result_kind (surroundings_of r) vars i ks → after ≡ y ∷ left → kept ≡ vars → new ≡ deeper old (depth_at vars p ks) → Gone r vars old p ks (p.at + 1) kept new after
     plain_goes old new after kept y is room known gives pushed same deep =
@@ -229,9 +233,11 @@ module _ (r : RuleCode) (vars : List Kind) (p : Place) (ks : List Kind) (i : Ins
           ∙ two_first ends (ended_with s (ends_with s i) p.at) (then (p.at + 1 + instr_count body))
           ∙ ap (λ (m : ℕ). (ends >>= ended_with s (ends_with s i) p.at) >>= then (p.at + 1 + m)) (count_is r.code.now (p.at + 1) n (omega arith))
 
+      -- a fault of the body, or of what it ends with, is the fault from the block on
       pub body_fails : (f : InstrFault) → body_ends r (binds i (topmost ks) ∷ vars) (place_inside p left (p.at + 1) (p.at + 1 + n)) i p.at ≡ Err f → kinds_from r vars p ks ≡ Err f
       body_fails f h = block_is ∙ fails_then _ after_block f h
 
+      -- the walk goes past a block whose body ends as it has to
       pub block_goes : (old deep new : Depths) (after kept : List Kind) (k y : Kind) → body_ends r (binds i (topmost ks) ∷ vars) (place_inside p left (p.at + 1) (p.at + 1 + n)) i p.at ≡ Ok y
           → AreKnownKinds r.linked.now.model (yields (surroundings_of r) i k y ∷ left) → k ≡ topmost ks → after ≡ yields (surroundings_of r) i k y ∷ left → kept ≡ vars → deep ≡ deeper old (depth_at vars p ks)
           → new ≡ deeper deep (depths_from r (binds i (topmost ks) ∷ vars) (place_inside p left (p.at + 1) (p.at + 1 + n)) []) → Gone r vars old p ks (p.at + 1 + n) kept new after
@@ -296,12 +302,15 @@ module _ (r : RuleCode) (vars : List Kind) (p : Place) (ks : List Kind) (i : Ins
           ∙ two_first one W (λ y. two >>= (λ o. W o >>= (λ z. after_branches y)))
           ∙ then_same first_ends (λ y. two >>= (λ o. W o >>= (λ z. after_branches y))) (λ y. second_ends >>= (λ z. after_branches y)) (λ y. two_first two W (λ z. after_branches y))
 
+      -- a fault of the first body is the fault from the block on
       pub first_fails : (f : InstrFault) → first_ends ≡ Err f → kinds_from r vars p ks ≡ Err f
       first_fails f h = branches_are ∙ fails_then first_ends (λ y. second_ends >>= (λ z. after_branches y)) f h
 
+      -- a fault of the second body is the fault from the block on, where the first one has none
       pub second_fails : (f : InstrFault) (y : Kind) → first_ends ≡ Ok y → second_ends ≡ Err f → kinds_from r vars p ks ≡ Err f
       second_fails f y h g = branches_are ∙ ap (λ (o : Result Kind InstrFault). o >>= (λ x. second_ends >>= (λ z. after_branches x))) h ∙ fails_then second_ends (λ z. after_branches y) f g
 
+      -- the walk goes past a block with two bodies that both end as they have to
       pub branch_goes : (old deep deeper' new : Depths) (after kept : List Kind) (k y z : Kind) → first_ends ≡ Ok y → second_ends ≡ Ok z → AreKnownKinds r.linked.now.model (yields (surroundings_of r) i k y ∷ left) → k ≡ topmost ks
           → after ≡ yields (surroundings_of r) i k y ∷ left → kept ≡ vars → deep ≡ deeper old (depth_at vars p ks) → deeper' ≡ deeper deep (depths_from r vars (place_inside p left (p.at + 1) (p.at + 1 + n)) [])
           → new ≡ deeper deeper' (depths_from r vars (place_inside p left (p.at + 1 + n) (p.at + 1 + n + m)) []) → Gone r vars old p ks (p.at + 1 + n + m) kept new after
@@ -347,6 +356,7 @@ gone_on r vars old mid new p ks now after at next held kept g s =
     let h = subst P g.kept s.0 in
     record { kinds = g.kinds ∙ h.kinds; kept = h.kept; depths = g.depths ∙ h.depths; forward = omega (arith, g.forward, h.forward); place = h.place }
 
+-- a fault from the instruction on that the walk has come to is the fault from its beginning on
 pub goes_wrong : (r : RuleCode) (vars : List Kind) (old mid : Depths) (p : Place) (ks now : List Kind) (at : ℕ) (held : List Kind) (e : VerifyFault) → Gone r vars old p ks at held mid now → Fails verify_fault e (kinds_from r held (moved p at) now) → Fails verify_fault e (kinds_from r vars p ks)
 goes_wrong r vars old mid p ks now at held OutOfMemory g h = tt
 goes_wrong r vars old mid p ks now at held (At flaw rule n) g h = g.kinds ∙ ap (λ (v : List Kind). kinds_from r v (moved p at) now) (sym g.kept) ∙ h
@@ -355,9 +365,11 @@ goes_wrong r vars old mid p ks now at held (At flaw rule n) g h = g.kinds ∙ ap
 end_tree : (r : RuleCode) (p : Place) (at : ℕ) → p.end ≤ at → code_tree (slice_range r.code.now at p.end) ≡ End
 end_tree r p at le = ap code_tree (stretch_none r.code.now at p.end le)
 
+-- a walk that has come to the end of its sequence has the operands that stand there
 pub gone_through : (r : RuleCode) (vars : List Kind) (old mid : Depths) (p : Place) (ks now : List Kind) (at : ℕ) (held : List Kind) → Gone r vars old p ks at held mid now → p.end ≤ at → kinds_from r vars p ks ≡ Ok now
 gone_through r vars old mid p ks now at held g le = g.kinds ∙ ap (λ (t : CodeTree). kinds_after (surroundings_of r) t (enclosing vars p) at now) (end_tree r p at le)
 
+-- a walk that has come to the end of its sequence has walked it, and knows how deep it goes
 pub walked_through : (r : RuleCode) (vars : List Kind) (old mid new : Depths) (p : Place) (now : List Kind) (at : ℕ) (held kept : List Kind) → Gone r vars old p [] at held mid now → p.end ≤ at → kept ≡ held → new ≡ deeper mid (depth_at held (moved p at) now) → Walked r vars old p kept new
 walked_through r vars old mid new p now at held kept g le same deep = record {
   kept = same ∙ g.kept;

@@ -29,6 +29,7 @@ module _ (r : RuleCode) (vars : List Kind) (p : Place) (ks : List Kind) (i : Ins
     fewer : length left ≤ length ks
     fewer = omega (arith, taken_count (surroundings_of r) vars i p.at ks left o.takes)
 
+    -- the operands below an opened block keep within the limit of operands
     pub room_left : p.covered + length left ≤ 1024
     room_left = omega (arith, fewer, ok.room)
 
@@ -46,10 +47,12 @@ module _ (r : RuleCode) (vars : List Kind) (p : Place) (ks : List Kind) (i : Ins
       its_body : body_ends r v q i p.at ≡ body_ends r (binds i (topmost ks) ∷ vars) (place_inside p left (p.at + 1) (p.at + 1 + n)) i p.at
       its_body = ap (λ (l : List Kind). body_ends r l q i p.at) binding ∙ ap (λ (x : Place). body_ends r (binds i (topmost ks) ∷ vars) x i p.at) inner
 
+      -- a fault of the body, or of what it ends with, is the fault from the block on
       pub block_wrong : (e : VerifyFault) → Fails verify_fault e (body_ends r v q i p.at) → Goes r vars old p ks (Err e) held deep left
       block_wrong OutOfMemory h = tt
       block_wrong (At flaw rule at) h = body_fails r vars p ks i lt ok.within here left ok o.takes n is o.nests o.shallow (instr_fault flaw rule at) (sym its_body ∙ h)
 
+      -- the walk goes past a block when its body was walked to its end
       pub block_gone : (y : Kind) (new : Depths) (kept kept' after : List Kind) → body_ends r v q i p.at ≡ Ok y → Walked r v deep q kept' new → AreKnownKinds r.linked.now.model (yields (surroundings_of r) i k y ∷ left)
           → (x : Option Kind) → MatchOption x ((kept' ≡ []) × (kept ≡ [])) (λ z. kept' ≡ z ∷ kept) → after ≡ yields (surroundings_of r) i k y ∷ left → Gone r vars old p ks (p.at + 1 + n) kept new after
       block_gone y new kept kept' after ends w known x pops pushed =
@@ -60,6 +63,7 @@ module _ (r : RuleCode) (vars : List Kind) (p : Place) (ks : List Kind) (i : Ins
     one_body : body_ends r held q i p.at ≡ body_ends r vars (place_inside p left (p.at + 1) (p.at + 1 + n)) i p.at
     one_body = ap (λ (l : List Kind). body_ends r l q i p.at) o.kept ∙ ap (λ (x : Place). body_ends r vars x i p.at) first
 
+    -- a fault of the first body is the fault from the block on
     pub first_wrong : (e : VerifyFault) → Fails verify_fault e (body_ends r held q i p.at) → Goes r vars old p ks (Err e) held deep left
     first_wrong OutOfMemory h = tt
     first_wrong (At flaw rule at) h = first_fails r vars p ks i lt ok.within here left ok o.takes n m is o.nests o.shallow (instr_fault flaw rule at) (sym one_body ∙ h)
@@ -71,10 +75,12 @@ module _ (r : RuleCode) (vars : List Kind) (p : Place) (ks : List Kind) (i : Ins
       other_body : body_ends r held' q' i p.at ≡ body_ends r vars (place_inside p left (p.at + 1 + n) (p.at + 1 + n + m)) i p.at
       other_body = ap (λ (l : List Kind). body_ends r l q' i p.at) still ∙ ap (λ (x : Place). body_ends r vars x i p.at) second
 
+      -- a fault of the second body is the fault from the block on, where the first one has none
       pub second_wrong : (e : VerifyFault) → Fails verify_fault e (body_ends r held' q' i p.at) → Goes r vars old p ks (Err e) held deep left
       second_wrong OutOfMemory h = tt
       second_wrong (At flaw rule at) h = second_fails r vars p ks i lt ok.within here left ok o.takes n m is o.nests o.shallow (instr_fault flaw rule at) y (sym one_body ∙ ends) (sym other_body ∙ h)
 
+      -- the walk goes past a block with two bodies when both were walked to their ends
       pub branches_gone : (z : Kind) (new : Depths) (kept after : List Kind) → body_ends r held' q' i p.at ≡ Ok z → Walked r held' mid q' kept new → AreKnownKinds r.linked.now.model (yields (surroundings_of r) i k y ∷ left)
           → after ≡ yields (surroundings_of r) i k y ∷ left → Gone r vars old p ks (p.at + 1 + n + m) kept new after
       branches_gone z new kept after others x known pushed =

@@ -1,11 +1,11 @@
 -- The documented numbers of the verifier's faults.
 use Rattle.std.specs.Prelude.{ℕ}
-use Rattle.rule_verify.specs.declared.fault.Flaw.{Flaw}
-use Rattle.rule_verify.specs.declared.fault.Flaw.TheVariants.{NoSuchName, MissingOperand, WrongKind, BadVariable, BadNesting, LeftOver, StackLimit, NestLimit}
+use Rattle.rule_verify.specs.declared.fault.VerifyFlaw.{VerifyFlaw}
+use Rattle.rule_verify.specs.declared.fault.VerifyFlaw.TheVariants.{NoSuchName, MissingOperand, WrongKind, BadVariable, BadNesting, LeftOver, StackLimit, NestLimit}
 use Rattle.rule_verify.specs.declared.fault.VerifyFault.{VerifyFault}
 use Rattle.rule_verify.specs.declared.fault.VerifyFault.TheVariants.{At, OutOfMemory}
 
-abbrev pub verify_flaw_number : Flaw → ℕ
+abbrev pub verify_flaw_number : VerifyFlaw → ℕ
 verify_flaw_number NoSuchName = 1
 verify_flaw_number MissingOperand = 2
 verify_flaw_number WrongKind = 3

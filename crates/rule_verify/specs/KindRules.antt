@@ -5,8 +5,8 @@ use Rattle.ocl_kinds.specs.declared.kind.Kind.{Kind}
 use Rattle.ocl_kinds.specs.declared.kind.Kind.TheVariants.{Scalar}
 use Rattle.ocl_kinds.specs.declared.kind.ScalarKind.TheVariants as element
 use Rattle.rule_code.specs.declared.instruction.Instr.{Instr}
-use Rattle.rule_verify.specs.declared.fault.Flaw.{Flaw}
-use Rattle.rule_verify.specs.declared.fault.Flaw.TheVariants as flaws
+use Rattle.rule_verify.specs.declared.fault.VerifyFlaw.{VerifyFlaw}
+use Rattle.rule_verify.specs.declared.fault.VerifyFlaw.TheVariants as flaws
 use Rattle.rule_verify.specs.CodeTree.{CodeTree, End, Plain, Block, Branch, Torn, instr_count}
 use Rattle.rule_verify.specs.declared.pattern.Pattern.{Pattern}
 use Rattle.rule_verify.specs.Patterns.{matches, a_boolean, are_there, all_match, below}
@@ -14,11 +14,11 @@ use Rattle.rule_verify.specs.InstrKinds.{Surroundings, has_names, has_variable, 
 
 -- a fault of the instruction at an index of a rule
 pub record InstrFault : Type 0 where
-  pub flaw : Flaw
+  pub flaw : VerifyFlaw
   pub rule : ℕ
   pub at : ℕ
 
-abbrev pub instr_fault : Flaw → ℕ → ℕ → InstrFault
+abbrev pub instr_fault : VerifyFlaw → ℕ → ℕ → InstrFault
 instr_fault flaw rule at = record { flaw = flaw; rule = rule; at = at }
 
 -- ---- what encloses a sequence

@@ -4,7 +4,7 @@ use Rattle.std.specs.List.{list_any}
 use Rattle.imkl_model.specs.ClassModel.{Model}
 use Rattle.ocl_base.specs.Steps.{◌>>=◌, found}
 use Rattle.rule_code.specs.Content.{Content, RuleContent}
-use Rattle.rule_verify.specs.declared.fault.Flaw.TheVariants as flaws
+use Rattle.rule_verify.specs.declared.fault.VerifyFlaw.TheVariants as flaws
 use Rattle.rule_verify.specs.declared.depths.Depths.{Depths}
 use Rattle.rule_verify.specs.CodeTree.{code_tree}
 use Rattle.rule_verify.specs.CodeDepths.{rule_depths}

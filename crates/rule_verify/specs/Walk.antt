@@ -8,8 +8,8 @@ use Rattle.ocl_kinds.specs.declared.kind.Kind.{Kind}
 use Rattle.rule_code.specs.declared.symbol.SymbolNumber.{SymbolNumber}
 use Rattle.rule_code.specs.declared.instruction.Instr.{Instr}
 use Rattle.rule_code.specs.Content.{Content}
-use Rattle.rule_verify.specs.declared.fault.Flaw.{Flaw}
-use Rattle.rule_verify.specs.declared.fault.Flaw.TheVariants as flaws
+use Rattle.rule_verify.specs.declared.fault.VerifyFlaw.{VerifyFlaw}
+use Rattle.rule_verify.specs.declared.fault.VerifyFlaw.TheVariants as flaws
 use Rattle.rule_verify.specs.declared.fault.VerifyFault.{VerifyFault}
 use Rattle.rule_verify.specs.declared.judged.RuleCode.{RuleCode}
 use Rattle.rule_verify.specs.declared.pattern.Pattern.{Pattern}
@@ -49,7 +49,7 @@ abbrev pub AreSymbols : Content → List ℕ → Type 0
 AreSymbols u ns = AllByRecursion (λ n. n < length u.symbols) ns
 
 -- the operands are taken, or which fault comes first
-abbrev pub AreTaken : Model → List Pattern → List Kind → Option Flaw → List Kind → Type 0
+abbrev pub AreTaken : Model → List Pattern → List Kind → Option VerifyFlaw → List Kind → Type 0
 AreTaken m ws old None new = (are_there ws old ≡ true) × (all_match m ws old ≡ true) × (new ≡ below ws old)
 AreTaken m ws old (Some flaws.MissingOperand) new = are_there ws old ≡ false
 AreTaken m ws old (Some flaws.WrongKind) new = (are_there ws old ≡ true) × (all_match m ws old ≡ false)

@@ -79,7 +79,8 @@ impl<'m> Accepted<'m> {
     /// The name of a rule.
     pub fn rule_name(&self, rule: usize) -> &str
         requires { rule < length self.now.unit.rules }
-        ensures { result.now ≡ text_at self.now.unit.texts (spec.unit_rule self.now.unit rule).name }
+        ensures { result.now
+            ≡ text_at self.now.unit.texts (spec.unit_rule self.now.unit rule).name }
     {
         let unit = self.linked.unit();
         unit.text(unit.rule(rule).name)

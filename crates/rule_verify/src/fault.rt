@@ -9,7 +9,7 @@ use thiserror::Error;
 
 /// What is wrong with an instruction, with its documented number.
 #[derive(Clone, Copy, Debug, PartialEq, Eq)]
-pub enum Flaw {
+pub enum VerifyFlaw {
     /// It names a class, enumeration, feature or literal that the class model does not have.
     NoSuchName = 1,
     /// An operand that it takes is not there.
@@ -34,7 +34,11 @@ pub enum VerifyFault {
     /// The first instruction that is wrong, by its rule and its index in the rule, both from 0; where the rule itself is
     /// wrong, 0 or the number of its instructions (`docs/machine.md`).
     #[error("{flaw:?} at instruction {at} of rule {rule}")]
-    At { flaw: Flaw, rule: usize, at: usize },
+    At {
+        flaw: VerifyFlaw,
+        rule: usize,
+        at: usize,
+    },
     /// Memory ran out.
     #[error("out of memory")]
     OutOfMemory,

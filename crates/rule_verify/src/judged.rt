@@ -2,7 +2,7 @@
 
 ghost use Rattle.std.specs.Prelude.{◌≡◌};
 
-use crate::fault::{Flaw, VerifyFault};
+use crate::fault::{VerifyFault, VerifyFlaw};
 use crate::linked::Linked;
 use imkl_model::ClassNo;
 use rule_code::Instr;
@@ -18,7 +18,7 @@ pub(crate) struct RuleCode<'a, 'm> {
 
 impl RuleCode<'_, '_> {
     /// A fault of the rule at the instruction of an index.
-    pub(crate) fn fault(&self, flaw: Flaw, at: usize) -> VerifyFault
+    pub(crate) fn fault(&self, flaw: VerifyFlaw, at: usize) -> VerifyFault
         ensures { result ≡ VerifyFault.At flaw self.now.index at }
     {
         VerifyFault::At {

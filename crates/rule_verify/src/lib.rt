@@ -26,7 +26,7 @@ mod walk;
 pub use accepted::Accepted;
 pub use blocks::shape_of;
 pub use depths::Depths;
-pub use fault::{Flaw, VerifyFault};
+pub use fault::{VerifyFault, VerifyFlaw};
 pub use linked::{Linked, link, look_up};
 pub use named::Named;
 pub use pattern::Pattern;

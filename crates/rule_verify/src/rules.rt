@@ -6,7 +6,7 @@ ghost use Rattle.rule_verify.specs.Faults.{verify_fault};
 ghost use Rattle.rule_verify.specs.UnitRules as spec;
 
 use crate::depths::Depths;
-use crate::fault::{Flaw, VerifyFault};
+use crate::fault::{VerifyFault, VerifyFlaw};
 use crate::judged::RuleCode;
 use crate::linked::Linked;
 use crate::pattern::Pattern;
@@ -29,7 +29,7 @@ fn check_rule(alloc: Global, linked: &Linked<'_>, index: usize) -> Result<Depths
     let rule = linked.unit().rule(index);
     let Some(context) = linked.class(rule.context) else {
         return Err(VerifyFault::At {
-            flaw: Flaw::NoSuchName,
+            flaw: VerifyFlaw::NoSuchName,
             rule: index,
             at: 0,
         });

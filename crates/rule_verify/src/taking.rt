@@ -8,7 +8,7 @@ ghost use Rattle.rule_verify.specs.Known.{AreKnownKinds};
 ghost use Rattle.rule_verify.specs.Patterns.{ArePatterns};
 ghost use Rattle.rule_verify.specs.Walk.{surroundings_of, operand_list, AreSymbols, AreTaken, Leads, IsRuleCode};
 
-use crate::fault::{Flaw, VerifyFault};
+use crate::fault::{VerifyFault, VerifyFlaw};
 use crate::judged::RuleCode;
 use crate::operands::operands_of;
 use crate::pattern::{Operands, Pattern, matches};
@@ -20,21 +20,25 @@ use rule_code::Instr;
 use std::alloc::AllocError;
 
 /// Takes operands that may be this, the topmost first.
-fn take_each(model: &ClassModel, operands: &mut Stack<Kind>, wanted: &[Pattern]) -> Option<Flaw>
+fn take_each(
+    model: &ClassModel,
+    operands: &mut Stack<Kind>,
+    wanted: &[Pattern],
+) -> Option<VerifyFlaw>
     requires operands { AreKnownKinds model.now operands.old }
     requires wanted { ArePatterns model.now wanted.now }
     ensures taken { AreTaken model.now wanted.now operands.old result operands.new }
     ensures known { AreKnownKinds model.now operands.new }
 {
     if operands.len() < wanted.len() {
-        return Some(Flaw::MissingOperand);
+        return Some(VerifyFlaw::MissingOperand);
     }
     for want in wanted {
         match operands.pop() {
-            None => return Some(Flaw::MissingOperand),
+            None => return Some(VerifyFlaw::MissingOperand),
             Some(kind) => {
                 if !matches(model, want, &kind) {
-                    return Some(Flaw::WrongKind);
+                    return Some(VerifyFlaw::WrongKind);
                 }
             }
         }
@@ -43,7 +47,11 @@ fn take_each(model: &ClassModel, operands: &mut Stack<Kind>, wanted: &[Pattern])
 }
 
 /// Takes the operands of an instruction.
-fn take_operands(model: &ClassModel, operands: &mut Stack<Kind>, wanted: Operands) -> Option<Flaw>
+fn take_operands(
+    model: &ClassModel,
+    operands: &mut Stack<Kind>,
+    wanted: Operands,
+) -> Option<VerifyFlaw>
     requires operands { AreKnownKinds model.now operands.old }
     requires wanted { ArePatterns model.now (operand_list wanted) }
     ensures taken { AreTaken model.now (operand_list wanted) operands.old result operands.new }
@@ -95,10 +103,10 @@ pub(crate) fn take(
     ensures known { OnOk result (AreKnownKinds rule.now.linked.now.model operands.new) }
 {
     if !has_names(rule, instr) {
-        return Err(rule.fault(Flaw::NoSuchName, at));
+        return Err(rule.fault(VerifyFlaw::NoSuchName, at));
     }
     if !has_variable(variables, instr) {
-        return Err(rule.fault(Flaw::BadVariable, at));
+        return Err(rule.fault(VerifyFlaw::BadVariable, at));
     }
     match take_operands(rule.linked.model(), operands, operands_of(rule, instr)) {
         Some(flaw) => Err(rule.fault(flaw, at)),

@@ -8,7 +8,7 @@ ghost use Rattle.rule_verify.specs.UnitRules as spec;
 ghost use Rattle.rule_verify.specs.declared.fault.VerifyFault.TheVariants.{OutOfMemory};
 
 use crate::accepted::Accepted;
-use crate::fault::{Flaw, VerifyFault};
+use crate::fault::{VerifyFault, VerifyFlaw};
 use crate::linked::{link, look_up};
 use crate::named::Named;
 use crate::rules::check_rules;
@@ -52,7 +52,7 @@ pub fn verify<'m>(
     ensures returned { IfErr result (λ r. content r.1 ≡ content unit) }
 {
     if has_no_first_context(model, &unit) {
-        let flaw = Flaw::NoSuchName;
+        let flaw = VerifyFlaw::NoSuchName;
         let fault = VerifyFault::At {
             flaw,
             rule: 0,

@@ -16,7 +16,7 @@ ghost use Rattle.rule_verify.specs.Walk.{surroundings_of, AreSymbols, IsRuleCode
 
 use crate::blocks::{binds, ends_with, shape_of, yields};
 use crate::depths::Depths;
-use crate::fault::{Flaw, VerifyFault};
+use crate::fault::{VerifyFault, VerifyFlaw};
 use crate::judged::RuleCode;
 use crate::pattern::{Pattern, matches};
 use crate::place::{Place, Walk};
@@ -75,12 +75,12 @@ pub(crate) fn ended_with(
 {
     let kind = topmost(operands);
     if operands.len() != 1 {
-        return Err(rule.fault(Flaw::LeftOver, at));
+        return Err(rule.fault(VerifyFlaw::LeftOver, at));
     }
     if matches(rule.linked.model(), wanted, &kind) {
         Ok(kind)
     } else {
-        Err(rule.fault(Flaw::LeftOver, at))
+        Err(rule.fault(VerifyFlaw::LeftOver, at))
     }
 }
 
@@ -105,7 +105,7 @@ fn plain(
     let operand = topmost(operands);
     take(rule, &walk.variables, operands, instr, place.at)?;
     if operands.len() >= OPERAND_LIMIT - place.covered {
-        return Err(rule.fault(Flaw::StackLimit, place.at));
+        return Err(rule.fault(VerifyFlaw::StackLimit, place.at));
     }
     put(
         operands,
@@ -135,10 +135,10 @@ fn open_block(
     let operand = topmost(operands);
     take(rule, &walk.variables, operands, instr, place.at)?;
     if length >= place.end - place.at {
-        return Err(rule.fault(Flaw::BadNesting, place.at));
+        return Err(rule.fault(VerifyFlaw::BadNesting, place.at));
     }
     if place.open_blocks >= BLOCK_LIMIT {
-        return Err(rule.fault(Flaw::NestLimit, place.at));
+        return Err(rule.fault(VerifyFlaw::NestLimit, place.at));
     }
     Ok(operand)
 }

@@ -76,18 +76,18 @@ pub const EMPTY_DUCT: &str = r#"{"model":"imkl-profile","objects":[
 
 /// Two nets; three pipes, each in one of them.
 pub const NETS: &str = r#"{"model":"imkl-profile","objects":[
-{"id":"N1","class":"Utiliteitsnet","features":{"thema":"water","leidingen":["W1","W2"]}},
-{"id":"N2","class":"Utiliteitsnet","features":{"thema":"water","leidingen":["W3"]}},
-{"id":"W1","class":"Waterleiding","features":{"identificatie":"a","diameter":90}},
-{"id":"W2","class":"Waterleiding","features":{"identificatie":"b","diameter":90}},
-{"id":"W3","class":"Waterleiding","features":{"identificatie":"c","diameter":90}}]}"#;
+{"id":"N1","class":"Utiliteitsnet","features":{"thema":"water","leidingen":["P1","P2"]}},
+{"id":"N2","class":"Utiliteitsnet","features":{"thema":"water","leidingen":["P3"]}},
+{"id":"P1","class":"Waterleiding","features":{"identificatie":"a","diameter":90}},
+{"id":"P2","class":"Waterleiding","features":{"identificatie":"b","diameter":90}},
+{"id":"P3","class":"Waterleiding","features":{"identificatie":"c","diameter":90}}]}"#;
 
 /// Two nets of different themes; their cable and pipe are identified alike.
 pub const DIFFERENT_NETS: &str = r#"{"model":"imkl-profile","objects":[
 {"id":"N1","class":"Utiliteitsnet","features":{"thema":"elektriciteit","leidingen":["E1"]}},
-{"id":"N2","class":"Utiliteitsnet","features":{"thema":"water","leidingen":["W1"]}},
+{"id":"N2","class":"Utiliteitsnet","features":{"thema":"water","leidingen":["P1"]}},
 {"id":"E1","class":"Elektriciteitskabel","features":{"identificatie":"x","spanning":400}},
-{"id":"W1","class":"Waterleiding","features":{"identificatie":"x","diameter":90}}]}"#;
+{"id":"P1","class":"Waterleiding","features":{"identificatie":"x","diameter":90}}]}"#;
 
 /// Cables whose identifications begin in different ways.
 pub const IDENTIFIED_CABLES: &str = r#"{"model":"imkl-profile","objects":[

@@ -107,7 +107,8 @@ pub(crate) fn ask<M: Read, D: Read, R: Read, S: Sink>(
     requires { S.has_failed sink.old ≡ false }
     ensures answered { ReadBy result (M.remaining model.old) (λ xs.
         ReadBy result (D.remaining delivery.old) (λ ys. ReadBy result (R.remaining rules.old) (λ zs.
-        (reading : ReadingFor asked zs) × IsAnswered (inputs_answer (answer_by asked zs reading) xs ys)
+        (reading : ReadingFor asked zs)
+        × IsAnswered (inputs_answer (answer_by asked zs reading) xs ys)
         (S.contents sink.old) (S.contents sink.new) result))) }
     ensures sink { S.has_failed sink.new ≡ fails_write result }
     ensures kept { KeepsSink result sink.old sink.new }

@@ -23,7 +23,7 @@ use std::io::Read;
 
 /// The budget of `judge` where none is given, and the largest that its command line takes: 2^63-1
 /// steps for each rule and object.
-pub const MOST_STEPS: u64 = 9_223_372_036_854_775_807;
+pub const MAX_BUDGET: u64 = 9_223_372_036_854_775_807;
 
 /// The status of a report: 0 where every rule holds for each object of its context class, else 1.
 fn status_of(summary: Summary) -> u8
@@ -91,12 +91,12 @@ pub enum RulesForm {
 pub struct JudgeOptions {
     /// In what form the rules come.
     pub form: RulesForm,
-    /// The most steps that a rule may be able to make for an object: see `MOST_STEPS`.
+    /// The greatest bound that a rule may have, in steps for an object; from `MAX_BUDGET` on all budgets mean the same.
     pub budget: u64,
 }
 
 impl JudgeOptions {
-    /// What is asked.
+    /// What these options ask of a population and rules.
     fn asked(self) -> Asked
         ensures { result ≡ asked_by self.form self.budget }
     {

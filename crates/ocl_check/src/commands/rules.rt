@@ -25,7 +25,7 @@ use std::alloc::Global;
 pub(crate) enum Question {
     /// The report, by rules that are within a budget of steps for an object.
     Report {
-        /// The most steps that a rule's bound may be.
+        /// The greatest bound that a rule may have, in steps.
         budget: u64,
     },
     /// The bounds of the rules.
@@ -145,7 +145,7 @@ pub(crate) enum Asked {
     Code(Question),
     /// The report by the rules of a text, each within a budget of steps for an object.
     Text {
-        /// The most steps that a rule's bound may be.
+        /// The greatest bound that a rule may have, in steps.
         budget: u64,
     },
 }

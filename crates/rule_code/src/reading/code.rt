@@ -9,7 +9,7 @@ ghost use Rattle.rule_code.specs.Parts.{code_from};
 
 use super::field::{bool_from, i64_from, symbol_number_from, text_number_from, u16_from, wrong};
 use super::kinds::{collection_kind_from, kind_from, single_kind_from};
-use crate::fault::{FieldFault, Flaw};
+use crate::fault::{CodeFlaw, FieldFault};
 use crate::instruction::Instr;
 use crate::symbol::{Symbol, SymbolTag};
 use std::alloc::Global;
@@ -107,7 +107,7 @@ fn block_from<'b>(
             let (body, rest) = u16_from(rest)?;
             Ok((Instr::IsUnique(kind, body), rest))
         }
-        _ => Err(wrong(Flaw::BadOpcode, here)),
+        _ => Err(wrong(CodeFlaw::BadOpcode, here)),
     }
 }
 
@@ -161,8 +161,9 @@ fn fields_from<'b>(
     rest: &'b [u8],
 ) -> Result<(Instr, &'b [u8]), FieldFault>
     ensures { Reads (λ x. (x.0, x.1.now)) result
-        (behind texts symbols.now (row_numbered (value_opcodes ++ operation_opcodes ++ block_opcodes)
-        opcode) here.now rest.now) }
+        (behind texts symbols.now
+        (row_numbered (value_opcodes ++ operation_opcodes ++ block_opcodes) opcode)
+        here.now rest.now) }
 {
     match opcode {
         0x02 => {
@@ -222,7 +223,7 @@ fn instr_from<'b>(
     ensures { Reads (λ x. (x.0, x.1.now)) result (instr_from texts symbols.now bytes.now) }
 {
     let [opcode, rest @ ..] = bytes else {
-        return Err(wrong(Flaw::Truncated, bytes));
+        return Err(wrong(CodeFlaw::Truncated, bytes));
     };
     match plain(*opcode) {
         Some(instr) => Ok((instr, rest)),

@@ -5,7 +5,7 @@ ghost use Rattle.rule_code.specs.Reading.{Reads};
 ghost use Rattle.rule_code.specs.KindReading.{collection_sorts, row_numbered, element_from, single_kind_from, collection_kind_from, kind_from};
 
 use super::field::{symbol_number_from, wrong};
-use crate::fault::{FieldFault, Flaw};
+use crate::fault::{CodeFlaw, FieldFault};
 use crate::kind::{WrittenKind, WrittenScalar};
 use crate::symbol::{Symbol, SymbolTag};
 use ocl_base::CollectionKind;
@@ -34,7 +34,7 @@ fn element_from<'b>(
             Ok((WrittenScalar::Class(symbol), rest))
         }
         6 => Ok((WrittenScalar::AnyObject, rest)),
-        _ => Err(wrong(Flaw::BadNumber, here)),
+        _ => Err(wrong(CodeFlaw::BadNumber, here)),
     }
 }
 
@@ -60,7 +60,7 @@ pub(super) fn single_kind_from<'b>(
     ensures { Reads (λ x. (x.0, x.1.now)) result (single_kind_from symbols.now bytes.now) }
 {
     match bytes {
-        [] => Err(wrong(Flaw::Truncated, bytes)),
+        [] => Err(wrong(CodeFlaw::Truncated, bytes)),
         [byte, rest @ ..] => element_from(symbols, *byte, bytes, rest),
     }
 }
@@ -74,10 +74,10 @@ pub(super) fn collection_kind_from<'b>(
     ensures { Reads (λ x. (x.0, x.1.now)) result (collection_kind_from symbols.now bytes.now) }
 {
     let [byte, rest @ ..] = bytes else {
-        return Err(wrong(Flaw::Truncated, bytes));
+        return Err(wrong(CodeFlaw::Truncated, bytes));
     };
     let Some(collection) = collection_of(*byte / 16) else {
-        return Err(wrong(Flaw::BadNumber, bytes));
+        return Err(wrong(CodeFlaw::BadNumber, bytes));
     };
     let (element, rest) = element_from(symbols, *byte % 16, bytes, rest)?;
     Ok(((collection, element), rest))
@@ -92,7 +92,7 @@ pub(super) fn kind_from<'b>(
     ensures { Reads (λ x. (x.0, x.1.now)) result (kind_from symbols.now bytes.now) }
 {
     let [byte, ..] = bytes else {
-        return Err(wrong(Flaw::Truncated, bytes));
+        return Err(wrong(CodeFlaw::Truncated, bytes));
     };
     if *byte < 16 {
         let (element, rest) = single_kind_from(symbols, bytes)?;

@@ -9,7 +9,7 @@ ghost use Rattle.rule_code.specs.CodeFile.{rules_from};
 
 use super::code::code_from;
 use super::field::{count_from, symbol_number_from, text_number_from, wrong};
-use crate::fault::{FieldFault, Flaw};
+use crate::fault::{CodeFlaw, FieldFault};
 use crate::symbol::{Symbol, SymbolTag, TextNumber};
 use crate::unit::{Rule, text_named};
 use ocl_base::is_name;
@@ -45,7 +45,7 @@ fn rule_name_from<'t, 'b>(
     if is_name(name) && take_name(taken, name)? {
         Ok((number, rest))
     } else {
-        Err(wrong(Flaw::BadText, bytes))
+        Err(wrong(CodeFlaw::BadText, bytes))
     }
 }
 

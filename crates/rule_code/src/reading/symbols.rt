@@ -6,7 +6,7 @@ ghost use Rattle.rule_code.specs.Parts.{symbol_from};
 ghost use Rattle.rule_code.specs.CodeFile.{symbols_from};
 
 use super::field::{text_number_from, u16_from, wrong};
-use crate::fault::{FieldFault, Flaw};
+use crate::fault::{CodeFlaw, FieldFault};
 use crate::symbol::Symbol;
 use std::alloc::Global;
 
@@ -15,7 +15,7 @@ fn symbol_from(texts: usize, bytes: &[u8]) -> Result<(Symbol, &[u8]), FieldFault
     ensures { Reads (λ x. (x.0, x.1.now)) result (symbol_from texts bytes.now) }
 {
     let [tag, rest @ ..] = bytes else {
-        return Err(wrong(Flaw::Truncated, bytes));
+        return Err(wrong(CodeFlaw::Truncated, bytes));
     };
     match *tag {
         1 => {
@@ -42,7 +42,7 @@ fn symbol_from(texts: usize, bytes: &[u8]) -> Result<(Symbol, &[u8]), FieldFault
                 rest,
             ))
         }
-        _ => Err(wrong(Flaw::BadNumber, bytes)),
+        _ => Err(wrong(CodeFlaw::BadNumber, bytes)),
     }
 }
 
