@@ -8,6 +8,7 @@ mod calls;
 mod collecting;
 mod core_tree;
 mod declared;
+mod environment;
 mod fault;
 mod iterations;
 mod lets;

@@ -13,6 +13,7 @@ ghost use Rattle.ocl_types.specs.Typing.{IsTypedRule};
 
 use crate::arguments::known_class;
 use crate::core_tree::CoreRule;
+use crate::environment::Environment;
 use crate::fault::TypeFault;
 use crate::scope::outermost;
 use crate::walk::elaborate;
@@ -31,7 +32,12 @@ fn core_rule(alloc: Global, model: &ClassModel, rule: &SurfaceRule) -> Result<Co
 {
     let context = known_class(model, rule.context.as_str(), rule.context_offset)?;
     let scope = outermost(alloc, context)?;
-    let value = elaborate(alloc, model, context, &scope, &rule.expression)?;
+    let environment = Environment {
+        model,
+        context,
+        scope: &scope,
+    };
+    let value = elaborate(alloc, &environment, &rule.expression)?;
     asks_truth(model, &value.kind, rule.expression.offset())?;
     Ok(CoreRule {
         name: rule.name.copy(alloc)?,

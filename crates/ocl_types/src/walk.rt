@@ -9,6 +9,7 @@ ghost use Rattle.ocl_text.specs.View.{view, bound_of, link_of, view_variables};
 ghost use Rattle.ocl_types.specs.CallView.{values_view, arguments_view, AreKnownArguments};
 ghost use Rattle.ocl_types.specs.CoreView.{typed_of};
 ghost use Rattle.ocl_types.specs.Elaboration as spec;
+ghost use Rattle.ocl_types.specs.EnvironmentView.{IsEnvironment, within};
 ghost use Rattle.ocl_types.specs.Faults.{type_fault};
 ghost use Rattle.ocl_types.specs.Operators.{class_operator};
 ghost use Rattle.ocl_types.specs.ScopeView.{scope_view, AreKnownVariables};
@@ -21,6 +22,7 @@ use crate::calls::{Arguments, Values, arrow_call, dot_call, instances_call};
 use crate::collecting::property_of;
 use crate::core_tree::{ConstantValue, Typed};
 use crate::declared::declared_kind;
+use crate::environment::Environment;
 use crate::fault::TypeFault;
 use crate::iterations::{inner_scope, iterate_of, seen_after_dot};
 use crate::lets::{BoundCore, BoundCores, let_of};
@@ -42,17 +44,15 @@ use std::alloc::Global;
 #[tactic(auto, unfolding(crate::specs::Elaboration::elaborate), using(ocl_text::proofs::ForAbove::views))]
 pub(crate) fn elaborate(
     alloc: Global,
-    model: &ClassModel,
-    context: ClassNo,
-    scope: &[ScopeVariable],
+    environment: &Environment<'_>,
     expression: &Expression,
 ) -> Result<Typed, TypeFault>
-    requires context { context < length model.now.classes }
-    requires scope { AreKnownVariables model.now scope.now }
-    ensures gives { Gives type_fault typed_of result (spec.elaborate model.now context
-        (scope_view scope.now) (view expression.now)) }
-    ensures known { IfOk result (λ t. IsKindOf model.now t.kind) }
+    requires { IsEnvironment environment.now }
+    ensures gives { Gives type_fault typed_of result
+        (within environment.now spec.elaborate (view expression.now)) }
+    ensures known { IfOk result (λ t. IsKindOf environment.now.model.now t.kind) }
 {
+    let Environment { model, scope, .. } = *environment;
     match expression {
         Expression::Number { value, .. } => Ok(Typed {
             core: nodes::constant(ConstantValue::Integer(value.copy())),
@@ -65,7 +65,7 @@ pub(crate) fn elaborate(
                 kind: Kind::Scalar(ScalarKind::String),
             })
         }
-        Expression::Keyword { keyword, .. } => Ok(keyword_value(context, *keyword)),
+        Expression::Keyword { keyword, .. } => Ok(keyword_value(environment.context, *keyword)),
         Expression::Name { name, offset } => {
             name_value(alloc, model, scope, name.as_str(), *offset)
         }
@@ -80,18 +80,18 @@ pub(crate) fn elaborate(
             offset,
         } => {
             let operand_offset = operand.offset();
-            let value = elaborate(alloc, model, context, scope, operand)?;
+            let value = elaborate(alloc, environment, operand)?;
             prefix_of(alloc, model, *operator, value, operand_offset, *offset)
         }
         Expression::Spine { first, links } => match class_before_links(first, links) {
             Some((class, at)) => {
                 let link = &links[0];
-                let value = instances_link(alloc, model, context, scope, link, class, at)?;
-                links_after(alloc, model, context, scope, links, 1, value, link.offset())
+                let value = instances_link(alloc, environment, link, class, at)?;
+                links_after(alloc, environment, links, 1, value, link.offset())
             }
             None => {
-                let left = elaborate(alloc, model, context, scope, first)?;
-                links_after(alloc, model, context, scope, links, 0, left, first.offset())
+                let left = elaborate(alloc, environment, first)?;
+                links_after(alloc, environment, links, 0, left, first.offset())
             }
         },
         Expression::Let {
@@ -100,9 +100,13 @@ pub(crate) fn elaborate(
             body,
             ..
         } => {
-            let outer = bind_one(alloc, model, context, scope, first)?;
-            let inner = bind_all(alloc, model, context, outer.scope, others)?;
-            let value = elaborate(alloc, model, context, &inner.scope, body)?;
+            let outer = bind_one(alloc, environment, first)?;
+            let inner = bind_all(alloc, model, environment.context, outer.scope, others)?;
+            let inside = Environment {
+                scope: &inner.scope,
+                ..*environment
+            };
+            let value = elaborate(alloc, &inside, body)?;
             Ok(let_of(alloc, outer.value, inner.values, value)?)
         }
         Expression::If {
@@ -111,10 +115,10 @@ pub(crate) fn elaborate(
             else_branch,
             offset,
         } => {
-            let truth = elaborate(alloc, model, context, scope, condition)?;
+            let truth = elaborate(alloc, environment, condition)?;
             asks_truth(model, &truth.kind, condition.offset())?;
-            let one = elaborate(alloc, model, context, scope, then_branch)?;
-            let other = elaborate(alloc, model, context, scope, else_branch)?;
+            let one = elaborate(alloc, environment, then_branch)?;
+            let other = elaborate(alloc, environment, else_branch)?;
             if_of(alloc, model, truth.core, one, other, *offset)
         }
     }
@@ -125,21 +129,18 @@ pub(crate) fn elaborate(
 #[tactic(auto, unfolding(crate::specs::Elaboration::elaborates), using(crate::proofs::Several::several))]
 fn elaborate_all(
     alloc: Global,
-    model: &ClassModel,
-    context: ClassNo,
-    scope: &[ScopeVariable],
+    environment: &Environment<'_>,
     arguments: &[Expression],
 ) -> Result<Values, TypeFault>
-    requires context { context < length model.now.classes }
-    requires scope { AreKnownVariables model.now scope.now }
-    ensures gives { Gives type_fault values_view result (spec.elaborates model.now context
-        (scope_view scope.now) (trees_of (map view arguments.now))) }
-    ensures known { IfOk result (λ v. All (IsKindOf model.now) v.kinds.items) }
+    requires { IsEnvironment environment.now }
+    ensures gives { Gives type_fault values_view result
+        (within environment.now spec.elaborates (trees_of (map view arguments.now))) }
+    ensures known { IfOk result (λ v. All (IsKindOf environment.now.model.now) v.kinds.items) }
 {
     let mut cores = Vec::new(alloc);
     let mut kinds = Vec::new(alloc);
     'arguments: for argument in arguments {
-        let value = elaborate(alloc, model, context, scope, argument)?;
+        let value = elaborate(alloc, environment, argument)?;
         cores.push(value.core)?;
         kinds.push(value.kind)?;
     }
@@ -150,28 +151,24 @@ fn elaborate_all(
 #[cycle(walk)]
 fn arguments_of(
     alloc: Global,
-    model: &ClassModel,
-    context: ClassNo,
-    scope: &[ScopeVariable],
+    environment: &Environment<'_>,
     name: &str,
     arguments: &[Expression],
 ) -> Result<Arguments, TypeFault>
-    requires context { context < length model.now.classes }
-    requires scope { AreKnownVariables model.now scope.now }
+    requires { IsEnvironment environment.now }
     ensures gives { Gives type_fault arguments_view result (spec.arguments_of
         (class_operator name.now)
-        (spec.classes_of_arguments model.now (trees_of (map view arguments.now)))
-        (spec.elaborates model.now context (scope_view scope.now)
-        (trees_of (map view arguments.now)))) }
-    ensures known { IfOk result (AreKnownArguments model.now) }
+        (spec.classes_of_arguments environment.now.model.now (trees_of (map view arguments.now)))
+        (within environment.now spec.elaborates (trees_of (map view arguments.now)))) }
+    ensures known { IfOk result (AreKnownArguments environment.now.model.now) }
 {
     match class_operator(name) {
         Some(operator) => {
-            let classes = classes_of_arguments(alloc, model, arguments)?;
+            let classes = classes_of_arguments(alloc, environment.model, arguments)?;
             Ok(Arguments::Classes(operator, classes))
         }
         None => {
-            let values = elaborate_all(alloc, model, context, scope, arguments)?;
+            let values = elaborate_all(alloc, environment, arguments)?;
             Ok(Arguments::Values(values))
         }
     }
@@ -181,25 +178,30 @@ fn arguments_of(
 #[cycle(walk)]
 fn binary_link(
     alloc: Global,
-    model: &ClassModel,
-    context: ClassNo,
-    scope: &[ScopeVariable],
+    environment: &Environment<'_>,
     operator: BinaryOperator,
     right: &Expression,
     offset: usize,
     left: Typed,
     left_offset: usize,
 ) -> Result<Typed, TypeFault>
-    requires context { context < length model.now.classes }
-    requires scope { AreKnownVariables model.now scope.now }
-    requires left { IsKindOf model.now left.kind }
-    ensures gives { Gives type_fault typed_of result (binary_after model.now context
-        (scope_view scope.now) operator (typed_of left) left_offset (view right.now) offset) }
-    ensures known { IfOk result (λ t. IsKindOf model.now t.kind) }
+    requires environment { IsEnvironment environment.now }
+    requires left { IsKindOf environment.now.model.now left.kind }
+    ensures gives { Gives type_fault typed_of result (within environment.now binary_after
+        operator (typed_of left) left_offset (view right.now) offset) }
+    ensures known { IfOk result (λ t. IsKindOf environment.now.model.now t.kind) }
 {
-    left_of(model, operator, &left.kind, left_offset)?;
-    let other = elaborate(alloc, model, context, scope, right)?;
-    binary_of(alloc, model, operator, left, other, right.offset(), offset)
+    left_of(environment.model, operator, &left.kind, left_offset)?;
+    let other = elaborate(alloc, environment, right)?;
+    binary_of(
+        alloc,
+        environment.model,
+        operator,
+        left,
+        other,
+        right.offset(),
+        offset,
+    )
 }
 
 /// A call by a dot or an arrow on a value.
@@ -207,31 +209,33 @@ fn binary_link(
 #[tactic(auto, unfolding(crate::specs::Elaboration::call_of))]
 fn call_link(
     alloc: Global,
-    model: &ClassModel,
-    context: ClassNo,
-    scope: &[ScopeVariable],
+    environment: &Environment<'_>,
     navigation: Navigation,
     name: &str,
     arguments: &[Expression],
     offset: usize,
     left: Typed,
 ) -> Result<Typed, TypeFault>
-    requires context { context < length model.now.classes }
-    requires scope { AreKnownVariables model.now scope.now }
-    requires left { IsKindOf model.now left.kind }
-    ensures gives { Gives type_fault typed_of result (call_after model.now context
-        (scope_view scope.now) (spec.OfValue (typed_of left)) navigation name.now
+    requires environment { IsEnvironment environment.now }
+    requires left { IsKindOf environment.now.model.now left.kind }
+    ensures gives { Gives type_fault typed_of result (within environment.now call_after
+        (spec.OfValue (typed_of left)) navigation name.now
         (trees_of (map view arguments.now)) offset) }
-    ensures known { IfOk result (λ t. IsKindOf model.now t.kind) }
+    ensures known { IfOk result (λ t. IsKindOf environment.now.model.now t.kind) }
 {
+    let Environment { model, scope, .. } = *environment;
     match navigation {
         Navigation::Dot => {
-            let inner = seen_after_dot(alloc, model, scope, &left.kind)?;
-            let values = arguments_of(alloc, model, context, &inner, name, arguments)?;
+            let seen = seen_after_dot(alloc, model, scope, &left.kind)?;
+            let inner = Environment {
+                scope: &seen,
+                ..*environment
+            };
+            let values = arguments_of(alloc, &inner, name, arguments)?;
             dot_call(alloc, model, scope.len(), left, name, values, offset)
         }
         Navigation::Arrow => {
-            let values = arguments_of(alloc, model, context, scope, name, arguments)?;
+            let values = arguments_of(alloc, environment, name, arguments)?;
             let source = source_of_arrow(alloc, left)?;
             arrow_call(alloc, model, source, name, values, offset)
         }
@@ -242,26 +246,27 @@ fn call_link(
 #[cycle(walk)]
 fn iterate_link(
     alloc: Global,
-    model: &ClassModel,
-    context: ClassNo,
-    scope: &[ScopeVariable],
+    environment: &Environment<'_>,
     iterator: IteratorKind,
     variables: &Variables,
     body: &Expression,
     left: Typed,
     offset: usize,
 ) -> Result<Typed, TypeFault>
-    requires context { context < length model.now.classes }
-    requires scope { AreKnownVariables model.now scope.now }
-    requires left { IsKindOf model.now left.kind }
-    ensures gives { Gives type_fault typed_of result (iterate_after model.now context
-        (scope_view scope.now) iterator (typed_of left) (view_variables variables.now)
-        (view body.now) offset) }
-    ensures known { IfOk result (λ t. IsKindOf model.now t.kind) }
+    requires environment { IsEnvironment environment.now }
+    requires left { IsKindOf environment.now.model.now left.kind }
+    ensures gives { Gives type_fault typed_of result (within environment.now iterate_after
+        iterator (typed_of left) (view_variables variables.now) (view body.now) offset) }
+    ensures known { IfOk result (λ t. IsKindOf environment.now.model.now t.kind) }
 {
+    let Environment { model, scope, .. } = *environment;
     let source = source_of_arrow(alloc, left)?;
-    let inner = inner_scope(alloc, model, scope, &source, variables)?;
-    let value = elaborate(alloc, model, context, &inner, body)?;
+    let seen = inner_scope(alloc, model, scope, &source, variables)?;
+    let inner = Environment {
+        scope: &seen,
+        ..*environment
+    };
+    let value = elaborate(alloc, &inner, body)?;
     iterate_of(
         alloc,
         model,
@@ -278,23 +283,21 @@ fn iterate_link(
 #[cycle(walk)]
 fn link_after(
     alloc: Global,
-    model: &ClassModel,
-    context: ClassNo,
-    scope: &[ScopeVariable],
+    environment: &Environment<'_>,
     link: &Link,
     left: Typed,
     left_offset: usize,
 ) -> Result<Typed, TypeFault>
-    requires context { context < length model.now.classes }
-    requires scope { AreKnownVariables model.now scope.now }
-    requires left { IsKindOf model.now left.kind }
+    requires environment { IsEnvironment environment.now }
+    requires left { IsKindOf environment.now.model.now left.kind }
     ensures gives { (tree : SurfaceTree)
-        → spec.elaborate model.now context (scope_view scope.now) tree ≡ Ok (typed_of left)
+        → within environment.now spec.elaborate tree ≡ Ok (typed_of left)
         → offset_of tree ≡ left_offset → class_of_call (link_of link.now tree) ≡ None
-        → Gives type_fault typed_of result (spec.elaborate model.now context
-        (scope_view scope.now) (link_of link.now tree)) }
-    ensures known { IfOk result (λ t. IsKindOf model.now t.kind) }
+        → Gives type_fault typed_of result
+        (within environment.now spec.elaborate (link_of link.now tree)) }
+    ensures known { IfOk result (λ t. IsKindOf environment.now.model.now t.kind) }
 {
+    let Environment { model, scope, .. } = *environment;
     match link {
         Link::Binary {
             operator,
@@ -302,9 +305,7 @@ fn link_after(
             offset,
         } => binary_link(
             alloc,
-            model,
-            context,
-            scope,
+            environment,
             *operator,
             right,
             *offset,
@@ -319,24 +320,31 @@ fn link_after(
             name,
             arguments,
             offset,
-        } => call_link(
-            alloc,
-            model,
-            context,
-            scope,
-            *navigation,
-            name.as_str(),
-            arguments,
-            *offset,
-            left,
-        ),
+        } => {
+            let name = name.as_str();
+            call_link(
+                alloc,
+                environment,
+                *navigation,
+                name,
+                arguments,
+                *offset,
+                left,
+            )
+        }
         Link::Iterate {
             iterator,
             variables,
             body,
             offset,
         } => iterate_link(
-            alloc, model, context, scope, *iterator, variables, body, left, *offset,
+            alloc,
+            environment,
+            *iterator,
+            variables,
+            body,
+            left,
+            *offset,
         ),
     }
 }
@@ -345,20 +353,17 @@ fn link_after(
 #[cycle(walk)]
 fn instances_link(
     alloc: Global,
-    model: &ClassModel,
-    context: ClassNo,
-    scope: &[ScopeVariable],
+    environment: &Environment<'_>,
     link: &Link,
     class: &Name,
     class_offset: usize,
 ) -> Result<Typed, TypeFault>
-    requires context { context < length model.now.classes }
-    requires scope { AreKnownVariables model.now scope.now }
+    requires environment { IsEnvironment environment.now }
     requires call { class_of_call (link_of link.now (tree.Name class.now class_offset))
         ≡ Some (class.now, class_offset) }
-    ensures gives { Gives type_fault typed_of result (spec.elaborate model.now context
-        (scope_view scope.now) (link_of link.now (tree.Name class.now class_offset))) }
-    ensures known { IfOk result (λ t. IsKindOf model.now t.kind) }
+    ensures gives { Gives type_fault typed_of result (within environment.now spec.elaborate
+        (link_of link.now (tree.Name class.now class_offset))) }
+    ensures known { IfOk result (λ t. IsKindOf environment.now.model.now t.kind) }
 {
     let Link::Call {
         name,
@@ -369,8 +374,8 @@ fn instances_link(
     else {
         unreachable!()
     };
-    let class = known_class(model, class.as_str(), class_offset)?;
-    let values = arguments_of(alloc, model, context, scope, name.as_str(), arguments)?;
+    let class = known_class(environment.model, class.as_str(), class_offset)?;
+    let values = arguments_of(alloc, environment, name.as_str(), arguments)?;
     instances_call(class, &values, *offset)
 }
 
@@ -378,29 +383,26 @@ fn instances_link(
 #[cycle(walk)]
 fn links_after(
     alloc: Global,
-    model: &ClassModel,
-    context: ClassNo,
-    scope: &[ScopeVariable],
+    environment: &Environment<'_>,
     links: &[Link],
     from: usize,
     left: Typed,
     left_offset: usize,
 ) -> Result<Typed, TypeFault>
-    requires context { context < length model.now.classes }
-    requires scope { AreKnownVariables model.now scope.now }
-    requires left { IsKindOf model.now left.kind }
+    requires environment { IsEnvironment environment.now }
+    requires left { IsKindOf environment.now.model.now left.kind }
     ensures gives { (tree : SurfaceTree)
-        → IsLeft model.now context (scope_view scope.now) tree (drop from links.now)
-        (typed_of left) left_offset
-        → Gives type_fault typed_of result (spec.elaborate model.now context
-        (scope_view scope.now) tree) }
-    ensures known { IfOk result (λ t. IsKindOf model.now t.kind) }
+        → IsLeft environment.now.model.now environment.now.context
+        (scope_view environment.now.scope.now) tree (drop from links.now) (typed_of left)
+        left_offset
+        → Gives type_fault typed_of result (within environment.now spec.elaborate tree) }
+    ensures known { IfOk result (λ t. IsKindOf environment.now.model.now t.kind) }
 {
     let mut value = left;
     let mut offset = left_offset;
     'links: for i in from..links.len() {
         let link = &links[i];
-        value = link_after(alloc, model, context, scope, link, value, offset)?;
+        value = link_after(alloc, environment, link, value, offset)?;
         offset = link.offset();
     }
     Ok(value)
@@ -410,19 +412,17 @@ fn links_after(
 #[cycle(walk)]
 fn bind_one(
     alloc: Global,
-    model: &ClassModel,
-    context: ClassNo,
-    scope: &[ScopeVariable],
+    environment: &Environment<'_>,
     binding: &Binding,
 ) -> Result<BoundCore, TypeFault>
-    requires context { context < length model.now.classes }
-    requires scope { AreKnownVariables model.now scope.now }
-    ensures gives { Gives type_fault bound_view result (walk.bind_one model.now context
-        (scope_view scope.now) (bound_of binding.now)) }
-    ensures known { IfOk result (λ b. AreKnownVariables model.now b.scope.items) }
+    requires { IsEnvironment environment.now }
+    ensures gives { Gives type_fault bound_view result
+        (within environment.now walk.bind_one (bound_of binding.now)) }
+    ensures known { IfOk result (λ b. AreKnownVariables environment.now.model.now b.scope.items) }
 {
+    let Environment { model, scope, .. } = *environment;
     let kind = declared_kind(model, &binding.declared)?;
-    let value = elaborate(alloc, model, context, scope, &binding.value)?;
+    let value = elaborate(alloc, environment, &binding.value)?;
     let value = bound_value(alloc, model, &kind, value, binding.declared.offset())?;
     let mut inner = copied(alloc, scope)?;
     inner.push(ScopeVariable {
@@ -453,7 +453,12 @@ fn bind_all(
     let mut inner = scope;
     let mut values = Vec::new(alloc);
     'bindings: for binding in bindings {
-        let bound = bind_one(alloc, model, context, &inner, binding)?;
+        let environment = Environment {
+            model,
+            context,
+            scope: &inner,
+        };
+        let bound = bind_one(alloc, &environment, binding)?;
         inner = bound.scope;
         values.push(bound.value)?;
     }

@@ -8,21 +8,22 @@ use Rattle.ocl_types.specs.Walk as walk
 use Rattle.ocl_types.specs.Walk.{IsLeft}
 use Rattle.ocl_types.specs.ScopeView.{scope_view, AreKnownVariables}
 use Rattle.ocl_types.specs.Elaboration as spec
+use Rattle.ocl_types.specs.EnvironmentView.{within}
 use Rattle.ocl_types.proofs.Bindings.{after_bound}
 use Rattle.ocl_types.proofs.Several.{after_values}
 use Rattle.ocl_types.proofs.walk.+walk.Given as goal
 
 abbrev pub invariant-elaborate_all-arguments : goal.invariant-elaborate_all-arguments
 invariant-elaborate_all-arguments l =
-    (after_values (typed_trees (map core_view l.cores.items) l.kinds.items) (spec.elaborates l.model l.context (scope_view l.scope) (trees_of (map view (drop l.argument-index l.arguments))))
-    ≡ spec.elaborates l.model l.context (scope_view l.scope) (trees_of (map view l.arguments)))
-    × All (IsKindOf l.model) l.kinds.items
+    (after_values (typed_trees (map core_view l.cores.items) l.kinds.items) (within l.environment spec.elaborates (trees_of (map view (drop l.argument-index l.arguments))))
+    ≡ within l.environment spec.elaborates (trees_of (map view l.arguments)))
+    × All (IsKindOf l.environment.model.now) l.kinds.items
 
 abbrev pub invariant-links_after-links : goal.invariant-links_after-links
 invariant-links_after-links l =
-    ((tree : SurfaceTree) → IsLeft l.model l.context (scope_view l.scope) tree (drop l.from l.links) (typed_of l.fn.left) l.fn.left_offset
-    → IsLeft l.model l.context (scope_view l.scope) tree (drop l.i l.links) (typed_of l.value) l.offset)
-    × IsKindOf l.model l.value.kind
+    ((tree : SurfaceTree) → IsLeft l.environment.model.now l.environment.context (scope_view l.environment.scope.now) tree (drop l.from l.links) (typed_of l.fn.left) l.fn.left_offset
+    → IsLeft l.environment.model.now l.environment.context (scope_view l.environment.scope.now) tree (drop l.i l.links) (typed_of l.value) l.offset)
+    × IsKindOf l.environment.model.now l.value.kind
 
 abbrev pub invariant-bind_all-bindings : goal.invariant-bind_all-bindings
 invariant-bind_all-bindings l =
