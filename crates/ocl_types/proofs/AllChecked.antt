@@ -1,5 +1,5 @@
 -- Rules are checked one after another, up to the first that is at fault.
-use Rattle.std.proofs.Common.{◌≡◌, ℕ, suc, ◌+◌, ◌||◌, Bool, false, bytes_eq, List, [], ◌∷◌, ◌++◌, map, Result, Ok, Err, IfOk, refl, sym, ap, ◌∙◌, subst, arith, append_assoc, append-nil}
+use Rattle.std.proofs.Common.{◌≡◌, ℕ, suc, ◌+◌, ◌||◌, Bool, false, bytes_eq, get_or, List, [], ◌∷◌, ◌++◌, map, None, Result, Ok, Err, IfOk, refl, sym, ap, ◌∙◌, subst, arith, append_assoc, append-nil, drop}
 use Rattle.std.proofs.lemmas.Cmp.{nat_list_eq_equiv}
 use Rattle.std.proofs.lemmas.List.{map_push}
 use Rattle.std.specs.List.{AllByRecursion}
@@ -8,8 +8,10 @@ use Rattle.imkl_model.specs.WellFormed.{IsClassModel}
 use Rattle.ocl_base.specs.Steps.{◌>>=◌, FaultMeaning, fault, out_of_memory, never, Means, found}
 use Rattle.ocl_base.specs.Lists.{is_among, repeats}
 use Rattle.ocl_base.proofs.ForAbove.{both_steps, apart_push}
+use Rattle.ocl_text.specs.declared.tree.SurfaceRule.{SurfaceRule}
 use Rattle.ocl_text.specs.RuleText.{has_name, AreNamedApart, NamesDiffer}
 use Rattle.ocl_text.specs.Tree.{Rule, offset_of}
+use Rattle.ocl_text.specs.View.{rule_of}
 use Rattle.ocl_types.specs.declared.fault.TypeFlaw.TheVariants.{UnknownName}
 use Rattle.ocl_types.specs.Core.{CheckedRule}
 use Rattle.ocl_types.specs.Faults.{TypeFaultAt, type_fault_at}
@@ -26,6 +28,10 @@ after xs (Err f) = Err f
 -- all rules are these, and then what is left
 abbrev pub CheckedTo : Model → List Rule → List CheckedRule → ℕ → List Rule → Type 0
 CheckedTo m all xs i left = elaborate_rules m 0 all ≡ after xs (elaborate_rules m i left)
+
+-- where the context class of the first rule is unknown, no rule was checked
+abbrev pub NoneIfUnknown : Model → List Rule → ℕ → Type 0
+NoneIfUnknown m all i = (first : Rule) (others : List Rule) → all ≡ first ∷ others → class_number m first.context ≡ None → i ≡ 0
 
 -- before the first rule
 pub none_checked : (m : Model) (all : List Rule) → CheckedTo m all [] 0 all
@@ -58,6 +64,28 @@ first_wrong m all xs i r rs (fault f) h is =
     h ∙ ap (λ (o : Result CheckedRule RulesFaultAt). after xs (o >>= (λ y. elaborate_rules m (suc i) rs >>= (λ ys. Ok (y ∷ ys))))) is
 first_wrong m all xs i r rs out_of_memory h is = tt
 first_wrong m all xs i r rs never h is = absurd is
+
+-- ---- the context class of the first rule
+
+-- the rule at index 0 is the first
+pub is_first : (rules : List SurfaceRule) (i : ℕ) (r : SurfaceRule) (first : Rule) (others : List Rule) → r ≡ get_or rules i r → i ≡ 0 → map rule_of rules ≡ first ∷ others → rule_of r ≡ first
+is_first [] i r first others is zero all = absurd (let none : [] ≡ first ∷ others = all in cc)
+is_first (x ∷ xs) i r first others is zero all =
+    let same : r ≡ x = rw zero at is in
+    let head : rule_of x ≡ first = let whole : rule_of x ∷ map rule_of xs ≡ first ∷ others = all in cc in
+    ap rule_of same ∙ head
+
+-- where no rule is left from the first on, there is none
+pub no_rules : (rules : List SurfaceRule) (first : Rule) (others : List Rule) → drop 0 rules ≡ [] → map rule_of rules ≡ first ∷ others → ⊥
+no_rules rules first others none all = let whole : [] ≡ first ∷ others = sym (ap (map rule_of) none) ∙ all in cc
+
+-- an unknown context class of the first rule is that of the rule at index 0
+pub first_unknown : (m : Model) (rules : List SurfaceRule) (i : ℕ) (r : SurfaceRule) (first : Rule) (others : List Rule) → r ≡ get_or rules i r → i ≡ 0 → map rule_of rules ≡ first ∷ others → class_number m first.context ≡ None → class_number m r.context ≡ None
+first_unknown m rules i r first others is zero all unknown = ap (λ (x : Rule). class_number m x.context) (is_first rules i r first others is zero all) ∙ unknown
+
+-- where the context class of some rule is known, and the first's was unless that rule is the first, the first's is
+pub first_is_known : (m : Model) (rules : List SurfaceRule) (i : ℕ) (r : SurfaceRule) → NoneIfUnknown m (map rule_of rules) i → r ≡ get_or rules i r → (class_number m r.context ≡ None → ⊥) → (first : Rule) (others : List Rule) → map rule_of rules ≡ first ∷ others → class_number m first.context ≡ None → ⊥
+first_is_known m rules i r before is known first others all unknown = known (first_unknown m rules i r first others is (before first others all unknown) all unknown)
 
 -- ---- what all rules are
 

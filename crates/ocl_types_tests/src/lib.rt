@@ -2,6 +2,8 @@
 #![tactic(auto)]
 
 #[cfg(test)]
+mod all_rules;
+#[cfg(test)]
 mod collections;
 #[cfg(test)]
 mod deep;
