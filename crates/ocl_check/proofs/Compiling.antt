@@ -8,8 +8,8 @@ use Rattle.rule_code.specs.Content.{Content}
 use Rattle.rule_code.specs.WellFormed.{IsUnit}
 use Rattle.rule_code.specs.Spelling.{spelling}
 use Rattle.ocl_check.specs.declared.reply.Reply as reply
-use Rattle.ocl_check.specs.declared.outcome.Cause.{Cause}
-use Rattle.ocl_check.specs.declared.outcome.Cause.TheVariants.{Memory, Read, Write}
+use Rattle.ocl_check.specs.declared.outcome.CommandFault.{CommandFault}
+use Rattle.ocl_check.specs.declared.outcome.CommandFault.TheVariants.{OutOfMemory, Read, Write}
 use Rattle.ocl_check.specs.declared.outcome.Outcome.TheVariants.{Failed}
 use Rattle.ocl_check.specs.declared.commands.compile.Compiled.{Compiled}
 use Rattle.ocl_check.specs.declared.commands.compile.Compiled.TheVariants as compiled
@@ -68,9 +68,9 @@ compiled_alike c model rules model' rules' m r h =
     (subst (λ (x : List ℕ). (t : TextReading) × ReadsAs rules t × (compiled_seen c ≡ compile_answer x t) × HasUnitFor (model_of x) t) m h)
 
 -- nothing is written where a command failed before it began
-pub nothing_written : {S : Type 0} (contents : S → Option (List ℕ)) (has_failed : S → Bool) (code : Option (List ℕ)) (s : S) (cause : Cause) → cause ≢ Write → IsCodeWritten contents has_failed code s s (Failed cause)
-nothing_written contents has_failed None s cause other = refl
-nothing_written contents has_failed (Some code) s Memory other = refl
+pub nothing_written : {S : Type 0} (contents : S → Option (List ℕ)) (has_failed : S → Bool) (code : Option (List ℕ)) (s : S) (fault : CommandFault) → fault ≢ Write → IsCodeWritten contents has_failed code s s (Failed fault)
+nothing_written contents has_failed None s fault other = refl
+nothing_written contents has_failed (Some code) s OutOfMemory other = refl
 nothing_written contents has_failed (Some code) s Read other = refl
 nothing_written contents has_failed (Some code) s Write other = absurd (other refl)
 

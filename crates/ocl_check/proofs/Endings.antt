@@ -14,4 +14,4 @@ ending_as {S} {contents} {has_failed} {a} {b} {old} {new} {o} same h = subst (λ
 -- an input within the limit is within it however the command ends
 pub within : (o : Outcome) (xs : List ℕ) → length xs ≤ most_bytes → IsWithin o xs
 within (Status s) xs h = h
-within (Failed cause) xs h = tt
+within (Failed fault) xs h = tt

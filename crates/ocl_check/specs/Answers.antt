@@ -3,8 +3,8 @@ use Rattle.std.specs.Prelude.{◌≡◌, ◌≤◌, ℕ, Bool, true, false, List
 use Rattle.std.specs.Io.KnownBytes.{Appends}
 use Rattle.ocl_check.specs.declared.outcome.Outcome.{Outcome}
 use Rattle.ocl_check.specs.declared.outcome.Outcome.TheVariants.{Status, Failed}
-use Rattle.ocl_check.specs.declared.outcome.Cause.{Cause}
-use Rattle.ocl_check.specs.declared.outcome.Cause.TheVariants.{Memory, Read, Write}
+use Rattle.ocl_check.specs.declared.outcome.CommandFault.{CommandFault}
+use Rattle.ocl_check.specs.declared.outcome.CommandFault.TheVariants.{OutOfMemory, Read, Write}
 use Rattle.ocl_check.specs.declared.input.InputFault.{InputFault}
 use Rattle.ocl_check.specs.declared.input.InputFault.TheVariants as input
 use Rattle.ocl_check.specs.Reply.{Answer}
@@ -27,7 +27,7 @@ ReadWithin known Fact = (xs : List ℕ) × MayHave known xs × (length xs ≤ mo
 -- where a command ended with a status, its inputs are within the limit
 abbrev pub IsWithin : Outcome → List ℕ → Type 0
 IsWithin (Status s) xs = length xs ≤ most_bytes
-IsWithin (Failed cause) xs = ⊤
+IsWithin (Failed fault) xs = ⊤
 
 -- an input that a command read, or would have read, has this fact
 abbrev pub ReadBy : Outcome → Option (List ℕ) → (List ℕ → Type 0) → Type 0
@@ -38,43 +38,43 @@ ReadBy outcome known Fact = (xs : List ℕ) × MayHave known xs × IsWithin outc
 -- what a sink took, and how the command ended: the answer whole, or a prefix of its bytes
 abbrev pub IsAnswered : Answer → Option (List ℕ) → Option (List ℕ) → Outcome → Type 0
 IsAnswered answer old new (Status s) = Appends old new answer.0 × (s ≡ answer.1)
-IsAnswered answer old new (Failed cause) = (n : ℕ) × Appends old new (take n answer.0)
+IsAnswered answer old new (Failed fault) = (n : ℕ) × Appends old new (take n answer.0)
 
 -- the same where several answers are right
 abbrev pub IsAnsweredBy : (Answer → Type 0) → Option (List ℕ) → Option (List ℕ) → Outcome → Type 0
 IsAnsweredBy Answers old new outcome = (answer : Answer) × Answers answer × IsAnswered answer old new outcome
 
-abbrev pub is_write : Cause → Bool
-is_write Memory = false
+abbrev pub is_write : CommandFault → Bool
+is_write OutOfMemory = false
 is_write Read = false
 is_write Write = true
 
 -- the sink has failed exactly where the command failed for it
 abbrev pub fails_write : Outcome → Bool
 fails_write (Status s) = false
-fails_write (Failed cause) = is_write cause
+fails_write (Failed fault) = is_write fault
 
 -- the sink is as it was where memory or a read failed
 abbrev pub KeepsSink : {S : Type 0} → Outcome → S → S → Type 0
 KeepsSink (Status s) old new = ⊤
-KeepsSink (Failed Memory) old new = new ≡ old
+KeepsSink (Failed OutOfMemory) old new = new ≡ old
 KeepsSink (Failed Read) old new = new ≡ old
 KeepsSink (Failed Write) old new = ⊤
 
 -- ---- how a command ends
 
--- what keeps a command from its answer where an input can't be had
-abbrev pub cause_of : InputFault → Cause
-cause_of input.Read = Read
-cause_of input.OutOfMemory = Memory
+-- why a command fails where an input can't be had
+abbrev pub input_failure : InputFault → CommandFault
+input_failure input.Read = Read
+input_failure input.OutOfMemory = OutOfMemory
 
 -- the exit status
 abbrev pub exit_status : Outcome → ℕ
 exit_status (Status s) = s
-exit_status (Failed cause) = 3
+exit_status (Failed fault) = 3
 
 -- the line on standard error
-abbrev pub failure_line : Cause → List ℕ
-failure_line Memory = codes "failed memory"
+abbrev pub failure_line : CommandFault → List ℕ
+failure_line OutOfMemory = codes "failed memory"
 failure_line Read = codes "failed read"
 failure_line Write = codes "failed write"

@@ -8,7 +8,7 @@ use Rattle.rule_code.specs.Spelling.{spelling}
 use Rattle.rule_code.specs.WellFormed.{IsUnit}
 use Rattle.ocl_check.specs.declared.outcome.Outcome.{Outcome}
 use Rattle.ocl_check.specs.declared.outcome.Outcome.TheVariants.{Status, Failed}
-use Rattle.ocl_check.specs.declared.outcome.Cause.TheVariants.{Write}
+use Rattle.ocl_check.specs.declared.outcome.CommandFault.TheVariants.{Write}
 use Rattle.ocl_check.specs.ThreeInputs.{model_of}
 use Rattle.ocl_check.specs.Reply.{Answer, refused_model, refused_rules, compiled_reply}
 use Rattle.ocl_check.specs.TextReading.{TextReading}
@@ -49,7 +49,7 @@ HasUnitFor (Ok m) t = HasUnit (compiled_rules m t)
 -- where a command ended with a status, the unit of its code file, if there is one, keeps the conditions of the format
 abbrev pub IsOfUnit : Outcome → List ℕ → TextReading → Type 0
 IsOfUnit (Status s) model t = HasUnitFor (model_of model) t
-IsOfUnit (Failed cause) model t = ⊤
+IsOfUnit (Failed fault) model t = ⊤
 
 -- all of it was written, but where the sink has failed a prefix
 abbrev pub WholeUnless : Bool → Option (List ℕ) → Option (List ℕ) → List ℕ → Type 0
@@ -63,4 +63,4 @@ abbrev pub IsCodeWritten : {S : Type 0} → (S → Option (List ℕ)) → (S →
 IsCodeWritten contents has_failed None old new outcome = new ≡ old
 IsCodeWritten contents has_failed (Some code) old new (Status s) = Appends (contents old) (contents new) code
 IsCodeWritten contents has_failed (Some code) old new (Failed Write) = WholeUnless (has_failed new) (contents old) (contents new) code
-IsCodeWritten contents has_failed (Some code) old new (Failed cause) = new ≡ old
+IsCodeWritten contents has_failed (Some code) old new (Failed fault) = new ≡ old

@@ -14,5 +14,5 @@ pub use commands::compile::run_compile;
 pub use commands::judge::{JudgeOptions, MAX_BUDGET, RulesForm, run_judge};
 pub use commands::verify::run_verify;
 pub use input::{InputFault, read_input};
-pub use outcome::{Cause, Outcome};
+pub use outcome::{CommandFault, Outcome};
 pub use rule_report::{Sink, Telling};

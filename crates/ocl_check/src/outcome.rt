@@ -1,9 +1,9 @@
 //! How a command ends.
 
 ghost use Rattle.std.specs.Prelude.{◌≡◌, false, IfOk};
-ghost use Rattle.ocl_check.specs.declared.outcome.Cause.TheVariants.{Memory};
+ghost use Rattle.ocl_check.specs.declared.outcome.CommandFault.TheVariants as fault;
 ghost use Rattle.ocl_check.specs.Reply.{Answer, said};
-ghost use Rattle.ocl_check.specs.Answers.{cause_of, exit_status, failure_line};
+ghost use Rattle.ocl_check.specs.Answers.{exit_status, failure_line, input_failure};
 ghost use Rattle.ocl_check.specs.Ending.{IsEnding};
 
 use crate::input::InputFault;
@@ -11,11 +11,11 @@ use crate::reply::Reply;
 use rule_machine::OutOfMemory;
 use rule_report::{Sink, write_and_flush};
 
-/// What kept a command from its answer.
+/// Why a command failed.
 #[derive(Clone, Copy, Debug, PartialEq, Eq)]
-pub enum Cause {
+pub enum CommandFault {
     /// Memory ran out.
-    Memory,
+    OutOfMemory,
     /// An input can't be read.
     Read,
     /// The answer can't be written.
@@ -28,18 +28,18 @@ pub enum Outcome {
     /// With its answer written, and this exit status: 0, 1 or 2.
     Status(u8),
     /// Before its answer was written whole.
-    Failed(Cause),
+    Failed(CommandFault),
 }
 
-impl Cause {
+impl CommandFault {
     /// The line on standard error that reports it, without its line feed.
     pub fn line(self) -> &'static str
         ensures { result.now ≡ failure_line self }
     {
         match self {
-            Cause::Memory => "failed memory",
-            Cause::Read => "failed read",
-            Cause::Write => "failed write",
+            CommandFault::OutOfMemory => "failed memory",
+            CommandFault::Read => "failed read",
+            CommandFault::Write => "failed write",
         }
     }
 }
@@ -56,22 +56,22 @@ impl Outcome {
     }
 }
 
-impl From<InputFault> for Cause {
-    ghost from_gives = { λ f c. c ≡ cause_of f };
+impl From<InputFault> for CommandFault {
+    ghost from_gives = { λ f c. c ≡ input_failure f };
 
-    fn from(fault: InputFault) -> Cause {
+    fn from(fault: InputFault) -> CommandFault {
         match fault {
-            InputFault::Read => Cause::Read,
-            InputFault::OutOfMemory => Cause::Memory,
+            InputFault::Read => CommandFault::Read,
+            InputFault::OutOfMemory => CommandFault::OutOfMemory,
         }
     }
 }
 
-impl From<OutOfMemory> for Cause {
-    ghost from_gives = { λ _ c. c ≡ Memory };
+impl From<OutOfMemory> for CommandFault {
+    ghost from_gives = { λ _ c. c ≡ fault.OutOfMemory };
 
-    fn from(_error: OutOfMemory) -> Cause {
-        Cause::Memory
+    fn from(_error: OutOfMemory) -> CommandFault {
+        CommandFault::OutOfMemory
     }
 }
 
@@ -82,7 +82,7 @@ pub(crate) fn say<S: Sink>(sink: &mut S, reply: &Reply) -> Outcome
 {
     match write_and_flush(sink, reply.text.as_bytes()) {
         Ok(()) => Outcome::Status(reply.status),
-        Err(_failed) => Outcome::Failed(Cause::Write),
+        Err(_failed) => Outcome::Failed(CommandFault::Write),
     }
 }
 
@@ -94,6 +94,6 @@ pub(crate) fn answer<S: Sink>(sink: &mut S, reply: Result<Reply, OutOfMemory>) -
 {
     match reply {
         Ok(reply) => say(sink, &reply),
-        Err(OutOfMemory) => Outcome::Failed(Cause::Memory),
+        Err(OutOfMemory) => Outcome::Failed(CommandFault::OutOfMemory),
     }
 }

@@ -10,7 +10,7 @@ use clap::error::{Error, ErrorKind};
 use command_line::{CompileFiles, Request, RuleFiles, VerifyFiles, read_words};
 use creating::Creating;
 use ocl_check::{
-    Cause, JudgeOptions, Outcome, Telling, run_bound, run_compile, run_judge, run_verify,
+    CommandFault, JudgeOptions, Outcome, Telling, run_bound, run_compile, run_judge, run_verify,
 };
 use opening::Opening;
 use std::process::ExitCode;
@@ -18,8 +18,8 @@ use std::{env, io};
 
 /// The exit status of an outcome; a failure is reported on standard error.
 fn ended(rt: &impl Eprint, outcome: Outcome) -> ExitCode {
-    if let Outcome::Failed(cause) = outcome {
-        let _ = rt.eprintln(cause.line());
+    if let Outcome::Failed(fault) = outcome {
+        let _ = rt.eprintln(fault.line());
     }
     ExitCode::from(outcome.status())
 }
@@ -27,11 +27,11 @@ fn ended(rt: &impl Eprint, outcome: Outcome) -> ExitCode {
 /// Reports why the command line was refused, with status 2. Help and the version come here too, with status 0.
 fn refused(rt: &HostRuntime, error: &Error) -> ExitCode {
     if error.kind() == ErrorKind::OutOfMemory {
-        return ended(rt, Outcome::Failed(Cause::Memory));
+        return ended(rt, Outcome::Failed(CommandFault::OutOfMemory));
     }
     let is_help = error.exit_code() == 0;
     if error.print(rt).is_err() && is_help {
-        return ended(rt, Outcome::Failed(Cause::Write));
+        return ended(rt, Outcome::Failed(CommandFault::Write));
     }
     ExitCode::from(if is_help { 0 } else { 2 })
 }
@@ -80,7 +80,7 @@ fn main(rt: HostRuntime) -> ExitCode {
     let args = match env::args(&rt) {
         Ok(args) => args,
         Err(error) if error.kind() == io::ErrorKind::OutOfMemory => {
-            return ended(&rt, Outcome::Failed(Cause::Memory));
+            return ended(&rt, Outcome::Failed(CommandFault::OutOfMemory));
         }
         Err(_) => {
             let _ = rt.eprintln("error: an argument isn't UTF-8 text");
@@ -88,7 +88,7 @@ fn main(rt: HostRuntime) -> ExitCode {
         }
     };
     let Ok(words) = args.collect::<Vec<String>>(rt.alloc()) else {
-        return ended(&rt, Outcome::Failed(Cause::Memory));
+        return ended(&rt, Outcome::Failed(CommandFault::OutOfMemory));
     };
     match read_words(rt.alloc(), words.as_slice()) {
         Ok(Request::Judge(files, options)) => ended(&rt, judge(&rt, files, options)),

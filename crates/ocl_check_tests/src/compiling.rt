@@ -2,7 +2,7 @@
 
 use crate::files::{BY_CODE, DEPTH, NO_RULES, judged_by};
 use crate::outputs::Narrow;
-use ocl_check::{Cause, Outcome, Telling, run_compile};
+use ocl_check::{CommandFault, Outcome, Telling, run_compile};
 use std::alloc::Global;
 use std::test::*;
 use test_support::{CATALOGUE, DUCT};
@@ -90,7 +90,7 @@ fn compiled_into(alloc: Global, code: usize, printed: usize) -> (Outcome, usize,
 
 #[test]
 fn prints_nothing_where_the_code_file_fails(rt: HostRuntime) {
-    let failed = Outcome::Failed(Cause::Write);
+    let failed = Outcome::Failed(CommandFault::Write);
     for left in 0..12 {
         assert!(rt; compiled_into(rt.alloc(), left, 100) == (failed, left, 0));
     }

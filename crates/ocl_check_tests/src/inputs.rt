@@ -1,7 +1,7 @@
 //! Readers that fail, never end, or give a byte at a time.
 
 use crate::files::{BY_CODE, DEPTH, MODEL, NO_OBJECTS, NO_RULES};
-use ocl_check::{Cause, InputFault, Outcome, Telling, read_input, run_bound, run_judge};
+use ocl_check::{CommandFault, InputFault, Outcome, Telling, read_input, run_bound, run_judge};
 use std::alloc::Global;
 use std::io;
 use std::io::{Error, ErrorKind, Read};
@@ -145,7 +145,7 @@ fn judged_with_failing(alloc: Global, which: usize) -> (Outcome, usize, usize) {
 
 #[test]
 fn fails_where_an_input_does(rt: HostRuntime) {
-    let failed = Outcome::Failed(Cause::Read);
+    let failed = Outcome::Failed(CommandFault::Read);
     // what comes after the failed input is untouched
     assert!(rt; judged_with_failing(rt.alloc(), 0) == (failed, NO_OBJECTS.len(), DEPTH.len()));
     assert!(rt; judged_with_failing(rt.alloc(), 1) == (failed, NO_OBJECTS.len(), DEPTH.len()));
@@ -170,7 +170,7 @@ fn a_failed_read_comes_before_a_refusal(rt: HostRuntime) {
         &mut NO_RULES.as_slice(),
         &mut sink,
     );
-    assert!(rt; outcome == Outcome::Failed(Cause::Read));
+    assert!(rt; outcome == Outcome::Failed(CommandFault::Read));
 }
 
 #[test]
@@ -191,7 +191,7 @@ fn bound_fails_where_an_input_does(rt: HostRuntime) {
         &mut failing,
         &mut sink,
     );
-    assert!(rt; outcome == Outcome::Failed(Cause::Read));
+    assert!(rt; outcome == Outcome::Failed(CommandFault::Read));
     assert!(rt; delivery.is_empty());
     assert!(rt; sink.into_inner().is_empty());
 }

@@ -1,7 +1,7 @@
 //! Writers that fail, and how an outcome is reported.
 
 use crate::files::{BY_CODE, DEPTH, MODEL, NO_OBJECTS};
-use ocl_check::{Cause, Outcome, Telling, run_bound, run_judge};
+use ocl_check::{CommandFault, Outcome, Telling, run_bound, run_judge};
 use std::alloc::Global;
 use std::io;
 use std::io::{Error, ErrorKind, Write};
@@ -84,7 +84,7 @@ fn judged_into(alloc: Global, left: usize, is_silent: bool, flushes: bool) -> (O
 /// Whether a writer that fails after so many bytes has taken just the beginning of the report.
 fn fails_after(alloc: Global, left: usize, is_silent: bool) -> bool {
     let (outcome, bytes) = judged_into(alloc, left, is_silent, true);
-    outcome == Outcome::Failed(Cause::Write)
+    outcome == Outcome::Failed(CommandFault::Write)
         && bytes.len() == left
         && REPORT.as_bytes().starts_with(&bytes)
 }
@@ -100,7 +100,7 @@ fn fails_where_a_write_does(rt: HostRuntime) {
 #[test]
 fn fails_where_the_flush_does(rt: HostRuntime) {
     let (outcome, bytes) = judged_into(rt.alloc(), 1_000, false, false);
-    assert!(rt; outcome == Outcome::Failed(Cause::Write));
+    assert!(rt; outcome == Outcome::Failed(CommandFault::Write));
     assert!(rt; bytes.as_slice() == REPORT.as_bytes());
 }
 
@@ -132,7 +132,7 @@ fn bounded_into(alloc: Global, left: usize, is_silent: bool) -> (Outcome, Vec<u8
 /// Whether `bound` fails where its writer does, after just the beginning of the bounds.
 fn bound_fails_after(alloc: Global, left: usize, is_silent: bool) -> bool {
     let (outcome, bytes) = bounded_into(alloc, left, is_silent);
-    outcome == Outcome::Failed(Cause::Write)
+    outcome == Outcome::Failed(CommandFault::Write)
         && bytes.len() == left
         && BOUNDS.as_bytes().starts_with(&bytes)
 }
@@ -151,12 +151,12 @@ fn reports_how_it_ended(rt: HostRuntime) {
         assert!(rt; Outcome::Status(status).status() == status);
     }
     let lines = [
-        (Cause::Memory, "failed memory"),
-        (Cause::Read, "failed read"),
-        (Cause::Write, "failed write"),
+        (CommandFault::OutOfMemory, "failed memory"),
+        (CommandFault::Read, "failed read"),
+        (CommandFault::Write, "failed write"),
     ];
-    for (cause, line) in lines {
-        assert!(rt; Outcome::Failed(cause).status() == 3);
-        assert!(rt; cause.line() == line);
+    for (fault, line) in lines {
+        assert!(rt; Outcome::Failed(fault).status() == 3);
+        assert!(rt; fault.line() == line);
     }
 }

@@ -2,7 +2,7 @@
 
 ghost use Rattle.std.specs.Prelude.{◌≡◌, ◌≢◌, ◌⊎◌, false, IfOk, IfErr};
 ghost use Rattle.std.specs.Io.KnownBytes.{IsAtEnd};
-ghost use Rattle.ocl_check.specs.declared.outcome.Cause.TheVariants.{Write};
+ghost use Rattle.ocl_check.specs.declared.outcome.CommandFault.TheVariants.{Write};
 ghost use Rattle.ocl_check.specs.Answers.{IsAnswered, KeepsSink, ReadBy, fails_write};
 ghost use Rattle.ocl_check.specs.Asking.{ReadingFor, answer_by};
 ghost use Rattle.ocl_check.specs.Ending.{IsEnding, IsInput};
@@ -11,7 +11,7 @@ ghost use Rattle.ocl_check.specs.ThreeInputs.{delivery_answer, population_of, in
 use crate::commands::rules::{Asked, answer_rules};
 use crate::input::{MOST_BYTES, read_input};
 use crate::laws::each_text_is_read;
-use crate::outcome::{Cause, Outcome, answer};
+use crate::outcome::{CommandFault, Outcome, answer};
 use crate::reply::{refused_delivery, refused_model};
 use imkl_delivery::load;
 use imkl_model::ClassModel;
@@ -76,11 +76,11 @@ fn read_inputs<M: Read, D: Read, R: Read>(
     model: &mut M,
     delivery: &mut D,
     rules: &mut R,
-) -> Result<Inputs, Cause>
+) -> Result<Inputs, CommandFault>
     ensures model { IfOk result (λ i. IsInput (M.remaining model.old) i.model.items) }
     ensures delivery { IfOk result (λ i. IsInput (D.remaining delivery.old) i.delivery.items) }
     ensures rules { IfOk result (λ i. IsInput (R.remaining rules.old) i.rules.items) }
-    ensures cause { IfErr result (λ c. c ≢ Write) }
+    ensures fault { IfErr result (λ c. c ≢ Write) }
     ensures delivery_waits { IsAtEnd (M.remaining model.new) ⊎ (delivery.new ≡ delivery.old) }
     ensures rules_wait { IsAtEnd (D.remaining delivery.new) ⊎ (rules.new ≡ rules.old) }
 {
@@ -125,6 +125,6 @@ pub(crate) fn ask<M: Read, D: Read, R: Read, S: Sink>(
             &inputs.rules,
             sink,
         ),
-        Err(cause) => Outcome::Failed(cause),
+        Err(fault) => Outcome::Failed(fault),
     }
 }

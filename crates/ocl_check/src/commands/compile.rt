@@ -3,7 +3,7 @@
 ghost use Rattle.std.specs.Prelude.{◌≡◌, ◌≢◌, ◌⊎◌, ◌||◌, true, false, IfOk, IfErr};
 ghost use Rattle.std.specs.Io.KnownBytes.{IsAtEnd};
 ghost use Rattle.rule_code.specs.View.{content};
-ghost use Rattle.ocl_check.specs.declared.outcome.Cause.TheVariants.{Write};
+ghost use Rattle.ocl_check.specs.declared.outcome.CommandFault.TheVariants.{Write};
 ghost use Rattle.ocl_check.specs.Answers.{IsAnswered, KeepsSink, ReadBy, ReadWithin, fails_write};
 ghost use Rattle.ocl_check.specs.Compile.{compiled_code, compiled_answer, compile_answer, HasUnit, HasUnitFor, IsCodeWritten, IsOfUnit};
 ghost use Rattle.ocl_check.specs.Reply.{said};
@@ -15,7 +15,7 @@ ghost use Rattle.ocl_check.specs.CompiledRules.{compiled_rules};
 use crate::compiled_rules::compile_text;
 use crate::input::{MOST_BYTES, read_input};
 use crate::laws::each_text_is_read;
-use crate::outcome::{Cause, Outcome, say};
+use crate::outcome::{CommandFault, Outcome, say};
 use crate::reply::{Reply, compiled_reply, refused_model, refused_text};
 use imkl_model::ClassModel;
 use rule_code::{Unit, write_unit};
@@ -91,12 +91,12 @@ fn compile_readers<M: Read, R: Read>(
     alloc: Global,
     model: &mut M,
     rules: &mut R,
-) -> Result<Compiled, Cause>
+) -> Result<Compiled, CommandFault>
     ensures compiled { IfOk result (λ c. ReadWithin (M.remaining model.old) (λ xs.
         ReadWithin (R.remaining rules.old) (λ ys.
         (t : TextReading) × ReadsAs ys t × (compiled_seen c ≡ compile_answer xs t)
         × HasUnitFor (model_of xs) t))) }
-    ensures cause { IfErr result (λ c. c ≢ Write) }
+    ensures fault { IfErr result (λ c. c ≢ Write) }
     ensures rules_wait { IsAtEnd (M.remaining model.new) ⊎ (rules.new ≡ rules.old) }
 {
     let model = read_input(alloc, model, MOST_BYTES)?;
@@ -120,11 +120,11 @@ fn write_compiled<O: Sink, S: Sink>(
     ensures kept { KeepsSink result sink.old sink.new }
 {
     let Ok(()) = write_and_flush(out, code) else {
-        return Outcome::Failed(Cause::Write);
+        return Outcome::Failed(CommandFault::Write);
     };
     match write_and_flush(sink, reply.text.as_bytes()) {
         Ok(()) => Outcome::Status(reply.status),
-        Err(_failed) => Outcome::Failed(Cause::Write),
+        Err(_failed) => Outcome::Failed(CommandFault::Write),
     }
 }
 
@@ -159,6 +159,6 @@ pub fn run_compile<M: Read, R: Read, O: Sink, S: Sink>(
     match compile_readers(alloc, model, rules) {
         Ok(Compiled::Code(code, reply)) => write_compiled(&code, &reply, out, sink),
         Ok(Compiled::Refused(reply)) => say(sink, &reply),
-        Err(cause) => Outcome::Failed(cause),
+        Err(fault) => Outcome::Failed(fault),
     }
 }

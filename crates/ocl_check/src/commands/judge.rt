@@ -12,7 +12,7 @@ ghost use Rattle.ocl_check.specs.Asking.{asked_by};
 
 use crate::commands::asking::ask;
 use crate::commands::rules::{Asked, Question};
-use crate::outcome::{Cause, Outcome, answer};
+use crate::outcome::{CommandFault, Outcome, answer};
 use crate::reply::refused_cost;
 use imkl_population::{Population, Sizes};
 use rule_cost::{Admitted, CostFault, admit};
@@ -50,8 +50,8 @@ fn judge_admitted<S: Sink>(
 {
     match write_report(alloc, admitted, population, sink) {
         Ok(summary) => Outcome::Status(status_of(summary)),
-        Err(ReportFault::Write) => Outcome::Failed(Cause::Write),
-        Err(ReportFault::OutOfMemory) => Outcome::Failed(Cause::Memory),
+        Err(ReportFault::Write) => Outcome::Failed(CommandFault::Write),
+        Err(ReportFault::OutOfMemory) => Outcome::Failed(CommandFault::OutOfMemory),
     }
 }
 
@@ -73,7 +73,7 @@ pub(crate) fn judge_within<S: Sink>(
     match admit(alloc, accepted, sizes, budget) {
         Ok(admitted) => judge_admitted(alloc, population, &admitted, sink),
         Err(CostFault::TooCostly { rule }) => answer(sink, refused_cost(alloc, rule)),
-        Err(CostFault::OutOfMemory) => Outcome::Failed(Cause::Memory),
+        Err(CostFault::OutOfMemory) => Outcome::Failed(CommandFault::OutOfMemory),
     }
 }
 
@@ -115,7 +115,7 @@ impl JudgeOptions {
 /// first rule whose bound is 2^63 or more or above the budget. Rules of a text are judged by what
 /// they mean.
 ///
-/// `Failed(Read)`: an input can't be read, or is too long. `Failed(Memory)`: memory ran out. In both
+/// `Failed(Read)`: an input can't be read, or is too long. `Failed(OutOfMemory)`: memory ran out. In both
 /// the sink is as it was. `Failed(Write)`: the sink took a prefix of the answer.
 pub fn run_judge<M: Read, D: Read, R: Read, S: Sink>(
     alloc: Global,

@@ -12,7 +12,7 @@ ghost use Rattle.ocl_check.specs.TextReading.{TextReading, ReadsAs};
 use crate::commands::bound::bounds_reply;
 use crate::commands::judge::judge_within;
 use crate::compiled_rules::compile_text;
-use crate::outcome::{Cause, Outcome, answer};
+use crate::outcome::{CommandFault, Outcome, answer};
 use crate::reply::{refused_code, refused_text, refused_verify};
 use imkl_population::{Population, Sizes};
 use rule_code::{CodeFault, Unit, read_unit};
@@ -70,7 +70,7 @@ fn answer_accepted<S: Sink>(
 {
     match population.sizes(alloc) {
         Ok(sizes) => answer_sized(alloc, question, population, &sizes, accepted, sink),
-        Err(_failed) => Outcome::Failed(Cause::Memory),
+        Err(_failed) => Outcome::Failed(CommandFault::OutOfMemory),
     }
 }
 
@@ -91,7 +91,7 @@ fn answer_unit<S: Sink>(
         Err((VerifyFault::At { flaw, rule, at }, _unit)) => {
             answer(sink, refused_verify(alloc, flaw, rule, at))
         }
-        Err((VerifyFault::OutOfMemory, _unit)) => Outcome::Failed(Cause::Memory),
+        Err((VerifyFault::OutOfMemory, _unit)) => Outcome::Failed(CommandFault::OutOfMemory),
     }
 }
 
@@ -110,7 +110,7 @@ fn answer_code<S: Sink>(
     match read_unit(alloc, code) {
         Ok(unit) => answer_unit(alloc, question, population, unit, sink),
         Err(CodeFault::At { flaw, offset }) => answer(sink, refused_code(alloc, flaw, offset)),
-        Err(CodeFault::OutOfMemory) => Outcome::Failed(Cause::Memory),
+        Err(CodeFault::OutOfMemory) => Outcome::Failed(CommandFault::OutOfMemory),
     }
 }
 

@@ -5,13 +5,13 @@ ghost use Rattle.std.specs.Io.KnownBytes.{IsAtEnd};
 ghost use Rattle.rule_code.specs.View.{content};
 ghost use Rattle.rule_code.specs.CodeFile.{unit_of};
 ghost use Rattle.rule_verify.specs.UnitRules.{check_unit};
-ghost use Rattle.ocl_check.specs.declared.outcome.Cause.TheVariants.{Write};
+ghost use Rattle.ocl_check.specs.declared.outcome.CommandFault.TheVariants.{Write};
 ghost use Rattle.ocl_check.specs.Reply.{said};
 ghost use Rattle.ocl_check.specs.Answers.{IsAnswered, KeepsSink, ReadBy, ReadWithin, fails_write};
 ghost use Rattle.ocl_check.specs.Verify.{checked_answer, verify_code_answer, verify_answer};
 
 use crate::input::{MOST_BYTES, read_input};
-use crate::outcome::{Cause, Outcome, say};
+use crate::outcome::{CommandFault, Outcome, say};
 use crate::reply::{Reply, accepted_reply, refused_code, refused_model, refused_verify};
 use imkl_model::ClassModel;
 use rule_code::{CodeFault, Unit, read_unit};
@@ -59,10 +59,10 @@ fn verify_readers<M: Read, C: Read>(
     alloc: Global,
     model: &mut M,
     code: &mut C,
-) -> Result<Reply, Cause>
+) -> Result<Reply, CommandFault>
     ensures reply { IfOk result (λ r. ReadWithin (M.remaining model.old) (λ xs.
         ReadWithin (C.remaining code.old) (λ ys. said r ≡ verify_answer xs ys))) }
-    ensures cause { IfErr result (λ c. c ≢ Write) }
+    ensures fault { IfErr result (λ c. c ≢ Write) }
     ensures code_waits { IsAtEnd (M.remaining model.new) ⊎ (code.new ≡ code.old) }
 {
     let model = read_input(alloc, model, MOST_BYTES)?;
@@ -90,6 +90,6 @@ pub fn run_verify<M: Read, C: Read, S: Sink>(
 {
     match verify_readers(alloc, model, code) {
         Ok(reply) => say(sink, &reply),
-        Err(cause) => Outcome::Failed(cause),
+        Err(fault) => Outcome::Failed(fault),
     }
 }

@@ -20,7 +20,7 @@ returns-in-Err-clause-answered g c =
           t.0,
           t.1,
           tt,
-          nothing_written g.O.Sink.contents g.O.Sink.has_failed (compile_answer model t.0).code c.args.out.now c.in-Err.cause c.in-Err.ensures.cause,
+          nothing_written g.O.Sink.contents g.O.Sink.has_failed (compile_answer model t.0).code c.args.out.now c.in-Err.fault c.in-Err.ensures.fault,
           (0, Appends-nil (g.S.Sink.contents c.args.sink.now)),
         ),
       ),
