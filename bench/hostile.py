@@ -8,6 +8,8 @@ owners:   half of the classes have the same 16 names, and each has one class bel
           that differ).
 chain:    each class is below the one before it and has 16 names of its own (twin: classes that are not related).
 couples:  each name is that of two classes, which are not related (twin: names that differ).
+depth:    each class is below the one before it, without features; the objects are of each class in turn (twin: classes that
+          are not related).
 
 Each model has the class and the feature that examples/min-depth.code names, so that it can be judged by it.
 """
@@ -93,13 +95,18 @@ def couples(count, plain):
     return [], [base()] + classes, [(f"C{it % len(classes)}", {label(it % len(classes), 0): 1}) for it in range(count)]
 
 
+def depth(count, plain):
+    classes = [class_of(f"C{it}", [f"C{it - 1}"] if it > 0 and not plain else [], []) for it in range(CLASSES - 1)]
+    return [], [base()] + classes, [(f"C{it % len(classes)}", {}) for it in range(count)]
+
+
 def write(folder, name, tree):
     with open(os.path.join(folder, name), "w", encoding="utf-8") as to:
         json.dump(tree, to, separators=(",", ":"))
 
 
 def main():
-    shapes = {"literals": literals, "owners": owners, "chain": chain, "couples": couples}
+    shapes = {"literals": literals, "owners": owners, "chain": chain, "couples": couples, "depth": depth}
     reader = argparse.ArgumentParser(description=__doc__, formatter_class=argparse.RawDescriptionHelpFormatter)
     reader.add_argument("SHAPE", choices=shapes)
     reader.add_argument("N", type=int, help="the number of objects")

@@ -79,6 +79,7 @@ fn put_all(
     ensures kept { KeepsObjects builder.old builder.new }
     ensures same { required.new ≡ required.old }
 {
+    builder.within_limit();
     let mut place = 0;
     for object in objects {
         let Some(features) = features_of(object) else {

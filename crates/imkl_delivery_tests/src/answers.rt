@@ -13,9 +13,9 @@ fn feature(model: &ClassModel, name: &str) -> Option<FeatureNo> {
 }
 
 /// A fault of the population with its feature, as `TooFew Cable.volts`.
-fn placed_fault(model: &ClassModel, object: usize, words: &str) -> Option<PopulationFault> {
+fn placed_fault(model: &ClassModel, object: u32, words: &str) -> Option<PopulationFault> {
     let (name, feature_name) = words.split_once(' ')?;
-    let object = ObjectNo::new(object);
+    let object = ObjectNo::new(object as usize);
     let feature = feature(model, feature_name)?;
     match name {
         "TooFew" => Some(PopulationFault::TooFew { object, feature }),
@@ -25,7 +25,7 @@ fn placed_fault(model: &ClassModel, object: usize, words: &str) -> Option<Popula
 }
 
 /// A fault of the population, at an object.
-fn population_fault(model: &ClassModel, object: usize, words: &str) -> Option<PopulationFault> {
+fn population_fault(model: &ClassModel, object: u32, words: &str) -> Option<PopulationFault> {
     match words {
         "DuplicateId" => Some(PopulationFault::DuplicateId),
         "AbstractClass" => Some(PopulationFault::AbstractClass),
@@ -45,13 +45,14 @@ fn object_fault(model: &ClassModel, words: &str) -> Option<DeliveryFault> {
         Some((object, rest)) => (object, rest),
         None => (rest, ""),
     };
-    let object = object.parse::<usize>().ok()?;
+    let number = object.parse::<u32>().ok()?;
+    let object = number as usize;
     match name {
         "UnknownClass" => Some(DeliveryFault::UnknownClass { object }),
         "UnknownFeature" => Some(DeliveryFault::UnknownFeature { object }),
         "UnknownTarget" => Some(DeliveryFault::UnknownTarget { object }),
         "Population" => {
-            let fault = population_fault(model, object, rest)?;
+            let fault = population_fault(model, number, rest)?;
             Some(DeliveryFault::Population { object, fault })
         }
         _ => None,

@@ -11,6 +11,7 @@ fn values<'p>(population: &'p Population<'_>, index: usize, name: &str) -> Optio
     if index >= population.objects() {
         return None;
     }
+    population.consistent();
     let object = ObjectNo::new(index);
     let class = population.class_of(object);
     let feature = population.model().feature(class, name)?;

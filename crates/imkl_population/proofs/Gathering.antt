@@ -8,10 +8,15 @@ use Rattle.std.proofs.lemmas.List.{append-nil, get_or-map, map-set, get_or-set_s
 use Rattle.std.proofs.lemmas.List.Elements.{All-append, All-filter, All-head, All-tail}
 use Rattle.std.proofs.lemmas.List.Folds.{list_any-append}
 use Rattle.imkl_model.specs.ClassModel.{Model, conforms}
+use Rattle.imkl_population.specs.declared.sharing.Members.{Members}
 use Rattle.imkl_population.specs.Population.{Population, class_of, is_instance, instances}
 use Rattle.imkl_population.specs.Required.{is_one_of}
 use Rattle.imkl_population.specs.Order.{AreInOrder}
-use Rattle.imkl_population.specs.Instances.{is_direct, list_of, AreDirect, has_objects, inhabited, conforming, direct_of, objects_of_classes}
+use Rattle.ocl_base.specs.Numbers.{places}
+use Rattle.imkl_population.specs.Sizes.{list_below}
+use Rattle.imkl_population.specs.Instances.{is_direct, list_of, AreDirect, AreMarks, AreMembers, has_objects, inhabited, conforming, direct_of, objects_of_classes}
+use Rattle.imkl_population.proofs.Fitting.{get_or-list_below}
+use Rattle.imkl_population.proofs.Lengths.{length-list_below}
 use Rattle.imkl_population.proofs.Orders.{ordered, one_of-places, places-same, places-small}
 
 -- ---- the list of a class
@@ -70,6 +75,27 @@ direct-in_order p lists cs xs zs direct known are order =
     ordered xs zs order (length p.objects) small
     ∙ places-same (is_one_of xs) (λ o. is_one_of cs (class_of p o)) (length p.objects)
     (λ o lt. ap (λ (l : List ℕ). is_one_of l o) are ∙ direct-each p lists direct cs known o lt)
+
+-- the classes of the objects are classes of the model
+pub classes-known : (p : Population) (members : Members) → AreMembers p members → All (λ c. c < length members.direct.items) members.classes.items
+classes-known p members are =
+    let long : length members.classes.items ≡ length p.objects = ap length are.classes ∙ length-list_below (class_of p) (length p.objects) in
+    λ o d lt.
+    let inside : o < length p.objects = omega (arith, lt, long) in
+    let class : get_or members.classes.items o d ≡ class_of p o = ap (λ (l : List ℕ). get_or l o d) are.classes ∙ get_or-list_below (class_of p) (length p.objects) o d inside in
+    omega (arith, class, are.direct.known o inside, are.direct.count)
+
+-- the objects whose classes are marked are those of the classes that the marks are of
+pub marked-objects : (p : Population) (classes cs : List ℕ) (marks : List Bool) (count : ℕ) → classes ≡ list_below (class_of p) (length p.objects) → AreMarks count cs marks → ((o : ℕ) → o < length p.objects → class_of p o < count)
+    → places (λ o. get_or marks (get_or classes o 0) false) (length classes) ≡ objects_of_classes p cs
+marked-objects p classes cs marks count are marked known =
+    let long : length classes ≡ length p.objects = ap length are ∙ length-list_below (class_of p) (length p.objects) in
+    ap (places (λ o. get_or marks (get_or classes o 0) false)) long
+    ∙ places-same (λ o. get_or marks (get_or classes o 0) false) (λ o. is_one_of cs (class_of p o)) (length p.objects)
+    (λ o lt.
+    ap (λ (l : List ℕ). get_or marks (get_or l o 0) false) are
+    ∙ ap (λ (c : ℕ). get_or marks c false) (get_or-list_below (class_of p) (length p.objects) o 0 lt)
+    ∙ marked.each (class_of p o) (known o lt))
 
 -- ---- the classes whose objects are the instances of a class
 

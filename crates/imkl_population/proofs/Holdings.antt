@@ -10,7 +10,7 @@ use Rattle.std.specs.BTreeMap.{insert_entry, is_at}
 use Rattle.std.proofs.lemmas.Bool.Decides.{nat_tests}
 use Rattle.std.proofs.lemmas.Bool.{eq-eqb, ne_eqb, eqb-true, cases_eq}
 use Rattle.std.proofs.lemmas.List.{append-nil, map-append, take_more}
-use Rattle.std.proofs.lemmas.List.Elements.{All-head, All-tail, All-weaker, All-push, filter_map-append}
+use Rattle.std.proofs.lemmas.List.Elements.{All-nil, All-cons, All-append, All-head, All-tail, All-weaker, All-push, filter_map-append}
 use Rattle.imkl_population.specs.declared.scalar.Scalar.{Scalar}
 use Rattle.imkl_population.specs.declared.scalar.Scalar.TheVariants as scalar
 use Rattle.imkl_population.specs.declared.object.Head.{Head}
@@ -18,7 +18,7 @@ use Rattle.imkl_model.specs.ClassModel.{Model}
 use Rattle.imkl_population.specs.Written.{written_in, IsMap}
 use Rattle.imkl_population.specs.Building.{as_objects}
 use Rattle.imkl_population.specs.Population.{Population, target_of, targets, pairs_of, pairs_below, pairs, holders_of, written_at}
-use Rattle.imkl_population.specs.declared.column.Entry.{Entry}
+use Rattle.imkl_population.specs.declared.entries.Entry.{Entry}
 use Rattle.imkl_population.specs.Store.{pairs_in, object_row, entry_of}
 use Rattle.imkl_population.specs.Layout.{stored_content}
 use Rattle.imkl_population.proofs.Encoded.{is_eq-nat_cmp}
@@ -30,6 +30,23 @@ use Rattle.imkl_population.proofs.Layouts.{length-content, written-column}
 
 abbrev pub Map : Type 0
 Map = List (ℕ × List Scalar)
+
+-- ---- the holders of all pairs are objects that are there
+
+pairs_of-known : (holder n : ℕ) (ts : List ℕ) → holder < n → All (λ (q : ℕ × ℕ). q.0 < n) (map (λ (t : ℕ). (holder, t)) ts)
+pairs_of-known holder n [] lt = All-nil (λ (q : ℕ × ℕ). q.0 < n)
+pairs_of-known holder n (t ∷ ts) lt = All-cons (λ (q : ℕ × ℕ). q.0 < n) (holder, t) (map (λ (t : ℕ). (holder, t)) ts) lt (pairs_of-known holder n ts lt)
+
+pairs_below-known : (p : Population) (source n : ℕ) → All (λ q. q.0 < n) (pairs_below p source n)
+pairs_below-known p source zero = All-nil (λ (q : ℕ × ℕ). q.0 < 0)
+pairs_below-known p source (suc n) =
+    let P : ℕ × ℕ → Type 0 = λ q. q.0 < suc n in
+    All-append P (pairs_below p source n) (pairs_of n (written_at p n source))
+    (All-weaker (λ q. q.0 < n) P (λ q lt. omega (arith, lt)) (pairs_below p source n) (pairs_below-known p source n))
+    (pairs_of-known n (suc n) (targets (written_at p n source)) (omega arith))
+
+pub pairs-known : (p : Population) (source : ℕ) → All (λ q. q.0 < length p.objects) (pairs p source)
+pairs-known p source = pairs_below-known p source (length p.objects)
 
 -- ---- all objects, or the entries of a column
 

@@ -3,7 +3,7 @@ use Rattle.std.proofs.Common.{◌≡◌, ℕ, zero, suc, ◌+◌, ◌<◌, Bool,
 use Rattle.std.proofs.lemmas.Cmp.{nat_list_eq_equiv}
 use Rattle.std.proofs.lemmas.Slice.Eq.{bytes_eq-Decides}
 use Rattle.imkl_population.specs.declared.object.Object.{Object}
-use Rattle.imkl_population.specs.Population.{object_number_in, no_object}
+use Rattle.imkl_population.specs.Population.{Population, object_number, object_number_in, no_object}
 
 or_last : Option ℕ → Option ℕ → Option ℕ
 or_last None b = b
@@ -71,3 +71,9 @@ nothing_found k h = cc
 pub object_number_in-within : (n : ℕ) (os : List Object) (q : List ℕ) (k : ℕ) → object_number_in n os q ≡ Some k → k < n + length os
 object_number_in-within n [] q k h = absurd (nothing_found k h)
 object_number_in-within n (o ∷ os) q k h = within_by (bytes_eq q o.id) n k os (object_number_in (suc n) os q) (object_number_in-within (suc n) os q k) h
+
+-- the number that is found for an id is that of an object
+pub found-inside : (p q : Population) (id : List ℕ) (found : Option ℕ) (n : ℕ) → p ≡ q → found ≡ object_number p id → found ≡ Some n → n < length q.objects
+found-inside p q id found n same is here =
+    let within : n < 0 + length p.objects = object_number_in-within 0 p.objects id n (sym is ∙ here) in
+    omega (arith, within, ap (λ (r : Population). length r.objects) same)

@@ -26,5 +26,6 @@ pub mod Idle
 pub mod SourceEnds
 pub mod Gathering
 pub mod Searches
+pub mod Placed
 pub mod Parts
 pub mod ForAbove

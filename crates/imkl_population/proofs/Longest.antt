@@ -1,5 +1,5 @@
 -- The greatest length of what is written at a feature, from the feature's column.
-use Rattle.std.proofs.Common.{◌≡◌, ℕ, zero, suc, ◌+◌, ◌-◌, ◌<◌, ◌≤◌, ◌==◌, List, [], ◌∷◌, ◌++◌, length, map, take, get_or, false, Option, None, refl, sym, ap, subst, ◌∙◌, arith, All, inl, inr}
+use Rattle.std.proofs.Common.{◌≡◌, ℕ, zero, suc, ◌+◌, ◌-◌, ◌<◌, ◌≤◌, ◌==◌, List, [], ◌∷◌, ◌++◌, length, take, get_or, false, Option, None, refl, sym, ap, subst, ◌∙◌, arith, inl, inr}
 use Rattle.std.specs.Prelude.{max, unwrap_or}
 use Rattle.std.specs.List.{AllByRecursion}
 use Rattle.std.specs.List.Sorted.{IsStrictlySortedBy}
@@ -9,23 +9,22 @@ use Rattle.std.specs.BTreeMap.{is_at}
 use Rattle.std.proofs.Math.Nat.{max-zero, zero-max}
 use Rattle.std.proofs.lemmas.Bool.{cases_eq, eq-eqb, ne_eqb}
 use Rattle.std.proofs.lemmas.List.{take_more}
-use Rattle.std.proofs.lemmas.List.Elements.{All-head, All-tail}
 use Rattle.imkl_model.specs.ClassModel.{Model, feature_at}
 use Rattle.imkl_model.specs.Features.{is_opposite}
 use Rattle.imkl_population.specs.declared.scalar.Scalar.{Scalar}
 use Rattle.imkl_population.specs.declared.object.Head.{Head}
-use Rattle.imkl_population.specs.declared.column.Entry.{Entry}
+use Rattle.imkl_population.specs.declared.entries.Entry.{Entry}
 use Rattle.imkl_population.specs.Written.{written_in, IsMap}
 use Rattle.imkl_population.specs.Population.{Population, values_of}
 use Rattle.imkl_population.specs.Sizes.{longest_below}
-use Rattle.imkl_population.specs.Store.{entry_of, longest_in, object_row, IsEntry}
+use Rattle.imkl_population.specs.Store.{longest_in, object_row}
 use Rattle.imkl_population.specs.Layout.{stored_content}
 use Rattle.imkl_population.proofs.Encoded.{is_eq-nat_cmp}
 use Rattle.imkl_population.proofs.EndLaws.{values_written}
 use Rattle.imkl_population.proofs.Holdings.{Map, IsBelow, absent, above, below_here, below_later}
 use Rattle.imkl_population.proofs.Layouts.{Maps, length-content, written-column}
 use Rattle.imkl_population.proofs.Rows.{row-lookup}
-use Rattle.imkl_population.proofs.Stored.{weaker, length-range}
+use Rattle.imkl_population.proofs.Stored.{weaker}
 
 -- ---- entry by entry
 
@@ -46,13 +45,6 @@ pub entry-longer : (es : List Entry) (i : ℕ) (e : Entry) (old new : ℕ) → i
 entry-longer es i e old new lt is before longer =
     let grown : take (i + 1) es ≡ take i es ++ e ∷ [] = take_more es i e lt ∙ ap (λ (x : Entry). take i es ++ x ∷ []) (sym is) in
     longer ∙ ap (λ (n : ℕ). max n (e.end - e.start)) before ∙ sym (ap longest_span grown ∙ span-push (take i es) e)
-
--- entries have as many values as their map
-pub spans : (s : List Scalar) (es : List Entry) → All (IsEntry (length s)) es → longest_span es ≡ longest_in (map (entry_of s) es)
-spans s [] h = refl
-spans s (e ∷ es) h =
-    let within = All-head (IsEntry (length s)) e es h in
-    rw (length-range s e.start e.end within.0 within.1) (ap (max (e.end - e.start)) (spans s es (All-tail (IsEntry (length s)) e es h)))
 
 -- ---- object by object
 

@@ -1,5 +1,5 @@
 -- Numbers in order: the places that pass a test, and the numbers of a list.
-use Rattle.std.proofs.Common.{◌≡◌, ℕ, zero, suc, ◌<◌, ◌==◌, Bool, true, false, ◌||◌, List, [], ◌∷◌, ◌++◌, refl, sym, ap, subst, ◌∙◌, eqb, arith, All, Less, if◌then◌else◌, inl, inr}
+use Rattle.std.proofs.Common.{◌≡◌, ℕ, zero, suc, ◌+◌, ◌<◌, append_assoc, ◌==◌, Bool, true, false, ◌||◌, List, [], ◌∷◌, ◌++◌, refl, sym, ap, subst, ◌∙◌, eqb, arith, All, Less, if◌then◌else◌, inl, inr}
 use Rattle.std.specs.List.{AllByRecursion, Contains, list_any}
 use Rattle.std.specs.List.Sorted.{IsStrictlySortedBy}
 use Rattle.std.specs.Ordering.{nat_cmp}
@@ -90,6 +90,16 @@ one_of-places p (suc n) f lt =
 pub places-same : (p q : ℕ → Bool) (n : ℕ) → ((k : ℕ) → k < n → p k ≡ q k) → places p n ≡ places q n
 places-same p q zero h = refl
 places-same p q (suc n) h = rw (places-same p q n (λ k lt. h k (omega arith)), h n (omega arith)) refl
+
+-- a number more, if it passes
+pub places-more : (p : ℕ → Bool) (xs ys zs : List ℕ) (n : ℕ) (b : Bool) → p n ≡ b → ys ≡ xs ++ places p n → zs ≡ ys ++ (if b then n ∷ [] else []) → zs ≡ xs ++ places p (n + 1)
+places-more p xs ys zs n b is before next =
+    let more : n + 1 ≡ suc n = omega arith in
+    next
+    ∙ ap (λ (l : List ℕ). l ++ (if b then n ∷ [] else [])) before
+    ∙ append_assoc xs (places p n) (if b then n ∷ [] else [])
+    ∙ ap (λ (c : Bool). xs ++ (places p n ++ (if c then n ∷ [] else []))) (sym is)
+    ∙ ap (λ (k : ℕ). xs ++ places p k) (sym more)
 
 -- ---- a list in order
 

@@ -5,7 +5,7 @@ use Rattle.std.specs.List.{insert}
 use Rattle.std.specs.List.Sorted.{IsStrictlySortedBy, IsNonDecreasingBy, IsBinarySearchResult, IsSearchInRange}
 use Rattle.std.specs.Ordering.{nat_cmp, ordering_index}
 use Rattle.std.proofs.lemmas.Cmp.{ranked}
-use Rattle.imkl_population.specs.declared.column.Entry.{Entry}
+use Rattle.imkl_population.specs.declared.entries.Entry.{Entry}
 use Rattle.imkl_population.specs.Store.{objects_in, put_entry}
 use Rattle.imkl_population.proofs.Stored.{none, is_greater, put-between, put-over}
 use Rattle.std.proofs.lemmas.Bool.{eq-eqb, ne_eqb}

@@ -14,7 +14,7 @@ use Rattle.std.specs.Cmp.{nat_cmp_is}
 use Rattle.std.proofs.lemmas.Cmp.{ranked}
 use Rattle.std.specs.FinMap.{nat_cmp-IsAntisymmetric}
 use Rattle.imkl_population.specs.declared.scalar.Scalar.{Scalar}
-use Rattle.imkl_population.specs.declared.column.Entry.{Entry}
+use Rattle.imkl_population.specs.declared.entries.Entry.{Entry}
 use Rattle.imkl_population.specs.Written.{written_in, IsMap}
 use Rattle.imkl_population.specs.Values.{is_over}
 use Rattle.imkl_population.specs.Store.{Stored, entry_of, objects_in, put_entry, range_of, values_in, map_of, IsEntry, IsSegment, AreRangesWithin, IsLaidOut}
@@ -185,18 +185,17 @@ find-lookup scalars [] o = refl
 find-lookup scalars (e ∷ es) o =
     rw (is_eq-nat_cmp o e.object) (one_or_later (e.object == o) scalars e (find (λ x. x.object == o) es) (lookup (is_at (nat_cmp o)) (map (entry_of scalars) es)) (find-lookup scalars es o))
 
-found_within : (b : Bool) (n : ℕ) (e f : Entry) (r : Option Entry) → IsEntry n e → (r ≡ Some f → IsEntry n f) → cond b (Some e) r ≡ Some f → IsEntry n f
-found_within true n e f r h later is = let same : e ≡ f = cc in subst (IsEntry n) same h
-found_within false n e f r h later is = later is
+found_by : (P : Entry → Type 0) (b : Bool) (e f : Entry) (r : Option Entry) → P e → (r ≡ Some f → P f) → cond b (Some e) r ≡ Some f → P f
+found_by P true e f r h later is = let same : e ≡ f = cc in subst P same h
+found_by P false e f r h later is = later is
 
 nothing_found : (f : Entry) → None ≡ Some f → ⊥
 nothing_found f is = cc
 
--- an entry that is found lies within
-pub find-within : (n : ℕ) (test : Entry → Bool) (es : List Entry) (f : Entry) → All (IsEntry n) es → find test es ≡ Some f → IsEntry n f
-find-within n test [] f h is = absurd (nothing_found f is)
-find-within n test (e ∷ es) f h is =
-    found_within (test e) n e f (find test es) (All-head (IsEntry n) e es h) (find-within n test es f (All-tail (IsEntry n) e es h)) is
+-- what holds of each entry holds of one that is found
+pub find-holds : (P : Entry → Type 0) (test : Entry → Bool) (es : List Entry) (f : Entry) → All P es → find test es ≡ Some f → P f
+find-holds P test [] f h is = absurd (nothing_found f is)
+find-holds P test (e ∷ es) f h is = found_by P (test e) e f (find test es) (All-head P e es h) (find-holds P test es f (All-tail P e es h)) is
 
 -- a map's keys are the objects of its entries
 pub keys_of-entries : (scalars : List Scalar) (es : List Entry) → keys_of (map (entry_of scalars) es) ≡ objects_in es

@@ -1,5 +1,5 @@
 -- The objects of each class as they are gathered.
-use Rattle.std.specs.Prelude.{◌≡◌, ℕ, ◌<◌, ◌≤◌, ◌==◌, ◌++◌, Bool, List, [], Vec, Some, length, map, filter, nat_lt, slice_index_or, slice_range}
+use Rattle.std.specs.Prelude.{◌≡◌, ℕ, ◌<◌, ◌≤◌, ◌==◌, ◌++◌, Bool, false, List, [], Vec, Some, length, map, filter, nat_lt, slice_index_or, slice_range}
 use Rattle.std.specs.List.{flat_map}
 use Rattle.std.specs.declared.cmp.Ordering.{Ordering}
 use Rattle.std.specs.Ordering.{nat_cmp}
@@ -8,10 +8,13 @@ use Rattle.std.specs.BTreeMap.{get}
 use Rattle.std.specs.declared.alloc.Global.{Global}
 use Rattle.ocl_base.specs.Numbers.{places}
 use Rattle.imkl_model.specs.ClassModel.{Model, conforms}
+use Rattle.imkl_population.specs.declared.sharing.Members.{Members}
 use Rattle.imkl_population.specs.declared.sharing.SharedLists.{SharedLists}
 use Rattle.imkl_population.specs.declared.store.Segment.{Segment}
 use Rattle.imkl_population.specs.Population.{Population, class_of}
 use Rattle.imkl_population.specs.Required.{is_one_of}
+use Rattle.imkl_population.specs.Building.{most_objects}
+use Rattle.imkl_population.specs.Sizes.{list_below}
 
 -- an object is directly of one class
 abbrev pub is_direct : Population → ℕ → ℕ → Bool
@@ -26,6 +29,17 @@ pub record AreDirect (p : Population) (n : ℕ) (lists : List (Vec ℕ Global)) 
   pub count : length lists ≡ length p.model.classes
   pub parts : (c : ℕ) → c < length p.model.classes → list_of lists c ≡ places (is_direct p c) n
   pub known : (o : ℕ) → o < n → class_of p o < length p.model.classes
+
+-- the objects by their classes, and the classes of the objects
+pub record AreMembers (p : Population) (members : Members) : Type 0 where
+  pub direct : AreDirect p (length p.objects) members.direct.items
+  pub classes : members.classes.items ≡ list_below (class_of p) (length p.objects)
+  pub limited : length p.objects ≤ most_objects
+
+-- of so many classes those are marked that are among some
+pub record AreMarks (count : ℕ) (cs : List ℕ) (marks : List Bool) : Type 0 where
+  pub so_long : length marks ≡ count
+  pub each : (c : ℕ) → c < count → slice_index_or marks c false ≡ is_one_of cs c
 
 -- the classes that have objects of their own, and those of some classes that conform to a class
 abbrev pub has_objects : List (Vec ℕ Global) → ℕ → Bool

@@ -1,5 +1,5 @@
 -- How a population lies in memory, while it is built and when it is finished.
-use Rattle.std.specs.Prelude.{◌≡◌, ℕ, ◌<◌, ◌≤◌, List, [], ◌∷◌, ◌++◌, Option, length, drop, slice_range, slice_index_or}
+use Rattle.std.specs.Prelude.{◌≡◌, ℕ, ◌<◌, ◌≤◌, List, [], ◌∷◌, Option, length, drop, slice_range, slice_index_or, All}
 use Rattle.imkl_model.specs.ClassModel.{Model}
 use Rattle.imkl_population.specs.declared.scalar.Scalar.{Scalar}
 use Rattle.imkl_population.specs.declared.object.Object.{Object}
@@ -9,7 +9,7 @@ use Rattle.imkl_population.specs.Population.{Population, instances}
 use Rattle.imkl_population.specs.Consistency.{IsConsistent}
 use Rattle.imkl_population.specs.Draft.{IsDraft}
 use Rattle.imkl_population.specs.Ends.{AreEnds}
-use Rattle.imkl_population.specs.Store.{Stored, maps_of, object_row, rows, scalars_of, ranges_from}
+use Rattle.imkl_population.specs.Store.{AreSegments, maps_in, object_row, rows}
 use Rattle.imkl_population.specs.FinishedPopulation.{FinishedPopulation, no_segment}
 
 abbrev pub first_map : List (List (ℕ × List Scalar)) → List (ℕ × List Scalar)
@@ -30,13 +30,13 @@ pub record IsInMaking (m : Model) (hs : List Head) (maps : List (List (ℕ × Li
   pub draft : IsDraft (stored_content m hs maps) ids
   pub idle : (o : ℕ) → length hs ≤ o → object_row maps o ≡ []
 
--- first the values of what is written on the objects, then those of their opposite ends
-abbrev pub finished_of : Model → List Head → List Stored → List Stored → List ℕ → List Segment → FinishedPopulation
-finished_of m hs written ends all ranges = record {
-  content = stored_content m hs (maps_of written);
-  scalars = scalars_of written ++ scalars_of ends;
-  written_ranges = rows (ranges_from 0 written) (length hs);
-  end_ranges = rows (ranges_from (length (scalars_of written)) ends) (length hs);
+-- a finished one: all values in one list, and the ranges of each column of what is written and of each of the opposite ends
+abbrev pub finished_of : Model → List Head → List Scalar → List (List (ℕ × Segment)) → List (List (ℕ × Segment)) → List ℕ → List Segment → FinishedPopulation
+finished_of m hs scalars written ends all ranges = record {
+  content = stored_content m hs (maps_in scalars written);
+  scalars = scalars;
+  written_ranges = rows written (length hs);
+  end_ranges = rows ends (length hs);
   instance_list = all;
   instance_ranges = ranges;
 }
@@ -49,10 +49,13 @@ AreInstances p all ranges n =
     × ((slice_index_or ranges c no_segment).end ≤ length all)
     × (slice_range all (slice_index_or ranges c no_segment).start (slice_index_or ranges c no_segment).end ≡ instances p c)
 
--- the columns have nothing for objects that aren't there; the columns of the opposite ends, and the instances of each class
-pub record IsFinished (p : Population) (maps : List (List (ℕ × List Scalar))) (ends : List Stored) (all : List ℕ) (ranges : List Segment) : Type 0 where
+-- the columns have nothing for objects that aren't there; all ranges lie within the values; the columns of the opposite ends,
+-- and the instances of each class
+pub record IsFinished (p : Population) (scalars : List Scalar) (written ends : List (List (ℕ × Segment))) (all : List ℕ) (ranges : List Segment) : Type 0 where
   pub consistent : IsConsistent p
-  pub idle : (o : ℕ) → length p.objects ≤ o → object_row maps o ≡ []
-  pub derived : AreEnds p (maps_of ends)
+  pub idle : (o : ℕ) → length p.objects ≤ o → object_row (maps_in scalars written) o ≡ []
+  pub written_within : All (AreSegments (length scalars)) written
+  pub ends_within : All (AreSegments (length scalars)) ends
+  pub derived : AreEnds p (maps_in scalars ends)
   pub classes : length ranges ≡ length p.model.classes
   pub instances_are : AreInstances p all ranges (length p.model.classes)

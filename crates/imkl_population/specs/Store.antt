@@ -1,11 +1,11 @@
 -- Values by feature: for each feature a column, which is one list of values and for each of its objects a range.
-use Rattle.std.specs.Prelude.{ℕ, zero, suc, ◌+◌, ◌≤◌, List, [], ◌∷◌, ◌++◌, Option, Some, None, map, length, max, slice_range, slice_index_or, All}
+use Rattle.std.specs.Prelude.{ℕ, zero, suc, ◌+◌, ◌-◌, ◌^◌, ◌<◌, ◌≤◌, List, [], ◌∷◌, ◌++◌, Option, Some, None, map, length, max, slice_range, slice_index_or, All}
 use Rattle.std.specs.Map.{lookup}
 use Rattle.std.specs.BTreeMap.{is_at}
 use Rattle.std.specs.Ordering.{nat_cmp, match_ordering}
 use Rattle.std.specs.List.Sorted.{IsStrictlySortedBy}
 use Rattle.imkl_population.specs.declared.scalar.Scalar.{Scalar}
-use Rattle.imkl_population.specs.declared.column.Entry.{Entry}
+use Rattle.imkl_population.specs.declared.entries.Entry.{Entry}
 use Rattle.imkl_population.specs.declared.store.Segment.{Segment}
 use Rattle.imkl_population.specs.Population.{pairs_of}
 
@@ -52,9 +52,12 @@ map_of c = map (values_in c.scalars) c.ranges
 abbrev pub IsSegment : ℕ → Segment → Type 0
 IsSegment n s = (s.start ≤ s.end) × (s.end ≤ n)
 
--- each range lies within the values
+-- each range lies within n values
+abbrev pub AreSegments : ℕ → List (ℕ × Segment) → Type 0
+AreSegments n ranges = All (λ r. IsSegment n r.1) ranges
+
 abbrev pub AreRangesWithin : Stored → Type 0
-AreRangesWithin c = All (λ r. IsSegment (length c.scalars) r.1) c.ranges
+AreRangesWithin c = AreSegments (length c.scalars) c.ranges
 
 -- ---- all columns
 
@@ -83,20 +86,6 @@ abbrev pub rows : {A : Type 0} → List (List (ℕ × A)) → ℕ → List (List
 rows cs zero = []
 rows cs (suc n) = rows cs n ++ object_row cs n ∷ []
 
--- all values, column by column
-abbrev pub scalars_of : List Stored → List Scalar
-scalars_of [] = []
-scalars_of (c ∷ cs) = c.scalars ++ scalars_of cs
-
--- a range in a list that n values stand before
-abbrev pub shifted : ℕ → (ℕ × Segment) → ℕ × Segment
-shifted n r = (r.0, record { start = n + r.1.start; end = n + r.1.end })
-
--- the ranges of each column in all values, where n values stand before them
-abbrev pub ranges_from : ℕ → List Stored → List (List (ℕ × Segment))
-ranges_from n [] = []
-ranges_from n (c ∷ cs) = map (shifted n) c.ranges ∷ ranges_from (n + length c.scalars) cs
-
 -- the greatest number of values of an object in a column
 abbrev pub longest_in : List (ℕ × List Scalar) → ℕ
 longest_in [] = 0
@@ -106,3 +95,40 @@ longest_in (e ∷ es) = max (length e.1) (longest_in es)
 abbrev pub pairs_in : List (ℕ × List Scalar) → List (ℕ × ℕ)
 pairs_in [] = []
 pairs_in (e ∷ es) = pairs_of e.0 e.1 ++ pairs_in es
+
+-- ---- all columns in one list
+
+-- all values, column by column
+abbrev pub scalars_of : List Stored → List Scalar
+scalars_of [] = []
+scalars_of (c ∷ cs) = c.scalars ++ scalars_of cs
+
+-- a range in a list that n values stand before
+abbrev pub segment_behind : ℕ → Segment → Segment
+segment_behind n s = record { start = n + s.start; end = n + s.end }
+
+abbrev pub shifted : ℕ → (ℕ × Segment) → ℕ × Segment
+shifted n r = (r.0, segment_behind n r.1)
+
+-- the ranges of each column in all values, where n values stand before them
+abbrev pub ranges_from : ℕ → List Stored → List (List (ℕ × Segment))
+ranges_from n [] = []
+ranges_from n (c ∷ cs) = map (shifted n) c.ranges ∷ ranges_from (n + length c.scalars) cs
+
+-- columns as finite maps from objects to the values that stand at their ranges in a list
+abbrev pub maps_in : List Scalar → List (List (ℕ × Segment)) → List (List (ℕ × List Scalar))
+maps_in scalars columns = map (λ ranges. map (values_in scalars) ranges) columns
+
+-- an entry whose range, where n values stand before it, has places of 64 bits
+abbrev pub IsPlaced : ℕ → Entry → Type 0
+IsPlaced n e = (e.start ≤ e.end) × (n + e.end < 2 ^ 64)
+
+-- each entry has such a range, and the objects ascend
+pub record ArePlaced (n : ℕ) (entries : List Entry) : Type 0 where
+  pub placed : All (IsPlaced n) entries
+  pub ascend : IsStrictlySortedBy nat_cmp (objects_in entries)
+
+-- the greatest number of values of an object in a column, by their ranges
+abbrev pub longest_range : List (ℕ × Segment) → ℕ
+longest_range [] = 0
+longest_range (r ∷ rs) = max (r.1.end - r.1.start) (longest_range rs)

@@ -1,31 +1,20 @@
 //! The values at one feature, of all objects that have some.
 
-ghost use Rattle.std.specs.Prelude.{◌≡◌, ◌<◌, ◌≤◌, ◌==◌, ◌++◌, ℕ, [], true, false, Some, None, length, find, slice_range, All, IfOk, OnOk, OnErr};
-ghost use Rattle.std.specs.List.Sorted.{IsStrictlySortedBy};
+ghost use Rattle.std.specs.Prelude.{◌≡◌, ◌<◌, ◌++◌, ℕ, [], false, length, map, slice_range, IfOk, OnOk, OnErr};
 ghost use Rattle.std.specs.Ordering.{nat_cmp};
 ghost use Rattle.std.specs.BTreeMap.{insert_entry};
 ghost use Rattle.imkl_population.specs.Written.{written_in, IsMap};
 ghost use Rattle.imkl_population.specs.Population.{pairs_of};
 ghost use Rattle.imkl_population.specs.Values.{is_over};
-ghost use Rattle.imkl_population.specs.declared.column.Entry.{Entry};
-ghost use Rattle.imkl_population.specs.Store.{IsEntry, AreRangesWithin, entry_of, objects_in, put_entry, map_of, longest_in, pairs_in};
+ghost use Rattle.imkl_population.specs.Store.{IsEntry, AreRangesWithin, map_of, pairs_in, shifted};
 
 use crate::checks::is_over;
+use crate::column_ranges::ColumnRanges;
+use crate::entries::{Entry, find_entry, put_entry};
 use crate::ranks::Ranks;
 use crate::scalar::Scalar;
 use std::alloc::{AllocError, Global};
 use std::marker::Model;
-
-/// The values of one object: those from `start` to before `end` in the list of values.
-#[derive(Clone, Copy, Debug)]
-pub struct Entry {
-    /// The object's number, from 0.
-    pub object: usize,
-    /// The place of the first value, from 0.
-    pub start: usize,
-    /// The place behind the last value: `start` where there are none.
-    pub end: usize,
-}
 
 /// The values at one feature, and for each object that has some the range of its own. Objects
 /// ascend. Contracts see the list of all values and the ranges.
@@ -47,83 +36,11 @@ impl Model for Column {
     ghost invariant = { λ c. IsLaidOut c.scalars.items c.entries.items };
 }
 
-/// Whether a place lies between the entries of earlier objects and those of later ones.
-fn is_gap(entries: &[Entry], place: usize, object: usize) -> bool
-    requires ascend { IsStrictlySortedBy nat_cmp (objects_in entries.now) }
-    requires place { place ≤ length entries.now }
-    ensures { result ≡ true → find (λ e. e.object == object) entries.now ≡ None }
-{
-    (place == 0 || entries[place - 1].object < object)
-        && (place == entries.len() || object < entries[place].object)
-}
-
-/// The entry at a place, if there is one and it is the object's.
-fn entry_at(entries: &[Entry], place: usize, object: usize) -> Option<Entry>
-    requires { IsStrictlySortedBy nat_cmp (objects_in entries.now) }
-    ensures { (e : Entry) → result ≡ Some e → Some e ≡ find (λ e. e.object == object) entries.now }
-{
-    if place < entries.len() && entries[place].object == object {
-        Some(entries[place])
-    } else {
-        None
-    }
-}
-
-/// The entry of an object among entries whose objects ascend. Where the guess of its place is right, nothing is searched.
-fn find_entry(entries: &[Entry], guess: usize, object: usize) -> Option<Entry>
-    requires { IsStrictlySortedBy nat_cmp (objects_in entries.now) }
-    ensures { result ≡ find (λ e. e.object == object) entries.now }
-{
-    let place = guess.min(entries.len());
-    if let Some(entry) = entry_at(entries, place, object) {
-        return Some(entry);
-    }
-    if is_gap(entries, place, object) {
-        return None;
-    }
-    match entries.binary_search_by_key(&object, |entry| entry.object) {
-        Ok(place) => Some(entries[place]),
-        Err(_) => None,
-    }
-}
-
 fn values_of(scalars: &[Scalar], entry: Entry) -> &[Scalar]
     requires { IsEntry (length scalars.now) entry }
     ensures { result.now ≡ slice_range scalars.now entry.start entry.end }
 {
     &scalars[entry.start..entry.end]
-}
-
-/// Whether an object comes behind those of entries whose objects ascend.
-fn goes_last(entries: &[Entry], object: usize) -> bool
-    requires { IsStrictlySortedBy nat_cmp (objects_in entries.now) }
-    ensures { result ≡ true → All (λ e. e.object < object) entries.now }
-{
-    if entries.is_empty() {
-        return true;
-    }
-    entries[entries.len() - 1].object < object
-}
-
-/// Puts an entry at its place, in the place of the one of the same object.
-fn put_entry(entries: &mut Vec<Entry>, entry: Entry) -> Result<(), AllocError>
-    requires { IsStrictlySortedBy nat_cmp (objects_in entries.old.items) }
-    ensures ok { OnOk result (entries.new.items ≡ put_entry entries.old.items entry) }
-    ensures err { OnErr result (entries.new.items ≡ entries.old.items) }
-{
-    if goes_last(entries, entry.object) {
-        entries.push(entry)?;
-        return Ok(());
-    }
-    match entries.binary_search_by_key(&entry.object, |e| e.object) {
-        Ok(place) => {
-            entries[place] = entry;
-        }
-        Err(place) => {
-            entries.insert(place, entry)?;
-        }
-    }
-    Ok(())
 }
 
 /// Adds the pairs of a holder and the objects among its values.
@@ -238,6 +155,30 @@ impl Column {
         Ok(())
     }
 
+    /// How many values there are, replaced ones too.
+    pub(crate) fn value_count(&self) -> usize
+        ensures { result ≡ length self.now.scalars }
+    {
+        self.scalars.len()
+    }
+
+    /// Moves the values to the end of a list, gives their own memory back, and answers where each
+    /// object's stand.
+    pub(crate) fn into_ranges(self, list: &mut Vec<Scalar>) -> Result<ColumnRanges, AllocError>
+        ensures moved { OnOk result (list.new.items ≡ list.old.items ++ self.scalars) }
+        ensures ranges { IfOk result (λ r. r ≡ map (shifted (length list.old.items)) self.ranges) }
+    {
+        let Column {
+            scalars,
+            entries,
+            ranks,
+        } = self;
+        let mut scalars = scalars;
+        let base = list.len();
+        list.append(&mut scalars)?;
+        Ok(ColumnRanges::new(base, entries, ranks))
+    }
+
     /// The pairs of an object and each object among its values.
     pub(crate) fn pairs(&self, alloc: Global) -> Result<Vec<(usize, usize)>, AllocError>
         ensures pairs { IfOk result (λ v. v.items ≡ pairs_in (map_of self.now)) }
@@ -248,18 +189,6 @@ impl Column {
             add_pairs(&mut pairs, entry.object, values_of(&self.scalars, *entry))?;
         }
         Ok(pairs)
-    }
-
-    /// The greatest number of values of an object.
-    pub(crate) fn longest(&self) -> usize
-        ensures longest { result ≡ longest_in (map_of self.now) }
-        ensures map { IsMap (map_of self.now) }
-    {
-        let mut longest = 0;
-        for entry in self.entries.as_slice() {
-            longest = longest.max(entry.end - entry.start);
-        }
-        longest
     }
 
     /// The first object that has more values than an upper bound, if there is one, or an earlier

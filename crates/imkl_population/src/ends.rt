@@ -1,6 +1,6 @@
 //! The opposite ends of all objects, from what is written at the source ends.
 
-ghost use Rattle.std.specs.Prelude.{◌≡◌, ◌<◌, ◌==◌, ◌++◌, ℕ, [], length, IfOk, OnOk, if◌then◌else◌};
+ghost use Rattle.std.specs.Prelude.{◌≡◌, ◌<◌, ◌^◌, ◌==◌, ◌++◌, ℕ, [], length, All, IfOk, OnOk, if◌then◌else◌};
 ghost use Rattle.std.specs.List.Sorted.{IsNonDecreasingBy};
 ghost use Rattle.imkl_model.specs.ClassModel.{feature_at};
 ghost use Rattle.imkl_model.specs.declared.feature.Role.TheVariants.{OppositeEnd};
@@ -24,6 +24,7 @@ fn by_target(
     source: FeatureNo,
 ) -> Result<Vec<(usize, usize)>, AllocError>
     ensures ascend { IfOk result (λ v. IsNonDecreasingBy (λ q. q.1) v.items) }
+    ensures known { IfOk result (λ v. All (λ q. q.0 < length builder.now.objects) v.items) }
     ensures same { IfOk result (λ v. (o : ℕ) →
         holders_of o v.items ≡ holders_of o (pairs builder.now source)) }
 {
@@ -71,7 +72,8 @@ fn go_on(
 
 /// The holders of each target, from pairs in the order of their targets.
 fn holders(alloc: Global, pairs: &[(usize, usize)]) -> Result<Column, AllocError>
-    requires { IsNonDecreasingBy (λ q. q.1) pairs.now }
+    requires ascend { IsNonDecreasingBy (λ q. q.1) pairs.now }
+    requires small { All (λ q. q.0 < 2 ^ 32) pairs.now }
     ensures { IfOk result (λ c. (o : ℕ) →
         written_in (map_of c) o ≡ as_objects (holders_of o pairs.now)) }
 {
@@ -95,6 +97,7 @@ fn opposite_end(
 ) -> Result<Column, AllocError>
     ensures { IfOk result (λ c. AreHolders builder.now source (map_of c)) }
 {
+    builder.within_limit();
     let pairs = by_target(builder, source)?;
     let mut column = holders(alloc, &pairs)?;
     column.rank(alloc)?;

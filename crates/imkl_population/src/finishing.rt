@@ -85,6 +85,7 @@ pub(crate) fn first_gap(
 ) -> Result<Option<PopulationFault>, AllocError>
     ensures { IfOk result (λ fault. fault ≡ first_object_fault gap builder.now) }
 {
+    builder.within_limit();
     let mut required = RequiredFeatures::new(builder.alloc(), builder.model(), Side::Written);
     for object in 0..builder.objects() {
         let found = first_gap_of(builder, &mut required, ObjectNo::new(object))?;
@@ -219,6 +220,7 @@ pub(crate) fn first_end_fault(
     requires { AreEnds builder.now (maps_of ends.now) }
     ensures { IfOk result (λ fault. fault ≡ first_object_fault end_fault builder.now) }
 {
+    builder.within_limit();
     let crowded = first_crowded(builder, ends);
     let mut required = RequiredFeatures::new(builder.alloc(), builder.model(), Side::Opposite);
     for object in 0..builder.objects() {

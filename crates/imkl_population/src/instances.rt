@@ -1,12 +1,14 @@
 //! The objects of each class, those of its subclasses included.
 
 ghost use Rattle.std.specs.Prelude.{◌≡◌, ◌<◌, ◌++◌, ℕ, [], ◌∷◌, length, All, IfOk, OnOk, if◌then◌else◌, ◌==◌};
-ghost use Rattle.imkl_population.specs.Instances.{AreDirect, conforming, inhabited, list_of};
+ghost use Rattle.imkl_population.specs.Instances.{AreDirect, AreMembers, conforming, inhabited, list_of};
 ghost use Rattle.imkl_population.specs.Layout.{AreInstances};
+ghost use Rattle.imkl_population.specs.Population.{class_of};
+ghost use Rattle.imkl_population.specs.Sizes.{list_below};
 
 use crate::builder::PopulationBuilder;
 use crate::numbers::ObjectNo;
-use crate::sharing::{list_of_all, no_lists, range_of};
+use crate::sharing::{Members, list_of_all, no_lists, range_of};
 use crate::store::Segment;
 use imkl_model::{ClassModel, ClassNo};
 use std::alloc::{AllocError, Global};
@@ -44,12 +46,36 @@ fn direct_objects(
 ) -> Result<Vec<Vec<ObjectNo>>, AllocError>
     ensures { IfOk result (λ v. AreDirect builder.now (length builder.now.objects) v.items) }
 {
+    builder.within_limit();
     let mut lists = no_objects(alloc, builder.model().class_count())?;
     for object in 0..builder.objects() {
         let object = ObjectNo::new(object);
         add_object(&mut lists, builder.class_of(object), object)?;
     }
     Ok(lists)
+}
+
+/// The class of each object.
+fn classes_of(alloc: Global, builder: &PopulationBuilder<'_>) -> Result<Vec<ClassNo>, AllocError>
+    ensures { IfOk result (λ v. v.items ≡
+        list_below (class_of builder.now) (length builder.now.objects)) }
+{
+    builder.within_limit();
+    let mut classes = Vec::with_capacity(alloc, builder.objects())?;
+    for object in 0..builder.objects() {
+        classes.push(builder.class_of(ObjectNo::new(object)))?;
+    }
+    Ok(classes)
+}
+
+/// The objects by their classes, and the classes of the objects.
+fn members(alloc: Global, builder: &PopulationBuilder<'_>) -> Result<Members, AllocError>
+    ensures { IfOk result (AreMembers builder.now) }
+{
+    builder.within_limit();
+    let direct = direct_objects(alloc, builder)?;
+    let classes = classes_of(alloc, builder)?;
+    Ok(Members { direct, classes })
 }
 
 /// The classes that have objects of their own.
@@ -94,13 +120,13 @@ pub(crate) fn instances(
     ensures { IfOk result (λ r. (length r.1.items ≡ length builder.now.model.classes) ×
         AreInstances builder.now r.0.items r.1.items (length builder.now.model.classes)) }
 {
-    let direct = direct_objects(alloc, builder)?;
-    let inhabited = inhabited(alloc, &direct)?;
+    let members = members(alloc, builder)?;
+    let inhabited = inhabited(alloc, &members.direct)?;
     let mut shared = no_lists(alloc);
     let mut ranges = Vec::new(alloc);
     for class in 0..builder.model().class_count() {
         let sources = conforming(alloc, builder.model(), &inhabited, ClassNo::new(class))?;
-        let range = range_of(&mut shared, builder, &direct, sources)?;
+        let range = range_of(&mut shared, builder, &members, sources)?;
         ranges.push(range)?;
     }
     Ok((list_of_all(shared), ranges))

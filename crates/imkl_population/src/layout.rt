@@ -11,7 +11,8 @@ use crate::population::Population;
 use crate::store::Store;
 use std::alloc::AllocError;
 
-/// The population of the builder, whose values stay where they are, with its opposite ends.
+/// The population of the builder, with its opposite ends. The values of all columns move into one list, for which room is made
+/// at once.
 pub(crate) fn lay_out<'m>(
     builder: PopulationBuilder<'m>,
     ends: Store,
@@ -20,11 +21,19 @@ pub(crate) fn lay_out<'m>(
     requires ends { AreEnds builder (maps_of ends) }
     ensures { IfOk result (λ p. p.content ≡ builder.entry) }
 {
-    let (instances, ranges) = instances(builder.alloc(), &builder)?;
+    let alloc = builder.alloc();
+    let (instances, ranges) = instances(alloc, &builder)?;
     let (model, heads, written) = builder.into_parts();
+    written.within();
+    ends.within();
+    let count = written.value_count().saturating_add(ends.value_count());
+    let mut scalars = Vec::with_capacity(alloc, count)?;
+    let written = written.into_ranges(alloc, &mut scalars)?;
+    let ends = ends.into_ranges(alloc, &mut scalars)?;
     Ok(Population {
         model,
         heads,
+        scalars,
         written,
         ends,
         instances,

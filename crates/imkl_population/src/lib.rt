@@ -4,7 +4,9 @@
 mod builder;
 mod checks;
 mod column;
+mod column_ranges;
 mod ends;
+mod entries;
 mod fault;
 mod finishing;
 mod id_index;

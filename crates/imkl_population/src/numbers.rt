@@ -1,13 +1,13 @@
 //! Numbers of objects, counted from 0 in the order in which they were added.
 
-ghost use Rattle.std.specs.Prelude.{◌≡◌};
+ghost use Rattle.std.specs.Prelude.{◌≡◌, ◌<◌, ◌^◌};
 
 use std::marker::Model;
 
-/// The number of an object in a population, from 0.
+/// The number of an object in a population, from 0. It takes 4 bytes: a population has at most 1,000,000 objects.
 #[derive(Clone, Copy, PartialEq, Eq, PartialOrd, Ord, Debug)]
 pub struct ObjectNo {
-    index: usize,
+    index: u32,
 }
 
 impl Model for ObjectNo {
@@ -21,17 +21,20 @@ impl Model for ObjectNo {
 }
 
 impl ObjectNo {
-    /// The object of this number.
+    /// The object of this number, which has 32 bits.
     pub fn new(index: usize) -> ObjectNo
+        requires { index < 2 ^ 32 }
         ensures { result ≡ index }
     {
-        ObjectNo { index }
+        ObjectNo {
+            index: index as u32,
+        }
     }
 
     /// The object's number, from 0 in the order in which objects were added.
     pub fn index(self) -> usize
         ensures { result ≡ self }
     {
-        self.index
+        self.index as usize
     }
 }

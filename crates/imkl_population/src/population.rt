@@ -1,18 +1,19 @@
 //! Finished populations.
 
-ghost use Rattle.std.specs.Prelude.{◌≡◌, ◌<◌, ◌≤◌, ℕ, true, false, length, slice_range, slice_index, All, IfOk};
+ghost use Rattle.std.specs.Prelude.{◌≡◌, ◌<◌, ◌≤◌, true, false, length, slice_range, All, IfOk};
 ghost use Rattle.imkl_model.specs.ClassModel.{feature_at, belongs};
 ghost use Rattle.imkl_model.specs.Features.{is_opposite};
 ghost use Rattle.imkl_population.specs.Population.{object_at, class_of, values_of, instances, IsInstance};
 ghost use Rattle.imkl_population.specs.Consistency.{IsConsistent};
-ghost use Rattle.imkl_population.specs.FinishedPopulation.{AreValueRanges, AreInstanceRanges};
+ghost use Rattle.imkl_population.specs.FinishedPopulation.{AreValueRanges, AreInstanceRanges, range_at, instance_range_at};
 ghost use Rattle.imkl_population.specs.Sizes.{list_below, count_of, longest_below, longest_of, sizes_of};
 
+use crate::column_ranges::{ColumnRanges, longest_at, range_at};
 use crate::numbers::ObjectNo;
 use crate::object::Head;
 use crate::scalar::Scalar;
 use crate::sizes::{Sizes, is_unbounded};
-use crate::store::{Segment, Store};
+use crate::store::Segment;
 use imkl_model::{ClassModel, ClassNo, FeatureNo};
 use std::alloc::{AllocError, Global};
 use std::marker::Model;
@@ -23,25 +24,26 @@ use std::marker::Model;
 pub struct Population<'m> {
     pub(crate) model: &'m ClassModel,
     pub(crate) heads: Vec<Head>,
-    pub(crate) written: Store,
-    pub(crate) ends: Store,
+    pub(crate) scalars: Vec<Scalar>,
+    pub(crate) written: Vec<ColumnRanges>,
+    pub(crate) ends: Vec<ColumnRanges>,
     pub(crate) instances: Vec<ObjectNo>,
     pub(crate) ranges: Vec<Segment>,
 }
 
 impl<'m> Model for Population<'m> {
     ghost use Rattle.imkl_population.specs.FinishedPopulation.{FinishedPopulation};
-    ghost use Rattle.imkl_population.specs.Store.{maps_of};
+    ghost use Rattle.imkl_population.specs.Store.{maps_in};
     ghost use Rattle.imkl_population.specs.Layout.{stored_content, finished_of, IsFinished};
 
     ghost Value = { FinishedPopulation };
 
-    ghost view = { λ p. finished_of p.model.now p.heads.items p.written p.ends
-        p.instances.items p.ranges.items };
+    ghost view = { λ p. finished_of p.model.now p.heads.items p.scalars.items p.written.items
+        p.ends.items p.instances.items p.ranges.items };
 
-    ghost invariant = { λ p.
-        IsFinished (stored_content p.model.now p.heads.items (maps_of p.written))
-        (maps_of p.written) p.ends p.instances.items p.ranges.items };
+    ghost invariant = { λ p. IsFinished
+        (stored_content p.model.now p.heads.items (maps_in p.scalars.items p.written.items))
+        p.scalars.items p.written.items p.ends.items p.instances.items p.ranges.items };
 }
 
 impl<'m> Population<'m> {
@@ -57,8 +59,7 @@ impl<'m> Population<'m> {
         ensures values { AreValueRanges self.now }
         ensures instances { AreInstanceRanges self.now }
     {
-        self.written.within();
-        self.ends.within();
+        let _scalars = &self.scalars;
     }
 
     /// The class model.
@@ -104,10 +105,46 @@ impl<'m> Population<'m> {
             feature ≡ true }
         ensures { result.now ≡ values_of self.now.content object feature }
     {
+        self.ranges();
+        part_of(&self.scalars, self.values_range(object, feature))
+    }
+
+    /// The values of all features of all objects. What another value replaced may stand here too,
+    /// outside the range of any feature.
+    pub fn scalars(&self) -> &[Scalar]
+        ensures { result.now ≡ self.now.scalars }
+    {
+        self.scalars.as_slice()
+    }
+
+    /// Where the values of a feature that belongs to the object's class stand among all values:
+    /// from the first place to before the second.
+    pub fn range(&self, object: ObjectNo, feature: FeatureNo) -> (usize, usize)
+        requires object { object < length self.now.content.objects }
+        requires feature { feature < length self.now.content.model.features }
+        requires belongs { belongs self.now.content.model (class_of self.now.content object)
+            feature ≡ true }
+        ensures start { result.0 ≡ (range_at self.now object feature).start }
+        ensures end { result.1 ≡ (range_at self.now object feature).end }
+        ensures ordered { result.0 ≤ result.1 }
+        ensures within { result.1 ≤ length self.now.scalars }
+        ensures values { slice_range self.now.scalars result.0 result.1 ≡
+            values_of self.now.content object feature }
+    {
+        self.ranges();
+        let range = self.values_range(object, feature);
+        (range.start, range.end)
+    }
+
+    fn values_range(&self, object: ObjectNo, feature: FeatureNo) -> Segment
+        requires object { object < length self.now.content.objects }
+        requires feature { feature < length self.now.content.model.features }
+        ensures { result ≡ range_at self.now object feature }
+    {
         if self.model.feature_info(feature).role.is_opposite() {
-            self.ends.get(feature.index(), object.index())
+            range_at(&self.ends, feature.index(), object.index())
         } else {
-            self.written.get(feature.index(), object.index())
+            range_at(&self.written, feature.index(), object.index())
         }
     }
 
@@ -117,15 +154,38 @@ impl<'m> Population<'m> {
         ensures objects { result.now ≡ instances self.now.content class }
         ensures each { All (IsInstance self.now.content class) result.now }
     {
-        self.range_of(class)
+        self.ranges();
+        part_of(&self.instances, self.class_range(class))
     }
 
-    fn range_of(&self, class: ClassNo) -> &[ObjectNo]
-        requires { class < length self.now.content.model.classes }
-        ensures { result.now ≡ instances self.now.content class }
+    /// The instances of all classes. Classes with the same instances may share a part.
+    pub fn instance_list(&self) -> &[ObjectNo]
+        ensures { result.now ≡ self.now.instance_list }
     {
-        let range = self.ranges[class.index()];
-        objects_in(&self.instances, range)
+        self.instances.as_slice()
+    }
+
+    /// Where the instances of a class stand among those of all classes: from the first place to
+    /// before the second.
+    pub fn instance_range(&self, class: ClassNo) -> (usize, usize)
+        requires { class < length self.now.content.model.classes }
+        ensures start { result.0 ≡ (instance_range_at self.now class).start }
+        ensures end { result.1 ≡ (instance_range_at self.now class).end }
+        ensures ordered { result.0 ≤ result.1 }
+        ensures within { result.1 ≤ length self.now.instance_list }
+        ensures instances { slice_range self.now.instance_list result.0 result.1 ≡
+            instances self.now.content class }
+    {
+        self.ranges();
+        let range = self.class_range(class);
+        (range.start, range.end)
+    }
+
+    fn class_range(&self, class: ClassNo) -> Segment
+        requires { class < length self.now.content.model.classes }
+        ensures { result ≡ instance_range_at self.now class }
+    {
+        self.ranges[class.index()]
     }
 
     /// The sizes of the population: how many objects each class has, and how long the values of
@@ -175,7 +235,7 @@ impl<'m> Population<'m> {
         ensures { result ≡ longest_below self.now.content feature (length
             self.now.content.objects) }
     {
-        self.written.longest(feature.index())
+        longest_at(&self.written, feature.index())
     }
 
     /// The greatest length of each attribute without upper bound.
@@ -192,9 +252,9 @@ impl<'m> Population<'m> {
     }
 }
 
-fn objects_in(objects: &[ObjectNo], range: Segment) -> &[ObjectNo]
-    requires { (range.start ≤ range.end) × (range.end ≤ length objects.now) }
-    ensures { result.now ≡ slice_range objects.now range.start range.end }
+fn part_of<T>(list: &[T], range: Segment) -> &[T]
+    requires { (range.start ≤ range.end) × (range.end ≤ length list.now) }
+    ensures { result.now ≡ slice_range list.now range.start range.end }
 {
-    &objects[range.start..range.end]
+    &list[range.start..range.end]
 }

@@ -1,6 +1,6 @@
 //! Where in a column an object's entry is guessed to stand, without a search.
 
-use crate::column::Entry;
+use crate::entries::Entry;
 use std::alloc::{AllocError, Global};
 
 /// How many entries come before those of 64 objects in a row, and a bit for each of these that has one.

@@ -1,13 +1,14 @@
 //! The values of all objects, feature by feature.
 
-ghost use Rattle.std.specs.Prelude.{◌≡◌, ◌<◌, ◌≤◌, ◌++◌, ◌∷◌, ◌==◌, ℕ, [], false, length, All, IfOk, OnOk, OnErr, if◌then◌else◌};
+ghost use Rattle.std.specs.Prelude.{◌≡◌, ◌<◌, ◌≤◌, ◌++◌, ◌∷◌, ◌==◌, ℕ, [], false, length, min, All, IfOk, OnOk, OnErr, if◌then◌else◌};
 ghost use Rattle.std.specs.Ordering.{nat_cmp};
 ghost use Rattle.std.specs.BTreeMap.{insert_entry};
 ghost use Rattle.imkl_population.specs.Written.{written_in, IsMap};
 ghost use Rattle.imkl_population.specs.Values.{is_over};
-ghost use Rattle.imkl_population.specs.Store.{AreRangesWithin, map_of, maps_of, column_at, object_row, longest_in, pairs_in};
+ghost use Rattle.imkl_population.specs.Store.{AreRangesWithin, maps_of, column_at, object_row, pairs_in, ranges_from, scalars_of};
 
 use crate::column::Column;
+use crate::column_ranges::ColumnRanges;
 use crate::scalar::Scalar;
 use std::alloc::{AllocError, Global};
 use std::marker::Model;
@@ -183,15 +184,33 @@ impl Store {
         }
     }
 
-    /// The greatest number of values of an object at a feature.
-    pub(crate) fn longest(&self, feature: usize) -> usize
-        ensures longest { result ≡ longest_in (column_at self.now feature) }
-        ensures map { IsMap (column_at self.now feature) }
+    /// How many values there are in all columns, `usize::MAX` where there are more.
+    pub(crate) fn value_count(&self) -> usize
+        ensures { result ≡ min (length (scalars_of self.now)) usize.MAX }
     {
-        match self.columns.get(feature) {
-            Some(column) => column.longest(),
-            None => 0,
+        let mut count = 0usize;
+        for column in self.columns.as_slice() {
+            count = count.saturating_add(column.value_count());
         }
+        count
+    }
+
+    /// Moves the values of all columns to the end of a list, column after column, and answers where
+    /// each object's stand. A column's own memory is given back before the next one is moved.
+    pub(crate) fn into_ranges(
+        self,
+        alloc: Global,
+        list: &mut Vec<Scalar>,
+    ) -> Result<Vec<ColumnRanges>, AllocError>
+        ensures moved { OnOk result (list.new.items ≡ list.old.items ++ scalars_of self) }
+        ensures ranges { IfOk result (λ v. v.items ≡ ranges_from (length list.old.items) self) }
+    {
+        let Store { columns } = self;
+        let mut ranges = Vec::with_capacity(alloc, columns.len())?;
+        for column in columns {
+            ranges.push(column.into_ranges(list)?)?;
+        }
+        Ok(ranges)
     }
 
     /// The first object that has more values at a feature than an upper bound, if there is one, or

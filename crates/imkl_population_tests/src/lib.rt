@@ -12,6 +12,8 @@ mod limits;
 #[cfg(test)]
 mod names;
 #[cfg(test)]
+mod ranges;
+#[cfg(test)]
 mod reads;
 #[cfg(test)]
 mod requirements;

@@ -24,6 +24,11 @@ fn literal(model: &ClassModel, name: &str) -> Option<(EnumNo, LiteralNo)> {
     }
 }
 
+/// An object by its number, which has 32 bits.
+pub(crate) fn object_number(index: &str) -> Option<ObjectNo> {
+    Some(ObjectNo::new(index.parse::<u32>().ok()? as usize))
+}
+
 /// A value: `true`, `-7`, `'gas`, `Thema::gas`, or `@2` for an object by its number.
 fn scalar(alloc: Global, model: &ClassModel, word: &str) -> Option<Scalar> {
     if let Some(text) = word.strip_prefix('\'') {
@@ -31,8 +36,7 @@ fn scalar(alloc: Global, model: &ClassModel, word: &str) -> Option<Scalar> {
         return Some(Scalar::Text(ScalarText::new(text)));
     }
     if let Some(index) = word.strip_prefix('@') {
-        let index = index.parse::<usize>().ok()?;
-        return Some(Scalar::Object(ObjectNo::new(index)));
+        return Some(Scalar::Object(object_number(index)?));
     }
     if let Ok(number) = word.parse::<i64>() {
         return Some(Scalar::Int(number));
@@ -59,7 +63,7 @@ pub(crate) fn scalars(alloc: Global, model: &ClassModel, words: &str) -> Option<
 /// An object by its id, or by its number, as `@5`.
 fn object(builder: &PopulationBuilder<'_>, word: &str) -> Option<ObjectNo> {
     match word.strip_prefix('@') {
-        Some(index) => Some(ObjectNo::new(index.parse::<usize>().ok()?)),
+        Some(index) => object_number(index),
         None => builder.object(word),
     }
 }
@@ -80,7 +84,7 @@ pub(crate) fn objects(
 /// A fault with its place, as `TooFew 4 Kabel.themas`.
 fn placed_fault(model: &ClassModel, name: &str, place: &str) -> Option<PopulationFault> {
     let (object, feature_name) = place.split_once(' ')?;
-    let object = ObjectNo::new(object.parse::<usize>().ok()?);
+    let object = object_number(object)?;
     let feature = feature(model, feature_name)?;
     match name {
         "TooFew" => Some(PopulationFault::TooFew { object, feature }),

@@ -1,8 +1,11 @@
 //! Reads of a finished population.
 
-ghost use Rattle.std.specs.Prelude.{◌<◌, length, IfSome};
+ghost use Rattle.std.specs.Prelude.{◌≡◌, ◌<◌, true, length, IfSome};
+ghost use Rattle.imkl_model.specs.ClassModel.{belongs};
+ghost use Rattle.imkl_population.specs.Population.{class_of};
 
-use crate::names::feature;
+use crate::names::{feature, object_number};
+use imkl_model::FeatureNo;
 use imkl_population::{ObjectNo, Population, Scalar, Sizes};
 use std::alloc::Global;
 
@@ -10,22 +13,38 @@ use std::alloc::Global;
 fn object(population: &Population<'_>, index: &str) -> Option<ObjectNo>
     ensures { IfSome result (λ o. o < length population.now.content.objects) }
 {
-    let index = index.parse::<usize>().ok()?;
-    if index < population.objects() {
-        Some(ObjectNo::new(index))
+    let object = object_number(index)?;
+    if object.index() < population.objects() {
+        Some(object)
     } else {
         None
     }
 }
 
-/// The values of a feature of an object: `INDEX FEATURE`.
-fn values<'p>(population: &'p Population<'_>, words: &str) -> Option<&'p [Scalar]> {
+/// An object and a feature of it: `INDEX FEATURE`.
+fn place(population: &Population<'_>, words: &str) -> Option<(ObjectNo, FeatureNo)>
+    ensures { IfSome result (λ r. (r.0 < length population.now.content.objects)
+        × (r.1 < length population.now.content.model.features)
+        × (belongs population.now.content.model (class_of population.now.content r.0) r.1 ≡ true)) }
+{
     let (index, name) = words.split_once(' ')?;
     let object = object(population, index)?;
-    let feature = population
-        .model()
-        .feature(population.class_of(object), name)?;
+    let class = population.class_of(object);
+    let feature = population.model().feature(class, name)?;
+    Some((object, feature))
+}
+
+/// The values of a feature of an object: `INDEX FEATURE`.
+fn values<'p>(population: &'p Population<'_>, words: &str) -> Option<&'p [Scalar]> {
+    let (object, feature) = place(population, words)?;
     Some(population.values(object, feature))
+}
+
+/// What stands among all values at the range of a feature of an object: `INDEX FEATURE`.
+fn values_in_range<'p>(population: &'p Population<'_>, words: &str) -> Option<&'p [Scalar]> {
+    let (object, feature) = place(population, words)?;
+    let (start, end) = population.range(object, feature);
+    Some(&population.scalars()[start..end])
 }
 
 /// Whether a value is the one that a word writes; an object is written by its id.
@@ -80,6 +99,23 @@ fn has_instances(population: &Population<'_>, class: &str, answer: &str) -> Opti
     Some(are_objects(population, population.instances(class), answer))
 }
 
+/// Whether the objects whose ids are the words stand among all instances at the range of a class: `instance_range CLASS`.
+fn has_range(population: &Population<'_>, class: &str, answer: &str) -> Option<bool> {
+    let class = population.model().class(class)?;
+    let (start, end) = population.instance_range(class);
+    let objects = &population.instance_list()[start..end];
+    Some(are_objects(population, objects, answer))
+}
+
+/// Whether two classes share a range, `yes` or `no`: `same_range CLASS CLASS`.
+fn shares_range(population: &Population<'_>, classes: &str, answer: &str) -> Option<bool> {
+    let (class, other) = classes.split_once(' ')?;
+    let class = population.model().class(class)?;
+    let other = population.model().class(other)?;
+    let is_same = population.instance_range(class) == population.instance_range(other);
+    Some(answer.trim() == if is_same { "yes" } else { "no" })
+}
+
 /// What the sizes say of a class, `count CLASS`, or of a feature, `longest CLASS.FEATURE`.
 fn size_of(sizes: &Sizes<'_>, verb: &str, name: &str) -> Option<u64> {
     match verb {
@@ -105,7 +141,10 @@ fn is_so(alloc: Global, population: &Population<'_>, row: &str) -> Option<bool> 
             Some(population.model().class_name(class) == answer.trim())
         }
         "values" => Some(are_values(population, values(population, words)?, answer)),
+        "range" => Some(are_values(population, values_in_range(population, words)?, answer)),
         "instances" => has_instances(population, words, answer),
+        "instance_range" => has_range(population, words, answer),
+        "same_range" => shares_range(population, words, answer),
         _ => Some(size(alloc, population, verb, words)? == answer.trim().parse::<u64>().ok()?),
     }
 }

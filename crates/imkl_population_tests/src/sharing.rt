@@ -26,6 +26,13 @@ instances Put: p q
 instances Gasstation: r s
 instances Regelstation: r s
 instances Mast:
+instance_range Net: r p s q
+instance_range Gasstation: r s
+instance_range Mast:
+same_range Net Gebied: yes
+same_range Station Regelstation: yes
+same_range Station Put: no
+same_range Net Station: no
 count Net: 4
 count Gebied: 4
 count Gasstation: 2

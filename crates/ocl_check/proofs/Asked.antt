@@ -1,5 +1,5 @@
 -- What is answered by the form in which rules come, and what is said of inputs that are read one after another.
-use Rattle.std.proofs.Common.{◌≡◌, ℕ, Bool, List, Option, refl, sym, subst}
+use Rattle.std.proofs.Common.{◌≡◌, ℕ, Bool, false, List, Option, refl, sym, subst}
 use Rattle.ocl_check.specs.declared.outcome.Outcome.{Outcome}
 use Rattle.ocl_check.specs.declared.commands.judge.RulesForm.{RulesForm}
 use Rattle.ocl_check.specs.declared.commands.judge.RulesForm.TheVariants as form
@@ -10,7 +10,7 @@ use Rattle.ocl_check.specs.ThreeInputs.{inputs_answer}
 use Rattle.ocl_check.specs.TextReading.{TextReading, ReadsAs}
 use Rattle.ocl_check.specs.JudgeText.{JudgeAnswersBy, text_answer}
 use Rattle.imkl_population.specs.Population.{Population}
-use Rattle.ocl_check.specs.Asking.{ReadingFor, answer_by, asked_by}
+use Rattle.ocl_check.specs.Asking.{ReadingFor, answer_by, asked_by, is_whole_asked}
 use Rattle.ocl_check.specs.Ending.{IsEnding}
 
 -- what follows of each input's bytes follows of those that were read
@@ -42,17 +42,17 @@ judge_is_answered asked f budget same model delivery rules old new o h =
 
 -- a text's answer is what is answered where a text is asked about
 pub text_is_asked : {S : Type 0} (contents : S → Option (List ℕ)) (has_failed : S → Bool) (asked : Asked) (budget : ℕ) → asked ≡ Text budget → (rules : List ℕ) (p : Population) (old : S) (o : Outcome) (new : S)
-    → ((t : TextReading) × ReadsAs rules t × IsEnding contents has_failed (text_answer budget t p) old o new)
-    → (reading : ReadingFor asked rules) × IsEnding contents has_failed (answer_by asked rules reading p) old o new
+    → ((t : TextReading) × ReadsAs rules t × IsEnding contents has_failed false (text_answer budget t p) old o new)
+    → (reading : ReadingFor asked rules) × IsEnding contents has_failed (is_whole_asked asked) (answer_by asked rules reading p) old o new
 text_is_asked contents has_failed asked budget is rules p old o new h =
-    subst (λ (a : Asked). (reading : ReadingFor a rules) × IsEnding contents has_failed (answer_by a rules reading p) old o new) (sym is) ((h.0, h.1), h.2)
+    subst (λ (a : Asked). (reading : ReadingFor a rules) × IsEnding contents has_failed (is_whole_asked a) (answer_by a rules reading p) old o new) (sym is) ((h.0, h.1), h.2)
 
 -- ---- equal inputs
 
 module _ {S : Type 0} (contents : S → Option (List ℕ)) (has_failed : S → Bool) (asked : Asked) (old : S) (o : Outcome) (new : S) where
   abbrev Ended : List ℕ → List ℕ → List ℕ → Type 0
   Ended model delivery rules =
-      (reading : ReadingFor asked rules) × IsEnding contents has_failed (inputs_answer (answer_by asked rules reading) model delivery) old o new
+      (reading : ReadingFor asked rules) × IsEnding contents has_failed (is_whole_asked asked) (inputs_answer (answer_by asked rules reading) model delivery) old o new
 
   -- inputs that are equal are answered alike
   pub ended_alike : (model delivery rules model' delivery' rules' : List ℕ) → model ≡ model' → delivery ≡ delivery' → rules ≡ rules' → Ended model delivery rules → Ended model' delivery' rules'

@@ -1,5 +1,6 @@
 -- What compiling came to, and what is written of it.
-use Rattle.std.proofs.Common.{◌≡◌, ◌≢◌, ℕ, Bool, true, false, List, take, Option, Some, None, Result, Ok, Err, IfOk, refl, sym, ap, ◌∙◌, subst}
+use Rattle.std.proofs.Common.{◌≡◌, ℕ, Bool, true, false, List, take, Option, Some, None, Result, Ok, Err, IfOk, IsOk, refl, sym, ap, ◌∙◌, subst}
+use Rattle.std.proofs.lemmas.Bool.{false≢true}
 use Rattle.std.proofs.lemmas.Option.{none-some}
 use Rattle.std.specs.Io.KnownBytes.{Appends}
 use Rattle.imkl_model.specs.ClassModel.{Model}
@@ -10,15 +11,17 @@ use Rattle.rule_code.specs.Spelling.{spelling}
 use Rattle.ocl_check.specs.declared.reply.Reply as reply
 use Rattle.ocl_check.specs.declared.outcome.CommandFault.{CommandFault}
 use Rattle.ocl_check.specs.declared.outcome.CommandFault.TheVariants.{OutOfMemory, Read, Write}
-use Rattle.ocl_check.specs.declared.outcome.Outcome.TheVariants.{Failed}
+use Rattle.ocl_check.specs.declared.outcome.Outcome.{Outcome}
+use Rattle.ocl_check.specs.declared.outcome.Outcome.TheVariants.{Status, Failed}
 use Rattle.ocl_check.specs.declared.commands.compile.Compiled.{Compiled}
 use Rattle.ocl_check.specs.declared.commands.compile.Compiled.TheVariants as compiled
+use Rattle.ocl_check.specs.Answers.{is_write}
 use Rattle.ocl_check.specs.Reply.{Answer, said}
 use Rattle.ocl_check.specs.TextReading.{TextReading, ReadsAs}
 use Rattle.ocl_check.specs.ThreeInputs.{model_of}
 use Rattle.ocl_check.specs.CompiledRules.{CompiledRules, TextRefusal, compiled_rules}
-use Rattle.ocl_check.specs.Compile.{CompileAnswer, nothing_compiled, compiled_code, compiled_answer, compile_model_answer, compile_answer, HasUnit, HasUnitFor, WholeUnless, IsCodeWritten}
-use Rattle.ocl_check.specs.TextParts.{IsUnitOf, compiled_seen, IsRefusalOf}
+use Rattle.ocl_check.specs.Compile.{CompileAnswer, nothing_compiled, compiled_code, compiled_answer, compile_model_answer, compile_answer, HasUnit, HasUnitFor, WholeUnless, IsCodeWritten, IsOfUnit}
+use Rattle.ocl_check.specs.TextParts.{IsUnitOf, compiled_seen, is_ended, IsRefusalOf}
 
 -- one answer for another that is equal
 pub seen_as : {E : Type 0} (result : Result Compiled E) (a b : CompileAnswer) → a ≡ b → IfOk result (λ c. compiled_seen c ≡ a) → IfOk result (λ c. compiled_seen c ≡ b)
@@ -61,18 +64,24 @@ refusal_unless (Ok r) C a b same h other = ap nothing_compiled h ∙ same other
 refusal_unless (Err e) C a b same h other = tt
 
 -- equal inputs are compiled alike
-pub compiled_alike : (c : Compiled) (model rules model' rules' : List ℕ) → model ≡ model' → rules ≡ rules' → ((t : TextReading) × ReadsAs rules t × (compiled_seen c ≡ compile_answer model t) × HasUnitFor (model_of model) t)
-    → (t : TextReading) × ReadsAs rules' t × (compiled_seen c ≡ compile_answer model' t) × HasUnitFor (model_of model') t
-compiled_alike c model rules model' rules' m r h =
-    subst (λ (x : List ℕ). (t : TextReading) × ReadsAs x t × (compiled_seen c ≡ compile_answer model' t) × HasUnitFor (model_of model') t) r
-    (subst (λ (x : List ℕ). (t : TextReading) × ReadsAs rules t × (compiled_seen c ≡ compile_answer x t) × HasUnitFor (model_of x) t) m h)
+abbrev IsCompiled : {E : Type 0} → Result Compiled E → List ℕ → List ℕ → Type 0
+IsCompiled result model rules = (t : TextReading) × ReadsAs rules t × IfOk result (λ c. compiled_seen c ≡ compile_answer model t) × IfOk result (λ c. HasUnitFor (model_of model) t)
+
+pub compiled_alike : {E : Type 0} (result : Result Compiled E) (model rules model' rules' : List ℕ) → model ≡ model' → rules ≡ rules' → IsCompiled result model rules → IsCompiled result model' rules'
+compiled_alike result model rules model' rules' m r h = subst (IsCompiled result model') r (subst (λ (x : List ℕ). IsCompiled result x rules) m h)
+
+-- where a command ends with a status, something was compiled, and its unit is one
+pub of_unit : {E : Type 0} (o : Outcome) (result : Result Compiled E) (model : List ℕ) (t : TextReading) → (is_ended o ≡ true → IsOk result) → IfOk result (λ c. HasUnitFor (model_of model) t) → IsOfUnit o model t
+of_unit (Status s) (Ok c) model t ended h = h
+of_unit (Status s) (Err e) model t ended h = absurd (false≢true (ended refl))
+of_unit (Failed fault) result model t ended h = tt
 
 -- nothing is written where a command failed before it began
-pub nothing_written : {S : Type 0} (contents : S → Option (List ℕ)) (has_failed : S → Bool) (code : Option (List ℕ)) (s : S) (fault : CommandFault) → fault ≢ Write → IsCodeWritten contents has_failed code s s (Failed fault)
+pub nothing_written : {S : Type 0} (contents : S → Option (List ℕ)) (has_failed : S → Bool) (code : Option (List ℕ)) (s : S) (fault : CommandFault) → is_write fault ≡ false → IsCodeWritten contents has_failed code s s (Failed fault)
 nothing_written contents has_failed None s fault other = refl
 nothing_written contents has_failed (Some code) s OutOfMemory other = refl
 nothing_written contents has_failed (Some code) s Read other = refl
-nothing_written contents has_failed (Some code) s Write other = absurd (other refl)
+nothing_written contents has_failed (Some code) s Write other = absurd (false≢true (sym other))
 
 -- a sink that failed took a prefix
 pub failed_prefix : (failed : Bool) (old new : Option (List ℕ)) (code : List ℕ) → failed ≡ true → ((n : ℕ) × Appends old new (take n code)) → WholeUnless failed old new code

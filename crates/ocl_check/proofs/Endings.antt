@@ -1,17 +1,83 @@
 -- How a part of a command ends.
-use Rattle.std.proofs.Common.{◌≡◌, ◌≤◌, ℕ, Bool, List, length, Option, subst}
+use Rattle.std.proofs.Common.{◌≡◌, ◌≤◌, ℕ, Bool, true, false, List, length, Option, Result, Ok, Err, refl, sym, ap, ◌∙◌, subst}
+use Rattle.std.proofs.lemmas.Bool.{false≢true}
+use Rattle.ocl_base.proofs.ForAbove.{not_okay}
+use Rattle.ocl_check.specs.declared.input.InputFault.{InputFault}
+use Rattle.ocl_check.specs.declared.input.InputFault.TheVariants as input
+use Rattle.ocl_check.specs.declared.outcome.CommandFault.{CommandFault}
+use Rattle.ocl_check.specs.declared.outcome.CommandFault.TheVariants.{OutOfMemory, Read, Write}
 use Rattle.ocl_check.specs.declared.outcome.Outcome.{Outcome}
 use Rattle.ocl_check.specs.declared.outcome.Outcome.TheVariants.{Status, Failed}
 use Rattle.ocl_check.specs.Reply.{Answer}
-use Rattle.ocl_check.specs.Answers.{IsWithin, most_bytes}
-use Rattle.ocl_check.specs.Ending.{IsEnding}
+use Rattle.ocl_check.specs.Answers.{IsWithin, KeepsSink, KeepsUnread, input_failure, is_read, is_write, most_bytes}
+use Rattle.ocl_check.specs.Ending.{IsEnding, KeepsBy}
+
+-- what came of reading inputs
+abbrev unread : {X : Type 0} → InputFault → Result X InputFault
+unread f = Err f
+
+abbrev had : {X : Type 0} → X → Result X InputFault
+had x = Ok x
 
 -- one answer for another that is equal
-pub ending_as : {S : Type 0} {contents : S → Option (List ℕ)} {has_failed : S → Bool} {a b : Answer} {old new : S} {o : Outcome}
-    → a ≡ b → IsEnding contents has_failed a old o new → IsEnding contents has_failed b old o new
-ending_as {S} {contents} {has_failed} {a} {b} {old} {new} {o} same h = subst (λ (x : Answer). IsEnding contents has_failed x old o new) same h
+pub ending_as : {S : Type 0} {contents : S → Option (List ℕ)} {has_failed : S → Bool} {is_whole : Bool} {a b : Answer} {old new : S} {o : Outcome}
+    → a ≡ b → IsEnding contents has_failed is_whole a old o new → IsEnding contents has_failed is_whole b old o new
+ending_as {S} {contents} {has_failed} {is_whole} {a} {b} {old} {new} {o} same h = subst (λ (x : Answer). IsEnding contents has_failed is_whole x old o new) same h
 
 -- an input within the limit is within it however the command ends
 pub within : (o : Outcome) (xs : List ℕ) → length xs ≤ most_bytes → IsWithin o xs
 within (Status s) xs h = h
 within (Failed fault) xs h = tt
+
+-- ---- what stays of a sink
+
+-- an answer that is put together whole
+pub kept_whole : {S : Type 0} (o : Outcome) (old new : S) → KeepsBy true o old new → KeepsSink o old new
+kept_whole (Status s) old new h = tt
+kept_whole (Failed OutOfMemory) old new h = h refl
+kept_whole (Failed Read) old new h = h
+kept_whole (Failed Write) old new h = tt
+
+-- any answer
+pub kept_unread : {S : Type 0} (is_whole : Bool) (o : Outcome) (old new : S) → KeepsBy is_whole o old new → KeepsUnread o old new
+kept_unread is_whole (Status s) old new h = tt
+kept_unread is_whole (Failed OutOfMemory) old new h = tt
+kept_unread is_whole (Failed Read) old new h = h
+kept_unread is_whole (Failed Write) old new h = tt
+
+-- a command that failed before its first byte keeps its sink
+pub kept_untouched : {S : Type 0} (is_whole : Bool) (c : CommandFault) (s : S) → KeepsBy is_whole (Failed c) s s
+kept_untouched is_whole OutOfMemory s = λ whole. refl
+kept_untouched is_whole Read s = refl
+kept_untouched is_whole Write s = tt
+
+pub untouched : {S : Type 0} (c : CommandFault) (s : S) → KeepsSink (Failed c) s s
+untouched OutOfMemory s = refl
+untouched Read s = refl
+untouched Write s = tt
+
+-- ---- inputs that can't be had
+
+input_no_write : (f : InputFault) → is_write (input_failure f) ≡ false
+input_no_write input.Read = refl
+input_no_write input.OutOfMemory = refl
+
+-- a command that fails for an input doesn't fail for a write
+pub no_write : (c : CommandFault) (f : InputFault) → c ≡ input_failure f → is_write c ≡ false
+no_write c f is = ap is_write is ∙ input_no_write f
+
+input_is_read : (f : InputFault) → is_read (input_failure f) ≡ true → f ≡ input.Read
+input_is_read input.Read h = refl
+input_is_read input.OutOfMemory h = absurd (false≢true h)
+
+-- it fails for a read only where the input can't be read
+pub failed_read : {X : Type 0} (c : CommandFault) (f : InputFault) → c ≡ input_failure f → is_read c ≡ true → unread {X = X} f ≡ unread input.Read
+failed_read c f is h = ap unread (input_is_read f (sym (ap is_read is) ∙ h))
+
+-- and there it does
+pub read_fails : {X : Type 0} (c : CommandFault) (f : InputFault) → c ≡ input_failure f → unread {X = X} f ≡ unread input.Read → is_read c ≡ true
+read_fails c f is h = let same : f ≡ input.Read = cc in ap is_read (is ∙ ap input_failure same)
+
+-- inputs that were read didn't fail
+pub was_read : {X : Type 0} (x : X) → had x ≡ unread input.Read → ⊥
+was_read x h = not_okay input.Read x (sym h)

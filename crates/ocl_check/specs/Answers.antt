@@ -1,5 +1,5 @@
 -- How a command ends, and what it has read and written then.
-use Rattle.std.specs.Prelude.{◌≡◌, ◌≤◌, ℕ, Bool, true, false, List, length, take, Option, Some, None, ⊤, codes}
+use Rattle.std.specs.Prelude.{◌≡◌, ◌≤◌, ◌+◌, ℕ, Bool, true, false, List, length, take, Option, Some, None, ⊤, codes}
 use Rattle.std.specs.Io.KnownBytes.{Appends}
 use Rattle.ocl_check.specs.declared.outcome.Outcome.{Outcome}
 use Rattle.ocl_check.specs.declared.outcome.Outcome.TheVariants.{Status, Failed}
@@ -7,6 +7,7 @@ use Rattle.ocl_check.specs.declared.outcome.CommandFault.{CommandFault}
 use Rattle.ocl_check.specs.declared.outcome.CommandFault.TheVariants.{OutOfMemory, Read, Write}
 use Rattle.ocl_check.specs.declared.input.InputFault.{InputFault}
 use Rattle.ocl_check.specs.declared.input.InputFault.TheVariants as input
+use Rattle.ocl_check.specs.Input.{ConsumesAtMost}
 use Rattle.ocl_check.specs.Reply.{Answer}
 
 -- ---- what is read
@@ -20,10 +21,6 @@ abbrev pub MayHave : Option (List ℕ) → List ℕ → Type 0
 MayHave None xs = ⊤
 MayHave (Some ws) xs = xs ≡ ws
 
--- an input was read whole, and has this fact
-abbrev pub ReadWithin : Option (List ℕ) → (List ℕ → Type 0) → Type 0
-ReadWithin known Fact = (xs : List ℕ) × MayHave known xs × (length xs ≤ most_bytes) × Fact xs
-
 -- where a command ended with a status, its inputs are within the limit
 abbrev pub IsWithin : Outcome → List ℕ → Type 0
 IsWithin (Status s) xs = length xs ≤ most_bytes
@@ -32,6 +29,25 @@ IsWithin (Failed fault) xs = ⊤
 -- an input that a command read, or would have read, has this fact
 abbrev pub ReadBy : Outcome → Option (List ℕ) → (List ℕ → Type 0) → Type 0
 ReadBy outcome known Fact = (xs : List ℕ) × MayHave known xs × IsWithin outcome xs × Fact xs
+
+-- whatever a command answers, at most one byte more than the limit was read of an input, by at most as many reads
+pub record IsReadWithinLimits (old new : Option (List ℕ)) (reads : ℕ) : Type 0 where
+  pub bytes : ConsumesAtMost old new (most_bytes + 1)
+  pub few : reads ≤ most_bytes + 1
+
+-- no read of an input was made, so none has failed
+abbrev pub IsUnread : Bool → ℕ → Type 0
+IsUnread has_failed reads = (has_failed ≡ false) × (reads ≡ 0)
+
+abbrev pub is_read : CommandFault → Bool
+is_read OutOfMemory = false
+is_read Read = true
+is_read Write = false
+
+-- the command failed for a read
+abbrev pub fails_read : Outcome → Bool
+fails_read (Status s) = false
+fails_read (Failed fault) = is_read fault
 
 -- ---- what is written
 
@@ -54,7 +70,14 @@ abbrev pub fails_write : Outcome → Bool
 fails_write (Status s) = false
 fails_write (Failed fault) = is_write fault
 
--- the sink is as it was where memory or a read failed
+-- The sink is as it was where a read failed. Where memory ran out it may have taken a prefix of the answer.
+abbrev pub KeepsUnread : {S : Type 0} → Outcome → S → S → Type 0
+KeepsUnread (Status s) old new = ⊤
+KeepsUnread (Failed OutOfMemory) old new = ⊤
+KeepsUnread (Failed Read) old new = new ≡ old
+KeepsUnread (Failed Write) old new = ⊤
+
+-- The sink is as it was where memory or a read failed: the answer is put together whole before its first byte is written.
 abbrev pub KeepsSink : {S : Type 0} → Outcome → S → S → Type 0
 KeepsSink (Status s) old new = ⊤
 KeepsSink (Failed OutOfMemory) old new = new ≡ old

@@ -1,5 +1,5 @@
 -- What is asked of a population and rules, and what is answered.
-use Rattle.std.specs.Prelude.{ℕ, List}
+use Rattle.std.specs.Prelude.{ℕ, Bool, true, false, List}
 use Rattle.ocl_check.specs.declared.commands.rules.Question.{Question}
 use Rattle.ocl_check.specs.declared.commands.rules.Question.TheVariants.{Report, Bounds}
 use Rattle.ocl_check.specs.declared.commands.rules.Asked.{Asked}
@@ -22,6 +22,15 @@ asked_by form.Text budget = Text budget
 abbrev pub answer_to : Question → UnitAnswer
 answer_to (Report budget) = budget_answer budget
 answer_to Bounds = bounds_answer
+
+-- whether the answer to a question is put together whole before its first byte is written; a report need not be
+abbrev pub is_whole_answer : Question → Bool
+is_whole_answer (Report budget) = false
+is_whole_answer Bounds = true
+
+abbrev pub is_whole_asked : Asked → Bool
+is_whole_asked (Code question) = is_whole_answer question
+is_whole_asked (Text budget) = false
 
 -- a text may be read in several ways where it is refused; there is nothing to choose of a code file
 abbrev pub ReadingFor : Asked → List ℕ → Type 0

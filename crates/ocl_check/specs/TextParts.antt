@@ -1,5 +1,5 @@
 -- What private contracts say of rule texts: what was returned of a reading, and what a fault of the rules of a text means.
-use Rattle.std.specs.Prelude.{◌≡◌, ℕ, List, Some, Result, Ok, Err, ⊤}
+use Rattle.std.specs.Prelude.{◌≡◌, ℕ, Bool, true, false, List, Some, Result, Ok, Err, ⊤}
 use Rattle.ocl_base.specs.Steps.{FaultMeaning, fault, out_of_memory, never, Fails}
 use Rattle.imkl_model.specs.ClassModel.{Model}
 use Rattle.ocl_tokens.specs.declared.fault.TextFault.{TextFault}
@@ -15,6 +15,8 @@ use Rattle.ocl_compile.specs.declared.fault.CompileFault.{CompileFault}
 use Rattle.ocl_compile.specs.declared.fault.CompileFault.TheVariants as limits
 use Rattle.ocl_check.specs.declared.compiled_rules.TextRulesFault.{TextRulesFault}
 use Rattle.ocl_check.specs.declared.compiled_rules.TextRulesFault.TheVariants as rules
+use Rattle.ocl_check.specs.declared.outcome.Outcome.{Outcome}
+use Rattle.ocl_check.specs.declared.outcome.Outcome.TheVariants.{Status, Failed}
 use Rattle.ocl_check.specs.declared.reply.Reply as reply
 use Rattle.ocl_check.specs.declared.commands.compile.Compiled.{Compiled}
 use Rattle.ocl_check.specs.declared.commands.compile.Compiled.TheVariants as compiled
@@ -66,6 +68,11 @@ IsUnitOf m t u = (rs : List CheckedRule) × (compiled_rules m t ≡ Ok (record {
 abbrev pub compiled_seen : Compiled → CompileAnswer
 compiled_seen (compiled.Code code reply) = record { code = Some code.items; said = said reply }
 compiled_seen (compiled.Refused reply) = nothing_compiled (said reply)
+
+-- a command ended with a status
+abbrev pub is_ended : Outcome → Bool
+is_ended (Status s) = true
+is_ended (Failed fault) = false
 
 -- an input is refused by the reply, if there is one
 abbrev pub IsRefusalOf : {E : Type 0} → Result reply.Reply E → Result Compiled E → Type 0

@@ -1,13 +1,14 @@
 //! Reading an input whole.
 
-ghost use Rattle.std.specs.Prelude.{◌≡◌, ◌≤◌, ◌<◌, ◌+◌, ◌^◌, ◌⊎◌, List, ℕ, false, true, OnOk, IfOk, length, is_err};
-ghost use Rattle.std.specs.Io.KnownBytes.{Consumes, IsAtEnd, ReadConsumes};
+ghost use Rattle.std.specs.Prelude.{◌≡◌, ◌≤◌, ◌<◌, ◌+◌, ◌^◌, ◌⊎◌, ◌||◌, List, ℕ, false, true, Err, OnOk, IfOk, length};
+ghost use Rattle.std.specs.Io.KnownBytes.{Consumes, IsAtEnd};
 ghost use Rattle.ocl_check.specs.declared.input.InputFault.TheVariants as fault;
-ghost use Rattle.ocl_check.specs.Input.{ConsumesAtMost, ConsumesMore};
+ghost use Rattle.ocl_check.specs.Input.{ConsumesAtMost, CantBeRead};
+ghost use Rattle.ocl_check.specs.Answers.{IsReadWithinLimits, IsUnread, most_bytes};
+ghost use Rattle.ocl_check.specs.Ending.{IsInput};
 
+use crate::source::Source;
 use std::alloc::Global;
-use std::io;
-use std::io::Read;
 use thiserror::Error;
 
 /// The greatest number of bytes in an input.
@@ -24,55 +25,29 @@ pub enum InputFault {
     OutOfMemory,
 }
 
-/// A reader that counts its reads, and knows whether one has failed. After that none is made.
-#[derive(Drop)]
-struct Counting<'r, R> {
-    reader: &'r mut R,
-    reads: u64,
-    has_failed: bool,
-}
-
-impl<R: Read> Counting<'_, R> {
-    /// One more read.
-    fn read(&mut self, piece: &mut [u8]) -> io::Result<usize>
-        requires well { self.old.has_failed ≡ false }
-        requires few { self.old.reads < 2 ^ 63 }
-        ensures bytes { ReadConsumes (R.remaining self.old.reader.now)
-            (R.remaining self.new.reader.now) result piece.new }
-        ensures bound { IfOk result (λ n. n ≤ length piece.new) }
-        ensures reads { self.new.reads ≡ self.old.reads + 1 }
-        ensures failed { self.new.has_failed ≡ is_err result }
-        ensures same_reader { self.new.reader.ghost_name ≡ self.old.reader.ghost_name }
-    {
-        let read = self.reader.read(piece);
-        self.reads += 1;
-        self.has_failed = read.is_err();
-        read
-    }
-}
-
-/// All bytes of a reader that no read was made of: at most `limit` bytes, in at most `limit + 1` reads.
-fn read_whole<R: Read>(
+/// All bytes of a source that no read was made of, at most `limit`, which is below 2^63. `InputFault::Read`: a read
+/// failed, or there are more bytes; `InputFault::OutOfMemory`: there is no memory for them. Whatever the answer is, at
+/// most `limit + 1` bytes were read, by at most `limit + 1` reads.
+pub fn read_input<R: Source>(
     alloc: Global,
-    source: &mut Counting<'_, R>,
+    source: &mut R,
     limit: u64,
 ) -> Result<Vec<u8>, InputFault>
     requires limit { limit < 2 ^ 63 }
-    requires well { source.old.has_failed ≡ false }
-    requires unread { source.old.reads ≡ 0 }
-    ensures bytes { IfOk result (λ v. Consumes (R.remaining source.old.reader.now)
-        (R.remaining source.new.reader.now) v.items) }
-    ensures end { OnOk result (IsAtEnd (R.remaining source.new.reader.now)) }
+    requires well { R.has_failed source.old ≡ false }
+    requires unread { R.reads source.old ≡ 0 }
+    ensures bytes { IfOk result (λ v. Consumes (R.remaining source.old)
+        (R.remaining source.new) v.items) }
+    ensures end { OnOk result (IsAtEnd (R.remaining source.new)) }
     ensures bound { IfOk result (λ v. length v.items ≤ limit) }
-    ensures consumed { ConsumesAtMost (R.remaining source.old.reader.now)
-        (R.remaining source.new.reader.now) (limit + 1) }
-    ensures reads { source.new.reads ≤ limit + 1 }
-    ensures read_fault { result ≡ Err fault.Read → (source.new.has_failed ≡ true)
-        ⊎ (ConsumesMore (R.remaining source.old.reader.now)
-        (R.remaining source.new.reader.now) limit
-        ⊎ (source.new.reads ≡ limit + 1)) }
-    ensures same_reader { source.new.reader.ghost_name ≡ source.old.reader.ghost_name }
-    ensures memory { result ≡ Err fault.OutOfMemory → source.new.has_failed ≡ false }
+    ensures consumed { ConsumesAtMost (R.remaining source.old) (R.remaining source.new)
+        (limit + 1) }
+    ensures reads { R.reads source.new ≤ limit + 1 }
+    // A failed read is answered only where one failed, there are more bytes, or the reads are used up.
+    ensures read_fault { result ≡ Err fault.Read → CantBeRead limit (R.remaining source.old)
+        (R.remaining source.new) (R.has_failed source.new) (R.reads source.new) }
+    // Where a read failed, that is answered.
+    ensures failed { R.has_failed source.new ≡ true → result ≡ Err fault.Read }
 {
     let mut found = Vec::new(alloc);
     let mut piece = [0u8; 65_536];
@@ -94,22 +69,31 @@ fn read_whole<R: Read>(
     Err(InputFault::Read)
 }
 
-/// All bytes of a reader, at most `limit`, which is below 2^63. `InputFault::Read`: a read failed, or there are more
-/// bytes; `InputFault::OutOfMemory`: there is no memory for them. Whatever the answer is, at most `limit + 1` bytes were
-/// read, by at most `limit + 1` reads.
-pub fn read_input<R: Read>(alloc: Global, reader: &mut R, limit: u64) -> Result<Vec<u8>, InputFault>
-    requires { limit < 2 ^ 63 }
-    ensures bytes { IfOk result (λ v. Consumes (R.remaining reader.old)
-        (R.remaining reader.new) v.items) }
-    ensures end { OnOk result (IsAtEnd (R.remaining reader.new)) }
-    ensures bound { IfOk result (λ v. length v.items ≤ limit) }
-    ensures consumed { ConsumesAtMost (R.remaining reader.old) (R.remaining reader.new)
-        (limit + 1) }
+/// All bytes of two sources, the first read whole before the second is touched.
+pub(crate) fn read_two<A: Source, B: Source>(
+    alloc: Global,
+    first: &mut A,
+    second: &mut B,
+) -> Result<(Vec<u8>, Vec<u8>), InputFault>
+    requires first { IsUnread (A.has_failed first.old) (A.reads first.old) }
+    requires second { IsUnread (B.has_failed second.old) (B.reads second.old) }
+    ensures first { IfOk result (λ i. IsInput (A.remaining first.old) i.0.items) }
+    ensures second { IfOk result (λ i. IsInput (B.remaining second.old) i.1.items) }
+    ensures end { OnOk result (IsAtEnd (B.remaining second.new)) }
+    ensures first_read { IsReadWithinLimits (A.remaining first.old) (A.remaining first.new)
+        (A.reads first.new) }
+    ensures second_read { IsReadWithinLimits (B.remaining second.old) (B.remaining second.new)
+        (B.reads second.new) }
+    ensures read_fault { result ≡ Err fault.Read →
+        CantBeRead most_bytes (A.remaining first.old) (A.remaining first.new)
+        (A.has_failed first.new) (A.reads first.new)
+        ⊎ CantBeRead most_bytes (B.remaining second.old) (B.remaining second.new)
+        (B.has_failed second.new) (B.reads second.new) }
+    ensures failed { (A.has_failed first.new || B.has_failed second.new) ≡ true →
+        result ≡ Err fault.Read }
+    ensures second_waits { IsAtEnd (A.remaining first.new) ⊎ (second.new ≡ second.old) }
 {
-    let mut source = Counting {
-        reader,
-        reads: 0,
-        has_failed: false,
-    };
-    read_whole(alloc, &mut source, limit)
+    let bytes = read_input(alloc, first, MOST_BYTES)?;
+    let more = read_input(alloc, second, MOST_BYTES)?;
+    Ok((bytes, more))
 }

@@ -7,6 +7,7 @@ mod input;
 pub mod laws;
 mod outcome;
 mod reply;
+mod source;
 mod text_reading;
 
 pub use commands::bound::run_bound;
@@ -16,3 +17,4 @@ pub use commands::verify::run_verify;
 pub use input::{InputFault, read_input};
 pub use outcome::{CommandFault, Outcome};
 pub use rule_report::{Sink, Telling};
+pub use source::{Counting, Source};

@@ -1,6 +1,6 @@
 //! How a command ends.
 
-ghost use Rattle.std.specs.Prelude.{◌≡◌, false, IfOk};
+ghost use Rattle.std.specs.Prelude.{◌≡◌, Bool, false, IfOk};
 ghost use Rattle.ocl_check.specs.declared.outcome.CommandFault.TheVariants as fault;
 ghost use Rattle.ocl_check.specs.Reply.{Answer, said};
 ghost use Rattle.ocl_check.specs.Answers.{exit_status, failure_line, input_failure};
@@ -75,10 +75,11 @@ impl From<OutOfMemory> for CommandFault {
     }
 }
 
-/// Writes a reply, and flushes what the sink has buffered.
+/// Writes a reply, and then flushes the sink.
 pub(crate) fn say<S: Sink>(sink: &mut S, reply: &Reply) -> Outcome
     requires { S.has_failed sink.old ≡ false }
-    ensures { IsEnding S.contents S.has_failed (said reply.now) sink.old result sink.new }
+    ensures { (is_whole : Bool) →
+        IsEnding S.contents S.has_failed is_whole (said reply.now) sink.old result sink.new }
 {
     match write_and_flush(sink, reply.text.as_bytes()) {
         Ok(()) => Outcome::Status(reply.status),
@@ -89,8 +90,8 @@ pub(crate) fn say<S: Sink>(sink: &mut S, reply: &Reply) -> Outcome
 /// Writes a reply, if there was memory to make it.
 pub(crate) fn answer<S: Sink>(sink: &mut S, reply: Result<Reply, OutOfMemory>) -> Outcome
     requires { S.has_failed sink.old ≡ false }
-    ensures { (a : Answer) → IfOk reply (λ r. said r ≡ a) →
-        IsEnding S.contents S.has_failed a sink.old result sink.new }
+    ensures { (is_whole : Bool) (a : Answer) → IfOk reply (λ r. said r ≡ a) →
+        IsEnding S.contents S.has_failed is_whole a sink.old result sink.new }
 {
     match reply {
         Ok(reply) => say(sink, &reply),

@@ -54,13 +54,13 @@ fn file<'a>(alloc: Global, name: &'a str, help: &'a str) -> Arg<'a> {
     Arg::new(alloc, name).required(true).help(help)
 }
 
-/// The option of `judge` that limits the steps.
+/// The option of `judge` that limits the work.
 fn budget<'a>(alloc: Global) -> Arg<'a> {
     Arg::new(alloc, "budget")
         .long("budget")
         .value_name("N")
-        .value_parser(value_parser!(u64).range(0..=9_223_372_036_854_775_807))
-        .help("The most steps that a rule may make for an object; 2^63-1 where not given")
+        .value_parser(value_parser!(u64).range(0..=MAX_BUDGET.cast_signed()))
+        .help("The most that a rule may be charged for an object; 2^63-1 where not given")
 }
 
 /// The option of `judge` that takes rules as text.
@@ -117,9 +117,7 @@ fn verify<'a>(alloc: Global) -> Result<Command<'a>, AllocError> {
 
 fn bound<'a>(alloc: Global) -> Result<Command<'a>, AllocError> {
     let command = Command::new(alloc, "bound")
-        .about(
-            "Says how many steps each rule of a code file makes at most for an object of a delivery",
-        )
+        .about("Says what each rule of a code file is charged at most for an object of a delivery")
         .after_help(help::BOUND);
     on_delivery(alloc, command, "CODE", "The code file")
 }

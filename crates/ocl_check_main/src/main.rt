@@ -10,7 +10,8 @@ use clap::error::{Error, ErrorKind};
 use command_line::{CompileFiles, Request, RuleFiles, VerifyFiles, read_words};
 use creating::Creating;
 use ocl_check::{
-    CommandFault, JudgeOptions, Outcome, Telling, run_bound, run_compile, run_judge, run_verify,
+    CommandFault, Counting, JudgeOptions, Outcome, Telling, run_bound, run_compile, run_judge,
+    run_verify,
 };
 use opening::Opening;
 use std::process::ExitCode;
@@ -40,9 +41,9 @@ fn judge(rt: &HostRuntime, files: RuleFiles<'_>, options: JudgeOptions) -> Outco
     run_judge(
         rt.alloc(),
         options,
-        &mut Opening::new(rt, files.model),
-        &mut Opening::new(rt, files.delivery),
-        &mut Opening::new(rt, files.rules),
+        &mut Counting::new(Opening::new(rt, files.model)),
+        &mut Counting::new(Opening::new(rt, files.delivery)),
+        &mut Counting::new(Opening::new(rt, files.rules)),
         &mut Telling::new(io::writer(rt)),
     )
 }
@@ -50,8 +51,8 @@ fn judge(rt: &HostRuntime, files: RuleFiles<'_>, options: JudgeOptions) -> Outco
 fn compile(rt: &HostRuntime, files: CompileFiles<'_>) -> Outcome {
     run_compile(
         rt.alloc(),
-        &mut Opening::new(rt, files.model),
-        &mut Opening::new(rt, files.rules),
+        &mut Counting::new(Opening::new(rt, files.model)),
+        &mut Counting::new(Opening::new(rt, files.rules)),
         &mut Telling::new(Creating::new(rt, files.out)),
         &mut Telling::new(io::writer(rt)),
     )
@@ -60,9 +61,9 @@ fn compile(rt: &HostRuntime, files: CompileFiles<'_>) -> Outcome {
 fn bound(rt: &HostRuntime, files: RuleFiles<'_>) -> Outcome {
     run_bound(
         rt.alloc(),
-        &mut Opening::new(rt, files.model),
-        &mut Opening::new(rt, files.delivery),
-        &mut Opening::new(rt, files.rules),
+        &mut Counting::new(Opening::new(rt, files.model)),
+        &mut Counting::new(Opening::new(rt, files.delivery)),
+        &mut Counting::new(Opening::new(rt, files.rules)),
         &mut Telling::new(io::writer(rt)),
     )
 }
@@ -70,8 +71,8 @@ fn bound(rt: &HostRuntime, files: RuleFiles<'_>) -> Outcome {
 fn verify(rt: &HostRuntime, files: VerifyFiles<'_>) -> Outcome {
     run_verify(
         rt.alloc(),
-        &mut Opening::new(rt, files.model),
-        &mut Opening::new(rt, files.code),
+        &mut Counting::new(Opening::new(rt, files.model)),
+        &mut Counting::new(Opening::new(rt, files.code)),
         &mut Telling::new(io::writer(rt)),
     )
 }

@@ -1,16 +1,15 @@
 //! The command `compile`: what it writes to its code file, and what it prints.
 
 use crate::files::{BY_CODE, DEPTH, NO_RULES, judged_by};
-use crate::outputs::Narrow;
-use ocl_check::{CommandFault, Outcome, Telling, run_compile};
+use ocl_check::{CommandFault, Counting, Outcome, Telling, run_compile};
 use std::alloc::Global;
 use std::test::*;
-use test_support::{CATALOGUE, DUCT};
+use test_support::{CATALOGUE, DUCT, Narrow, WhenFull};
 
 /// What `compile` writes to its code file and prints, and how it ends.
 fn compiled(alloc: Global, model: &str, rules: &str) -> (Outcome, Vec<u8>, Vec<u8>) {
-    let mut model = model.as_bytes();
-    let mut rules = rules.as_bytes();
+    let mut model = Counting::new(model.as_bytes());
+    let mut rules = Counting::new(rules.as_bytes());
     let mut out = Telling::new(Vec::new(alloc));
     let mut sink = Telling::new(Vec::new(alloc));
     let outcome = run_compile(alloc, &mut model, &mut rules, &mut out, &mut sink);
@@ -80,10 +79,10 @@ fn judges_what_it_compiled(rt: HostRuntime) {
 /// How `compile` of the empty text ends over a code file that takes so many bytes and a sink that takes as many, and
 /// what both took.
 fn compiled_into(alloc: Global, code: usize, printed: usize) -> (Outcome, usize, usize) {
-    let mut model = CATALOGUE.as_bytes();
-    let mut rules = b"".as_slice();
-    let mut out = Telling::new(Narrow::new(alloc, code));
-    let mut sink = Telling::new(Narrow::new(alloc, printed));
+    let mut model = Counting::new(CATALOGUE.as_bytes());
+    let mut rules = Counting::new(b"".as_slice());
+    let mut out = Telling::new(Narrow::new(alloc, code, WhenFull::Fails));
+    let mut sink = Telling::new(Narrow::new(alloc, printed, WhenFull::Fails));
     let outcome = run_compile(alloc, &mut model, &mut rules, &mut out, &mut sink);
     (outcome, out.into_inner().taken(), sink.into_inner().taken())
 }

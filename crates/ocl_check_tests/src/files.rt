@@ -1,7 +1,8 @@
 //! The files that the tests judge, and how they are judged.
 
 use ocl_check::{
-    JudgeOptions, MAX_BUDGET, Outcome, RulesForm, Telling, run_bound, run_judge, run_verify,
+    Counting, JudgeOptions, MAX_BUDGET, Outcome, RulesForm, Telling, run_bound, run_judge,
+    run_verify,
 };
 use std::alloc::{AllocError, Global};
 
@@ -46,9 +47,9 @@ pub fn judged_by(
     delivery: &str,
     rules: &[u8],
 ) -> (Outcome, Vec<u8>) {
-    let mut model = model.as_bytes();
-    let mut delivery = delivery.as_bytes();
-    let mut rules = rules;
+    let mut model = Counting::new(model.as_bytes());
+    let mut delivery = Counting::new(delivery.as_bytes());
+    let mut rules = Counting::new(rules);
     let mut sink = Telling::new(Vec::new(alloc));
     let outcome = run_judge(
         alloc,
@@ -101,9 +102,9 @@ pub fn bounds_to(
     status: u8,
     text: &str,
 ) -> bool {
-    let mut model = model.as_bytes();
-    let mut delivery = delivery.as_bytes();
-    let mut code = code;
+    let mut model = Counting::new(model.as_bytes());
+    let mut delivery = Counting::new(delivery.as_bytes());
+    let mut code = Counting::new(code);
     let mut sink = Telling::new(Vec::new(alloc));
     let outcome = run_bound(alloc, &mut model, &mut delivery, &mut code, &mut sink);
     outcome == Outcome::Status(status) && sink.into_inner().as_slice() == text.as_bytes()
@@ -177,8 +178,8 @@ pub fn bounds_code_to(
 
 /// Whether `verify` ends with this status and writes this text.
 pub fn verifies_to(alloc: Global, model: &str, code: &[u8], status: u8, text: &str) -> bool {
-    let mut model = model.as_bytes();
-    let mut code = code;
+    let mut model = Counting::new(model.as_bytes());
+    let mut code = Counting::new(code);
     let mut sink = Telling::new(Vec::new(alloc));
     let outcome = run_verify(alloc, &mut model, &mut code, &mut sink);
     outcome == Outcome::Status(status) && sink.into_inner().as_slice() == text.as_bytes()

@@ -1,7 +1,10 @@
 //! Readers that fail, never end, or give a byte at a time.
 
 use crate::files::{BY_CODE, DEPTH, MODEL, NO_OBJECTS, NO_RULES};
-use ocl_check::{CommandFault, InputFault, Outcome, Telling, read_input, run_bound, run_judge};
+use ocl_check::{
+    CommandFault, Counting, InputFault, Outcome, Telling, read_input, run_bound, run_compile,
+    run_judge, run_verify,
+};
 use std::alloc::Global;
 use std::io;
 use std::io::{Error, ErrorKind, Read};
@@ -61,18 +64,18 @@ fn read_of(
     next: Event,
     after: Event,
 ) -> (Result<usize, InputFault>, u32) {
-    let mut reader = Scripted {
+    let mut source = Counting::new(Scripted {
         first,
         how_often,
         next,
         after,
         reads: 0,
-    };
-    let read = match read_input(alloc, &mut reader, 8) {
+    });
+    let read = match read_input(alloc, &mut source, 8) {
         Ok(bytes) => Ok(bytes.len()),
         Err(fault) => Err(fault),
     };
-    (read, reader.reads)
+    (read, source.into_inner().reads)
 }
 
 #[test]
@@ -100,19 +103,24 @@ fn reads_up_to_the_limit(rt: HostRuntime) {
     }
 }
 
-/// How `judge` ends where the reader of one input, by its number from 0, fails at once, and how many bytes the others
-/// have left.
-fn judged_with_failing(alloc: Global, which: usize) -> (Outcome, usize, usize) {
-    let mut failing = Scripted {
+/// A source of which the first read fails.
+fn failing() -> Counting<Scripted> {
+    Counting::new(Scripted {
         first: Event::Fails,
         how_often: 1,
         next: Event::Fails,
         after: Event::Fails,
         reads: 0,
-    };
-    let mut model = MODEL.as_bytes();
-    let mut delivery = NO_OBJECTS.as_bytes();
-    let mut code = DEPTH.as_slice();
+    })
+}
+
+/// How `judge` ends where the reader of one input, by its number from 0, fails at once, and how many bytes the others
+/// have left.
+fn judged_with_failing(alloc: Global, which: usize) -> (Outcome, usize, usize) {
+    let mut failing = failing();
+    let mut model = Counting::new(MODEL.as_bytes());
+    let mut delivery = Counting::new(NO_OBJECTS.as_bytes());
+    let mut code = Counting::new(DEPTH.as_slice());
     let mut sink = Telling::new(Vec::new(alloc));
     let outcome = match which {
         0 => run_judge(
@@ -140,7 +148,11 @@ fn judged_with_failing(alloc: Global, which: usize) -> (Outcome, usize, usize) {
             &mut sink,
         ),
     };
-    (outcome, delivery.len(), code.len())
+    (
+        outcome,
+        delivery.into_inner().len(),
+        code.into_inner().len(),
+    )
 }
 
 #[test]
@@ -154,20 +166,13 @@ fn fails_where_an_input_does(rt: HostRuntime) {
 
 #[test]
 fn a_failed_read_comes_before_a_refusal(rt: HostRuntime) {
-    let mut failing = Scripted {
-        first: Event::Fails,
-        how_often: 1,
-        next: Event::Fails,
-        after: Event::Fails,
-        reads: 0,
-    };
     let mut sink = Telling::new(Vec::new(rt.alloc()));
     let outcome = run_judge(
         rt.alloc(),
         BY_CODE,
-        &mut b"{}".as_slice(),
-        &mut failing,
-        &mut NO_RULES.as_slice(),
+        &mut Counting::new(b"{}".as_slice()),
+        &mut failing(),
+        &mut Counting::new(NO_RULES.as_slice()),
         &mut sink,
     );
     assert!(rt; outcome == Outcome::Failed(CommandFault::Read));
@@ -175,23 +180,39 @@ fn a_failed_read_comes_before_a_refusal(rt: HostRuntime) {
 
 #[test]
 fn bound_fails_where_an_input_does(rt: HostRuntime) {
-    let mut failing = Scripted {
-        first: Event::Fails,
-        how_often: 1,
-        next: Event::Fails,
-        after: Event::Fails,
-        reads: 0,
-    };
-    let mut delivery = NO_OBJECTS.as_bytes();
+    let mut delivery = Counting::new(NO_OBJECTS.as_bytes());
     let mut sink = Telling::new(Vec::new(rt.alloc()));
     let outcome = run_bound(
         rt.alloc(),
-        &mut MODEL.as_bytes(),
+        &mut Counting::new(MODEL.as_bytes()),
         &mut delivery,
-        &mut failing,
+        &mut failing(),
         &mut sink,
     );
     assert!(rt; outcome == Outcome::Failed(CommandFault::Read));
-    assert!(rt; delivery.is_empty());
+    assert!(rt; delivery.into_inner().is_empty());
     assert!(rt; sink.into_inner().is_empty());
+}
+
+/// How `verify` and `compile` end where the second input fails, and how many bytes their sinks took.
+fn second_fails(alloc: Global) -> (Outcome, Outcome, usize) {
+    let mut out = Telling::new(Vec::new(alloc));
+    let mut sink = Telling::new(Vec::new(alloc));
+    let mut model = Counting::new(MODEL.as_bytes());
+    let verified = run_verify(alloc, &mut model, &mut failing(), &mut sink);
+    let mut printed = Telling::new(Vec::new(alloc));
+    let mut model = Counting::new(MODEL.as_bytes());
+    let compiled = run_compile(alloc, &mut model, &mut failing(), &mut out, &mut printed);
+    let taken = [
+        out.into_inner().len(),
+        sink.into_inner().len(),
+        printed.into_inner().len(),
+    ];
+    (verified, compiled, taken.iter().copied().max().unwrap_or(0))
+}
+
+#[test]
+fn verify_and_compile_fail_where_an_input_does(rt: HostRuntime) {
+    let failed = Outcome::Failed(CommandFault::Read);
+    assert!(rt; second_fails(rt.alloc()) == (failed, failed, 0));
 }

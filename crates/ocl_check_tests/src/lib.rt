@@ -20,6 +20,8 @@ mod nested;
 #[cfg(test)]
 mod outputs;
 #[cfg(test)]
+mod refusals;
+#[cfg(test)]
 mod text_rows;
 #[cfg(test)]
 mod texts;

@@ -1,4 +1,4 @@
-//! Rules of nested iterations over a thousand objects, which may cost too much.
+//! Rules of nested iterations, which may cost too much.
 
 use crate::files::{bounds_to, judges_within_to};
 use ocl_check::MAX_BUDGET;
@@ -126,5 +126,60 @@ fn judges_nested_iterations_within_a_budget(rt: HostRuntime) -> Result<(), Fail>
             "{depth} within {budget}"
         );
     }
+    Ok(())
+}
+
+/// How many iterations over two objects are in one another: each is charged 5, and its body twice.
+const DOUBLINGS: u16 = 60;
+
+/// A file of which the rule's bound is 2^63-1, or with `over` one more: iterations over A, one in the other, round three
+/// instructions; each NOT behind an iteration is charged as often as its body's turns are.
+fn doubled(alloc: Global, over: bool) -> Result<Vec<u8>, AllocError> {
+    let inside = DOUBLINGS.saturating_mul(2).saturating_add(4);
+    let mut code = Vec::new(alloc);
+    code.extend_from_slice(HEAD)?;
+    code.extend_from_slice(&inside.saturating_add(u16::from(over)).to_be_bytes())?;
+    for level in 0..DOUBLINGS {
+        let left = DOUBLINGS.saturating_sub(level).saturating_mul(2);
+        // the NOT behind the third iteration stands in the bodies of the two before it
+        let behind = u16::from(level < 2);
+        put_iteration(&mut code, 0, left.saturating_add(1).saturating_add(behind))?;
+    }
+    // BOOL 1, NOT, NOT, which are charged 3; with the 5 of their iteration 2^60 times 8, less the outermost 5
+    code.extend_from_slice(&[0x04, 0x01, 0x20, 0x20])?;
+    // a NOT that is charged 4 times, and one that is charged once
+    code.push(0x20)?;
+    if over {
+        code.push(0x20)?;
+    }
+    Ok(code)
+}
+
+/// Whether `bound` of it over two objects writes this text, and `judge` within this budget ends so.
+fn doubled_ends(
+    alloc: Global,
+    over: bool,
+    bound: &str,
+    budget: u64,
+    status: u8,
+    text: &str,
+) -> Result<bool, AllocError> {
+    let delivery = many(alloc, 2)?;
+    let code = doubled(alloc, over)?;
+    Ok(
+        bounds_to(alloc, MODEL, delivery.as_str(), &code, 0, bound)
+            && judges_within_to(alloc, budget, MODEL, delivery.as_str(), &code, status, text),
+    )
+}
+
+#[test]
+fn the_largest_budget_is_the_largest_bound(rt: HostRuntime) -> Result<(), Fail> {
+    let largest = "bound x 9223372036854775807\n";
+    let nothing = "rule x checked 0 holds 0 fails 0 undecided 0\ntotal fails 0 undecided 0\n";
+    let refused = "refused cost 1 0\n";
+    let below = MAX_BUDGET.saturating_sub(1);
+    assert!(rt; doubled_ends(rt.alloc(), false, largest, MAX_BUDGET, 0, nothing)?);
+    assert!(rt; doubled_ends(rt.alloc(), false, largest, below, 2, refused)?);
+    assert!(rt; doubled_ends(rt.alloc(), true, "bound x over\n", u64::MAX, 2, refused)?);
     Ok(())
 }

@@ -1,148 +1,165 @@
-//! Writers that fail, and how an outcome is reported.
+//! Writers that fail, how often they are flushed, and how an outcome is reported.
 
-use crate::files::{BY_CODE, DEPTH, MODEL, NO_OBJECTS};
-use ocl_check::{CommandFault, Outcome, Telling, run_bound, run_judge};
+use crate::files::{BY_CODE, DEPTH, MODEL, NO_OBJECTS, NO_RULES};
+use ocl_check::{
+    CommandFault, Counting, Outcome, Telling, run_bound, run_compile, run_judge, run_verify,
+};
 use std::alloc::Global;
-use std::io;
-use std::io::{Error, ErrorKind, Write};
 use std::test::*;
+use test_support::{Narrow, WhenFull};
 
-/// The report on a delivery of no objects.
-const REPORT: &str =
-    "rule diepteMin checked 0 holds 0 fails 0 undecided 0\ntotal fails 0 undecided 0\n";
-
-/// A writer that takes a few bytes, and then fails or takes nothing; its flush may fail.
-#[derive(Drop)]
-pub struct Narrow {
-    taken: Vec<u8>,
-    left: usize,
-    is_silent: bool,
-    flushes: bool,
+/// A command that writes, and what it writes to.
+#[derive(Clone, Copy, Debug)]
+enum Written {
+    /// The report of `judge`.
+    Report,
+    /// What `bound` prints.
+    Bounds,
+    /// What `verify` prints.
+    Accepted,
+    /// The code file of `compile`.
+    Code,
+    /// What `compile` prints.
+    Compiled,
 }
 
-impl Narrow {
-    /// Takes so many bytes, and then fails; its flush doesn't.
-    pub fn new(alloc: Global, left: usize) -> Narrow {
-        Narrow {
-            taken: Vec::new(alloc),
-            left,
-            is_silent: false,
-            flushes: true,
-        }
-    }
-
-    /// How many bytes it took.
-    pub fn taken(&self) -> usize {
-        self.taken.len()
-    }
-}
-
-impl Write for Narrow {
-    fn write(&mut self, buf: &[u8]) -> io::Result<usize> {
-        let count = buf.len().min(self.left);
-        if count == 0 && self.is_silent {
-            return Ok(0);
-        }
-        if count == 0 || self.taken.extend_from_slice(&buf[..count]).is_err() {
-            return Err(Error::from(ErrorKind::Other));
-        }
-        self.left -= count;
-        Ok(count)
-    }
-
-    fn flush(&mut self) -> io::Result<()> {
-        if self.flushes {
-            Ok(())
-        } else {
-            Err(Error::from(ErrorKind::Other))
+impl Written {
+    /// What is written for a delivery of no objects and the rule of a depth; `compile` has an empty text.
+    fn bytes(self) -> &'static [u8] {
+        match self {
+            Written::Report => {
+                b"rule diepteMin checked 0 holds 0 fails 0 undecided 0\ntotal fails 0 undecided 0\n"
+            }
+            Written::Bounds => b"bound diepteMin 4\n",
+            Written::Accepted => b"accepted 1\n",
+            Written::Code => &NO_RULES,
+            Written::Compiled => b"compiled 0\n",
         }
     }
 }
 
-/// How `judge` ends over a writer that takes so many bytes, and what it took.
-fn judged_into(alloc: Global, left: usize, is_silent: bool, flushes: bool) -> (Outcome, Vec<u8>) {
-    let mut model = MODEL.as_bytes();
-    let mut delivery = NO_OBJECTS.as_bytes();
-    let mut code = DEPTH.as_slice();
-    let mut sink = Telling::new(Narrow {
-        taken: Vec::new(alloc),
-        left,
-        is_silent,
-        flushes,
-    });
-    let outcome = run_judge(
+/// How `compile` of the empty text ends over these sinks, and what both took.
+fn compiled_into(alloc: Global, code: Narrow, printed: Narrow) -> (Outcome, Narrow, Narrow) {
+    let mut out = Telling::new(code);
+    let mut sink = Telling::new(printed);
+    let outcome = run_compile(
         alloc,
-        BY_CODE,
-        &mut model,
-        &mut delivery,
-        &mut code,
+        &mut Counting::new(MODEL.as_bytes()),
+        &mut Counting::new(b"".as_slice()),
+        &mut out,
         &mut sink,
     );
-    (outcome, sink.into_inner().taken)
+    (outcome, out.into_inner(), sink.into_inner())
 }
 
-/// Whether a writer that fails after so many bytes has taken just the beginning of the report.
-fn fails_after(alloc: Global, left: usize, is_silent: bool) -> bool {
-    let (outcome, bytes) = judged_into(alloc, left, is_silent, true);
-    outcome == Outcome::Failed(CommandFault::Write)
-        && bytes.len() == left
-        && REPORT.as_bytes().starts_with(&bytes)
+/// How a command ends over a writer, and the writer afterwards.
+fn written_into(alloc: Global, written: Written, writer: Narrow) -> (Outcome, Narrow) {
+    let mut model = Counting::new(MODEL.as_bytes());
+    let mut delivery = Counting::new(NO_OBJECTS.as_bytes());
+    let mut code = Counting::new(DEPTH.as_slice());
+    let wide = Narrow::new(alloc, 1_000, WhenFull::Fails);
+    match written {
+        Written::Code => {
+            let (outcome, code, _printed) = compiled_into(alloc, writer, wide);
+            return (outcome, code);
+        }
+        Written::Compiled => {
+            let (outcome, _code, printed) = compiled_into(alloc, wide, writer);
+            return (outcome, printed);
+        }
+        _ => {}
+    }
+    let mut sink = Telling::new(writer);
+    let outcome = match written {
+        Written::Report => {
+            run_judge(
+                alloc,
+                BY_CODE,
+                &mut model,
+                &mut delivery,
+                &mut code,
+                &mut sink,
+            )
+        }
+        Written::Bounds => run_bound(alloc, &mut model, &mut delivery, &mut code, &mut sink),
+        _ => run_verify(alloc, &mut model, &mut code, &mut sink),
+    };
+    (outcome, sink.into_inner())
+}
+
+/// Whether a writer of so much room has taken just the beginning, and neither a byte more nor a flush.
+fn fails_after(alloc: Global, written: Written, left: usize, when_full: WhenFull) -> bool {
+    let (outcome, writer) = written_into(alloc, written, Narrow::new(alloc, left, when_full));
+    outcome == Outcome::Failed(CommandFault::Write) && writer.has_first(left, written.bytes())
+}
+
+const EACH: [Written; 5] = [
+    Written::Report,
+    Written::Bounds,
+    Written::Accepted,
+    Written::Code,
+    Written::Compiled,
+];
+
+#[test]
+fn a_writer_that_failed_is_left_alone(rt: HostRuntime) {
+    for written in EACH {
+        for left in 0..written.bytes().len() {
+            assert!(rt; fails_after(rt.alloc(), written, left, WhenFull::Fails));
+            assert!(rt; fails_after(rt.alloc(), written, left, WhenFull::TakesNothing));
+            assert!(rt; fails_after(rt.alloc(), written, left, WhenFull::FailsOnce));
+        }
+    }
+}
+
+/// Whether a writer takes all and is then flushed once, and the command ends so.
+fn takes_all(alloc: Global, written: Written, writer: Narrow, wanted: Outcome) -> bool {
+    let (outcome, writer) = written_into(alloc, written, writer);
+    outcome == wanted && writer.has_all(written.bytes())
 }
 
 #[test]
-fn fails_where_a_write_does(rt: HostRuntime) {
-    for left in 0..REPORT.len() {
-        assert!(rt; fails_after(rt.alloc(), left, false));
-        assert!(rt; fails_after(rt.alloc(), left, true));
+fn everything_is_flushed_once_at_its_end(rt: HostRuntime) {
+    for written in EACH {
+        let writer = Narrow::new(rt.alloc(), written.bytes().len(), WhenFull::Fails);
+        assert!(rt;
+            takes_all(rt.alloc(), written, writer, Outcome::Status(0)),
+            "{written:?}"
+        );
     }
 }
 
 #[test]
 fn fails_where_the_flush_does(rt: HostRuntime) {
-    let (outcome, bytes) = judged_into(rt.alloc(), 1_000, false, false);
-    assert!(rt; outcome == Outcome::Failed(CommandFault::Write));
-    assert!(rt; bytes.as_slice() == REPORT.as_bytes());
-}
-
-#[test]
-fn writes_the_report_whole(rt: HostRuntime) {
-    let (outcome, bytes) = judged_into(rt.alloc(), REPORT.len(), false, true);
-    assert!(rt; outcome == Outcome::Status(0));
-    assert!(rt; bytes.as_slice() == REPORT.as_bytes());
-}
-
-/// The bounds for a delivery of no objects.
-const BOUNDS: &str = "bound diepteMin 4\n";
-
-/// How `bound` ends over a writer that takes so many bytes, and what it took.
-fn bounded_into(alloc: Global, left: usize, is_silent: bool) -> (Outcome, Vec<u8>) {
-    let mut model = MODEL.as_bytes();
-    let mut delivery = NO_OBJECTS.as_bytes();
-    let mut code = DEPTH.as_slice();
-    let mut sink = Telling::new(Narrow {
-        taken: Vec::new(alloc),
-        left,
-        is_silent,
-        flushes: true,
-    });
-    let outcome = run_bound(alloc, &mut model, &mut delivery, &mut code, &mut sink);
-    (outcome, sink.into_inner().taken)
-}
-
-/// Whether `bound` fails where its writer does, after just the beginning of the bounds.
-fn bound_fails_after(alloc: Global, left: usize, is_silent: bool) -> bool {
-    let (outcome, bytes) = bounded_into(alloc, left, is_silent);
-    outcome == Outcome::Failed(CommandFault::Write)
-        && bytes.len() == left
-        && BOUNDS.as_bytes().starts_with(&bytes)
-}
-
-#[test]
-fn bound_fails_where_a_write_does(rt: HostRuntime) {
-    for left in 0..BOUNDS.len() {
-        assert!(rt; bound_fails_after(rt.alloc(), left, false), "{left}");
-        assert!(rt; bound_fails_after(rt.alloc(), left, true), "{left}");
+    for written in EACH {
+        let writer = Narrow::without_flush(rt.alloc(), written.bytes().len());
+        let failed = Outcome::Failed(CommandFault::Write);
+        assert!(rt;
+            takes_all(rt.alloc(), written, writer, failed),
+            "{written:?}"
+        );
     }
+}
+
+/// Whether the code file's writer is untouched, not even flushed, where the text is refused.
+fn refused_text_leaves_the_code_file(alloc: Global) -> bool {
+    let mut out = Telling::new(Narrow::new(alloc, 1_000, WhenFull::Fails));
+    let mut sink = Telling::new(Narrow::new(alloc, 1_000, WhenFull::Fails));
+    let outcome = run_compile(
+        alloc,
+        &mut Counting::new(MODEL.as_bytes()),
+        &mut Counting::new(b"'".as_slice()),
+        &mut out,
+        &mut sink,
+    );
+    outcome == Outcome::Status(2)
+        && out.into_inner().has_first(0, b"")
+        && sink.into_inner().has_all(b"refused text 2 0\n")
+}
+
+#[test]
+fn a_code_file_is_untouched_where_the_text_is_refused(rt: HostRuntime) {
+    assert!(rt; refused_text_leaves_the_code_file(rt.alloc()));
 }
 
 #[test]

@@ -11,9 +11,9 @@ use Rattle.rule_verify.specs.CodeTree as code
 use Rattle.rule_verify.specs.CodeTree.{CodeTree, instr_count}
 use Rattle.rule_verify.specs.declared.named.Named.{Named}
 use Rattle.rule_verify.specs.InstrKinds.{operands_of}
-use Rattle.rule_machine.specs.Value as value
-use Rattle.rule_machine.specs.Value.{Value, element_value}
-use Rattle.rule_machine.specs.Operations.{or_invalid, all_instances}
+use Rattle.rule_values.specs.Value as value
+use Rattle.rule_values.specs.Value.{Value, element_value}
+use Rattle.rule_values.specs.Operations.{or_invalid, all_instances}
 use Rattle.rule_machine.specs.Machine.{Setting, judged_by, literal_named, on_class_named, value_named_read, Piece, Sequence, Configuration, configuration, step, run}
 use Rattle.rule_machine.specs.Verdict.{outcome}
 use Rattle.ocl_compile.specs.Meaning.{constant_value, operation_value, meaning, meanings}

@@ -13,7 +13,7 @@ use Rattle.ocl_types.specs.Typing.{IsTypedRule}
 use Rattle.rule_code.specs.Content.{Content, RuleContent, text_at}
 use Rattle.rule_verify.specs.CodeTree.{CodeTree, End, code_tree}
 use Rattle.rule_verify.specs.UnitRules.{unit_rule, empty_rule, context_class, IsAcceptedUnit}
-use Rattle.rule_machine.specs.Value.{object_value}
+use Rattle.rule_values.specs.Value.{object_value}
 use Rattle.rule_machine.specs.Machine.{setting_of, configuration, run, start}
 use Rattle.rule_machine.specs.Laws.{IsAcceptedRun, tree_of_rule, rule_bound, verdict_at}
 use Rattle.rule_machine.proofs.ForAbove.{goes_on, within_bound, verdict_found}

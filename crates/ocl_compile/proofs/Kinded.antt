@@ -12,7 +12,7 @@ use Rattle.rule_verify.specs.declared.fault.VerifyFlaw.TheVariants as flaws
 use Rattle.rule_verify.specs.declared.pattern.Pattern.{Pattern}
 use Rattle.rule_verify.specs.CodeTree.{CodeTree, End, Plain, Block, Branch, Torn, instr_count}
 use Rattle.rule_verify.specs.CodeDepths.{deeper, past_instr, in_binding, in_branch, deepest}
-use Rattle.rule_verify.specs.InstrKinds.{Surroundings, has_names, has_variable, operands_of, result_kind, topmost, binds, ends_with, yields, variable_at}
+use Rattle.rule_verify.specs.InstrKinds.{Surroundings, has_names, has_variable, operands_of, result_kind, block_operand, binds, ends_with, yields, variable_at}
 use Rattle.rule_verify.specs.Patterns.{matches, are_there, all_match, below}
 use Rattle.rule_verify.specs.KindRules.{InstrFault, instr_fault, Enclosing, in_block, operand_limit, block_limit, taken, after_plain, opened, ended_with, kinds_after}
 
@@ -142,10 +142,10 @@ module _ (s : Surroundings) (e : Enclosing) (d : Depths) where
   -- past a block with one body, which ends with one operand
   pub past_block : (i : Instr) (body rest : CodeTree) (at : ℕ) (stack left : List Kind) (Ends : Kind → Type 0) → TakesKinds s e.variables i stack left
       → StandsDeep d e stack → IsShallow s (Block i body rest) d
-      → ((inner : Depths) → StandsDeep inner (in_block e (binds i (topmost stack) ∷ e.variables) left) [] → IsShallow s body inner
-      → (r : Kind) × (kinds_after s body (in_block e (binds i (topmost stack) ∷ e.variables) left) (at + 1) [] ≡ Ok (r ∷ [])) × (matches s.model (ends_with s i) r ≡ true) × Ends r)
-      → (r : Kind) × (depths : Depths) × (kinds_after s (Block i body rest) e at stack ≡ kinds_after s rest e (at + 1 + instr_count body) (yields s i (topmost stack) r ∷ left))
-      × StandsDeep depths e (yields s i (topmost stack) r ∷ left) × IsShallow s rest depths × Ends r
+      → ((inner : Depths) → StandsDeep inner (in_block e (binds s i (block_operand i stack) ++ e.variables) left) [] → IsShallow s body inner
+      → (r : Kind) × (kinds_after s body (in_block e (binds s i (block_operand i stack) ++ e.variables) left) (at + 1) [] ≡ Ok (r ∷ [])) × (matches s.model (ends_with s i) r ≡ true) × Ends r)
+      → (r : Kind) × (depths : Depths) × (kinds_after s (Block i body rest) e at stack ≡ kinds_after s rest e (at + 1 + instr_count body) (yields s i (block_operand i stack) r ∷ left))
+      × StandsDeep depths e (yields s i (block_operand i stack) r ∷ left) × IsShallow s rest depths × Ends r
   past_block i body rest at stack left Ends t stands shallow ends =
       let inside : Depths = in_binding s i d in
       let after : Depths = past_instr s i d in
@@ -155,11 +155,11 @@ module _ (s : Surroundings) (e : Enclosing) (d : Depths) where
       record { operands = (max_parts (deepest s body inside).operands (deepest s rest after).operands operand_limit bodies.0).0; blocks = (max_parts (deepest s body inside).blocks (deepest s rest after).blocks block_limit bodies.1).0 } in
       let here = begins_shallow s body inside in_body in
       let counted = left_count s e.variables i stack left t in
-      let inner = in_block e (binds i (topmost stack) ∷ e.variables) left in
+      let inner = in_block e (binds s i (block_operand i stack) ++ e.variables) left in
       let b = ends inside (record { operands = omega (arith, stands.operands, counted); blocks = ap (λ n. n + 1) stands.blocks }) in_body in
-      let on : Result (List Kind) InstrFault → Result (List Kind) InstrFault = λ o. o >>= (λ l. kinds_after s body (in_block e (binds i (topmost stack) ∷ e.variables) l) (at + 1) [] >>= (λ x. ended_with s (ends_with s i) at x >>= (λ r. kinds_after s rest e (at + 1 + instr_count body) (yields s i (topmost stack) r ∷ l)))) in
-      let to : Result (List Kind) InstrFault → Result (List Kind) InstrFault = λ o. o >>= (λ x. ended_with s (ends_with s i) at x >>= (λ r. kinds_after s rest e (at + 1 + instr_count body) (yields s i (topmost stack) r ∷ left))) in
-      let by : Bool → Result (List Kind) InstrFault = λ x. (check x (instr_fault flaws.LeftOver s.rule at) >>= (λ _. Ok b.0)) >>= (λ r. kinds_after s rest e (at + 1 + instr_count body) (yields s i (topmost stack) r ∷ left)) in (
+      let on : Result (List Kind) InstrFault → Result (List Kind) InstrFault = λ o. o >>= (λ l. kinds_after s body (in_block e (binds s i (block_operand i stack) ++ e.variables) l) (at + 1) [] >>= (λ x. ended_with s (ends_with s i) at x >>= (λ r. kinds_after s rest e (at + 1 + instr_count body) (yields s i (block_operand i stack) r ∷ l)))) in
+      let to : Result (List Kind) InstrFault → Result (List Kind) InstrFault = λ o. o >>= (λ x. ended_with s (ends_with s i) at x >>= (λ r. kinds_after s rest e (at + 1 + instr_count body) (yields s i (block_operand i stack) r ∷ left))) in
+      let by : Bool → Result (List Kind) InstrFault = λ x. (check x (instr_fault flaws.LeftOver s.rule at) >>= (λ _. Ok b.0)) >>= (λ r. kinds_after s rest e (at + 1 + instr_count body) (yields s i (block_operand i stack) r ∷ left)) in (
         b.0,
         after,
         ap on (opened_is i at stack left t (omega (arith, here.1, stands.blocks))) ∙ ap to b.1 ∙ ap by b.2,
@@ -175,8 +175,8 @@ module _ (s : Surroundings) (e : Enclosing) (d : Depths) where
       → (r : Kind) × (kinds_after s first (in_block e e.variables left) place [] ≡ Ok (r ∷ [])) × (matches s.model (ends_with s i) r ≡ true))
       → ((inner : Depths) (place : ℕ) → StandsDeep inner (in_block e e.variables left) [] → IsShallow s second inner
       → (r : Kind) × (kinds_after s second (in_block e e.variables left) place [] ≡ Ok (r ∷ [])) × (matches s.model (ends_with s i) r ≡ true))
-      → (r : Kind) × (next : ℕ) × (depths : Depths) × (kinds_after s (Branch i first second rest) e at stack ≡ kinds_after s rest e next (yields s i (topmost stack) r ∷ left))
-      × StandsDeep depths e (yields s i (topmost stack) r ∷ left) × IsShallow s rest depths
+      → (r : Kind) × (next : ℕ) × (depths : Depths) × (kinds_after s (Branch i first second rest) e at stack ≡ kinds_after s rest e next (yields s i (block_operand i stack) r ∷ left))
+      × StandsDeep depths e (yields s i (block_operand i stack) r ∷ left) × IsShallow s rest depths
   past_branch i first second rest at stack left t stands shallow first_ends second_ends =
       let inside : Depths = in_branch s i d in
       let after : Depths = past_instr s i d in
@@ -196,7 +196,7 @@ module _ (s : Surroundings) (e : Enclosing) (d : Depths) where
       let a = first_ends inside (at + 1) stands_in in_first in
       let b = second_ends inside place stands_in in_second in
       let fault = instr_fault flaws.LeftOver s.rule at in
-      let go : Kind → List Kind → Result (List Kind) InstrFault = λ x l. kinds_after s rest e last (yields s i (topmost stack) x ∷ l) in
+      let go : Kind → List Kind → Result (List Kind) InstrFault = λ x l. kinds_after s rest e last (yields s i (block_operand i stack) x ∷ l) in
       let on : Result (List Kind) InstrFault → Result (List Kind) InstrFault = λ o. o >>= (λ l. kinds_after s first (in_block e e.variables l) (at + 1) [] >>= (λ x. ended_with s (ends_with s i) at x >>= (λ r. kinds_after s second (in_block e e.variables l) place [] >>= (λ y. ended_with s (ends_with s i) at y >>= (λ _. go r l))))) in
       let to : Result (List Kind) InstrFault → Result (List Kind) InstrFault = λ o. o >>= (λ x. ended_with s (ends_with s i) at x >>= (λ r. kinds_after s second inner place [] >>= (λ y. ended_with s (ends_with s i) at y >>= (λ _. go r left)))) in
       let by : Bool → Result (List Kind) InstrFault = λ x. (check x fault >>= (λ _. Ok a.0)) >>= (λ r. kinds_after s second inner place [] >>= (λ y. ended_with s (ends_with s i) at y >>= (λ _. go r left))) in

@@ -19,8 +19,8 @@ use Rattle.ocl_types.specs.Typing.{Operand, are_operands, plain_operands, AreOth
 use Rattle.imkl_population.specs.Population.{Population}
 use Rattle.rule_verify.specs.declared.named.Named.{Named}
 use Rattle.rule_verify.specs.InstrKinds.{operands_of}
-use Rattle.rule_machine.specs.Value.{Value}
-use Rattle.rule_machine.specs.Operations.{or_invalid, kind_test, type_test, cast}
+use Rattle.rule_values.specs.Value.{Value}
+use Rattle.rule_values.specs.Operations.{or_invalid, kind_test, type_test, cast}
 use Rattle.rule_machine.specs.Machine.{Setting, judged_by, result_of, on_class_named}
 use Rattle.ocl_compile.specs.Meaning.{operation_value, meanings}
 use Rattle.ocl_compile.specs.Numbering.{Numbering, operator_uses}

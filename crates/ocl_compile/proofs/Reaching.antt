@@ -1,18 +1,18 @@
 -- Runs of compiled code: what stands for a core tree puts the value that the tree means on the operands.
 use Rattle.std.proofs.Common.{◌≡◌, ℕ, ◌+◌, Bool, true, false, List, [], ◌∷◌, ◌++◌, map, length, drop, Option, Some, None, refl, sym, ap, ◌∙◌, subst, append_assoc, append-nil, if◌then◌else◌}
-use Rattle.std.specs.Prelude.{option_and_then}
+use Rattle.std.specs.Prelude.{option_and_then, nat_le, ◌&&◌}
 use Rattle.std.specs.Option.{option_map}
 use Rattle.imkl_population.specs.declared.scalar.Scalar.TheVariants as scalar
 use Rattle.rule_code.specs.declared.instruction.Instr.{Instr}
 use Rattle.rule_code.specs.declared.instruction.Instr.TheVariants as instrs
 use Rattle.rule_verify.specs.CodeTree.{CodeTree, Plain, Block, Branch}
-use Rattle.rule_verify.specs.InstrKinds.{operands_of, ends_with}
+use Rattle.rule_verify.specs.InstrKinds.{operands_of, bound_count, ends_with}
 use Rattle.ocl_types.specs.declared.core_tree.Iteration.{Iteration}
 use Rattle.ocl_types.specs.declared.core_tree.Iteration.TheVariants as iteration
-use Rattle.rule_machine.specs.Value as value
-use Rattle.rule_machine.specs.Value.{Element, Value, element_value}
-use Rattle.rule_machine.specs.Operations.{or_invalid}
-use Rattle.rule_machine.specs.Endings.{Source, ending}
+use Rattle.rule_values.specs.Value as value
+use Rattle.rule_values.specs.Value.{Element, Value, element_value}
+use Rattle.rule_values.specs.Operations.{or_invalid}
+use Rattle.rule_values.specs.Endings.{Source, ending}
 use Rattle.rule_machine.specs.Machine.{Setting, judged_by, is_what, operands_below, result_of, performed, Piece, Sequence, LetEnd, Opened, Turning, Skipped, Configuration, configuration, branched, opened_over, block_opened, turned, on_operand, step, run}
 use Rattle.rule_machine.specs.Verdict.{outcome}
 use Rattle.rule_machine.proofs.ForAbove.{run_more}
@@ -74,7 +74,7 @@ module _ (s : Setting) (first : Configuration) (goes_on : (k : ℕ) (c : Configu
       let i : Instr = instrs.Let n in
       let c = configuration (Sequence (Block i body rest) ∷ ps) vars (v ∷ os) in
       let m = goes_on r.0 c r.1 refl in
-      let opened = one_operand s i v os (λ o left. block_opened i body o (Sequence rest ∷ ps) vars left) m.0 refl m.1 in
+      let opened = one_operand s i v os (λ o left. block_opened i body (o ∷ os) (Sequence rest ∷ ps) vars left) m.0 refl m.1 in
       let begun : Reached (configuration (Sequence body ∷ LetEnd ∷ Sequence rest ∷ ps) (v ∷ vars) os) = subst Reached (some_is opened) (on_to c m.0 r m.1) in
       on_to (configuration (LetEnd ∷ Sequence rest ∷ ps) (v ∷ vars) (w ∷ os)) (configuration (Sequence rest ∷ ps) vars (w ∷ os)) (go (LetEnd ∷ Sequence rest ∷ ps) begun) refl
     where
@@ -114,7 +114,7 @@ module _ (s : Setting) (first : Configuration) (goes_on : (k : ℕ) (c : Configu
       let c = configuration (Turning i body source left kept ∷ ps) (element_value e ∷ vars) (f e ∷ os) in
       let given = go e (Turning i body source left kept ∷ ps) r in
       let m = goes_on given.0 c given.1 refl in
-      let same = test_passed (is_what s.population (ends_with (judged_by s) i) (f e)) (turned i body source left (kept ++ f e ∷ []) ps vars os) m.0 m.1 in
+      let same = test_passed (nat_le (bound_count i) (length (element_value e ∷ vars)) && is_what s.population (ends_with (judged_by s) i) (f e)) (turned i body source left (kept ++ f e ∷ []) ps vars os) m.0 m.1 in
       let next = subst Reached (sym same) (on_to c m.0 given m.1) in
       subst (λ l. Reached (configuration ps vars (ending i source l ∷ os))) (append_assoc kept (f e ∷ []) (map f left))
       (turns_reached i body source ps vars os f go left (kept ++ f e ∷ []) next)
@@ -122,18 +122,18 @@ module _ (s : Setting) (first : Configuration) (goes_on : (k : ℕ) (c : Configu
   -- an iteration takes one operand, is opened over it, and ends as its value is defined
   record IsIterating (n : Numbering) (it : Iteration) (len : ℕ) : Type 0 where
     one : length (operands_of (judged_by s) (iteration_instr n it len)) ≡ 1
-    opens : (body : CodeTree) (v : Value) (ps : List Piece) (vars os : List Value) → block_opened (iteration_instr n it len) body v ps vars os ≡ opened_over (iteration_instr n it len) body v ps vars os
+    opens : (body : CodeTree) (v : Value) (os : List Value) (ps : List Piece) (vars left : List Value) → block_opened (iteration_instr n it len) body (v ∷ os) ps vars left ≡ opened_over (iteration_instr n it len) body v [] ps vars left
     ends : (source : Source) (bs : List Value) → ending (iteration_instr n it len) source bs ≡ iteration_value it source bs
 
   is_iterating : (n : Numbering) (it : Iteration) (len : ℕ) → IsIterating n it len
-  is_iterating n iteration.ForAll len = record { one = refl; opens = λ body v ps vars os. refl; ends = λ source bs. refl }
-  is_iterating n iteration.Exists len = record { one = refl; opens = λ body v ps vars os. refl; ends = λ source bs. refl }
-  is_iterating n iteration.One len = record { one = refl; opens = λ body v ps vars os. refl; ends = λ source bs. refl }
-  is_iterating n iteration.Select len = record { one = refl; opens = λ body v ps vars os. refl; ends = λ source bs. refl }
-  is_iterating n iteration.Reject len = record { one = refl; opens = λ body v ps vars os. refl; ends = λ source bs. refl }
-  is_iterating n iteration.Collect len = record { one = refl; opens = λ body v ps vars os. refl; ends = λ source bs. refl }
-  is_iterating n iteration.CollectFlat len = record { one = refl; opens = λ body v ps vars os. refl; ends = λ source bs. refl }
-  is_iterating n (iteration.IsUnique k) len = record { one = refl; opens = λ body v ps vars os. refl; ends = λ source bs. refl }
+  is_iterating n iteration.ForAll len = record { one = refl; opens = λ body v os ps vars left. refl; ends = λ source bs. refl }
+  is_iterating n iteration.Exists len = record { one = refl; opens = λ body v os ps vars left. refl; ends = λ source bs. refl }
+  is_iterating n iteration.One len = record { one = refl; opens = λ body v os ps vars left. refl; ends = λ source bs. refl }
+  is_iterating n iteration.Select len = record { one = refl; opens = λ body v os ps vars left. refl; ends = λ source bs. refl }
+  is_iterating n iteration.Reject len = record { one = refl; opens = λ body v os ps vars left. refl; ends = λ source bs. refl }
+  is_iterating n iteration.Collect len = record { one = refl; opens = λ body v os ps vars left. refl; ends = λ source bs. refl }
+  is_iterating n iteration.CollectFlat len = record { one = refl; opens = λ body v os ps vars left. refl; ends = λ source bs. refl }
+  is_iterating n (iteration.IsUnique k) len = record { one = refl; opens = λ body v os ps vars left. refl; ends = λ source bs. refl }
 
   -- and one that comes to an iteration comes past it, with the value over all turns
   pub iteration_reached : (n : Numbering) (it : Iteration) (len : ℕ) (body rest : CodeTree) (ps : List Piece) (vars os : List Value) (v : Value) (f : Element → Value)
@@ -145,10 +145,10 @@ module _ (s : Setting) (first : Configuration) (goes_on : (k : ℕ) (c : Configu
       let known = is_iterating n it len in
       let c = configuration (Sequence (Block i body rest) ∷ ps) vars (v ∷ os) in
       let m = goes_on r.0 c r.1 refl in
-      let opened = one_operand s i v os (λ o left. block_opened i body o (Sequence rest ∷ ps) vars left) m.0 known.one m.1 in
-      by_value v m.0 (sym (known.opens body v (Sequence rest ∷ ps) vars os) ∙ opened) (on_to c m.0 r m.1)
+      let opened = one_operand s i v os (λ o left. block_opened i body (o ∷ os) (Sequence rest ∷ ps) vars left) m.0 known.one m.1 in
+      by_value v m.0 (sym (known.opens body v os (Sequence rest ∷ ps) vars os) ∙ opened) (on_to c m.0 r m.1)
     where
-      by_value : (w : Value) (d : Configuration) → opened_over (iteration_instr n it len) body w (Sequence rest ∷ ps) vars os ≡ Some d → Reached d → Reached (configuration (Sequence rest ∷ ps) vars (iterated it w f ∷ os))
+      by_value : (w : Value) (d : Configuration) → opened_over (iteration_instr n it len) body w [] (Sequence rest ∷ ps) vars os ≡ Some d → Reached d → Reached (configuration (Sequence rest ∷ ps) vars (iterated it w f ∷ os))
       by_value (value.Collection k es) d e r =
           let i = iteration_instr n it len in
           let source : Source = record { kind = k; elements = es } in

@@ -74,7 +74,7 @@ module _ (s : Surroundings) (n : Numbering) where
   record Iterates (it : Iteration) (len : ℕ) : Type 0 where
     operands : operands_of s (iteration_instr n it len) ≡ pattern.AnyCollection ∷ []
     variable : (vars : List Kind) → has_variable vars (iteration_instr n it len) ≡ true
-    binding : (k : Kind) → binds (iteration_instr n it len) k ≡ Scalar (elements_kind k)
+    binding : (k : Kind) → binds s (iteration_instr n it len) k ≡ Scalar (elements_kind k) ∷ []
 
   iterates : (it : Iteration) (len : ℕ) → Iterates it len
   iterates iteration.ForAll len = record { operands = refl; variable = λ vars. refl; binding = λ k. refl }
@@ -104,14 +104,13 @@ module _ (s : Surroundings) (n : Numbering) where
       any_collection (Scalar j) h = cc
       any_collection (Collection d j) h = refl
 
-  -- the variable of its body
-  iteration_binds : (it : Iteration) (len : ℕ) (l : Kind) (c : CollectionKind) (e : ScalarKind) (wider : Kind) → fits s.model l (Collection c e) ≡ true → fits s.model (Scalar e) wider ≡ true → fits s.model (binds (iteration_instr n it len) l) wider ≡ true
-  iteration_binds it len l c e wider h g =
-      ap (λ (x : Kind). fits s.model x wider) ((iterates it len).binding l) ∙ fits_along s.model (Scalar (elements_kind l)) (Scalar e) wider (elements_fit l h) g
+  -- the variable of its body is of a kind that the element's kind fits
+  element_fits : (l : Kind) (c : CollectionKind) (e : ScalarKind) (wider : Kind) → fits s.model l (Collection c e) ≡ true → fits s.model (Scalar e) wider ≡ true → fits s.model (Scalar (elements_kind l)) wider ≡ true
+  element_fits l c e wider h g = fits_along s.model (Scalar (elements_kind l)) (Scalar e) wider (within l h) g
     where
-      elements_fit : (j : Kind) → fits s.model j (Collection c e) ≡ true → scalar_fits s.model (elements_kind j) e ≡ true
-      elements_fit (Scalar j) h = cc
-      elements_fit (Collection d j) h = (and_parts (is_same_collection d c) (scalar_fits s.model j e) h).1
+      within : (j : Kind) → fits s.model j (Collection c e) ≡ true → scalar_fits s.model (elements_kind j) e ≡ true
+      within (Scalar j) h = cc
+      within (Collection d j) h = (and_parts (is_same_collection d c) (scalar_fits s.model j e) h).1
 
   -- what is collected
   collected_fits : (l r : Kind) (c : CollectionKind) (e d : ScalarKind) → fits s.model l (Collection c e) ≡ true → scalar_fits s.model (elements_kind r) d ≡ true → fits s.model (Collection (collected l) (elements_kind r)) (Collection (collected_kind c) d) ≡ true
@@ -224,8 +223,8 @@ module _ (s : Surroundings) (n : Numbering) where
         let after = of_rest m s.unit n (tree_uses m source) _ h in
         let known = of_first m s.unit n (iteration_uses it) _ after in
         let p = tree_past source g x t.4 o (of_first m s.unit n (tree_uses m source) _ h) (iteration_block n it b rest) e d at ks w stands shallow in
-        let inner = in_block e (binds i p.kind ∷ e.variables) ks in
-        let bound = bound_too m e.variables g (binds i p.kind) t.2 w (iteration_binds it len p.kind t.0 t.1 t.2 p.is_narrower t.5) in
+        let inner = in_block e (binds s i p.kind ++ e.variables) ks in
+        let bound = subst (λ (l : List Kind). Narrower m (l ++ e.variables) (g ++ t.2 ∷ [])) (sym ((iterates it len).binding p.kind)) (bound_too m e.variables g (Scalar (elements_kind p.kind)) t.2 w (element_fits p.kind t.0 t.1 t.2 p.is_narrower t.5)) in
         let q = past_block s e p.depths i b rest p.next (p.kind ∷ ks) ks (λ r. fits m (yields s i p.kind r) k ≡ true) (iteration_takes it len e.variables p.kind t.0 t.1 ks known p.is_narrower) p.stands p.shallow
         (λ deep stands_in shallow_in.
         let r = tree_past body (g ++ t.2 ∷ []) t.3 t.6 (object_stays g t.2 o) (of_rest m s.unit n (iteration_uses it) _ after) code.End inner deep (p.next + 1) [] bound stands_in shallow_in in

@@ -10,7 +10,7 @@ use Rattle.ocl_types.specs.Typing.{IsTypedRule}
 use Rattle.rule_code.specs.Content.{Content, text_at}
 use Rattle.rule_code.specs.WellFormed.{IsUnit}
 use Rattle.rule_verify.specs.UnitRules.{unit_rule, context_class, IsAcceptedUnit}
-use Rattle.rule_machine.specs.Value.{object_value}
+use Rattle.rule_values.specs.Value.{object_value}
 use Rattle.rule_machine.specs.Machine.{setting_of, configuration, run, start}
 use Rattle.rule_machine.specs.Laws.{tree_of_rule, verdict_at}
 use Rattle.ocl_compile.specs.Meaning.{meaning, meant_verdict}

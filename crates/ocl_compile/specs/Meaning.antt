@@ -17,10 +17,10 @@ use Rattle.ocl_types.specs.declared.core_tree.Iteration.TheVariants as iteration
 use Rattle.ocl_types.specs.Core as tree
 use Rattle.ocl_types.specs.Core.{Constant, CoreTree, CoreTrees, CheckedRule}
 use Rattle.rule_machine.specs.declared.verdict.Verdict.{Verdict}
-use Rattle.rule_machine.specs.Value as value
-use Rattle.rule_machine.specs.Value.{Element, Value, truth_value, object_value, element_value}
-use Rattle.rule_machine.specs.Operations.{or_invalid, addition, subtraction, multiplication, division, remainder, lesser, greater, negative, absolute, less_than, at_most, negation, conjunction, disjunction, exclusive_disjunction, implication, equality, both_null, undefined_test, invalid_test, text_length, substring, kind_test, type_test, cast, value_read, all_instances, as_collection, collection_size, emptiness, membership, occurrence_count, inclusion, exclusion, summation, as_set}
-use Rattle.rule_machine.specs.Endings.{Source, for_all, exists, one, select, reject, collect, collect_flat, unique_bodies}
+use Rattle.rule_values.specs.Value as value
+use Rattle.rule_values.specs.Value.{Element, Value, truth_value, object_value, element_value}
+use Rattle.rule_values.specs.Operations.{or_invalid, addition, subtraction, multiplication, division, remainder, lesser, greater, negative, absolute, less_than, at_most, negation, conjunction, disjunction, exclusive_disjunction, implication, equality, both_null, undefined_test, invalid_test, text_length, substring, kind_test, type_test, cast, value_read, all_instances, as_collection, collection_size, emptiness, membership, occurrence_count, inclusion, exclusion, summation, as_set}
+use Rattle.rule_values.specs.Endings.{Source, for_all, exists, one, select, reject, collect, collect_flat, unique_bodies}
 use Rattle.rule_machine.specs.Verdict.{verdict_of}
 
 -- ---- constants

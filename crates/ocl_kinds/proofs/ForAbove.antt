@@ -1,5 +1,5 @@
 -- What is known of kinds: the public laws, and what the crates above cite.
-use Rattle.std.proofs.Common.{◌≡◌, ◌⊎◌, ◌<◌, ◌==◌, ℕ, Bool, true, false, length, Some, None, refl, sym, ap, ◌∙◌, inl, inr, if◌then◌else◌}
+use Rattle.std.proofs.Common.{◌≡◌, ◌⊎◌, ◌<◌, ◌==◌, ℕ, Bool, true, false, length, Some, None, IsSome, refl, sym, ap, ◌∙◌, inl, inr, if◌then◌else◌}
 use Rattle.std.proofs.lemmas.Bool.{false≢true, and_from, and_parts, eq-eqb, eqb-true}
 use Rattle.ocl_base.specs.declared.collection_kind.CollectionKind.{CollectionKind}
 use Rattle.ocl_base.specs.declared.collection_kind.CollectionKind.TheVariants as collection
@@ -137,6 +137,10 @@ both_fit_wider m j k l e =
       | inr w ↦ (rw w.1 (fits_itself m j), rw w.1 w.0)
     ]
 
+-- of two kinds of which one fits the other, that other is the wider
+pub fitted_is_wider : (m : Model) → laws.FittedIsWider m
+fitted_is_wider m j k fit = rw fit refl
+
 wider_by : (a b : Bool) (j k : Kind) → (a ≡ true → b ≡ true → j ≡ k) → (if a then Some k else (if b then Some j else None)) ≡ (if b then Some j else (if a then Some k else None))
 wider_by true true j k same = ap (λ (l : Kind). Some l) (sym (same refl refl))
 wider_by true false j k same = refl
@@ -180,6 +184,52 @@ pub both_fit_common : (m : Model) → laws.BothFitCommon m
 both_fit_common m j k l e =
     let p = both_fit_comparable m (comparable j) (comparable k) l e in
     (scalar_fits_along m j (comparable j) l (fits_comparable m j) p.0, scalar_fits_along m k (comparable k) l (fits_comparable m k) p.1)
+
+-- ---- kinds that fit one have a kind in common
+
+-- a kind that fits another is compared as that one, or is Void
+compared_alike : (m : Model) (j l : ScalarKind) → scalar_fits m j l ≡ true → (j ≡ Void) ⊎ (comparable j ≡ comparable l)
+compared_alike m Void l f = inl refl
+compared_alike m Boolean Boolean f = inr refl
+compared_alike m Integer Integer f = inr refl
+compared_alike m String String f = inr refl
+compared_alike m (Enumeration d) (Enumeration e) f = inr (ap (λ (n : ℕ). Enumeration n) (eqb-true d e f))
+compared_alike m (Class c) (Class d) f = inr refl
+compared_alike m (Class c) AnyObject f = inr refl
+compared_alike m AnyObject AnyObject f = inr refl
+compared_alike m j l f = cc
+
+-- each kind has one in common with Void
+common_with_void : (k : ScalarKind) → IsSome (common_comparable k Void)
+common_with_void Void = refl
+common_with_void Boolean = refl
+common_with_void Integer = refl
+common_with_void String = refl
+common_with_void (Enumeration e) = refl
+common_with_void (Class c) = refl
+common_with_void AnyObject = refl
+
+-- each kind that values are compared as has one in common with itself
+common_with_itself : (l : ScalarKind) → IsSome (common_comparable (comparable l) (comparable l))
+common_with_itself Void = refl
+common_with_itself Boolean = refl
+common_with_itself Integer = refl
+common_with_itself String = refl
+common_with_itself (Enumeration e) = rw (eq-eqb e e refl) refl
+common_with_itself (Class c) = refl
+common_with_itself AnyObject = refl
+
+-- two kinds that fit one kind have a kind in common
+pub fitting_one_have_common : (m : Model) → laws.FittingOneHaveCommon m
+fitting_one_have_common m j k l f g =
+    elim (compared_alike m j l f) [
+      | inl void ↦ rw void refl
+      | inr alike ↦
+          elim (compared_alike m k l g) [
+            | inl void ↦ rw void (common_with_void (comparable j))
+            | inr too ↦ rw (alike, too) (common_with_itself l)
+          ]
+    ]
 
 same_enumeration : (d e : ℕ) (a b : Bool) → (d == e) ≡ a → (e == d) ≡ b → (if a then Some (Enumeration d) else None) ≡ (if b then Some (Enumeration e) else None)
 same_enumeration d e true true f g = ap (λ (n : ℕ). Some (Enumeration n)) (eqb-true d e f)

@@ -1,5 +1,5 @@
 -- Laws of kinds.
-use Rattle.std.specs.Prelude.{◌≡◌, ◌⊎◌, ℕ, true, Some}
+use Rattle.std.specs.Prelude.{◌≡◌, ◌⊎◌, ℕ, true, Some, IsSome}
 use Rattle.imkl_model.specs.ClassModel.{Model, feature_at}
 use Rattle.imkl_model.specs.WellFormed.{IsFeature}
 use Rattle.ocl_kinds.specs.declared.kind.ScalarKind.{ScalarKind}
@@ -26,6 +26,10 @@ WiderIsOne m = (j k l : Kind) → wider_kind m j k ≡ Some l → (l ≡ j) ⊎ 
 abbrev pub BothFitWider : Model → Type 0
 BothFitWider m = (j k l : Kind) → wider_kind m j k ≡ Some l → (fits m j l ≡ true) × (fits m k l ≡ true)
 
+-- of two kinds of which one fits the other, that other is the wider
+abbrev pub FittedIsWider : Model → Type 0
+FittedIsWider m = (j k : Kind) → fits m j k ≡ true → wider_kind m j k ≡ Some k
+
 -- whichever comes first
 abbrev pub WiderCommutes : Model → Type 0
 WiderCommutes m = (j k : Kind) → wider_kind m j k ≡ wider_kind m k j
@@ -34,6 +38,11 @@ WiderCommutes m = (j k : Kind) → wider_kind m j k ≡ wider_kind m k j
 abbrev pub BothFitCommon : Model → Type 0
 BothFitCommon m =
     (j k l : ScalarKind) → common_kind j k ≡ Some l → (scalar_fits m j l ≡ true) × (scalar_fits m k l ≡ true)
+
+-- two kinds that fit one kind have a kind in common
+abbrev pub FittingOneHaveCommon : Model → Type 0
+FittingOneHaveCommon m =
+    (j k l : ScalarKind) → scalar_fits m j l ≡ true → scalar_fits m k l ≡ true → IsSome (common_kind j k)
 
 abbrev pub CommonCommutes : Type 0
 CommonCommutes = (j k : ScalarKind) → common_kind j k ≡ common_kind k j

@@ -16,15 +16,19 @@ pub fn features()
     ensures { (m : Model) → IsClassModel m → laws.FeaturesHaveKinds m }
 {}
 
-/// The wider of two kinds is one of them, both fit it, and it doesn't matter which comes first.
+/// The wider of two kinds is one of them, and both fit it; there is one where one of the two fits the other, and it doesn't
+/// matter which comes first.
 pub fn wider_kinds()
     ensures one { (m : Model) → laws.WiderIsOne m }
     ensures fit { (m : Model) → laws.BothFitWider m }
+    ensures there { (m : Model) → laws.FittedIsWider m }
     ensures commutes { (m : Model) → IsClassModel m → laws.WiderCommutes m }
 {}
 
-/// Two kinds fit the kind that they have in common, and it doesn't matter which comes first.
+/// Two kinds fit the kind that they have in common; there is one where both fit one kind, and it doesn't matter which comes
+/// first.
 pub fn common_kinds()
     ensures fit { (m : Model) → laws.BothFitCommon m }
+    ensures there { (m : Model) → laws.FittingOneHaveCommon m }
     ensures commutes { laws.CommonCommutes }
 {}

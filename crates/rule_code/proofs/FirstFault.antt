@@ -1,11 +1,11 @@
 -- The first fault of a code file is that of its field.
-use Rattle.std.proofs.Common.{◌≡◌, ◌⊎◌, ℕ, zero, suc, ◌+◌, ◌-◌, ◌/◌, ◌%◌, ◌≤◌, ◌&&◌, not, Bool, true, false, cond, ltb, eqb, List, [], ◌∷◌, ◌++◌, length, take, drop, Result, Ok, Err, Option, Some, None, refl, sym, ap, subst, ◌∙◌, append_assoc, append-nil, inl, inr, arith}
+use Rattle.std.proofs.Common.{◌≡◌, ◌⊎◌, ℕ, zero, suc, ◌+◌, ◌-◌, ◌/◌, ◌%◌, ◌<◌, ◌≤◌, ◌&&◌, not, Bool, true, false, cond, ltb, eqb, List, [], ◌∷◌, ◌++◌, length, take, drop, Result, Ok, Err, Option, Some, None, refl, sym, ap, subst, ◌∙◌, append_assoc, add_assoc, append-nil, inl, inr, arith}
 use Rattle.std.specs.Prelude.{bytes_eq}
 use Rattle.std.specs.Int.{w16, w64, cast_signed}
 use Rattle.std.specs.Str.{is_utf8}
 use Rattle.std.proofs.lemmas.Bool.{ltb-false, cases_lt}
 use Rattle.std.proofs.lemmas.Slice.Eq.{bytes_eq-Decides}
-use Rattle.std.proofs.lemmas.List.{take_at, drop_at, take-append-drop, length-append, length-take}
+use Rattle.std.proofs.lemmas.List.{take_at, drop_at, take-append-drop, length-append, length-take, length-take-le}
 use Rattle.ocl_base.specs.Steps.{◌>>=◌}
 use Rattle.ocl_base.specs.Words.{is_name}
 use Rattle.ocl_base.proofs.ForAbove.{both_steps, ok_is}
@@ -25,8 +25,10 @@ use Rattle.rule_code.specs.KindReading.{row_numbered, ScalarSort, itself, of_sym
 use Rattle.rule_code.specs.Opcodes.{Fields, made, integer, boolean, number, text, symbol, scalar, collection, kind, opcodes, integer_from, boolean_from, fields_from, behind, instr_from}
 use Rattle.rule_code.specs.Parts.{text_from, named_once_from, named_twice_from, symbol_from, rule_name_from, code_from, rule_from, next_rule_from}
 use Rattle.rule_code.specs.CodeFile.{head_from, texts_from, symbols_from, rules_from, ended, whole_from, code_fault_at, with_offset, fault_part, CodeFaultAt}
-use Rattle.rule_code.specs.Laws.{most_field_bytes, FaultsAreOfFields}
-use Rattle.rule_code.proofs.FieldFaults.{Stopped, fault_of, Stops, IsReader, then, stops_then, reader_given, reader_then, reader_of, reader_map, IsShort, tested, reader_tested, short_tested, piece, reader_piece, short_piece, reader_number, short_number, reader_byte, reader_many}
+use Rattle.rule_code.specs.Laws.{most_field_bytes, may_be_cut, cut_flaw, FaultsAreOfFields}
+use Rattle.std.specs.Option.{option_map}
+use Rattle.std.proofs.Math.Seq.{take-append-add}
+use Rattle.rule_code.proofs.FieldFaults.{Passed, fault_of, err_of, IsReader, IsOfSome, then, reader_given, reader_then, reader_of, reader_map, IsField, tested, reader_tested, field_tested, piece, reader_piece, field_piece, reader_number, field_number, reader_byte, reader_many}
 
 -- ---- fields
 
@@ -36,8 +38,8 @@ wide = omega arith
 number_reader : IsReader (number_from w16)
 number_reader = reader_number w16 wide
 
-number_short : IsShort (number_from w16)
-number_short = short_number w16 wide
+number_field : IsField (number_from w16)
+number_field = field_number w16 wide
 
 abbrev within : ℕ → ℕ → Bool
 within limit n = not (ltb limit n)
@@ -61,11 +63,13 @@ reader_same f g same r = record {
         begins = s.begins;
         within = s.within;
         short = s.short;
+        cut = λ k lt. same (take (s.at + k) s.through) ∙ s.cut k lt;
         stays = elim s.stays [
           | inl cut ↦ inl cut
           | inr on ↦ inr (λ more left is. same (s.through ++ more) ∙ on more left is)
         ];
       };
+  flawed = λ bytes e h. r.flawed bytes e (sym (same bytes) ∙ h);
 }
 
 -- a count is tested against its limit
@@ -78,7 +82,7 @@ count_is limit bytes = by_read (number_from w16 bytes)
     by_read (Err e) = refl
 
 count_reader : (limit : ℕ) → IsReader (count_from limit)
-count_reader limit = reader_same (tested (number_from w16) (within limit) flaws.Limit) (count_from limit) (count_is limit) (reader_tested (number_from w16) (within limit) flaws.Limit number_reader number_short)
+count_reader limit = reader_same (tested (number_from w16) (within limit) flaws.Limit) (count_from limit) (count_is limit) (reader_tested (number_from w16) (within limit) flaws.Limit refl number_reader number_field)
 
 count_within : (limit : ℕ) (bytes : List ℕ) (x : ℕ × List ℕ) → count_from limit bytes ≡ Ok x → x.0 ≤ limit
 unfolding count_from
@@ -92,15 +96,15 @@ count_within limit bytes x h =
 
 text_number_reader : (texts : ℕ) → IsReader (text_number_from texts)
 unfolding text_number_from
-text_number_reader texts = reader_tested (number_from w16) (λ n. ltb n texts) flaws.BadNumber number_reader number_short
+text_number_reader texts = reader_tested (number_from w16) (λ n. ltb n texts) flaws.BadNumber refl number_reader number_field
 
-text_number_short : (texts : ℕ) → IsShort (text_number_from texts)
+text_number_field : (texts : ℕ) → IsField (text_number_from texts)
 unfolding text_number_from
-text_number_short texts = short_tested (number_from w16) (λ n. ltb n texts) flaws.BadNumber number_short
+text_number_field texts = field_tested (number_from w16) (λ n. ltb n texts) flaws.BadNumber number_field
 
 symbol_number_reader : (tag : SymbolTag) (symbols : List Symbol) → IsReader (symbol_number_from tag symbols)
 unfolding symbol_number_from
-symbol_number_reader tag symbols = reader_tested (number_from w16) (is_symbol_of tag symbols) flaws.BadNumber number_reader number_short
+symbol_number_reader tag symbols = reader_tested (number_from w16) (is_symbol_of tag symbols) flaws.BadNumber refl number_reader number_field
 
 -- the bytes of a text that isn't too long
 text_bytes_is : (n : ℕ) (bytes : List ℕ) → text_bytes_from n bytes ≡ tested (piece n (λ t. t)) is_utf8 flaws.BadText bytes
@@ -117,7 +121,7 @@ text_bytes_is n bytes = by_test (ltb (length bytes) n)
 text_bytes_reader : (n : ℕ) → n ≤ most_field_bytes → IsReader (text_bytes_from n)
 text_bytes_reader n few =
     reader_same (tested (piece n (λ t. t)) is_utf8 flaws.BadText) (text_bytes_from n) (text_bytes_is n)
-    (reader_tested (piece n (λ t. t)) is_utf8 flaws.BadText (reader_piece n (λ t. t) few) (short_piece n (λ t. t) few))
+    (reader_tested (piece n (λ t. t)) is_utf8 flaws.BadText refl (reader_piece n (λ t. t) few) (field_piece n (λ t. t) few))
 
 text_reader : IsReader text_from
 unfolding text_from
@@ -138,12 +142,12 @@ unfolding symbol_from
 symbol_reader texts = reader_byte (symbol_from texts) refl (λ tag. record { leads = leads tag (eqb tag 1) refl (eqb tag 2) refl (eqb tag 3) refl (eqb tag 4) refl })
   where
     leads : (tag : ℕ) (a : Bool) → eqb tag 1 ≡ a → (b : Bool) → eqb tag 2 ≡ b → (c : Bool) → eqb tag 3 ≡ c → (d : Bool) → eqb tag 4 ≡ d
-        → ((g : List ℕ → FieldRead Symbol) × IsReader g × ((rest : List ℕ) → symbol_from texts (tag ∷ rest) ≡ g rest)) ⊎ ((flaw : CodeFlaw) × ((rest : List ℕ) → symbol_from texts (tag ∷ rest) ≡ wrong flaw (tag ∷ rest)))
+        → ((g : List ℕ → FieldRead Symbol) × IsReader g × ((rest : List ℕ) → symbol_from texts (tag ∷ rest) ≡ g rest)) ⊎ ((flaw : CodeFlaw) × ((rest : List ℕ) → symbol_from texts (tag ∷ rest) ≡ wrong flaw (tag ∷ rest)) × IsOfSome flaw)
     leads tag true e b f c g d h = inl (named_once_from texts (λ n. symbols.Class (record { 0 = n })), once_reader texts (λ n. symbols.Class (record { 0 = n })), λ rest. rw e refl)
     leads tag false e true f c g d h = inl (named_once_from texts (λ n. symbols.Enumeration (record { 0 = n })), once_reader texts (λ n. symbols.Enumeration (record { 0 = n })), λ rest. rw (e, f) refl)
     leads tag false e false f true g d h = inl (named_twice_from texts (λ m n. symbols.Feature (record { 0 = m }) (record { 0 = n })), twice_reader texts (λ m n. symbols.Feature (record { 0 = m }) (record { 0 = n })), λ rest. rw (e, f, g) refl)
     leads tag false e false f false g true h = inl (named_twice_from texts (λ m n. symbols.Literal (record { 0 = m }) (record { 0 = n })), twice_reader texts (λ m n. symbols.Literal (record { 0 = m }) (record { 0 = n })), λ rest. rw (e, f, g, h) refl)
-    leads tag false e false f false g false h = inr (flaws.BadNumber, λ rest. rw (e, f, g, h) refl)
+    leads tag false e false f false g false h = inr (flaws.BadNumber, (λ rest. rw (e, f, g, h) refl), refl)
 
 -- ---- instructions
 
@@ -155,29 +159,29 @@ boolean_reader : IsReader boolean_from
 unfolding boolean_from
 boolean_reader = reader_byte boolean_from refl (λ b. record { leads = leads b })
   where
-    leads : (b : ℕ) → ((g : List ℕ → FieldRead Bool) × IsReader g × ((rest : List ℕ) → boolean_from (b ∷ rest) ≡ g rest)) ⊎ ((flaw : CodeFlaw) × ((rest : List ℕ) → boolean_from (b ∷ rest) ≡ wrong flaw (b ∷ rest)))
+    leads : (b : ℕ) → ((g : List ℕ → FieldRead Bool) × IsReader g × ((rest : List ℕ) → boolean_from (b ∷ rest) ≡ g rest)) ⊎ ((flaw : CodeFlaw) × ((rest : List ℕ) → boolean_from (b ∷ rest) ≡ wrong flaw (b ∷ rest)) × IsOfSome flaw)
     leads zero = inl ((λ rest. Ok (false, rest)), reader_of false, λ rest. refl)
     leads (suc zero) = inl ((λ rest. Ok (true, rest)), reader_of true, λ rest. refl)
-    leads (suc (suc b)) = inr (flaws.BadNumber, λ rest. refl)
+    leads (suc (suc b)) = inr (flaws.BadNumber, (λ rest. refl), refl)
 
 -- what follows a byte: a reader, or the fault of the byte
 abbrev Goes : {A : Type 0} → (List ℕ → FieldRead A) → ℕ → Type 0
-Goes {A} f b = ((g : List ℕ → FieldRead A) × IsReader g × ((rest : List ℕ) → f rest ≡ g rest)) ⊎ ((flaw : CodeFlaw) × ((rest : List ℕ) → f rest ≡ wrong flaw (b ∷ rest)))
+Goes {A} f b = ((g : List ℕ → FieldRead A) × IsReader g × ((rest : List ℕ) → f rest ≡ g rest)) ⊎ ((flaw : CodeFlaw) × ((rest : List ℕ) → f rest ≡ wrong flaw (b ∷ rest)) × IsOfSome flaw)
 
 goes_map : {A B : Type 0} (f : List ℕ → FieldRead A) (make : A → B) (b : ℕ) → Goes f b → Goes (λ rest. f rest >>= λ x. Ok (make x.0, x.1)) b
 goes_map {A} f make b goes = elim goes [
   | inl r ↦ inl (then r.0 (λ a bytes. Ok (make a, bytes)), reader_map r.0 make r.1, λ rest. ap (λ (x : FieldRead A). x >>= λ y. Ok (make y.0, y.1)) (r.2 rest))
-  | inr w ↦ inr (w.0, λ rest. ap (λ (x : FieldRead A). x >>= λ y. Ok (make y.0, y.1)) (w.1 rest))
+  | inr w ↦ inr (w.0, (λ rest. ap (λ (x : FieldRead A). x >>= λ y. Ok (make y.0, y.1)) (w.1 rest)), w.2)
 ]
 
 sort_goes : (symbols : List Symbol) (sort : Option ScalarSort) (b : ℕ) → Goes (λ rest. sort_from symbols sort (b ∷ rest) rest) b
-sort_goes symbols None b = inr (flaws.BadNumber, λ rest. refl)
+sort_goes symbols None b = inr (flaws.BadNumber, (λ rest. refl), refl)
 sort_goes symbols (Some (itself k)) b = inl ((λ rest. Ok (k, rest)), reader_of k, λ rest. refl)
 sort_goes symbols (Some (of_symbol tag make)) b =
     inl (then (symbol_number_from tag symbols) (λ n bytes. Ok (make (record { 0 = n }), bytes)), reader_map (symbol_number_from tag symbols) (λ n. make (record { 0 = n })) (symbol_number_reader tag symbols), λ rest. refl)
 
 elements_goes : (symbols : List Symbol) (c : Option CollectionKind) (n b : ℕ) → Goes (λ rest. elements_from symbols c n (b ∷ rest) rest) b
-elements_goes symbols None n b = inr (flaws.BadNumber, λ rest. refl)
+elements_goes symbols None n b = inr (flaws.BadNumber, (λ rest. refl), refl)
 elements_goes symbols (Some c) n b = goes_map (λ rest. element_from symbols n (b ∷ rest) rest) (λ k. (c, k)) b (sort_goes symbols (row_numbered scalar_sorts n) b)
 
 scalar_reader : (symbols : List Symbol) → IsReader (single_kind_from symbols)
@@ -211,7 +215,7 @@ fields_reader texts symbols (collection next) =
 fields_reader texts symbols (kind next) = reader_then (kind_from symbols) (λ k bytes. fields_from texts symbols (next k) bytes) (kind_reader symbols) (λ k. fields_reader texts symbols (next k))
 
 opcode_goes : (texts : ℕ) (symbols : List Symbol) (row : Option Fields) (opcode : ℕ) → Goes (λ rest. behind texts symbols row (opcode ∷ rest) rest) opcode
-opcode_goes texts symbols None opcode = inr (flaws.BadOpcode, λ rest. refl)
+opcode_goes texts symbols None opcode = inr (flaws.BadOpcode, (λ rest. refl), refl)
 opcode_goes texts symbols (Some row) opcode = inl (fields_from texts symbols row, fields_reader texts symbols row, λ rest. refl)
 
 instr_reader : (texts : ℕ) (symbols : List Symbol) → IsReader (instr_from texts symbols)
@@ -223,7 +227,7 @@ instr_reader texts symbols = reader_byte (instr_from texts symbols) refl (λ opc
 rule_name_reader : (texts : List (List ℕ)) (is_name_taken : List ℕ → Bool) → IsReader (rule_name_from texts is_name_taken)
 unfolding rule_name_from
 rule_name_reader texts is_name_taken =
-    reader_tested (text_number_from (length texts)) (λ n. is_name (text_at texts n) && not (is_name_taken (text_at texts n))) flaws.BadText (text_number_reader (length texts)) (text_number_short (length texts))
+    reader_tested (text_number_from (length texts)) (λ n. is_name (text_at texts n) && not (is_name_taken (text_at texts n))) flaws.BadText refl (text_number_reader (length texts)) (text_number_field (length texts))
 
 code_reader : (texts : ℕ) (symbols : List Symbol) → IsReader (code_from texts symbols)
 unfolding code_from
@@ -255,22 +259,38 @@ rules_reader texts symbols =
     reader_then (count_from 4096) (λ n bytes. many_from (next_rule_from texts symbols) [] n bytes) (count_reader 4096)
     (λ n. reader_many (next_rule_from texts symbols) (λ before. rule_reader texts symbols _) [] n)
 
-ended_stops : (u : Content) → Stops (ended u)
-ended_stops u [] e h = absurd cc
-ended_stops u (b ∷ rest) e h =
-    let same : fault_of flaws.Trailing (suc (length rest)) ≡ e = cc in
-    subst (λ (d : Fault). Stopped (ended u) (b ∷ rest) d) same (record {
-      through = b ∷ [];
-      rest = rest;
-      at = 0;
-      parts = refl;
-      begins = omega arith;
-      within = omega arith;
-      short = omega arith;
-      stays = inr (λ more left is. ap (λ (k : ℕ). Err (fault_of flaws.Trailing k)) (omega (arith, is)));
-    })
+-- the texts, the symbols and the rules, as one reader
+abbrev pub parts_from : List ℕ → FieldRead Content
+parts_from bytes = do
+  texts ← texts_from bytes
+  symbols ← symbols_from (length texts.0) texts.1
+  rules ← rules_from texts.0 symbols.0 symbols.1
+  Ok (record { texts = texts.0; symbols = symbols.0; rules = rules.0 }, rules.1)
 
--- what stands behind the magic and the version
+parts_reader : IsReader parts_from
+parts_reader =
+    let behind_symbols : List (List ℕ) → List Symbol → List ℕ → FieldRead Content = λ texts symbols bytes. rules_from texts symbols bytes >>= λ rules. Ok (record { texts = texts; symbols = symbols; rules = rules.0 }, rules.1) in
+    let behind_texts : List (List ℕ) → List ℕ → FieldRead Content = λ texts bytes. symbols_from (length texts) bytes >>= λ symbols. behind_symbols texts symbols.0 symbols.1 in
+    reader_then texts_from behind_texts texts_reader
+    (λ texts. reader_then (symbols_from (length texts)) (behind_symbols texts) (symbols_reader (length texts))
+    (λ symbols. reader_map (rules_from texts symbols) (λ rules. record { texts = texts; symbols = symbols; rules = rules }) (rules_reader texts symbols)))
+
+-- the version
+version_reader : IsReader (tested (number_from w16) (λ n. eqb n 1) flaws.Version)
+version_reader = reader_tested (number_from w16) (λ n. eqb n 1) flaws.Version refl number_reader number_field
+
+-- what follows the magic
+abbrev pub after_magic : List ℕ → FieldRead Content
+after_magic = then (tested (number_from w16) (λ n. eqb n 1) flaws.Version) (λ n. parts_from)
+
+after_magic_reader : IsReader after_magic
+after_magic_reader = reader_then (tested (number_from w16) (λ n. eqb n 1) flaws.Version) (λ n. parts_from) version_reader (λ n. parts_reader)
+
+-- what is read, and nothing after it
+abbrev pub whole_of : FieldRead Content → Result Content Fault
+whole_of read = read >>= λ u. ended u.0 u.1
+
+-- the texts, the symbols and the rules, and nothing after them
 abbrev body_from : List ℕ → Result Content Fault
 body_from bytes = do
   texts ← texts_from bytes
@@ -278,69 +298,75 @@ body_from bytes = do
   rules ← rules_from texts.0 symbols.0 symbols.1
   ended (record { texts = texts.0; symbols = symbols.0; rules = rules.0 }) rules.1
 
-body_stops : Stops body_from
-body_stops =
-    stops_then texts_from (λ texts bytes. symbols_from (length texts) bytes >>= λ symbols. rules_from texts symbols.0 symbols.1 >>= λ rules. ended (record { texts = texts; symbols = symbols.0; rules = rules.0 }) rules.1) texts_reader (λ bytes texts h.
-    stops_then (symbols_from (length texts.0)) (λ symbols bytes. rules_from texts.0 symbols bytes >>= λ rules. ended (record { texts = texts.0; symbols = symbols; rules = rules.0 }) rules.1) (symbols_reader (length texts.0)) (λ bytes symbols h.
-    stops_then (rules_from texts.0 symbols.0) (λ rules. ended (record { texts = texts.0; symbols = symbols.0; rules = rules })) (rules_reader texts.0 symbols.0) (λ bytes rules h.
-    ended_stops (record { texts = texts.0; symbols = symbols.0; rules = rules.0 }))))
+body_is : (bytes : List ℕ) → body_from bytes ≡ whole_of (parts_from bytes)
+body_is bytes = by_texts (texts_from bytes)
+  where
+    by_rules : (t : List (List ℕ) × List ℕ) (s : List Symbol × List ℕ) (r : FieldRead (List RuleContent)) → (r >>= λ rules. ended (record { texts = t.0; symbols = s.0; rules = rules.0 }) rules.1) ≡ whole_of (r >>= λ rules. Ok (record { texts = t.0; symbols = s.0; rules = rules.0 }, rules.1))
+    by_rules t s (Ok r) = refl
+    by_rules t s (Err e) = refl
 
--- the version
-version_reader : IsReader (tested (number_from w16) (λ n. eqb n 1) flaws.Version)
-version_reader = reader_tested (number_from w16) (λ n. eqb n 1) flaws.Version number_reader number_short
+    by_symbols : (t : List (List ℕ) × List ℕ) (s : FieldRead (List Symbol)) → (s >>= λ symbols. rules_from t.0 symbols.0 symbols.1 >>= λ rules. ended (record { texts = t.0; symbols = symbols.0; rules = rules.0 }) rules.1) ≡ whole_of (s >>= λ symbols. rules_from t.0 symbols.0 symbols.1 >>= λ rules. Ok (record { texts = t.0; symbols = symbols.0; rules = rules.0 }, rules.1))
+    by_symbols t (Ok s) = by_rules t s (rules_from t.0 s.0 s.1)
+    by_symbols t (Err e) = refl
 
--- all that follows the magic
-abbrev after_magic : List ℕ → Result Content Fault
-after_magic = then (tested (number_from w16) (λ n. eqb n 1) flaws.Version) (λ n. body_from)
-
-after_magic_stops : Stops after_magic
-after_magic_stops = stops_then (tested (number_from w16) (λ n. eqb n 1) flaws.Version) (λ n. body_from) version_reader (λ bytes x h. body_stops)
+    by_texts : (t : FieldRead (List (List ℕ))) → (t >>= λ texts. symbols_from (length texts.0) texts.1 >>= λ symbols. rules_from texts.0 symbols.0 symbols.1 >>= λ rules. ended (record { texts = texts.0; symbols = symbols.0; rules = rules.0 }) rules.1) ≡ whole_of (t >>= λ texts. symbols_from (length texts.0) texts.1 >>= λ symbols. rules_from texts.0 symbols.0 symbols.1 >>= λ rules. Ok (record { texts = texts.0; symbols = symbols.0; rules = rules.0 }, rules.1))
+    by_texts (Ok t) = by_symbols t (symbols_from (length t.0) t.1)
+    by_texts (Err e) = refl
 
 -- the file by its magic
-whole_is : (bytes : List ℕ) → whole_from bytes ≡ cond (bytes_eq (take 4 bytes) magic) (after_magic (drop 4 bytes)) (wrong flaws.Magic bytes)
+whole_is : (bytes : List ℕ) → whole_from bytes ≡ cond (bytes_eq (take 4 bytes) magic) (whole_of (after_magic (drop 4 bytes))) (wrong flaws.Magic bytes)
 unfolding whole_from head_from
 whole_is bytes = by_test (bytes_eq (take 4 bytes) magic)
   where
-    by_version : (r : FieldRead ℕ) → ((r >>= λ v. cond (eqb v.0 1) (Ok v.1) (wrong flaws.Version (drop 4 bytes))) >>= body_from) ≡ ((r >>= λ v. cond (eqb v.0 1) (Ok v) (wrong flaws.Version (drop 4 bytes))) >>= λ v. body_from v.1)
-    by_version (Ok v) = by_number (eqb v.0 1)
-      where
-        by_number : (b : Bool) → (cond b (Ok v.1) (wrong flaws.Version (drop 4 bytes)) >>= body_from) ≡ (cond b (Ok v) (wrong flaws.Version (drop 4 bytes)) >>= λ w. body_from w.1)
-        by_number true = refl
-        by_number false = refl
+    by_number : (v : ℕ × List ℕ) (b : Bool) → (cond b (Ok v.1) (wrong flaws.Version (drop 4 bytes)) >>= body_from) ≡ whole_of (cond b (Ok v) (wrong flaws.Version (drop 4 bytes)) >>= λ w. parts_from w.1)
+    by_number v true = body_is v.1
+    by_number v false = refl
+
+    by_version : (r : FieldRead ℕ) → ((r >>= λ v. cond (eqb v.0 1) (Ok v.1) (wrong flaws.Version (drop 4 bytes))) >>= body_from) ≡ whole_of ((r >>= λ v. cond (eqb v.0 1) (Ok v) (wrong flaws.Version (drop 4 bytes))) >>= λ v. parts_from v.1)
+    by_version (Ok v) = by_number v (eqb v.0 1)
     by_version (Err e) = refl
 
-    by_test : (b : Bool) → (cond b (number_from w16 (drop 4 bytes) >>= λ v. cond (eqb v.0 1) (Ok v.1) (wrong flaws.Version (drop 4 bytes))) (wrong flaws.Magic bytes) >>= body_from) ≡ cond b (after_magic (drop 4 bytes)) (wrong flaws.Magic bytes)
+    by_test : (b : Bool) → (cond b (number_from w16 (drop 4 bytes) >>= λ v. cond (eqb v.0 1) (Ok v.1) (wrong flaws.Version (drop 4 bytes))) (wrong flaws.Magic bytes) >>= body_from) ≡ cond b (whole_of (after_magic (drop 4 bytes))) (wrong flaws.Magic bytes)
     by_test true = by_version (number_from w16 (drop 4 bytes))
     by_test false = refl
 
--- the magic is there: what follows it is read
-after_stops : (bytes : List ℕ) (e : Fault) → bytes_eq (take 4 bytes) magic ≡ true → after_magic (drop 4 bytes) ≡ Err e → Stopped whole_from bytes e
-after_stops bytes e is h =
-    let s = after_magic_stops (drop 4 bytes) e h in
-    let four : length (take 4 bytes) ≡ 4 = ap length ((bytes_eq-Decides (take 4 bytes) magic).0 is) in
-    let len : length bytes ≡ 4 + length (drop 4 bytes) = omega (arith, four, ap length (take-append-drop 4 bytes), length-append (take 4 bytes) (drop 4 bytes)) in
-    let all : length (take 4 bytes ++ s.through) ≡ 4 + length s.through = omega (arith, four, length-append (take 4 bytes) s.through) in
-    record {
-      through = take 4 bytes ++ s.through;
-      rest = s.rest;
-      at = 4 + s.at;
-      parts = sym (take-append-drop 4 bytes) ∙ ap (λ (t : List ℕ). take 4 bytes ++ t) s.parts ∙ sym (append_assoc (take 4 bytes) s.through s.rest);
-      begins = omega (arith, len, s.begins);
-      within = omega (arith, all, s.within);
-      short = omega (arith, all, s.short);
-      stays = elim s.stays [
-        | inl cut ↦ inl cut
-        | inr on ↦ inr (λ more left at_left.
-            let regrouped : (take 4 bytes ++ s.through) ++ more ≡ take 4 bytes ++ (s.through ++ more) = append_assoc (take 4 bytes) s.through more in
-            let whole_length : (4 + s.at) + left ≡ length (take 4 bytes ++ (s.through ++ more)) = at_left ∙ ap length regrouped in
-            let here : s.at + left ≡ length (s.through ++ more) = omega (arith, whole_length, four, length-append (take 4 bytes) (s.through ++ more)) in
-            ap whole_from regrouped ∙ whole_is (take 4 bytes ++ (s.through ++ more))
-            ∙ rw (take_at (take 4 bytes) (s.through ++ more) 4 four, drop_at (take 4 bytes) (s.through ++ more) 4 four, is) (on more left here))
-      ];
-    }
+-- ---- the first fault of the file
+
+-- what a file gives that ends within the field
+abbrev CutAs : Option CodeFlaw → Result Content Fault → ℕ → Type 0
+CutAs None r left = (u : Content) × (r ≡ Ok u)
+CutAs (Some flaw) r left = r ≡ Err (fault_of flaw left)
+
+record StoppedFile (bytes : List ℕ) (e : Fault) : Type 0 where
+  pub through : List ℕ
+  pub rest : List ℕ
+  -- where the wrong field begins
+  pub at : ℕ
+  pub parts : bytes ≡ through ++ rest
+  pub begins : at + e.left ≡ length bytes
+  pub within : at ≤ length through
+  pub short : length through ≤ at + most_field_bytes
+  pub cut : (k : ℕ) → at + k < length through → CutAs (cut_flaw e.flaw) (whole_from (take (at + k) through)) k
+  pub stays : ((may_be_cut e.flaw ≡ true) × (rest ≡ [])) ⊎ ((more : List ℕ) (left : ℕ) → at + left ≡ length (through ++ more) → whole_from (through ++ more) ≡ Err (fault_of e.flaw left))
+
+-- a file of fewer than four bytes has no magic
+no_magic : (bytes : List ℕ) → length bytes < 4 → whole_from bytes ≡ Err (fault_of flaws.Magic (length bytes))
+no_magic bytes few = by_test (bytes_eq (take 4 bytes) magic) refl
+  where
+    by_test : (b : Bool) → bytes_eq (take 4 bytes) magic ≡ b → whole_from bytes ≡ Err (fault_of flaws.Magic (length bytes))
+    by_test true is =
+        let four : length (take 4 bytes) ≡ 4 = ap length ((bytes_eq-Decides (take 4 bytes) magic).0 is) in
+        absurd (omega (arith, four, length-take 4 bytes))
+    by_test false is = whole_is bytes ∙ rw is refl
+
+-- a file that ends within its first four bytes has no magic
+magic_cut : (bytes : List ℕ) (k : ℕ) → 0 + k < length bytes → length bytes ≤ 4 → whole_from (take (0 + k) bytes) ≡ Err (fault_of flaws.Magic k)
+magic_cut bytes k lt few =
+    let len : length (take (0 + k) bytes) ≡ k = omega (arith, length-take (0 + k) bytes) in
+    no_magic (take (0 + k) bytes) (omega (arith, len)) ∙ ap (λ (n : ℕ). Err (fault_of flaws.Magic n)) len
 
 -- the magic is not there
-magic_stops : (bytes : List ℕ) → bytes_eq (take 4 bytes) magic ≡ false → Stopped whole_from bytes (fault_of flaws.Magic (length bytes))
+magic_stops : (bytes : List ℕ) → bytes_eq (take 4 bytes) magic ≡ false → StoppedFile bytes (fault_of flaws.Magic (length bytes))
 magic_stops bytes not_there =
     elim (cases_lt (length bytes) 4) [
       | inl few ↦ record {
@@ -351,6 +377,7 @@ magic_stops bytes not_there =
         begins = omega arith;
         within = omega arith;
         short = omega arith;
+        cut = λ k lt. magic_cut bytes k lt (omega arith);
         stays = inl (refl, refl);
       }
       | inr enough ↦
@@ -363,21 +390,107 @@ magic_stops bytes not_there =
             begins = omega arith;
             within = omega arith;
             short = omega (arith, four);
+            cut = λ k lt. magic_cut (take 4 bytes) k lt (omega (arith, four));
             stays = inr (λ more left at_left.
                 whole_is (take 4 bytes ++ more) ∙ rw (take_at (take 4 bytes) more 4 four, not_there) (ap (λ (n : ℕ). Err (fault_of flaws.Magic n)) (omega (arith, at_left))));
           }
     ]
 
-whole_stops : Stops whole_from
-whole_stops bytes e h = by_test (bytes_eq (take 4 bytes) magic) refl
+-- the magic is there: what follows it is read
+module _ (bytes : List ℕ) (is : bytes_eq (take 4 bytes) magic ≡ true) where
+  four : length (take 4 bytes) ≡ 4
+  four = ap length ((bytes_eq-Decides (take 4 bytes) magic).0 is)
+
+  behind_magic : (tail : List ℕ) → whole_from (take 4 bytes ++ tail) ≡ whole_of (after_magic tail)
+  behind_magic tail = whole_is (take 4 bytes ++ tail) ∙ rw (take_at (take 4 bytes) tail 4 four, drop_at (take 4 bytes) tail 4 four, is) refl
+
+  len : length bytes ≡ 4 + length (drop 4 bytes)
+  len = omega (arith, four, ap length (take-append-drop 4 bytes), length-append (take 4 bytes) (drop 4 bytes))
+
+  all : (tail : List ℕ) → length (take 4 bytes ++ tail) ≡ 4 + length tail
+  all tail = omega (arith, four, length-append (take 4 bytes) tail)
+
+  taken : (n : ℕ) (tail : List ℕ) → take (4 + n) (take 4 bytes ++ tail) ≡ take 4 bytes ++ take n tail
+  taken n tail = ap (λ (m : ℕ). take (m + n) (take 4 bytes ++ tail)) (sym four) ∙ take-append-add (take 4 bytes) tail n
+
+  -- the fault of a field
+  field_stops : (e : Fault) → after_magic (drop 4 bytes) ≡ Err e → StoppedFile bytes e
+  field_stops e h =
+      let s = after_magic_reader.stops (drop 4 bytes) e h in
+      record {
+        through = take 4 bytes ++ s.through;
+        rest = s.rest;
+        at = 4 + s.at;
+        parts = sym (take-append-drop 4 bytes) ∙ ap (λ (t : List ℕ). take 4 bytes ++ t) s.parts ∙ sym (append_assoc (take 4 bytes) s.through s.rest);
+        begins = omega (arith, len, s.begins);
+        within = omega (arith, all s.through, s.within);
+        short = omega (arith, all s.through, s.short);
+        cut = λ k lt.
+            let inside : s.at + k < length s.through = omega (arith, lt, all s.through) in
+            let here : whole_from (take ((4 + s.at) + k) (take 4 bytes ++ s.through)) ≡ Err (fault_of flaws.Truncated k) =
+            ap (λ (n : ℕ). whole_from (take n (take 4 bytes ++ s.through))) (add_assoc 4 s.at k) ∙ ap whole_from (taken (s.at + k) s.through) ∙ behind_magic (take (s.at + k) s.through) ∙ ap whole_of (s.cut k inside) in
+            rw (after_magic_reader.flawed (drop 4 bytes) e h) here;
+        stays = elim s.stays [
+          | inl cut ↦ inl cut
+          | inr on ↦ inr (λ more left at_left.
+              let regrouped : (take 4 bytes ++ s.through) ++ more ≡ take 4 bytes ++ (s.through ++ more) = append_assoc (take 4 bytes) s.through more in
+              let whole_length : (4 + s.at) + left ≡ length (take 4 bytes ++ (s.through ++ more)) = at_left ∙ ap length regrouped in
+              let here : s.at + left ≡ length (s.through ++ more) = omega (arith, whole_length, all (s.through ++ more)) in
+              ap whole_from regrouped ∙ behind_magic (s.through ++ more) ∙ ap whole_of (on more left here))
+        ];
+      }
+
+  -- bytes behind the last rule
+  trailing_stops : (u : Content) (b : ℕ) (rest : List ℕ) → Passed after_magic (drop 4 bytes) (u, b ∷ rest) → StoppedFile bytes (fault_of flaws.Trailing (suc (length rest)))
+  trailing_stops u b rest p =
+      let one : List ℕ = b ∷ [] in
+      let tail : List ℕ = p.used ++ one in
+      let tail_length : length tail ≡ length p.used + 1 = omega (arith, length-append p.used one) in
+      let more_is : (more : List ℕ) → tail ++ more ≡ p.used ++ (b ∷ more) = λ more. append_assoc p.used one more in
+      record {
+        through = take 4 bytes ++ tail;
+        rest = rest;
+        at = 4 + length p.used;
+        parts = sym (take-append-drop 4 bytes) ∙ ap (λ (t : List ℕ). take 4 bytes ++ t) (p.parts ∙ sym (more_is rest)) ∙ sym (append_assoc (take 4 bytes) tail rest);
+        begins = omega (arith, len, ap length p.parts, length-append p.used (b ∷ rest));
+        within = omega (arith, all tail, tail_length);
+        short = omega (arith, all tail, tail_length);
+        cut = λ k lt.
+            let none : k ≡ 0 = omega (arith, lt, all tail, tail_length) in
+            let before : take (length p.used + k) tail ≡ p.used ++ [] = ap (λ (n : ℕ). take (length p.used + n) tail) none ∙ take-append-add p.used one 0 in
+            let here : whole_from (take ((4 + length p.used) + k) (take 4 bytes ++ tail)) ≡ Ok u =
+            ap (λ (n : ℕ). whole_from (take n (take 4 bytes ++ tail))) (add_assoc 4 (length p.used) k) ∙ ap whole_from (taken (length p.used + k) tail) ∙ behind_magic (take (length p.used + k) tail) ∙ ap (λ (t : List ℕ). whole_of (after_magic t)) before ∙ ap whole_of (p.again []) in
+            (u, here);
+        stays = inr (λ more left at_left.
+            let left_is : left ≡ suc (length more) = omega (arith, at_left, length-append (take 4 bytes ++ tail) more, all tail, tail_length) in
+            ap whole_from (append_assoc (take 4 bytes) tail more) ∙ behind_magic (tail ++ more) ∙ ap (λ (t : List ℕ). whole_of (after_magic t)) (more_is more) ∙ ap whole_of (p.again (b ∷ more)) ∙ ap (λ (n : ℕ). Err (fault_of flaws.Trailing n)) (sym left_is));
+      }
+
+  behind_stops : (u : Content) (rest : List ℕ) (e : Fault) → after_magic (drop 4 bytes) ≡ Ok (u, rest) → ended u rest ≡ Err e → StoppedFile bytes e
+  behind_stops u [] e read h = absurd cc
+  behind_stops u (b ∷ rest) e read h =
+      let same : fault_of flaws.Trailing (suc (length rest)) ≡ e = cc in
+      subst (λ (d : Fault). StoppedFile bytes d) same (trailing_stops u b rest (after_magic_reader.passes (drop 4 bytes) (u, b ∷ rest) read))
+
+  after_stops : (e : Fault) → whole_of (after_magic (drop 4 bytes)) ≡ Err e → StoppedFile bytes e
+  after_stops e h =
+      elim (err_of (after_magic (drop 4 bytes)) (λ u. ended u.0 u.1) e h) [
+        | inl stop ↦ field_stops e stop
+        | inr p ↦ behind_stops p.0.0 p.0.1 e p.1 p.2
+      ]
+
+file_stops : (bytes : List ℕ) (e : Fault) → whole_from bytes ≡ Err e → StoppedFile bytes e
+file_stops bytes e h = by_test (bytes_eq (take 4 bytes) magic) refl
   where
-    by_test : (b : Bool) → bytes_eq (take 4 bytes) magic ≡ b → Stopped whole_from bytes e
-    by_test true is = after_stops bytes e is (let chosen : cond (bytes_eq (take 4 bytes) magic) (after_magic (drop 4 bytes)) (wrong flaws.Magic bytes) ≡ Err e = sym (whole_is bytes) ∙ h in rw is at chosen)
+    chosen : cond (bytes_eq (take 4 bytes) magic) (whole_of (after_magic (drop 4 bytes))) (wrong flaws.Magic bytes) ≡ Err e
+    chosen = sym (whole_is bytes) ∙ h
+
+    by_test : (b : Bool) → bytes_eq (take 4 bytes) magic ≡ b → StoppedFile bytes e
+    by_test true is = after_stops bytes is e (rw is at chosen)
     by_test false is =
-        let chosen : cond (bytes_eq (take 4 bytes) magic) (after_magic (drop 4 bytes)) (wrong flaws.Magic bytes) ≡ Err e = sym (whole_is bytes) ∙ h in
         let wrong_magic : wrong {A = Content} flaws.Magic bytes ≡ Err e = rw is at chosen in
         let same : fault_of flaws.Magic (length bytes) ≡ e = cc in
-        subst (λ (d : Fault). Stopped whole_from bytes d) same (magic_stops bytes is)
+        subst (λ (d : Fault). StoppedFile bytes d) same (magic_stops bytes is)
 
 -- ---- the law
 
@@ -386,20 +499,33 @@ fault_is : (r : Result Content Fault) (size : ℕ) (fault : CodeFaultAt) → fau
 fault_is (Ok u) size fault h = absurd cc
 fault_is (Err e) size fault h = (e, refl, cc)
 
--- what follows the field of the first fault doesn't matter, unless the end of the file cuts the field
+-- the first fault of a file that ends within the field
+cut_is : (cut : Option CodeFlaw) (size at k : ℕ) (r : Result Content Fault) → CutAs cut r k → size ≡ at + k → fault_part (with_offset size r) ≡ option_map (λ flaw. record { flaw = flaw; offset = at }) cut
+cut_is None size at k r h e = rw h.1 refl
+cut_is (Some flaw) size at k r h e =
+    let offset : size - k ≡ at = omega (arith, e) in
+    rw h (ap (λ (n : ℕ). Some (record { flaw = flaw; offset = n })) offset)
+
+-- the first fault begins at its offset, and what follows its field doesn't matter, unless the end of the file cuts the field
 pub faults_are_of_fields : FaultsAreOfFields
 faults_are_of_fields bytes fault h =
     let f = fault_is (whole_from bytes) (length bytes) fault h in
-    let s = whole_stops bytes f.0 f.1 in
+    let s = file_stops bytes f.0 f.1 in
     let flaw_is : f.0.flaw ≡ fault.flaw = ap (λ (c : CodeFaultAt). c.flaw) f.2 in
     let offset_is : length bytes - f.0.left ≡ fault.offset = ap (λ (c : CodeFaultAt). c.offset) f.2 in
-    let at_offset : s.at ≡ fault.offset = omega (arith, offset_is, s.begins) in (
-      s.through,
-      s.rest,
-      s.parts,
-      omega (arith, at_offset, s.within),
-      omega (arith, at_offset, s.short),
-      elim s.stays [
+    let at_offset : s.at ≡ fault.offset = omega (arith, offset_is, s.begins) in
+    record {
+      through = s.through;
+      rest = s.rest;
+      parts = s.parts;
+      begins = omega (arith, at_offset, s.within);
+      short = omega (arith, at_offset, s.short);
+      cut = λ k lt.
+          let part : List ℕ = take (fault.offset + k) s.through in
+          let size : length part ≡ fault.offset + k = length-take-le (fault.offset + k) s.through (omega arith) in
+          let here = rw (at_offset, flaw_is) at (s.cut k (omega (arith, lt, at_offset))) in
+          cut_is (cut_flaw fault.flaw) (length part) fault.offset k (whole_from part) here size;
+      stays = elim s.stays [
         | inl cut ↦ inl (rw flaw_is at cut.0, cut.1)
         | inr on ↦ inr (λ more.
             let size = length (s.through ++ more) in
@@ -407,5 +533,5 @@ faults_are_of_fields bytes fault h =
             let again : whole_from (s.through ++ more) ≡ Err (fault_of f.0.flaw (size - s.at)) = on more (size - s.at) left_is in
             let offset_again : size - (size - s.at) ≡ fault.offset = omega (arith, at_offset, s.within, length-append s.through more) in
             ap (λ (r : Result Content Fault). fault_part (with_offset size r)) again ∙ ap (λ (n : ℕ). Some (record { flaw = f.0.flaw; offset = n })) offset_again ∙ ap (λ (w : CodeFlaw). Some (record { flaw = w; offset = fault.offset })) flaw_is)
-      ],
-    )
+      ];
+    }

@@ -2,6 +2,7 @@ pub mod Loop
 pub mod RuleNames
 pub mod Bytes
 pub mod Codec
+pub mod Decided
 pub mod Fields
 pub mod Symbols
 pub mod KindFields

@@ -1,5 +1,5 @@
 -- The unit that bytes spell, or the first field that spells none.
-use Rattle.std.specs.Prelude.{◌≡◌, ℕ, ◌-◌, List, [], ◌∷◌, length, take, drop, Result, Ok, Err, Option, Some, None, ◌==◌, if◌then◌else◌, bytes_eq}
+use Rattle.std.specs.Prelude.{◌≡◌, ℕ, zero, suc, ◌-◌, List, [], ◌∷◌, length, take, drop, Result, Ok, Err, Option, Some, None, ◌==◌, if◌then◌else◌, bytes_eq}
 use Rattle.std.specs.Int.{w16}
 use Rattle.rule_code.specs.declared.fault.CodeFlaw.{CodeFlaw}
 use Rattle.rule_code.specs.declared.fault.CodeFlaw.TheVariants as flaws
@@ -27,6 +27,19 @@ texts_from bytes = do
   n ← number_from w16 bytes
   many_from (λ before. text_from) [] n.0 n.1
 
+-- the first of so many texts, if there are any
+abbrev pub first_of : ℕ → List ℕ → Result (Unit {0}) Fault
+first_of zero bytes = Ok tt
+first_of (suc n) bytes = do
+  text ← text_from bytes
+  Ok tt
+
+-- how many texts, and the first of them
+unfoldable pub first_text_from : List ℕ → Result (Unit {0}) Fault
+first_text_from bytes = do
+  n ← number_from w16 bytes
+  first_of n.0 n.1
+
 -- how many symbols, then the symbols
 unfoldable pub symbols_from : ℕ → List ℕ → FieldRead (List Symbol)
 symbols_from texts bytes = do
@@ -52,6 +65,19 @@ whole_from bytes = do
   symbols ← symbols_from (length texts.0) texts.1
   rules ← rules_from texts.0 symbols.0 symbols.1
   ended (record { texts = texts.0; symbols = symbols.0; rules = rules.0 }) rules.1
+
+-- what is read before anything is allocated: magic, version, how many texts, and the first of them
+unfoldable pub decided_from : List ℕ → Result (Unit {0}) Fault
+decided_from bytes = do
+  rest ← head_from bytes
+  first_text_from rest
+
+-- Behind magic and version there are no texts. Then nothing is allocated at all, since a symbol and a rule name texts.
+pub record HasNoTexts (bytes : List ℕ) : Type 0 where
+  pub rest : List ℕ
+  pub after : List ℕ
+  pub head : head_from bytes ≡ Ok rest
+  pub count : number_from w16 rest ≡ Ok (0, after)
 
 -- what is wrong, and the byte where the wrong field begins
 pub record CodeFaultAt : Type 0 where
@@ -89,10 +115,10 @@ CodeAnswers bytes (Ok u) = unit_of bytes ≡ Ok (content u)
 CodeAnswers bytes (Err faults.OutOfMemory) = Unit {0}
 CodeAnswers bytes (Err (faults.At flaw offset)) = unit_of bytes ≡ Err (record { flaw = flaw; offset = offset })
 
--- a fault of the magic or the version is answered, whatever memory there is
-abbrev pub AnswersHead : {U : Type 0} → List ℕ → Result U CodeFault → Type 0
-AnswersHead bytes result =
-    (f : Fault) → head_from bytes ≡ Err f → result ≡ Err (faults.At f.flaw (length bytes - f.left))
+-- a fault that is found before anything is allocated is answered, whatever memory there is
+abbrev pub AnswersDecided : {U : Type 0} → List ℕ → Result U CodeFault → Type 0
+AnswersDecided bytes result =
+    (f : Fault) → decided_from bytes ≡ Err f → result ≡ Err (faults.At f.flaw (length bytes - f.left))
 
 -- this unit was read, unless memory ran out
 abbrev pub IsReadAs : Content → Result unit.Unit CodeFault → Type 0

@@ -19,8 +19,8 @@ pub fn reading_undoes_spelling()
         (unit_of bytes ≡ Ok u) ↔ (IsUnit u × (bytes ≡ spelling u)) }
 {}
 
-/// The first fault's field begins in the file or at its end, and files that agree through that field
-/// have the same first fault, unless the file's end cuts that field off.
+/// The first fault's field begins at its offset: a file that ends there or within the field is wrong at that very offset. And
+/// files that agree through that field have the same first fault, unless the file's end cuts that field off.
 pub fn faults_are_of_fields()
     ensures { FaultsAreOfFields }
 {}

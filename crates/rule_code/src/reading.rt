@@ -1,9 +1,9 @@
 //! Reading a code file.
 
-ghost use Rattle.std.specs.Prelude.{◌≡◌, ◌≢◌, List, IfOk, IfErr};
+ghost use Rattle.std.specs.Prelude.{◌≡◌, ◌≢◌, List, Err, IfOk, IfErr, IsErr};
 ghost use Rattle.rule_code.specs.Content.{Content, content_of};
-ghost use Rattle.rule_code.specs.Reading.{Fault, Reads};
-ghost use Rattle.rule_code.specs.CodeFile.{head_from, whole_from, AnswersHead, CodeAnswers, IsReadAs, IsFirstCodeFault};
+ghost use Rattle.rule_code.specs.Reading.{Reads};
+ghost use Rattle.rule_code.specs.CodeFile.{head_from, whole_from, AnswersDecided, HasNoTexts, decided_from, CodeAnswers, IsReadAs, IsFirstCodeFault};
 ghost use Rattle.rule_code.specs.Spelling.{spelling};
 ghost use Rattle.rule_code.specs.View.{content};
 ghost use Rattle.rule_code.specs.WellFormed.{IsUnit};
@@ -46,8 +46,10 @@ type Parts = (Vec<String>, Vec<Symbol>, Vec<Rule>);
 fn whole(alloc: Global, bytes: &[u8]) -> Result<Parts, FieldFault>
     ensures gives { Reads (λ x. content_of x.0.items x.1.items x.2.items) result
         (whole_from bytes.now) }
-    ensures head { (f : Fault) → head_from bytes.now ≡ Err f
-        → result ≡ Err (FieldFault.At f.flaw f.left) }
+    ensures decided { IsErr (decided_from bytes.now)
+        → IfErr result (λ e. e ≢ FieldFault.OutOfMemory) }
+    ensures without_texts { HasNoTexts bytes.now
+        → IfErr result (λ e. e ≢ FieldFault.OutOfMemory) }
 {
     let rest = after_head(bytes)?;
     let (texts, rest) = texts_from(alloc, rest)?;
@@ -63,8 +65,8 @@ fn whole(alloc: Global, bytes: &[u8]) -> Result<Parts, FieldFault>
 ///
 /// Bytes that spell none are answered by `CodeFault::At`, with the first field in the order of the
 /// file that isn't whole or that the format forbids, and the byte where it begins.
-/// `CodeFault::OutOfMemory` may come in place of either answer, but not of Magic, Version or a file that
-/// ends in them: these are found before anything is allocated.
+/// `CodeFault::OutOfMemory` may come in place of either answer, but for those that are found before anything is
+/// allocated: the faults of the magic, the version, the count of texts and the first text, and with no texts all.
 pub fn read_unit(alloc: Global, bytes: &[u8]) -> Result<Unit, CodeFault>
     // The bytes spell the unit that is given.
     ensures found { IfOk result (λ u. bytes.now ≡ spelling (content u)) }
@@ -74,8 +76,11 @@ pub fn read_unit(alloc: Global, bytes: &[u8]) -> Result<Unit, CodeFault>
     ensures fault { IfErr result (IsFirstCodeFault bytes.now) }
     // The same in one: the unit or the first fault of these bytes.
     ensures exact { CodeAnswers bytes.now result }
-    // A fault of the magic or the version is answered, whatever memory there is.
-    ensures head { AnswersHead bytes.now result }
+    // A fault that is found before anything is allocated is answered, whatever memory there is: one of the
+    // magic, the version, the count of texts or the first text.
+    ensures decided { AnswersDecided bytes.now result }
+    // Without texts nothing is allocated, so every answer is given, whatever memory there is.
+    ensures without_texts { HasNoTexts bytes.now → result ≢ Err CodeFault.OutOfMemory }
 {
     match whole(alloc, bytes) {
         Ok((texts, symbols, rules)) => Ok(Unit {

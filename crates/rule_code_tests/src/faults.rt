@@ -77,6 +77,13 @@ const FAULTS: &str = "\
 # 4,097 rules, a text of 4,097 bytes
 4f434c42 0001 0000 0000 1001: Limit at 10
 4f434c42 0001 0001 1001: Limit at 8
+# no texts: a count of symbols and one of rules that are cut, a symbol and a rule without their texts
+4f434c42 0001 0000 00: Truncated at 8
+4f434c42 0001 0000 0001: Truncated at 10
+4f434c42 0001 0000 0001 01 0000: BadNumber at 11
+4f434c42 0001 0000 0000 00: Truncated at 10
+4f434c42 0001 0000 0000 0001: Truncated at 12
+4f434c42 0001 0000 0000 0001 0000 0000 0000: BadNumber at 12
 # a byte after the last rule
 4f434c42 0001 0000 0000 0000 00: Trailing at 12
 ";

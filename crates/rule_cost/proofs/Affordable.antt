@@ -47,7 +47,7 @@ pub first_refused : (u : Content) (z : Sizes) (budget r : ℕ) → r < length u.
 first_refused u z budget r lt h over =
     ap refused_at (least_first (λ k. not (is_affordable budget (limited_bound (rule_step_bound u z k)))) (length u.rules) r lt (ap not over) (λ k less. ap not (h k less)))
 
--- more steps than the budget
+-- more charges than the budget
 pub steps_above : (budget n : ℕ) (b : Bound) → b ≡ Steps n → budget < n → is_affordable budget b ≡ false
 steps_above budget n b is lt = ap (is_affordable budget) is ∙ lt-leb n budget lt
 

@@ -19,7 +19,7 @@ use Rattle.rule_cost.specs.Limits.{step_limit, limited_bound}
 abbrev pub rule_surroundings : Content → Sizes → ℕ → Surroundings
 rule_surroundings u z r = surroundings z.model u r (unwrap_or (context_class z.model u (unit_rule u r)) 0)
 
--- an upper limit on the steps that the rule of an index makes for an object, in a population of these sizes; a run may
+-- an upper limit on what the run of the rule of an index is charged for an object, in a population of these sizes; a run may
 -- need fewer
 abbrev pub rule_step_bound : Content → Sizes → ℕ → ℕ
 rule_step_bound u z r = step_bound (rule_surroundings u z r) z (code_tree (unit_rule u r).code)

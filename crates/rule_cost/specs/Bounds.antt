@@ -1,5 +1,5 @@
--- Bounds on code trees: how long collections get, and how many steps a run makes. Numbers have no limit.
-use Rattle.std.specs.Prelude.{ℕ, ◌+◌, ◌*◌, min, max, List, [], ◌∷◌, length, drop, Option, Some, None, slice_index_or, if◌then◌else◌}
+-- Bounds on code trees: how long collections get, and what a run is charged. Numbers have no limit.
+use Rattle.std.specs.Prelude.{ℕ, ◌+◌, ◌*◌, min, max, List, [], ◌∷◌, ◌++◌, length, drop, Option, Some, None, slice_index_or, if◌then◌else◌}
 use Rattle.imkl_model.specs.declared.feature.ElementType.{ElementType}
 use Rattle.imkl_model.specs.declared.feature.ElementType.TheVariants as type
 use Rattle.imkl_model.specs.declared.feature.FeatureInfo.{FeatureInfo}
@@ -8,11 +8,12 @@ use Rattle.imkl_model.specs.Features.{is_attribute}
 use Rattle.imkl_population.specs.Sizes.{Sizes}
 use Rattle.rule_code.specs.declared.instruction.Instr.{Instr}
 use Rattle.rule_code.specs.declared.instruction.Instr.TheVariants as instrs
+use Rattle.rule_code.specs.declared.kind.WrittenKind.TheVariants as kinds
 use Rattle.rule_verify.specs.declared.named.Named.{Named}
 use Rattle.rule_verify.specs.declared.named.Named.TheVariants as named
 use Rattle.rule_verify.specs.Symbols.{named_at}
 use Rattle.rule_verify.specs.CodeTree.{CodeTree, End, Plain, Block, Branch, Torn}
-use Rattle.rule_verify.specs.InstrKinds.{Surroundings, operands_of, variable_at}
+use Rattle.rule_verify.specs.InstrKinds.{Surroundings, operands_of, operands_above, variable_at}
 
 -- ---- lengths of collections
 
@@ -60,12 +61,16 @@ length_given s z vars (instrs.AsColl c k) ls = 1
 length_given s z vars (instrs.AsSet k) ls = top_length ls
 length_given s z vars i ls = 0
 
--- the length of the variable that a block binds, by that of the operand that it takes
-abbrev pub length_bound_by : Instr → ℕ → ℕ
-length_bound_by (instrs.Let n) l = l
-length_bound_by i l = 0
+-- the length of the operand that a block works on
+abbrev pub block_length : Instr → List ℕ → ℕ
+block_length i ls = top_length (drop (operands_above i) ls)
 
--- the length of what a block with one body gives, by those of the operand that it takes and of what its body ends with
+-- the lengths of the variables that a block binds, the newest first, by that of the operand that it works on
+abbrev pub lengths_bound_by : Instr → ℕ → List ℕ
+lengths_bound_by (instrs.Let n) l = l ∷ []
+lengths_bound_by i l = 0 ∷ []
+
+-- the length of what a block with one body gives, by those of the operand that it works on and of what its body ends with
 abbrev pub length_yielded : Instr → ℕ → ℕ → ℕ
 length_yielded (instrs.Let n) l r = r
 length_yielded (instrs.Select n) l r = l
@@ -74,27 +79,53 @@ length_yielded (instrs.Collect n) l r = l
 length_yielded (instrs.CollectFlat n) l r = l * r
 length_yielded i l r = 0
 
--- ---- steps
+-- ---- charges
 
--- the steps of a block with one body, by the length of the operand that it takes and the steps of its body
-abbrev pub block_steps : Instr → ℕ → ℕ → ℕ
-block_steps (instrs.Let n) l b = 2 + b
-block_steps i l b = 2 + l * (1 + b)
+-- the length of the operand below the topmost one
+abbrev pub second_length : List ℕ → ℕ
+second_length ls = top_length (drop 1 ls)
 
--- the steps of a block with two bodies, by theirs
-abbrev pub branch_steps : ℕ → ℕ → ℕ
-branch_steps n m = 1 + max n m
+-- what an instruction without a body is charged besides its step, by the lengths of its operands, the topmost first
+abbrev pub extra_charge : Instr → List ℕ → ℕ
+extra_charge (instrs.Includes k) ls = second_length ls
+extra_charge (instrs.Count k) ls = second_length ls
+extra_charge (instrs.IncAll k) ls = second_length ls * top_length ls
+extra_charge (instrs.ExcAll k) ls = second_length ls * top_length ls
+extra_charge (instrs.Eq (kinds.Collection c k)) ls = second_length ls * top_length ls
+extra_charge instrs.Sum ls = top_length ls
+extra_charge (instrs.AsSet k) ls = top_length ls * top_length ls
+extra_charge i ls = 0
+
+-- what the step is charged besides that takes the value of an iteration's body, by the length of that value
+abbrev pub taking_charge : Instr → ℕ → ℕ
+taking_charge (instrs.CollectFlat n) m = m
+taking_charge i m = 0
+
+-- what the step is charged besides that ends an iteration, by the length of its source
+abbrev pub ending_charge : Instr → ℕ → ℕ
+ending_charge (instrs.IsUnique k n) l = l * l
+ending_charge i l = 0
+
+-- the charges of a block with one body, by the length of the operand that it works on, the charges of its body and the
+-- length of what its body ends with
+abbrev pub block_charges : Instr → ℕ → ℕ → ℕ → ℕ
+block_charges (instrs.Let n) l b m = 2 + b
+block_charges i l b m = 2 + l * (1 + b + taking_charge i m) + ending_charge i l
+
+-- the charges of a block with two bodies, by theirs
+abbrev pub branch_charges : ℕ → ℕ → ℕ
+branch_charges n m = 1 + max n m
 
 -- ---- code
 
--- steps, and the lengths of the operands afterwards, the topmost first
+-- charges, and the lengths of the operands afterwards, the topmost first
 pub record Cost : Type 0 where
-  pub steps : ℕ
+  pub charges : ℕ
   pub lengths : List ℕ
 
--- the cost with n more steps before it
-abbrev pub more_steps : ℕ → Cost → Cost
-more_steps n c = record { steps = n + c.steps; lengths = c.lengths }
+-- the cost with n more charges before it
+abbrev pub more_charges : ℕ → Cost → Cost
+more_charges n c = record { charges = n + c.charges; lengths = c.lengths }
 
 -- the operands below those that an instruction takes
 abbrev pub lengths_below : Surroundings → Instr → List ℕ → List ℕ
@@ -102,20 +133,20 @@ lengths_below s i ls = drop (length (operands_of s i)) ls
 
 -- the cost of a tree, by the lengths of the variables and of the operands before it
 abbrev pub cost_of : Surroundings → Sizes → CodeTree → List ℕ → List ℕ → Cost
-cost_of s z End vars ls = record { steps = 0; lengths = ls }
-cost_of s z (Plain i rest) vars ls = more_steps 1 (cost_of s z rest vars (length_given s z vars i ls ∷ lengths_below s i ls))
+cost_of s z End vars ls = record { charges = 0; lengths = ls }
+cost_of s z (Plain i rest) vars ls = more_charges (1 + extra_charge i ls) (cost_of s z rest vars (length_given s z vars i ls ∷ lengths_below s i ls))
 cost_of s z (Block i body rest) vars ls =
-    more_steps (block_steps i (top_length ls) (cost_of s z body (length_bound_by i (top_length ls) ∷ vars) []).steps)
+    more_charges (block_charges i (block_length i ls) (cost_of s z body (lengths_bound_by i (block_length i ls) ++ vars) []).charges (top_length (cost_of s z body (lengths_bound_by i (block_length i ls) ++ vars) []).lengths))
     (cost_of s z rest vars
-    (length_yielded i (top_length ls) (top_length (cost_of s z body (length_bound_by i (top_length ls) ∷ vars) []).lengths)
+    (length_yielded i (block_length i ls) (top_length (cost_of s z body (lengths_bound_by i (block_length i ls) ++ vars) []).lengths)
     ∷ lengths_below s i ls))
 cost_of s z (Branch i first second rest) vars ls =
-    more_steps (branch_steps (cost_of s z first vars []).steps (cost_of s z second vars []).steps)
+    more_charges (branch_charges (cost_of s z first vars []).charges (cost_of s z second vars []).charges)
     (cost_of s z rest vars
     (max (top_length (cost_of s z first vars []).lengths) (top_length (cost_of s z second vars []).lengths)
     ∷ lengths_below s i ls))
-cost_of s z (Torn i left) vars ls = record { steps = 0; lengths = ls }
+cost_of s z (Torn i left) vars ls = record { charges = 0; lengths = ls }
 
--- an upper limit on the steps that a rule's code makes, whose variable 0 is an object
+-- an upper limit on what a run of a rule's code is charged, whose variable 0 is an object
 abbrev pub step_bound : Surroundings → Sizes → CodeTree → ℕ
-step_bound s z t = (cost_of s z t (0 ∷ []) []).steps
+step_bound s z t = (cost_of s z t (0 ∷ []) []).charges

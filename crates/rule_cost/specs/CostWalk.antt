@@ -11,7 +11,7 @@ use Rattle.rule_cost.specs.declared.place.Place.{Place}
 use Rattle.rule_cost.specs.declared.place.Advance.{Advance}
 use Rattle.rule_cost.specs.declared.place.Total.{Total}
 use Rattle.rule_cost.specs.declared.sized.SizedCode.{SizedCode}
-use Rattle.rule_cost.specs.Bounds.{Cost, more_steps, top_length, cost_of}
+use Rattle.rule_cost.specs.Bounds.{Cost, more_charges, top_length, cost_of}
 use Rattle.rule_cost.specs.Limits.{SameCut}
 use Rattle.rule_cost.specs.Admission.{Admission, rule_surroundings, rule_step_bound}
 
@@ -42,18 +42,18 @@ SameLengths (l ∷ ls) (m ∷ ms) = SameCut l m × SameLengths ls ms
 SameLengths ls ms = ⊥
 
 pub record SameCost (a b : Cost) : Type 0 where
-  pub steps : SameCut a.steps b.steps
+  pub charges : SameCut a.charges b.charges
   pub lengths : SameLengths a.lengths b.lengths
 
--- an instruction with its bodies: its steps, and then what is left of its sequence
+-- an instruction with its bodies: its charges, and then what is left of its sequence
 pub record Advances (c : SizedCode) (vars : List ℕ) (p : Place) (before : List ℕ) (a : Advance) (after : List ℕ) : Type 0 where
   pub forward : p.at < a.next
   pub within : a.next ≤ p.end
-  pub cost : SameCost (cost_between c vars p.at p.end before) (more_steps a.steps (cost_between c vars a.next p.end after))
+  pub cost : SameCost (cost_between c vars p.at p.end before) (more_charges a.charges (cost_between c vars a.next p.end after))
 
 -- a sequence whose first operand is its own
 pub record Totals (c : SizedCode) (vars : List ℕ) (p : Place) (t : Total) : Type 0 where
-  pub steps : SameCut (cost_between c vars p.at p.end []).steps t.steps
+  pub charges : SameCut (cost_between c vars p.at p.end []).charges t.charges
   pub length : SameCut (top_length (cost_between c vars p.at p.end []).lengths) t.length
 
 -- ---- admission

@@ -6,7 +6,7 @@ use Rattle.rule_cost.specs.declared.cut.Bound.TheVariants.{Steps, Over}
 abbrev pub step_limit : ℕ
 step_limit = 2 ^ 63
 
--- a number of steps where it is below the limit, and over from there on
+-- a number of charges where it is below the limit, and over from there on
 abbrev pub limited_bound : ℕ → Bound
 limited_bound n = if nat_lt n step_limit then Steps n else Over
 

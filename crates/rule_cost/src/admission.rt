@@ -34,7 +34,7 @@ pub fn admit<'a>(
     let mut bounds = Vec::new(alloc);
     for rule in 0..accepted.rules() {
         match bound(alloc, accepted, rule, sizes)? {
-            Bound::Steps(steps) if steps <= budget => bounds.push(steps)?,
+            Bound::Steps(charges) if charges <= budget => bounds.push(charges)?,
             _ => return Err(CostFault::TooCostly { rule }),
         }
     }

@@ -7,7 +7,7 @@ use imkl_population::{Population, Sizes};
 use rule_verify::Accepted;
 use std::marker::Model;
 
-/// A unit that is accepted in a class model, of which each rule keeps within a budget of steps for
+/// A unit that is accepted in a class model, of which each rule's charges keep within a budget for
 /// an object, in every population of some sizes. No read takes memory. Rules are numbered by their
 /// indices, from 0.
 #[derive(Drop)]
@@ -53,14 +53,14 @@ impl<'a> Admitted<'a> {
         self.sizes
     }
 
-    /// The budget: the most steps that a rule may make for an object.
+    /// The budget: the most that a rule's run may be charged for an object.
     pub fn budget(&self) -> u64
         ensures { result ≡ self.now.budget }
     {
         self.budget
     }
 
-    /// The bound of a rule: an upper limit on the steps that it makes for an object. It is at most the budget.
+    /// The bound of a rule: an upper limit on what its run is charged for an object. It is at most the budget.
     pub fn bound(&self, rule: usize) -> u64
         requires { rule < length self.now.linked.unit.rules }
         ensures { result ≡ rule_step_bound self.now.linked.unit self.now.sizes rule }

@@ -14,7 +14,7 @@ use imkl_population::Sizes;
 use rule_verify::{Accepted, Stack};
 use std::alloc::Global;
 
-/// The bound of a rule: an upper limit on the steps that it makes for an object of its context class, in populations of
+/// The bound of a rule: an upper limit on what its run is charged for an object of its context class, in populations of
 /// these sizes. A run may need fewer. Refused only where memory runs out.
 pub fn bound(
     alloc: Global,
@@ -36,5 +36,5 @@ pub fn bound(
         end: code.code.len(),
     };
     let total = sequence(alloc, &code, &mut variables, whole)?;
-    Ok(total.steps.bound())
+    Ok(total.charges.bound())
 }

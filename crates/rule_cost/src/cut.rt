@@ -8,16 +8,16 @@ use std::marker::Model;
 /// From here on a bound is over.
 const STEP_LIMIT: u64 = 9_223_372_036_854_775_808;
 
-/// An upper limit on the steps that a rule makes for an object.
+/// An upper limit on what a rule's run is charged for an object.
 #[derive(Clone, Copy, Debug, PartialEq, Eq)]
 pub enum Bound {
-    /// At most this number of steps, which is below 2^63.
+    /// At most this number of charges, which is below 2^63.
     Steps(u64),
     /// 2^63 or more.
     Over,
 }
 
-/// A number of steps or of elements. Results are cut at 2^63: greater ones are 2^63.
+/// A number of charges or of elements. Results are cut at 2^63: greater ones are 2^63.
 #[derive(Clone, Copy)]
 pub(crate) struct Cut {
     number: u64,
@@ -66,7 +66,7 @@ impl Cut {
         }
     }
 
-    /// This number of steps as a bound.
+    /// This number of charges as a bound.
     pub(crate) fn bound(self) -> Bound
         ensures { result ≡ limited_bound self }
     {

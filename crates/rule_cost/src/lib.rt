@@ -1,4 +1,4 @@
-//! What judging costs: bounds on the lengths of collections and on the steps of a run, and units
+//! What judging costs: bounds on the lengths of collections and on the charges of a run, and units
 //! that are admitted within a budget.
 #![tactic(auto)]
 

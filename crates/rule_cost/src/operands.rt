@@ -7,20 +7,41 @@ ghost use Rattle.rule_cost.specs.Bounds as spec;
 use crate::cut::Cut;
 use crate::operand_count::operand_count;
 use rule_code::Instr;
-use rule_verify::Stack;
+use rule_verify::{Stack, operands_above};
 
 /// The length of the topmost operand, 0 where there is none.
 pub(crate) fn top_length(operands: &Stack<Cut>) -> Cut
     ensures { result ≡ spec.top_length operands.now }
 {
-    match operands.top() {
+    length_above(operands, 0)
+}
+
+/// The length of the operand below the topmost one, 0 where there is none.
+pub(crate) fn second_length(operands: &Stack<Cut>) -> Cut
+    ensures { result ≡ spec.second_length operands.now }
+{
+    length_above(operands, 1)
+}
+
+/// The length of the operand that a block works on, 0 where it isn't there.
+pub(crate) fn block_length(operands: &Stack<Cut>, instr: Instr) -> Cut
+    ensures { result ≡ spec.block_length instr operands.now }
+{
+    length_above(operands, operands_above(instr))
+}
+
+/// The length of the operand that has a number of operands above it, 0 where it isn't there.
+fn length_above(operands: &Stack<Cut>, number: usize) -> Cut
+    ensures { result ≡ spec.top_length (drop number operands.now) }
+{
+    match operands.from_top(number) {
         Some(length) => length,
         None => Cut::new(0),
     }
 }
 
 /// Takes `count` operands.
-fn take(operands: &mut Stack<Cut>, count: usize)
+pub(crate) fn take(operands: &mut Stack<Cut>, count: usize)
     ensures { operands.new ≡ drop count operands.old }
 {
     for _ in 0..count {

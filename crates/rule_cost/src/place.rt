@@ -16,15 +16,15 @@ pub(crate) struct Place {
 pub(crate) struct Advance {
     /// The index past it and its bodies.
     pub(crate) next: usize,
-    /// Its steps.
-    pub(crate) steps: Cut,
+    /// Its charges.
+    pub(crate) charges: Cut,
 }
 
 /// What a sequence comes to.
 #[derive(Clone, Copy)]
 pub(crate) struct Total {
-    /// Its steps.
-    pub(crate) steps: Cut,
+    /// Its charges.
+    pub(crate) charges: Cut,
     /// The length of the operand that it ends with.
     pub(crate) length: Cut,
 }

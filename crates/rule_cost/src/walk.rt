@@ -6,13 +6,13 @@ ghost use Rattle.rule_cost.specs.CostWalk.{IsSizedCode, IsRange, Advances, Total
 
 use crate::cut::Cut;
 use crate::instructions::{
-    block_steps, branch_steps, length_bound_by, length_given, length_yielded,
+    bind, block_charges, branch_charges, length_given, length_yielded, plain_charge,
 };
-use crate::operands::{take_operands, top_length};
+use crate::operands::{block_length, take, take_operands, top_length};
 use crate::place::{Advance, Place, Total};
 use crate::sized::SizedCode;
 use rule_code::Instr;
-use rule_verify::{Shape, Stack, shape_of};
+use rule_verify::{Shape, Stack, bound_count, shape_of};
 use std::alloc::{AllocError, Global};
 
 /// Puts a length on top of others.
@@ -38,15 +38,16 @@ fn plain(
     ensures { IfOk result (λ a. Advances code.now variables.now place operands.old a operands.new) }
 {
     let length = length_given(code, variables, operands, instr);
+    let charges = plain_charge(operands, instr);
     take_operands(operands, instr);
     put(operands, length)?;
     Ok(Advance {
         next: place.at + 1,
-        steps: Cut::new(1),
+        charges,
     })
 }
 
-/// The steps of the sequence that begins at a place, with no operand before it, and the length of
+/// The charges of the sequence that begins at a place, with no operand before it, and the length of
 /// the operand that it ends with.
 #[cycle(walk)]
 pub(crate) fn sequence(
@@ -61,16 +62,16 @@ pub(crate) fn sequence(
     ensures totals { IfOk result (Totals code.now variables.old place) }
 {
     let mut operands = Stack::new(alloc);
-    let mut steps = Cut::new(0);
+    let mut charges = Cut::new(0);
     let mut at = place.at;
     'instructions: while at < place.end {
         let here = Place { at, ..place };
         let advance = step(alloc, code, variables, &mut operands, here)?;
-        steps = steps.plus(advance.steps);
+        charges = charges.plus(advance.charges);
         at = advance.next;
     }
     Ok(Total {
-        steps,
+        charges,
         length: top_length(&operands),
     })
 }
@@ -112,12 +113,12 @@ fn step(
         }
         _ => Ok(Advance {
             next: place.end,
-            steps: Cut::new(0),
+            charges: Cut::new(0),
         }),
     }
 }
 
-/// A block with one body of `length` instructions, which has one variable more.
+/// A block with one body of `length` instructions, which has more variables.
 #[cycle(walk)]
 fn block(
     alloc: Global,
@@ -138,17 +139,17 @@ fn block(
     ensures advances { IfOk result (λ a. Advances code.now variables.old place operands.old a
         operands.new) }
 {
-    let source = top_length(operands);
-    put(variables, length_bound_by(instr, source))?;
+    let source = block_length(operands, instr);
+    bind(variables, instr, source)?;
     let at = place.at + 1;
     let end = at + length;
     let body = sequence(alloc, code, variables, Place { at, end })?;
-    let _newest = variables.pop();
+    take(variables, bound_count(instr));
     take_operands(operands, instr);
     put(operands, length_yielded(instr, source, body.length))?;
     Ok(Advance {
         next: end,
-        steps: block_steps(instr, source, body.steps),
+        charges: block_charges(instr, source, body.charges, body.length),
     })
 }
 
@@ -182,6 +183,6 @@ fn branches(
     put(operands, first.length.max(second.length))?;
     Ok(Advance {
         next: end,
-        steps: branch_steps(first.steps, second.steps),
+        charges: branch_charges(first.charges, second.charges),
     })
 }

@@ -44,16 +44,16 @@ int 1; ascoll Set(Integer); forall 1; true -> 6
 null; ascoll Bag(Integer); forall 1; true -> 6
 self; ascoll Sequence(Box); forall 1; true -> 6
 # of its source
-self; attr Box.bag3; asset Integer; forall 1; true -> 11
+self; attr Box.bag3; asset Integer; forall 1; true -> 20
 self; attr Box.three; select 1; true; forall 1; true -> 18
 self; attr Box.three; reject 1; true; forall 1; true -> 18
 self; attr Box.three; collect 1; int 1; forall 1; true -> 18
 ";
 
 const BODIES: &str = "\
-# the product of source and body: 2 + (2 + 3 * 3) + (2 + 2 * 12), and with the two exchanged
-self; attr Box.three; collectflat 2; self; attr Box.many; forall 1; true -> 39
-self; attr Box.many; collectflat 2; self; attr Box.three; forall 1; true -> 42
+# the product of source and body: 2 + (2 + 3 * (3 + 4)) + (2 + 2 * 12), and with the two exchanged
+self; attr Box.three; collectflat 2; self; attr Box.many; forall 1; true -> 51
+self; attr Box.many; collectflat 2; self; attr Box.three; forall 1; true -> 54
 self; attr Box.none; collectflat 2; self; attr Box.many; forall 1; true -> 6
 self; attr Box.three; collectflat 2; self; attr Box.none; forall 1; true -> 15
 # the longer branch, first or second, whichever is dearer

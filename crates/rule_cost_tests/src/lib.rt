@@ -6,6 +6,8 @@ mod admission;
 #[cfg(test)]
 mod boxes;
 #[cfg(test)]
+mod charges;
+#[cfg(test)]
 mod costs;
 #[cfg(test)]
 mod fits;
@@ -19,7 +21,5 @@ mod limits;
 mod nesting;
 #[cfg(test)]
 mod rows;
-#[cfg(test)]
-mod steps;
 #[cfg(test)]
 mod worked;

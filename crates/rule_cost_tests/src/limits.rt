@@ -46,29 +46,36 @@ int 1; let 13; self; attr Box.million; forall 10; self; attr Box.million; forall
 attr Box.million; forall 4; self; attr Box.million; forall 1; true -> over
 ";
 
-// Three products of 65536 are 2^48, four with 32768 or 65536 in the last place 2^63 and 2^64. They take
-// 2 + 3 * 2^16, 2 + 3 * 2^32 and 2 + 3 * 2^48 steps. A body over 16381 with one step more is
-// 4 + 2 * 16381 + 1 = 2^15 - 1 steps.
+// Three products of 65536 are 2^48. Made of collections, the first two are charged 2 + 2^16 * (3 + 2^16)
+// and 2 + 2^32 * (3 + 2^16), so that with the first collection 6 + 3 * 2^16 + 2^34 + 2^48 stand before what
+// goes over the third. A body over 16380 is charged 4 + 2 * 16380 = 2^15 - 4.
 const PRODUCTS: &str = "\
-# 2^48 * (1 + b) where 1 + b is 2^15 - 1: 2^63 - 2^48, and 8 + 3 * (2^16 + 2^32) before it
+# then 2 + 2^48 * (1 + b), where 1 + b is 2^15 - 3 and 2^15 - 2: 8 + 3 * 2^16 + 2^34, and 2^63 - 2^49 or 2^63 - 2^48
 self; attr Box.a65536; collectflat 2; self; attr Box.a65536; collectflat 2; self; \
-attr Box.a65536; forall 4; self; attr Box.a16381; forall 1; true -> 9223090574763163656
-# 2^15, so that the product is 2^63
+attr Box.a65536; forall 4; self; attr Box.a16380; forall 1; true -> 9222809104081420296
 self; attr Box.a65536; collectflat 2; self; attr Box.a65536; collectflat 2; self; \
-attr Box.a65536; forall 5; self; attr Box.a16381; forall 1; true; not -> over
-# 2^15 + 1, just above
+attr Box.a65536; forall 5; self; attr Box.a16380; forall 1; true; not -> 9223090579058130952
+# 2^15 - 1: the product is below 2^63, the sum isn't
 self; attr Box.a65536; collectflat 2; self; attr Box.a65536; collectflat 2; self; \
-attr Box.a65536; forall 6; self; attr Box.a16381; forall 1; true; not; not -> over
-# lengths of 2^63 and of 2^64 that nothing goes over: 11 + 3 * (2^16 + 2^32 + 2^48)
+attr Box.a65536; forall 6; self; attr Box.a16380; forall 1; true; not; not -> over
+# 2^15, so that the product is 2^63, and 2^15 + 1
 self; attr Box.a65536; collectflat 2; self; attr Box.a65536; collectflat 2; self; \
-attr Box.a65536; collectflat 2; self; attr Box.a32768; size; int 0; ge -> 844437815230475
+attr Box.a65536; forall 7; self; attr Box.a16380; forall 1; true; not; not; not -> over
 self; attr Box.a65536; collectflat 2; self; attr Box.a65536; collectflat 2; self; \
-attr Box.a65536; collectflat 2; self; attr Box.a65536; size; int 0; ge -> 844437815230475
-# and that an iteration goes over
+attr Box.a65536; forall 8; self; attr Box.a16380; forall 1; true; not; not; not; not -> over
+# a length of 2^48 * 16380, charged 2 + 2^48 * 16383: 11 + 3 * 2^16 + 2^34 + 2^62
 self; attr Box.a65536; collectflat 2; self; attr Box.a65536; collectflat 2; self; \
-attr Box.a65536; collectflat 2; self; attr Box.a32768; forall 1; true -> over
+attr Box.a65536; collectflat 2; self; attr Box.a16380; size; int 0; ge -> 4611686035607453707
+# lengths of 2^63 and 2^64: what they are charged is over, also where nothing goes over them
 self; attr Box.a65536; collectflat 2; self; attr Box.a65536; collectflat 2; self; \
-attr Box.a65536; collectflat 2; self; attr Box.a65536; forall 1; true -> over
+attr Box.a65536; collectflat 2; self; attr Box.a32768; size; int 0; ge -> over
+self; attr Box.a65536; collectflat 2; self; attr Box.a65536; collectflat 2; self; \
+attr Box.a65536; collectflat 2; self; attr Box.a65536; size; int 0; ge -> over
+# 2^32 elements that are compared with each other are 2^64 charges
+self; attr Box.a65536; collectflat 2; self; attr Box.a65536; asset Integer; isempty -> over
+self; attr Box.a65536; collectflat 2; self; attr Box.a65536; isunique Integer 1; get 1 -> over
+self; attr Box.a65536; collectflat 2; self; attr Box.a65536; \
+self; attr Box.a65536; collectflat 2; self; attr Box.a65536; eq Bag(Integer) -> over
 ";
 
 const NOTHING: &str = "\
@@ -77,13 +84,13 @@ all Ghost; forall 13; self; attr Box.million; forall 10; self; attr Box.million;
 attr Box.million; forall 4; self; attr Box.million; forall 1; true -> 3
 self; attr Box.none; exists 13; self; attr Box.million; forall 10; self; attr Box.million; \
 forall 7; self; attr Box.million; forall 4; self; attr Box.million; forall 1; true -> 4
-# nothing times a length of 2^64: 2 + 2 + 2
+# nothing times a length of 2^64, and what its turns are charged: 2 + 2 + 2
 self; attr Box.none; collectflat 11; self; attr Box.a65536; collectflat 2; self; \
 attr Box.a65536; collectflat 2; self; attr Box.a65536; collectflat 2; self; attr Box.a65536; \
 forall 1; true -> 6
-# 2^48 times nothing: 6 + 3 * (2^16 + 2^32), 2 + 3 * 2^48, 2
+# 2^48 times nothing: 6 + 3 * 2^16 + 2^34 + 2^48, 2 + 3 * 2^48, 2
 self; attr Box.a65536; collectflat 2; self; attr Box.a65536; collectflat 2; self; \
-attr Box.a65536; collectflat 2; self; attr Box.none; forall 1; true -> 844437815230474
+attr Box.a65536; collectflat 2; self; attr Box.none; forall 1; true -> 1125917086908426
 # inside an iteration that isn't empty: 1 + 2 + 3 * (1 + 4)
 all Box; forall 16; get 1; attr Box.none; forall 13; self; attr Box.million; forall 10; self; \
 attr Box.million; forall 7; self; attr Box.million; forall 4; self; attr Box.million; forall 1; \

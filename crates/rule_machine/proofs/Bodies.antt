@@ -3,7 +3,7 @@ use Rattle.std.proofs.Common.{◌≡◌, Bool, List, [], ◌∷◌, ◌||◌, ma
 use Rattle.std.specs.List.{list_all, list_any}
 use Rattle.std.proofs.lemmas.List.Folds.{list_all-map}
 use Rattle.rule_machine.specs.declared.value.Value.{Value as Held}
-use Rattle.rule_machine.specs.Value.{Value}
+use Rattle.rule_values.specs.Value.{Value}
 use Rattle.rule_machine.specs.Meant.{meant}
 
 -- all values pass a test where all that stand for them do

@@ -1,5 +1,5 @@
 -- What the rules of kinds accept has kinds, at the places after code, and makes no more steps than its bound.
-use Rattle.std.proofs.Common.{◌≡◌, ℕ, zero, suc, ◌+◌, ◌≤◌, Bool, true, false, List, [], ◌∷◌, length, take, drop, Some, Ok, refl, sym, ap, ◌∙◌, subst, arith}
+use Rattle.std.proofs.Common.{◌≡◌, ℕ, zero, suc, ◌+◌, ◌≤◌, Bool, true, false, List, [], ◌∷◌, ◌++◌, length, take, drop, Some, Ok, refl, sym, ap, ◌∙◌, subst, arith}
 use Rattle.std.specs.Prelude.{nat_le, max, if◌then◌else◌}
 use Rattle.std.specs.List.{AllByRecursion}
 use Rattle.std.proofs.lemmas.Bool.{ne_eqb}
@@ -15,16 +15,16 @@ use Rattle.rule_verify.specs.declared.shape.Shape.{Shape}
 use Rattle.rule_verify.specs.declared.shape.Shape.TheVariants.{Single, OneBody, TwoBodies}
 use Rattle.rule_verify.specs.CodeTree.{CodeTree, End, Plain, Block, Branch, Torn, shape_of, instr_count, cut_one, cut, code_tree}
 use Rattle.rule_verify.specs.Patterns.{matches, all_match, below, a_boolean}
-use Rattle.rule_verify.specs.InstrKinds.{has_variable, operands_of, variable_at, binds, ends_with, yields, kind_meant}
+use Rattle.rule_verify.specs.InstrKinds.{has_variable, operands_of, variable_at, block_operand, binds, ends_with, yields, kind_meant}
 use Rattle.rule_verify.specs.KindRules.{Enclosing, taken, after_plain, in_block, kinds_after}
 use Rattle.rule_verify.proofs.ForAbove.{Takes}
-use Rattle.rule_cost.specs.Bounds.{cost_of, top_length, length_given, length_yielded, lengths_below}
+use Rattle.rule_cost.specs.Bounds.{cost_of, top_length, length_given, length_yielded, lengths_below, lengths_bound_by, block_charges}
 use Rattle.rule_machine.specs.Machine.{Setting, judged_by}
-use Rattle.rule_machine.specs.Places.{Place, kinds_of, lengths_of, self_place, sizes_in, given, places_left, bound_by, yielded, branch_place, places_after, end_place}
+use Rattle.rule_machine.specs.Places.{Place, place, kinds_of, lengths_of, self_place, sizes_in, given, places_left, bound_by, operand_place, yielded, branch_place, places_after, end_place}
 use Rattle.rule_machine.specs.Live.{AllBelow, IsTaken, HasBody, HasBranches, Kinded}
-use Rattle.rule_machine.proofs.Blocks.{block_takes, branch_takes}
+use Rattle.rule_machine.proofs.Blocks.{branch_takes}
 use Rattle.rule_machine.proofs.InKinds.{below_itself}
-use Rattle.rule_machine.proofs.KindsAfter.{plain_says, block_says, branch_says, lengths_dropped, cost, end_longest, given_kinds, body_ends_in}
+use Rattle.rule_machine.proofs.KindsAfter.{plain_says, block_says, branch_says, lengths_dropped, kinds_below, operand_kind, operand_longest, bound_kinds, bound_lengths, cost, end_longest, given_kinds, body_ends_in}
 
 -- ---- code trees are cut by the shapes of their instructions
 
@@ -94,8 +94,7 @@ module _ (s : Setting) where
   wider : (t : CodeTree) (vps ps out out' : List Place) (n n' : ℕ) → AllBelow s out out' → n ≤ n' → Kinded s t vps ps out n → Kinded s t vps ps out' n'
   wider End vps ps out out' n n' b le k = below_along ps out out' k b
   wider (Plain i rest) vps ps out out' n n' b le k = (k.0, k.1, k.2, wider rest vps _ out out' k.0 k.0 b (omega arith) k.3, omega (arith, le, k.4))
-  wider (Block i body rest) vps [] out out' n n' b le k = absurd k
-  wider (Block i body rest) vps (p ∷ ps) out out' n n' b le k = (k.0, k.1, k.2, k.3, k.4, k.5, wider rest vps _ out out' k.1 k.1 b (omega arith) k.6, omega (arith, le, k.7))
+  wider (Block i body rest) vps ps out out' n n' b le k = (k.0, k.1, k.2, k.3, k.4, k.5, wider rest vps _ out out' k.1 k.1 b (omega arith) k.6, omega (arith, le, k.7))
   wider (Branch i first second rest) vps [] out out' n n' b le k = absurd k
   wider (Branch i first second rest) vps (p ∷ ps) out out' n n' b le k = (k.0, k.1, k.2, k.3, k.4, k.5, wider rest vps _ out out' k.1 k.1 b (omega arith) k.6, omega (arith, le, k.7))
   wider (Torn i left) vps ps out out' n n' b le k = absurd k
@@ -117,7 +116,7 @@ module _ (s : Setting) where
       record { names = t.names; read = subst (λ vs. has_variable vs i ≡ true) v t.variable; match = t.fitting; fits = f; object = self }
 
   abbrev pub Bridge : CodeTree → Type 0
-  Bridge t = (e : Enclosing) (vps ps : List Place) (at : ℕ) (ks : List Kind) → e.variables ≡ kinds_of vps → IsCut s t → HasSelf vps → kinds_after (judged_by s) t e at (kinds_of ps) ≡ Ok ks → Kinded s t vps ps (places_after s t vps ps) (cost s t vps ps).steps
+  Bridge t = (e : Enclosing) (vps ps : List Place) (at : ℕ) (ks : List Kind) → e.variables ≡ kinds_of vps → IsCut s t → HasSelf vps → kinds_after (judged_by s) t e at (kinds_of ps) ≡ Ok ks → Kinded s t vps ps (places_after s t vps ps) (cost s t vps ps).charges
 
   bridge_plain : (i : Instr) (rest : CodeTree) → Bridge rest → Bridge (Plain i rest)
   bridge_plain i rest go e vps ps at ks v c self h =
@@ -127,45 +126,52 @@ module _ (s : Setting) where
       let t = taken_place e i vps ps b.0 v c.1 self b.1 in
       let r = go e vps (given s vps i ps ∷ places_left s i ps) (at + 1) ks v c.2 self (ap (kinds_after sur rest e (at + 1)) (given_kinds s e i vps ps a.0 b.0 v b.1.left_is b.2) ∙ a.2) in
       let same = ap (λ l. cost_of sur (sizes_in s) rest (lengths_of vps) (length_given sur (sizes_in s) (lengths_of vps) i (lengths_of ps) ∷ l)) (lengths_dropped (length (operands_of sur i)) ps) in
-      (_, c.0, t, r, omega (arith, ap (λ c. c.steps) same))
+      (_, c.0, t, r, omega (arith, ap (λ c. c.charges) same))
 
   -- a body that ends with one place has kinds
-  body_kinded : (t : CodeTree) → Bridge t → (e : Enclosing) (vps : List Place) (at : ℕ) (ks : List Kind) (r : Kind) → e.variables ≡ kinds_of vps → IsCut s t → HasSelf vps → kinds_after (judged_by s) t e at [] ≡ Ok ks → ks ≡ r ∷ [] → Kinded s t vps [] (end_place s t vps ∷ []) (cost s t vps []).steps
+  body_kinded : (t : CodeTree) → Bridge t → (e : Enclosing) (vps : List Place) (at : ℕ) (ks : List Kind) (r : Kind) → e.variables ≡ kinds_of vps → IsCut s t → HasSelf vps → kinds_after (judged_by s) t e at [] ≡ Ok ks → ks ≡ r ∷ [] → Kinded s t vps [] (end_place s t vps ∷ []) (cost s t vps []).charges
   body_kinded t go e vps at ks r v c self h one =
-      subst (λ ps. Kinded s t vps [] ps (cost s t vps []).steps) (body_ends_in s t e vps at ks r v h one).0 (go e vps [] at ks v c self h)
+      subst (λ ps. Kinded s t vps [] ps (cost s t vps []).charges) (body_ends_in s t e vps at ks r v h one).0 (go e vps [] at ks v c self h)
+
+  self_among : (bs vps : List Place) → HasSelf vps → HasSelf (bs ++ vps)
+  self_among [] vps h = h
+  self_among (b ∷ bs) vps h = self_inside b (bs ++ vps) (self_among bs vps h)
 
   bridge_block : (i : Instr) (body rest : CodeTree) → Bridge body → Bridge rest → Bridge (Block i body rest)
-  bridge_block i body rest inside go e vps [] at ks v c self h =
-      let b = block_says (judged_by s) e i body rest at [] ks h in
-      let w = block_takes (judged_by s) i c.0 in
-      let bad : all_match s.population.model (w.0 ∷ []) [] ≡ true = subst (λ ws. all_match s.population.model ws [] ≡ true) w.1 b.takes.fitting in cc
-  bridge_block i body rest inside go e vps (p ∷ ps) at ks v c self h =
+  bridge_block i body rest inside go e vps ps at ks v c self h =
       let sur = judged_by s in
-      let b = block_says sur e i body rest at (p.kind ∷ kinds_of ps) ks h in
-      let w = block_takes sur i c.0 in
-      let left : b.left ≡ kinds_of ps = b.takes.left_is ∙ ap (λ ws. below ws (p.kind ∷ kinds_of ps)) w.1 in
-      let inner = in_block e (binds i p.kind ∷ e.variables) b.left in
-      let vars : inner.variables ≡ kinds_of (bound_by i p ∷ vps) = ap (λ vs. binds i p.kind ∷ vs) v in
-      let r = end_place s body (bound_by i p ∷ vps) in
-      let r_kind : r.kind ≡ b.gives = (body_ends_in s body inner (bound_by i p ∷ vps) (at + 1) b.ends b.gives vars b.body_ends b.one).1 in
-      let kb = body_kinded body inside inner (bound_by i p ∷ vps) (at + 1) b.ends b.gives vars c.2 (self_inside (bound_by i p) vps self) b.body_ends b.one in
-      let before : kinds_of (yielded s i p r ∷ ps) ≡ yields sur i p.kind b.gives ∷ b.left =
-      ap (λ k. yields sur i p.kind k ∷ kinds_of ps) r_kind ∙ ap (λ l. yields sur i p.kind b.gives ∷ l) (sym left) in
-      let kr = go e vps (yielded s i p r ∷ ps) (at + 1 + instr_count body) ks v c.3 self (ap (kinds_after sur rest e (at + 1 + instr_count body)) before ∙ b.rest_ends) in
-      let places : places_after s rest vps (yielded s i p r ∷ ps) ≡ places_after s (Block i body rest) vps (p ∷ ps) =
-      ap (λ ws. places_after s rest vps (yielded s i p r ∷ drop (length ws) (p ∷ ps))) (sym w.1) in
-      let dropped : lengths_below sur i (p.longest ∷ lengths_of ps) ≡ lengths_of ps = ap (λ ws. drop (length ws) (p.longest ∷ lengths_of ps)) w.1 in
-      let same : cost s rest vps (yielded s i p r ∷ ps) ≡ cost_of sur (sizes_in s) rest (lengths_of vps) (length_yielded i p.longest (top_length (cost s body (bound_by i p ∷ vps) []).lengths) ∷ lengths_below sur i (p.longest ∷ lengths_of ps)) =
-      ap (λ n. cost_of sur (sizes_in s) rest (lengths_of vps) (length_yielded i p.longest n ∷ lengths_of ps)) (end_longest s body (bound_by i p ∷ vps))
-      ∙ ap (λ l. cost_of sur (sizes_in s) rest (lengths_of vps) (length_yielded i p.longest (top_length (cost s body (bound_by i p ∷ vps) []).lengths) ∷ l)) (sym dropped) in (
+      let p = operand_place i ps in
+      let b = block_says sur e i body rest at (kinds_of ps) ks h in
+      let bound = bound_by s i p ++ vps in
+      let inner = in_block e (binds sur i (block_operand i (kinds_of ps)) ++ e.variables) b.left in
+      let vars : inner.variables ≡ kinds_of bound =
+      ap (λ k. binds sur i k ++ e.variables) (sym (operand_kind i ps)) ∙ ap (λ vs. binds sur i p.kind ++ vs) v ∙ sym (bound_kinds s i p vps) in
+      let r = end_place s body bound in
+      let r_kind : r.kind ≡ b.gives = (body_ends_in s body inner bound (at + 1) b.ends b.gives vars b.body_ends b.one).1 in
+      let kb = body_kinded body inside inner bound (at + 1) b.ends b.gives vars c.2 (self_among (bound_by s i p) vps self) b.body_ends b.one in
+      let before : kinds_of (yielded s i p r ∷ places_left s i ps) ≡ yields sur i (block_operand i (kinds_of ps)) b.gives ∷ b.left =
+      ap (λ k. yields sur i p.kind k ∷ kinds_of (places_left s i ps)) r_kind ∙ ap (λ k. yields sur i k b.gives ∷ kinds_of (places_left s i ps)) (operand_kind i ps)
+      ∙ ap (λ l. yields sur i (block_operand i (kinds_of ps)) b.gives ∷ l) (kinds_below (operands_of sur i) ps ∙ sym b.takes.left_is) in
+      let kr = go e vps (yielded s i p r ∷ places_left s i ps) (at + 1 + instr_count body) ks v c.3 self (ap (kinds_after sur rest e (at + 1 + instr_count body)) before ∙ b.rest_ends) in
+      let inside_cost : ℕ → ℕ = λ n. (cost_of sur (sizes_in s) body (lengths_bound_by i n ++ lengths_of vps) []).charges in
+      let body_same : (cost s body bound []).charges ≡ inside_cost p.longest = ap (λ vs. (cost_of sur (sizes_in s) body vs []).charges) (bound_lengths s i p vps) in
+      let end_same : r.longest ≡ top_length (cost_of sur (sizes_in s) body (lengths_bound_by i p.longest ++ lengths_of vps) []).lengths =
+      end_longest s body bound ∙ ap (λ vs. top_length (cost_of sur (sizes_in s) body vs []).lengths) (bound_lengths s i p vps) in
+      let all : ℕ → ℕ → ℕ → List ℕ → ℕ = λ n m e l. block_charges i n m e + (cost_of sur (sizes_in s) rest (lengths_of vps) (length_yielded i n e ∷ l)).charges in
+      let body_end : ℕ → ℕ = λ n. top_length (cost_of sur (sizes_in s) body (lengths_bound_by i n ++ lengths_of vps) []).lengths in
+      let same : block_charges i p.longest (cost s body bound []).charges r.longest + (cost s rest vps (yielded s i p r ∷ places_left s i ps)).charges ≡ (cost s (Block i body rest) vps ps).charges =
+      ap (λ m. all p.longest m r.longest (lengths_of (places_left s i ps))) body_same
+      ∙ ap (λ e. all p.longest (inside_cost p.longest) e (lengths_of (places_left s i ps))) end_same
+      ∙ ap (λ l. all p.longest (inside_cost p.longest) (body_end p.longest) l) (lengths_dropped (length (operands_of sur i)) ps)
+      ∙ ap (λ n. all n (inside_cost n) (body_end n) (lengths_below sur i (lengths_of ps))) (operand_longest i ps) in (
         _,
         _,
         c.0,
-        taken_place e i vps (p ∷ ps) b.left v c.1 self b.takes,
+        taken_place e i vps ps b.left v c.1 self b.takes,
         kb,
         ap (matches s.population.model (ends_with sur i)) r_kind ∙ b.fitting,
-        subst (λ out. Kinded s rest vps (yielded s i p r ∷ ps) out (cost s rest vps (yielded s i p r ∷ ps)).steps) places kr,
-        omega (arith, ap (λ c. c.steps) same),
+        kr,
+        omega (arith, same),
       )
 
   -- a branch is an IF, whose bodies end with what fits its kind
@@ -201,13 +207,13 @@ module _ (s : Setting) where
       let q_kind : q.kind ≡ w.kind = w.gives p.kind x.kind in
       let x_fits : fits s.population.model x.kind q.kind ≡ true = ap (λ k. fits s.population.model k q.kind) x_kind ∙ ap (fits s.population.model b.gives) q_kind ∙ subst (λ u. matches s.population.model u b.gives ≡ true) w.ends b.fitting in
       let y_fits : fits s.population.model y.kind q.kind ≡ true = ap (λ k. fits s.population.model k q.kind) y_kind ∙ ap (fits s.population.model b.other) q_kind ∙ subst (λ u. matches s.population.model u b.other ≡ true) w.ends b.other_fitting in
-      let kx = wider first vps [] (x ∷ []) (q ∷ []) cx.steps (max cx.steps cy.steps) (record { fit = x_fits; shorter = omega arith }, tt) (omega arith) bx in
-      let ky = wider second vps [] (y ∷ []) (q ∷ []) cy.steps (max cx.steps cy.steps) (record { fit = y_fits; shorter = omega arith }, tt) (omega arith) by in
-      let before : kinds_of (q ∷ ps) ≡ yields sur i p.kind b.gives ∷ b.left =
-      ap (λ k. yields sur i p.kind k ∷ kinds_of ps) x_kind ∙ ap (λ l. yields sur i p.kind b.gives ∷ l) (sym left) in
+      let kx = wider first vps [] (x ∷ []) (q ∷ []) cx.charges (max cx.charges cy.charges) (record { fit = x_fits; shorter = omega arith }, tt) (omega arith) bx in
+      let ky = wider second vps [] (y ∷ []) (q ∷ []) cy.charges (max cx.charges cy.charges) (record { fit = y_fits; shorter = omega arith }, tt) (omega arith) by in
+      let before : kinds_of (q ∷ ps) ≡ yields sur i (block_operand i (p.kind ∷ kinds_of ps)) b.gives ∷ b.left =
+      ap (λ k. k ∷ kinds_of ps) (w.gives p.kind x.kind ∙ sym (w.gives (block_operand i (p.kind ∷ kinds_of ps)) b.gives)) ∙ ap (λ l. yields sur i (block_operand i (p.kind ∷ kinds_of ps)) b.gives ∷ l) (sym left) in
       let kr = go e vps (q ∷ ps) (at + 1 + instr_count first + instr_count second) ks v c.4 self (ap (kinds_after sur rest e (at + 1 + instr_count first + instr_count second)) before ∙ b.rest_ends) in
       let places : places_after s rest vps (q ∷ ps) ≡ places_after s (Branch i first second rest) vps (p ∷ ps) =
-      ap (λ ws. places_after s rest vps (q ∷ drop (length ws) (p ∷ ps))) (sym takes) in
+      ap (λ ws. places_after s rest vps (q ∷ drop (length ws) (p ∷ ps))) (sym takes) ∙ ap (λ k. places_after s rest vps (place k q.longest ∷ places_left s i (p ∷ ps))) (w.gives p.kind x.kind ∙ sym (w.gives (operand_place i (p ∷ ps)).kind x.kind)) in
       let dropped : lengths_below sur i (p.longest ∷ lengths_of ps) ≡ lengths_of ps = ap (λ ws. drop (length ws) (p.longest ∷ lengths_of ps)) takes in
       let longest : q.longest ≡ max (top_length cx.lengths) (top_length cy.lengths) = ap (λ n. max n y.longest) (end_longest s first vps) ∙ ap (max (top_length cx.lengths)) (end_longest s second vps) in
       let same : cost s rest vps (q ∷ ps) ≡ cost_of sur (sizes_in s) rest (lengths_of vps) (max (top_length cx.lengths) (top_length cy.lengths) ∷ lengths_below sur i (p.longest ∷ lengths_of ps)) =
@@ -219,8 +225,8 @@ module _ (s : Setting) where
         taken_place e i vps (p ∷ ps) b.left v c.1 self b.takes,
         kx,
         ky,
-        subst (λ out. Kinded s rest vps (q ∷ ps) out (cost s rest vps (q ∷ ps)).steps) places kr,
-        omega (arith, ap (λ c. c.steps) same),
+        subst (λ out. Kinded s rest vps (q ∷ ps) out (cost s rest vps (q ∷ ps)).charges) places kr,
+        omega (arith, ap (λ c. c.charges) same),
       )
 
   bridge_torn : (i : Instr) (left : ℕ) → Bridge (Torn i left)

@@ -5,8 +5,8 @@ use Rattle.rule_verify.specs.declared.depths.Depths.{Depths}
 use Rattle.rule_verify.specs.declared.pattern.Pattern.{Pattern}
 use Rattle.rule_verify.specs.CodeDepths.{deeper, deepest, past_instr}
 use Rattle.rule_verify.specs.CodeTree.{CodeTree, End, Plain, Block, Branch, Torn}
-use Rattle.rule_verify.specs.InstrKinds.{Surroundings, operands_of}
-use Rattle.rule_machine.specs.Value.{Value}
+use Rattle.rule_verify.specs.InstrKinds.{Surroundings, operands_of, bound_count}
+use Rattle.rule_values.specs.Value.{Value}
 use Rattle.rule_machine.specs.Machine.{Setting, judged_by}
 use Rattle.rule_machine.specs.Places.{Place, Stand, AllAt}
 use Rattle.rule_machine.specs.Live.{AllBelow, NoDeeper, GoesNoDeeper, HasRoom}
@@ -45,14 +45,13 @@ module _ (s : Setting) (d : Depths) where
   plain_deep i rest v o p n e g =
       count_is rest v v _ p n g.blocks refl (omega (arith, e)) (second_no_deeper (depths v o g.blocks) (deepest (judged_by s) rest (past_instr (judged_by s) i (depths v o g.blocks))) d g.within) g.covered
 
-  -- the body of a block that binds a variable, and the code after it
-  pub block_deep : (i : Instr) (w : Pattern) (body rest : CodeTree) (v o n : ℕ) → operands_of (judged_by s) i ≡ w ∷ [] → GoesNoDeeper s d (Block i body rest) v (suc o) n → GoesNoDeeper s d body (suc v) o (suc (suc n)) × GoesNoDeeper s d rest v (suc o) n
-  block_deep i w body rest v o n e g =
+  -- the body of a block that binds variables, and the code after it
+  pub block_deep : (i : Instr) (body rest : CodeTree) (v o p n : ℕ) → p ≡ o - length (operands_of (judged_by s) i) → GoesNoDeeper s d (Block i body rest) v o n → GoesNoDeeper s d body (bound_count i + v) p (suc (suc n)) × GoesNoDeeper s d rest v (suc p) n
+  block_deep i body rest v o p n e g =
       let sur = judged_by s in
-      let taken : suc o - length (operands_of sur i) ≡ suc o - 1 = ap (λ ws. suc o - length ws) e in
-      let parts = second_no_deeper (depths v (suc o) g.blocks) _ d g.within in (
-        count_is body (v + 1) (suc v) (suc o - length (operands_of sur i)) o (suc (suc n)) (g.blocks + 1) (omega arith) (omega (arith, taken)) (first_no_deeper _ _ d parts) (omega (arith, g.covered)),
-        count_is rest v v (suc o - length (operands_of sur i) + 1) (suc o) n g.blocks refl (omega (arith, taken)) (second_no_deeper _ _ d parts) g.covered,
+      let parts = second_no_deeper (depths v o g.blocks) _ d g.within in (
+        count_is body (v + bound_count i) (bound_count i + v) (o - length (operands_of sur i)) p (suc (suc n)) (g.blocks + 1) (omega arith) (omega (arith, e)) (first_no_deeper _ _ d parts) (omega (arith, g.covered)),
+        count_is rest v v (o - length (operands_of sur i) + 1) (suc p) n g.blocks refl (omega (arith, e)) (second_no_deeper _ _ d parts) g.covered,
       )
 
   -- the branches of an IF, and the code after it

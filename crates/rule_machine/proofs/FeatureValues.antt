@@ -18,7 +18,7 @@ use Rattle.ocl_base.specs.declared.collection_kind.CollectionKind.TheVariants as
 use Rattle.imkl_model.specs.declared.feature.ElementType.{ElementType}
 use Rattle.imkl_model.specs.declared.feature.ElementType.TheVariants as type
 use Rattle.imkl_model.specs.declared.feature.FeatureInfo.{FeatureInfo}
-use Rattle.imkl_model.specs.ClassModel.{conforms, feature_at, belongs, enumeration_at}
+use Rattle.imkl_model.specs.ClassModel.{conforms, feature_at, belongs}
 use Rattle.imkl_model.specs.Features.{is_attribute, is_single, is_unique}
 use Rattle.imkl_model.specs.WellFormed.{IsClassModel}
 use Rattle.imkl_population.specs.declared.scalar.Scalar.{Scalar}
@@ -36,9 +36,9 @@ use Rattle.ocl_kinds.specs.declared.kind.Kind.TheVariants as kind
 use Rattle.ocl_kinds.specs.Kinds.{element_kind, feature_kind}
 use Rattle.ocl_kinds.proofs.ForAbove.{same_collection_itself}
 use Rattle.rule_cost.specs.Bounds.{class_size, attribute_length, within_upper, end_length, feature_length}
-use Rattle.rule_machine.specs.Value as value
-use Rattle.rule_machine.specs.Value.{Element, same_element, is_scalar_in, is_element_in, are_elements, is_in}
-use Rattle.rule_machine.specs.Operations.{single_value, feature_value, all_instances}
+use Rattle.rule_values.specs.Value as value
+use Rattle.rule_values.specs.Value.{Element, same_element, is_scalar_in, is_element_in, are_elements, is_in}
+use Rattle.rule_values.specs.Operations.{single_value, feature_value, all_instances}
 use Rattle.rule_machine.specs.Machine.{Setting}
 use Rattle.rule_machine.specs.Places.{place, At, sizes_in}
 use Rattle.rule_machine.proofs.InKinds.{single_at}
@@ -63,7 +63,7 @@ of_type_in : (p : Population) (t : ElementType) (v : Scalar) → is_of_type p.mo
 of_type_in p type.Boolean (scalar.Bool b) h = refl
 of_type_in p type.Integer (scalar.Int n) h = h
 of_type_in p type.String (scalar.Text t) h = refl
-of_type_in p (type.Enumeration e) (scalar.Literal d l) h = (and_parts (d == e) (nat_lt l (length (enumeration_at p.model e).literals)) h).0
+of_type_in p (type.Enumeration e) (scalar.Literal d l) h = h
 of_type_in p t v h = cc
 
 target_in : (p : Population) (t : ElementType) (v : Scalar) → is_target_of p t v ≡ true → is_scalar_in p v (element_kind t) ≡ true

@@ -1,20 +1,21 @@
 -- What the rules of kinds say of their parts, and that the places after code are theirs.
-use Rattle.std.proofs.Common.{◌≡◌, ℕ, zero, suc, ◌+◌, Bool, true, false, List, [], ◌∷◌, length, drop, Ok, refl, sym, ap, ◌∙◌, subst}
+use Rattle.std.proofs.Common.{◌≡◌, ℕ, zero, suc, ◌+◌, Bool, true, false, List, [], ◌∷◌, ◌++◌, length, drop, Ok, refl, sym, ap, ◌∙◌, subst, arith}
 use Rattle.std.specs.Prelude.{nat_le, nat_lt, max}
 use Rattle.ocl_base.specs.Steps.{◌>>=◌, check}
 use Rattle.ocl_base.proofs.ForAbove.{ok_is, both_steps}
 use Rattle.ocl_kinds.specs.declared.kind.Kind.{Kind}
 use Rattle.rule_code.specs.declared.instruction.Instr.{Instr}
+use Rattle.rule_code.specs.declared.instruction.Instr.TheVariants as instrs
 use Rattle.rule_verify.specs.declared.pattern.Pattern.{Pattern}
 use Rattle.rule_verify.specs.declared.fault.VerifyFlaw.TheVariants as flaws
 use Rattle.rule_verify.specs.CodeTree.{CodeTree, End, Plain, Block, Branch, Torn, instr_count}
 use Rattle.rule_verify.specs.Patterns.{matches, below}
-use Rattle.rule_verify.specs.InstrKinds.{Surroundings, operands_of, result_kind, topmost, binds, ends_with, yields}
+use Rattle.rule_verify.specs.InstrKinds.{Surroundings, operands_of, result_kind, topmost, operands_above, block_operand, bound_count, binds, ends_with, yields}
 use Rattle.rule_verify.specs.KindRules.{instr_fault, Enclosing, operand_limit, block_limit, taken, after_plain, opened, in_block, ended_with, kinds_after}
 use Rattle.rule_verify.proofs.ForAbove.{Takes, takes_from}
-use Rattle.rule_cost.specs.Bounds.{Cost, cost_of, top_length, length_given, length_yielded, lengths_below, length_bound_by}
+use Rattle.rule_cost.specs.Bounds.{Cost, cost_of, top_length, length_given, length_yielded, lengths_below, block_length, lengths_bound_by}
 use Rattle.rule_machine.specs.Machine.{Setting, judged_by}
-use Rattle.rule_machine.specs.Places.{Place, kinds_of, lengths_of, sizes_in, given, places_left, bound_by, yielded, branch_place, top_place, places_after, end_place}
+use Rattle.rule_machine.specs.Places.{Place, kinds_of, lengths_of, sizes_in, given, places_left, places_of, bound_by, yielded, branch_place, top_place, operand_place, places_after, end_place}
 
 -- ---- what the rules of kinds say of their parts
 
@@ -41,7 +42,8 @@ ended_says s w at (k ∷ []) r e = by_match (matches s.model w k) refl e
     by_match false m e = cc
 ended_says s w at (k ∷ l ∷ ks) r e = cc
 
-kinds_below : (ws : List Pattern) (ps : List Place) → kinds_of (drop (length ws) ps) ≡ below ws (kinds_of ps)
+-- the places below those that are taken are of the kinds below
+pub kinds_below : (ws : List Pattern) (ps : List Place) → kinds_of (drop (length ws) ps) ≡ below ws (kinds_of ps)
 kinds_below [] ps = refl
 kinds_below (w ∷ ws) [] = refl
 kinds_below (w ∷ ws) (p ∷ ps) = kinds_below ws ps
@@ -58,16 +60,16 @@ pub record BlockSays (s : Surroundings) (e : Enclosing) (i : Instr) (body rest :
   pub ends : List Kind
   pub gives : Kind
   pub takes : Takes s e.variables i ks left
-  pub body_ends : kinds_after s body (in_block e (binds i (topmost ks) ∷ e.variables) left) (at + 1) [] ≡ Ok ends
+  pub body_ends : kinds_after s body (in_block e (binds s i (block_operand i ks) ++ e.variables) left) (at + 1) [] ≡ Ok ends
   pub one : ends ≡ gives ∷ []
   pub fitting : matches s.model (ends_with s i) gives ≡ true
-  pub rest_ends : kinds_after s rest e (at + 1 + instr_count body) (yields s i (topmost ks) gives ∷ left) ≡ Ok out
+  pub rest_ends : kinds_after s rest e (at + 1 + instr_count body) (yields s i (block_operand i ks) gives ∷ left) ≡ Ok out
 
 -- the rules of kinds say this of each block that they accept
 pub block_says : (s : Surroundings) (e : Enclosing) (i : Instr) (body rest : CodeTree) (at : ℕ) (ks out : List Kind) → kinds_after s (Block i body rest) e at ks ≡ Ok out → BlockSays s e i body rest at ks out
 block_says s e i body rest at ks out h =
     let a = both_steps (opened s e i at ks) _ out h in
-    let b = both_steps (kinds_after s body (in_block e (binds i (topmost ks) ∷ e.variables) a.0) (at + 1) []) _ out a.2 in
+    let b = both_steps (kinds_after s body (in_block e (binds s i (block_operand i ks) ++ e.variables) a.0) (at + 1) []) _ out a.2 in
     let r = both_steps (ended_with s (ends_with s i) at b.0) _ out b.2 in
     let ended = ended_says s (ends_with s i) at b.0 r.0 r.1 in
     record { left = a.0; ends = b.0; gives = r.0; takes = opened_says s e i at ks a.0 a.1; body_ends = b.1; one = ended.0; fitting = ended.1; rest_ends = r.2 }
@@ -86,7 +88,7 @@ pub record BranchSays (s : Surroundings) (e : Enclosing) (i : Instr) (first seco
   pub second_ends : kinds_after s second (in_block e e.variables left) (at + 1 + instr_count first) [] ≡ Ok others
   pub other_one : others ≡ other ∷ []
   pub other_fitting : matches s.model (ends_with s i) other ≡ true
-  pub rest_ends : kinds_after s rest e (at + 1 + instr_count first + instr_count second) (yields s i (topmost ks) gives ∷ left) ≡ Ok out
+  pub rest_ends : kinds_after s rest e (at + 1 + instr_count first + instr_count second) (yields s i (block_operand i ks) gives ∷ left) ≡ Ok out
 
 -- the rules of kinds say this of each IF that they accept
 pub branch_says : (s : Surroundings) (e : Enclosing) (i : Instr) (first second rest : CodeTree) (at : ℕ) (ks out : List Kind) → kinds_after s (Branch i first second rest) e at ks ≡ Ok out → BranchSays s e i first second rest at ks out
@@ -125,6 +127,31 @@ top_kind : (ps : List Place) → (top_place ps).kind ≡ topmost (kinds_of ps)
 top_kind [] = refl
 top_kind (p ∷ ps) = refl
 
+-- the operand that a block works on is as long as the bounds say, and of the kind of the rules
+pub operand_longest : (i : Instr) (ps : List Place) → (operand_place i ps).longest ≡ block_length i (lengths_of ps)
+operand_longest i ps = top_longest (drop (operands_above i) ps) ∙ ap top_length (lengths_dropped (operands_above i) ps)
+
+kinds_dropped : (n : ℕ) (ps : List Place) → kinds_of (drop n ps) ≡ drop n (kinds_of ps)
+kinds_dropped zero ps = refl
+kinds_dropped (suc n) [] = refl
+kinds_dropped (suc n) (p ∷ ps) = kinds_dropped n ps
+
+pub operand_kind : (i : Instr) (ps : List Place) → (operand_place i ps).kind ≡ block_operand i (kinds_of ps)
+operand_kind i ps = top_kind (drop (operands_above i) ps) ∙ ap topmost (kinds_dropped (operands_above i) ps)
+
+-- and so are the variables that it binds
+pub bound_kinds : (s : Setting) (i : Instr) (p : Place) (vps : List Place) → kinds_of (bound_by s i p ++ vps) ≡ binds (judged_by s) i p.kind ++ kinds_of vps
+bound_kinds s (instrs.Let n) p vps = refl
+bound_kinds s i p vps = refl
+
+pub bound_lengths : (s : Setting) (i : Instr) (p : Place) (vps : List Place) → lengths_of (bound_by s i p ++ vps) ≡ lengths_bound_by i p.longest ++ lengths_of vps
+bound_lengths s (instrs.Let n) p vps = refl
+bound_lengths s i p vps = refl
+
+pub bound_many : (s : Setting) (i : Instr) (p : Place) (vps : List Place) → length (bound_by s i p ++ vps) ≡ bound_count i + length vps
+bound_many s (instrs.Let n) p vps = omega arith
+bound_many s i p vps = omega arith
+
 -- one place is the topmost
 one_place : (ps : List Place) (r : Kind) → kinds_of ps ≡ r ∷ [] → (ps ≡ top_place ps ∷ []) × ((top_place ps).kind ≡ r)
 one_place [] r e = cc
@@ -144,20 +171,20 @@ module _ (s : Setting) where
   lengths_after (Block i body rest) vps ps =
       let sur = judged_by s in
       let below = lengths_below sur i (lengths_of ps) in
-      let p = top_place ps in
-      let r = end_place s body (bound_by i p ∷ vps) in
+      let p = operand_place i ps in
+      let r = end_place s body (bound_by s i p ++ vps) in
       let after : List ℕ → List ℕ = λ l. (cost_of sur (sizes_in s) rest (lengths_of vps) l).lengths in
       lengths_after rest vps (yielded s i p r ∷ places_left s i ps)
       ∙ ap (λ l. after (length_yielded i p.longest r.longest ∷ l)) (lengths_dropped (length (operands_of sur i)) ps)
-      ∙ ap (λ n. after (length_yielded i p.longest n ∷ below)) (top_longest (places_after s body (bound_by i p ∷ vps) []) ∙ ap top_length (lengths_after body (bound_by i p ∷ vps) []))
-      ∙ ap (λ n. after (length_yielded i n (top_length (cost_of sur (sizes_in s) body (length_bound_by i n ∷ lengths_of vps) []).lengths) ∷ below)) (top_longest ps)
+      ∙ ap (λ n. after (length_yielded i p.longest n ∷ below)) (top_longest (places_after s body (bound_by s i p ++ vps) []) ∙ ap top_length (lengths_after body (bound_by s i p ++ vps) [] ∙ ap (λ vs. (cost_of sur (sizes_in s) body vs []).lengths) (bound_lengths s i p vps)))
+      ∙ ap (λ n. after (length_yielded i n (top_length (cost_of sur (sizes_in s) body (lengths_bound_by i n ++ lengths_of vps) []).lengths) ∷ below)) (operand_longest i ps)
   lengths_after (Branch i first second rest) vps ps =
       let sur = judged_by s in
       let below = lengths_below sur i (lengths_of ps) in
       let a = end_place s first vps in
       let b = end_place s second vps in
       let after : List ℕ → List ℕ = λ l. (cost_of sur (sizes_in s) rest (lengths_of vps) l).lengths in
-      lengths_after rest vps (branch_place s i (top_place ps) a b ∷ places_left s i ps)
+      lengths_after rest vps (branch_place s i (operand_place i ps) a b ∷ places_left s i ps)
       ∙ ap (λ l. after (max a.longest b.longest ∷ l)) (lengths_dropped (length (operands_of sur i)) ps)
       ∙ ap (λ n. after (max n b.longest ∷ below)) (top_longest (places_after s first vps []) ∙ ap top_length (lengths_after first vps []))
       ∙ ap (λ n. after (max (top_length (cost first vps []).lengths) n ∷ below)) (top_longest (places_after s second vps []) ∙ ap top_length (lengths_after second vps []))
@@ -192,24 +219,24 @@ module _ (s : Setting) where
   after_block_kinds i body rest inside go e vps ps at ks v h =
       let sur = judged_by s in
       let b = block_says sur e i body rest at (kinds_of ps) ks h in
-      let p = top_place ps in
-      let variables : binds i (topmost (kinds_of ps)) ∷ e.variables ≡ kinds_of (bound_by i p ∷ vps) =
-      ap (λ k. binds i k ∷ e.variables) (sym (top_kind ps)) ∙ ap (λ vs. binds i p.kind ∷ vs) v in
-      let r = ends_in body inside (in_block e (binds i (topmost (kinds_of ps)) ∷ e.variables) b.left) (bound_by i p ∷ vps) (at + 1) b.ends b.gives variables b.body_ends b.one in
-      let before : kinds_of (yielded s i p (end_place s body (bound_by i p ∷ vps)) ∷ places_left s i ps) ≡ yields sur i (topmost (kinds_of ps)) b.gives ∷ b.left =
-      ap (λ k. yields sur i p.kind k ∷ kinds_of (places_left s i ps)) r.1 ∙ ap (λ k. yields sur i k b.gives ∷ kinds_of (places_left s i ps)) (top_kind ps)
-      ∙ ap (λ l. yields sur i (topmost (kinds_of ps)) b.gives ∷ l) (kinds_below (operands_of sur i) ps ∙ sym b.takes.left_is) in
-      go e vps (yielded s i p (end_place s body (bound_by i p ∷ vps)) ∷ places_left s i ps) (at + 1 + instr_count body) ks v (ap (kinds_after sur rest e (at + 1 + instr_count body)) before ∙ b.rest_ends)
+      let p = operand_place i ps in
+      let variables : binds sur i (block_operand i (kinds_of ps)) ++ e.variables ≡ kinds_of (bound_by s i p ++ vps) =
+      ap (λ k. binds sur i k ++ e.variables) (sym (operand_kind i ps)) ∙ ap (λ vs. binds sur i p.kind ++ vs) v ∙ sym (bound_kinds s i p vps) in
+      let r = ends_in body inside (in_block e (binds sur i (block_operand i (kinds_of ps)) ++ e.variables) b.left) (bound_by s i p ++ vps) (at + 1) b.ends b.gives variables b.body_ends b.one in
+      let before : kinds_of (yielded s i p (end_place s body (bound_by s i p ++ vps)) ∷ places_left s i ps) ≡ yields sur i (block_operand i (kinds_of ps)) b.gives ∷ b.left =
+      ap (λ k. yields sur i p.kind k ∷ kinds_of (places_left s i ps)) r.1 ∙ ap (λ k. yields sur i k b.gives ∷ kinds_of (places_left s i ps)) (operand_kind i ps)
+      ∙ ap (λ l. yields sur i (block_operand i (kinds_of ps)) b.gives ∷ l) (kinds_below (operands_of sur i) ps ∙ sym b.takes.left_is) in
+      go e vps (yielded s i p (end_place s body (bound_by s i p ++ vps)) ∷ places_left s i ps) (at + 1 + instr_count body) ks v (ap (kinds_after sur rest e (at + 1 + instr_count body)) before ∙ b.rest_ends)
 
   after_branch_kinds : (i : Instr) (first second rest : CodeTree) → KindsAfter first → KindsAfter rest → KindsAfter (Branch i first second rest)
   after_branch_kinds i first second rest inside go e vps ps at ks v h =
       let sur = judged_by s in
       let b = branch_says sur e i first second rest at (kinds_of ps) ks h in
-      let p = top_place ps in
+      let p = operand_place i ps in
       let r = ends_in first inside (in_block e e.variables b.left) vps (at + 1) b.ends b.gives v b.first_ends b.one in
-      let before : kinds_of (branch_place s i p (end_place s first vps) (end_place s second vps) ∷ places_left s i ps) ≡ yields sur i (topmost (kinds_of ps)) b.gives ∷ b.left =
-      ap (λ k. yields sur i p.kind k ∷ kinds_of (places_left s i ps)) r.1 ∙ ap (λ k. yields sur i k b.gives ∷ kinds_of (places_left s i ps)) (top_kind ps)
-      ∙ ap (λ l. yields sur i (topmost (kinds_of ps)) b.gives ∷ l) (kinds_below (operands_of sur i) ps ∙ sym b.takes.left_is) in
+      let before : kinds_of (branch_place s i p (end_place s first vps) (end_place s second vps) ∷ places_left s i ps) ≡ yields sur i (block_operand i (kinds_of ps)) b.gives ∷ b.left =
+      ap (λ k. yields sur i p.kind k ∷ kinds_of (places_left s i ps)) r.1 ∙ ap (λ k. yields sur i k b.gives ∷ kinds_of (places_left s i ps)) (operand_kind i ps)
+      ∙ ap (λ l. yields sur i (block_operand i (kinds_of ps)) b.gives ∷ l) (kinds_below (operands_of sur i) ps ∙ sym b.takes.left_is) in
       go e vps (branch_place s i p (end_place s first vps) (end_place s second vps) ∷ places_left s i ps) (at + 1 + instr_count first + instr_count second) ks v
       (ap (kinds_after sur rest e (at + 1 + instr_count first + instr_count second)) before ∙ b.rest_ends)
 

@@ -1,10 +1,9 @@
 pub mod InKinds
 pub mod Symbols
 pub mod FeatureValues
-pub mod ValueKinds
-pub mod Distinct
 pub mod Results
 pub mod EndingKinds
+pub mod Charged
 pub mod Blocks
 pub mod Marks
 pub mod Deep
@@ -15,6 +14,7 @@ pub mod Bridge
 pub mod Theorems
 pub mod Characters
 pub mod Bodies
+pub mod NextCharge
 pub mod Steps
 pub mod Turns
 pub mod Ran

@@ -2,7 +2,7 @@
 use Rattle.std.proofs.Common.{◌≡◌, ℕ, suc, ◌+◌, ◌-◌, ◌≤◌, List, [], ◌∷◌, ◌++◌, length, drop, refl, ap, ◌∙◌, arith}
 use Rattle.rule_verify.specs.declared.depths.Depths.{Depths}
 use Rattle.rule_verify.specs.CodeTree.{End}
-use Rattle.rule_machine.specs.Value.{Value}
+use Rattle.rule_values.specs.Value.{Value}
 use Rattle.rule_machine.specs.Machine.{Setting, Piece, Sequence, LetEnd, Opened, Turning, Skipped, settle, configuration}
 use Rattle.rule_machine.specs.Places.{Mark, Here, Iterating, marks_for}
 use Rattle.rule_machine.specs.Live.{Going}

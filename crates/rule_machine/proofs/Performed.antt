@@ -16,7 +16,7 @@ use Rattle.rule_verify.specs.declared.shape.Shape.TheVariants.{Single}
 use Rattle.rule_verify.specs.CodeTree.{shape_of}
 use Rattle.rule_verify.specs.InstrKinds.{Surroundings, has_names, operands_of, variable_at}
 use Rattle.rule_machine.specs.declared.value.Value.{Value as Held}
-use Rattle.rule_machine.specs.Value.{Value}
+use Rattle.rule_values.specs.Value.{Value}
 use Rattle.rule_machine.specs.Machine.{Setting, judged_by, is_what, are_what, result_of, performed}
 use Rattle.rule_machine.specs.Meant.{meant, TakesOne, TakesTwo}
 use Rattle.rule_machine.specs.Shown.{all_meant}

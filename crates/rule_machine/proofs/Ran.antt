@@ -12,8 +12,10 @@ use Rattle.rule_machine.specs.Machine.{Setting, setting_of, Configuration, step,
 use Rattle.rule_machine.specs.Verdict.{outcome}
 use Rattle.rule_machine.specs.Laws.{IsAcceptedRun, tree_of_rule, rule_bound, rule_depths_in, first_there, verdict_within, verdict_at}
 use Rattle.rule_machine.specs.Shown.{setting_in, configuration_of, HasNext, Same, Stepped, IsStartOf, IsTaskOf, CanGoOn}
+use Rattle.rule_machine.specs.Charges.{charge_of, work_of}
 use Rattle.rule_machine.specs.Seen.{seen, seen_in, Represents}
 use Rattle.rule_machine.specs.Contract.{Further, IsStarted, IsPaused, IsDone, IsRefused, Judged}
+use Rattle.rule_machine.proofs.Charged.{charged, work_more, steps_within}
 use Rattle.rule_machine.proofs.Moves.{moves}
 use Rattle.rule_machine.proofs.Runs.{final_stops}
 use Rattle.rule_machine.proofs.Theorems.{goes_on_at}
@@ -32,20 +34,27 @@ run_suc s (suc n) c d e r h = by_first (step s c) r (λ x q. run_suc s n x d e q
 pub run_more : (s : Setting) (n : ℕ) (c d e : Configuration) → run s n c ≡ Some d → step s d ≡ Some e → run s (n + 1) c ≡ Some e
 run_more s n c d e r h = let one : suc n ≡ n + 1 = omega arith in subst (λ m. run s m c ≡ Some e) one (run_suc s n c d e r h)
 
+work_next : (s : Setting) (n : ℕ) (c d : Configuration) → run s n c ≡ Some d → work_of s (n + 1) c ≡ work_of s n c + charge_of d
+work_next s n c d r = let one : n + 1 ≡ suc n = omega arith in ap (λ m. work_of s m c) one ∙ work_more s n c d r
+
 -- a configuration without a verdict has a next one, within the bound
 module _ (u : Content) (p : Population) (r o n : ℕ) (c : Configuration) (accepted : IsAcceptedRun u p r o) (reached : run (setting_of u p r) n (start (tree_of_rule u r) o) ≡ Some c) where
   pub goes_on : outcome c ≡ None → (d : Configuration) × (step (setting_of u p r) c ≡ Some d) × (n < rule_bound u p r)
   goes_on none =
       let l = goes_on_at u p r o n c accepted reached in
-      ⊎_elim (λ f. absurd (no_verdict (outcome c) none f)) (λ m. (m.0, m.2, omega (arith, m.3, l.3))) (moves (setting_of u p r) (rule_depths_in u p r) accepted.model accepted.population c l.0 l.1 l.4)
+      ⊎_elim (λ f. absurd (no_verdict (outcome c) none f)) (λ m. (m.0, m.2, omega (arith, m.3, l.3, charged c, steps_within (setting_of u p r) n (start (tree_of_rule u r) o) c reached))) (moves (setting_of u p r) (rule_depths_in u p r) accepted.model accepted.population c l.0 l.1 l.4)
     where
       no_verdict : (v : Option Verdict) → v ≡ None → IsSome v → ⊥
       no_verdict None e f = let bad = f in cc
       no_verdict (Some v) e f = cc
 
-  -- a run makes no more steps than its bound
+  -- a run is charged no more than its bound
+  pub charged_within : work_of (setting_of u p r) n (start (tree_of_rule u r) o) ≤ rule_bound u p r
+  charged_within = let l = goes_on_at u p r o n c accepted reached in omega (arith, l.3)
+
+  -- and so makes no more steps
   pub within_bound : n ≤ rule_bound u p r
-  within_bound = let l = goes_on_at u p r o n c accepted reached in omega (arith, l.3)
+  within_bound = omega (arith, charged_within, steps_within (setting_of u p r) n (start (tree_of_rule u r) o) c reached)
 
 -- the verdict of a run is found within any number of steps that is no less
 pub verdict_found : (u : Content) (p : Population) (r o : ℕ) (accepted : IsAcceptedRun u p r o) (f n : ℕ) (c d : Configuration) (v : Verdict) → run (setting_of u p r) n c ≡ Some d → outcome d ≡ Some v → n ≤ f → verdict_within (setting_of u p r) f c ≡ Some v
@@ -87,7 +96,7 @@ module _ (t : Task) where
 
   -- the work of a run is within its bound
   stands_within : (o : ℕ) (m : State) (c : Configuration) (k : ℕ) → Stands t o m c k → k ≤ rule_bound t.accepted.now.unit t.population.now.content t.rule
-  stands_within o m c k r = omega (arith, r.work, within_bound t.accepted.now.unit t.population.now.content t.rule o r.made c r.accepted r.reached)
+  stands_within o m c k r = omega (arith, r.work, charged_within t.accepted.now.unit t.population.now.content t.rule o r.made c r.accepted r.reached)
 
   has_next : (x : Option Configuration) (d : Configuration) → x ≡ Some d → HasNext x
   has_next None d e = cc
@@ -116,20 +125,27 @@ module _ (t : Task) where
   abbrev pub counted : State → ℕ → State
   counted m n = record m { count = n }
 
-  -- where the machine makes a step, its run makes one, which is counted
-  pub stands_next : (o : ℕ) (m m' : State) (c : Configuration) (k n : ℕ) → Stepped t m m' → n ≡ min (m'.count + 1) (2 ^ 64 - 1) → Stands t o m c k → (d : Configuration) × (step (setting_in t) c ≡ Some d) × Stands t o (counted m' n) d (k + 1)
+  -- the charge of the machine's next step
+  abbrev pub next_charge : State → ℕ
+  next_charge m = charge_of (configuration_of t m)
+
+  -- where the machine makes a step, its run makes one, whose charge is counted
+  pub stands_next : (o : ℕ) (m m' : State) (c : Configuration) (k n : ℕ) → Stepped t m m' → n ≡ min (m'.count + next_charge m) (2 ^ 64 - 1) → Stands t o m c k
+      → (d : Configuration) × (step (setting_in t) c ≡ Some d) × (next_charge m ≡ charge_of c) × Stands t o (counted m' n) d (k + next_charge m)
   stands_next o m m' c k n h counts r =
       let d = configuration_of t m' in
       let next : step (setting_in t) c ≡ Some d = ap (step (setting_in t)) (sym r.same) ∙ h.made in
       let old : m'.count ≡ min k (2 ^ 64 - 1) = h.kept.count ∙ r.count in
-      let n1 : k + 1 ≡ r.made + 1 = omega (arith, r.work) in (
+      let charge : next_charge m ≡ charge_of c = ap charge_of r.same in
+      let begin = start (tree_of_rule t.accepted.now.unit t.rule) o in (
         d,
         next,
+        charge,
         record {
           accepted = r.accepted;
           made = r.made + 1;
-          reached = run_more (setting_in t) r.made (start (tree_of_rule t.accepted.now.unit t.rule) o) c d r.reached next;
-          work = n1;
+          reached = run_more (setting_in t) r.made begin c d r.reached next;
+          work = omega (arith, r.work, charge, work_next (setting_in t) r.made begin c r.reached);
           started = h.kept.started ∙ r.started;
           same = refl;
           place = h.place;
@@ -138,28 +154,29 @@ module _ (t : Task) where
       )
 
   -- after a step it still stands somewhere in a run of its task
-  pub somewhere_next : (m m' : State) (n : ℕ) → Stepped t m m' → n ≡ min (m'.count + 1) (2 ^ 64 - 1) → StandsSomewhere m → StandsSomewhere (counted m' n)
-  somewhere_next m m' n st counts s = let x = stands_next s.0 m m' s.1 s.2 n st counts s.3 in (s.0, x.0, s.2 + 1, x.2)
+  pub somewhere_next : (m m' : State) (n : ℕ) → Stepped t m m' → n ≡ min (m'.count + next_charge m) (2 ^ 64 - 1) → StandsSomewhere m → StandsSomewhere (counted m' n)
+  somewhere_next m m' n st counts s = let x = stands_next s.0 m m' s.1 s.2 n st counts s.3 in (s.0, x.0, s.2 + next_charge m, x.3)
 
-  -- n steps are made from one state to the other
+  -- steps that are charged w are made from one state to the other
   abbrev pub Came : State → ℕ → State → Type 0
-  Came old n new = (o : ℕ) (c : Configuration) (k : ℕ) → Stands t o old c k → (d : Configuration) × (run (setting_in t) n c ≡ Some d) × Stands t o new d (k + n)
+  Came old w new =
+      (o : ℕ) (c : Configuration) (k : ℕ) → Stands t o old c k → (n : ℕ) × (d : Configuration) × (run (setting_in t) n c ≡ Some d) × (work_of (setting_in t) n c ≡ w) × Stands t o new d (k + w)
 
   -- no step is made from a state to itself
   pub came_none : (m : State) → Came m 0 m
-  came_none m o c k r = let e : k ≡ k + 0 = omega arith in (c, refl, subst (Stands t o m c) e r)
+  came_none m o c k r = let e : k ≡ k + 0 = omega arith in (0, c, refl, refl, subst (Stands t o m c) e r)
 
   -- as many steps are made to a machine in the same configuration
-  pub came_same : (old m m' : State) (n : ℕ) → Same t m m' → Came old n m → Came old n m'
-  came_same old m m' n h came o c k r = let f = came o c k r in (f.0, f.1, stands_same o m m' f.0 (k + n) h f.2)
+  pub came_same : (old m m' : State) (w : ℕ) → Same t m m' → Came old w m → Came old w m'
+  came_same old m m' w h came o c k r = let f = came o c k r in (f.0, f.1, f.2, f.3, stands_same o m m' f.1 (k + w) h f.4)
 
   -- and one more where the machine makes a step
-  pub came_next : (old m m' new : State) (n i : ℕ) → Same t m m' → Stepped t m' new → i ≡ min (new.count + 1) (2 ^ 64 - 1) → Came old n m → Came old (n + 1) (counted new i)
-  came_next old m m' new n i h st counts came o c k r =
-      let f = came_same old m m' n h came o c k r in
-      let x = stands_next o m' new f.0 (k + n) i st counts f.2 in
-      let e : k + n + 1 ≡ k + (n + 1) = omega arith in
-      (x.0, run_more (setting_in t) n c f.0 x.0 f.1 x.1, subst (Stands t o (counted new i) x.0) e x.2)
+  pub came_next : (old m m' new : State) (w i : ℕ) → Same t m m' → Stepped t m' new → i ≡ min (new.count + next_charge m') (2 ^ 64 - 1) → Came old w m → Came old (w + next_charge m') (counted new i)
+  came_next old m m' new w i h st counts came o c k r =
+      let f = came_same old m m' w h came o c k r in
+      let x = stands_next o m' new f.1 (k + w) i st counts f.4 in
+      let e : k + w + next_charge m' ≡ k + (w + next_charge m') = omega arith in
+      (f.0 + 1, x.0, run_more (setting_in t) f.0 c f.1 x.0 f.2 x.1, omega (arith, work_next (setting_in t) f.0 c f.1 f.2, f.3, x.2), subst (Stands t o (counted new i) x.0) e x.3)
 
   -- a machine in the same configuration has the same task
   pub task_same : (m m' : State) → Same t m m' → IsTaskOf t m → IsTaskOf t m'
@@ -184,8 +201,11 @@ module _ (t : Task) where
       let e = its_rule old is r o c k stands in
       subst (λ n. P n o c k) e (h o c k (subst (λ n. Represents (seen_in t old) n o c k) (sym e) stands))
 
-  further : (o : ℕ) (old new : State) (c d : Configuration) (k n : ℕ) → run (setting_in t) n c ≡ Some d → Stands t o new d (k + n) → Further (seen_in t old) t.rule o c k n d (seen_in t new)
-  further o old new c d k n ran stands = record { ran = ran; stands = stands; within = stands_within o new d (k + n) stands }
+  further : (o : ℕ) (old new : State) (c d : Configuration) (k n w : ℕ) → run (setting_in t) n c ≡ Some d → work_of (setting_in t) n c ≡ w → Stands t o new d (k + w) → Further (seen_in t old) t.rule o c k n d (seen_in t new)
+  further o old new c d k n w ran work stands =
+      let e : k + w ≡ k + work_of (setting_in t) n c = ap (λ x. k + x) (sym work) in
+      let at = subst (Stands t o new d) e stands in
+      record { ran = ran; stands = at; within = stands_within o new d (k + work_of (setting_in t) n c) at }
 
   -- a machine that is started stands in a run of its task
   pub its_stand : (m : State) → IsTaskOf t m → IsStarted (seen_in t m) → StandsSomewhere m
@@ -201,28 +221,32 @@ module _ (t : Task) where
       subst (λ v. IsStarted (seen v p m)) same_unit (subst (λ q. IsStarted (seen t.accepted.now.unit q m)) same_population h)
 
   -- a run that comes to its verdict within the grant is done
-  pub is_done : (old m m' : State) (g n : ℕ) (v : Verdict) → IsTaskOf t old → n ≤ g → Same t m m' → outcome (configuration_of t m') ≡ Some v → Came old n m → IsDone (seen_in t old) g v (seen_in t m')
-  is_done old m m' g n v is le h e came =
+  pub is_done : (old m m' : State) (g w : ℕ) (v : Verdict) → IsTaskOf t old → w ≤ g → Same t m m' → outcome (configuration_of t m') ≡ Some v → Came old w m → IsDone (seen_in t old) g v (seen_in t m')
+  is_done old m m' g w v is le h e came =
       of_its_rule old _ is
       (λ o c k r.
-      let f = came_same old m m' n h came o c k r in
-      (n, f.0, ap outcome (sym f.2.same) ∙ e, le, further o old m' c f.0 k n f.1 f.2))
+      let f = came_same old m m' w h came o c k r in
+      (f.0, f.1, ap outcome (sym f.4.same) ∙ e, omega (arith, f.3, le), further o old m' c f.1 k f.0 w f.2 f.3 f.4))
 
-  -- a run that has used up its grant without a verdict is paused
-  pub is_paused : (old m m' : State) (g n : ℕ) → IsTaskOf t old → n ≡ g → Same t m m' → outcome (configuration_of t m') ≡ None → Came old n m → IsPaused (seen_in t old) g (seen_in t m')
-  is_paused old m m' g n is all h e came =
+  -- the charges of one step more
+  one_more : (o : ℕ) (m : State) (c d : Configuration) (k n : ℕ) → run (setting_in t) n c ≡ Some d → Stands t o m d k → work_of (setting_in t) (suc n) c ≡ work_of (setting_in t) n c + next_charge m
+  one_more o m c d k n ran stands = work_more (setting_in t) n c d ran ∙ ap (λ x. work_of (setting_in t) n c + charge_of x) (sym stands.same)
+
+  -- a run whose next step is charged more than what is left of the grant, and that has no verdict, is paused
+  pub is_paused : (old m m' : State) (g w : ℕ) → IsTaskOf t old → w ≤ g → g < w + next_charge m' → Same t m m' → outcome (configuration_of t m') ≡ None → Came old w m → IsPaused (seen_in t old) g (seen_in t m')
+  is_paused old m m' g w is le lt h e came =
       of_its_rule old _ is
       (λ o c k r.
-      let f = came_same old m m' n h came o c k r in
-      (n, f.0, ap outcome (sym f.2.same) ∙ e, omega (arith, all), omega (arith, all), further o old m' c f.0 k n f.1 f.2))
+      let f = came_same old m m' w h came o c k r in
+      (f.0, f.1, ap outcome (sym f.4.same) ∙ e, omega (arith, f.3, le), omega (arith, f.3, lt, one_more o m' c f.1 (k + w) f.0 f.2 f.4), further o old m' c f.1 k f.0 w f.2 f.3 f.4))
 
   -- a machine that stops for want of memory stands before a step that the grant pays for
-  pub is_refused : (old m m' new : State) (g n : ℕ) → IsTaskOf t old → n < g → Same t m m' → outcome (configuration_of t m') ≡ None → Same t m' new → Came old n m → IsRefused (seen_in t old) g (seen_in t new)
-  is_refused old m m' new g n is lt h e u came =
+  pub is_refused : (old m m' new : State) (g w : ℕ) → IsTaskOf t old → w + next_charge m' ≤ g → Same t m m' → outcome (configuration_of t m') ≡ None → Same t m' new → Came old w m → IsRefused (seen_in t old) g (seen_in t new)
+  is_refused old m m' new g w is le h e u came =
       of_its_rule old _ is
       (λ o c k r.
-      let f = came_same old m' new n u (came_same old m m' n h came) o c k r in
-      (n, f.0, ap outcome (sym f.2.same ∙ u.same) ∙ e, omega (arith, lt), further o old new c f.0 k n f.1 f.2))
+      let f = came_same old m' new w u (came_same old m m' w h came) o c k r in
+      (f.0, f.1, ap outcome (sym f.4.same ∙ u.same) ∙ e, omega (arith, f.3, le, one_more o new c f.1 (k + w) f.0 f.2 f.4, ap charge_of u.same), further o old new c f.1 k f.0 w f.2 f.3 f.4))
 
   -- ---- whole runs
 
@@ -231,44 +255,57 @@ module _ (t : Task) where
   begun o m accepted h =
       record { accepted = accepted; made = 0; reached = refl; work = refl; started = h.started; same = h.same; place = h.place; count = omega (arith, h.count) }
 
-  -- where a run of the task stands after k steps
+  -- and does so for an equal unit, an equal population and the same rule
+  pub begun_for : (u : Content) (p : Population) (r o : ℕ) (m : State) → t.accepted.now.unit ≡ u → t.population.now.content ≡ p → t.rule ≡ r → IsAcceptedRun t.accepted.now.unit t.population.now.content r o → IsStartOf t o m → Represents (seen u p m) r o (start (tree_of_rule u r) o) 0
+  begun_for u p r o m same_unit same_population same_rule accepted h =
+      let b = begun o m (subst (λ n. IsAcceptedRun t.accepted.now.unit t.population.now.content n o) (sym same_rule) accepted) h in
+      subst (λ n. Represents (seen u p m) n o (start (tree_of_rule u n) o) 0) same_rule
+      (subst (λ v. Represents (seen v p m) t.rule o (start (tree_of_rule v t.rule) o) 0) same_unit (subst (λ q. Represents (seen t.accepted.now.unit q m) t.rule o (start (tree_of_rule t.accepted.now.unit t.rule) o) 0) same_population b))
+
+  -- where a run of the task stands after n steps
   abbrev pub Standing : ℕ → State → ℕ → Type 0
-  Standing o m k = (c : Configuration) × (run (setting_in t) k (start (tree_of_rule t.accepted.now.unit t.rule) o) ≡ Some c) × Stands t o m c k
+  Standing o m n =
+      (c : Configuration) × (run (setting_in t) n (start (tree_of_rule t.accepted.now.unit t.rule) o) ≡ Some c) × Stands t o m c (work_of (setting_in t) n (start (tree_of_rule t.accepted.now.unit t.rule) o))
 
   -- at the start of its run a machine stands after no step
   pub standing_begun : (o : ℕ) (m : State) → IsAcceptedRun t.accepted.now.unit t.population.now.content t.rule o → IsStartOf t o m → Standing o m 0
   standing_begun o m accepted h = (start (tree_of_rule t.accepted.now.unit t.rule) o, refl, begun o m accepted h)
 
   -- where it stands, the run has a verdict or a next step
-  pub standing_goes : (o : ℕ) (m : State) (k : ℕ) → Standing o m k → CanGoOn t m
-  standing_goes o m k s = can_go_on o m s.0 k s.2
+  pub standing_goes : (o : ℕ) (m : State) (n : ℕ) → Standing o m n → CanGoOn t m
+  standing_goes o m n s = can_go_on o m s.0 _ s.2
 
   -- a machine in the same configuration stands after as many steps
-  pub standing_same : (o : ℕ) (m m' : State) (k : ℕ) → Same t m m' → Standing o m k → Standing o m' k
-  standing_same o m m' k h s = (s.0, s.1, stands_same o m m' s.0 k h s.2)
+  pub standing_same : (o : ℕ) (m m' : State) (n : ℕ) → Same t m m' → Standing o m n → Standing o m' n
+  standing_same o m m' n h s = (s.0, s.1, stands_same o m m' s.0 _ h s.2)
 
   -- and one that made a step stands after one more
-  pub standing_next : (o : ℕ) (m m' : State) (k n : ℕ) → Stepped t m m' → n ≡ min (m'.count + 1) (2 ^ 64 - 1) → Standing o m k → Standing o (counted m' n) (k + 1)
-  standing_next o m m' k n st counts s =
-      let x = stands_next o m m' s.0 k n st counts s.2 in
-      (x.0, run_more (setting_in t) k (start (tree_of_rule t.accepted.now.unit t.rule) o) s.0 x.0 s.1 x.1, x.2)
+  pub standing_next : (o : ℕ) (m m' : State) (n i : ℕ) → Stepped t m m' → i ≡ min (m'.count + next_charge m) (2 ^ 64 - 1) → Standing o m n → Standing o (counted m' i) (n + 1)
+  standing_next o m m' n i st counts s =
+      let begin = start (tree_of_rule t.accepted.now.unit t.rule) o in
+      let x = stands_next o m m' s.0 _ i st counts s.2 in
+      let e : work_of (setting_in t) n begin + next_charge m ≡ work_of (setting_in t) (n + 1) begin = omega (arith, work_next (setting_in t) n begin s.0 s.1, x.2) in
+      (x.0, run_more (setting_in t) n begin s.0 x.0 s.1 x.1, subst (Stands t o (counted m' i) x.0) e x.3)
 
   -- before the end, a step of the bound is left
-  pub standing_below : (o : ℕ) (m : State) (k : ℕ) → outcome (configuration_of t m) ≡ None → Standing o m k → k < rule_bound t.accepted.now.unit t.population.now.content t.rule
-  standing_below o m k none s = (goes_on t.accepted.now.unit t.population.now.content t.rule o k s.0 s.2.accepted s.1 (ap outcome (sym s.2.same) ∙ none)).2
+  pub standing_below : (o : ℕ) (m : State) (n : ℕ) → outcome (configuration_of t m) ≡ None → Standing o m n → n < rule_bound t.accepted.now.unit t.population.now.content t.rule
+  standing_below o m n none s = (goes_on t.accepted.now.unit t.population.now.content t.rule o n s.0 s.2.accepted s.1 (ap outcome (sym s.2.same) ∙ none)).2
+
+  judged_further : (old : State) (o : ℕ) (m : State) (n : ℕ) → (s : Standing o m n) → Further (seen_in t old) t.rule o (start (tree_of_rule t.accepted.now.unit t.rule) o) 0 n s.0 (seen_in t m)
+  judged_further old o m n s =
+      let begin = start (tree_of_rule t.accepted.now.unit t.rule) o in
+      let whole : work_of (setting_in t) n begin ≡ 0 + work_of (setting_in t) n begin = omega arith in
+      further o old m begin s.0 0 n (work_of (setting_in t) n begin) s.1 refl (subst (Stands t o m s.0) whole s.2)
 
   -- a whole run that ends with a verdict has judged the object, as the contract of `judge` says
-  pub is_judged : (old : State) (o : ℕ) (m : State) (k : ℕ) (v : Verdict) → outcome (configuration_of t m) ≡ Some v → Standing o m k → Judged (seen_in t old) t.rule o (Ok v) (seen_in t m)
-  is_judged old o m k v e s =
-      let whole : k ≡ 0 + k = omega arith in
-      (k, s.0, ap outcome (sym s.2.same) ∙ e, further o old m (start (tree_of_rule t.accepted.now.unit t.rule) o) s.0 0 k s.1 (subst (Stands t o m s.0) whole s.2))
+  pub is_judged : (old : State) (o : ℕ) (m : State) (n : ℕ) (v : Verdict) → outcome (configuration_of t m) ≡ Some v → Standing o m n → Judged (seen_in t old) t.rule o (Ok v) (seen_in t m)
+  is_judged old o m n v e s = (n, s.0, ap outcome (sym s.2.same) ∙ e, judged_further old o m n s)
 
   -- and one that stops for want of memory stands before a step, as that contract says
-  pub is_judge_refused : (old m new : State) (o k : ℕ) (x : OutOfMemory) → outcome (configuration_of t m) ≡ None → Same t m new → Standing o m k → Judged (seen_in t old) t.rule o (Err x) (seen_in t new)
-  is_judge_refused old m new o k x none h s =
-      let n = standing_same o m new k h s in
-      let whole : k ≡ 0 + k = omega arith in
-      inr (k, n.0, ap outcome (sym n.2.same ∙ h.same) ∙ none, further o old new (start (tree_of_rule t.accepted.now.unit t.rule) o) n.0 0 k n.1 (subst (Stands t o new n.0) whole n.2))
+  pub is_judge_refused : (old m new : State) (o n : ℕ) (x : OutOfMemory) → outcome (configuration_of t m) ≡ None → Same t m new → Standing o m n → Judged (seen_in t old) t.rule o (Err x) (seen_in t new)
+  is_judge_refused old m new o n x none h s =
+      let a = standing_same o m new n h s in
+      inr (n, a.0, ap outcome (sym a.2.same ∙ h.same) ∙ none, judged_further old o new n a)
 
   -- the verdict that a whole run ends with is the rule's verdict for the object
   pub its_verdict : (o : ℕ) (m : State) (k : ℕ) (v : Verdict) → outcome (configuration_of t m) ≡ Some v → Standing o m k → verdict_at t.accepted.now.unit t.population.now.content t.rule o ≡ Some v

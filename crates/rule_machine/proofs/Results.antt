@@ -3,10 +3,10 @@ use Rattle.std.proofs.Common.{◌≡◌, ℕ, suc, ◌<◌, ◌≤◌, Bool, tru
 use Rattle.std.specs.Prelude.{◌==◌, ℤ, pos, ◌+ℤ◌, ◌-ℤ◌, ◌*ℤ◌, neg_ℤ, is_some, nat_lt, if◌then◌else◌}
 use Rattle.std.specs.Int.{int_min, int_max}
 use Rattle.std.specs.List.{list_all}
-use Rattle.std.proofs.lemmas.Bool.{and_parts, and_from, or_right, eq-eqb, ltb-true}
+use Rattle.std.proofs.lemmas.Bool.{and_parts, and_from, or_right, eq-eqb, ltb-true, lt-ltb}
 use Rattle.ocl_base.specs.declared.collection_kind.CollectionKind.{CollectionKind}
 use Rattle.ocl_base.specs.declared.collection_kind.CollectionKind.TheVariants as collection
-use Rattle.imkl_model.specs.ClassModel.{conforms, feature_at, belongs}
+use Rattle.imkl_model.specs.ClassModel.{enumeration_at, conforms, feature_at, belongs}
 use Rattle.imkl_model.specs.WellFormed.{IsClassModel}
 use Rattle.imkl_model.proofs.ForAbove.{inherits}
 use Rattle.imkl_population.specs.declared.scalar.Scalar.TheVariants as scalar
@@ -31,18 +31,17 @@ use Rattle.rule_verify.specs.Known.{IsKnownName}
 use Rattle.rule_verify.specs.Patterns.{matches, all_match, a_boolean, an_integer, a_string, an_object}
 use Rattle.rule_verify.specs.InstrKinds.{variable_at, owner_kind, class_kind, literal_kind, scalar_meant, kind_meant, feature_read}
 use Rattle.rule_cost.specs.Bounds.{named_length, feature_length}
-use Rattle.rule_machine.specs.Value as value
-use Rattle.rule_machine.specs.Value.{Value, object_value, is_element_in, is_in}
-use Rattle.rule_machine.specs.Equality.{equal_values}
-use Rattle.rule_machine.specs.Operations.{integer_value, on_integers, division, remainder, negative, absolute, less_than, at_most, negation, conjunction, disjunction, exclusive_disjunction, implication, is_true, is_false, is_null, equality, both_null, undefined_test, invalid_test, text_length, substring, kind_test, type_test, cast, feature_value, value_read, all_instances, as_collection, collection_size, emptiness, membership, occurrence_count, inclusion, exclusion, summation, as_set}
+use Rattle.rule_values.specs.Value as value
+use Rattle.rule_values.specs.Value.{Value, object_value, is_element_in, is_in}
+use Rattle.rule_values.specs.Equality.{equal_values}
+use Rattle.rule_values.specs.Operations.{integer_value, on_integers, division, remainder, negative, absolute, less_than, at_most, negation, conjunction, disjunction, exclusive_disjunction, implication, is_true, is_false, is_null, equality, both_null, undefined_test, invalid_test, text_length, substring, kind_test, type_test, cast, feature_value, value_read, all_instances, as_collection, collection_size, emptiness, membership, occurrence_count, inclusion, exclusion, summation, as_set}
 use Rattle.rule_machine.specs.Machine.{Setting, judged_by, literal_named, on_class_named, value_named_read, symbol_named, result_of}
 use Rattle.rule_machine.specs.Places.{Place, place, kinds_of, lengths_of, long, At, AllAt, self_place, sizes_in, given}
 use Rattle.rule_machine.specs.Live.{IsTaken}
-use Rattle.rule_machine.proofs.InKinds.{fits_in, single_at, invalid_at}
+use Rattle.rule_values.proofs.ForAbove.{fits_in, IsSingle, fits_integer, integer_single, on_integers_single, on_integer_single, division_single, remainder_single, truth_single, unless_invalid_single, text_length_single, substring_single, on_object_single, on_elements_single, membership_single, occurrence_count_single, inclusion_single, exclusion_single, summation_single, distinct_apart, distinct_all, distinct_fewer}
+use Rattle.rule_machine.proofs.InKinds.{single_at, invalid_at}
 use Rattle.rule_machine.proofs.Symbols.{IsNamed, symbol_names}
 use Rattle.rule_machine.proofs.FeatureValues.{feature_value_at, all_instances_at}
-use Rattle.rule_machine.proofs.ValueKinds.{IsSingle, fits_integer, integer_single, on_integers_single, on_integer_single, division_single, remainder_single, truth_single, unless_invalid_single, text_length_single, substring_single, on_object_single, on_elements_single, membership_single, occurrence_count_single, inclusion_single, exclusion_single, summation_single}
-use Rattle.rule_machine.proofs.Distinct.{distinct_apart, distinct_all, distinct_fewer}
 
 -- ---- variables
 
@@ -172,9 +171,9 @@ module _ (s : Setting) where
 
   -- ---- results that depend on names
 
-  literal_given : (o : Option Named) (x : Named) → o ≡ Some x → IsNamed tags.Literal x → Given (literal_named o) (place (kind.Scalar (literal_kind o)) 0)
-  literal_given o (named.Literal e l) is n = subst (λ y. Given (literal_named y) (place (kind.Scalar (literal_kind y)) 0)) (sym is) (single (element.Enumeration e) (value.Single (scalar.Literal e l)) _ refl (eq-eqb e e refl))
-  literal_given o x is n = absurd n
+  literal_given : (o : Option Named) (x : Named) → o ≡ Some x → IsNamed tags.Literal x → IsKnownName s.population.model x → Given (literal_named o) (place (kind.Scalar (literal_kind o)) 0)
+  literal_given o (named.Literal e l) is n there = subst (λ y. Given (literal_named y) (place (kind.Scalar (literal_kind y)) 0)) (sym is) (single (element.Enumeration e) (value.Single (scalar.Literal e l)) _ refl (and_from _ _ (eq-eqb e e refl) (lt-ltb l (length (enumeration_at s.population.model e).literals) there.1)))
+  literal_given o x is n there = absurd n
 
   class_given : (f : ℕ → Value) (k : ScalarKind) (o : Option Named) (x : Named) → o ≡ Some x → IsNamed tags.Class x → ((d : ℕ) → IsSingle s.population k (f d)) → Given (on_class_named f o) (place (kind.Scalar k) 0)
   class_given f k o (named.Class d) is n h = single k (f d) _ (ap (on_class_named f) is) (h d)
@@ -239,7 +238,7 @@ module _ (s : Setting) where
       results (instrs.Text n) e t = single element.String _ _ refl refl
       results (instrs.Enum l) e t =
           let x = symbol_names s.population.model s.unit tags.Literal l.0 t.fits.0 (and_parts _ true t.names).0 in
-          literal_given (symbol_named s l.0) x.0 x.1 x.2
+          literal_given (symbol_named s l.0) x.0 x.1 x.2 x.3
       results instrs.Null e t = single element.Void _ _ refl refl
       results instrs.Invalid e t = single element.Void _ _ refl refl
       results (instrs.Attr a) e t =

@@ -8,21 +8,21 @@ use Rattle.rule_code.specs.declared.instruction.Instr.{Instr}
 use Rattle.rule_code.specs.declared.instruction.Instr.TheVariants as instrs
 use Rattle.rule_verify.specs.CodeTree.{CodeTree, Plain, Block, Branch, shape_of, code_tree}
 use Rattle.rule_verify.specs.declared.shape.Shape.TheVariants.{Single, OneBody, TwoBodies}
-use Rattle.rule_verify.specs.InstrKinds.{has_names, operands_of}
+use Rattle.rule_verify.specs.InstrKinds.{has_names, operands_of, operands_above}
 use Rattle.rule_verify.proofs.ForAbove.{stretch_none, tree_plain, tree_block, tree_branch, tree_torn, tree_torn_branch}
 use Rattle.rule_machine.specs.declared.value.Value.{Value as Held}
 use Rattle.rule_machine.specs.declared.value.Value.TheVariants as held
 use Rattle.rule_machine.specs.declared.control.Control.{Control}
 use Rattle.rule_machine.specs.declared.control.Control.TheVariants as control
 use Rattle.rule_machine.specs.declared.task.Task.{Task}
-use Rattle.rule_machine.specs.Value as value
-use Rattle.rule_machine.specs.Value.{Value}
-use Rattle.rule_machine.specs.Machine.{Setting, judged_by, are_what, performed, Piece, Sequence, Opened, Configuration, configuration, branched, opened_over, block_opened, on_operand, step}
+use Rattle.rule_values.specs.Value as value
+use Rattle.rule_values.specs.Value.{Value}
+use Rattle.rule_machine.specs.Machine.{Setting, judged_by, are_what, operands_below, performed, Piece, Sequence, Opened, Configuration, configuration, branched, opened_over, block_opened, on_operand, step}
 use Rattle.rule_machine.specs.Live.{is_iteration}
 use Rattle.rule_machine.specs.Meant.{meant, source}
 use Rattle.rule_machine.specs.Shown.{code_in, setting_in, all_meant, piece, pieces, configuration_at, IsControlIn, AreControlsIn, LiesInAt, HasNext, IsCondition, choice_of, IsIterable, IsOpening}
 use Rattle.rule_machine.proofs.Blocks as sorts
-use Rattle.rule_machine.proofs.Blocks.{BlockSort, block_sort, block_takes, branch_takes, iteration_opens}
+use Rattle.rule_machine.proofs.Blocks.{BlockSort, block_sort, block_takes_one, branch_takes, none_opened, iteration_opens}
 
 -- ---- what stands at the end of a sequence
 
@@ -42,7 +42,15 @@ iterates i n e other = by_sort (block_sort i (n, e))
   where
     by_sort : BlockSort i → is_iteration i ≡ true
     by_sort (sorts.is_let x is) = absurd (other x is)
-    by_sort (sorts.iterates it) = it
+    by_sort (sorts.iterates it one) = it
+
+nowhere : (o : Option (List Value)) (f : List Value → Option Configuration) → ((left : List Value) → f left ≡ None) → HasNext (option_and_then f o) → ⊥
+nowhere None f none g = g
+nowhere (Some left) f none g = subst HasNext (none left) g
+
+let_above : (i : Instr) (x : ℕ) → i ≡ instrs.Let x → operands_above i ≡ 0
+let_above (instrs.Let y) x is = refl
+let_above i x is = cc
 
 -- a block takes its operand, where it has a step
 module _ (s : Setting) (i : Instr) (go : Value → List Value → Option Configuration) (one : length (operands_of (judged_by s) i) ≡ 1) where
@@ -76,10 +84,10 @@ condition_of value.Invalid x y ps vars os g = tt
 condition_of (value.Single (scalar.Bool b)) x y ps vars os g = tt
 condition_of v x y ps vars os g = absurd g
 
-source_of : (i : Instr) (body : CodeTree) (v : Value) (ps : List Piece) (vars os : List Value) → HasNext (opened_over i body v ps vars os) → IsIterable v
-source_of i body value.Invalid ps vars os g = tt
-source_of i body (value.Collection c es) ps vars os g = tt
-source_of i body v ps vars os g = absurd g
+source_of : (i : Instr) (body : CodeTree) (v : Value) (kept : List Value) (ps : List Piece) (vars os : List Value) → HasNext (opened_over i body v kept ps vars os) → IsIterable v
+source_of i body value.Invalid kept ps vars os g = tt
+source_of i body (value.Collection c es) kept ps vars os g = tt
+source_of i body v kept ps vars os g = absurd g
 
 -- ---- the step of an instruction
 
@@ -132,10 +140,10 @@ module _ (t : Task) (at end : ℕ) (cs : List Control) (vs os : List Held) (i : 
     abbrev after : List Piece
     after = Sequence (code_tree (slice_range code (at + 1 + n) end)) ∷ pieces code cs
 
-    abbrev opens : Value → List Value → Option Configuration
-    opens o left = block_opened i body o after (all_meant vs) left
+    abbrev opens : List Held → List Value → Option Configuration
+    opens os left = block_opened i body (all_meant os) after (all_meant vs) left
 
-    block_is : at + 1 + n ≤ end → step s (configuration_at code at end cs vs os) ≡ on_operand s i (all_meant os) opens
+    block_is : at + 1 + n ≤ end → step s (configuration_at code at end cs vs os) ≡ option_and_then (opens os) (operands_below s i (all_meant os))
     block_is nests = at_tree (Block i body (code_tree (slice_range code (at + 1 + n) end))) (tree_block code at end i lt le here n shape nests)
 
     -- a block that has a step lies within its sequence
@@ -144,44 +152,46 @@ module _ (t : Task) (at end : ℕ) (cs : List Control) (vs os : List Held) (i : 
 
     -- and finds its operand there
     pub block_has_operand : at + 1 + n ≤ end → os ≡ [] → ⊥
-    block_has_operand nests e = subst HasNext (block_is nests ∙ ap (λ l. on_operand s i (all_meant l) opens) e) goes
+    block_has_operand nests e =
+        nowhere (operands_below s i []) (opens []) (λ left. none_opened i body after (all_meant vs) left)
+        (subst HasNext (block_is nests ∙ ap (λ l. option_and_then (opens l) (operands_below s i (all_meant l))) e) goes)
 
     -- the step, by the operand
-    block_opens : at + 1 + n ≤ end → (o : Held) (os1 : List Held) → os ≡ o ∷ os1 → step s (configuration_at code at end cs vs os) ≡ opens (meant o) (all_meant os1)
-    block_opens nests o os1 e =
-        let first = block_is nests ∙ ap (λ l. on_operand s i (all_meant l) opens) e in
-        first ∙ operand_taken s i opens (ap length (block_takes (judged_by s) i (n, shape)).1) (meant o) (all_meant os1) (subst HasNext first goes)
+    block_opens : operands_above i ≡ 0 → at + 1 + n ≤ end → (o : Held) (os1 : List Held) → os ≡ o ∷ os1 → step s (configuration_at code at end cs vs os) ≡ opens (o ∷ os1) (all_meant os1)
+    block_opens one nests o os1 e =
+        let first = block_is nests ∙ ap (λ l. option_and_then (opens l) (operands_below s i (all_meant l))) e in
+        first ∙ operand_taken s i (λ v. opens (o ∷ os1)) (block_takes_one (judged_by s) i (n, shape) one) (meant o) (all_meant os1) (subst HasNext first goes)
 
     -- the step of a LET binds its operand and enters its body
     pub let_made : (x : ℕ) → i ≡ instrs.Let x → at + 1 + n ≤ end → (o : Held) (os1 vs1 : List Held) (cs1 cs2 : List Control) → os ≡ o ∷ os1 → vs1 ≡ o ∷ vs → cs1 ≡ control.Rest (at + 1 + n) end ∷ cs → cs2 ≡ control.LetEnd ∷ cs1 → Made t at end cs vs os (at + 1) (at + 1 + n) cs2 vs1 os1
     let_made x is nests o os1 vs1 cs1 cs2 e v c1 c2 =
         let c : cs2 ≡ control.LetEnd ∷ control.Rest (at + 1 + n) end ∷ cs = c2 ∙ ap (λ l. control.LetEnd ∷ l) c1 in (
-          block_opens nests o os1 e
-              ∙ ap (λ j. block_opened j body (meant o) after (all_meant vs) (all_meant os1)) is
+          block_opens (let_above i x is) nests o os1 e
+              ∙ ap (λ j. block_opened j body (all_meant (o ∷ os1)) after (all_meant vs) (all_meant os1)) is
               ∙ ap (λ l. Some (configuration (Sequence body ∷ pieces code l) (meant o ∷ all_meant vs) (all_meant os1))) (sym c)
               ∙ ap (λ l. Some (configuration (Sequence body ∷ pieces code cs2) (all_meant l) (all_meant os1))) (sym v),
           record { order = omega arith; within = omega arith; pending = subst (AreControlsIn code) (sym c) (tt, ((nests, le), all)) },
         )
 
     -- an iteration that has a step finds what it may go over
-    pub has_source : is_iteration i ≡ true → at + 1 + n ≤ end → (o : Held) (os1 : List Held) → os ≡ o ∷ os1 → IsIterable (meant o)
-    has_source it nests o os1 e =
-        source_of i body (meant o) after (all_meant vs) (all_meant os1)
-        (subst HasNext (block_opens nests o os1 e ∙ iteration_opens i body (meant o) after (all_meant vs) (all_meant os1) it) goes)
+    pub has_source : is_iteration i ≡ true → operands_above i ≡ 0 → at + 1 + n ≤ end → (o : Held) (os1 : List Held) → os ≡ o ∷ os1 → IsIterable (meant o)
+    has_source it one nests o os1 e =
+        source_of i body (meant o) [] after (all_meant vs) (all_meant os1)
+        (subst HasNext (block_opens one nests o os1 e ∙ iteration_opens i body (meant o) (all_meant os1) after (all_meant vs) (all_meant os1) it one) goes)
 
     -- the step of an iteration marks it as opened over its source, or as skipped
-    pub iteration_made : is_iteration i ≡ true → at + 1 + n ≤ end → (o : Held) (os1 : List Held) (mark : Control) (cs1 cs2 : List Control) → os ≡ o ∷ os1 → IsOpening i (at + 1) (at + 1 + n) (meant o) mark → cs1 ≡ control.Rest (at + 1 + n) end ∷ cs → cs2 ≡ mark ∷ cs1 → Made t at end cs vs os (at + 1 + n) (at + 1 + n) cs2 vs os1
-    iteration_made it nests o os1 mark cs1 cs2 e opened c1 c2 =
+    pub iteration_made : is_iteration i ≡ true → operands_above i ≡ 0 → at + 1 + n ≤ end → (o : Held) (os1 : List Held) (mark : Control) (cs1 cs2 : List Control) → os ≡ o ∷ os1 → IsOpening i (at + 1) (at + 1 + n) (meant o) mark → cs1 ≡ control.Rest (at + 1 + n) end ∷ cs → cs2 ≡ mark ∷ cs1 → Made t at end cs vs os (at + 1 + n) (at + 1 + n) cs2 vs os1
+    iteration_made it one nests o os1 mark cs1 cs2 e opened c1 c2 =
         let c : cs2 ≡ mark ∷ control.Rest (at + 1 + n) end ∷ cs = c2 ∙ ap (λ l. mark ∷ l) c1 in
         let m = by_mark (meant o) mark opened in (
-          block_opens nests o os1 e
-              ∙ iteration_opens i body (meant o) after (all_meant vs) (all_meant os1) it
+          block_opens one nests o os1 e
+              ∙ iteration_opens i body (meant o) (all_meant os1) after (all_meant vs) (all_meant os1) it one
               ∙ m.0
               ∙ ap Some (sym (through code (at + 1 + n) (at + 1 + n) cs2 vs os1 refl ∙ ap (λ l. configuration (pieces code l) (all_meant vs) (all_meant os1)) c)),
           record { order = omega arith; within = omega arith; pending = subst (AreControlsIn code) (sym c) (m.1, ((nests, le), all)) },
         )
       where
-        by_mark : (v : Value) (mark : Control) → IsOpening i (at + 1) (at + 1 + n) v mark → (opened_over i body v after (all_meant vs) (all_meant os1) ≡ Some (configuration (piece code mark ∷ after) (all_meant vs) (all_meant os1))) × IsControlIn code mark
+        by_mark : (v : Value) (mark : Control) → IsOpening i (at + 1) (at + 1 + n) v mark → (opened_over i body v [] after (all_meant vs) (all_meant os1) ≡ Some (configuration (piece code mark ∷ after) (all_meant vs) (all_meant os1))) × IsControlIn code mark
         by_mark (value.Collection c es) (control.Opened j) h =
             let same : Opened i body (source c es) [] ≡ piece code (control.Opened j) = rw (h.0, h.1, h.2, h.3, h.4, h.6) refl in (
               ap (λ p. Some (configuration (p ∷ after) (all_meant vs) (all_meant os1))) same,

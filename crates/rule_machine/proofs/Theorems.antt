@@ -19,7 +19,7 @@ use Rattle.rule_verify.specs.CodeTree.{instr_count}
 use Rattle.rule_verify.specs.Patterns.{matches, a_boolean}
 use Rattle.rule_verify.specs.KindRules.{InstrFault, Enclosing, kinds_after, rule_ends, instr_fault}
 use Rattle.rule_verify.proofs.ForAbove.{rule_accepted, has_context}
-use Rattle.rule_machine.specs.Value.{object_value}
+use Rattle.rule_values.specs.Value.{object_value}
 use Rattle.rule_machine.specs.Machine.{setting_of, judged_by, Piece, Sequence, Configuration, run, start}
 use Rattle.rule_cost.specs.Admission.{rule_step_bound}
 use Rattle.rule_machine.specs.Laws.{IsAcceptedRun, tree_of_rule, rule_bound, NeverStuck, EndsWithin, EndsWithinBudget, StandsInKinds, rule_depths_in, StaysWithinDepths, PlacesAreByRules}
@@ -88,7 +88,7 @@ pub stays_within_depths : StaysWithinDepths
 stays_within_depths u p n o k c a r =
     let s = setting_of u p n in
     let l = (goes_on_at u p n o k c a r).4 in
-    let at = now_at c.pending (goes_on_at u p n o k c a r).0 in
+    let at = now_at s c.pending (goes_on_at u p n o k c a r).0 in
     record {
       operands = omega (arith, l.room.operands, as_many_at s c.operands at.operands l.operands_at);
       variables = omega (arith, l.room.variables, as_many_at s c.variables at.variables l.variables_at);

@@ -7,7 +7,7 @@ use Rattle.rule_machine.specs.declared.value.Value.{Value as Held}
 use Rattle.rule_machine.specs.declared.iterating.Iteration.{Iteration}
 use Rattle.rule_machine.specs.declared.control.Control.{Control}
 use Rattle.rule_machine.specs.declared.control.Control.TheVariants as control
-use Rattle.rule_machine.specs.Value.{Value, element_value}
+use Rattle.rule_values.specs.Value.{Value, element_value}
 use Rattle.rule_machine.specs.Machine.{Sequence, Turning, Configuration, configuration, turned}
 use Rattle.rule_machine.specs.Meant.{meant, meant_item, meant_items, source}
 use Rattle.rule_machine.specs.Shown.{all_meant, body_of, pieces, configuration_at}

@@ -4,7 +4,8 @@ use Rattle.rule_machine.specs.declared.memory.OutOfMemory.{OutOfMemory}
 use Rattle.rule_machine.specs.declared.verdict.Verdict.{Verdict}
 use Rattle.rule_machine.specs.declared.progress.Progress.{Progress}
 use Rattle.rule_machine.specs.declared.progress.Progress.TheVariants.{Paused, Done}
-use Rattle.rule_machine.specs.Machine.{Setting, setting_of, Configuration, run, work_of, start}
+use Rattle.rule_machine.specs.Machine.{Setting, setting_of, Configuration, run, start}
+use Rattle.rule_machine.specs.Charges.{work_of}
 use Rattle.rule_machine.specs.Verdict.{outcome}
 use Rattle.rule_machine.specs.Laws.{tree_of_rule, rule_bound}
 use Rattle.rule_machine.specs.Seen.{Seen, Represents}
@@ -21,8 +22,8 @@ pub record SameTask (old new : Seen) : Type 0 where
   pub unit : new.unit ≡ old.unit
   pub population : new.population ≡ old.population
 
--- from the configuration c, where the work was k, the machine has come n steps further, to d; the work, which is the
--- number of steps (work_of), stays within the rule's bound
+-- from the configuration c, where the work was k, the machine has come n steps further, to d; the work, which is what
+-- the steps are charged (work_of), stays within the rule's bound
 pub record Further (old : Seen) (r o : ℕ) (c : Configuration) (k n : ℕ) (d : Configuration) (new : Seen) : Type 0 where
   pub ran : run (setting_at old r) n c ≡ Some d
   pub stands : Represents new r o d (k + work_of (setting_at old r) n c)

@@ -14,6 +14,7 @@ use Rattle.rule_verify.specs.UnitRules.{unit_rule, depths_of, IsAcceptedUnit}
 use Rattle.rule_cost.specs.Bounds.{cost_of}
 use Rattle.rule_cost.specs.Admission.{rule_step_bound, Admission, IsAdmission, Fits}
 use Rattle.rule_machine.specs.Machine.{setting_of, judged_by, Setting, Configuration, step, run, start}
+use Rattle.rule_machine.specs.Charges.{work_of}
 use Rattle.rule_machine.specs.declared.verdict.Verdict.{Verdict}
 use Rattle.rule_machine.specs.Verdict.{outcome}
 use Rattle.rule_machine.specs.Places.{Place, kinds_of, lengths_of, sizes_in, places_after, Mark, marks_before, marks_after, StandsAt}
@@ -31,7 +32,7 @@ pub record IsAcceptedRun (u : Content) (p : Population) (n o : ℕ) : Type 0 whe
 abbrev pub tree_of_rule : Content → ℕ → CodeTree
 tree_of_rule u n = code_tree (unit_rule u n).code
 
--- the bound on the steps of a rule's runs in a population
+-- the bound on what a rule's runs are charged in a population
 abbrev pub rule_bound : Content → Population → ℕ → ℕ
 rule_bound u p n = rule_step_bound u (sizes_of p) n
 
@@ -43,23 +44,23 @@ NeverStuck =
     → run (setting_of u p n) k (start (tree_of_rule u n) o) ≡ Some c
     → IsSome (outcome c) ⊎ IsSome (step (setting_of u p n) c)
 
--- a run comes to a verdict within the step bound
+-- a run comes to a verdict, charged at most the bound
 abbrev pub EndsWithin : Type 0
 EndsWithin =
     (u : Content) (p : Population) (n o : ℕ)
     → IsAcceptedRun u p n o
-    → (k : ℕ) × (c : Configuration) × (k ≤ rule_bound u p n)
+    → (k : ℕ) × (c : Configuration) × (work_of (setting_of u p n) k (start (tree_of_rule u n) o) ≤ rule_bound u p n)
     × (run (setting_of u p n) k (start (tree_of_rule u n) o) ≡ Some c) × IsSome (outcome c)
 
--- a run of an admitted unit, in a population of just the sizes for which it is admitted, comes to a verdict within the
--- budget
+-- a run of an admitted unit, in a population of just the sizes for which it is admitted, comes to a verdict, charged at
+-- most the budget
 abbrev pub EndsWithinBudget : Type 0
 EndsWithinBudget =
     (a : Admission) (p : Population) (n o : ℕ)
     → IsAdmission a
     → Fits a p
     → IsAcceptedRun a.linked.unit p n o
-    → (k : ℕ) × (c : Configuration) × (k ≤ a.budget)
+    → (k : ℕ) × (c : Configuration) × (work_of (setting_of a.linked.unit p n) k (start (tree_of_rule a.linked.unit n) o) ≤ a.budget)
     × (run (setting_of a.linked.unit p n) k (start (tree_of_rule a.linked.unit n) o) ≡ Some c) × IsSome (outcome c)
 
 -- In each configuration that a run reaches, every variable and operand is in the kind that the rules of kinds give its

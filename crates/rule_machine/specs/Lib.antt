@@ -1,11 +1,8 @@
 -- Definitions: what contracts mean.
-pub mod Value
-pub mod Equality
-pub mod Operations
-pub mod Endings
 pub mod Machine
 pub mod Verdict
 pub mod Places
+pub mod Charges
 pub mod Laws
 pub mod Contract
 -- Bookkeeping: views, layouts, walks and tables that only proofs and private contracts use, and Seen, in whose words

@@ -11,11 +11,11 @@ use Rattle.rule_verify.specs.declared.shape.Shape.{Shape}
 use Rattle.rule_verify.specs.declared.shape.Shape.TheVariants.{Single, OneBody, TwoBodies}
 use Rattle.rule_verify.specs.Patterns.{matches, all_match, a_boolean}
 use Rattle.rule_verify.specs.InstrKinds.{has_names, has_variable, variable_at, operands_of, ends_with}
-use Rattle.rule_cost.specs.Bounds.{block_steps}
-use Rattle.rule_machine.specs.Value.{Element, Value}
-use Rattle.rule_machine.specs.Endings.{Source}
+use Rattle.rule_cost.specs.Bounds.{extra_charge, taking_charge, ending_charge, block_charges}
+use Rattle.rule_values.specs.Value.{Element, Value}
+use Rattle.rule_values.specs.Endings.{Source}
 use Rattle.rule_machine.specs.Machine.{Setting, judged_by, Piece, Sequence, LetEnd, Opened, Turning, Skipped, Configuration}
-use Rattle.rule_machine.specs.Places.{Place, kinds_of, self_place, given, places_left, bound_by, yielded, branch_place, end_place, Stand, stand, Mark, Here, Iterating, now_at, AllAt, EachAt, IsSource}
+use Rattle.rule_machine.specs.Places.{Place, kinds_of, lengths_of, self_place, given, places_left, bound_by, operand_place, kept_place, yielded, branch_place, end_place, Stand, stand, Mark, Here, Iterating, now_at, AllAt, EachAt, IsSource}
 
 -- what stands at the one may stand at the other
 pub record Below (s : Setting) (r t : Place) : Type 0 where
@@ -55,22 +55,21 @@ is_iteration i = has_body (shape_of i)
 
 -- the places of what a block and an IF give
 abbrev pub block_gives : Setting → Instr → CodeTree → List Place → Place → Place
-block_gives s i body vars p = yielded s i p (end_place s body (bound_by i p ∷ vars))
+block_gives s i body vars p = yielded s i p (end_place s body (bound_by s i p ++ vars))
 
 abbrev pub branch_gives : Setting → Instr → CodeTree → CodeTree → List Place → Place → Place
 branch_gives s i first second vars p = branch_place s i p (end_place s first vars) (end_place s second vars)
 
--- a tree has kinds, and makes at most n steps: the operands before it, and those after it
+-- a tree has kinds, and is charged at most n: the operands before it, and those after it
 abbrev pub Kinded : Setting → CodeTree → List Place → List Place → List Place → ℕ → Type 0
 Kinded s End vars ps out n = AllBelow s ps out
 Kinded s (Plain i rest) vars ps out n =
-    (m : ℕ) × (shape_of i ≡ Single) × IsTaken s i vars ps × Kinded s rest vars (given s vars i ps ∷ places_left s i ps) out m × (1 + m ≤ n)
-Kinded s (Block i body rest) vars [] out n = ⊥
-Kinded s (Block i body rest) vars (p ∷ ps) out n =
-    (m : ℕ) × (k : ℕ) × HasBody i × IsTaken s i vars (p ∷ ps)
-    × Kinded s body (bound_by i p ∷ vars) [] (end_place s body (bound_by i p ∷ vars) ∷ []) m
-    × (matches s.population.model (ends_with (judged_by s) i) (end_place s body (bound_by i p ∷ vars)).kind ≡ true)
-    × Kinded s rest vars (block_gives s i body vars p ∷ ps) out k × (block_steps i p.longest m + k ≤ n)
+    (m : ℕ) × (shape_of i ≡ Single) × IsTaken s i vars ps × Kinded s rest vars (given s vars i ps ∷ places_left s i ps) out m × (1 + extra_charge i (lengths_of ps) + m ≤ n)
+Kinded s (Block i body rest) vars ps out n =
+    (m : ℕ) × (k : ℕ) × HasBody i × IsTaken s i vars ps
+    × Kinded s body (bound_by s i (operand_place i ps) ++ vars) [] (end_place s body (bound_by s i (operand_place i ps) ++ vars) ∷ []) m
+    × (matches s.population.model (ends_with (judged_by s) i) (end_place s body (bound_by s i (operand_place i ps) ++ vars)).kind ≡ true)
+    × Kinded s rest vars (block_gives s i body vars (operand_place i ps) ∷ places_left s i ps) out k × (block_charges i (operand_place i ps).longest m (end_place s body (bound_by s i (operand_place i ps) ++ vars)).longest + k ≤ n)
 Kinded s (Branch i first second rest) vars [] out n = ⊥
 Kinded s (Branch i first second rest) vars (p ∷ ps) out n =
     (m : ℕ) × (k : ℕ) × HasBranches i × IsTaken s i vars (p ∷ ps)
@@ -101,40 +100,49 @@ pub record HasRoom (d : Depths) (n : ℕ) (at : Stand) : Type 0 where
 
 -- ---- pending code
 
--- An iteration in the middle of its run: its body has kinds and makes at most m steps, its source stands at the place
+-- what an iteration keeps
+abbrev pub HasKept : Instr → List Value → Type 0
+HasKept i kept = Unit {0}
+
+-- how many values it keeps of turns that are over
+abbrev pub turns_kept : Instr → List Value → ℕ
+turns_kept i kept = length kept
+
+-- An iteration in the middle of its run: its body has kinds and is charged at most m, its source stands at the place
 -- p, and what its body gave in the turns before, and will give, may stand at the place r.
 pub record IsOpenIteration (s : Setting) (i : Instr) (body : CodeTree) (source : Source) (left : List Element) (kept : List Value) (vars : List Place) (p r : Place) (m : ℕ) : Type 0 where
   pub iterates : is_iteration i ≡ true
   pub stands : IsSource s p source left
-  pub kinded : Kinded s body (bound_by i p ∷ vars) [] (r ∷ []) m
+  pub kinded : Kinded s body (bound_by s i p ++ vars) [] (r ∷ []) m
   pub ends : matches s.population.model (ends_with (judged_by s) i) r.kind ≡ true
-  pub given : EachAt s r kept
+  pub given : EachAt s (kept_place s i r) kept
+  pub has : HasKept i kept
 
 -- one operand, which fits Boolean
 abbrev pub IsOneBoolean : Setting → List Place → Type 0
 IsOneBoolean s (p ∷ []) = matches s.population.model a_boolean p.kind ≡ true
 IsOneBoolean s ps = ⊥
 
--- Pending code has kinds from its marks on, makes at most n steps, and goes no deeper than these depths. Each piece
+-- Pending code has kinds from its marks on, is charged at most n, and goes no deeper than these depths. Each piece
 -- leaves what the next one stands at.
 abbrev pub Going : Setting → Depths → List Piece → List Mark → ℕ → Type 0
 Going s d [] (Here at ∷ []) n = IsOneBoolean s at.operands
 Going s d (Sequence t ∷ q) (Here at ∷ ms) n =
     (m : ℕ) × (k : ℕ) × (own : List Place) × (below : List Place) × (out : List Place) × (at.operands ≡ own ++ below)
-    × Kinded s t at.variables own out m × (now_at q ms ≡ stand at.variables (out ++ below)) × Going s d q ms k × (m + k ≤ n)
+    × Kinded s t at.variables own out m × (now_at s q ms ≡ stand at.variables (out ++ below)) × Going s d q ms k × (m + k ≤ n)
     × GoesNoDeeper s d t (length at.variables) (length at.operands) (length q)
 Going s d (LetEnd ∷ q) (Here at ∷ ms) n =
-    (k : ℕ) × (v : Place) × (at.variables ≡ v ∷ (now_at q ms).variables) × (at.operands ≡ (now_at q ms).operands) × Going s d q ms k × (1 + k ≤ n)
+    (k : ℕ) × (v : Place) × (at.variables ≡ v ∷ (now_at s q ms).variables) × (at.operands ≡ (now_at s q ms).operands) × Going s d q ms k × (1 + k ≤ n)
 Going s d (Opened i body source kept ∷ q) (Iterating p r below ∷ ms) n =
-    (m : ℕ) × (k : ℕ) × IsOpenIteration s i body source source.elements kept below.variables p r m × (kept ≡ [])
-    × (now_at q ms ≡ stand below.variables (yielded s i p r ∷ below.operands)) × Going s d q ms k × (1 + length source.elements * (1 + m) + k ≤ n)
-    × GoesNoDeeper s d body (suc (length below.variables)) (length below.operands) (suc (length q)) × (suc (length below.operands) ≤ d.operands)
+    (m : ℕ) × (k : ℕ) × IsOpenIteration s i body source source.elements kept below.variables p r m × (turns_kept i kept ≡ 0)
+    × (now_at s q ms ≡ stand below.variables (yielded s i p r ∷ below.operands)) × Going s d q ms k × (1 + length source.elements * (1 + m + taking_charge i r.longest) + ending_charge i (length source.elements) + k ≤ n)
+    × GoesNoDeeper s d body (length (bound_by s i p ++ below.variables)) (length below.operands) (suc (length q)) × (suc (length below.operands) ≤ d.operands)
 Going s d (Turning i body source left kept ∷ q) (Iterating p r below ∷ ms) n =
-    (m : ℕ) × (k : ℕ) × IsOpenIteration s i body source left kept below.variables p r m × (length kept + (1 + length left) ≤ length source.elements)
-    × (now_at q ms ≡ stand below.variables (yielded s i p r ∷ below.operands)) × Going s d q ms k × (1 + length left * (1 + m) + k ≤ n)
-    × GoesNoDeeper s d body (suc (length below.variables)) (length below.operands) (suc (length q)) × (suc (length below.operands) ≤ d.operands)
+    (m : ℕ) × (k : ℕ) × IsOpenIteration s i body source left kept below.variables p r m × (turns_kept i kept + (1 + length left) ≤ length source.elements)
+    × (now_at s q ms ≡ stand below.variables (yielded s i p r ∷ below.operands)) × Going s d q ms k × (1 + taking_charge i r.longest + length left * (1 + m + taking_charge i r.longest) + ending_charge i (length source.elements) + k ≤ n)
+    × GoesNoDeeper s d body (length (bound_by s i p ++ below.variables)) (length below.operands) (suc (length q)) × (suc (length below.operands) ≤ d.operands)
 Going s d (Skipped ∷ q) (Iterating p r below ∷ ms) n =
-    (k : ℕ) × (t : Place) × (now_at q ms ≡ stand below.variables (t ∷ below.operands)) × Going s d q ms k × (1 + k ≤ n)
+    (k : ℕ) × (t : Place) × (now_at s q ms ≡ stand below.variables (t ∷ below.operands)) × Going s d q ms k × (1 + k ≤ n)
     × (suc (length below.operands) ≤ d.operands)
 Going s d q ms n = ⊥
 
@@ -149,12 +157,12 @@ IsSettled [] = Unit {0}
 IsSettled (Sequence t ∷ q) = IsThere t
 IsSettled (p ∷ q) = Unit {0}
 
--- a configuration with these marks can go on, for at most n steps and no deeper than these depths
+-- a configuration with these marks can go on, charged at most n and no deeper than these depths
 pub record Live (s : Setting) (d : Depths) (c : Configuration) (ms : List Mark) (n : ℕ) : Type 0 where
-  pub variables_at : AllAt s c.variables (now_at c.pending ms).variables
-  pub operands_at : AllAt s c.operands (now_at c.pending ms).operands
+  pub variables_at : AllAt s c.variables (now_at s c.pending ms).variables
+  pub operands_at : AllAt s c.operands (now_at s c.pending ms).operands
   pub settled : IsSettled c.pending
-  pub room : HasRoom d (length c.pending) (now_at c.pending ms)
+  pub room : HasRoom d (length c.pending) (now_at s c.pending ms)
   pub cost : ℕ
   pub within : cost ≤ n
   pub going : Going s d c.pending ms cost

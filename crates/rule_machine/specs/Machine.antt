@@ -1,5 +1,5 @@
 -- Configurations, their steps, and runs.
-use Rattle.std.specs.Prelude.{ℕ, zero, suc, ◌&&◌, Bool, true, false, List, [], ◌∷◌, ◌++◌, length, drop, Option, Some, None, option_and_then, unwrap_or, if◌then◌else◌}
+use Rattle.std.specs.Prelude.{ℕ, zero, suc, ◌&&◌, Bool, true, false, List, [], ◌∷◌, ◌++◌, length, drop, Option, Some, None, option_and_then, unwrap_or, nat_le, if◌then◌else◌}
 use Rattle.std.specs.Option.{option_map}
 use Rattle.std.specs.Str.{chars}
 use Rattle.imkl_population.specs.declared.scalar.Scalar.TheVariants as scalar
@@ -14,11 +14,11 @@ use Rattle.rule_verify.specs.declared.pattern.Pattern.TheVariants.{Fitting, Anyt
 use Rattle.rule_verify.specs.Symbols.{named_at}
 use Rattle.rule_verify.specs.CodeTree.{CodeTree, End, Plain, Block, Branch, Torn}
 use Rattle.rule_verify.specs.UnitRules.{unit_rule, context_class}
-use Rattle.rule_verify.specs.InstrKinds.{Surroundings, surroundings, has_names, operands_of, ends_with, variable_at}
-use Rattle.rule_machine.specs.Value as value
-use Rattle.rule_machine.specs.Value.{Element, Value, is_in, is_collection_in, truth_value, object_value, element_value}
-use Rattle.rule_machine.specs.Operations.{addition, subtraction, multiplication, division, remainder, lesser, greater, negative, absolute, less_than, at_most, negation, conjunction, disjunction, exclusive_disjunction, implication, equality, both_null, undefined_test, invalid_test, text_length, substring, kind_test, type_test, cast, value_read, all_instances, as_collection, collection_size, emptiness, membership, occurrence_count, inclusion, exclusion, summation, as_set}
-use Rattle.rule_machine.specs.Endings.{Source, ending}
+use Rattle.rule_verify.specs.InstrKinds.{Surroundings, surroundings, has_names, operands_of, bound_count, ends_with, variable_at}
+use Rattle.rule_values.specs.Value as value
+use Rattle.rule_values.specs.Value.{Element, Value, is_in, is_collection_in, truth_value, object_value, element_value}
+use Rattle.rule_values.specs.Operations.{addition, subtraction, multiplication, division, remainder, lesser, greater, negative, absolute, less_than, at_most, negation, conjunction, disjunction, exclusive_disjunction, implication, equality, both_null, undefined_test, invalid_test, text_length, substring, kind_test, type_test, cast, value_read, all_instances, as_collection, collection_size, emptiness, membership, occurrence_count, inclusion, exclusion, summation, as_set}
+use Rattle.rule_values.specs.Endings.{Source, ending}
 
 -- what code is run over: a unit, the index of a rule and its context class, and a population
 pub record Setting : Type 0 where
@@ -172,25 +172,34 @@ branched value.Null first second ps vars os = Some (configuration ps vars (value
 branched value.Invalid first second ps vars os = Some (configuration ps vars (value.Invalid ∷ os))
 branched v first second ps vars os = None
 
--- an iteration is opened over a collection, and skipped over invalid
-abbrev pub opened_over : Instr → CodeTree → Value → List Piece → List Value → List Value → Option Configuration
-opened_over i body (value.Collection c es) ps vars os =
-    Some (configuration (Opened i body (record { kind = c; elements = es }) [] ∷ ps) vars os)
-opened_over i body value.Invalid ps vars os = Some (configuration (Skipped ∷ ps) vars os)
-opened_over i body v ps vars os = None
+-- an iteration is opened over a collection, with what it keeps from its beginning on, and skipped over invalid
+abbrev pub opened_over : Instr → CodeTree → Value → List Value → List Piece → List Value → List Value → Option Configuration
+opened_over i body (value.Collection c es) kept ps vars os =
+    Some (configuration (Opened i body (record { kind = c; elements = es }) kept ∷ ps) vars os)
+opened_over i body value.Invalid kept ps vars os = Some (configuration (Skipped ∷ ps) vars os)
+opened_over i body v kept ps vars os = None
 
 -- LET binds the value that it takes; every other block with one body is an iteration
-abbrev pub block_opened : Instr → CodeTree → Value → List Piece → List Value → List Value → Option Configuration
-block_opened (instrs.Let n) body v ps vars os = Some (configuration (Sequence body ∷ LetEnd ∷ ps) (v ∷ vars) os)
-block_opened i body v ps vars os = opened_over i body v ps vars os
+abbrev pub block_opened : Instr → CodeTree → List Value → List Piece → List Value → List Value → Option Configuration
+block_opened (instrs.Let n) body (v ∷ os) ps vars left = Some (configuration (Sequence body ∷ LetEnd ∷ ps) (v ∷ vars) left)
+block_opened i body (v ∷ os) ps vars left = opened_over i body v [] ps vars left
+block_opened i body [] ps vars left = None
+
+-- what a turn binds, the newest first
+abbrev pub bound_values : Instr → Element → List Value → List Value
+bound_values i e kept = element_value e ∷ []
+
+-- what is kept with the value that a body gave
+abbrev pub keeping : Instr → List Value → Value → List Value
+keeping i kept v = kept ++ v ∷ []
 
 -- the next turn of an iteration binds the next element; with none left it ends
 abbrev pub turned : Instr → CodeTree → Source → List Element → List Value → List Piece → List Value → List Value → Configuration
 turned i body source [] kept ps vars os = configuration ps vars (ending i source kept ∷ os)
 turned i body source (e ∷ left) kept ps vars os =
-    configuration (Sequence body ∷ Turning i body source left kept ∷ ps) (element_value e ∷ vars) os
+    configuration (Sequence body ∷ Turning i body source left kept ∷ ps) (bound_values i e kept ++ vars) os
 
--- a block takes its one operand
+-- an IF takes its one operand
 abbrev pub on_operand : Setting → Instr → List Value → (Value → List Value → Option Configuration) → Option Configuration
 on_operand s i [] go = None
 on_operand s i (o ∷ os) go = option_and_then (go o) (operands_below s i (o ∷ os))
@@ -199,7 +208,8 @@ on_operand s i (o ∷ os) go = option_and_then (go o) (operands_below s i (o ∷
 abbrev pub advanced : Setting → CodeTree → List Piece → List Value → List Value → Option Configuration
 advanced s End ps vars os = None
 advanced s (Plain i rest) ps vars os = option_map (configuration (Sequence rest ∷ ps) vars) (performed s vars i os)
-advanced s (Block i body rest) ps vars os = on_operand s i os (λ o left. block_opened i body o (Sequence rest ∷ ps) vars left)
+advanced s (Block i body rest) ps vars os =
+    option_and_then (λ left. block_opened i body os (Sequence rest ∷ ps) vars left) (operands_below s i os)
 advanced s (Branch i first second rest) ps vars os =
     on_operand s i os (λ o left. branched o first second (Sequence rest ∷ ps) vars left)
 advanced s (Torn i length_left) ps vars os = None
@@ -211,8 +221,10 @@ piece_advanced s (Sequence t ∷ ps) vars os = advanced s t ps vars os
 piece_advanced s (LetEnd ∷ ps) [] os = None
 piece_advanced s (LetEnd ∷ ps) (v ∷ vars) os = Some (configuration ps vars os)
 piece_advanced s (Opened i body source kept ∷ ps) vars os = Some (turned i body source source.elements kept ps vars os)
-piece_advanced s (Turning i body source left kept ∷ ps) (v ∷ vars) (o ∷ os) =
-    if is_what s.population (ends_with (judged_by s) i) o then Some (turned i body source left (kept ++ o ∷ []) ps vars os) else None
+piece_advanced s (Turning i body source left kept ∷ ps) vars (o ∷ os) =
+    if nat_le (bound_count i) (length vars) && is_what s.population (ends_with (judged_by s) i) o
+    then Some (turned i body source left (keeping i kept o) ps (drop (bound_count i) vars) os)
+    else None
 piece_advanced s (Turning i body source left kept ∷ ps) vars os = None
 piece_advanced s (Skipped ∷ ps) vars os = Some (configuration ps vars (value.Invalid ∷ os))
 
@@ -224,10 +236,6 @@ step s c = piece_advanced s c.pending c.variables c.operands
 abbrev pub run : Setting → ℕ → Configuration → Option Configuration
 run s zero c = Some c
 run s (suc n) c = option_and_then (run s n) (step s c)
-
--- the work of n steps from a configuration: each counts as 1
-abbrev pub work_of : Setting → ℕ → Configuration → ℕ
-work_of s n c = n
 
 -- a tree is pending, variable 0 is the object, there are no operands
 abbrev pub start : CodeTree → ℕ → Configuration

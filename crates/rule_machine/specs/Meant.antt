@@ -13,9 +13,9 @@ use Rattle.rule_machine.specs.declared.value.Item.TheVariants as item
 use Rattle.rule_machine.specs.declared.value.Value.{Value as Held}
 use Rattle.rule_machine.specs.declared.value.Value.TheVariants as held
 use Rattle.ocl_base.specs.declared.collection_kind.CollectionKind.{CollectionKind}
-use Rattle.rule_machine.specs.Operations.{is_true, is_false}
-use Rattle.rule_machine.specs.Endings.{Source}
-use Rattle.rule_machine.specs.Value.{Element, Value, Invalid, Null, Single, Collection, element_value, same_element}
+use Rattle.rule_values.specs.Operations.{is_true, is_false}
+use Rattle.rule_values.specs.Endings.{Source}
+use Rattle.rule_values.specs.Value.{Element, Value, Invalid, Null, Single, Collection, element_value, same_element}
 
 abbrev pub meant_item : Item → Element
 meant_item item.Null = None

@@ -10,11 +10,11 @@ use Rattle.ocl_kinds.specs.Kinds.{elements_kind}
 use Rattle.rule_code.specs.declared.instruction.Instr.{Instr}
 use Rattle.rule_code.specs.declared.instruction.Instr.TheVariants as instrs
 use Rattle.rule_verify.specs.CodeTree.{CodeTree, End, Plain, Block, Branch, Torn}
-use Rattle.rule_verify.specs.InstrKinds.{operands_of, result_kind, binds, yields}
-use Rattle.rule_cost.specs.Bounds.{length_given, length_bound_by, length_yielded}
-use Rattle.rule_machine.specs.Value as value
-use Rattle.rule_machine.specs.Value.{Element, Value, is_in, is_element_in}
-use Rattle.rule_machine.specs.Endings.{Source}
+use Rattle.rule_verify.specs.InstrKinds.{operands_of, scalar_meant, result_kind, operands_above, binds, yields}
+use Rattle.rule_cost.specs.Bounds.{length_given, lengths_bound_by, length_yielded}
+use Rattle.rule_values.specs.Value as value
+use Rattle.rule_values.specs.Value.{Element, Value, is_in, is_element_in}
+use Rattle.rule_values.specs.Endings.{Source}
 use Rattle.rule_machine.specs.Machine.{Setting, judged_by, Piece, Sequence, Opened, Turning, Configuration, step}
 
 -- the kind of what may stand at a place, and the longest that a collection is there
@@ -50,9 +50,22 @@ given s vars i ps =
 abbrev pub places_left : Setting → Instr → List Place → List Place
 places_left s i ps = drop (length (operands_of (judged_by s) i)) ps
 
--- what a block with one body binds, and gives, by the operand that it takes and by what its body ends with
-abbrev pub bound_by : Instr → Place → Place
-bound_by i p = place (binds i p.kind) (length_bound_by i p.longest)
+abbrev pub places_of : List Kind → List ℕ → List Place
+places_of [] ls = []
+places_of (k ∷ ks) [] = []
+places_of (k ∷ ks) (l ∷ ls) = place k l ∷ places_of ks ls
+
+abbrev pub top_place : List Place → Place
+top_place [] = place (kind.Scalar element.Void) 0
+top_place (p ∷ ps) = p
+
+-- the place of the operand that a block works on
+abbrev pub operand_place : Instr → List Place → Place
+operand_place i ps = top_place (drop (operands_above i) ps)
+
+-- what a block with one body binds, and gives, by the operand that it works on and by what its body ends with
+abbrev pub bound_by : Setting → Instr → Place → List Place
+bound_by s i p = places_of (binds (judged_by s) i p.kind) (lengths_bound_by i p.longest)
 
 abbrev pub yielded : Setting → Instr → Place → Place → Place
 yielded s i p r = place (yields (judged_by s) i p.kind r.kind) (length_yielded i p.longest r.longest)
@@ -61,9 +74,9 @@ yielded s i p r = place (yields (judged_by s) i p.kind r.kind) (length_yielded i
 abbrev pub branch_place : Setting → Instr → Place → Place → Place → Place
 branch_place s i p a b = place (yields (judged_by s) i p.kind a.kind) (max a.longest b.longest)
 
-abbrev pub top_place : List Place → Place
-top_place [] = place (kind.Scalar element.Void) 0
-top_place (p ∷ ps) = p
+-- the place of what an iteration keeps, by that of what its body ends with
+abbrev pub kept_place : Setting → Instr → Place → Place
+kept_place s i r = r
 
 -- the places of the operands after a tree, by those of the variables and of the operands before it
 abbrev pub places_after : Setting → CodeTree → List Place → List Place → List Place
@@ -71,10 +84,10 @@ places_after s End vars ps = ps
 places_after s (Plain i rest) vars ps = places_after s rest vars (given s vars i ps ∷ places_left s i ps)
 places_after s (Block i body rest) vars ps =
     places_after s rest vars
-    (yielded s i (top_place ps) (top_place (places_after s body (bound_by i (top_place ps) ∷ vars) [])) ∷ places_left s i ps)
+    (yielded s i (operand_place i ps) (top_place (places_after s body (bound_by s i (operand_place i ps) ++ vars) [])) ∷ places_left s i ps)
 places_after s (Branch i first second rest) vars ps =
     places_after s rest vars
-    (branch_place s i (top_place ps) (top_place (places_after s first vars [])) (top_place (places_after s second vars []))
+    (branch_place s i (operand_place i ps) (top_place (places_after s first vars [])) (top_place (places_after s second vars []))
     ∷ places_left s i ps)
 places_after s (Torn i left) vars ps = ps
 
@@ -98,25 +111,26 @@ pub data Mark : Type 0 where
   Here : Stand → Mark
   Iterating : Place → Place → Stand → Mark
 
--- the places of a configuration whose pending pieces have these marks; a turn that is over has left its variable and
+-- the places of a configuration whose pending pieces have these marks; a turn that is over has left its variables and
 -- its body's value
-abbrev pub now_at : List Piece → List Mark → Stand
-now_at q [] = stand [] []
-now_at q (Here at ∷ ms) = at
-now_at (Turning i body source left kept ∷ q) (Iterating p r below ∷ ms) = stand (bound_by i p ∷ below.variables) (r ∷ below.operands)
-now_at q (Iterating p r below ∷ ms) = below
+abbrev pub now_at : Setting → List Piece → List Mark → Stand
+now_at s q [] = stand [] []
+now_at s q (Here at ∷ ms) = at
+now_at s (Turning i body source left kept ∷ q) (Iterating p r below ∷ ms) = stand (bound_by s i p ++ below.variables) (r ∷ below.operands)
+now_at s q (Iterating p r below ∷ ms) = below
 
 -- LET gives its body a variable that its end drops; an iteration stands below its source until it gives its result
 abbrev pub block_marked : Setting → Instr → CodeTree → List Place → Place → List Place → List Mark
 block_marked s (instrs.Let n) body vars p ps =
     Here (stand (p ∷ vars) ps) ∷ Here (stand (p ∷ vars) (end_place s body (p ∷ vars) ∷ ps)) ∷ []
-block_marked s i body vars p ps = Iterating p (end_place s body (bound_by i p ∷ vars)) (stand vars ps) ∷ []
+block_marked s i body vars p ps = Iterating p (end_place s body (bound_by s i p ++ vars)) (stand vars ps) ∷ []
 
 -- the marks of what the first instruction of a sequence leaves, above those of the pieces below
 abbrev pub sequence_marked : Setting → CodeTree → List Place → List Place → List Mark → List Mark
 sequence_marked s (Plain i rest) vars ps ms = Here (stand vars (given s vars i ps ∷ places_left s i ps)) ∷ ms
-sequence_marked s (Block i body rest) vars (p ∷ ps) ms =
-    block_marked s i body vars p ps ++ Here (stand vars (yielded s i p (end_place s body (bound_by i p ∷ vars)) ∷ ps)) ∷ ms
+sequence_marked s (Block i body rest) vars ps ms =
+    block_marked s i body vars (operand_place i ps) (places_left s i ps)
+    ++ Here (stand vars (yielded s i (operand_place i ps) (end_place s body (bound_by s i (operand_place i ps) ++ vars)) ∷ places_left s i ps)) ∷ ms
 sequence_marked s (Branch i first second rest) vars (p ∷ ps) ms =
     Here (stand vars ps) ∷ Here (stand vars (branch_place s i p (end_place s first vars) (end_place s second vars) ∷ ps)) ∷ ms
 sequence_marked s t vars ps ms = ms
@@ -125,9 +139,9 @@ sequence_marked s t vars ps ms = ms
 abbrev pub marked : Setting → List Piece → List Mark → List Mark
 marked s (Sequence t ∷ q) (Here at ∷ ms) = sequence_marked s t at.variables at.operands ms
 marked s (Opened i body source kept ∷ q) (Iterating p r below ∷ ms) =
-    Here (stand (bound_by i p ∷ below.variables) below.operands) ∷ Iterating p r below ∷ ms
+    Here (stand (bound_by s i p ++ below.variables) below.operands) ∷ Iterating p r below ∷ ms
 marked s (Turning i body source left kept ∷ q) (Iterating p r below ∷ ms) =
-    Here (stand (bound_by i p ∷ below.variables) below.operands) ∷ Iterating p r below ∷ ms
+    Here (stand (bound_by s i p ++ below.variables) below.operands) ∷ Iterating p r below ∷ ms
 marked s q [] = []
 marked s q (m ∷ ms) = ms
 
@@ -175,8 +189,8 @@ pub record IsSource (s : Setting) (p : Place) (source : Source) (left : List Ele
 
 -- what an iteration holds is at its places: its source, and what its body gave in the turns before
 abbrev pub HeldAt : Setting → Piece → Mark → Type 0
-HeldAt s (Opened i body source kept) (Iterating p r below) = IsSource s p source source.elements × EachAt s r kept
-HeldAt s (Turning i body source left kept) (Iterating p r below) = IsSource s p source left × EachAt s r kept
+HeldAt s (Opened i body source kept) (Iterating p r below) = IsSource s p source source.elements × EachAt s (kept_place s i r) kept
+HeldAt s (Turning i body source left kept) (Iterating p r below) = IsSource s p source left × EachAt s (kept_place s i r) kept
 HeldAt s (Opened i body source kept) (Here at) = ⊥
 HeldAt s (Turning i body source left kept) (Here at) = ⊥
 HeldAt s x m = Unit {0}
@@ -188,6 +202,6 @@ AllHeldAt s (x ∷ q) (m ∷ ms) = HeldAt s x m × AllHeldAt s q ms
 
 -- every variable, every operand, and every collection and value that an open iteration holds is at its place
 pub record StandsAt (s : Setting) (c : Configuration) (ms : List Mark) : Type 0 where
-  pub variables : AllAt s c.variables (now_at c.pending ms).variables
-  pub operands : AllAt s c.operands (now_at c.pending ms).operands
+  pub variables : AllAt s c.variables (now_at s c.pending ms).variables
+  pub operands : AllAt s c.operands (now_at s c.pending ms).operands
   pub iterations : AllHeldAt s c.pending ms

@@ -5,7 +5,8 @@ use Rattle.rule_code.specs.Content.{Content}
 use Rattle.rule_verify.specs.UnitRules.{unit_rule}
 use Rattle.rule_machine.specs.declared.state.State.{State}
 use Rattle.rule_machine.specs.declared.task.Task.{Task}
-use Rattle.rule_machine.specs.Machine.{setting_of, Configuration, run, work_of, start}
+use Rattle.rule_machine.specs.Machine.{setting_of, Configuration, run, start}
+use Rattle.rule_machine.specs.Charges.{work_of}
 use Rattle.rule_machine.specs.Laws.{IsAcceptedRun, tree_of_rule}
 use Rattle.rule_machine.specs.Shown.{configuration_at, LiesInAt}
 

@@ -1,9 +1,10 @@
 -- What the parts of a machine stand for.
-use Rattle.std.specs.Prelude.{◌≡◌, ℕ, ◌+◌, ◌<◌, ◌≤◌, Bool, true, List, [], ◌∷◌, ◌++◌, Vec, vec_capacity, length, map, drop, Option, Some, None, slice_range}
+use Rattle.std.specs.Prelude.{◌≡◌, ◌⊎◌, ℕ, ◌+◌, ◌<◌, ◌≤◌, Bool, true, List, [], ◌∷◌, ◌++◌, Vec, vec_capacity, length, map, drop, Option, Some, None, nat_le, if◌then◌else◌, slice_range}
 use Rattle.std.specs.Global.{Global}
 use Rattle.rule_code.specs.declared.instruction.Instr.{Instr}
 use Rattle.rule_verify.specs.CodeTree.{CodeTree, code_tree}
 use Rattle.rule_verify.specs.UnitRules.{unit_rule}
+use Rattle.rule_cost.specs.Bounds.{ending_charge}
 use Rattle.rule_machine.specs.declared.value.Value.{Value as Held}
 use Rattle.rule_machine.specs.declared.iterating.Iteration.{Iteration}
 use Rattle.rule_machine.specs.declared.control.Control.{Control}
@@ -11,8 +12,8 @@ use Rattle.rule_machine.specs.declared.control.Control.TheVariants as control
 use Rattle.rule_machine.specs.declared.state.State.{State}
 use Rattle.rule_machine.specs.declared.task.Task.{Task}
 use Rattle.imkl_population.specs.declared.scalar.Scalar.TheVariants as scalar
-use Rattle.rule_machine.specs.Value as value
-use Rattle.rule_machine.specs.Value.{Value}
+use Rattle.rule_values.specs.Value as value
+use Rattle.rule_values.specs.Value.{Value}
 use Rattle.rule_machine.specs.Machine.{Setting, setting_of, Piece, Sequence, LetEnd, Opened, Turning, Skipped, Configuration, configuration, step, piece_advanced, turned, start}
 use Rattle.rule_machine.specs.Verdict.{outcome}
 use Rattle.rule_machine.specs.Live.{is_iteration}
@@ -152,6 +153,19 @@ IsOpening instr from end v c = ⊥
 abbrev pub IsMark : Control → Type 0
 IsMark (control.Rest from end) = ⊥
 IsMark c = Unit {0}
+
+-- a mark comes first
+abbrev pub IsFirstMark : List Control → Type 0
+IsFirstMark [] = ⊥
+IsFirstMark (c ∷ cs) = IsMark c
+
+-- no sequence that is through stands first
+abbrev pub IsAtFront : State → Type 0
+IsAtFront m = (m.at < m.end) ⊎ IsFirstMark m.controls.0
+
+-- what the next turn is charged besides its step, by the length of the source and the number of elements that were taken
+abbrev pub turn_charge_by : Instr → ℕ → ℕ → ℕ
+turn_charge_by i l n = if nat_le l n then ending_charge i l else 0
 
 -- the step of a mark before what is pending
 abbrev pub after_mark : Task → Control → State → Option Configuration

@@ -3,7 +3,7 @@ use Rattle.std.specs.Prelude.{true, false, List, [], ◌∷◌, Option, Some, No
 use Rattle.imkl_population.specs.declared.scalar.Scalar.TheVariants as scalar
 use Rattle.rule_machine.specs.declared.verdict.Verdict.{Verdict}
 use Rattle.rule_machine.specs.declared.verdict.Verdict.TheVariants.{Holds, Fails, Undecided}
-use Rattle.rule_machine.specs.Value.{Value, Single}
+use Rattle.rule_values.specs.Value.{Value, Single}
 use Rattle.rule_machine.specs.Machine.{Piece, Configuration}
 
 -- true holds, false fails, null and invalid are undecided

@@ -1,7 +1,7 @@
 //! What instructions make of operands alone.
 
 ghost use Rattle.std.specs.Prelude.{◌≡◌, List, ◌∷◌, Some, Decides};
-ghost use Rattle.rule_machine.specs.Value.{Value as Operand};
+ghost use Rattle.rule_values.specs.Value.{Value as Operand};
 ghost use Rattle.rule_machine.specs.Machine.{Setting, result_of};
 ghost use Rattle.rule_machine.specs.Meant.{meant, TakesTwo, TakesOne};
 

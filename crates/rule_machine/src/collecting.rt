@@ -3,9 +3,9 @@
 ghost use Rattle.std.specs.Prelude.{◌≡◌, ◌++◌, List, map, length, IfOk, OnOk};
 ghost use Rattle.std.specs.List.{list_any, filter_map};
 ghost use Rattle.ocl_base.specs.Lists.{repeats};
-ghost use Rattle.rule_machine.specs.Value.{Element, as_element, same_element};
-ghost use Rattle.rule_machine.specs.Operations.{is_invalid};
-ghost use Rattle.rule_machine.specs.Endings.{select, reject, collection_elements, joined, collect, collect_flat, unique_bodies};
+ghost use Rattle.rule_values.specs.Value.{Element, as_element, same_element};
+ghost use Rattle.rule_values.specs.Operations.{is_invalid};
+ghost use Rattle.rule_values.specs.Endings.{select, reject, collection_elements, joined, collect, collect_flat, unique_bodies};
 ghost use Rattle.rule_machine.specs.Meant.{meant, meant_items, source, element_list};
 
 use crate::elements::is_item_among;

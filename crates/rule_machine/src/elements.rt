@@ -4,9 +4,9 @@ ghost use Rattle.std.specs.Prelude.{◌≡◌, ◌∷◌, [], pos, bytes_eq, IfO
 ghost use Rattle.std.specs.List.{list_all, list_any};
 ghost use Rattle.std.specs.Str.{chars};
 ghost use Rattle.ocl_base.specs.Lists.{is_among};
-ghost use Rattle.rule_machine.specs.Value.{same_element};
-ghost use Rattle.rule_machine.specs.Equality.{occurrences};
-ghost use Rattle.rule_machine.specs.Operations.{integer_value, as_collection, collection_size, emptiness, membership, occurrence_count, inclusion, exclusion, distinct, as_set};
+ghost use Rattle.rule_values.specs.Value.{same_element};
+ghost use Rattle.rule_values.specs.Equality.{occurrences};
+ghost use Rattle.rule_values.specs.Operations.{integer_value, as_collection, collection_size, emptiness, membership, occurrence_count, inclusion, exclusion, distinct, as_set};
 ghost use Rattle.rule_machine.specs.Meant.{meant, meant_item, meant_items, with_new};
 
 use crate::memory::{OutOfMemory, push};

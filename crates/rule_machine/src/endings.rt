@@ -2,8 +2,8 @@
 
 ghost use Rattle.std.specs.Prelude.{◌≡◌, ◌++◌, map, length, IfOk, OnOk};
 ghost use Rattle.std.specs.List.{list_all, list_any};
-ghost use Rattle.rule_machine.specs.Operations.{is_true, is_false};
-ghost use Rattle.rule_machine.specs.Endings.{for_all, exists, is_undecided, count_true, one, kept_by};
+ghost use Rattle.rule_values.specs.Operations.{is_true, is_false};
+ghost use Rattle.rule_values.specs.Endings.{for_all, exists, is_undecided, count_true, one, kept_by};
 ghost use Rattle.rule_machine.specs.Meant.{meant, meant_item, meant_items, kept_one, is_wanted};
 
 use crate::memory::{OutOfMemory, push};

@@ -1,8 +1,8 @@
 //! Equality of values.
 
 ghost use Rattle.std.specs.Prelude.{◌≡◌};
-ghost use Rattle.rule_machine.specs.Equality.{occur_as_often, same_members, same_counts, same_lists, same_elements, equal_values};
-ghost use Rattle.rule_machine.specs.Operations.{equality};
+ghost use Rattle.rule_values.specs.Equality.{occur_as_often, same_members, same_counts, same_lists, same_elements, equal_values};
+ghost use Rattle.rule_values.specs.Operations.{equality};
 ghost use Rattle.rule_machine.specs.Meant.{meant, meant_items};
 
 use crate::elements::{are_items_among, occurrences, same_item};

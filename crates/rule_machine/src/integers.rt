@@ -1,7 +1,7 @@
 //! Operations on whole numbers: what passes their range is invalid.
 
 ghost use Rattle.std.specs.Prelude.{◌≡◌};
-ghost use Rattle.rule_machine.specs.Operations.{addition, subtraction, multiplication, division, remainder, lesser, greater, negative, absolute, less_than, at_most};
+ghost use Rattle.rule_values.specs.Operations.{addition, subtraction, multiplication, division, remainder, lesser, greater, negative, absolute, less_than, at_most};
 ghost use Rattle.rule_machine.specs.Meant.{meant, integers_in, integer_in, checked_value};
 
 use crate::value::{Item, Value};

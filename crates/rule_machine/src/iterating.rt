@@ -1,7 +1,7 @@
 //! Iterations in the middle of their run.
 
 ghost use Rattle.std.specs.Prelude.{◌≡◌, length, map, true, IfOk};
-ghost use Rattle.rule_machine.specs.Endings.{ending};
+ghost use Rattle.rule_values.specs.Endings.{ending};
 ghost use Rattle.rule_machine.specs.Meant.{meant, meant_items, source};
 ghost use Rattle.rule_machine.specs.Live.{is_iteration};
 

@@ -8,13 +8,13 @@ pub fn never_stuck()
     ensures { NeverStuck }
 {}
 
-/// A run of accepted code comes to a verdict within the step bound of its code and the sizes of the population.
+/// A run of accepted code comes to a verdict, and is charged at most the bound of its code and the sizes of the population.
 pub fn ends_within()
     ensures { EndsWithin }
 {}
 
-/// A run of an admitted unit comes to a verdict within the budget, in each population of just the sizes for which it is
-/// admitted.
+/// A run of an admitted unit comes to a verdict, and is charged at most the budget, in each population of just the sizes
+/// for which it is admitted.
 pub fn ends_within_budget()
     ensures { EndsWithinBudget }
 {}

@@ -2,6 +2,7 @@
 #![tactic(auto)]
 
 mod applying;
+mod charging;
 mod collecting;
 mod control;
 mod elements;

@@ -80,20 +80,22 @@ impl<'a> Machine<'a> {
         Ok(())
     }
 
-    /// Makes at most `steps` steps: `Paused` after just that many, where the end isn't reached, or `Done` as soon as it
-    /// is, and again without a step. Where memory runs out, the machine stands before the step that it didn't
-    /// suffice for, which the next call tries again. Only after `start` or `judge`.
-    pub fn run(&mut self, steps: u64) -> Result<Progress, OutOfMemory>
+    /// Makes steps while the whole charge of the next one is left of `grant`: `Done` as soon as the last step is made,
+    /// and again without a step; else `Paused`, and what is left isn't kept for a later call. Where memory runs out, the
+    /// machine stands before the step that it didn't suffice for, which the next call tries again; a grant of 0 takes
+    /// none. Only after `start` or `judge`.
+    pub fn run(&mut self, grant: u64) -> Result<Progress, OutOfMemory>
         requires { IsStarted self.old }
         ensures task { SameTask self.old self.new }
-        ensures ran { Ran self.old steps result self.new }
+        ensures ran { Ran self.old grant result self.new }
+        ensures spare { OnErr result (0 < grant) }
         ensures started { IsStarted self.new }
     {
         let Some(started) = self.state.started else {
             unreachable!()
         };
         let task = self.task(started.rule);
-        self.state.run(task, steps)
+        self.state.run(task, grant)
     }
 
     /// Runs a rule for an object of its context class from the start to the end, and gives its verdict. Where memory
@@ -111,7 +113,7 @@ impl<'a> Machine<'a> {
         self.state.judge(task, object)
     }
 
-    /// The steps since the start, at most 2^64-1; 0 before the first start.
+    /// What the steps since the start were charged, at most 2^64-1; 0 before the first start.
     pub fn steps(&self) -> u64
         ensures count { IsCount self.now result }
         ensures idle { IsIdle self.now → result ≡ 0 }

@@ -5,8 +5,8 @@ ghost use Rattle.imkl_model.specs.ClassModel.{feature_at, belongs};
 ghost use Rattle.imkl_population.specs.Population.{class_of, values_of};
 ghost use Rattle.ocl_kinds.specs.declared.kind.Kind.TheVariants.{Scalar as Single};
 ghost use Rattle.ocl_kinds.specs.declared.kind.ScalarKind.TheVariants.{AnyObject};
-ghost use Rattle.rule_machine.specs.Value.{is_in};
-ghost use Rattle.rule_machine.specs.Operations.{kind_test, type_test, cast, feature_value, value_read, all_instances};
+ghost use Rattle.rule_values.specs.Value.{is_in};
+ghost use Rattle.rule_values.specs.Operations.{kind_test, type_test, cast, feature_value, value_read, all_instances};
 ghost use Rattle.rule_machine.specs.Meant.{meant, meant_item, meant_items, objects_meant, CanRead};
 
 use crate::memory::{OutOfMemory, push};

@@ -9,7 +9,7 @@ ghost use Rattle.rule_verify.specs.declared.shape.Shape.TheVariants.{Single};
 ghost use Rattle.rule_verify.specs.InstrKinds.{Surroundings, operands_of, variable_at};
 ghost use Rattle.rule_verify.specs.Known.{IsKnownName};
 ghost use Rattle.rule_machine.specs.declared.value.Value.{Value as Held};
-ghost use Rattle.rule_machine.specs.Value.{Value as Operand};
+ghost use Rattle.rule_values.specs.Value.{Value as Operand};
 ghost use Rattle.rule_machine.specs.Machine.{Setting, symbol_named, literal_named, result_of, performed};
 ghost use Rattle.rule_machine.specs.Meant.{meant, TakesOne, TakesTwo};
 ghost use Rattle.rule_machine.specs.Shown.{IsTask, all_meant, setting_in};

@@ -1,11 +1,12 @@
 //! Runs of a machine.
 
-ghost use Rattle.std.specs.Prelude.{◌≡◌, ◌<◌, IfOk, Some};
+ghost use Rattle.std.specs.Prelude.{◌≡◌, ◌<◌, IfOk, OnErr, Some};
 ghost use Rattle.rule_machine.specs.Laws.{IsAcceptedRun, verdict_at};
 ghost use Rattle.rule_machine.specs.Shown.{IsTask, IsTaskOf};
 ghost use Rattle.rule_machine.specs.Seen.{seen_in};
 ghost use Rattle.rule_machine.specs.Contract.{IsStarted, Ran, Judged};
 
+use crate::charging::with_charge;
 use crate::memory::OutOfMemory;
 use crate::progress::Progress;
 use crate::state::State;
@@ -16,27 +17,28 @@ use std::marker::Brand;
 use std::sync::ledger::{Blank, Ledger};
 
 impl<'a> State<'a> {
-    /// Makes at most `steps` steps.
-    pub(crate) fn run(&mut self, task: Task<'a>, steps: u64) -> Result<Progress, OutOfMemory>
+    /// Makes steps whose charges add up to at most `grant`: as many as it pays for.
+    pub(crate) fn run(&mut self, task: Task<'a>, grant: u64) -> Result<Progress, OutOfMemory>
         requires task { IsTask task }
         requires rule { IsTaskOf task self.old }
         requires stands { IsStarted (seen_in task self.old) }
-        ensures ran { Ran (seen_in task.entry self.old) steps result (seen_in task.entry self.new) }
+        ensures ran { Ran (seen_in task.entry self.old) grant result (seen_in task.entry self.new) }
+        ensures spare { OnErr result (0 < grant) }
         ensures rule { IsTaskOf task.entry self.new }
         ensures stands { IsStarted (seen_in task.entry self.new) }
     {
-        let mut left = steps;
-        while left > 0 {
+        let mut left = u128::from(grant);
+        'steps: loop {
             if let Some(verdict) = self.ended(task) {
                 return Ok(Progress::Done(verdict));
             }
+            let charge = self.charge(task);
+            if charge > left {
+                return Ok(Progress::Paused);
+            }
             self.step(task)?;
-            self.count = self.count.saturating_add(1);
-            left -= 1;
-        }
-        match self.ended(task) {
-            Some(verdict) => Ok(Progress::Done(verdict)),
-            None => Ok(Progress::Paused),
+            self.count = with_charge(self.count, charge);
+            left -= charge;
         }
     }
 
@@ -77,8 +79,9 @@ impl<'a> State<'a> {
             if let Some(verdict) = self.ended(task) {
                 return Ok(verdict);
             }
+            let charge = self.charge(task);
             self.step(task)?;
-            self.count = self.count.saturating_add(1);
+            self.count = with_charge(self.count, charge);
             book.add(&mut share, 1);
         }
     }

@@ -1,8 +1,8 @@
 //! Where a machine stands.
 
-ghost use Rattle.std.specs.Prelude.{◌≡◌, None, OnOk, OnErr};
+ghost use Rattle.std.specs.Prelude.{◌≡◌, None, OnOk, OnErr, MatchOption};
 ghost use Rattle.rule_machine.specs.Verdict.{outcome};
-ghost use Rattle.rule_machine.specs.Shown.{configuration_of, IsTask, LiesIn, CanGoOn, Same, IsStartOf};
+ghost use Rattle.rule_machine.specs.Shown.{configuration_of, IsTask, LiesIn, CanGoOn, Same, IsStartOf, IsAtFront};
 
 use crate::control::Control;
 use crate::memory::OutOfMemory;
@@ -22,7 +22,7 @@ pub(crate) struct Started {
 }
 
 /// Where a machine stands: before the instruction at an index of a sequence with an end, with what is pending after it,
-/// the variables and the operands; what it was started for, and the steps since then, at most 2^64-1.
+/// the variables and the operands; what it was started for, and the charges since then, at most 2^64-1.
 #[derive(Drop)]
 pub(crate) struct State<'a> {
     pub(crate) controls: ReservedStack<Control<'a>>,
@@ -90,6 +90,7 @@ impl<'a> State<'a> {
         requires goes { CanGoOn task self.old }
         ensures same { Same task.entry self.old self.new }
         ensures outcome { outcome (configuration_of task.entry self.new) ≡ result }
+        ensures front { MatchOption result (IsAtFront self.new) (λ v. Unit {0}) }
     {
         while self.at == self.end {
             match self.controls.top() {

@@ -2,7 +2,7 @@
 
 ghost use Rattle.std.specs.Prelude.{◌≡◌, ◌+ℤ◌, FitsSigned};
 ghost use Rattle.std.specs.Int.{w128};
-ghost use Rattle.rule_machine.specs.Operations.{sum_of, summation};
+ghost use Rattle.rule_values.specs.Operations.{sum_of, summation};
 ghost use Rattle.rule_machine.specs.Meant.{meant, meant_items};
 
 use crate::value::{Item, Value};

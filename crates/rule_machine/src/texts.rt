@@ -2,7 +2,7 @@
 
 ghost use Rattle.std.specs.Prelude.{◌≡◌, length, take, drop};
 ghost use Rattle.std.specs.Str.{chars};
-ghost use Rattle.rule_machine.specs.Operations.{text_length, characters, substring};
+ghost use Rattle.rule_values.specs.Operations.{text_length, characters, substring};
 ghost use Rattle.rule_machine.specs.Meant.{meant, IsSuffix};
 
 use crate::elements::count_value;

@@ -1,7 +1,7 @@
 //! Operations on truth values, and tests of any values.
 
 ghost use Rattle.std.specs.Prelude.{◌≡◌};
-ghost use Rattle.rule_machine.specs.Operations.{negation, conjunction, disjunction, exclusive_disjunction, implication, undefined_test, invalid_test, both_null};
+ghost use Rattle.rule_values.specs.Operations.{negation, conjunction, disjunction, exclusive_disjunction, implication, undefined_test, invalid_test, both_null};
 ghost use Rattle.rule_machine.specs.Meant.{meant};
 
 use crate::value::{Item, Value, is_false, is_invalid, is_null, is_true, truth_known};

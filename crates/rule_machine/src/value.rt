@@ -1,8 +1,8 @@
 //! Values as the machine has them.
 
 ghost use Rattle.std.specs.Prelude.{◌≡◌, IfOk};
-ghost use Rattle.rule_machine.specs.Value.{element_value};
-ghost use Rattle.rule_machine.specs.Operations.{is_true, is_false, is_null, is_invalid, truth_known};
+ghost use Rattle.rule_values.specs.Value.{element_value};
+ghost use Rattle.rule_values.specs.Operations.{is_true, is_false, is_null, is_invalid, truth_known};
 ghost use Rattle.rule_machine.specs.Meant.{meant, meant_item, meant_items};
 
 use crate::memory::{OutOfMemory, push};

@@ -7,11 +7,11 @@ const KINDS: &str = "Set, OrderedSet, Bag, Sequence";
 
 /// Of each kind of collection.
 const MEMBERS: &str = "\
-self; attr Box._123; size; int 3; eq Integer -> Holds in 5 steps
+self; attr Box._123; size; int 3; eq Integer -> Holds for 5 charges
 self; attr Box._None; size; int 0; eq Integer -> Holds
 self; attr Box._123; isempty -> Fails
 self; attr Box._None; isempty -> Holds
-self; attr Box._123; int 2; includes Integer -> Holds in 4 steps
+self; attr Box._123; int 2; includes Integer -> Holds for 7 charges
 self; attr Box._123; int 4; includes Integer -> Fails
 self; attr Box._None; int 1; includes Integer -> Fails
 self; attr Box._123; int 3; count Integer; int 1; eq Integer -> Holds
@@ -38,7 +38,7 @@ self; attr Box._None; sum; int 0; eq Integer -> Holds
 self; attr Box._123; asset Integer; self; attr Box.Set321; eq Set(Integer) -> Holds
 self; attr Box._None; asset Integer; isempty -> Holds
 # one value, and nothing
-int 5; ascoll _(Integer); size; int 1; eq Integer -> Holds in 5 steps
+int 5; ascoll _(Integer); size; int 1; eq Integer -> Holds for 5 charges
 int 5; ascoll _(Integer); int 5; includes Integer -> Holds
 null; ascoll _(Integer); isempty -> Holds
 null; ascoll _(Void); isempty -> Holds

@@ -4,7 +4,7 @@ use crate::rows::wrong_rows;
 use std::test::*;
 
 const SINGLE: &str = "\
-true; true; eq Boolean -> Holds in 3 steps
+true; true; eq Boolean -> Holds for 3 charges
 true; false; eq Boolean -> Fails
 false; false; eq Boolean -> Holds
 int 3; int 3; eq Integer -> Holds
@@ -67,11 +67,11 @@ _; isinv -> Fails
 ";
 
 const BOTH_UNDEFINED: &str = "\
-null; null; eqx -> Holds in 3 steps
-invalid; null; eqx -> Undecided in 3 steps
-null; invalid; eqx -> Undecided in 3 steps
+null; null; eqx -> Holds for 3 charges
+invalid; null; eqx -> Undecided for 3 charges
+null; invalid; eqx -> Undecided for 3 charges
 invalid; invalid; eqx; isinv -> Holds
-null; undef -> Holds in 2 steps
+null; undef -> Holds for 2 charges
 invalid; undef -> Holds
 null; isinv -> Fails
 invalid; isinv -> Holds
@@ -83,7 +83,7 @@ invalid; ascoll Set(Integer); isinv -> Holds
 
 /// Of each kind of collection.
 const SAME_KIND: &str = "\
-self; attr Box._123; self; attr Box._123; eq _(Integer) -> Holds in 5 steps
+self; attr Box._123; self; attr Box._123; eq _(Integer) -> Holds for 14 charges
 self; attr Box._123; self; attr Box._12; eq _(Integer) -> Fails
 self; attr Box._12; self; attr Box._123; eq _(Integer) -> Fails
 self; attr Box._12; self; attr Box._45; eq _(Integer) -> Fails

@@ -1,4 +1,4 @@
-//! Runs that are granted some steps, stopped, and begun anew.
+//! Runs that are granted some charges, stopped, and begun anew.
 
 ghost use Rattle.std.specs.Prelude.{◌≡◌, ◌<◌, length};
 ghost use Rattle.imkl_population.specs.Population.{IsInstance};
@@ -14,10 +14,10 @@ use std::alloc::Global;
 use std::test::*;
 use test_support::{CATALOGUE, DUCT, file_of_rules};
 
-/// Of the duct the first is undecided in 14 steps, and the second holds in 4.
+/// Of the duct the first is undecided for 14 charges; the second holds for 13, of which its sum is charged 3 after 8.
 const RULES: &str = "\
 Mantelbuis d: self; attr Mantelbuis.omvat; forall 4; get 1; attr KabelOfLeiding.diepte; int 600; ge
-Mantelbuis w: self; attr Mantelbuis.diameter; int 0; gt";
+Mantelbuis s: self; attr Mantelbuis.omvat; collect 1; int 1; sum; int 2; eq Integer";
 
 const UNDECIDED: Progress = Progress::Done(Verdict::Undecided);
 
@@ -28,12 +28,14 @@ const HOLDS: Progress = Progress::Done(Verdict::Holds);
 enum Script {
     /// Nothing.
     Nothing,
-    /// Granted 0, 13, 1 and 5 steps.
+    /// Granted 0, 13, 1 and 5 charges.
     Pauses,
-    /// Stopped after 5 steps, and begun anew.
+    /// Stopped after 5 charges, and begun anew.
     BeginsAnew,
     /// Stopped, and the other rule begun; then judged.
     TakesTheOtherRule,
+    /// Granted less than its next step is charged, and then just as much.
+    DropsWhatIsLeft,
 }
 
 /// It pauses before its last step, and once it is done it makes no further step.
@@ -75,9 +77,23 @@ fn takes_the_other_rule(machine: &mut Machine<'_>, object: ObjectNo) -> Result<b
     machine.start(0, object)?;
     let stopped = machine.run(7)? == Progress::Paused;
     machine.start(1, object)?;
-    let other = machine.run(7)? == HOLDS && machine.steps() == 4;
+    let other = machine.run(13)? == HOLDS && machine.steps() == 13;
     let judged = machine.judge(0, object)? == Verdict::Undecided && machine.steps() == 14;
     Ok(stopped && other && judged)
+}
+
+/// What a grant leaves over before a step that is charged more is dropped, and not kept for the next.
+fn drops_what_is_left(machine: &mut Machine<'_>, object: ObjectNo) -> Result<bool, OutOfMemory>
+    requires rules { 1 < length machine.old.unit.rules }
+    requires object { IsInstance machine.old.population
+        (setting_of machine.old.unit machine.old.population 1).context object }
+{
+    machine.start(1, object)?;
+    let before = machine.run(10)? == Progress::Paused && machine.steps() == 8;
+    let again = machine.run(2)? == Progress::Paused && machine.steps() == 8;
+    let made = machine.run(3)? == Progress::Paused && machine.steps() == 11;
+    let last = machine.run(2)? == HOLDS && machine.steps() == 13;
+    Ok(before && again && made && last)
 }
 
 fn goes_by(machine: &mut Machine<'_>, script: Script, object: ObjectNo) -> Result<bool, OutOfMemory>
@@ -92,6 +108,7 @@ fn goes_by(machine: &mut Machine<'_>, script: Script, object: ObjectNo) -> Resul
         Script::Pauses => pauses(machine, object),
         Script::BeginsAnew => begins_anew(machine, object),
         Script::TakesTheOtherRule => takes_the_other_rule(machine, object),
+        Script::DropsWhatIsLeft => drops_what_is_left(machine, object),
     }
 }
 
@@ -175,5 +192,11 @@ fn a_start_begins_anew(rt: HostRuntime) -> Result<(), Fail> {
 #[test]
 fn another_rule_may_be_started(rt: HostRuntime) -> Result<(), Fail> {
     assert!(rt; duct_goes_by(rt.alloc(), Script::TakesTheOtherRule)?);
+    Ok(())
+}
+
+#[test]
+fn what_a_grant_leaves_over_is_dropped(rt: HostRuntime) -> Result<(), Fail> {
+    assert!(rt; duct_goes_by(rt.alloc(), Script::DropsWhatIsLeft)?);
     Ok(())
 }

@@ -4,7 +4,7 @@ use crate::rows::wrong_rows;
 use std::test::*;
 
 const RESULTS: &str = "\
-int 2; int 3; add; int 5; eq Integer -> Holds in 5 steps
+int 2; int 3; add; int 5; eq Integer -> Holds for 5 charges
 int -2; int -3; add; int -5; eq Integer -> Holds
 int 2; int 3; sub; int -1; eq Integer -> Holds
 int 3; int -4; mul; int -12; eq Integer -> Holds
@@ -45,7 +45,7 @@ int -9223372036854775808; int 9223372036854775807; min; int -9223372036854775808
 eq Integer -> Holds
 int -9223372036854775808; int 9223372036854775807; max; int 9223372036854775807; eq Integer -> Holds
 # comparisons
-int 1; int 2; lt -> Holds in 3 steps
+int 1; int 2; lt -> Holds for 3 charges
 int 2; int 2; lt -> Fails
 int 3; int 2; lt -> Fails
 int 1; int 2; le -> Holds

@@ -6,10 +6,10 @@ use std::test::*;
 const KINDS: &str = "Set, OrderedSet, Bag, Sequence";
 
 const FOR_ALL: &str = "\
-self; attr Box._None; forall 1; false -> Holds in 4 steps
-self; attr Box._123; forall 3; get 1; int 0; gt -> Holds in 16 steps
-self; attr Box._123; forall 3; get 1; int 3; lt -> Fails in 16 steps
-self; attr Box._123; forall 3; get 1; int 1; gt -> Fails in 16 steps
+self; attr Box._None; forall 1; false -> Holds for 4 charges
+self; attr Box._123; forall 3; get 1; int 0; gt -> Holds for 16 charges
+self; attr Box._123; forall 3; get 1; int 3; lt -> Fails for 16 charges
+self; attr Box._123; forall 3; get 1; int 1; gt -> Fails for 16 charges
 self; attr Box._123; forall 1; false -> Fails
 # without a false one, null or invalid makes it invalid
 self; attr Box._123; forall 6; get 1; int 2; eq Integer; if Boolean 1 1; null; true; isinv -> Holds
@@ -28,15 +28,15 @@ lt -> Fails
 self; attr Box._123; forall 8; get 1; int 2; eq Integer; if Boolean 1 3; invalid; get 1; int 1; \
 gt -> Fails
 # over invalid there are no turns
-invalid; ascoll _(Integer); forall 1; true; isinv -> Holds in 5 steps
-invalid; ascoll _(Integer); forall 1; false; isinv -> Holds in 5 steps
+invalid; ascoll _(Integer); forall 1; true; isinv -> Holds for 5 charges
+invalid; ascoll _(Integer); forall 1; false; isinv -> Holds for 5 charges
 ";
 
 const EXISTS: &str = "\
-self; attr Box._None; exists 1; true -> Fails in 4 steps
-self; attr Box._123; exists 3; get 1; int 0; gt -> Holds in 16 steps
-self; attr Box._123; exists 3; get 1; int 3; ge -> Holds in 16 steps
-self; attr Box._123; exists 3; get 1; int 1; le -> Holds in 16 steps
+self; attr Box._None; exists 1; true -> Fails for 4 charges
+self; attr Box._123; exists 3; get 1; int 0; gt -> Holds for 16 charges
+self; attr Box._123; exists 3; get 1; int 3; ge -> Holds for 16 charges
+self; attr Box._123; exists 3; get 1; int 1; le -> Holds for 16 charges
 self; attr Box._123; exists 3; get 1; int 3; gt -> Fails
 # without a true one, null or invalid makes it invalid
 self; attr Box._123; exists 6; get 1; int 2; eq Integer; if Boolean 1 1; null; false; isinv -> Holds
@@ -54,13 +54,13 @@ self; attr Box._123; exists 8; get 1; int 2; eq Integer; if Boolean 1 3; invalid
 ge -> Holds
 self; attr Box._123; exists 8; get 1; int 2; eq Integer; if Boolean 1 3; invalid; get 1; int 1; \
 le -> Holds
-invalid; ascoll _(Integer); exists 1; true; isinv -> Holds in 5 steps
+invalid; ascoll _(Integer); exists 1; true; isinv -> Holds for 5 charges
 ";
 
 const ONE: &str = "\
-self; attr Box._None; one 1; true -> Fails in 4 steps
-self; attr Box._123; one 3; get 1; int 2; eq Integer -> Holds in 16 steps
-self; attr Box._123; one 3; get 1; int 1; gt -> Fails in 16 steps
+self; attr Box._None; one 1; true -> Fails for 4 charges
+self; attr Box._123; one 3; get 1; int 2; eq Integer -> Holds for 16 charges
+self; attr Box._123; one 3; get 1; int 1; gt -> Fails for 16 charges
 self; attr Box._123; one 1; true -> Fails
 self; attr Box._123; one 1; false -> Fails
 self; attr Box._12; one 3; get 1; int 1; gt -> Holds
@@ -72,14 +72,14 @@ isinv -> Holds
 self; attr Box._123; one 6; get 1; int 2; eq Integer; if Boolean 1 1; null; false; isinv -> Holds
 self; attr Box._123; one 6; get 1; int 2; eq Integer; if Boolean 1 1; null; true; isinv -> Holds
 self; attr Box._None; one 1; null -> Fails
-invalid; ascoll _(Integer); one 1; true; isinv -> Holds in 5 steps
+invalid; ascoll _(Integer); one 1; true; isinv -> Holds for 5 charges
 ";
 
 const SELECT: &str = "\
-self; attr Box._None; select 1; true; self; attr Box._None; eq _(Integer) -> Holds in 7 steps
-self; attr Box._123; select 1; true; self; attr Box._123; eq _(Integer) -> Holds in 13 steps
+self; attr Box._None; select 1; true; self; attr Box._None; eq _(Integer) -> Holds for 7 charges
+self; attr Box._123; select 1; true; self; attr Box._123; eq _(Integer) -> Holds for 22 charges
 self; attr Box._123; select 3; get 1; int 3; lt; self; attr Box._12; \
-eq _(Integer) -> Holds in 19 steps
+eq _(Integer) -> Holds for 23 charges
 self; attr Box._321; select 3; get 1; int 3; lt; self; attr Box._12; incall Integer -> Holds
 self; attr Box._123; select 1; false; self; attr Box._None; eq _(Integer) -> Holds
 # each body must be true or false
@@ -88,26 +88,26 @@ self; attr Box._123; select 6; get 1; int 2; eq Integer; if Boolean 1 1; invalid
 isinv -> Holds
 self; attr Box._123; select 1; null; isinv -> Holds
 self; attr Box._None; select 1; null; isempty -> Holds
-invalid; ascoll _(Integer); select 1; true; isinv -> Holds in 5 steps
+invalid; ascoll _(Integer); select 1; true; isinv -> Holds for 5 charges
 ";
 
 const REJECT: &str = "\
-self; attr Box._None; reject 1; true; self; attr Box._None; eq _(Integer) -> Holds in 7 steps
-self; attr Box._123; reject 1; false; self; attr Box._123; eq _(Integer) -> Holds in 13 steps
+self; attr Box._None; reject 1; true; self; attr Box._None; eq _(Integer) -> Holds for 7 charges
+self; attr Box._123; reject 1; false; self; attr Box._123; eq _(Integer) -> Holds for 22 charges
 self; attr Box._123; reject 3; get 1; int 3; ge; self; attr Box._12; \
-eq _(Integer) -> Holds in 19 steps
+eq _(Integer) -> Holds for 23 charges
 self; attr Box._123; reject 1; true; self; attr Box._None; eq _(Integer) -> Holds
 self; attr Box._123; reject 6; get 1; int 2; eq Integer; if Boolean 1 1; null; true; isinv -> Holds
 self; attr Box._123; reject 6; get 1; int 2; eq Integer; if Boolean 1 1; invalid; true; \
 isinv -> Holds
 self; attr Box._123; reject 1; null; isinv -> Holds
 self; attr Box._None; reject 1; invalid; isempty -> Holds
-invalid; ascoll _(Integer); reject 1; true; isinv -> Holds in 5 steps
+invalid; ascoll _(Integer); reject 1; true; isinv -> Holds for 5 charges
 ";
 
 const COLLECT: &str = "\
-self; attr Box._None; collect 1; int 5; isempty -> Holds in 5 steps
-self; attr Box._123; collect 1; int 5; size; int 3; eq Integer -> Holds in 13 steps
+self; attr Box._None; collect 1; int 5; isempty -> Holds for 5 charges
+self; attr Box._123; collect 1; int 5; size; int 3; eq Integer -> Holds for 13 charges
 self; attr Box._123; collect 3; get 1; int 2; mul; sum; int 12; eq Integer -> Holds
 # a body may be null, and not invalid
 self; attr Box._123; collect 1; null; size; int 3; eq Integer -> Holds
@@ -116,7 +116,7 @@ int 7; count Integer; int 2; eq Integer -> Holds
 self; attr Box._123; collect 6; get 1; int 2; eq Integer; if Integer 1 1; invalid; int 7; \
 isinv -> Holds
 self; attr Box._None; collect 1; invalid; isempty -> Holds
-invalid; ascoll _(Integer); collect 1; int 5; isinv -> Holds in 5 steps
+invalid; ascoll _(Integer); collect 1; int 5; isinv -> Holds for 5 charges
 ";
 
 /// Of a Set or a Bag a Bag, in which what is equal stands as often as it was given.
@@ -147,9 +147,9 @@ self; attr Box.SequenceNone; eq Sequence(Integer) -> Holds
 ";
 
 const COLLECT_FLAT: &str = "\
-self; attr Box._None; collectflat 2; self; attr Box.Set12; isempty -> Holds in 5 steps
+self; attr Box._None; collectflat 2; self; attr Box.Set12; isempty -> Holds for 5 charges
 self; attr Box._12; collectflat 2; self; attr Box.Bag112; size; int 6; \
-eq Integer -> Holds in 13 steps
+eq Integer -> Holds for 19 charges
 self; attr Box._123; collectflat 2; null; ascoll Set(Integer); isempty -> Holds
 # elements that are null stay
 self; attr Box._12; collectflat 4; self; attr Box.Set123; collect 1; null; \
@@ -159,13 +159,13 @@ self; attr Box._123; collectflat 2; invalid; ascoll Set(Integer); isinv -> Holds
 self; attr Box._123; collectflat 8; get 1; int 2; eq Integer; if Set(Integer) 2 2; \
 invalid; ascoll Set(Integer); self; attr Box.Set12; isinv -> Holds
 self; attr Box._None; collectflat 2; invalid; ascoll Set(Integer); isempty -> Holds
-invalid; ascoll _(Integer); collectflat 2; self; attr Box.Set12; isinv -> Holds in 5 steps
+invalid; ascoll _(Integer); collectflat 2; self; attr Box.Set12; isinv -> Holds for 5 charges
 ";
 
 const IS_UNIQUE: &str = "\
-self; attr Box._None; isunique Integer 1; int 5 -> Holds in 4 steps
-self; attr Box._123; isunique Integer 1; get 1 -> Holds in 10 steps
-self; attr Box._123; isunique Integer 1; int 5 -> Fails in 10 steps
+self; attr Box._None; isunique Integer 1; int 5 -> Holds for 4 charges
+self; attr Box._123; isunique Integer 1; get 1 -> Holds for 19 charges
+self; attr Box._123; isunique Integer 1; int 5 -> Fails for 19 charges
 self; attr Box._123; isunique Integer 3; get 1; int 2; div -> Fails
 # one null is unique, and two are equal
 self; attr Box._123; isunique Integer 6; get 1; int 2; eq Integer; if Integer 1 1; null; \
@@ -179,7 +179,7 @@ int 5; isinv -> Holds
 self; attr Box._123; isunique Integer 6; get 1; int 2; eq Integer; if Integer 1 1; invalid; \
 get 1; isinv -> Holds
 self; attr Box._None; isunique Integer 1; invalid -> Holds
-invalid; ascoll _(Integer); isunique Integer 1; get 1; isinv -> Holds in 5 steps
+invalid; ascoll _(Integer); isunique Integer 1; get 1; isinv -> Holds for 5 charges
 ";
 
 /// Sources in which elements stand twice, a Bag and a Sequence.

@@ -1,4 +1,4 @@
-//! From a delivery and code in words to verdicts and steps.
+//! From a delivery and code in words to verdicts and charges.
 
 ghost use Rattle.std.specs.Prelude.{◌≡◌, ◌<◌, length};
 ghost use Rattle.imkl_population.specs.Population.{IsInstance};
@@ -14,20 +14,32 @@ use rule_verify::{Accepted, VerifyFault, verify};
 use std::alloc::Global;
 use test_support::{CATALOGUE, file_of_rules};
 
-/// Whether a machine that is started comes to a verdict after so many steps, granted one at a time.
-fn ends_after(machine: &mut Machine<'_>, steps: u64, verdict: Verdict) -> Result<bool, OutOfMemory>
+/// Whether a machine that is started comes to a verdict for so many charges. Each step is granted 1,
+/// then 2 and so on, until it is made: a grant that is too small makes none, and none of it is kept.
+fn ends_for(machine: &mut Machine<'_>, charges: u64, verdict: Verdict) -> Result<bool, OutOfMemory>
     requires { IsStarted machine.old }
 {
-    for step in 1..steps {
-        if machine.run(1)? != Progress::Paused || machine.steps() != step {
+    let mut made: u64 = 0;
+    let mut grant: u64 = 1;
+    for _ in 1..charges {
+        if machine.run(grant)? != Progress::Paused {
+            return Ok(false);
+        }
+        let now = machine.steps();
+        if now == made {
+            grant = grant.saturating_add(1);
+        } else if now == made.saturating_add(grant) {
+            made = now;
+            grant = 1;
+        } else {
             return Ok(false);
         }
     }
-    Ok(machine.run(1)? == Progress::Done(verdict) && machine.steps() == steps)
+    Ok(machine.run(grant)? == Progress::Done(verdict) && machine.steps() == charges)
 }
 
-/// Writes what a rule says of an object, and after how many steps: `Holds in 4 steps`. The rule is
-/// run once whole, and once granted one step at a time.
+/// Writes what a rule says of an object, and for how many charges: `Holds for 4 charges`. The rule is
+/// run once whole, and once a step at a time.
 fn put_verdict(
     machine: &mut Machine<'_>,
     rule: usize,
@@ -39,11 +51,12 @@ fn put_verdict(
         (setting_of machine.old.unit machine.old.population rule).context object }
 {
     let verdict = machine.judge(rule, object)?;
-    let steps = machine.steps();
-    write!(out, "{verdict:?} in {steps} steps")?;
+    let charges = machine.steps();
+    let word = if charges == 1 { "charge" } else { "charges" };
+    write!(out, "{verdict:?} for {charges} {word}")?;
     machine.start(rule, object)?;
-    if !ends_after(machine, steps, verdict)? {
-        write!(out, ", but not one at a time")?;
+    if !ends_for(machine, charges, verdict)? {
+        write!(out, ", but not a step at a time")?;
     }
     Ok(())
 }
@@ -65,7 +78,7 @@ fn put_verdict_anew(
     put_verdict(&mut machine, rule, object, out)
 }
 
-/// Writes a line for each object of a rule's context class: `E1 Holds in 4 steps`.
+/// Writes a line for each object of a rule's context class: `E1 Holds for 4 charges`.
 fn put_rule(
     alloc: Global,
     accepted: &Accepted<'_>,

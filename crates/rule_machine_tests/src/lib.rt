@@ -2,6 +2,8 @@
 #![tactic(auto)]
 
 #[cfg(test)]
+mod charges;
+#[cfg(test)]
 mod collections;
 #[cfg(test)]
 mod equality;

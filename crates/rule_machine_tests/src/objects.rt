@@ -5,12 +5,12 @@ use std::test::*;
 
 const FEATURES: &str = "\
 # an attribute of its own, an inherited one by either class, and one that comes by two ways
-self; attr Box.truth -> Holds in 2 steps
+self; attr Box.truth -> Holds for 2 charges
 self; attr Thing.weight; int 7; eq Integer -> Holds
 self; attr Box.weight; int 7; eq Integer -> Holds
 self; attr Box.held; attr Thing.weight; int 9; eq Integer -> Holds
 # what isn't written is null
-self; attr Box.noTruth -> Undecided in 2 steps
+self; attr Box.noTruth -> Undecided for 2 charges
 self; attr Box.noTruth; isinv -> Fails
 self; attr Box.noTruth; undef -> Holds
 self; attr Thing.depth; null; eq Integer -> Holds
@@ -45,7 +45,7 @@ self; attr Box.stack; collect 2; get 1; attr Lid.size; \
 self; attr Box.Sequence321; select 3; get 1; int 3; lt; eq Sequence(Integer) -> Holds";
 
 const CLASSES: &str = "\
-self; kindof Box -> Holds in 2 steps
+self; kindof Box -> Holds for 2 charges
 self; kindof Thing -> Holds
 self; kindof Lid -> Fails
 self; attr Box.held; kindof Both -> Holds
@@ -60,7 +60,7 @@ self; typeof Lid -> Fails
 self; attr Box.held; typeof Both -> Holds
 self; attr Box.held; typeof Left -> Fails
 self; attr Box.held; typeof Thing -> Fails
-self; astype Box; self; eq AnyObject -> Holds in 4 steps
+self; astype Box; self; eq AnyObject -> Holds for 4 charges
 self; astype Thing; self; eq AnyObject -> Holds
 self; astype Lid; isinv -> Holds
 self; attr Box.held; astype Left; attr Left.weight; int 9; eq Integer -> Holds
@@ -78,7 +78,7 @@ self; attr Box.handle; _; isinv -> Holds
 ";
 
 const INSTANCES: &str = "\
-all Lid; size; int 3; eq Integer -> Holds in 4 steps
+all Lid; size; int 3; eq Integer -> Holds for 4 charges
 all Box; size; int 1; eq Integer -> Holds
 all Spare; isempty -> Holds
 # those of subclasses are among them, once

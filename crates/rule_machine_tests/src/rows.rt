@@ -1,4 +1,4 @@
-//! Tables of rules: a row is `CODE -> VERDICT`, or `CODE -> VERDICT in N steps`, for the one box.
+//! Tables of rules: a row is `CODE -> VERDICT`, or `CODE -> VERDICT for N charges`, for the one box.
 
 use crate::judging::file_verdicts;
 use imkl_delivery::load;
@@ -8,12 +8,12 @@ use rule_machine::OutOfMemory;
 use std::alloc::Global;
 use test_support::{BOX_DELIVERY, BOXES, file_of_rule};
 
-/// Whether the line of the one box says what a row expects, which may leave out the steps.
+/// Whether the line of the one box says what a row expects, which may leave out the charges.
 fn is_answer(line: &str, expected: &str) -> bool {
     let (_, found) = line.split_once(' ').unwrap_or(("", ""));
     match found.strip_prefix(expected) {
         Some("") => true,
-        Some(rest) => rest.starts_with(" in ") && rest.ends_with(" steps"),
+        Some(rest) => rest.starts_with(" for ") && rest.contains(" charge"),
         None => false,
     }
 }

@@ -4,7 +4,7 @@ use crate::rows::wrong_rows;
 use std::test::*;
 
 const LENGTHS: &str = "\
-text; tlen; int 0; eq Integer -> Holds in 4 steps
+text; tlen; int 0; eq Integer -> Holds for 4 charges
 text abc; tlen; int 3; eq Integer -> Holds
 text é; tlen; int 1; eq Integer -> Holds
 text aé漢😀; tlen; int 4; eq Integer -> Holds
@@ -16,7 +16,7 @@ self; attr Box.noName; tlen; isinv -> Holds
 
 /// Parts of aéb, whose second character has two bytes.
 const PARTS: &str = "\
-text aéb; int 1; int 1; substr; text a; eq String -> Holds in 6 steps
+text aéb; int 1; int 1; substr; text a; eq String -> Holds for 6 charges
 text aéb; int 2; int 2; substr; text é; eq String -> Holds
 text aéb; int 3; int 3; substr; text b; eq String -> Holds
 text aéb; int 1; int 2; substr; text aé; eq String -> Holds

@@ -4,19 +4,19 @@ use crate::rows::wrong_rows;
 use std::test::*;
 
 const VERDICTS: &str = "\
-true -> Holds in 1 steps
-false -> Fails in 1 steps
-null -> Undecided in 1 steps
-invalid -> Undecided in 1 steps
+true -> Holds for 1 charge
+false -> Fails for 1 charge
+null -> Undecided for 1 charge
+invalid -> Undecided for 1 charge
 ";
 
 /// Operations on truth values; `_` is null or invalid.
 const OPERATIONS: &str = "\
-true; not -> Fails in 2 steps
+true; not -> Fails for 2 charges
 false; not -> Holds
 _; not; isinv -> Holds
 # false decides a conjunction
-true; true; and -> Holds in 3 steps
+true; true; and -> Holds for 3 charges
 true; false; and -> Fails
 false; true; and -> Fails
 false; false; and -> Fails
@@ -66,40 +66,40 @@ _; invalid; implies; isinv -> Holds
 ";
 
 const CONDITIONS: &str = "\
-true; if Boolean 1 1; true; false -> Holds in 3 steps
-false; if Boolean 1 1; true; false -> Fails in 3 steps
-null; if Boolean 1 1; true; true -> Undecided in 2 steps
-invalid; if Boolean 1 1; true; true -> Undecided in 2 steps
-null; if Boolean 1 1; true; true; isinv -> Holds in 3 steps
-invalid; if Boolean 1 1; true; true; isinv -> Holds in 3 steps
+true; if Boolean 1 1; true; false -> Holds for 3 charges
+false; if Boolean 1 1; true; false -> Fails for 3 charges
+null; if Boolean 1 1; true; true -> Undecided for 2 charges
+invalid; if Boolean 1 1; true; true -> Undecided for 2 charges
+null; if Boolean 1 1; true; true; isinv -> Holds for 3 charges
+invalid; if Boolean 1 1; true; true; isinv -> Holds for 3 charges
 # only the branch that is taken is evaluated
-true; if Boolean 1 1; true; invalid -> Holds in 3 steps
-false; if Boolean 1 1; invalid; true -> Holds in 3 steps
-true; if Boolean 1 1; null; true; isinv -> Fails in 4 steps
-false; if Integer 1 3; int 1; int 2; int 3; add; int 5; eq Integer -> Holds in 7 steps
-true; if Integer 3 1; int 2; int 3; add; int 1; int 5; eq Integer -> Holds in 7 steps
+true; if Boolean 1 1; true; invalid -> Holds for 3 charges
+false; if Boolean 1 1; invalid; true -> Holds for 3 charges
+true; if Boolean 1 1; null; true; isinv -> Fails for 4 charges
+false; if Integer 1 3; int 1; int 2; int 3; add; int 5; eq Integer -> Holds for 7 charges
+true; if Integer 3 1; int 2; int 3; add; int 1; int 5; eq Integer -> Holds for 7 charges
 # a branch may be a collection
 false; if Set(Integer) 2 2; self; attr Box.Set12; self; attr Box.Set123; size; int 3; \
-eq Integer -> Holds in 7 steps
-null; if Set(Integer) 2 2; self; attr Box.Set12; self; attr Box.Set123; isinv -> Holds in 3 steps
+eq Integer -> Holds for 7 charges
+null; if Set(Integer) 2 2; self; attr Box.Set12; self; attr Box.Set123; isinv -> Holds for 3 charges
 # one in the other
-true; if Boolean 4 1; false; if Boolean 1 1; false; true; false -> Holds in 5 steps
-false; if Boolean 1 4; false; null; if Boolean 1 1; true; true -> Undecided in 4 steps
+true; if Boolean 4 1; false; if Boolean 1 1; false; true; false -> Holds for 5 charges
+false; if Boolean 1 4; false; null; if Boolean 1 1; true; true -> Undecided for 4 charges
 ";
 
 const VARIABLES: &str = "\
-get 0; self; eq AnyObject -> Holds in 3 steps
-int 5; let 3; get 1; get 1; add; int 10; eq Integer -> Holds in 8 steps
-null; let 2; get 1; undef -> Holds in 5 steps
+get 0; self; eq AnyObject -> Holds for 3 charges
+int 5; let 3; get 1; get 1; add; int 10; eq Integer -> Holds for 8 charges
+null; let 2; get 1; undef -> Holds for 5 charges
 null; let 2; get 1; isinv -> Fails
 invalid; let 2; get 1; isinv -> Holds
-invalid; let 1; true -> Holds in 4 steps
-self; attr Box.Set123; let 2; get 1; size; int 3; eq Integer -> Holds in 8 steps
+invalid; let 1; true -> Holds for 4 charges
+self; attr Box.Set123; let 2; get 1; size; int 3; eq Integer -> Holds for 8 charges
 # one in the other, and one after the other
-int 5; let 5; int 6; let 3; get 2; get 1; sub; int 1; eq Integer -> Holds in 11 steps
-int 5; let 1; get 1; int 6; let 1; get 1; add; int 11; eq Integer -> Holds in 11 steps
+int 5; let 5; int 6; let 3; get 2; get 1; sub; int 1; eq Integer -> Holds for 11 charges
+int 5; let 1; get 1; int 6; let 1; get 1; add; int 11; eq Integer -> Holds for 11 charges
 # what is below a block stays
-int 9; int 5; let 1; get 1; sub; int 4; eq Integer -> Holds in 8 steps
+int 9; int 5; let 1; get 1; sub; int 4; eq Integer -> Holds for 8 charges
 ";
 
 #[test]

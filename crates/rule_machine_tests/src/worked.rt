@@ -1,4 +1,4 @@
-//! Rules of the catalogue, worked by hand: what they say of each object, and in how many steps.
+//! Rules of the catalogue, worked by hand: what they say of each object, and for how many charges.
 
 use crate::judging::verdicts;
 use rule_machine::OutOfMemory;
@@ -70,7 +70,7 @@ fn sum_holds_in_each_order(alloc: Global) -> Result<bool, OutOfMemory> {
 1 -1 9223372036854775807
 -1 9223372036854775807 1
 -1 1 9223372036854775807";
-    let all = "E1 Holds in 15 steps\nE2 Holds in 15 steps\nE3 Holds in 15 steps\n";
+    let all = "E1 Holds for 18 charges\nE2 Holds for 18 charges\nE3 Holds for 18 charges\n";
     for voltages in orders.lines() {
         if !sum_says(alloc, voltages, all)? {
             return Ok(false);
@@ -90,42 +90,42 @@ fn words_become_the_documented_file(rt: HostRuntime) -> Result<(), Fail> {
 
 #[test]
 fn a_deep_cable_is_deep_enough(rt: HostRuntime) -> Result<(), Fail> {
-    let expected = "E1 Holds in 4 steps\n";
+    let expected = "E1 Holds for 4 charges\n";
     assert!(rt; says(rt.alloc(), DEEP_CABLE, DEEP_ENOUGH, expected)?);
     Ok(())
 }
 
 #[test]
 fn a_shallow_cable_is_not(rt: HostRuntime) -> Result<(), Fail> {
-    let expected = "E1 Fails in 4 steps\n";
+    let expected = "E1 Fails for 4 charges\n";
     assert!(rt; says(rt.alloc(), SHALLOW_CABLE, DEEP_ENOUGH, expected)?);
     Ok(())
 }
 
 #[test]
 fn a_cable_without_depth_is_undecided(rt: HostRuntime) -> Result<(), Fail> {
-    let expected = "E1 Undecided in 4 steps\n";
+    let expected = "E1 Undecided for 4 charges\n";
     assert!(rt; says(rt.alloc(), CABLE_WITHOUT_DEPTH, DEEP_ENOUGH, expected)?);
     Ok(())
 }
 
 #[test]
 fn a_duct_with_a_cable_without_depth_is_undecided(rt: HostRuntime) -> Result<(), Fail> {
-    let expected = "M1 Undecided in 14 steps\n";
+    let expected = "M1 Undecided for 14 charges\n";
     assert!(rt; says(rt.alloc(), DUCT, HOLDS_DEEP_ENOUGH, expected)?);
     Ok(())
 }
 
 #[test]
 fn a_duct_with_a_shallow_cable_fails(rt: HostRuntime) -> Result<(), Fail> {
-    let expected = "M1 Fails in 14 steps\n";
+    let expected = "M1 Fails for 14 charges\n";
     assert!(rt; says(rt.alloc(), DUCT_WITH_SHALLOW, HOLDS_DEEP_ENOUGH, expected)?);
     Ok(())
 }
 
 #[test]
 fn a_duct_with_a_shallow_cable_last_fails(rt: HostRuntime) -> Result<(), Fail> {
-    let expected = "M1 Fails in 14 steps\n";
+    let expected = "M1 Fails for 14 charges\n";
     assert!(rt;
         says(
             rt.alloc(),
@@ -142,7 +142,7 @@ fn a_sum_keeps_equal_depths(rt: HostRuntime) -> Result<(), Fail> {
     let rule = "\
 Mantelbuis s: self; attr Mantelbuis.omvat; collect 2; get 1; attr KabelOfLeiding.diepte; sum; \
 int 1200; eq Integer";
-    let expected = "M1 Holds in 13 steps\n";
+    let expected = "M1 Holds for 15 charges\n";
     assert!(rt; says(rt.alloc(), DUCT_OF_EQUALS, rule, expected)?);
     Ok(())
 }
@@ -155,7 +155,7 @@ fn a_sum_may_leave_the_range_and_come_back(rt: HostRuntime) -> Result<(), Fail> 
 
 #[test]
 fn a_sum_out_of_range_is_undecided(rt: HostRuntime) -> Result<(), Fail> {
-    let expected = "E1 Undecided in 12 steps\nE2 Undecided in 12 steps\n";
+    let expected = "E1 Undecided for 14 charges\nE2 Undecided for 14 charges\n";
     assert!(rt; sum_says(rt.alloc(), "9223372036854775807 1", expected)?);
     Ok(())
 }
@@ -164,7 +164,7 @@ fn a_sum_out_of_range_is_undecided(rt: HostRuntime) -> Result<(), Fail> {
 fn a_feature_of_no_duct_is_undecided(rt: HostRuntime) -> Result<(), Fail> {
     let rule = "\
 KabelOfLeiding w: self; attr KabelOfLeiding.ligtIn; attr Mantelbuis.diameter; int 100; gt";
-    let expected = "E1 Undecided in 5 steps\n";
+    let expected = "E1 Undecided for 5 charges\n";
     assert!(rt; says(rt.alloc(), CABLE_WITHOUT_DEPTH, rule, expected)?);
     Ok(())
 }
@@ -174,7 +174,7 @@ fn a_true_operand_decides_beside_an_invalid_one(rt: HostRuntime) -> Result<(), F
     let rule = "\
 KabelOfLeiding w: self; attr KabelOfLeiding.ligtIn; ascoll Set(Mantelbuis); isempty; \
 self; attr KabelOfLeiding.ligtIn; attr Mantelbuis.diameter; int 100; gt; or";
-    let expected = "E1 Holds in 10 steps\n";
+    let expected = "E1 Holds for 10 charges\n";
     assert!(rt; says(rt.alloc(), CABLE_WITHOUT_DEPTH, rule, expected)?);
     Ok(())
 }
@@ -184,7 +184,7 @@ fn nets_of_all_pipes_are_collected(rt: HostRuntime) -> Result<(), Fail> {
     let rule = "\
 Utiliteitsnet t: all Utiliteitsnet; collectflat 2; get 1; attr Utiliteitsnet.leidingen; \
 collect 2; get 1; attr KabelOfLeiding.net; size; int 0; ge";
-    let expected = "N1 Holds in 23 steps\nN2 Holds in 23 steps\n";
+    let expected = "N1 Holds for 26 charges\nN2 Holds for 26 charges\n";
     assert!(rt; says(rt.alloc(), NETS, rule, expected)?);
     Ok(())
 }
@@ -194,7 +194,7 @@ fn two_variables_go_over_one_source(rt: HostRuntime) -> Result<(), Fail> {
     let rule = "\
 Utiliteitsnet p: all Utiliteitsnet; let 9; get 1; forall 7; get 1; forall 5; \
 get 2; attr Utiliteitsnet.thema; get 3; attr Utiliteitsnet.thema; eq Thema::";
-    let expected = "N1 Fails in 38 steps\nN2 Fails in 38 steps\n";
+    let expected = "N1 Fails for 38 charges\nN2 Fails for 38 charges\n";
     assert!(rt; says(rt.alloc(), DIFFERENT_NETS, rule, expected)?);
     Ok(())
 }
@@ -203,7 +203,7 @@ get 2; attr Utiliteitsnet.thema; get 3; attr Utiliteitsnet.thema; eq Thema::";
 fn identifications_of_all_classes_are_not_unique(rt: HostRuntime) -> Result<(), Fail> {
     let rule = "\
 Utiliteitsnet u: all KabelOfLeiding; isunique String 2; get 1; attr KabelOfLeiding.identificatie";
-    let expected = "N1 Fails in 9 steps\nN2 Fails in 9 steps\n";
+    let expected = "N1 Fails for 13 charges\nN2 Fails for 13 charges\n";
     assert!(rt; says(rt.alloc(), DIFFERENT_NETS, rule, expected)?);
     Ok(())
 }
@@ -214,10 +214,10 @@ fn a_substring_counts_characters(rt: HostRuntime) -> Result<(), Fail> {
 KabelOfLeiding i: self; attr KabelOfLeiding.identificatie; int 1; int 2; substr; text nl; \
 eq String";
     let expected = "\
-E1 Undecided in 7 steps
-E2 Holds in 7 steps
-E3 Fails in 7 steps
-E4 Undecided in 7 steps
+E1 Undecided for 7 charges
+E2 Holds for 7 charges
+E3 Fails for 7 charges
+E4 Undecided for 7 charges
 ";
     assert!(rt; says(rt.alloc(), IDENTIFIED_CABLES, rule, expected)?);
     Ok(())
@@ -228,7 +228,7 @@ fn each_rule_of_a_unit_is_judged(rt: HostRuntime) -> Result<(), Fail> {
     let rules = "\
 Mantelbuis inv1: self; attr Mantelbuis.diameter; int 0; gt
 Mantelbuis inv2: self; attr Mantelbuis.omvat; isempty; not";
-    let expected = "M1 Holds in 4 steps\nM1 Fails in 4 steps\n";
+    let expected = "M1 Holds for 4 charges\nM1 Fails for 4 charges\n";
     assert!(rt; says(rt.alloc(), EMPTY_DUCT, rules, expected)?);
     Ok(())
 }

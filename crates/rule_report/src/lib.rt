@@ -5,11 +5,14 @@ mod fault;
 pub mod laws;
 mod lines;
 mod making;
+mod put;
 mod sink;
 mod summary;
+mod unfailed;
 mod writing;
 
 pub use fault::ReportFault;
-pub use sink::{Sink, Telling, WriteFailed, write_and_flush, write_whole};
+pub use put::{WriteFailed, write_and_flush, write_whole};
+pub use sink::{Sink, Telling};
 pub use summary::Summary;
 pub use writing::write_report;

@@ -3,22 +3,22 @@
 ghost use Rattle.std.specs.Prelude.{◌≡◌, false, OnOk, OnErr, IfOk};
 ghost use Rattle.std.specs.Io.KnownBytes.{Appends};
 ghost use Rattle.rule_cost.specs.Admission.{Fits};
-ghost use Rattle.rule_report.specs.declared.fault.ReportFault.TheVariants as fault;
 ghost use Rattle.rule_report.specs.Sink.{WritesPrefix};
 ghost use Rattle.rule_report.specs.Report.{report_of, summary_of};
 ghost use Rattle.rule_report.specs.Writing.{is_write_fault};
 
 use crate::fault::ReportFault;
 use crate::making::make_admitted_report;
-use crate::sink::{Sink, write_and_flush};
+use crate::put::write_and_flush;
+use crate::sink::Sink;
 use crate::summary::Summary;
 use imkl_population::Population;
 use rule_cost::Admitted;
 use std::alloc::Global;
 
-/// Writes the report on a population that fits the admitted code, so that no run makes more steps than the budget, and
-/// then flushes the sink. The report is made whole before its first byte is written: where memory runs out, the sink is
-/// as it was.
+/// Writes the report on a population that fits the admitted code, so that no run is charged more than the budget, and
+/// then flushes the sink once. Where a write, the flush or memory fails, the sink took a prefix of the report, and
+/// takes no more.
 pub fn write_report<S: Sink>(
     alloc: Global,
     admitted: &Admitted<'_>,
@@ -34,7 +34,6 @@ pub fn write_report<S: Sink>(
     ensures prefix { OnErr result (WritesPrefix (S.contents sink.old) (S.contents sink.new)
         (report_of admitted.now.linked.unit population.now.content)) }
     ensures write { S.has_failed sink.new ≡ is_write_fault result }
-    ensures memory { result ≡ Err fault.OutOfMemory → sink.new ≡ sink.old }
 {
     let report = make_admitted_report(alloc, admitted, population)?;
     write_and_flush(sink, report.text.as_bytes())?;

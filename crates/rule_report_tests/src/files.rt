@@ -16,7 +16,7 @@ use test_support::CATALOGUE;
 /// What `write_report` answers; `None` where an input is refused.
 type Answer = Option<Result<Summary, ReportFault>>;
 
-/// The most steps that a rule may make for an object.
+/// The most that a rule may be charged for an object.
 const BUDGET: u64 = 1_000;
 
 /// Writes the report on a population of these sizes by accepted code, if it is within the budget.

@@ -4,9 +4,8 @@ use crate::files::write;
 use crate::rules::DUCT_DEPTH;
 use rule_report::{ReportFault, Summary, Telling};
 use std::alloc::Global;
-use std::io;
-use std::io::{Error, ErrorKind, Write};
 use std::test::*;
+use test_support::{Narrow, WhenFull};
 
 /// The duct M1 holds E1, 600 deep, and E2, without a depth.
 const DUCT: &str = r#"{"model":"imkl-profile","objects":[
@@ -27,55 +26,6 @@ const SUMMARY: Summary = Summary {
     undecided: 1,
 };
 
-/// A writer that takes so many bytes, a few at a time, and then fails or takes nothing; its flush may
-/// fail. It notes how much it had taken at each flush.
-#[derive(Drop)]
-struct Narrow {
-    taken: Vec<u8>,
-    left: usize,
-    is_silent: bool,
-    flushes: bool,
-    flushed: u32,
-    flushed_at: usize,
-}
-
-impl Narrow {
-    fn new(alloc: Global, left: usize, is_silent: bool, flushes: bool) -> Narrow {
-        Narrow {
-            taken: Vec::new(alloc),
-            left,
-            is_silent,
-            flushes,
-            flushed: 0,
-            flushed_at: 0,
-        }
-    }
-}
-
-impl Write for Narrow {
-    fn write(&mut self, buf: &[u8]) -> io::Result<usize> {
-        let count = buf.len().min(self.left).min(7);
-        if count == 0 && self.is_silent {
-            return Ok(0);
-        }
-        if count == 0 || self.taken.extend_from_slice(&buf[..count]).is_err() {
-            return Err(Error::from(ErrorKind::Other));
-        }
-        self.left -= count;
-        Ok(count)
-    }
-
-    fn flush(&mut self) -> io::Result<()> {
-        self.flushed = self.flushed.saturating_add(1);
-        self.flushed_at = self.taken.len();
-        if self.flushes {
-            Ok(())
-        } else {
-            Err(Error::from(ErrorKind::Other))
-        }
-    }
-}
-
 /// What `write_report` answers over a writer, and the writer afterwards.
 fn written_into(alloc: Global, writer: Narrow) -> (Option<Result<Summary, ReportFault>>, Narrow) {
     let mut sink = Telling::new(writer);
@@ -83,41 +33,43 @@ fn written_into(alloc: Global, writer: Narrow) -> (Option<Result<Summary, Report
     (answer, sink.into_inner())
 }
 
-/// Whether a writer that fails after so many bytes has taken just the beginning of the report, and isn't
-/// flushed.
-fn fails_after(alloc: Global, left: usize, is_silent: bool) -> bool {
-    let (answer, writer) = written_into(alloc, Narrow::new(alloc, left, is_silent, true));
-    answer == Some(Err(ReportFault::Write))
-        && writer.taken.len() == left
-        && REPORT.as_bytes().starts_with(&writer.taken)
-        && writer.flushed == 0
+/// Whether a writer of so much room has taken just the beginning of the report, and neither a byte more nor a flush.
+fn fails_after(alloc: Global, left: usize, when_full: WhenFull) -> bool {
+    let (answer, writer) = written_into(alloc, Narrow::new(alloc, left, when_full));
+    answer == Some(Err(ReportFault::Write)) && writer.has_first(left, REPORT.as_bytes())
 }
 
 #[test]
-fn fails_where_a_write_does(rt: HostRuntime) {
+fn a_writer_that_failed_is_left_alone(rt: HostRuntime) {
     for left in 0..REPORT.len() {
-        assert!(rt; fails_after(rt.alloc(), left, false), "{left}");
-        assert!(rt; fails_after(rt.alloc(), left, true), "{left}");
+        assert!(rt; fails_after(rt.alloc(), left, WhenFull::Fails), "{left}");
+        assert!(rt;
+            fails_after(rt.alloc(), left, WhenFull::TakesNothing),
+            "{left}"
+        );
+        assert!(rt;
+            fails_after(rt.alloc(), left, WhenFull::FailsOnce),
+            "{left}"
+        );
     }
 }
 
-/// Whether a writer of room for the report takes it whole, is then flushed once, and this is answered.
-fn takes_it_whole(alloc: Global, flushes: bool, answer: Result<Summary, ReportFault>) -> bool {
-    let (answered, writer) = written_into(alloc, Narrow::new(alloc, REPORT.len(), false, flushes));
-    answered == Some(answer)
-        && writer.taken.as_slice() == REPORT.as_bytes()
-        && writer.flushed == 1
-        && writer.flushed_at == REPORT.len()
+/// Whether a writer takes the report whole, is then flushed once, and this is answered.
+fn takes_it_whole(alloc: Global, writer: Narrow, answer: Result<Summary, ReportFault>) -> bool {
+    let (answered, writer) = written_into(alloc, writer);
+    answered == Some(answer) && writer.has_all(REPORT.as_bytes())
 }
 
 #[test]
 fn flushes_the_whole_report_once(rt: HostRuntime) {
-    assert!(rt; takes_it_whole(rt.alloc(), true, Ok(SUMMARY)));
+    let writer = Narrow::new(rt.alloc(), REPORT.len(), WhenFull::Fails);
+    assert!(rt; takes_it_whole(rt.alloc(), writer, Ok(SUMMARY)));
 }
 
 #[test]
 fn fails_where_the_flush_does(rt: HostRuntime) {
-    assert!(rt; takes_it_whole(rt.alloc(), false, Err(ReportFault::Write)));
+    let writer = Narrow::without_flush(rt.alloc(), REPORT.len());
+    assert!(rt; takes_it_whole(rt.alloc(), writer, Err(ReportFault::Write)));
 }
 
 #[test]

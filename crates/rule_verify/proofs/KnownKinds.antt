@@ -1,5 +1,5 @@
 -- The kinds that code has are kinds of the class model.
-use Rattle.std.proofs.Common.{◌≡◌, ℕ, ◌==◌, ◌<◌, Bool, true, false, List, [], ◌∷◌, length, Option, Some, IfSome, if◌then◌else◌, sym, subst}
+use Rattle.std.proofs.Common.{◌≡◌, ℕ, ◌==◌, ◌<◌, Bool, true, false, List, [], ◌∷◌, ◌++◌, length, drop, zero, suc, Option, Some, IfSome, if◌then◌else◌, sym, subst}
 use Rattle.imkl_model.specs.ClassModel.{Model}
 use Rattle.imkl_model.specs.WellFormed.{IsClassModel}
 use Rattle.ocl_kinds.specs.declared.kind.Kind.{Kind}
@@ -18,7 +18,7 @@ use Rattle.rule_verify.specs.declared.named.Named.TheVariants as named
 use Rattle.rule_verify.specs.Known.{IsKnownName, AreKnownKinds}
 use Rattle.rule_verify.specs.Symbols.{named_at}
 use Rattle.rule_verify.specs.Patterns.{IsPatternOf, ArePatterns}
-use Rattle.rule_verify.specs.InstrKinds.{Surroundings, class_kind, enumeration_kind, literal_kind, owner_kind, feature_read, scalar_meant, kind_meant, operands_of, variable_at, or_void, topmost, result_kind, binds, ends_with, yields}
+use Rattle.rule_verify.specs.InstrKinds.{Surroundings, class_kind, enumeration_kind, literal_kind, owner_kind, feature_read, scalar_meant, kind_meant, operands_of, variable_at, or_void, topmost, result_kind, operands_above, block_operand, binds, ends_with, yields}
 use Rattle.rule_verify.proofs.Stretches.{named_known}
 
 -- ---- names
@@ -61,6 +61,15 @@ element_known m (Collection c k) h = h
 pub topmost_known : (m : Model) (ks : List Kind) → AreKnownKinds m ks → IsKindOf m (topmost ks)
 topmost_known m [] h = tt
 topmost_known m (k ∷ ks) h = h.0
+
+dropped_known : (m : Model) (n : ℕ) (ks : List Kind) → AreKnownKinds m ks → AreKnownKinds m (drop n ks)
+dropped_known m zero ks h = h
+dropped_known m (suc n) [] h = tt
+dropped_known m (suc n) (k ∷ ks) h = dropped_known m n ks h.1
+
+-- and so is the one that a block works on
+pub block_operand_known : (m : Model) (i : Instr) (ks : List Kind) → AreKnownKinds m ks → IsKindOf m (block_operand i ks)
+block_operand_known m i ks h = topmost_known m (drop (operands_above i) ks) (dropped_known m (operands_above i) ks h)
 
 -- ---- instructions
 
@@ -106,9 +115,9 @@ module _ (s : Surroundings) where
   result_known well context vars i ks v h = tt
 
   -- what blocks bind, ask of their bodies and give
-  pub binds_known : (i : Instr) (k : Kind) → IsKindOf s.model k → IsKindOf s.model (binds i k)
-  binds_known (instrs.Let n) k h = h
-  binds_known i k h = element_known s.model k h
+  pub binds_known : (i : Instr) (k : Kind) (vars : List Kind) → IsKindOf s.model k → AreKnownKinds s.model vars → AreKnownKinds s.model (binds s i k ++ vars)
+  binds_known (instrs.Let n) k vars h v = (h, v)
+  binds_known i k vars h v = (element_known s.model k h, v)
 
   -- what a block asks of the end of its body names known kinds alone
   pub ends_known : (i : Instr) → IsPatternOf s.model (ends_with s i)

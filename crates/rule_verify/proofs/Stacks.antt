@@ -1,8 +1,8 @@
 -- The items of a stack by their numbers from below.
-use Rattle.std.proofs.Common.{◌≡◌, ℕ, zero, suc, ◌<◌, ◌≤◌, false, List, [], ◌∷◌, ◌++◌, length, reverse, get_or, Some, None, refl, sym, ap, ◌∙◌, arith, length-append}
-use Rattle.std.specs.Prelude.{slice_get, ◌==◌}
-use Rattle.std.proofs.lemmas.Bool.{ne_eqb}
-use Rattle.std.proofs.lemmas.List.{reverse-append}
+use Rattle.std.proofs.Common.{◌≡◌, ℕ, zero, suc, ◌<◌, ◌≤◌, false, List, [], ◌∷◌, ◌++◌, length, drop, reverse, true, ◌-◌, get_or, Some, None, refl, sym, ap, ◌∙◌, arith, length-append}
+use Rattle.std.specs.Prelude.{slice_get, ◌==◌, if◌then◌else◌}
+use Rattle.std.proofs.lemmas.Bool.{ne_eqb, eq-eqb}
+use Rattle.std.proofs.lemmas.List.{reverse-append, length-reverse}
 use Rattle.std.proofs.lemmas.Option.{slice_get_read, slice_get_past}
 use Rattle.std.proofs.Math.Dec.{eqb-suc-suc}
 use Rattle.rule_verify.specs.InstrKinds.{variable_at}
@@ -38,3 +38,33 @@ at_bottom xs l m n x len same lt is =
 pub past_bottom : {A : Type 0} (xs l : List A) (m n : ℕ) → m ≡ length xs → reverse xs ≡ l → m ≤ n → None ≡ variable_at l n
 past_bottom xs l m n len same le =
     sym (slice_get_past xs n (omega arith)) ∙ sym (from_below xs n) ∙ ap (λ k. variable_at k n) same
+
+-- an item with n items above it
+above : {A : Type 0} (l : List A) (n : ℕ) (x : A) → n < length l → variable_at l (length l - 1 - n) ≡ Some x → (below : List A) × (drop n l ≡ x ∷ below)
+above [] n x lt h = absurd (omega (arith, lt))
+above (k ∷ l) zero x lt h =
+    let e : (length (k ∷ l) - 1 - 0 == length l) ≡ true = ap (λ m. m == length l) (let m : length (k ∷ l) - 1 - 0 ≡ length l = omega arith in m) ∙ eq-eqb (length l) (length l) refl in
+    let same : Some k ≡ Some x = sym (ap (λ b. if b then Some k else variable_at l (length (k ∷ l) - 1 - 0)) e) ∙ h in
+    let is : k ≡ x = cc in
+    (l, ap (λ y. y ∷ l) is)
+above (k ∷ l) (suc n) x lt h =
+    let m : length (k ∷ l) - 1 - suc n ≡ length l - 1 - n = omega arith in
+    let e : (length (k ∷ l) - 1 - suc n == length l) ≡ false = ne_eqb (length (k ∷ l) - 1 - suc n) (length l) (λ q. absurd (omega (arith, q, lt))) in
+    above l n x (omega (arith, lt)) (ap (variable_at l) (sym m) ∙ sym (ap (λ b. if b then Some k else variable_at l (length (k ∷ l) - 1 - suc n)) e) ∙ h)
+
+none_above : {A : Type 0} (l : List A) (n : ℕ) → length l ≤ n → drop n l ≡ []
+none_above [] zero le = refl
+none_above [] (suc n) le = refl
+none_above (k ∷ l) zero le = absurd (omega (arith, le))
+none_above (k ∷ l) (suc n) le = none_above l n (omega (arith, le))
+
+-- an item that is there, by its number from above
+pub at_top : {A : Type 0} (xs l : List A) (m k n : ℕ) (x : A) → m ≡ length xs → reverse xs ≡ l → n < m → k ≡ m - 1 - n → x ≡ get_or xs k x → (below : List A) × (drop n l ≡ x ∷ below)
+at_top xs l m k n x len same lt at is =
+    let many : length l ≡ m = sym (ap length same) ∙ length-reverse xs ∙ sym len in
+    above l n x (omega (arith, lt, many)) (ap (variable_at l) (let e : length l - 1 - n ≡ k = omega (arith, many, at) in e) ∙ sym (at_bottom xs l m k x len same (omega (arith, lt, at)) is))
+
+-- a number past the items
+pub past_top : {A : Type 0} (xs l : List A) (m n : ℕ) → m ≡ length xs → reverse xs ≡ l → m ≤ n → drop n l ≡ []
+past_top xs l m n len same le =
+    none_above l n (omega (arith, le, len, ap length same, length-reverse xs))

@@ -1,5 +1,5 @@
 -- The verifier's walk: what each instruction comes to, by its shape.
-use Rattle.std.proofs.Common.{◌≡◌, ℕ, suc, ◌+◌, ◌<◌, ◌≤◌, inl, inr, Bool, true, false, List, [], ◌∷◌, length, Result, Ok, Err, Some, refl, sym, ap, ◌∙◌, subst, arith}
+use Rattle.std.proofs.Common.{◌≡◌, ℕ, suc, ◌+◌, ◌<◌, ◌≤◌, inl, inr, Bool, true, false, List, [], ◌∷◌, ◌++◌, length, length-append, Result, Ok, Err, Some, refl, sym, ap, ◌∙◌, subst, arith}
 use Rattle.std.specs.Prelude.{slice_get, slice_range, nat_le, nat_lt, max}
 use Rattle.std.proofs.lemmas.Bool.{le-leb, lt-leb, le-ltb, lt-ltb}
 use Rattle.std.proofs.lemmas.Bool.Decides.{leb_tells}
@@ -19,7 +19,7 @@ use Rattle.rule_verify.specs.declared.shape.Shape.TheVariants.{Single, OneBody, 
 use Rattle.rule_verify.specs.CodeTree.{CodeTree, End, Plain, Block, Branch, shape_of, instr_count, code_tree}
 use Rattle.rule_verify.specs.CodeDepths.{deeper, past_instr, in_binding, in_branch, deepest}
 use Rattle.rule_verify.specs.Faults.{verify_fault}
-use Rattle.rule_verify.specs.InstrKinds.{Surroundings, has_names, has_variable, operands_of, result_kind, topmost, binds, ends_with, yields}
+use Rattle.rule_verify.specs.InstrKinds.{Surroundings, has_names, has_variable, operands_of, result_kind, block_operand, binds, bound_count, ends_with, yields}
 use Rattle.rule_verify.specs.KindRules.{InstrFault, instr_fault, Enclosing, in_block, taken, opened, ended_with, kinds_after, operand_limit, block_limit}
 use Rattle.rule_verify.specs.Known.{AreKnownKinds}
 use Rattle.rule_verify.specs.Patterns.{are_there, all_match, below}
@@ -90,19 +90,24 @@ taken_count s vars i at ks left e =
     let t = takes_from s vars i at ks left e in
     below_count (operands_of s i) ks t.there ∙ ap (λ (l : List Kind). length (operands_of s i) + length l) (sym t.left_is)
 
--- a block takes one operand
-one_operand : (s : Surroundings) (i : Instr) (n : ℕ) → IsBlock (shape_of i) n → length (operands_of s i) ≡ 1
-one_operand s (instrs.Let m) n h = refl
-one_operand s (instrs.If k l m) n h = refl
-one_operand s (instrs.ForAll m) n h = refl
-one_operand s (instrs.Exists m) n h = refl
-one_operand s (instrs.One m) n h = refl
-one_operand s (instrs.Select m) n h = refl
-one_operand s (instrs.Reject m) n h = refl
-one_operand s (instrs.Collect m) n h = refl
-one_operand s (instrs.CollectFlat m) n h = refl
-one_operand s (instrs.IsUnique k m) n h = refl
+-- a block takes an operand
+one_operand : (s : Surroundings) (i : Instr) (n : ℕ) → IsBlock (shape_of i) n → 1 ≤ length (operands_of s i)
+one_operand s (instrs.Let m) n h = omega arith
+one_operand s (instrs.If k l m) n h = omega arith
+one_operand s (instrs.ForAll m) n h = omega arith
+one_operand s (instrs.Exists m) n h = omega arith
+one_operand s (instrs.One m) n h = omega arith
+one_operand s (instrs.Select m) n h = omega arith
+one_operand s (instrs.Reject m) n h = omega arith
+one_operand s (instrs.Collect m) n h = omega arith
+one_operand s (instrs.CollectFlat m) n h = omega arith
+one_operand s (instrs.IsUnique k m) n h = omega arith
 one_operand s i n h = absurd h
+
+-- a block binds as many variables as are counted
+pub bound_many : (s : Surroundings) (i : Instr) (k : Kind) → length (binds s i k) ≡ bound_count i
+bound_many s (instrs.Let n) k = refl
+bound_many s i k = refl
 
 -- ---- a stretch has as many instructions as its tree
 
@@ -173,8 +178,8 @@ module _ (r : RuleCode) (vars : List Kind) (p : Place) (ks : List Kind) (i : Ins
     past_is : (next : ℕ) (y : Kind) → past_instr (surroundings_of r) i (depth_at vars p ks) ≡ depth_at vars (moved p next) (y ∷ left)
     past_is next y = depths_are _ _ _ _ _ _ (omega (arith, counted)) refl refl
 
-    binding_is : (b : Kind) (from to : ℕ) → in_binding (surroundings_of r) i (depth_at vars p ks) ≡ depth_at (b ∷ vars) (place_inside p left from to) []
-    binding_is b from to = depths_are _ _ _ _ _ _ (omega (arith, counted)) (omega arith) refl
+    binding_is : (k : Kind) (from to : ℕ) → in_binding (surroundings_of r) i (depth_at vars p ks) ≡ depth_at (binds (surroundings_of r) i k ++ vars) (place_inside p left from to) []
+    binding_is k from to = depths_are _ _ _ _ _ _ (omega (arith, counted)) (omega (arith, bound_many (surroundings_of r) i k, length-append (binds (surroundings_of r) i k) vars)) refl
 
     branch_is : (from to : ℕ) → in_branch (surroundings_of r) i (depth_at vars p ks) ≡ depth_at vars (place_inside p left from to) []
     branch_is from to = depths_are _ _ _ _ _ _ (omega (arith, counted)) refl refl
@@ -218,33 +223,33 @@ module _ (r : RuleCode) (vars : List Kind) (p : Place) (ks : List Kind) (i : Ins
       block_tree = tree_block r.code.now p.at p.end i lt le here n is nests
 
       abbrev after_block : Kind → Result (List Kind) InstrFault
-      after_block y = kinds_from r vars (moved p (p.at + 1 + n)) (yields (surroundings_of r) i (topmost ks) y ∷ left)
+      after_block y = kinds_from r vars (moved p (p.at + 1 + n)) (yields (surroundings_of r) i (block_operand i ks) y ∷ left)
 
-      block_is : kinds_from r vars p ks ≡ (body_ends r (binds i (topmost ks) ∷ vars) (place_inside p left (p.at + 1) (p.at + 1 + n)) i p.at >>= after_block)
+      block_is : kinds_from r vars p ks ≡ (body_ends r (binds (surroundings_of r) i (block_operand i ks) ++ vars) (place_inside p left (p.at + 1) (p.at + 1 + n)) i p.at >>= after_block)
       block_is =
           let s = surroundings_of r in
           let body = code_tree (slice_range r.code.now (p.at + 1) (p.at + 1 + n)) in
           let rest = code_tree (slice_range r.code.now (p.at + 1 + n) p.end) in
-          let ends : Result (List Kind) InstrFault = kinds_from r (binds i (topmost ks) ∷ vars) (place_inside p left (p.at + 1) (p.at + 1 + n)) [] in
-          let then : ℕ → Kind → Result (List Kind) InstrFault = λ at y. kinds_after s rest (enclosing vars p) at (yields s i (topmost ks) y ∷ left) in
-          let F : List Kind → Result (List Kind) InstrFault = λ l. kinds_after s body (in_block (enclosing vars p) (binds i (topmost ks) ∷ vars) l) (p.at + 1) [] >>= (λ e. ended_with s (ends_with s i) p.at e >>= (λ y. kinds_after s rest (enclosing vars p) (p.at + 1 + instr_count body) (yields s i (topmost ks) y ∷ l))) in
+          let ends : Result (List Kind) InstrFault = kinds_from r (binds (surroundings_of r) i (block_operand i ks) ++ vars) (place_inside p left (p.at + 1) (p.at + 1 + n)) [] in
+          let then : ℕ → Kind → Result (List Kind) InstrFault = λ at y. kinds_after s rest (enclosing vars p) at (yields s i (block_operand i ks) y ∷ left) in
+          let F : List Kind → Result (List Kind) InstrFault = λ l. kinds_after s body (in_block (enclosing vars p) (binds (surroundings_of r) i (block_operand i ks) ++ vars) l) (p.at + 1) [] >>= (λ e. ended_with s (ends_with s i) p.at e >>= (λ y. kinds_after s rest (enclosing vars p) (p.at + 1 + instr_count body) (yields s i (block_operand i ks) y ∷ l))) in
           by_tree _ block_tree
           ∙ ap (λ (o : Result (List Kind) InstrFault). o >>= F) is_open
           ∙ two_first ends (ended_with s (ends_with s i) p.at) (then (p.at + 1 + instr_count body))
           ∙ ap (λ (m : ℕ). (ends >>= ended_with s (ends_with s i) p.at) >>= then (p.at + 1 + m)) (count_is r.code.now (p.at + 1) n (omega arith))
 
       -- a fault of the body, or of what it ends with, is the fault from the block on
-      pub body_fails : (f : InstrFault) → body_ends r (binds i (topmost ks) ∷ vars) (place_inside p left (p.at + 1) (p.at + 1 + n)) i p.at ≡ Err f → kinds_from r vars p ks ≡ Err f
+      pub body_fails : (f : InstrFault) → body_ends r (binds (surroundings_of r) i (block_operand i ks) ++ vars) (place_inside p left (p.at + 1) (p.at + 1 + n)) i p.at ≡ Err f → kinds_from r vars p ks ≡ Err f
       body_fails f h = block_is ∙ fails_then _ after_block f h
 
       -- the walk goes past a block whose body ends as it has to
-      pub block_goes : (old deep new : Depths) (after kept : List Kind) (k y : Kind) → body_ends r (binds i (topmost ks) ∷ vars) (place_inside p left (p.at + 1) (p.at + 1 + n)) i p.at ≡ Ok y
-          → AreKnownKinds r.linked.now.model (yields (surroundings_of r) i k y ∷ left) → k ≡ topmost ks → after ≡ yields (surroundings_of r) i k y ∷ left → kept ≡ vars → deep ≡ deeper old (depth_at vars p ks)
-          → new ≡ deeper deep (depths_from r (binds i (topmost ks) ∷ vars) (place_inside p left (p.at + 1) (p.at + 1 + n)) []) → Gone r vars old p ks (p.at + 1 + n) kept new after
+      pub block_goes : (old deep new : Depths) (after kept : List Kind) (k y : Kind) → body_ends r (binds (surroundings_of r) i (block_operand i ks) ++ vars) (place_inside p left (p.at + 1) (p.at + 1 + n)) i p.at ≡ Ok y
+          → AreKnownKinds r.linked.now.model (yields (surroundings_of r) i k y ∷ left) → k ≡ block_operand i ks → after ≡ yields (surroundings_of r) i k y ∷ left → kept ≡ vars → deep ≡ deeper old (depth_at vars p ks)
+          → new ≡ deeper deep (depths_from r (binds (surroundings_of r) i (block_operand i ks) ++ vars) (place_inside p left (p.at + 1) (p.at + 1 + n)) []) → Gone r vars old p ks (p.at + 1 + n) kept new after
       block_goes old deep new after kept k y ends known top pushed same first second =
           let s = surroundings_of r in
           let d = depth_at vars p ks in
-          let inner = depths_from r (binds i (topmost ks) ∷ vars) (place_inside p left (p.at + 1) (p.at + 1 + n)) [] in
+          let inner = depths_from r (binds (surroundings_of r) i (block_operand i ks) ++ vars) (place_inside p left (p.at + 1) (p.at + 1 + n)) [] in
           let last = depths_from r vars (moved p (p.at + 1 + n)) (yields s i k y ∷ left) in
           let body = code_tree (slice_range r.code.now (p.at + 1) (p.at + 1 + n)) in
           let rest = code_tree (slice_range r.code.now (p.at + 1 + n) p.end) in
@@ -255,7 +260,7 @@ module _ (r : RuleCode) (vars : List Kind) (p : Place) (ks : List Kind) (i : Ins
             depths =
                 ap (deeper old)
                 (depths_by _ block_tree
-                ∙ ap (λ (x : Depths). deeper d (deeper (deepest s body x) (deepest s rest (past_instr s i d)))) (binding_is (binds i (topmost ks)) (p.at + 1) (p.at + 1 + n))
+                ∙ ap (λ (x : Depths). deeper d (deeper (deepest s body x) (deepest s rest (past_instr s i d)))) (binding_is (block_operand i ks) (p.at + 1) (p.at + 1 + n))
                 ∙ ap (λ (x : Depths). deeper d (deeper inner (deepest s rest x))) (past_is (p.at + 1 + n) (yields s i k y)))
                 ∙ deeper_assoc old d (deeper inner last)
                 ∙ ap (λ (x : Depths). deeper x (deeper inner last)) (sym first)
@@ -276,7 +281,7 @@ module _ (r : RuleCode) (vars : List Kind) (p : Place) (ks : List Kind) (i : Ins
       branch_tree = tree_branch r.code.now p.at p.end i lt le here n m is (omega arith)
 
       abbrev after_branches : Kind → Result (List Kind) InstrFault
-      after_branches y = kinds_from r vars (moved p (p.at + 1 + n + m)) (yields (surroundings_of r) i (topmost ks) y ∷ left)
+      after_branches y = kinds_from r vars (moved p (p.at + 1 + n + m)) (yields (surroundings_of r) i (block_operand i ks) y ∷ left)
 
       abbrev first_ends : Result Kind InstrFault
       first_ends = body_ends r vars (place_inside p left (p.at + 1) (p.at + 1 + n)) i p.at
@@ -292,7 +297,7 @@ module _ (r : RuleCode) (vars : List Kind) (p : Place) (ks : List Kind) (i : Ins
           let rest = code_tree (slice_range r.code.now (p.at + 1 + n + m) p.end) in
           let W : List Kind → Result Kind InstrFault = ended_with s (ends_with s i) p.at in
           let inner : List Kind → Enclosing = λ l. in_block (enclosing vars p) vars l in
-          let F : List Kind → ℕ → ℕ → Result (List Kind) InstrFault = λ l a b. kinds_after s first (inner l) (p.at + 1) [] >>= (λ e. W e >>= (λ y. kinds_after s second (inner l) a [] >>= (λ o. W o >>= (λ z. kinds_after s rest (enclosing vars p) b (yields s i (topmost ks) y ∷ l))))) in
+          let F : List Kind → ℕ → ℕ → Result (List Kind) InstrFault = λ l a b. kinds_after s first (inner l) (p.at + 1) [] >>= (λ e. W e >>= (λ y. kinds_after s second (inner l) a [] >>= (λ o. W o >>= (λ z. kinds_after s rest (enclosing vars p) b (yields s i (block_operand i ks) y ∷ l))))) in
           let one : Result (List Kind) InstrFault = kinds_from r vars (place_inside p left (p.at + 1) (p.at + 1 + n)) [] in
           let two : Result (List Kind) InstrFault = kinds_from r vars (place_inside p left (p.at + 1 + n) (p.at + 1 + n + m)) [] in
           by_tree _ branch_tree
@@ -311,7 +316,7 @@ module _ (r : RuleCode) (vars : List Kind) (p : Place) (ks : List Kind) (i : Ins
       second_fails f y h g = branches_are ∙ ap (λ (o : Result Kind InstrFault). o >>= (λ x. second_ends >>= (λ z. after_branches x))) h ∙ fails_then second_ends (λ z. after_branches y) f g
 
       -- the walk goes past a block with two bodies that both end as they have to
-      pub branch_goes : (old deep deeper' new : Depths) (after kept : List Kind) (k y z : Kind) → first_ends ≡ Ok y → second_ends ≡ Ok z → AreKnownKinds r.linked.now.model (yields (surroundings_of r) i k y ∷ left) → k ≡ topmost ks
+      pub branch_goes : (old deep deeper' new : Depths) (after kept : List Kind) (k y z : Kind) → first_ends ≡ Ok y → second_ends ≡ Ok z → AreKnownKinds r.linked.now.model (yields (surroundings_of r) i k y ∷ left) → k ≡ block_operand i ks
           → after ≡ yields (surroundings_of r) i k y ∷ left → kept ≡ vars → deep ≡ deeper old (depth_at vars p ks) → deeper' ≡ deeper deep (depths_from r vars (place_inside p left (p.at + 1) (p.at + 1 + n)) [])
           → new ≡ deeper deeper' (depths_from r vars (place_inside p left (p.at + 1 + n) (p.at + 1 + n + m)) []) → Gone r vars old p ks (p.at + 1 + n + m) kept new after
       branch_goes old deep deeper' new after kept k y z ends others known top pushed same first second third =

@@ -1,6 +1,7 @@
 -- The walk over blocks, by what the calls for their parts returned.
-use Rattle.std.proofs.Common.{◌≡◌, ℕ, ◌+◌, ◌<◌, ◌≤◌, List, [], ◌∷◌, length, Ok, Err, Option, Some, None, MatchOption, sym, ap, ◌∙◌, subst, arith}
+use Rattle.std.proofs.Common.{◌≡◌, ℕ, ◌+◌, ◌<◌, ◌≤◌, List, [], ◌∷◌, ◌++◌, length, drop, Ok, Err, Some, sym, ap, ◌∙◌, subst, arith}
 use Rattle.std.specs.Prelude.{slice_get}
+use Rattle.std.proofs.Math.Seq.{drop-append_seam}
 use Rattle.ocl_base.specs.Steps.{Fails}
 use Rattle.ocl_kinds.specs.declared.kind.Kind.{Kind}
 use Rattle.rule_code.specs.declared.instruction.Instr.{Instr}
@@ -13,16 +14,11 @@ use Rattle.rule_verify.specs.declared.shape.Shape.TheVariants.{OneBody, TwoBodie
 use Rattle.rule_verify.specs.CodeTree.{shape_of}
 use Rattle.rule_verify.specs.CodeDepths.{deeper}
 use Rattle.rule_verify.specs.Faults.{verify_fault}
-use Rattle.rule_verify.specs.InstrKinds.{topmost, binds, yields}
+use Rattle.rule_verify.specs.InstrKinds.{block_operand, binds, bound_count, yields}
 use Rattle.rule_verify.specs.KindRules.{instr_fault}
 use Rattle.rule_verify.specs.Known.{AreKnownKinds}
 use Rattle.rule_verify.specs.Walk.{surroundings_of, IsPlace, depths_from, place_inside, Gone, Goes, Opened, body_ends, Walked}
-use Rattle.rule_verify.proofs.Walking.{taken_count, body_fails, block_goes, first_fails, second_fails, branch_goes}
-
--- what lies below one item
-pub popped : {A : Type 0} (o : Option A) (old new rest : List A) (y : A) → MatchOption o ((old ≡ []) × (new ≡ [])) (λ x. old ≡ x ∷ new) → old ≡ y ∷ rest → new ≡ rest
-popped None old new rest y h e = absurd cc
-popped (Some x) old new rest y h e = cc
+use Rattle.rule_verify.proofs.Walking.{taken_count, bound_many, body_fails, block_goes, first_fails, second_fails, branch_goes}
 
 module _ (r : RuleCode) (vars : List Kind) (p : Place) (ks : List Kind) (i : Instr) (lt : p.at < p.end) (here : slice_get r.code.now p.at ≡ Some i) (ok : IsPlace r vars p ks) where
   module _ (old deep : Depths) (n : ℕ) (k : Kind) (held left : List Kind) (o : Opened r vars old p ks i n k held deep left) where
@@ -40,12 +36,20 @@ module _ (r : RuleCode) (vars : List Kind) (p : Place) (ks : List Kind) (i : Ins
         (record { before = a; within = omega (arith, ok.within); room = omega (arith, fewer, ok.room); nested = omega (arith, o.shallow); variables_known = known; operands_known = tt })
 
     -- the variables in the body of a block
-    pub bound : (v : List Kind) (b : Kind) → v ≡ b ∷ held → b ≡ binds i k → v ≡ binds i (topmost ks) ∷ vars
-    bound v b pushed is = pushed ∙ ap (λ (x : Kind). x ∷ held) (is ∙ ap (binds i) o.first) ∙ ap (λ (l : List Kind). binds i (topmost ks) ∷ l) o.kept
+    pub bound : (v : List Kind) → v ≡ binds (surroundings_of r) i k ++ held → v ≡ binds (surroundings_of r) i (block_operand i ks) ++ vars
+    bound v pushed = pushed ∙ ap (λ (x : Kind). binds (surroundings_of r) i x ++ held) o.first ∙ ap (λ (l : List Kind). binds (surroundings_of r) i (block_operand i ks) ++ l) o.kept
 
-    module _ (is : shape_of i ≡ OneBody n) (v : List Kind) (q : Place) (binding : v ≡ binds i (topmost ks) ∷ vars) (inner : q ≡ place_inside p left (p.at + 1) (p.at + 1 + n)) where
-      its_body : body_ends r v q i p.at ≡ body_ends r (binds i (topmost ks) ∷ vars) (place_inside p left (p.at + 1) (p.at + 1 + n)) i p.at
-      its_body = ap (λ (l : List Kind). body_ends r l q i p.at) binding ∙ ap (λ (x : Place). body_ends r (binds i (topmost ks) ∷ vars) x i p.at) inner
+    -- the variables after it
+    unbound : (kept kept' : List Kind) → kept ≡ drop (bound_count i) kept' → kept' ≡ binds (surroundings_of r) i (block_operand i ks) ++ vars → kept ≡ vars
+    unbound kept kept' pops same =
+        pops
+        ∙ ap (drop (bound_count i)) same
+        ∙ ap (λ (c : ℕ). drop c (binds (surroundings_of r) i (block_operand i ks) ++ vars)) (sym (bound_many (surroundings_of r) i (block_operand i ks)))
+        ∙ drop-append_seam (binds (surroundings_of r) i (block_operand i ks)) vars
+
+    module _ (is : shape_of i ≡ OneBody n) (v : List Kind) (q : Place) (binding : v ≡ binds (surroundings_of r) i (block_operand i ks) ++ vars) (inner : q ≡ place_inside p left (p.at + 1) (p.at + 1 + n)) where
+      its_body : body_ends r v q i p.at ≡ body_ends r (binds (surroundings_of r) i (block_operand i ks) ++ vars) (place_inside p left (p.at + 1) (p.at + 1 + n)) i p.at
+      its_body = ap (λ (l : List Kind). body_ends r l q i p.at) binding ∙ ap (λ (x : Place). body_ends r (binds (surroundings_of r) i (block_operand i ks) ++ vars) x i p.at) inner
 
       -- a fault of the body, or of what it ends with, is the fault from the block on
       pub block_wrong : (e : VerifyFault) → Fails verify_fault e (body_ends r v q i p.at) → Goes r vars old p ks (Err e) held deep left
@@ -54,10 +58,10 @@ module _ (r : RuleCode) (vars : List Kind) (p : Place) (ks : List Kind) (i : Ins
 
       -- the walk goes past a block when its body was walked to its end
       pub block_gone : (y : Kind) (new : Depths) (kept kept' after : List Kind) → body_ends r v q i p.at ≡ Ok y → Walked r v deep q kept' new → AreKnownKinds r.linked.now.model (yields (surroundings_of r) i k y ∷ left)
-          → (x : Option Kind) → MatchOption x ((kept' ≡ []) × (kept ≡ [])) (λ z. kept' ≡ z ∷ kept) → after ≡ yields (surroundings_of r) i k y ∷ left → Gone r vars old p ks (p.at + 1 + n) kept new after
-      block_gone y new kept kept' after ends w known x pops pushed =
-          block_goes r vars p ks i lt ok.within here left ok o.takes n is o.nests o.shallow old deep new after kept k y (sym its_body ∙ ends) known o.first pushed (popped x kept' kept vars (binds i (topmost ks)) pops (w.kept ∙ binding)) o.depths
-          (w.depths ∙ ap (λ (l : List Kind). deeper deep (depths_from r l q [])) binding ∙ ap (λ (z : Place). deeper deep (depths_from r (binds i (topmost ks) ∷ vars) z [])) inner)
+          → kept ≡ drop (bound_count i) kept' → after ≡ yields (surroundings_of r) i k y ∷ left → Gone r vars old p ks (p.at + 1 + n) kept new after
+      block_gone y new kept kept' after ends w known pops pushed =
+          block_goes r vars p ks i lt ok.within here left ok o.takes n is o.nests o.shallow old deep new after kept k y (sym its_body ∙ ends) known o.first pushed (unbound kept kept' pops (w.kept ∙ binding)) o.depths
+          (w.depths ∙ ap (λ (l : List Kind). deeper deep (depths_from r l q [])) binding ∙ ap (λ (z : Place). deeper deep (depths_from r (binds (surroundings_of r) i (block_operand i ks) ++ vars) z [])) inner)
 
   module _ (old deep : Depths) (n m : ℕ) (k : Kind) (held left : List Kind) (o : Opened r vars old p ks i (n + m) k held deep left) (is : shape_of i ≡ TwoBodies n m) (q : Place) (first : q ≡ place_inside p left (p.at + 1) (p.at + 1 + n)) where
     one_body : body_ends r held q i p.at ≡ body_ends r vars (place_inside p left (p.at + 1) (p.at + 1 + n)) i p.at

@@ -3,7 +3,7 @@ use Rattle.std.specs.Prelude.{◌+◌, ◌-◌, length, max}
 use Rattle.rule_code.specs.declared.instruction.Instr.{Instr}
 use Rattle.rule_verify.specs.declared.depths.Depths.{Depths}
 use Rattle.rule_verify.specs.CodeTree.{CodeTree, End, Plain, Block, Branch, Torn}
-use Rattle.rule_verify.specs.InstrKinds.{Surroundings, operands_of}
+use Rattle.rule_verify.specs.InstrKinds.{Surroundings, operands_of, bound_count}
 
 -- the greater of each
 abbrev pub deeper : Depths → Depths → Depths
@@ -13,9 +13,9 @@ deeper c d = record { operands = max c.operands d.operands; variables = max c.va
 abbrev pub past_instr : Surroundings → Instr → Depths → Depths
 past_instr s i d = record d { operands = d.operands - length (operands_of s i) + 1 }
 
--- in the body of a block that binds a variable
+-- in the body of a block that binds variables
 abbrev pub in_binding : Surroundings → Instr → Depths → Depths
-in_binding s i d = record { operands = d.operands - length (operands_of s i); variables = d.variables + 1; blocks = d.blocks + 1 }
+in_binding s i d = record { operands = d.operands - length (operands_of s i); variables = d.variables + bound_count i; blocks = d.blocks + 1 }
 
 -- in a body of a block that binds none
 abbrev pub in_branch : Surroundings → Instr → Depths → Depths

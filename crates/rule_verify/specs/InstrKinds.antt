@@ -1,5 +1,5 @@
 -- What each instruction takes and gives. An instruction has its row in each table.
-use Rattle.std.specs.Prelude.{ℕ, ◌==◌, Bool, true, false, List, [], ◌∷◌, ◌++◌, length, Option, Some, None, is_some, if◌then◌else◌}
+use Rattle.std.specs.Prelude.{ℕ, ◌==◌, Bool, true, false, drop, List, [], ◌∷◌, ◌++◌, length, Option, Some, None, is_some, if◌then◌else◌}
 use Rattle.std.specs.List.{list_all}
 use Rattle.ocl_base.specs.declared.collection_kind.CollectionKind.{CollectionKind}
 use Rattle.ocl_base.specs.declared.collection_kind.CollectionKind.TheVariants as collection
@@ -234,10 +234,22 @@ result_kind s vars i ks = fixed_result i
 
 -- ---- blocks
 
--- the variable that a block with one body binds, by the operand that it takes
-abbrev pub binds : Instr → Kind → Kind
-binds (instrs.Let n) k = k
-binds i k = Scalar (elements_kind k)
+-- how many of the operands that a block takes lie above the one that it works on
+abbrev pub operands_above : Instr → ℕ
+operands_above i = 0
+
+-- the operand that a block works on: what LET binds, what IF tests, what an iteration goes over
+abbrev pub block_operand : Instr → List Kind → Kind
+block_operand i ks = topmost (drop (operands_above i) ks)
+
+-- the variables that a block with one body binds, the newest first, by the operand that it works on
+abbrev pub binds : Surroundings → Instr → Kind → List Kind
+binds s (instrs.Let n) k = k ∷ []
+binds s i k = Scalar (elements_kind k) ∷ []
+
+-- how many these are
+abbrev pub bound_count : Instr → ℕ
+bound_count i = 1
 
 -- what the bodies of a block end with
 abbrev pub ends_with : Surroundings → Instr → Pattern

@@ -1,5 +1,5 @@
 -- The rules of kinds, on code trees: the operands after code, or its first fault.
-use Rattle.std.specs.Prelude.{ℕ, suc, ◌+◌, List, [], ◌∷◌, length, Result, Ok, Err, nat_le, nat_lt}
+use Rattle.std.specs.Prelude.{ℕ, suc, ◌+◌, List, [], ◌∷◌, ◌++◌, length, Result, Ok, Err, nat_le, nat_lt}
 use Rattle.ocl_base.specs.Steps.{◌>>=◌, check}
 use Rattle.ocl_kinds.specs.declared.kind.Kind.{Kind}
 use Rattle.ocl_kinds.specs.declared.kind.Kind.TheVariants.{Scalar}
@@ -10,7 +10,7 @@ use Rattle.rule_verify.specs.declared.fault.VerifyFlaw.TheVariants as flaws
 use Rattle.rule_verify.specs.CodeTree.{CodeTree, End, Plain, Block, Branch, Torn, instr_count}
 use Rattle.rule_verify.specs.declared.pattern.Pattern.{Pattern}
 use Rattle.rule_verify.specs.Patterns.{matches, a_boolean, are_there, all_match, below}
-use Rattle.rule_verify.specs.InstrKinds.{Surroundings, has_names, has_variable, operands_of, result_kind, topmost, binds, ends_with, yields}
+use Rattle.rule_verify.specs.InstrKinds.{Surroundings, has_names, has_variable, operands_of, result_kind, block_operand, binds, ends_with, yields}
 
 -- a fault of the instruction at an index of a rule
 pub record InstrFault : Type 0 where
@@ -84,16 +84,16 @@ kinds_after s (Plain i rest) e at ks = do
   kinds_after s rest e (at + 1) after
 kinds_after s (Block i body rest) e at ks = do
   left ← opened s e i at ks
-  ends ← kinds_after s body (in_block e (binds i (topmost ks) ∷ e.variables) left) (at + 1) []
+  ends ← kinds_after s body (in_block e (binds s i (block_operand i ks) ++ e.variables) left) (at + 1) []
   r ← ended_with s (ends_with s i) at ends
-  kinds_after s rest e (at + 1 + instr_count body) (yields s i (topmost ks) r ∷ left)
+  kinds_after s rest e (at + 1 + instr_count body) (yields s i (block_operand i ks) r ∷ left)
 kinds_after s (Branch i first second rest) e at ks = do
   left ← opened s e i at ks
   ends ← kinds_after s first (in_block e e.variables left) (at + 1) []
   r ← ended_with s (ends_with s i) at ends
   others ← kinds_after s second (in_block e e.variables left) (at + 1 + instr_count first) []
   _ ← ended_with s (ends_with s i) at others
-  kinds_after s rest e (at + 1 + instr_count first + instr_count second) (yields s i (topmost ks) r ∷ left)
+  kinds_after s rest e (at + 1 + instr_count first + instr_count second) (yields s i (block_operand i ks) r ∷ left)
 kinds_after s (Torn i length_left) e at ks = do
   _ ← taken s e.variables i at ks
   Err (instr_fault flaws.BadNesting s.rule at)

@@ -22,7 +22,7 @@ use Rattle.rule_verify.specs.declared.shape.Shape.TheVariants.{Single, OneBody, 
 use Rattle.rule_verify.specs.CodeTree.{code_tree}
 use Rattle.rule_verify.specs.CodeDepths.{deeper, deepest}
 use Rattle.rule_verify.specs.Faults.{verify_fault}
-use Rattle.rule_verify.specs.InstrKinds.{Surroundings, surroundings, symbols_used, topmost, ends_with}
+use Rattle.rule_verify.specs.InstrKinds.{Surroundings, surroundings, symbols_used, block_operand, ends_with}
 use Rattle.rule_verify.specs.KindRules.{InstrFault, Enclosing, taken, ended_with, kinds_after, operand_limit, block_limit}
 use Rattle.rule_verify.specs.Known.{AreKnownKinds}
 use Rattle.rule_verify.specs.Patterns.{are_there, all_match, below}
@@ -125,7 +125,7 @@ IsBlock (TwoBodies l m) n = n ≡ l + m
 -- a block with n instructions in its bodies was opened, with this operand
 pub record Opened (r : RuleCode) (variables : List Kind) (old : Depths) (p : Place) (operands : List Kind) (i : Instr) (n : ℕ) (operand : Kind) (left : List Kind) (new : Depths) (after : List Kind) : Type 0 where
   pub takes : taken (surroundings_of r) variables i p.at operands ≡ Ok after
-  pub first : operand ≡ topmost operands
+  pub first : operand ≡ block_operand i operands
   pub nests : p.at + 1 + n ≤ p.end
   pub shallow : p.open_blocks < block_limit
   pub kept : left ≡ variables

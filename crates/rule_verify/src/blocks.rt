@@ -1,6 +1,6 @@
 //! Blocks: which instructions have bodies, what these may use and end with, and what the block gives.
 
-ghost use Rattle.std.specs.Prelude.{◌≡◌};
+ghost use Rattle.std.specs.Prelude.{◌≡◌, ◌++◌, drop, OnOk};
 ghost use Rattle.rule_verify.specs.CodeTree.{shape_of};
 ghost use Rattle.rule_verify.specs.InstrKinds as spec;
 ghost use Rattle.rule_verify.specs.Walk.{surroundings_of, AreSymbols};
@@ -9,9 +9,12 @@ use crate::judged::RuleCode;
 use crate::meant::{kind_meant, scalar_meant};
 use crate::pattern::Pattern;
 use crate::shape::Shape;
+use crate::stack::Stack;
+use crate::taking::put;
 use imkl_model::CollectionKind;
 use ocl_kinds::{Kind, ScalarKind, collected_kind, elements_kind};
 use rule_code::Instr;
+use std::alloc::AllocError;
 
 /// How many bodies an instruction has, with the number of instructions of each.
 #[inline(always)]
@@ -43,14 +46,58 @@ fn collected(kind: &Kind) -> CollectionKind
     }
 }
 
-/// The variable that a block with one body binds, by the operand that it takes.
-pub(crate) fn binds(instr: Instr, operand: &Kind) -> Kind
-    ensures { result ≡ spec.binds instr operand.now }
+/// How many of the operands that a block takes lie above the one that it works on.
+#[inline(always)]
+pub fn operands_above(instr: Instr) -> usize
+    ensures { result ≡ spec.operands_above instr }
 {
     match instr {
-        Instr::Let(_) => *operand,
-        _ => Kind::Scalar(elements_kind(operand)),
+        _ => 0,
     }
+}
+
+/// The operand that a block works on.
+pub(crate) fn block_operand(instr: Instr, operands: &Stack<Kind>) -> Kind
+    ensures { result ≡ spec.block_operand instr operands.now }
+{
+    match operands.from_top(operands_above(instr)) {
+        Some(kind) => kind,
+        None => Kind::Scalar(ScalarKind::Void),
+    }
+}
+
+/// Binds the variables of a block with one body, by the operand that it works on.
+pub(crate) fn bind(
+    rule: &RuleCode<'_, '_>,
+    variables: &mut Stack<Kind>,
+    instr: Instr,
+    operand: &Kind,
+) -> Result<(), AllocError>
+    requires { AreSymbols rule.now.linked.now.unit (spec.symbols_used instr) }
+    ensures { OnOk result (variables.new ≡
+        spec.binds (surroundings_of rule.now) instr operand.now ++ variables.old) }
+{
+    match instr {
+        Instr::Let(_) => put(variables, *operand),
+        _ => put(variables, Kind::Scalar(elements_kind(operand))),
+    }
+}
+
+/// How many variables a block with one body binds.
+#[inline(always)]
+pub fn bound_count(instr: Instr) -> usize
+    ensures { result ≡ spec.bound_count instr }
+{
+    match instr {
+        _ => 1,
+    }
+}
+
+/// Drops the variables that a block bound.
+pub(crate) fn unbind(variables: &mut Stack<Kind>, instr: Instr)
+    ensures { variables.new ≡ drop (spec.bound_count instr) variables.old }
+{
+    let _newest = variables.pop();
 }
 
 /// What the bodies of a block end with.

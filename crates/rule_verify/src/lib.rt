@@ -24,10 +24,9 @@ mod verifier;
 mod walk;
 
 pub use accepted::Accepted;
-pub use blocks::shape_of;
+pub use blocks::{bound_count, operands_above, shape_of};
 pub use depths::Depths;
 pub use fault::{VerifyFault, VerifyFlaw};
-pub use linked::{Linked, link, look_up};
 pub use named::Named;
 pub use pattern::Pattern;
 pub use shape::Shape;

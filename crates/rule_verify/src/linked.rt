@@ -15,7 +15,7 @@ use std::marker::Model;
 
 /// A unit, with what each of its symbols names in a class model.
 #[derive(Drop)]
-pub struct Linked<'m> {
+pub(crate) struct Linked<'m> {
     model: &'m ClassModel,
     unit: Unit,
     names: Vec<Option<Named>>,
@@ -36,7 +36,7 @@ impl<'m> Model for Linked<'m> {
 }
 
 /// What a symbol of a unit names in a class model, if it is there.
-pub fn look_up(model: &ClassModel, unit: &Unit, symbol: Symbol) -> Option<Named>
+pub(crate) fn look_up(model: &ClassModel, unit: &Unit, symbol: Symbol) -> Option<Named>
     requires { SymbolFits (length (content unit.now).texts) symbol }
     ensures { result ≡ named_by model.now (content unit.now).texts symbol }
 {
@@ -82,7 +82,7 @@ fn names_of(
 }
 
 /// Looks up what each symbol of a unit names, each once. Where memory runs out the unit comes back.
-pub fn link<'m>(
+pub(crate) fn link<'m>(
     alloc: Global,
     model: &'m ClassModel,
     unit: Unit,
@@ -99,7 +99,7 @@ pub fn link<'m>(
 
 impl<'m> Linked<'m> {
     /// The unit again.
-    pub fn into_unit(self) -> Unit
+    pub(crate) fn into_unit(self) -> Unit
         ensures { content result ≡ self.entry.unit }
     {
         let Linked {
@@ -111,21 +111,21 @@ impl<'m> Linked<'m> {
     }
 
     /// The class model.
-    pub fn model(&self) -> &'m ClassModel
+    pub(crate) fn model(&self) -> &'m ClassModel
         ensures { result.now ≡ self.now.model }
     {
         self.model
     }
 
     /// The unit.
-    pub fn unit(&self) -> &Unit
+    pub(crate) fn unit(&self) -> &Unit
         ensures { content result.now ≡ self.now.unit }
     {
         &self.unit
     }
 
     /// What a symbol names, if it is there.
-    pub fn named(&self, symbol: SymbolNumber) -> Option<Named>
+    pub(crate) fn named(&self, symbol: SymbolNumber) -> Option<Named>
         requires { symbol.0 < length self.now.unit.symbols }
         ensures name { result ≡ named_at self.now.model self.now.unit symbol.0 }
         ensures known { IfSome result (IsKnownName self.now.model) }
@@ -134,7 +134,7 @@ impl<'m> Linked<'m> {
     }
 
     /// The class that a symbol names, if it names one that is there.
-    pub fn class(&self, symbol: SymbolNumber) -> Option<ClassNo>
+    pub(crate) fn class(&self, symbol: SymbolNumber) -> Option<ClassNo>
         requires { symbol.0 < length self.now.unit.symbols }
         ensures class { result ≡ class_in (named_at self.now.model self.now.unit symbol.0) }
         ensures in_range { IfSome result (λ c. c < length self.now.model.classes) }

@@ -1,6 +1,6 @@
 //! Stacks, of which contracts see the items, the topmost first.
 
-ghost use Rattle.std.specs.Prelude.{◌≡◌, List, [], ◌∷◌, length, reverse, OnOk, OnErr, MatchOption};
+ghost use Rattle.std.specs.Prelude.{◌≡◌, List, [], ◌∷◌, length, drop, reverse, OnOk, OnErr, MatchOption};
 ghost use Rattle.rule_verify.specs.InstrKinds.{variable_at};
 
 use std::alloc::{AllocError, Global};
@@ -60,6 +60,19 @@ impl<T: Copy> Stack<T> {
     {
         if number < self.items.len() {
             Some(self.items[number])
+        } else {
+            None
+        }
+    }
+
+    /// The item that has a number of items above it, if it is there.
+    pub fn from_top(&self, number: usize) -> Option<T>
+        ensures { MatchOption result (drop number self.now ≡ [])
+            (λ x. (below : List T) × (drop number self.now ≡ x ∷ below)) }
+    {
+        let len = self.items.len();
+        if number < len {
+            Some(self.items[len - 1 - number])
         } else {
             None
         }

@@ -14,7 +14,7 @@ ghost use Rattle.rule_verify.specs.Patterns.{IsPatternOf};
 ghost use Rattle.rule_verify.specs.Walk as walks;
 ghost use Rattle.rule_verify.specs.Walk.{surroundings_of, AreSymbols, IsRuleCode, IsPlace, kinds_from, depth_at, Goes, IsBlock, Opens, body_ends, Walked};
 
-use crate::blocks::{binds, ends_with, shape_of, yields};
+use crate::blocks::{bind, block_operand, ends_with, shape_of, unbind, yields};
 use crate::depths::Depths;
 use crate::fault::{VerifyFault, VerifyFlaw};
 use crate::judged::RuleCode;
@@ -132,7 +132,7 @@ fn open_block(
         result walk.new.variables walk.new.depths operands.new }
 {
     reach(walk, place, operands);
-    let operand = topmost(operands);
+    let operand = block_operand(instr, operands);
     take(rule, &walk.variables, operands, instr, place.at)?;
     if length >= place.end - place.at {
         return Err(rule.fault(VerifyFlaw::BadNesting, place.at));
@@ -230,7 +230,7 @@ fn body(
     ended_with(rule, &ends_with(rule, instr), at, &operands)
 }
 
-/// A block with one body of `length` instructions, which has one variable more.
+/// A block with one body of `length` instructions, which has more variables.
 #[cycle(walk)]
 fn block(
     alloc: Global,
@@ -252,11 +252,11 @@ fn block(
 {
     let operand = open_block(rule, walk, place, operands, instr, length)?;
     let _element = elements_kind(&operand);
-    put(&mut walk.variables, binds(instr, &operand))?;
+    bind(rule, &mut walk.variables, instr, &operand)?;
     let end = place.at + 1 + length;
     let inner = inside(place, operands, place.at + 1, end);
     let ended = body(alloc, rule, walk, inner, instr, place.at)?;
-    let _newest = walk.variables.pop();
+    unbind(&mut walk.variables, instr);
     put(operands, yields(rule, instr, &operand, &ended))?;
     Ok(end)
 }

@@ -1,12 +1,13 @@
 //! What the tests of several crates share: bytes written as hexadecimal digits, code files of rules
-//! that are written in words, the catalogue of cables, ducts and nets with its deliveries, and a box
-//! with many things in it.
+//! that are written in words, the catalogue of cables, ducts and nets with its deliveries, a box
+//! with many things in it, and writers that fail.
 #![tactic(auto)]
 
 mod assembly;
 mod boxes;
 mod catalogue;
 mod hex;
+mod writers;
 
 pub use assembly::{file_of_rule, file_of_rules};
 pub use boxes::{BOX_DELIVERY, BOXES};
@@ -15,3 +16,4 @@ pub use catalogue::{
     DUCT_WITH_SHALLOW, DUCT_WITH_SHALLOW_LAST, EMPTY_DUCT, IDENTIFIED_CABLES, NETS, SHALLOW_CABLE,
 };
 pub use hex::bytes_of;
+pub use writers::{Narrow, WhenFull};

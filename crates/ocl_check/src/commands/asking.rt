@@ -1,24 +1,25 @@
 //! What is asked of a delivery and rules: the chain from the bytes of the inputs to the answer.
 
-ghost use Rattle.std.specs.Prelude.{◌≡◌, ◌≢◌, ◌⊎◌, false, IfOk, IfErr};
+ghost use Rattle.std.specs.Prelude.{◌≡◌, ◌⊎◌, ◌||◌, true, false, Err, IfOk};
 ghost use Rattle.std.specs.Io.KnownBytes.{IsAtEnd};
-ghost use Rattle.ocl_check.specs.declared.outcome.CommandFault.TheVariants.{Write};
-ghost use Rattle.ocl_check.specs.Answers.{IsAnswered, KeepsSink, ReadBy, fails_write};
-ghost use Rattle.ocl_check.specs.Asking.{ReadingFor, answer_by};
-ghost use Rattle.ocl_check.specs.Ending.{IsEnding, IsInput};
+ghost use Rattle.ocl_check.specs.declared.input.InputFault.TheVariants as fault;
+ghost use Rattle.ocl_check.specs.Answers.{IsAnswered, IsReadWithinLimits, IsUnread, ReadBy, fails_read, fails_write, most_bytes};
+ghost use Rattle.ocl_check.specs.Asking.{ReadingFor, answer_by, is_whole_asked};
+ghost use Rattle.ocl_check.specs.Ending.{IsEnding, IsInput, KeepsBy};
+ghost use Rattle.ocl_check.specs.Input.{CantBeRead};
 ghost use Rattle.ocl_check.specs.ThreeInputs.{delivery_answer, population_of, inputs_answer};
 
 use crate::commands::rules::{Asked, answer_rules};
-use crate::input::{MOST_BYTES, read_input};
+use crate::input::{InputFault, MOST_BYTES, read_input, read_two};
 use crate::laws::each_text_is_read;
 use crate::outcome::{CommandFault, Outcome, answer};
 use crate::reply::{refused_delivery, refused_model};
+use crate::source::Source;
 use imkl_delivery::load;
 use imkl_model::ClassModel;
 use imkl_population::Population;
 use rule_report::Sink;
 use std::alloc::Global;
-use std::io::Read;
 
 /// Answers what is asked of a delivery and rules.
 fn answer_delivery<S: Sink>(
@@ -30,7 +31,8 @@ fn answer_delivery<S: Sink>(
     sink: &mut S,
 ) -> Outcome
     requires { S.has_failed sink.old ≡ false }
-    ensures { (reading : ReadingFor asked rules.now) × IsEnding S.contents S.has_failed
+    ensures { (reading : ReadingFor asked rules.now) ×
+        IsEnding S.contents S.has_failed (is_whole_asked asked)
         (delivery_answer (answer_by asked rules.now reading)
         (population_of model.now delivery.now)) sink.old result sink.new }
 {
@@ -51,7 +53,8 @@ fn answer_inputs<S: Sink>(
     sink: &mut S,
 ) -> Outcome
     requires { S.has_failed sink.old ≡ false }
-    ensures { (reading : ReadingFor asked rules.now) × IsEnding S.contents S.has_failed
+    ensures { (reading : ReadingFor asked rules.now) ×
+        IsEnding S.contents S.has_failed (is_whole_asked asked)
         (inputs_answer (answer_by asked rules.now reading) model.now delivery.now) sink.old
         result sink.new }
 {
@@ -71,21 +74,37 @@ struct Inputs {
 }
 
 /// Reads three inputs, one after another, each whole.
-fn read_inputs<M: Read, D: Read, R: Read>(
+fn read_inputs<M: Source, D: Source, R: Source>(
     alloc: Global,
     model: &mut M,
     delivery: &mut D,
     rules: &mut R,
-) -> Result<Inputs, CommandFault>
+) -> Result<Inputs, InputFault>
+    requires model { IsUnread (M.has_failed model.old) (M.reads model.old) }
+    requires delivery { IsUnread (D.has_failed delivery.old) (D.reads delivery.old) }
+    requires rules { IsUnread (R.has_failed rules.old) (R.reads rules.old) }
     ensures model { IfOk result (λ i. IsInput (M.remaining model.old) i.model.items) }
     ensures delivery { IfOk result (λ i. IsInput (D.remaining delivery.old) i.delivery.items) }
     ensures rules { IfOk result (λ i. IsInput (R.remaining rules.old) i.rules.items) }
-    ensures fault { IfErr result (λ c. c ≢ Write) }
+    ensures model_read { IsReadWithinLimits (M.remaining model.old) (M.remaining model.new)
+        (M.reads model.new) }
+    ensures delivery_read { IsReadWithinLimits (D.remaining delivery.old) (D.remaining delivery.new)
+        (D.reads delivery.new) }
+    ensures rules_read { IsReadWithinLimits (R.remaining rules.old) (R.remaining rules.new)
+        (R.reads rules.new) }
+    ensures read_fault { result ≡ Err fault.Read →
+        CantBeRead most_bytes (M.remaining model.old) (M.remaining model.new)
+        (M.has_failed model.new) (M.reads model.new)
+        ⊎ (CantBeRead most_bytes (D.remaining delivery.old) (D.remaining delivery.new)
+        (D.has_failed delivery.new) (D.reads delivery.new)
+        ⊎ CantBeRead most_bytes (R.remaining rules.old) (R.remaining rules.new)
+        (R.has_failed rules.new) (R.reads rules.new)) }
+    ensures failed { (M.has_failed model.new || D.has_failed delivery.new
+        || R.has_failed rules.new) ≡ true → result ≡ Err fault.Read }
     ensures delivery_waits { IsAtEnd (M.remaining model.new) ⊎ (delivery.new ≡ delivery.old) }
     ensures rules_wait { IsAtEnd (D.remaining delivery.new) ⊎ (rules.new ≡ rules.old) }
 {
-    let model = read_input(alloc, model, MOST_BYTES)?;
-    let delivery = read_input(alloc, delivery, MOST_BYTES)?;
+    let (model, delivery) = read_two(alloc, model, delivery)?;
     let rules = read_input(alloc, rules, MOST_BYTES)?;
     Ok(Inputs {
         model,
@@ -96,7 +115,7 @@ fn read_inputs<M: Read, D: Read, R: Read>(
 
 /// Reads the class model, the delivery and the rules, each whole, and then answers what is asked of
 /// them, or writes one line on the first of them that is refused.
-pub(crate) fn ask<M: Read, D: Read, R: Read, S: Sink>(
+pub(crate) fn ask<M: Source, D: Source, R: Source, S: Sink>(
     alloc: Global,
     asked: Asked,
     model: &mut M,
@@ -104,14 +123,32 @@ pub(crate) fn ask<M: Read, D: Read, R: Read, S: Sink>(
     rules: &mut R,
     sink: &mut S,
 ) -> Outcome
-    requires { S.has_failed sink.old ≡ false }
+    requires model { IsUnread (M.has_failed model.old) (M.reads model.old) }
+    requires delivery { IsUnread (D.has_failed delivery.old) (D.reads delivery.old) }
+    requires rules { IsUnread (R.has_failed rules.old) (R.reads rules.old) }
+    requires sink { S.has_failed sink.old ≡ false }
     ensures answered { ReadBy result (M.remaining model.old) (λ xs.
         ReadBy result (D.remaining delivery.old) (λ ys. ReadBy result (R.remaining rules.old) (λ zs.
         (reading : ReadingFor asked zs)
         × IsAnswered (inputs_answer (answer_by asked zs reading) xs ys)
         (S.contents sink.old) (S.contents sink.new) result))) }
     ensures sink { S.has_failed sink.new ≡ fails_write result }
-    ensures kept { KeepsSink result sink.old sink.new }
+    ensures kept { KeepsBy (is_whole_asked asked) result sink.old sink.new }
+    ensures model_read { IsReadWithinLimits (M.remaining model.old) (M.remaining model.new)
+        (M.reads model.new) }
+    ensures delivery_read { IsReadWithinLimits (D.remaining delivery.old) (D.remaining delivery.new)
+        (D.reads delivery.new) }
+    ensures rules_read { IsReadWithinLimits (R.remaining rules.old) (R.remaining rules.new)
+        (R.reads rules.new) }
+    ensures read_fault { fails_read result ≡ true →
+        CantBeRead most_bytes (M.remaining model.old) (M.remaining model.new)
+        (M.has_failed model.new) (M.reads model.new)
+        ⊎ (CantBeRead most_bytes (D.remaining delivery.old) (D.remaining delivery.new)
+        (D.has_failed delivery.new) (D.reads delivery.new)
+        ⊎ CantBeRead most_bytes (R.remaining rules.old) (R.remaining rules.new)
+        (R.has_failed rules.new) (R.reads rules.new)) }
+    ensures failed { (M.has_failed model.new || D.has_failed delivery.new
+        || R.has_failed rules.new) ≡ true → fails_read result ≡ true }
     ensures delivery_waits { IsAtEnd (M.remaining model.new) ⊎ (delivery.new ≡ delivery.old) }
     ensures rules_wait { IsAtEnd (D.remaining delivery.new) ⊎ (rules.new ≡ rules.old) }
 {
@@ -125,6 +162,6 @@ pub(crate) fn ask<M: Read, D: Read, R: Read, S: Sink>(
             &inputs.rules,
             sink,
         ),
-        Err(fault) => Outcome::Failed(fault),
+        Err(fault) => Outcome::Failed(CommandFault::from(fault)),
     }
 }

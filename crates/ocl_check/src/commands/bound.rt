@@ -1,15 +1,17 @@
 //! The command `bound`.
 
-ghost use Rattle.std.specs.Prelude.{◌≡◌, ◌⊎◌, ◌++◌, false, IfOk, OnOk, string_bytes};
+ghost use Rattle.std.specs.Prelude.{◌≡◌, ◌⊎◌, ◌||◌, ◌++◌, true, false, IfOk, OnOk, string_bytes};
 ghost use Rattle.std.specs.Io.KnownBytes.{IsAtEnd};
-ghost use Rattle.ocl_check.specs.Answers.{IsAnswered, KeepsSink, ReadBy, fails_write};
+ghost use Rattle.ocl_check.specs.Answers.{IsAnswered, IsReadWithinLimits, IsUnread, KeepsSink, ReadBy, fails_read, fails_write, most_bytes};
 ghost use Rattle.ocl_check.specs.Bound.{bound_line_of, bound_lines, bound_answer};
+ghost use Rattle.ocl_check.specs.Input.{CantBeRead};
 ghost use Rattle.ocl_check.specs.Reply.{said};
 
 use crate::commands::asking::ask;
 use crate::commands::rules::{Asked, Question};
 use crate::outcome::Outcome;
 use crate::reply::Reply;
+use crate::source::Source;
 use imkl_population::Sizes;
 use rule_cost::{Bound, bound};
 use rule_machine::OutOfMemory;
@@ -17,7 +19,6 @@ use rule_report::Sink;
 use rule_verify::Accepted;
 use std::alloc::{AllocError, Global};
 use std::fmt::Write;
-use std::io::Read;
 
 /// Puts the line of a rule.
 fn put_bound_line(out: &mut String, name: &str, bound: Bound) -> Result<(), AllocError>
@@ -25,7 +26,7 @@ fn put_bound_line(out: &mut String, name: &str, bound: Bound) -> Result<(), Allo
         bound_line_of name.now bound) }
 {
     match bound {
-        Bound::Steps(steps) => writeln!(out, "bound {name} {steps}"),
+        Bound::Steps(charges) => writeln!(out, "bound {name} {charges}"),
         Bound::Over => writeln!(out, "bound {name} over"),
     }
 }
@@ -50,23 +51,41 @@ pub(crate) fn bounds_reply(
 }
 
 /// Bounds the rules of a code file: reads the class model, the delivery and the code file, each
-/// whole, and then writes for each rule how many steps it makes at most for an object, or that this
+/// whole, and then writes for each rule how much it is charged at most for an object, or that this
 /// bound is 2^63 or more; or one line on the first of the inputs that is refused. An input is
 /// untouched until the one before it has ended. Status 0 with the bounds, 2 with a refusal; it fails
-/// as `run_judge` does.
-pub fn run_bound<M: Read, D: Read, C: Read, S: Sink>(
+/// as `run_judge` does, but where memory runs out the sink is as it was.
+pub fn run_bound<M: Source, D: Source, C: Source, S: Sink>(
     alloc: Global,
     model: &mut M,
     delivery: &mut D,
     code: &mut C,
     sink: &mut S,
 ) -> Outcome
-    requires { S.has_failed sink.old ≡ false }
+    requires model { IsUnread (M.has_failed model.old) (M.reads model.old) }
+    requires delivery { IsUnread (D.has_failed delivery.old) (D.reads delivery.old) }
+    requires code { IsUnread (C.has_failed code.old) (C.reads code.old) }
+    requires sink { S.has_failed sink.old ≡ false }
     ensures answered { ReadBy result (M.remaining model.old) (λ xs.
         ReadBy result (D.remaining delivery.old) (λ ys. ReadBy result (C.remaining code.old) (λ zs.
         IsAnswered (bound_answer xs ys zs) (S.contents sink.old) (S.contents sink.new) result))) }
     ensures sink { S.has_failed sink.new ≡ fails_write result }
     ensures kept { KeepsSink result sink.old sink.new }
+    ensures model_read { IsReadWithinLimits (M.remaining model.old) (M.remaining model.new)
+        (M.reads model.new) }
+    ensures delivery_read { IsReadWithinLimits (D.remaining delivery.old) (D.remaining delivery.new)
+        (D.reads delivery.new) }
+    ensures code_read { IsReadWithinLimits (C.remaining code.old) (C.remaining code.new)
+        (C.reads code.new) }
+    ensures read_fault { fails_read result ≡ true →
+        CantBeRead most_bytes (M.remaining model.old) (M.remaining model.new)
+        (M.has_failed model.new) (M.reads model.new)
+        ⊎ (CantBeRead most_bytes (D.remaining delivery.old) (D.remaining delivery.new)
+        (D.has_failed delivery.new) (D.reads delivery.new)
+        ⊎ CantBeRead most_bytes (C.remaining code.old) (C.remaining code.new)
+        (C.has_failed code.new) (C.reads code.new)) }
+    ensures failed { (M.has_failed model.new || D.has_failed delivery.new
+        || C.has_failed code.new) ≡ true → fails_read result ≡ true }
     ensures delivery_waits { IsAtEnd (M.remaining model.new) ⊎ (delivery.new ≡ delivery.old) }
     ensures code_waits { IsAtEnd (D.remaining delivery.new) ⊎ (code.new ≡ code.old) }
 {

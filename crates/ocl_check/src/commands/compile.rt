@@ -1,28 +1,28 @@
 //! The command `compile`.
 
-ghost use Rattle.std.specs.Prelude.{◌≡◌, ◌≢◌, ◌⊎◌, ◌||◌, true, false, IfOk, IfErr};
+ghost use Rattle.std.specs.Prelude.{◌≡◌, ◌⊎◌, ◌||◌, true, false, IfOk, IsOk};
 ghost use Rattle.std.specs.Io.KnownBytes.{IsAtEnd};
 ghost use Rattle.rule_code.specs.View.{content};
-ghost use Rattle.ocl_check.specs.declared.outcome.CommandFault.TheVariants.{Write};
-ghost use Rattle.ocl_check.specs.Answers.{IsAnswered, KeepsSink, ReadBy, ReadWithin, fails_write};
-ghost use Rattle.ocl_check.specs.Compile.{compiled_code, compiled_answer, compile_answer, HasUnit, HasUnitFor, IsCodeWritten, IsOfUnit};
+ghost use Rattle.ocl_check.specs.Answers.{IsAnswered, IsReadWithinLimits, IsUnread, KeepsSink, ReadBy, fails_read, fails_write, most_bytes};
+ghost use Rattle.ocl_check.specs.Compile.{CompileAnswer, compiled_code, compiled_answer, compile_answer, HasUnit, HasUnitFor, IsCodeWritten, IsOfUnit};
+ghost use Rattle.ocl_check.specs.Input.{CantBeRead};
 ghost use Rattle.ocl_check.specs.Reply.{said};
 ghost use Rattle.ocl_check.specs.TextReading.{TextReading, ReadsAs};
 ghost use Rattle.ocl_check.specs.ThreeInputs.{model_of};
-ghost use Rattle.ocl_check.specs.TextParts.{compiled_seen, IsRefusalOf};
+ghost use Rattle.ocl_check.specs.TextParts.{compiled_seen, is_ended, IsRefusalOf};
 ghost use Rattle.ocl_check.specs.CompiledRules.{compiled_rules};
 
 use crate::compiled_rules::compile_text;
-use crate::input::{MOST_BYTES, read_input};
+use crate::input::read_two;
 use crate::laws::each_text_is_read;
 use crate::outcome::{CommandFault, Outcome, say};
 use crate::reply::{Reply, compiled_reply, refused_model, refused_text};
+use crate::source::Source;
 use imkl_model::ClassModel;
 use rule_code::{Unit, write_unit};
 use rule_machine::OutOfMemory;
 use rule_report::{Sink, write_and_flush};
 use std::alloc::Global;
-use std::io::Read;
 
 /// The result of compiling.
 #[derive(Drop)]
@@ -86,24 +86,6 @@ fn compile_inputs(alloc: Global, model: &[u8], text: &[u8]) -> Result<Compiled, 
     }
 }
 
-/// Compiles a rule text for a class model, each read whole before the first is checked.
-fn compile_readers<M: Read, R: Read>(
-    alloc: Global,
-    model: &mut M,
-    rules: &mut R,
-) -> Result<Compiled, CommandFault>
-    ensures compiled { IfOk result (λ c. ReadWithin (M.remaining model.old) (λ xs.
-        ReadWithin (R.remaining rules.old) (λ ys.
-        (t : TextReading) × ReadsAs ys t × (compiled_seen c ≡ compile_answer xs t)
-        × HasUnitFor (model_of xs) t))) }
-    ensures fault { IfErr result (λ c. c ≢ Write) }
-    ensures rules_wait { IsAtEnd (M.remaining model.new) ⊎ (rules.new ≡ rules.old) }
-{
-    let model = read_input(alloc, model, MOST_BYTES)?;
-    let rules = read_input(alloc, rules, MOST_BYTES)?;
-    Ok(compile_inputs(alloc, &model, &rules)?)
-}
-
 /// Writes a code file, and only then the reply.
 fn write_compiled<O: Sink, S: Sink>(
     code: &[u8],
@@ -118,6 +100,7 @@ fn write_compiled<O: Sink, S: Sink>(
     ensures sinks { (O.has_failed out.new || S.has_failed sink.new) ≡ fails_write result }
     ensures code_first { O.has_failed out.new ≡ true → sink.new ≡ sink.old }
     ensures kept { KeepsSink result sink.old sink.new }
+    ensures read { fails_read result ≡ false }
 {
     let Ok(()) = write_and_flush(out, code) else {
         return Outcome::Failed(CommandFault::Write);
@@ -128,6 +111,31 @@ fn write_compiled<O: Sink, S: Sink>(
     }
 }
 
+/// Writes what compiling came to: the code file and then the reply, or only the line of an input that is refused.
+fn write_result<O: Sink, S: Sink>(
+    compiled: Result<Compiled, OutOfMemory>,
+    out: &mut O,
+    sink: &mut S,
+) -> Outcome
+    requires out_well { O.has_failed out.old ≡ false }
+    requires well { S.has_failed sink.old ≡ false }
+    ensures code { (a : CompileAnswer) → IfOk compiled (λ c. compiled_seen c ≡ a) →
+        IsCodeWritten O.contents O.has_failed a.code out.old out.new result }
+    ensures said { (a : CompileAnswer) → IfOk compiled (λ c. compiled_seen c ≡ a) →
+        IsAnswered a.said (S.contents sink.old) (S.contents sink.new) result }
+    ensures sinks { (O.has_failed out.new || S.has_failed sink.new) ≡ fails_write result }
+    ensures code_first { O.has_failed out.new ≡ true → sink.new ≡ sink.old }
+    ensures kept { KeepsSink result sink.old sink.new }
+    ensures read { fails_read result ≡ false }
+    ensures ended { is_ended result ≡ true → IsOk compiled }
+{
+    match compiled {
+        Ok(Compiled::Code(code, reply)) => write_compiled(&code, &reply, out, sink),
+        Ok(Compiled::Refused(reply)) => say(sink, &reply),
+        Err(OutOfMemory) => Outcome::Failed(CommandFault::OutOfMemory),
+    }
+}
+
 /// Compiles a rule text: reads the class model and the text, each whole, and then writes the code
 /// file, and after it how many rules there are, with status 0; or, with status 2, one line on the
 /// first of them that is refused, and then `out` is untouched. The text is untouched until the class
@@ -135,15 +143,17 @@ fn write_compiled<O: Sink, S: Sink>(
 ///
 /// Where memory or a read fails both sinks are as they were. Where `out` can't be written it took a
 /// prefix of the code file, and nothing is printed; where only the reply can't, `out` took it whole.
-pub fn run_compile<M: Read, R: Read, O: Sink, S: Sink>(
+pub fn run_compile<M: Source, R: Source, O: Sink, S: Sink>(
     alloc: Global,
     model: &mut M,
     rules: &mut R,
     out: &mut O,
     sink: &mut S,
 ) -> Outcome
-    requires out_well { O.has_failed out.old ≡ false }
-    requires well { S.has_failed sink.old ≡ false }
+    requires model { IsUnread (M.has_failed model.old) (M.reads model.old) }
+    requires rules { IsUnread (R.has_failed rules.old) (R.reads rules.old) }
+    requires out { O.has_failed out.old ≡ false }
+    requires sink { S.has_failed sink.old ≡ false }
     ensures answered { ReadBy result (M.remaining model.old) (λ xs.
         ReadBy result (R.remaining rules.old) (λ ys. (t : TextReading) × ReadsAs ys t
         × IsOfUnit result xs t
@@ -153,12 +163,22 @@ pub fn run_compile<M: Read, R: Read, O: Sink, S: Sink>(
     ensures sinks { (O.has_failed out.new || S.has_failed sink.new) ≡ fails_write result }
     ensures code_first { O.has_failed out.new ≡ true → sink.new ≡ sink.old }
     ensures kept { KeepsSink result sink.old sink.new }
+    ensures model_read { IsReadWithinLimits (M.remaining model.old) (M.remaining model.new)
+        (M.reads model.new) }
+    ensures rules_read { IsReadWithinLimits (R.remaining rules.old) (R.remaining rules.new)
+        (R.reads rules.new) }
+    ensures read_fault { fails_read result ≡ true →
+        CantBeRead most_bytes (M.remaining model.old) (M.remaining model.new)
+        (M.has_failed model.new) (M.reads model.new)
+        ⊎ CantBeRead most_bytes (R.remaining rules.old) (R.remaining rules.new)
+        (R.has_failed rules.new) (R.reads rules.new) }
+    ensures failed { (M.has_failed model.new || R.has_failed rules.new) ≡ true →
+        fails_read result ≡ true }
     ensures rules_wait { IsAtEnd (M.remaining model.new) ⊎ (rules.new ≡ rules.old) }
 {
     each_text_is_read();
-    match compile_readers(alloc, model, rules) {
-        Ok(Compiled::Code(code, reply)) => write_compiled(&code, &reply, out, sink),
-        Ok(Compiled::Refused(reply)) => say(sink, &reply),
-        Err(fault) => Outcome::Failed(fault),
+    match read_two(alloc, model, rules) {
+        Ok((model, rules)) => write_result(compile_inputs(alloc, &model, &rules), out, sink),
+        Err(fault) => Outcome::Failed(CommandFault::from(fault)),
     }
 }

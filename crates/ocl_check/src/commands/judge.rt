@@ -1,11 +1,12 @@
 //! The command `judge`.
 
-ghost use Rattle.std.specs.Prelude.{◌≡◌, ◌⊎◌, ◌+◌, false};
+ghost use Rattle.std.specs.Prelude.{◌≡◌, ◌⊎◌, ◌||◌, ◌+◌, true, false};
 ghost use Rattle.std.specs.Io.KnownBytes.{IsAtEnd};
 ghost use Rattle.imkl_population.specs.Sizes.{sizes_of};
 ghost use Rattle.rule_cost.specs.Admission.{Fits};
-ghost use Rattle.ocl_check.specs.Answers.{IsAnsweredBy, KeepsSink, ReadBy, fails_write};
+ghost use Rattle.ocl_check.specs.Answers.{IsAnsweredBy, IsReadWithinLimits, IsUnread, KeepsUnread, ReadBy, fails_read, fails_write, most_bytes};
 ghost use Rattle.ocl_check.specs.Ending.{IsEnding};
+ghost use Rattle.ocl_check.specs.Input.{CantBeRead};
 ghost use Rattle.ocl_check.specs.Judge.{status_of, report_answer, budget_answer};
 ghost use Rattle.ocl_check.specs.JudgeText.{JudgeAnswers};
 ghost use Rattle.ocl_check.specs.Asking.{asked_by};
@@ -14,15 +15,15 @@ use crate::commands::asking::ask;
 use crate::commands::rules::{Asked, Question};
 use crate::outcome::{CommandFault, Outcome, answer};
 use crate::reply::refused_cost;
+use crate::source::Source;
 use imkl_population::{Population, Sizes};
 use rule_cost::{Admitted, CostFault, admit};
 use rule_report::{ReportFault, Sink, Summary, write_report};
 use rule_verify::Accepted;
 use std::alloc::Global;
-use std::io::Read;
 
 /// The budget of `judge` where none is given, and the largest that its command line takes: 2^63-1
-/// steps for each rule and object.
+/// charges for each rule and object.
 pub const MAX_BUDGET: u64 = 9_223_372_036_854_775_807;
 
 /// The status of a report: 0 where every rule holds for each object of its context class, else 1.
@@ -45,7 +46,7 @@ fn judge_admitted<S: Sink>(
 ) -> Outcome
     requires fits { Fits admitted.now population.now.content }
     requires well { S.has_failed sink.old ≡ false }
-    ensures { IsEnding S.contents S.has_failed (report_answer population.now.content
+    ensures { IsEnding S.contents S.has_failed false (report_answer population.now.content
         admitted.now.linked.unit) sink.old result sink.new }
 {
     match write_report(alloc, admitted, population, sink) {
@@ -67,7 +68,7 @@ pub(crate) fn judge_within<S: Sink>(
     requires one_model { population.now.content.model ≡ accepted.now.model }
     requires sizes { sizes.now ≡ sizes_of population.now.content }
     requires well { S.has_failed sink.old ≡ false }
-    ensures { IsEnding S.contents S.has_failed (budget_answer budget population.now.content
+    ensures { IsEnding S.contents S.has_failed false (budget_answer budget population.now.content
         accepted.now.unit) sink.old result sink.new }
 {
     match admit(alloc, accepted, sizes, budget) {
@@ -91,7 +92,7 @@ pub enum RulesForm {
 pub struct JudgeOptions {
     /// In what form the rules come.
     pub form: RulesForm,
-    /// The greatest bound that a rule may have, in steps for an object; from `MAX_BUDGET` on all budgets mean the same.
+    /// The greatest bound that a rule may have, in charges for an object; from `MAX_BUDGET` on all budgets mean the same.
     pub budget: u64,
 }
 
@@ -113,11 +114,12 @@ impl JudgeOptions {
 /// it has ended. Then writes the report, with status 0 where every rule holds for each object of its
 /// context class, else 1; or, with status 2, the line of the first input that is refused, or of the
 /// first rule whose bound is 2^63 or more or above the budget. Rules of a text are judged by what
-/// they mean.
+/// they mean. Whatever it answers, of each input at most 268,435,457 bytes are read, by as many reads.
 ///
-/// `Failed(Read)`: an input can't be read, or is too long. `Failed(OutOfMemory)`: memory ran out. In both
-/// the sink is as it was. `Failed(Write)`: the sink took a prefix of the answer.
-pub fn run_judge<M: Read, D: Read, R: Read, S: Sink>(
+/// `Failed(Read)`: an input can't be read, or is too long; then the sink is as it was.
+/// `Failed(OutOfMemory)`: memory ran out. `Failed(Write)`: the sink has failed. In both the sink took a
+/// prefix of the answer.
+pub fn run_judge<M: Source, D: Source, R: Source, S: Sink>(
     alloc: Global,
     options: JudgeOptions,
     model: &mut M,
@@ -125,13 +127,33 @@ pub fn run_judge<M: Read, D: Read, R: Read, S: Sink>(
     rules: &mut R,
     sink: &mut S,
 ) -> Outcome
-    requires { S.has_failed sink.old ≡ false }
+    requires model { IsUnread (M.has_failed model.old) (M.reads model.old) }
+    requires delivery { IsUnread (D.has_failed delivery.old) (D.reads delivery.old) }
+    requires rules { IsUnread (R.has_failed rules.old) (R.reads rules.old) }
+    requires sink { S.has_failed sink.old ≡ false }
     ensures answered { ReadBy result (M.remaining model.old) (λ xs.
         ReadBy result (D.remaining delivery.old) (λ ys. ReadBy result (R.remaining rules.old) (λ zs.
         IsAnsweredBy (JudgeAnswers options xs ys zs) (S.contents sink.old) (S.contents sink.new)
         result))) }
     ensures sink { S.has_failed sink.new ≡ fails_write result }
-    ensures kept { KeepsSink result sink.old sink.new }
+    ensures kept { KeepsUnread result sink.old sink.new }
+    // Whatever is answered, so much is read of each input.
+    ensures model_read { IsReadWithinLimits (M.remaining model.old) (M.remaining model.new)
+        (M.reads model.new) }
+    ensures delivery_read { IsReadWithinLimits (D.remaining delivery.old) (D.remaining delivery.new)
+        (D.reads delivery.new) }
+    ensures rules_read { IsReadWithinLimits (R.remaining rules.old) (R.remaining rules.new)
+        (R.reads rules.new) }
+    // A failed read is answered only where an input can't be read, and then it is, where a read failed.
+    ensures read_fault { fails_read result ≡ true →
+        CantBeRead most_bytes (M.remaining model.old) (M.remaining model.new)
+        (M.has_failed model.new) (M.reads model.new)
+        ⊎ (CantBeRead most_bytes (D.remaining delivery.old) (D.remaining delivery.new)
+        (D.has_failed delivery.new) (D.reads delivery.new)
+        ⊎ CantBeRead most_bytes (R.remaining rules.old) (R.remaining rules.new)
+        (R.has_failed rules.new) (R.reads rules.new)) }
+    ensures failed { (M.has_failed model.new || D.has_failed delivery.new
+        || R.has_failed rules.new) ≡ true → fails_read result ≡ true }
     ensures delivery_waits { IsAtEnd (M.remaining model.new) ⊎ (delivery.new ≡ delivery.old) }
     ensures rules_wait { IsAtEnd (D.remaining delivery.new) ⊎ (rules.new ≡ rules.old) }
 {

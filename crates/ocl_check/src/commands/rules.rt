@@ -3,7 +3,7 @@
 ghost use Rattle.std.specs.Prelude.{◌≡◌, false, Ok};
 ghost use Rattle.imkl_population.specs.Sizes.{sizes_of};
 ghost use Rattle.rule_code.specs.View.{content};
-ghost use Rattle.ocl_check.specs.Asking.{ReadingFor, answer_to, answer_by};
+ghost use Rattle.ocl_check.specs.Asking.{ReadingFor, answer_to, answer_by, is_whole_answer, is_whole_asked};
 ghost use Rattle.ocl_check.specs.CodeRules.{code_answer, code_file_answer};
 ghost use Rattle.ocl_check.specs.Ending.{IsEnding};
 ghost use Rattle.ocl_check.specs.JudgeText.{text_answer};
@@ -23,9 +23,9 @@ use std::alloc::Global;
 /// What is asked of a population and accepted code.
 #[derive(Clone, Copy)]
 pub(crate) enum Question {
-    /// The report, by rules that are within a budget of steps for an object.
+    /// The report, by rules that are within a budget for an object.
     Report {
-        /// The greatest bound that a rule may have, in steps.
+        /// The greatest bound that a rule may have, in charges.
         budget: u64,
     },
     /// The bounds of the rules.
@@ -44,8 +44,8 @@ fn answer_sized<S: Sink>(
     requires one_model { population.now.content.model ≡ accepted.now.model }
     requires sizes { sizes.now ≡ sizes_of population.now.content }
     requires well { S.has_failed sink.old ≡ false }
-    ensures { IsEnding S.contents S.has_failed (answer_to question population.now.content
-        accepted.now.unit) sink.old result sink.new }
+    ensures { IsEnding S.contents S.has_failed (is_whole_answer question)
+        (answer_to question population.now.content accepted.now.unit) sink.old result sink.new }
 {
     match question {
         Question::Report { budget } => {
@@ -65,8 +65,8 @@ fn answer_accepted<S: Sink>(
 ) -> Outcome
     requires one_model { population.now.content.model ≡ accepted.now.model }
     requires well { S.has_failed sink.old ≡ false }
-    ensures { IsEnding S.contents S.has_failed (answer_to question population.now.content
-        accepted.now.unit) sink.old result sink.new }
+    ensures { IsEnding S.contents S.has_failed (is_whole_answer question)
+        (answer_to question population.now.content accepted.now.unit) sink.old result sink.new }
 {
     match population.sizes(alloc) {
         Ok(sizes) => answer_sized(alloc, question, population, &sizes, accepted, sink),
@@ -83,8 +83,9 @@ fn answer_unit<S: Sink>(
     sink: &mut S,
 ) -> Outcome
     requires { S.has_failed sink.old ≡ false }
-    ensures { IsEnding S.contents S.has_failed (code_answer (answer_to question)
-        population.now.content (Ok (content unit))) sink.old result sink.new }
+    ensures { IsEnding S.contents S.has_failed (is_whole_answer question)
+        (code_answer (answer_to question) population.now.content (Ok (content unit)))
+        sink.old result sink.new }
 {
     match verify(alloc, population.model(), unit) {
         Ok(accepted) => answer_accepted(alloc, question, population, &accepted, sink),
@@ -104,8 +105,9 @@ fn answer_code<S: Sink>(
     sink: &mut S,
 ) -> Outcome
     requires { S.has_failed sink.old ≡ false }
-    ensures { IsEnding S.contents S.has_failed (code_file_answer (answer_to question)
-        code.now population.now.content) sink.old result sink.new }
+    ensures { IsEnding S.contents S.has_failed (is_whole_answer question)
+        (code_file_answer (answer_to question) code.now population.now.content)
+        sink.old result sink.new }
 {
     match read_unit(alloc, code) {
         Ok(unit) => answer_unit(alloc, question, population, unit, sink),
@@ -123,7 +125,7 @@ fn answer_text<S: Sink>(
     sink: &mut S,
 ) -> Outcome
     requires { S.has_failed sink.old ≡ false }
-    ensures { (t : TextReading) × ReadsAs text.now t × IsEnding S.contents S.has_failed
+    ensures { (t : TextReading) × ReadsAs text.now t × IsEnding S.contents S.has_failed false
         (text_answer budget t population.now.content) sink.old result sink.new }
 {
     let model = population.model();
@@ -143,9 +145,9 @@ fn answer_text<S: Sink>(
 pub(crate) enum Asked {
     /// A question on the rules of a code file.
     Code(Question),
-    /// The report by the rules of a text, each within a budget of steps for an object.
+    /// The report by the rules of a text, each within a budget for an object.
     Text {
-        /// The greatest bound that a rule may have, in steps.
+        /// The greatest bound that a rule may have, in charges.
         budget: u64,
     },
 }
@@ -159,7 +161,8 @@ pub(crate) fn answer_rules<S: Sink>(
     sink: &mut S,
 ) -> Outcome
     requires { S.has_failed sink.old ≡ false }
-    ensures { (reading : ReadingFor asked rules.now) × IsEnding S.contents S.has_failed
+    ensures { (reading : ReadingFor asked rules.now) ×
+        IsEnding S.contents S.has_failed (is_whole_asked asked)
         (answer_by asked rules.now reading population.now.content) sink.old result sink.new }
 {
     match asked {

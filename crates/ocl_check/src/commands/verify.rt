@@ -1,25 +1,25 @@
 //! The command `verify`.
 
-ghost use Rattle.std.specs.Prelude.{◌≡◌, ◌≢◌, ◌⊎◌, false, Ok, IfOk, IfErr};
+ghost use Rattle.std.specs.Prelude.{◌≡◌, ◌⊎◌, ◌||◌, true, false, Ok, IfOk};
 ghost use Rattle.std.specs.Io.KnownBytes.{IsAtEnd};
 ghost use Rattle.rule_code.specs.View.{content};
 ghost use Rattle.rule_code.specs.CodeFile.{unit_of};
 ghost use Rattle.rule_verify.specs.UnitRules.{check_unit};
-ghost use Rattle.ocl_check.specs.declared.outcome.CommandFault.TheVariants.{Write};
 ghost use Rattle.ocl_check.specs.Reply.{said};
-ghost use Rattle.ocl_check.specs.Answers.{IsAnswered, KeepsSink, ReadBy, ReadWithin, fails_write};
+ghost use Rattle.ocl_check.specs.Answers.{IsAnswered, IsReadWithinLimits, IsUnread, KeepsSink, ReadBy, fails_read, fails_write, most_bytes};
+ghost use Rattle.ocl_check.specs.Input.{CantBeRead};
 ghost use Rattle.ocl_check.specs.Verify.{checked_answer, verify_code_answer, verify_answer};
 
-use crate::input::{MOST_BYTES, read_input};
-use crate::outcome::{CommandFault, Outcome, say};
+use crate::input::read_two;
+use crate::outcome::{CommandFault, Outcome, answer};
 use crate::reply::{Reply, accepted_reply, refused_code, refused_model, refused_verify};
+use crate::source::Source;
 use imkl_model::ClassModel;
 use rule_code::{CodeFault, Unit, read_unit};
 use rule_machine::OutOfMemory;
 use rule_report::Sink;
 use rule_verify::{VerifyFault, verify};
 use std::alloc::Global;
-use std::io::Read;
 
 /// The reply to a unit.
 fn verify_unit(alloc: Global, model: &ClassModel, unit: Unit) -> Result<Reply, OutOfMemory>
@@ -54,42 +54,39 @@ fn verify_inputs(alloc: Global, model: &[u8], code: &[u8]) -> Result<Reply, OutO
     }
 }
 
-/// The reply to a class model and a code file, each read whole before the first is checked.
-fn verify_readers<M: Read, C: Read>(
-    alloc: Global,
-    model: &mut M,
-    code: &mut C,
-) -> Result<Reply, CommandFault>
-    ensures reply { IfOk result (λ r. ReadWithin (M.remaining model.old) (λ xs.
-        ReadWithin (C.remaining code.old) (λ ys. said r ≡ verify_answer xs ys))) }
-    ensures fault { IfErr result (λ c. c ≢ Write) }
-    ensures code_waits { IsAtEnd (M.remaining model.new) ⊎ (code.new ≡ code.old) }
-{
-    let model = read_input(alloc, model, MOST_BYTES)?;
-    let code = read_input(alloc, code, MOST_BYTES)?;
-    Ok(verify_inputs(alloc, &model, &code)?)
-}
-
 /// Verifies a code file: reads the class model and the code file, each whole, and then writes that
 /// the code is accepted, or one line on the first of them that is refused. The code file is
 /// untouched until the class model has ended. Status 0 where it is accepted, 2 with a refusal; it
-/// fails as `run_judge` does.
-pub fn run_verify<M: Read, C: Read, S: Sink>(
+/// fails as `run_bound` does.
+pub fn run_verify<M: Source, C: Source, S: Sink>(
     alloc: Global,
     model: &mut M,
     code: &mut C,
     sink: &mut S,
 ) -> Outcome
-    requires { S.has_failed sink.old ≡ false }
+    requires model { IsUnread (M.has_failed model.old) (M.reads model.old) }
+    requires code { IsUnread (C.has_failed code.old) (C.reads code.old) }
+    requires sink { S.has_failed sink.old ≡ false }
     ensures answered { ReadBy result (M.remaining model.old) (λ xs.
         ReadBy result (C.remaining code.old) (λ ys.
         IsAnswered (verify_answer xs ys) (S.contents sink.old) (S.contents sink.new) result)) }
     ensures sink { S.has_failed sink.new ≡ fails_write result }
     ensures kept { KeepsSink result sink.old sink.new }
+    ensures model_read { IsReadWithinLimits (M.remaining model.old) (M.remaining model.new)
+        (M.reads model.new) }
+    ensures code_read { IsReadWithinLimits (C.remaining code.old) (C.remaining code.new)
+        (C.reads code.new) }
+    ensures read_fault { fails_read result ≡ true →
+        CantBeRead most_bytes (M.remaining model.old) (M.remaining model.new)
+        (M.has_failed model.new) (M.reads model.new)
+        ⊎ CantBeRead most_bytes (C.remaining code.old) (C.remaining code.new)
+        (C.has_failed code.new) (C.reads code.new) }
+    ensures failed { (M.has_failed model.new || C.has_failed code.new) ≡ true →
+        fails_read result ≡ true }
     ensures code_waits { IsAtEnd (M.remaining model.new) ⊎ (code.new ≡ code.old) }
 {
-    match verify_readers(alloc, model, code) {
-        Ok(reply) => say(sink, &reply),
-        Err(fault) => Outcome::Failed(fault),
+    match read_two(alloc, model, code) {
+        Ok((model, code)) => answer(sink, verify_inputs(alloc, &model, &code)),
+        Err(fault) => Outcome::Failed(CommandFault::from(fault)),
     }
 }

@@ -71,7 +71,8 @@ pub(super) fn bool_from(bytes: &[u8]) -> Result<(bool, &[u8]), FieldFault>
 /// How many there are, at most `limit`.
 #[tactic(auto, unfolding(crate::specs::Reading::count_from))]
 pub(super) fn count_from(limit: u16, bytes: &[u8]) -> Result<(u16, &[u8]), FieldFault>
-    ensures { Reads (λ x. (x.0, x.1.now)) result (count_from limit bytes.now) }
+    ensures gives { Reads (λ x. (x.0, x.1.now)) result (count_from limit bytes.now) }
+    ensures decided { IfErr result (λ e. e ≢ FieldFault.OutOfMemory) }
 {
     let (count, rest) = u16_from(bytes)?;
     if limit < count {
@@ -88,6 +89,7 @@ pub(super) fn text_number_from(
 ) -> Result<(TextNumber, &[u8]), FieldFault>
     ensures gives { Reads (λ x. (x.0.0, x.1.now)) result (text_number_from texts bytes.now) }
     ensures in_range { IfOk result (λ x. x.0.0 < texts) }
+    ensures decided { IfErr result (λ e. e ≢ FieldFault.OutOfMemory) }
 {
     let (number, rest) = u16_from(bytes)?;
     if usize::from(number) < texts {
@@ -134,7 +136,8 @@ pub(super) fn symbol_number_from<'b>(
 /// A text of `len` bytes.
 #[tactic(auto, unfolding(crate::specs::Reading::text_bytes_from))]
 pub(super) fn text_bytes_from(len: usize, bytes: &[u8]) -> Result<(&str, &[u8]), FieldFault>
-    ensures { Reads (λ x. (x.0.now, x.1.now)) result (text_bytes_from len bytes.now) }
+    ensures gives { Reads (λ x. (x.0.now, x.1.now)) result (text_bytes_from len bytes.now) }
+    ensures decided { IfErr result (λ e. e ≢ FieldFault.OutOfMemory) }
 {
     if bytes.len() < len {
         return Err(wrong(CodeFlaw::Truncated, bytes));

@@ -1,6 +1,6 @@
 //! Reading the rules of a code file.
 
-ghost use Rattle.std.specs.Prelude.{◌≡◌, ◌||◌, not, List, ℕ, [], map, string_bytes, bytes_eq, OnOk, IfOk};
+ghost use Rattle.std.specs.Prelude.{◌≡◌, ◌≢◌, ◌<◌, ◌||◌, not, List, ℕ, [], map, length, string_bytes, bytes_eq, OnOk, IfOk, IfErr};
 ghost use Rattle.rule_code.specs.Content.{rule_content, text_at};
 ghost use Rattle.rule_code.specs.Taken.{is_name_taken};
 ghost use Rattle.rule_code.specs.Reading.{Reads, many_from};
@@ -39,6 +39,9 @@ fn rule_name_from<'t, 'b>(
         (rule_name_from (map string_bytes texts.now) (is_name_taken taken.old) bytes.now) }
     ensures taken { IfOk result (λ x. (s : List ℕ) → is_name_taken taken.new s ≡
         (bytes_eq (text_at (map string_bytes texts.now) x.0.0) s || is_name_taken taken.old s)) }
+    ensures named { IfOk result (λ x. 0 < length texts.now) }
+    ensures without_texts { length texts.now ≡ 0
+        → IfErr result (λ e. e ≢ FieldFault.OutOfMemory) }
 {
     let (number, rest) = text_number_from(texts.len(), bytes)?;
     let name = text_named(texts, number);
@@ -62,6 +65,9 @@ fn rule_from<'t, 'b>(
     ensures taken { IfOk result (λ x. (s : List ℕ) → is_name_taken taken.new s ≡
         (bytes_eq (text_at (map string_bytes texts.now) x.0.name.0) s ||
         is_name_taken taken.old s)) }
+    ensures named { IfOk result (λ x. 0 < length texts.now) }
+    ensures without_texts { length texts.now ≡ 0
+        → IfErr result (λ e. e ≢ FieldFault.OutOfMemory) }
 {
     let (name, rest) = rule_name_from(texts, taken, bytes)?;
     let (context, rest) = symbol_number_from(SymbolTag::Class, symbols, rest)?;
@@ -83,8 +89,10 @@ fn many_rules<'b>(
     count: u16,
     bytes: &'b [u8],
 ) -> Result<(Vec<Rule>, &'b [u8]), FieldFault>
-    ensures { Reads (λ x. (map rule_content x.0.items, x.1.now)) result
+    ensures gives { Reads (λ x. (map rule_content x.0.items, x.1.now)) result
         (many_from (next_rule_from (map string_bytes texts.now) symbols.now) [] count bytes.now) }
+    ensures without_texts { length texts.now ≡ 0
+        → IfErr result (λ e. e ≢ FieldFault.OutOfMemory) }
 {
     let mut taken = BTreeSet::new(alloc);
     let mut rules = Vec::new(alloc);
@@ -104,8 +112,11 @@ pub(super) fn rules_from<'b>(
     symbols: &[Symbol],
     bytes: &'b [u8],
 ) -> Result<(Vec<Rule>, &'b [u8]), FieldFault>
-    ensures { Reads (λ x. (map rule_content x.0.items, x.1.now)) result
+    ensures gives { Reads (λ x. (map rule_content x.0.items, x.1.now)) result
         (rules_from (map string_bytes texts.now) symbols.now bytes.now) }
+    // Without texts no rule can be named, and nothing is allocated.
+    ensures without_texts { length texts.now ≡ 0
+        → IfErr result (λ e. e ≢ FieldFault.OutOfMemory) }
 {
     let (count, rest) = count_from(MOST_RULES, bytes)?;
     many_rules(alloc, texts, symbols, count, rest)

@@ -1,6 +1,6 @@
 //! Reading the symbols of a code file.
 
-ghost use Rattle.std.specs.Prelude.{◌≡◌, List, []};
+ghost use Rattle.std.specs.Prelude.{◌≡◌, ◌≢◌, ◌<◌, List, [], IfOk, IfErr};
 ghost use Rattle.rule_code.specs.Reading.{Reads, many_from};
 ghost use Rattle.rule_code.specs.Parts.{symbol_from};
 ghost use Rattle.rule_code.specs.CodeFile.{symbols_from};
@@ -12,7 +12,9 @@ use std::alloc::Global;
 
 #[tactic(auto, unfolding(crate::specs::Parts::symbol_from))]
 fn symbol_from(texts: usize, bytes: &[u8]) -> Result<(Symbol, &[u8]), FieldFault>
-    ensures { Reads (λ x. (x.0, x.1.now)) result (symbol_from texts bytes.now) }
+    ensures gives { Reads (λ x. (x.0, x.1.now)) result (symbol_from texts bytes.now) }
+    ensures named { IfOk result (λ x. 0 < texts) }
+    ensures decided { IfErr result (λ e. e ≢ FieldFault.OutOfMemory) }
 {
     let [tag, rest @ ..] = bytes else {
         return Err(wrong(CodeFlaw::Truncated, bytes));
@@ -53,8 +55,9 @@ fn many_symbols(
     count: u16,
     bytes: &[u8],
 ) -> Result<(Vec<Symbol>, &[u8]), FieldFault>
-    ensures { Reads (λ x. (x.0.items, x.1.now)) result
+    ensures gives { Reads (λ x. (x.0.items, x.1.now)) result
         (many_from (λ before. symbol_from texts) [] count bytes.now) }
+    ensures without_texts { texts ≡ 0 → IfErr result (λ e. e ≢ FieldFault.OutOfMemory) }
 {
     let mut symbols = Vec::new(alloc);
     let mut rest = bytes;
@@ -72,7 +75,9 @@ pub(super) fn symbols_from(
     texts: usize,
     bytes: &[u8],
 ) -> Result<(Vec<Symbol>, &[u8]), FieldFault>
-    ensures { Reads (λ x. (x.0.items, x.1.now)) result (symbols_from texts bytes.now) }
+    ensures gives { Reads (λ x. (x.0.items, x.1.now)) result (symbols_from texts bytes.now) }
+    // Without texts no symbol can be named, and nothing is allocated.
+    ensures without_texts { texts ≡ 0 → IfErr result (λ e. e ≢ FieldFault.OutOfMemory) }
 {
     let (count, rest) = u16_from(bytes)?;
     many_symbols(alloc, texts, count, rest)

@@ -1,9 +1,10 @@
 //! Reading the texts of a code file.
 
-ghost use Rattle.std.specs.Prelude.{◌≡◌, List, [], map, string_bytes};
-ghost use Rattle.rule_code.specs.Reading.{Reads, many_from};
+ghost use Rattle.std.specs.Prelude.{◌≡◌, ◌≢◌, List, ℕ, [], Ok, map, string_bytes, IfErr, IsErr};
+ghost use Rattle.std.specs.Int.{w16};
+ghost use Rattle.rule_code.specs.Reading.{Reads, number_from, many_from};
 ghost use Rattle.rule_code.specs.Parts.{text_from};
-ghost use Rattle.rule_code.specs.CodeFile.{texts_from};
+ghost use Rattle.rule_code.specs.CodeFile.{texts_from, first_of, first_text_from};
 
 use super::field::{count_from, text_bytes_from, u16_from};
 use crate::fault::FieldFault;
@@ -14,7 +15,9 @@ const MOST_TEXT_BYTES: u16 = 4_096;
 
 #[tactic(auto, unfolding(crate::specs::Parts::text_from))]
 fn text_from(alloc: Global, bytes: &[u8]) -> Result<(String, &[u8]), FieldFault>
-    ensures { Reads (λ x. (string_bytes x.0, x.1.now)) result (text_from bytes.now) }
+    ensures gives { Reads (λ x. (string_bytes x.0, x.1.now)) result (text_from bytes.now) }
+    ensures decided { IsErr (text_from bytes.now)
+        → IfErr result (λ e. e ≢ FieldFault.OutOfMemory) }
 {
     let (len, rest) = count_from(MOST_TEXT_BYTES, bytes)?;
     let (text, after) = text_bytes_from(usize::from(len), rest)?;
@@ -23,8 +26,11 @@ fn text_from(alloc: Global, bytes: &[u8]) -> Result<(String, &[u8]), FieldFault>
 
 #[tactic(auto, using(crate::proofs::Loop::begins))]
 fn many_texts(alloc: Global, count: u16, bytes: &[u8]) -> Result<(Vec<String>, &[u8]), FieldFault>
-    ensures { Reads (λ x. (map string_bytes x.0.items, x.1.now)) result
+    ensures gives { Reads (λ x. (map string_bytes x.0.items, x.1.now)) result
         (many_from (λ before. text_from) [] count bytes.now) }
+    ensures first { IsErr (first_of count bytes.now)
+        → IfErr result (λ e. e ≢ FieldFault.OutOfMemory) }
+    ensures none { count ≡ 0 → IfErr result (λ e. e ≢ FieldFault.OutOfMemory) }
 {
     let mut texts = Vec::new(alloc);
     let mut rest = bytes;
@@ -36,9 +42,15 @@ fn many_texts(alloc: Global, count: u16, bytes: &[u8]) -> Result<(Vec<String>, &
     Ok((texts, rest))
 }
 
-#[tactic(auto, unfolding(crate::specs::CodeFile::texts_from))]
+#[tactic(auto, unfolding(crate::specs::CodeFile::texts_from, crate::specs::CodeFile::first_text_from))]
 pub(super) fn texts_from(alloc: Global, bytes: &[u8]) -> Result<(Vec<String>, &[u8]), FieldFault>
-    ensures { Reads (λ x. (map string_bytes x.0.items, x.1.now)) result (texts_from bytes.now) }
+    ensures gives { Reads (λ x. (map string_bytes x.0.items, x.1.now)) result
+        (texts_from bytes.now) }
+    // Up to the first text nothing is allocated, and without texts nothing at all.
+    ensures first { IsErr (first_text_from bytes.now)
+        → IfErr result (λ e. e ≢ FieldFault.OutOfMemory) }
+    ensures none { (after : List ℕ) → number_from w16 bytes.now ≡ Ok (0, after)
+        → IfErr result (λ e. e ≢ FieldFault.OutOfMemory) }
 {
     let (count, rest) = u16_from(bytes)?;
     many_texts(alloc, count, rest)

@@ -31,6 +31,12 @@ returns-in_default-clause-leaves c = λ ws read.
     let there = features_at vs ws c.loop-object.place v read next.within next.here in
     absurd (let bad : None ≡ Some (entry_at ws c.loop-object.place).features = c.in_default.ensures ∙ there in cc)
 
+-- an object's place in the document is its number
+pub new-requires : goal.new-requires
+new-requires c =
+    let next = next_left c.args.objects.items c.loop-object.place c.in-Some.object (into_iter_items c.next.new.self) (c.loop-object.invariant.left ∙ c.in-Some.ensures.steps.0) in
+    omega (arith, next.within, c.requires.objects, c.within_limit.ensures)
+
 pub returns-then-is_err-clause-leaves : goal.returns-then-is_err-clause-leaves
 returns-then-is_err-clause-leaves c = λ ws read.
     let vs = c.args.objects.items in

@@ -32,7 +32,7 @@ loop-pair-preserved c =
       none = c.in_ok-go_on.ensures.none;
       low = low-more qs i c.loop-pair.target q lt is so_far.low (so_far.ahead (0, 0) lt);
       ahead = λ d next.
-          let rises = c.requires i (i + 1) d (omega arith) next in
+          let rises = c.requires.ascend i (i + 1) d (omega arith) next in
           rw (get_or_default qs i (0, 0) d lt) rises;
     }
 

@@ -1,8 +1,8 @@
 use Rattle.std.proofs.lemmas.Option.{slice_get-get_or}
-use Rattle.std.proofs.Common.{◌+◌, ◌<◌, ◌∷◌, length, refl, sym, ap, ◌∙◌, subst, arith}
+use Rattle.std.proofs.Common.{◌+◌, ◌<◌, ◌∷◌, ◌++◌, length, refl, sym, ap, ◌∙◌, subst, arith}
 use Rattle.rule_cost.specs.Bounds as spec
 use Rattle.rule_cost.specs.Limits.{SameCut, capped}
-use Rattle.rule_cost.specs.CostWalk.{surroundings_of_code, Totals}
+use Rattle.rule_cost.specs.CostWalk.{surroundings_of_code, SameLengths, Totals}
 use Rattle.rule_cost.proofs.CodeWalk.{block_advances, branches_advance, torn_ends, torn_branch_ends, reached_first, reached_next}
 use Rattle.rule_cost.proofs.walk.+walk.Goals.{step-in_default-via-in-OneBody+else-length-left, step-in_default-via-in-TwoBodies+then-first-left+else-second-left, step-in_default-via-in-TwoBodies+else-first-left}
 use Rattle.rule_cost.proofs.walk.+walk.Goals as goal
@@ -12,18 +12,17 @@ pub block-returns-clause-advances : goal.block-returns-clause-advances
 block-returns-clause-advances t c =
     let code = c.args.code.now in
     let at = c.args.place.at + 1 in
-    let bound = c.length_bound_by.result in
-    let source = c.top_length-source.ensures in
+    let source = c.block_length-source.ensures in
     let yielded = c.length_yielded.result in
     let total = c.in_ok-body.body in
     record {
       forward = omega arith;
       within = omega (arith, c.requires.nests);
-      cost = block_advances code c.args.variables.now c.args.place c.args.instr c.requires.inside c.requires.place.within c.requires.here c.args.operands.now c.args.length c.requires.shape c.requires.nests bound yielded c.block_steps.result (at + c.args.length) c.put.new.lengths c.put-2.new.lengths (record { at = at; end = at + c.args.length }) total refl refl refl
-          (subst (λ l. SameCut bound (spec.length_bound_by c.args.instr l)) source c.length_bound_by.ensures) c.in_ok-put.ensures c.in_ok-body.ensures.totals
-          (subst (λ l. SameCut c.block_steps.result (spec.block_steps c.args.instr l total.steps)) source c.block_steps.ensures)
+      cost = block_advances code c.args.variables.now c.args.place c.args.instr c.requires.inside c.requires.place.within c.requires.here c.args.operands.now c.args.length c.requires.shape c.requires.nests yielded c.block_charges.result (at + c.args.length) c.bind.new.variables c.put.new.lengths (record { at = at; end = at + c.args.length }) total refl refl refl
+          (subst (λ l. SameLengths c.bind.new.variables (spec.lengths_bound_by c.args.instr l ++ c.args.variables.now)) source c.in_ok-bind.ensures.bound) c.in_ok-body.ensures.totals
+          (subst (λ l. SameCut c.block_charges.result (spec.block_charges c.args.instr l total.charges total.length)) source c.block_charges.ensures)
           (subst (λ l. SameCut yielded (spec.length_yielded c.args.instr l total.length)) source c.length_yielded.ensures)
-          (c.in_ok-put-2.ensures ∙ ap (λ l. yielded ∷ l) (c.take_operands.ensures (surroundings_of_code code)));
+          (c.in_ok-put.ensures ∙ ap (λ l. yielded ∷ l) (c.take_operands.ensures (surroundings_of_code code)));
     }
 
 -- src/walk.rt:156:1
@@ -36,21 +35,21 @@ branches-returns-clause-advances t c =
     record {
       forward = omega arith;
       within = omega (arith, c.requires.nests);
-      cost = branches_advance code c.args.variables.now c.args.place c.args.instr c.requires.inside c.requires.place.within c.requires.here c.args.operands.now c.args.lengths.0 c.args.lengths.1 c.requires.shape c.requires.nests c.max.result c.branch_steps.result end c.put.new.lengths (record { at = at; end = middle }) (record { at = middle; end = end }) c.in_ok-first.first c.in_ok-second.second refl refl refl refl refl
-          c.in_ok-first.ensures.totals (subst (λ vs. Totals code vs (record { at = middle; end = end }) c.in_ok-second.second) c.in_ok-first.ensures.kept c.in_ok-second.ensures.totals) c.branch_steps.ensures (ap capped c.max.ensures)
+      cost = branches_advance code c.args.variables.now c.args.place c.args.instr c.requires.inside c.requires.place.within c.requires.here c.args.operands.now c.args.lengths.0 c.args.lengths.1 c.requires.shape c.requires.nests c.max.result c.branch_charges.result end c.put.new.lengths (record { at = at; end = middle }) (record { at = middle; end = end }) c.in_ok-first.first c.in_ok-second.second refl refl refl refl refl
+          c.in_ok-first.ensures.totals (subst (λ vs. Totals code vs (record { at = middle; end = end }) c.in_ok-second.second) c.in_ok-first.ensures.kept c.in_ok-second.ensures.totals) c.branch_charges.ensures (ap capped c.max.ensures)
           (c.in_ok-put.ensures ∙ ap (λ l. c.max.result ∷ l) (c.take_operands.ensures (surroundings_of_code code)));
     }
 
 -- src/walk.rt:66:5
 pub sequence-instructions-init : goal.sequence-instructions-init
 sequence-instructions-init t c =
-    reached_first c.args.code.now c.args.variables.now c.args.place c.new-steps.result c.new-operands.result c.requires.place.before c.new-steps.ensures c.new-operands.ensures
+    reached_first c.args.code.now c.args.variables.now c.args.place c.new-charges.result c.new-operands.result c.requires.place.before c.new-charges.ensures c.new-operands.ensures
 
 -- src/walk.rt:66:5
 pub sequence-instructions-preserved : goal.sequence-instructions-preserved
 sequence-instructions-preserved t c =
-    reached_next c.args.code.now c.args.variables.now c.args.place (record { at = c.instructions.at; end = c.args.place.end }) c.instructions.steps c.plus-steps.result c.instructions.at c.in_ok-advance.advance c.instructions.variables c.step.new.variables c.instructions.operands c.step.new.operands c.instructions.invariant refl refl
-    c.in_ok-advance.ensures.kept c.in_ok-advance.ensures.advances c.plus-steps.ensures
+    reached_next c.args.code.now c.args.variables.now c.args.place (record { at = c.instructions.at; end = c.args.place.end }) c.instructions.charges c.plus-charges.result c.instructions.at c.in_ok-advance.advance c.instructions.variables c.step.new.variables c.instructions.operands c.step.new.operands c.instructions.invariant refl refl
+    c.in_ok-advance.ensures.kept c.in_ok-advance.ensures.advances c.plus-charges.ensures
 
 -- src/walk.rt:80:1
 pub step-returns-in_default-clause-advances : goal.step-returns-in_default-clause-advances

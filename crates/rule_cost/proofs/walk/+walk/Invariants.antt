@@ -15,7 +15,7 @@ abbrev pub decreases-branches : goal.decreases-branches
 decreases-branches l = 4 * (l.place.end - l.place.at) + 1
 
 abbrev pub invariant-sequence-instructions : goal.invariant-sequence-instructions
-invariant-sequence-instructions l = Reached l.code l.fn.variables l.place l.steps l.at l.variables l.operands
+invariant-sequence-instructions l = Reached l.code l.fn.variables l.place l.charges l.at l.variables l.operands
 
 abbrev pub decreases-sequence-instructions : goal.decreases-sequence-instructions
 decreases-sequence-instructions l = l.place.end - l.at

@@ -1,5 +1,4 @@
 use Rattle.std.proofs.Common.{◌+◌, ◌∷◌, refl, ap, ◌∙◌, arith}
-use Rattle.rule_cost.specs.Limits.{capped}
 use Rattle.rule_cost.specs.CostWalk.{surroundings_of_code}
 use Rattle.rule_cost.proofs.CodeWalk.{plain_advances}
 use Rattle.rule_cost.proofs.walk.plain.Goals as goal
@@ -12,5 +11,5 @@ returns c =
     record {
       forward = omega arith;
       within = omega (arith, c.requires.inside);
-      cost = plain_advances code c.args.variables.now c.args.place c.args.instr c.requires.inside c.requires.place.within c.requires.here c.args.operands.now c.requires.shape length c.new.result (c.args.place.at + 1) c.put.new.lengths refl (ap capped c.new.ensures) c.length_given-length.ensures (c.in_ok-put.ensures ∙ ap (λ l. length ∷ l) (c.take_operands.ensures (surroundings_of_code code)));
+      cost = plain_advances code c.args.variables.now c.args.place c.args.instr c.requires.inside c.requires.place.within c.requires.here c.args.operands.now c.requires.shape length c.plain_charge-charges.result (c.args.place.at + 1) c.put.new.lengths refl c.plain_charge-charges.ensures c.length_given-length.ensures (c.in_ok-put.ensures ∙ ap (λ l. length ∷ l) (c.take_operands.ensures (surroundings_of_code code)));
     }

@@ -1,6 +1,6 @@
 use Rattle.std.proofs.Common.{◌≡◌, ◌++◌, drop, map}
 use Rattle.std.specs.List.{filter_map}
-use Rattle.rule_machine.specs.Value.{as_element}
+use Rattle.rule_values.specs.Value.{as_element}
 use Rattle.rule_machine.specs.Meant.{meant, meant_items}
 use Rattle.rule_machine.proofs.collecting.collected_items.Given as goal
 

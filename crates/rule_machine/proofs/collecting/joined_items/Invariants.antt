@@ -1,5 +1,5 @@
 use Rattle.std.proofs.Common.{◌≡◌, ◌++◌, drop, map}
-use Rattle.rule_machine.specs.Endings.{joined}
+use Rattle.rule_values.specs.Endings.{joined}
 use Rattle.rule_machine.specs.Meant.{meant, meant_items}
 use Rattle.rule_machine.proofs.collecting.joined_items.Given as goal
 

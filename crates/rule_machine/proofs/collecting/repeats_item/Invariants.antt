@@ -1,6 +1,6 @@
 use Rattle.std.proofs.Common.{◌≡◌, drop}
 use Rattle.ocl_base.specs.Lists.{repeats}
-use Rattle.rule_machine.specs.Value.{same_element}
+use Rattle.rule_values.specs.Value.{same_element}
 use Rattle.rule_machine.specs.Meant.{meant_items}
 use Rattle.rule_machine.proofs.collecting.repeats_item.Given as goal
 

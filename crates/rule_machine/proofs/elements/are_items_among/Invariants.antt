@@ -1,7 +1,7 @@
 use Rattle.std.proofs.Common.{◌≡◌, drop}
 use Rattle.std.specs.List.{list_all}
 use Rattle.ocl_base.specs.Lists.{is_among}
-use Rattle.rule_machine.specs.Value.{same_element}
+use Rattle.rule_values.specs.Value.{same_element}
 use Rattle.rule_machine.specs.Meant.{meant_items}
 use Rattle.rule_machine.proofs.elements.are_items_among.Given as goal
 

@@ -1,5 +1,5 @@
 use Rattle.std.proofs.Common.{◌≡◌, ◌++◌, drop}
-use Rattle.rule_machine.specs.Operations.{distinct_after, distinct}
+use Rattle.rule_values.specs.Operations.{distinct_after, distinct}
 use Rattle.rule_machine.specs.Meant.{meant_items}
 use Rattle.rule_machine.proofs.elements.distinct_items.Given as goal
 

@@ -1,6 +1,6 @@
 use Rattle.std.proofs.Common.{◌≡◌, drop}
 use Rattle.ocl_base.specs.Lists.{is_among}
-use Rattle.rule_machine.specs.Value.{same_element}
+use Rattle.rule_values.specs.Value.{same_element}
 use Rattle.rule_machine.specs.Meant.{meant_item, meant_items}
 use Rattle.rule_machine.proofs.elements.is_item_among.Given as goal
 

@@ -1,5 +1,5 @@
 use Rattle.std.proofs.Common.{◌≡◌, ◌+◌, ◌≤◌, drop}
-use Rattle.rule_machine.specs.Equality.{occurrences}
+use Rattle.rule_values.specs.Equality.{occurrences}
 use Rattle.rule_machine.specs.Meant.{meant_item, meant_items}
 use Rattle.rule_machine.proofs.elements.occurrences.Given as goal
 

@@ -1,5 +1,5 @@
 use Rattle.std.proofs.Common.{◌≡◌, ◌+◌, ◌≤◌, drop, map}
-use Rattle.rule_machine.specs.Endings.{count_true}
+use Rattle.rule_values.specs.Endings.{count_true}
 use Rattle.rule_machine.specs.Meant.{meant}
 use Rattle.rule_machine.proofs.endings.count_true.Given as goal
 

@@ -1,5 +1,5 @@
 use Rattle.std.proofs.Common.{◌≡◌, ◌++◌, drop, map}
-use Rattle.rule_machine.specs.Endings.{kept_by}
+use Rattle.rule_values.specs.Endings.{kept_by}
 use Rattle.rule_machine.specs.Meant.{meant, meant_items, is_wanted}
 use Rattle.rule_machine.proofs.endings.kept_items.Given as goal
 

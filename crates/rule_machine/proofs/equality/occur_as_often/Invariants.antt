@@ -1,7 +1,7 @@
 use Rattle.std.proofs.Common.{◌≡◌, drop}
 use Rattle.std.specs.Prelude.{◌==◌}
 use Rattle.std.specs.List.{list_all}
-use Rattle.rule_machine.specs.Equality.{occurrences}
+use Rattle.rule_values.specs.Equality.{occurrences}
 use Rattle.rule_machine.specs.Meant.{meant_items}
 use Rattle.rule_machine.proofs.equality.occur_as_often.Given as goal
 

@@ -1,7 +1,7 @@
 use Rattle.std.proofs.Common.{sym, ◌∙◌}
 use Rattle.std.proofs.lemmas.List.{length-map}
 use Rattle.rule_machine.specs.Meant.{meant_item, meant_items}
-use Rattle.rule_machine.proofs.Distinct.{different_lengths}
+use Rattle.rule_values.proofs.ForAbove.{different_lengths}
 use Rattle.rule_machine.proofs.equality.same_lists.Goals as goal
 
 -- src/equality.rt

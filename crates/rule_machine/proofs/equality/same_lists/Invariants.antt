@@ -1,5 +1,5 @@
 use Rattle.std.proofs.Common.{◌≡◌, drop}
-use Rattle.rule_machine.specs.Equality.{same_lists}
+use Rattle.rule_values.specs.Equality.{same_lists}
 use Rattle.rule_machine.specs.Meant.{meant_items}
 use Rattle.rule_machine.proofs.equality.same_lists.Given as goal
 

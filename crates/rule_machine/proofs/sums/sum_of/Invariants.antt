@@ -1,6 +1,6 @@
 use Rattle.std.proofs.Common.{◌≡◌, drop, ◌+ℤ◌}
 use Rattle.std.specs.Option.{option_map}
-use Rattle.rule_machine.specs.Operations.{sum_of}
+use Rattle.rule_values.specs.Operations.{sum_of}
 use Rattle.rule_machine.specs.Meant.{meant_items, IsTotal}
 use Rattle.rule_machine.proofs.sums.sum_of.Given as goal
 

@@ -3,7 +3,7 @@ use Rattle.std.specs.Prelude.{min}
 use Rattle.std.proofs.lemmas.Bool.{false≢true}
 use Rattle.std.proofs.lemmas.List.{get_or_default, take_all}
 use Rattle.imkl_population.specs.declared.scalar.Scalar.{Scalar}
-use Rattle.imkl_population.specs.declared.column.Entry.{Entry}
+use Rattle.imkl_population.specs.declared.entries.Entry.{Entry}
 use Rattle.imkl_population.specs.Values.{is_over}
 use Rattle.imkl_population.specs.Written.{written_in}
 use Rattle.imkl_population.proofs.Stored.{none, over-more, uncrowded, map-is, IsOverFrom}

@@ -1,9 +1,10 @@
 use Rattle.std.proofs.Common.{◌∙◌, ◌==◌, ℕ, List, ap, sym, arith, length, slice_range}
 use Rattle.std.specs.Prelude.{find}
 use Rattle.imkl_population.specs.declared.scalar.Scalar.{Scalar}
-use Rattle.imkl_population.specs.declared.column.Entry.{Entry}
+use Rattle.imkl_population.specs.declared.entries.Entry.{Entry}
+use Rattle.imkl_population.specs.Store.{IsEntry}
 use Rattle.imkl_population.specs.Written.{written_in}
-use Rattle.imkl_population.proofs.Stored.{find-lookup, find-within, map-is, value_of}
+use Rattle.imkl_population.proofs.Stored.{find-holds, find-lookup, map-is, value_of}
 use Rattle.imkl_population.proofs.column.Column.get.Goals as goal
 
 pub values_of-requires : goal.values_of-requires
@@ -11,7 +12,7 @@ values_of-requires c =
     let i = c.self.inside in
     let test = λ (e : Entry). e.object == c.args.object in
     let found = sym (c.in-Some.ensures ∙ ap (find test) c.deref.ensures.value) in
-    let within = find-within (length i.scalars.items) test i.entries.items c.in-Some.entry c.self.invariant.within found in
+    let within = find-holds (IsEntry (length i.scalars.items)) test i.entries.items c.in-Some.entry c.self.invariant.within found in
     (within.0, omega (arith, within.1, ap length c.deref-in-Some.ensures.value))
 
 pub returns-in-Some : goal.returns-in-Some

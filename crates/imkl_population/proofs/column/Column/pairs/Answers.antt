@@ -1,7 +1,7 @@
 use Rattle.std.proofs.Common.{◌∙◌, List, map, ap, subst, get_or, slice_range}
 use Rattle.std.proofs.lemmas.List.{get_or_default, take_all}
 use Rattle.imkl_population.specs.declared.scalar.Scalar.{Scalar}
-use Rattle.imkl_population.specs.declared.column.Entry.{Entry}
+use Rattle.imkl_population.specs.declared.entries.Entry.{Entry}
 use Rattle.imkl_population.specs.Store.{pairs_in, entry_of, map_of}
 use Rattle.imkl_population.specs.Written.{IsMap}
 use Rattle.imkl_population.proofs.Stored.{none, map-is, ascending}

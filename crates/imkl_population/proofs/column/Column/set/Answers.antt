@@ -1,7 +1,7 @@
 use Rattle.std.proofs.Common.{◌≡◌, ◌∙◌, List, ap, arith}
 use Rattle.std.specs.Ordering.{nat_cmp}
 use Rattle.std.specs.BTreeMap.{insert_entry}
-use Rattle.imkl_population.specs.declared.column.Entry.{Entry}
+use Rattle.imkl_population.specs.declared.entries.Entry.{Entry}
 use Rattle.imkl_population.specs.Store.{Stored, map_of}
 use Rattle.imkl_population.proofs.Stored.{seen, set-laid_out, set-map, unset-laid_out, unset-map, on_either, on_ok, on_err}
 use Rattle.imkl_population.proofs.column.Column.set.Goals as goal

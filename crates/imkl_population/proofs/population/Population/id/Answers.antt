@@ -1,14 +1,14 @@
 use Rattle.std.proofs.Common.{◌∙◌, ap, sym, arith, length}
 use Rattle.imkl_population.specs.declared.object.Object.{Object}
 use Rattle.imkl_population.specs.Population.{Population}
-use Rattle.imkl_population.specs.Store.{maps_of}
+use Rattle.imkl_population.specs.Store.{maps_in}
 use Rattle.imkl_population.proofs.Layouts.{content-is, length-content, head-at}
 use Rattle.imkl_population.proofs.population.Population.id.Goals as goal
 
 pub index-head-requires : goal.index-head-requires
-index-head-requires c = omega (arith, c.requires, c.index.ensures, length-content c.self.inside.model.now c.self.inside.heads.items (maps_of c.self.inside.written), ap (λ (p : Population). length p.objects) (content-is c.self.view_is))
+index-head-requires c = omega (arith, c.requires, c.index.ensures, length-content c.self.inside.model.now c.self.inside.heads.items (maps_in c.self.inside.scalars.items c.self.inside.written.items), ap (λ (p : Population). length p.objects) (content-is c.self.view_is))
 
 pub returns : goal.returns
 returns c =
     let i = c.self.inside in
-    c.as_str.ensures ∙ sym (ap (λ (x : Object). x.id) (head-at i.model.now i.heads.items (maps_of i.written) c.args.self.now.content c.args.object c.index.result c.index-head.result.now (content-is c.self.view_is) c.requires c.index.ensures c.index-head.ensures))
+    c.as_str.ensures ∙ sym (ap (λ (x : Object). x.id) (head-at i.model.now i.heads.items (maps_in i.scalars.items i.written.items) c.args.self.now.content c.args.object c.index.result c.index-head.result.now (content-is c.self.view_is) c.requires c.index.ensures c.index-head.ensures))

@@ -1,7 +1,7 @@
 use Rattle.std.proofs.Common.{◌≡◌, Ok, ap, sym}
 use Rattle.imkl_delivery.specs.declared.fault.DeliveryFault.TheVariants as delivery
 use Rattle.ocl_check.specs.Reply.{refused_delivery}
-use Rattle.ocl_check.specs.Asking.{answer_by}
+use Rattle.ocl_check.specs.Asking.{answer_by, is_whole_asked}
 use Rattle.ocl_check.specs.ThreeInputs.{delivery_answer, population_of}
 use Rattle.ocl_check.proofs.Asked.{some_reading}
 use Rattle.ocl_check.proofs.Endings.{ending_as}
@@ -23,7 +23,7 @@ returns-in-Err g c =
     let m = c.args.model.now in
     let bytes = c.args.delivery.now in (
       reading,
-      c.answer.ensures (delivery_answer f (population_of m bytes))
+      c.answer.ensures (is_whole_asked c.args.asked) (delivery_answer f (population_of m bytes))
           (said_unless c.refused_delivery.result (c.in-Err.fault ≡ delivery.OutOfMemory) (refused_delivery c.in-Err.fault) (delivery_answer f (population_of m bytes))
           (λ other. sym (ap (delivery_answer f) (population_is_refused m bytes c.in-Err.fault other c.in-Err.ensures.exact)))
           c.refused_delivery.ensures.said c.refused_delivery.ensures.refused),

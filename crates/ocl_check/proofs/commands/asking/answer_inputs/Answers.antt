@@ -1,7 +1,7 @@
 use Rattle.std.proofs.Common.{◌≡◌, Ok, ap, sym}
 use Rattle.imkl_model.specs.declared.fault.ModelFault.TheVariants as model
 use Rattle.ocl_check.specs.Reply.{refused_model}
-use Rattle.ocl_check.specs.Asking.{answer_by}
+use Rattle.ocl_check.specs.Asking.{answer_by, is_whole_asked}
 use Rattle.ocl_check.specs.ThreeInputs.{model_answer, inputs_answer}
 use Rattle.ocl_check.proofs.Asked.{some_reading}
 use Rattle.ocl_check.proofs.Endings.{ending_as}
@@ -23,7 +23,7 @@ returns-in-Err g c =
     let delivery = c.args.delivery.now in
     let answer = inputs_answer f c.args.model.now delivery in (
       reading,
-      c.answer.ensures answer
+      c.answer.ensures (is_whole_asked c.args.asked) answer
           (said_unless c.refused_model.result (c.in-Err.fault ≡ model.OutOfMemory) (refused_model c.in-Err.fault) answer
           (λ other. sym (ap (λ m. model_answer f m delivery) (model_is_refused c.args.model.now c.in-Err.fault other c.in-Err.ensures.answers)))
           c.refused_model.ensures.said c.refused_model.ensures.refused),

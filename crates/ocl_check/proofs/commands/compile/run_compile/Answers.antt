@@ -1,27 +1,63 @@
+use Rattle.std.proofs.Common.{◌≡◌, false, true, sym, ◌∙◌}
 use Rattle.std.proofs.KnownBytes.{Appends-nil}
+use Rattle.std.proofs.lemmas.Bool.{false≢true}
 use Rattle.ocl_check.specs.Compile.{compile_answer}
+use Rattle.ocl_check.proofs.Compiling.{compiled_alike, of_unit, nothing_written}
+use Rattle.ocl_check.proofs.Endings.{within, untouched, no_write, failed_read, read_fails, was_read}
 use Rattle.ocl_check.proofs.Inputs.{known_bytes, has_known}
-use Rattle.ocl_check.proofs.Compiling.{nothing_written}
 use Rattle.ocl_check.proofs.commands.compile.run_compile.Goals as goal
+
+pub returns-in-Ok-clause-answered : goal.returns-in-Ok-clause-answered
+returns-in-Ok-clause-answered g c =
+    let model = c.in-Ok.model.items in
+    let rules = c.in-Ok.rules.items in
+    let o = c.write_result.result in
+    let h = compiled_alike c.compile_inputs.result c.deref.result.now c.deref-in-Ok.result.now model rules c.deref.ensures.value c.deref-in-Ok.ensures.value c.compile_inputs.ensures in
+    let a = compile_answer model h.0 in (
+      model,
+      c.in-Ok.ensures.first.0,
+      within o model c.in-Ok.ensures.first.1,
+      (
+        rules,
+        c.in-Ok.ensures.second.0,
+        within o rules c.in-Ok.ensures.second.1,
+        (h.0, h.1, of_unit o c.compile_inputs.result model h.0 c.write_result.ensures.ended h.3, c.write_result.ensures.code a h.2, c.write_result.ensures.said a h.2),
+      ),
+    )
+
+pub returns-in-Ok-clause-read_fault : goal.returns-in-Ok-clause-read_fault
+returns-in-Ok-clause-read_fault g c = λ h. absurd (false≢true (sym c.write_result.ensures.read ∙ h))
+
+pub returns-in-Ok-clause-failed : goal.returns-in-Ok-clause-failed
+returns-in-Ok-clause-failed g c = λ h. absurd (was_read (c.in-Ok.model, c.in-Ok.rules) (c.in-Ok.ensures.failed h))
 
 pub returns-in-Err-clause-answered : goal.returns-in-Err-clause-answered
 returns-in-Err-clause-answered g c =
-    let model = known_bytes (g.M.Read.remaining c.args.model.now) in
-    let rules = known_bytes (g.R.Read.remaining c.args.rules.now) in
+    let model = known_bytes (g.M.Source.remaining c.args.model.now) in
+    let rules = known_bytes (g.R.Source.remaining c.args.rules.now) in
     let t = c.each_text_is_read.ensures rules in (
       model,
-      has_known (g.M.Read.remaining c.args.model.now),
+      has_known (g.M.Source.remaining c.args.model.now),
       tt,
       (
         rules,
-        has_known (g.R.Read.remaining c.args.rules.now),
+        has_known (g.R.Source.remaining c.args.rules.now),
         tt,
         (
           t.0,
           t.1,
           tt,
-          nothing_written g.O.Sink.contents g.O.Sink.has_failed (compile_answer model t.0).code c.args.out.now c.in-Err.fault c.in-Err.ensures.fault,
+          nothing_written g.O.Sink.contents g.O.Sink.has_failed (compile_answer model t.0).code c.args.out.now c.from.result (no_write c.from.result c.in-Err.fault c.from.ensures),
           (0, Appends-nil (g.S.Sink.contents c.args.sink.now)),
         ),
       ),
     )
+
+pub returns-in-Err-clause-kept : goal.returns-in-Err-clause-kept
+returns-in-Err-clause-kept g c = untouched c.from.result c.args.sink.now
+
+pub returns-in-Err-clause-read_fault : goal.returns-in-Err-clause-read_fault
+returns-in-Err-clause-read_fault g c = λ h. c.in-Err.ensures.read_fault (failed_read c.from.result c.in-Err.fault c.from.ensures h)
+
+pub returns-in-Err-clause-failed : goal.returns-in-Err-clause-failed
+returns-in-Err-clause-failed g c = λ h. read_fails c.from.result c.in-Err.fault c.from.ensures (c.in-Err.ensures.failed h)

@@ -1,4 +1,4 @@
-use Rattle.std.proofs.Common.{rules, ap}
+use Rattle.std.proofs.Common.{rules, ap, false}
 use Rattle.ocl_check.specs.Reply.{refused_cost}
 use Rattle.ocl_check.specs.Judge.{budget_answer}
 use Rattle.ocl_check.proofs.Endings.{ending_as}
@@ -17,5 +17,5 @@ returns-in-Err-TooCostly g c =
     let u = c.args.accepted.now.unit in
     let r = c.in-Err-TooCostly.rule in
     let answer = budget_answer c.args.budget p u in
-    c.answer.ensures answer
+    c.answer.ensures false answer
     (said_as c.refused_cost.result (refused_cost r) answer (refusal_is p u c.args.sizes.now c.args.budget r c.requires.sizes (search rules)) (search rules))

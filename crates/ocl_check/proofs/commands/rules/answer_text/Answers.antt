@@ -1,4 +1,4 @@
-use Rattle.std.proofs.Common.{◌≡◌, refl, subst}
+use Rattle.std.proofs.Common.{◌≡◌, false, refl, subst}
 use Rattle.imkl_model.specs.ClassModel.{Model}
 use Rattle.imkl_model.specs.WellFormed.{IsClassModel}
 use Rattle.ocl_base.specs.Steps.{Fails}
@@ -33,6 +33,6 @@ returns-in-Err g c =
     let fails = subst (λ (m : Model). Fails text_rules_fault c.in-Err.fault (compiled_rules m h.0)) c.model-model.ensures h.3 in (
       h.0,
       h.1,
-      c.answer.ensures (text_answer c.args.budget h.0 p)
+      c.answer.ensures false (text_answer c.args.budget h.0 p)
           (refusal_said c.refused_text.result (text_rules_fault c.in-Err.fault) (compiled_rules p.model h.0) (λ (a : Answer). a) (rules_answer c.args.budget p) (λ f. refl) fails c.refused_text.ensures),
     )

@@ -1,6 +1,6 @@
 use Rattle.std.proofs.Common.{rules, Ok}
 use Rattle.rule_code.specs.View.{content}
-use Rattle.ocl_check.specs.Asking.{answer_to}
+use Rattle.ocl_check.specs.Asking.{answer_to, is_whole_answer}
 use Rattle.ocl_check.specs.CodeRules.{code_answer}
 use Rattle.ocl_check.proofs.Endings.{ending_as}
 use Rattle.ocl_check.proofs.Accepting.{accepted_is}
@@ -13,4 +13,4 @@ returns-in-Ok g c =
 
 pub returns-in-Err-At-default : goal.returns-in-Err-At-default
 returns-in-Err-At-default g c =
-    c.answer.ensures (code_answer (answer_to c.args.question) c.args.population.now.content (Ok (content c.args.unit))) (search rules)
+    c.answer.ensures (is_whole_answer c.args.question) (code_answer (answer_to c.args.question) c.args.population.now.content (Ok (content c.args.unit))) (search rules)

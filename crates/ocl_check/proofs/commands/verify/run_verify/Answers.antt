@@ -1,13 +1,56 @@
+use Rattle.std.proofs.Common.{◌≡◌, false, true, sym, ◌∙◌}
 use Rattle.std.proofs.KnownBytes.{Appends-nil}
+use Rattle.std.proofs.lemmas.Bool.{false≢true}
+use Rattle.ocl_check.specs.Verify.{verify_answer}
+use Rattle.ocl_check.proofs.Described.{verified_alike}
+use Rattle.ocl_check.proofs.Endings.{within, kept_whole, untouched, no_write, failed_read, read_fails, was_read}
 use Rattle.ocl_check.proofs.Inputs.{known_bytes, has_known}
 use Rattle.ocl_check.proofs.commands.verify.run_verify.Goals as goal
 
+pub returns-in-Ok-clause-answered : goal.returns-in-Ok-clause-answered
+returns-in-Ok-clause-answered g c =
+    let model = c.in-Ok.model.items in
+    let code = c.in-Ok.code.items in
+    let o = c.answer.result in
+    let ending = c.answer.ensures true (verify_answer model code) (verified_alike c.verify_inputs.result c.deref.result.now c.deref-in-Ok.result.now model code c.deref.ensures.value c.deref-in-Ok.ensures.value c.verify_inputs.ensures) in (
+      model,
+      c.in-Ok.ensures.first.0,
+      within o model c.in-Ok.ensures.first.1,
+      (code, c.in-Ok.ensures.second.0, within o code c.in-Ok.ensures.second.1, ending.answered),
+    )
+
+pub returns-in-Ok-clause-sink : goal.returns-in-Ok-clause-sink
+returns-in-Ok-clause-sink g c = (c.answer.ensures true (verify_answer c.deref.result.now c.deref-in-Ok.result.now) c.verify_inputs.ensures).sink
+
+pub returns-in-Ok-clause-kept : goal.returns-in-Ok-clause-kept
+returns-in-Ok-clause-kept g c =
+    kept_whole c.answer.result c.args.sink.now c.answer.new.sink (c.answer.ensures true (verify_answer c.deref.result.now c.deref-in-Ok.result.now) c.verify_inputs.ensures).kept
+
+pub returns-in-Ok-clause-read_fault : goal.returns-in-Ok-clause-read_fault
+returns-in-Ok-clause-read_fault g c = λ h.
+    absurd (false≢true (sym (c.answer.ensures true (verify_answer c.deref.result.now c.deref-in-Ok.result.now) c.verify_inputs.ensures).read ∙ h))
+
+pub returns-in-Ok-clause-failed : goal.returns-in-Ok-clause-failed
+returns-in-Ok-clause-failed g c = λ h. absurd (was_read (c.in-Ok.model, c.in-Ok.code) (c.in-Ok.ensures.failed h))
+
 pub returns-in-Err-clause-answered : goal.returns-in-Err-clause-answered
 returns-in-Err-clause-answered g c =
-    let model = g.M.Read.remaining c.args.model.now in
-    let code = g.C.Read.remaining c.args.code.now in (
+    let model = g.M.Source.remaining c.args.model.now in
+    let code = g.C.Source.remaining c.args.code.now in (
       known_bytes model,
       has_known model,
       tt,
       (known_bytes code, has_known code, tt, (0, Appends-nil (g.S.Sink.contents c.args.sink.now))),
     )
+
+pub returns-in-Err-clause-sink : goal.returns-in-Err-clause-sink
+returns-in-Err-clause-sink g c = c.requires.sink ∙ sym (no_write c.from.result c.in-Err.fault c.from.ensures)
+
+pub returns-in-Err-clause-kept : goal.returns-in-Err-clause-kept
+returns-in-Err-clause-kept g c = untouched c.from.result c.args.sink.now
+
+pub returns-in-Err-clause-read_fault : goal.returns-in-Err-clause-read_fault
+returns-in-Err-clause-read_fault g c = λ h. c.in-Err.ensures.read_fault (failed_read c.from.result c.in-Err.fault c.from.ensures h)
+
+pub returns-in-Err-clause-failed : goal.returns-in-Err-clause-failed
+returns-in-Err-clause-failed g c = λ h. read_fails c.from.result c.in-Err.fault c.from.ensures (c.in-Err.ensures.failed h)

@@ -9,8 +9,8 @@ use Rattle.rule_code.proofs.Loop.{begins, goes_on, ends, is_done}
 use Rattle.rule_code.proofs.RuleNames.{is_name_taken-push, is_name_taken-empty}
 use Rattle.rule_code.proofs.reading.rules.many_rules.Goals as goal
 
-pub returns-in_err-rule : goal.returns-in_err-rule
-returns-in_err-rule c =
+pub returns-in_err-rule-clause-gives : goal.returns-in_err-rule-clause-gives
+returns-in_err-rule-clause-gives c =
     let p = err_from_is_err_and c.from_residual.result c.from_residual.ensures.1 in
     let texts = map string_bytes c.args.texts.now in
     let failed = rw c.loop.invariant.known at c.in_err-rule.ensures.gives in
@@ -28,8 +28,8 @@ loop-preserved c =
       known = is_name_taken-push texts before r (is_name_taken c.loop.taken) (is_name_taken c.rule_from.new.taken) c.loop.invariant.known c.in_ok-rule.ensures.taken;
     })
 
-pub returns : goal.returns
-returns c = is_done (next_rule_from (map string_bytes c.args.texts.now) c.args.symbols.now) c.args.count c.args.bytes.now c.loop.counter (map rule_content c.loop.rules.items) c.loop.rest.now c.loop-test.false c.loop.invariant.read
+pub returns-clause-gives : goal.returns-clause-gives
+returns-clause-gives c = is_done (next_rule_from (map string_bytes c.args.texts.now) c.args.symbols.now) c.args.count c.args.bytes.now c.loop.counter (map rule_content c.loop.rules.items) c.loop.rest.now c.loop-test.false c.loop.invariant.read
 
 pub loop-init : goal.loop-init
 loop-init c =

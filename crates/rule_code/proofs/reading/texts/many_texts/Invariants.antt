@@ -1,7 +1,13 @@
-use Rattle.std.specs.Prelude.{map, string_bytes}
+use Rattle.std.proofs.Common.{◌≡◌}
+use Rattle.std.specs.Prelude.{map, string_bytes, IsErr}
 use Rattle.rule_code.specs.Parts.{text_from}
+use Rattle.rule_code.specs.CodeFile.{first_of}
 use Rattle.rule_code.proofs.Loop.{HasRead}
 use Rattle.rule_code.proofs.reading.texts.many_texts.Given as goal
 
 abbrev pub invariant-loop : goal.invariant-loop
-invariant-loop l = HasRead (λ before. text_from) l.count l.bytes l.counter (map string_bytes l.texts.items) l.rest
+invariant-loop l = record {
+  read : HasRead (λ before. text_from) l.count l.bytes l.counter (map string_bytes l.texts.items) l.rest;
+  start : l.counter ≡ 0 → l.rest ≡ l.bytes;
+  first : IsErr (first_of l.count l.bytes) → l.counter ≡ 0;
+}

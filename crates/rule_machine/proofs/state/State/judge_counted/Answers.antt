@@ -1,6 +1,7 @@
-use Rattle.std.proofs.Common.{arith, subst, sym}
+use Rattle.std.proofs.Common.{arith, ◌≡◌, ◌+◌, ◌-◌, ◌^◌, subst, sym}
+use Rattle.std.specs.Prelude.{min}
 use Rattle.std.proofs.lemmas.Result.{err_from_is_err_and}
-use Rattle.rule_machine.proofs.Ran.{Standing, standing_begun, standing_goes, standing_same, standing_next, standing_below, is_judged, is_judge_refused, its_verdict, counted}
+use Rattle.rule_machine.proofs.Ran.{next_charge, Standing, standing_begun, standing_goes, standing_same, standing_next, standing_below, is_judged, is_judge_refused, its_verdict, counted}
 use Rattle.rule_machine.proofs.state.State.judge_counted.Goals as goal
 
 pub steps-init : goal.steps-init
@@ -40,5 +41,6 @@ pub steps-preserved : goal.steps-preserved
 steps-preserved g c =
     let t = c.args.task in
     let s = standing_same t c.args.object c.steps.self c.ended.new.self c.steps.book.total c.in_default.ensures.same c.steps.invariant.1 in
-    let r = standing_next t c.args.object c.ended.new.self c.step.new.self c.steps.book.total c.saturating_add-self.result c.in_ok-step.ensures.made c.saturating_add-self.ensures s in
-    (omega (arith, c.steps.invariant.0, c.add.ensures.parts), subst (Standing t c.args.object (counted t c.step.new.self c.saturating_add-self.result)) (sym c.add.ensures.total) r)
+    let counts : c.with_charge-self.result ≡ min (c.step.new.self.count + next_charge t c.ended.new.self) (2 ^ 64 - 1) = omega (arith, c.with_charge-self.ensures, c.charge-charge.ensures) in
+    let r = standing_next t c.args.object c.ended.new.self c.step.new.self c.steps.book.total c.with_charge-self.result c.in_ok-step.ensures.made counts s in
+    (omega (arith, c.steps.invariant.0, c.add.ensures.parts), subst (Standing t c.args.object (counted t c.step.new.self c.with_charge-self.result)) (sym c.add.ensures.total) r)

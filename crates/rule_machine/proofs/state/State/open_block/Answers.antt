@@ -21,7 +21,7 @@ opened-mark-requires c =
     let it = iterates c.args.instr c.args.body r.shape c.in_default-instr.not-Let in
     record {
       iterates = it;
-      source = has_source c.args.task m.at m.end m.controls.0 m.variables.0 m.operands.0 c.args.instr r.before_end r.place.within r.place.pending r.here r.goes c.args.body r.shape it (omega (arith, c.if-body-self.false, r.before_end)) c.in-Some.value c.pop.new.self.0 c.in-Some.ensures.items;
+      source = has_source c.args.task m.at m.end m.controls.0 m.variables.0 m.operands.0 c.args.instr r.before_end r.place.within r.place.pending r.here r.goes c.args.body r.shape it refl (omega (arith, c.if-body-self.false, r.before_end)) c.in-Some.value c.pop.new.self.0 c.in-Some.ensures.items;
     }
 
 pub returns-in-Let : goal.returns-in-Let
@@ -36,5 +36,5 @@ returns-in_default-instr c =
     let m = c.args.self.now in
     let r = c.requires in
     let it = iterates c.args.instr c.args.body r.shape c.in_default-instr.not-Let in
-    let made = iteration_made c.args.task m.at m.end m.controls.0 m.variables.0 m.operands.0 c.args.instr r.before_end r.place.within r.place.pending r.here r.goes c.args.body r.shape it (omega (arith, c.if-body-self.false, r.before_end)) c.in-Some.value c.pop.new.self.0 c.opened-mark.result c.push.new.self.0 c.push-in_default-instr.new.self.0 c.in-Some.ensures.items c.opened-mark.ensures c.push.ensures.items c.push-in_default-instr.ensures.items in
+    let made = iteration_made c.args.task m.at m.end m.controls.0 m.variables.0 m.operands.0 c.args.instr r.before_end r.place.within r.place.pending r.here r.goes c.args.body r.shape it refl (omega (arith, c.if-body-self.false, r.before_end)) c.in-Some.value c.pop.new.self.0 c.opened-mark.result c.push.new.self.0 c.push-in_default-instr.new.self.0 c.in-Some.ensures.items c.opened-mark.ensures c.push.ensures.items c.push-in_default-instr.ensures.items in
     record { made = made.0; place = made.1; kept = record { started = refl; count = refl } }

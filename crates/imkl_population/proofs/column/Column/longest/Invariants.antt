@@ -1,6 +1,0 @@
-use Rattle.std.proofs.Common.{◌≡◌, take}
-use Rattle.imkl_population.proofs.Longest.{longest_span}
-use Rattle.imkl_population.proofs.column.Column.longest.Given as goal
-
-abbrev pub invariant-loop-entry : goal.invariant-loop-entry
-invariant-loop-entry l = l.longest ≡ longest_span (take l.entry-index l.entry-items)

@@ -1,0 +1,133 @@
+//! What the next step of a machine is charged. Charges are cut at 2^128-1.
+
+ghost use Rattle.std.specs.Prelude.{◌≡◌, ℕ, ◌+◌, ◌*◌, ◌-◌, ◌^◌, List, [], ◌∷◌, min};
+ghost use Rattle.rule_code.specs.declared.instruction.Instr.{Instr};
+ghost use Rattle.rule_cost.specs.Bounds as bound;
+ghost use Rattle.rule_machine.specs.Machine.{Piece};
+ghost use Rattle.rule_machine.specs.Places.{long};
+ghost use Rattle.rule_machine.specs.Charges.{longs, piece_charge, charge_of};
+ghost use Rattle.rule_machine.specs.Meant.{meant};
+ghost use Rattle.rule_machine.specs.Shown.{all_meant, piece, configuration_of, turn_charge_by, LiesIn, IsMark, IsAtFront};
+
+use crate::control::Control;
+use crate::stack::ReservedStack;
+use crate::state::State;
+use crate::task::Task;
+use crate::value::Value;
+use rule_code::{Instr, WrittenKind};
+
+impl<'a> State<'a> {
+    /// The charge of the next step.
+    pub(crate) fn charge(&self, task: Task<'a>) -> u128
+        requires place { LiesIn task self.now }
+        requires front { IsAtFront self.now }
+        ensures { result ≡ min (charge_of (configuration_of task.entry self.now)) (2 ^ 128 - 1) }
+    {
+        if self.at < self.end {
+            return extra_charge(&self.operands, task.code()[self.at]).saturating_add(1);
+        }
+        match self.controls.top() {
+            Some(mark) => mark_charge(mark, &self.operands),
+            None => unreachable!(),
+        }
+    }
+}
+
+/// The count with a charge more, at most 2^64-1.
+pub(crate) fn with_charge(count: u64, charge: u128) -> u64
+    ensures { result ≡ min (count + charge) (2 ^ 64 - 1) }
+{
+    match u64::try_from(u128::from(count).saturating_add(charge)) {
+        Ok(sum) => sum,
+        Err(_) => u64::MAX,
+    }
+}
+
+/// The charge of the step of a mark.
+fn mark_charge(mark: &Control<'_>, operands: &ReservedStack<Value<'_>>) -> u128
+    ensures { (code : List Instr) (q : List Piece) → IsMark mark.now → result ≡ min (piece_charge (piece code mark.now ∷ q) (all_meant operands.now.0)) (2 ^ 128 - 1) }
+{
+    match mark {
+        Control::Opened(i) => turn_charge(i.instr, i.elements.len(), 0).saturating_add(1),
+        Control::Turning(i) => {
+            let taking = taking_charge(i.instr, top_length(operands));
+            taking
+                .saturating_add(turn_charge(i.instr, i.elements.len(), i.next))
+                .saturating_add(1)
+        }
+        _ => 1,
+    }
+}
+
+/// The length of a collection, 0 of any other value.
+fn length_of(value: &Value<'_>) -> u64
+    ensures { result ≡ long (meant value.now) }
+{
+    match value {
+        Value::Collection(_, items) => items.len() as u64,
+        _ => 0,
+    }
+}
+
+/// The length of the topmost operand, 0 where there is none.
+fn top_length(operands: &ReservedStack<Value<'_>>) -> u64
+    ensures { result ≡ bound.top_length (longs (all_meant operands.now.0)) }
+{
+    match operands.from_top(0) {
+        Some(value) => length_of(value),
+        None => 0,
+    }
+}
+
+/// The length of the operand below it, 0 where there is none.
+fn second_length(operands: &ReservedStack<Value<'_>>) -> u64
+    ensures { result ≡ bound.second_length (longs (all_meant operands.now.0)) }
+{
+    match operands.from_top(1) {
+        Some(value) => length_of(value),
+        None => 0,
+    }
+}
+
+/// The product of two lengths.
+fn product(first: u64, second: u64) -> u128
+    ensures { result ≡ min (first * second) (2 ^ 128 - 1) }
+{
+    u128::from(first).saturating_mul(u128::from(second))
+}
+
+/// What an instruction without a body is charged besides its step.
+fn extra_charge(operands: &ReservedStack<Value<'_>>, instr: Instr) -> u128
+    ensures { result ≡ min (bound.extra_charge instr (longs (all_meant operands.now.0))) (2 ^ 128 - 1) }
+{
+    let top = top_length(operands);
+    match instr {
+        Instr::Includes(_) | Instr::Count(_) => u128::from(second_length(operands)),
+        Instr::IncAll(_) | Instr::ExcAll(_) => product(second_length(operands), top),
+        Instr::Eq(WrittenKind::Collection(_, _)) => product(second_length(operands), top),
+        Instr::Sum => u128::from(top),
+        Instr::AsSet(_) => product(top, top),
+        _ => 0,
+    }
+}
+
+/// What taking the value of a body is charged besides the step, by its length.
+fn taking_charge(instr: Instr, length: u64) -> u128
+    ensures { result ≡ bound.taking_charge instr length }
+{
+    match instr {
+        Instr::CollectFlat(_) => u128::from(length),
+        _ => 0,
+    }
+}
+
+/// What the next turn is charged besides its step, by the length of the source and the elements that were taken: with
+/// none left the iteration ends.
+fn turn_charge(instr: Instr, length: usize, taken: usize) -> u128
+    ensures { result ≡ min (turn_charge_by instr length taken) (2 ^ 128 - 1) }
+{
+    match instr {
+        Instr::IsUnique(_, _) if length <= taken => product(length as u64, length as u64),
+        _ => 0,
+    }
+}

@@ -1,0 +1,5 @@
+pub mod FittingKinds
+pub mod ValueKinds
+pub mod Distinct
+pub mod SetKinds
+pub mod ForAbove
