@@ -72,7 +72,7 @@ compiled_seen (compiled.Refused reply) = nothing_compiled (said reply)
 -- a command ended with a status
 abbrev pub is_ended : Outcome → Bool
 is_ended (Status s) = true
-is_ended (Failed fault) = false
+is_ended (Failed cause) = false
 
 -- an input is refused by the reply, if there is one
 abbrev pub IsRefusalOf : {E : Type 0} → Result reply.Reply E → Result Compiled E → Type 0

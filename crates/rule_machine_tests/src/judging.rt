@@ -21,7 +21,7 @@ fn ends_for(machine: &mut Machine<'_>, charges: u64, verdict: Verdict) -> Result
 {
     let mut made: u64 = 0;
     let mut grant: u64 = 1;
-    for _ in 1..charges {
+    'steps: for _turn in 1..charges {
         if machine.run(grant)? != Progress::Paused {
             return Ok(false);
         }
