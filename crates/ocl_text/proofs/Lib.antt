@@ -3,6 +3,8 @@ pub mod Views
 pub mod Names
 pub mod Counts
 pub mod Turns
+pub mod Reduced
+pub mod Resumed
 pub mod Complete
 pub mod Sound
 pub mod Wider

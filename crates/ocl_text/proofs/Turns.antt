@@ -4,7 +4,7 @@ use Rattle.ocl_tokens.specs.declared.token.TokenKind.{TokenKind}
 use Rattle.ocl_tokens.specs.declared.token.TokenKind.TheVariants as k
 use Rattle.ocl_base.specs.Steps.{FaultMeaning, fault, out_of_memory, never, Means}
 use Rattle.ocl_tokens.specs.Terminals.{Terminal}
-use Rattle.ocl_text.specs.Tree.{Rule, SurfaceTree, Binary}
+use Rattle.ocl_text.specs.Tree.{Rule, SurfaceTree}
 use Rattle.ocl_text.specs.Grammar.{top, steps_on, separates, begins_invariant, next_is}
 use Rattle.ocl_text.specs.Parse.{TokensFault, syntax, too_deep, Reader, Link, link, chain, one_step, step_list, items, invariant, invariants, context, contexts, is_done, expr, expr_over, expr_by, unary, unary_over, unary_by, post, level_of}
 
@@ -20,19 +20,6 @@ module _ (p : Reader SurfaceTree) (level : ℕ) where
   unfolding chain
   chain_deep zero left ts l h z = rw h refl
   chain_deep (suc c) left ts l h z = absurd (cc)
-
-  -- an operator follows, and its right operand is refused
-  pub chain_err : (c : ℕ) (left : SurfaceTree) (ts : List Terminal) (l : Link) (s : TokensFault) → link (suc level) ts ≡ Some l → c ≢ 0 → p l.2 ≡ Err s → chain p level c left ts ≡ Err s
-  unfolding chain
-  chain_err zero left ts l s h z e = absurd (z refl)
-  chain_err (suc c) left ts l s h z e = rw (h, e) refl
-
-  -- an operator follows with its right operand: the chain goes on from both
-  pub chain_next : (c : ℕ) (left next : SurfaceTree) (ts : List Terminal) (l : Link) (right : SurfaceTree) (rest : List Terminal) (here : ℕ) → here ≡ suc level → link here ts ≡ Some l → c ≢ 0 → p l.2 ≡ Ok (right, rest) → next ≡ Binary l.0 left right l.1
-      → chain p level c left ts ≡ chain p level (c - 1) next rest
-  unfolding chain
-  chain_next zero left next ts l right rest here i h z e v = absurd (z refl)
-  chain_next (suc c) left next ts l right rest here i h z e v = let d : suc c - 1 ≡ c = omega arith in rw (v, d) (rw (rw i at h, e) refl)
 
 module _ (n : ℕ) (p whole : Reader SurfaceTree) where
   -- no dot and no arrow follows: the steps end

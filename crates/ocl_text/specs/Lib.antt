@@ -10,3 +10,4 @@ pub mod ViewLaws
 -- Bookkeeping: views, layouts, walks and tables that only proofs and private contracts use.
 pub mod Parse
 pub mod Parses
+pub mod Pending

@@ -7,6 +7,7 @@ ghost use Rattle.ocl_text.specs.declared.cursor.ParseFault.TheVariants.{OutOfMem
 ghost use Rattle.ocl_text.specs.Grammar as grammar;
 ghost use Rattle.ocl_text.specs.Parse as spec;
 ghost use Rattle.ocl_text.specs.Parses.{Parses, Passes, from, meaning};
+ghost use Rattle.ocl_text.specs.Pending as pending;
 ghost use Rattle.ocl_text.specs.Tree.{SurfaceTree, TypeTree};
 
 use crate::name::Name;
@@ -82,6 +83,16 @@ pub(crate) struct PlacedName {
     pub(crate) offset: usize,
 }
 
+/// A binary operator of a text.
+#[derive(Clone, Copy, Debug)]
+pub(crate) struct PlacedOperator {
+    pub(crate) operator: BinaryOperator,
+    /// How many levels are tighter than its own.
+    pub(crate) height: usize,
+    /// The operator, in bytes from 0.
+    pub(crate) offset: usize,
+}
+
 /// The token at this index.
 pub(crate) fn peek<'t>(parser: &Parser<'t>, index: usize) -> Option<Token<'t>>
     ensures tokens { MatchOption result (from parser.now index ≡ [])
@@ -103,42 +114,44 @@ pub(crate) fn count(parser: &Parser<'_>, index: usize) -> usize
     parser.tokens.len().saturating_sub(index)
 }
 
-fn operator(level: usize, kind: TokenKind) -> Option<BinaryOperator>
-    ensures { result ≡ grammar.operator level kind }
+/// The binary operator that a token of this kind is, after the number of tighter levels.
+fn operator(kind: TokenKind) -> Option<(usize, BinaryOperator)>
+    ensures { result ≡ pending.operator_of kind }
 {
-    match (level, kind) {
-        (1, TokenKind::Star) => Some(BinaryOperator::Multiply),
-        (2, TokenKind::Plus) => Some(BinaryOperator::Add),
-        (2, TokenKind::Minus) => Some(BinaryOperator::Subtract),
-        (1, TokenKind::Div) => Some(BinaryOperator::Divide),
-        (1, TokenKind::Mod) => Some(BinaryOperator::Modulo),
-        (3, TokenKind::Less) => Some(BinaryOperator::Less),
-        (3, TokenKind::LessEqual) => Some(BinaryOperator::LessEqual),
-        (3, TokenKind::Greater) => Some(BinaryOperator::Greater),
-        (3, TokenKind::GreaterEqual) => Some(BinaryOperator::GreaterEqual),
-        (4, TokenKind::Equal) => Some(BinaryOperator::Equal),
-        (4, TokenKind::NotEqual) => Some(BinaryOperator::NotEqual),
-        (5, TokenKind::And) => Some(BinaryOperator::And),
-        (6, TokenKind::Or) => Some(BinaryOperator::Or),
-        (7, TokenKind::Xor) => Some(BinaryOperator::Xor),
-        (8, TokenKind::Implies) => Some(BinaryOperator::Implies),
+    match kind {
+        TokenKind::Star => Some((0, BinaryOperator::Multiply)),
+        TokenKind::Div => Some((0, BinaryOperator::Divide)),
+        TokenKind::Mod => Some((0, BinaryOperator::Modulo)),
+        TokenKind::Plus => Some((1, BinaryOperator::Add)),
+        TokenKind::Minus => Some((1, BinaryOperator::Subtract)),
+        TokenKind::Less => Some((2, BinaryOperator::Less)),
+        TokenKind::LessEqual => Some((2, BinaryOperator::LessEqual)),
+        TokenKind::Greater => Some((2, BinaryOperator::Greater)),
+        TokenKind::GreaterEqual => Some((2, BinaryOperator::GreaterEqual)),
+        TokenKind::Equal => Some((3, BinaryOperator::Equal)),
+        TokenKind::NotEqual => Some((3, BinaryOperator::NotEqual)),
+        TokenKind::And => Some((4, BinaryOperator::And)),
+        TokenKind::Or => Some((5, BinaryOperator::Or)),
+        TokenKind::Xor => Some((6, BinaryOperator::Xor)),
+        TokenKind::Implies => Some((7, BinaryOperator::Implies)),
         _ => None,
     }
 }
 
-/// The operator of this level that comes next, and its offset in the text.
-#[tactic(auto, unfolding(crate::specs::Parse::link))]
-pub(crate) fn link(
-    level: usize,
-    parser: &Parser<'_>,
-    index: usize,
-) -> Option<(BinaryOperator, usize)>
-    ensures value { option_map (λ x. (x.0, x.1, from parser.now (index + 1))) result
-        ≡ spec.link level (from parser.now index) }
+/// The binary operator that comes next.
+#[tactic(auto, unfolding(crate::specs::Pending::next_operator))]
+pub(crate) fn next_operator(parser: &Parser<'_>, index: usize) -> Option<PlacedOperator>
+    ensures value { option_map (λ o. (o, from parser.now (index + 1))) result
+        ≡ pending.next_operator (from parser.now index) }
     ensures within { MatchOption result (Unit {0}) (λ _. index < length parser.now.tokens.now) }
 {
     let t = peek(parser, index)?;
-    Some((operator(level, t.kind)?, t.span.start))
+    let (height, operator) = operator(t.kind)?;
+    Some(PlacedOperator {
+        operator,
+        height,
+        offset: t.span.start,
+    })
 }
 
 fn is_mark(mark: Mark, kind: TokenKind) -> bool

@@ -7,6 +7,7 @@ mod laws;
 mod name;
 mod nodes;
 mod parser;
+mod pending;
 mod rule_text;
 mod rules;
 mod strings;

@@ -7,22 +7,24 @@ ghost use Rattle.ocl_text.specs.Names.{is_operation_name};
 use ocl_tokens::MAX_NUMBER;
 use std::alloc::{AllocError, Global};
 use std::marker::Model;
+use std::rc::RcStr;
 
-/// A name: an identifier that isn't reserved.
+/// A name: an identifier that isn't reserved. A name may be as long as its text, so its copies share what it holds.
 #[derive(Debug, Drop)]
 pub struct Name {
-    text: String,
+    text: RcStr,
 }
 
 impl Model for Name {
-    ghost use Rattle.std.specs.Prelude.{◌≡◌, ℕ, List, true, string_bytes};
+    ghost use Rattle.std.specs.Prelude.{◌≡◌, ℕ, List, true};
+    ghost use Rattle.std.specs.Rc.{rc_str_bytes};
     ghost use Rattle.ocl_base.specs.Words.{is_name};
 
     ghost Value = { List ℕ };
 
-    ghost view = { λ n. string_bytes n.text };
+    ghost view = { λ n. rc_str_bytes n.text };
 
-    ghost invariant = { λ n. is_name (string_bytes n.text) ≡ true };
+    ghost invariant = { λ n. is_name (rc_str_bytes n.text) ≡ true };
 }
 
 impl Name {
@@ -32,16 +34,16 @@ impl Name {
         ensures { IfOk result (λ n. n ≡ text.now) }
     {
         Ok(Name {
-            text: String::from_str(alloc, text)?,
+            text: RcStr::from_str(alloc, text)?,
         })
     }
 
-    /// The same name once more.
-    pub fn copy(&self, alloc: Global) -> Result<Self, AllocError>
+    /// The same name once more, in constant time.
+    pub fn copy(&self) -> Result<Self, AllocError>
         ensures { IfOk result (λ n. n ≡ self.now) }
     {
         Ok(Name {
-            text: String::from_str(alloc, self.text.as_str())?,
+            text: self.text.clone()?,
         })
     }
 

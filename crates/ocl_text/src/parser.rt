@@ -12,12 +12,9 @@ ghost use Rattle.ocl_text.specs.View.{view, bound_of, view_variables};
 
 use crate::cursor::{Mark, ParseFault, Parser, Start};
 use crate::tree::{Binding, Expression, Keyword, Navigation, PrefixOperator, Variables};
-use crate::{cursor, nodes, types};
+use crate::{cursor, nodes, pending, types};
 use ocl_tokens::{Token, TokenKind};
 use std::alloc::Global;
-
-/// The loosest level of operators.
-const TOP: usize = 8;
 
 /// The expression that begins at this token, and the index after it.
 pub(crate) fn expression(
@@ -53,11 +50,11 @@ fn expr(
         return Err(cursor::too_deep(Start::Expression, parser, index));
     }
     let Some(t) = cursor::peek(parser, index) else {
-        return level(alloc, parser, depth, TOP, index);
+        return operators(alloc, parser, depth, index);
     };
     match t.kind {
         TokenKind::Let => let_expression(alloc, parser, depth - 1, t.span.start, index + 1),
-        _ => level(alloc, parser, depth, TOP, index),
+        _ => operators(alloc, parser, depth, index),
     }
 }
 
@@ -100,7 +97,7 @@ fn a_bind(
     let index = cursor::expect(Mark::Colon, parser, index)?;
     let (declared, index) = types::a_type(alloc, parser, depth, index)?;
     let index = cursor::expect(Mark::Equal, parser, index)?;
-    let (value, index) = level(alloc, parser, depth, TOP, index)?;
+    let (value, index) = operators(alloc, parser, depth, index)?;
     Ok((nodes::binding(name, declared, value), index))
 }
 
@@ -253,7 +250,7 @@ fn if_expression(
         (spec.if_expression (operand parser.now depth) (whole parser.now depth) offset
         (from parser.now index)) }
 {
-    let (condition, index) = level(alloc, parser, depth, TOP, index)?;
+    let (condition, index) = operators(alloc, parser, depth, index)?;
     let index = cursor::expect(Mark::Then, parser, index)?;
     let (then_branch, index) = expr(alloc, parser, depth, index)?;
     let index = cursor::expect(Mark::Else, parser, index)?;
@@ -263,56 +260,26 @@ fn if_expression(
     Ok((node, index))
 }
 
-/// Operands of the level below with the operators of this one; of level 0, one operand.
+/// Operands with binary operators between them.
 #[cycle(parser)]
-#[tactic(auto, unfolding(crate::specs::Parse::levels))]
-fn level(
+fn operators(
     alloc: Global,
     parser: &Parser<'_>,
     depth: usize,
-    height: usize,
-    index: usize,
-) -> Result<(Expression, usize), ParseFault>
-    requires { height ≤ 8 }
-    ensures { Parses parser.now view result
-        (spec.level_of parser.now.chain depth height (from parser.now index)) }
-{
-    if height == 0 {
-        return unary(alloc, parser, depth, index);
-    }
-    let (left, index) = level(alloc, parser, depth, height - 1, index)?;
-    chain(alloc, parser, depth, height - 1, left, index)
-}
-
-/// The operators of a level after its first operand; they group to the left.
-#[cycle(parser)]
-#[tactic(auto, using(crate::proofs::Turns::chain_none, crate::proofs::Turns::chain_deep, crate::proofs::Turns::chain_err))]
-fn chain(
-    alloc: Global,
-    parser: &Parser<'_>,
-    depth: usize,
-    height: usize,
-    first: Expression,
     start: usize,
 ) -> Result<(Expression, usize), ParseFault>
-    requires { height ≤ 7 }
-    ensures { Parses parser.now view result
-        (spec.chain (spec.level_of parser.now.chain depth height) height parser.now.chain
-        (view first) (from parser.now start)) }
+    ensures { Parses parser.now view result (operand parser.now depth (from parser.now start)) }
 {
-    let mut left = first;
+    let mut waiting = Vec::new(alloc);
     let mut index = start;
-    let mut links = parser.chain;
-    'chain: while let Some((operator, offset)) = cursor::link(height + 1, parser, index) {
-        if links == 0 {
-            return Err(ParseFault::TooDeep(index));
-        }
-        let (right, following) = level(alloc, parser, depth, height, index + 1)?;
-        left = nodes::binary(alloc, operator, left, right, offset)?;
-        index = following;
-        links -= 1;
+    'operators: loop {
+        let (operand, following) = unary(alloc, parser, depth, index)?;
+        let Some(operator) = cursor::next_operator(parser, following) else {
+            return Ok((pending::close(alloc, waiting, operand)?, following));
+        };
+        waiting = pending::wait(alloc, parser, waiting, operand, operator, following)?;
+        index = following + 1;
     }
-    Ok((left, index))
 }
 
 /// The steps by dots and arrows after a source.
@@ -525,7 +492,7 @@ fn items(
     let mut index = start;
     let left = cursor::count(parser, start);
     'items: for _turn in 0..left {
-        let (item, following) = level(alloc, parser, depth, TOP, index)?;
+        let (item, following) = operators(alloc, parser, depth, index)?;
         all.push(item)?;
         if !cursor::next_is(Mark::Comma, parser, following) {
             return Ok((all, following));

@@ -72,10 +72,9 @@ fn invariant_at(
     let (name, index) = rule_name(alloc, tokens, number, index)?;
     let index = cursor::expect(Mark::Colon, tokens, index)?;
     let (expression, index) = parser::expression(alloc, tokens, depth, index)?;
-    let context = Name::new(alloc, class.name.as_str())?;
     let rule = SurfaceRule {
         name,
-        context,
+        context: class.name.copy()?,
         offset,
         context_offset: class.offset,
         expression,

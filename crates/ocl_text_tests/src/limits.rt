@@ -28,6 +28,18 @@ a->one(|a|) x 65 => TooDeep at 470
 1+|1| x 257 => TooDeep at 528
 1-1+|1| x 128 => 1 rule
 1-1+|1| x 129 => TooDeep at 528
+1*1+|1| x 256 => 1 rule
+1*1+|1| x 257 => TooDeep at 1042
+1+1<|1| x 256 => 1 rule
+1+1<|1| x 257 => TooDeep at 1042
+1*|1+1|*1 x 256 => 1 rule
+1*|1+1|*1 x 257 => TooDeep at 528
+1 implies 1 xor 1 or 1 and 1 = 1 < 1 + 1 * |1| x 256 => 1 rule
+1 implies 1 xor 1 or 1 and 1 = 1 < 1 + 1 * |1| x 257 => TooDeep at 11025
+1 * 1 + 1 < 1 = 1 and 1 or 1 xor 1 implies |1| x 256 => 1 rule
+1 * 1 + 1 < 1 = 1 and 1 or 1 xor 1 implies |1| x 257 => TooDeep at 11058
+1 implies 1 xor 1 or 1 and 1 = 1 < 1 + 1 * (|1|) x 64 => 1 rule
+1 implies 1 xor 1 or 1 and 1 = 1 < 1 + 1 * (|1|) x 65 => TooDeep at 2875
 |a|.b x 256 => 1 rule
 |a|.b x 257 => TooDeep at 528
 |a|->b() x 256 => 1 rule

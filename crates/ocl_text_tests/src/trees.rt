@@ -8,6 +8,8 @@ use std::test::Fail;
 const ROWS: &str = "\
 a - b - c => ((a@15 Subtract@17 b@19) Subtract@21 c@23)
 1 + 2 * 3 < 4 = true and p or q xor r implies s => (((((((1@15 Add@17 (2@19 Multiply@21 3@23)) Less@25 4@27) Equal@29 True@31) And@36 p@40) Or@42 q@45) Xor@47 r@51) Implies@53 s@61)
+a implies b xor c or d and e = f < g + h * i + j < k = l and m or n xor o implies p => ((a@15 Implies@17 ((b@25 Xor@27 ((c@31 Or@33 ((d@36 And@38 ((e@42 Equal@44 ((f@46 Less@48 ((g@50 Add@52 (h@54 Multiply@56 i@58)) Add@60 j@62)) Less@64 k@66)) Equal@68 l@70)) And@72 m@76)) Or@78 n@81)) Xor@83 o@87)) Implies@89 p@97)
+a * b < c * d + e xor f = g implies h and i - j or k => ((((a@15 Multiply@17 b@19) Less@21 ((c@23 Multiply@25 d@27) Add@29 e@31)) Xor@33 (f@37 Equal@39 g@41)) Implies@43 ((h@51 And@53 (i@57 Subtract@59 j@61)) Or@63 k@66))
 a implies b implies c => ((a@15 Implies@17 b@25) Implies@27 c@35)
 not -a.b => (Not@15 (Negate@19 a@20.b@22))
 a div b = a.div(b) => ((a@15 Divide@17 b@21) Equal@23 a@25.div@27(b@31;))

@@ -51,7 +51,6 @@ fn declared_element(
 }
 
 fn element_variable(
-    alloc: Global,
     model: &ClassModel,
     element: ScalarKind,
     variable: &Variable,
@@ -63,7 +62,7 @@ fn element_variable(
 {
     let kind = declared_element(model, element, &variable.declared)?;
     Ok(ScopeVariable {
-        binder: Binder::Named(variable.name.copy(alloc)?),
+        binder: Binder::Named(variable.name.copy()?),
         kind,
     })
 }
@@ -93,13 +92,13 @@ pub(crate) fn inner_scope(
             Ok(inner)
         }
         Variables::Single(variable) => {
-            let each = element_variable(alloc, model, source.element, variable)?;
+            let each = element_variable(model, source.element, variable)?;
             inner.push(each)?;
             Ok(inner)
         }
         Variables::Pair(first, second) => {
-            let first = element_variable(alloc, model, source.element, first)?;
-            let second = element_variable(alloc, model, source.element, second)?;
+            let first = element_variable(model, source.element, first)?;
+            let second = element_variable(model, source.element, second)?;
             inner.push(ScopeVariable {
                 binder: Binder::Hidden,
                 kind: Kind::Collection(source.collection, source.element),

@@ -40,7 +40,7 @@ fn core_rule(alloc: Global, model: &ClassModel, rule: &SurfaceRule) -> Result<Co
     let value = elaborate(alloc, &environment, &rule.expression)?;
     asks_truth(model, &value.kind, rule.expression.offset())?;
     Ok(CoreRule {
-        name: rule.name.copy(alloc)?,
+        name: rule.name.copy()?,
         context,
         tree: value.core,
     })

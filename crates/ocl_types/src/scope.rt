@@ -32,11 +32,11 @@ pub(crate) struct ScopeVariable {
 }
 
 impl ScopeVariable {
-    fn copy(&self, alloc: Global) -> Result<ScopeVariable, AllocError>
+    fn copy(&self) -> Result<ScopeVariable, AllocError>
         ensures { IfOk result (λ v. v ≡ self.now) }
     {
         let binder = match &self.binder {
-            Binder::Named(name) => Binder::Named(name.copy(alloc)?),
+            Binder::Named(name) => Binder::Named(name.copy()?),
             Binder::Implicit => Binder::Implicit,
             Binder::Hidden => Binder::Hidden,
         };
@@ -56,7 +56,7 @@ pub(crate) fn copied(
 {
     let mut copy = Vec::new(alloc);
     'variables: for variable in scope {
-        copy.push(variable.copy(alloc)?)?;
+        copy.push(variable.copy()?)?;
     }
     Ok(copy)
 }

@@ -426,7 +426,7 @@ fn bind_one(
     let value = bound_value(alloc, model, &kind, value, binding.declared.offset())?;
     let mut inner = copied(alloc, scope)?;
     inner.push(ScopeVariable {
-        binder: Binder::Named(binding.name.copy(alloc)?),
+        binder: Binder::Named(binding.name.copy()?),
         kind,
     })?;
     Ok(BoundCore {

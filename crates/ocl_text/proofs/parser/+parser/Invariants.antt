@@ -1,17 +1,17 @@
 use Rattle.std.proofs.Common.{◌≡◌, ◌-◌, ◌+◌, ◌*◌, length, map, []}
 use Rattle.ocl_text.specs.View.{view, bound_of}
 use Rattle.ocl_text.specs.Parses.{from, operand, whole}
+use Rattle.ocl_base.specs.Steps.{◌>>=◌}
 use Rattle.ocl_text.specs.Parse as spec
+use Rattle.ocl_text.specs.Pending.{waiting}
+use Rattle.ocl_text.proofs.Resumed.{resume}
 use Rattle.ocl_text.proofs.parser.+parser.Given as goal
 
 abbrev pub decreases-unary : goal.decreases-unary
 decreases-unary l = 40 * l.depth
 
-abbrev pub decreases-level : goal.decreases-level
-decreases-level l = 40 * l.depth + 2 * l.height + 1
-
-abbrev pub decreases-chain : goal.decreases-chain
-decreases-chain l = 40 * l.depth + 2 * l.height + 2
+abbrev pub decreases-operators : goal.decreases-operators
+decreases-operators l = 40 * l.depth + 1
 
 abbrev pub decreases-expr : goal.decreases-expr
 decreases-expr l = 40 * l.depth + 20
@@ -58,13 +58,13 @@ decreases-bindings l = 40 * l.depth + 22
 abbrev pub decreases-let_expression : goal.decreases-let_expression
 decreases-let_expression l = 40 * l.depth + 23
 
-abbrev pub invariant-chain-chain : goal.invariant-chain-chain
-invariant-chain-chain l =
-    spec.chain (spec.level_of l.parser.chain l.depth l.height) l.height l.parser.chain (view l.fn.first) (from l.parser l.start)
-    ≡ spec.chain (spec.level_of l.parser.chain l.depth l.height) l.height l.links (view l.left) (from l.parser l.index)
+abbrev pub invariant-operators-operators : goal.invariant-operators-operators
+invariant-operators-operators l =
+    operand l.parser l.depth (from l.parser l.start)
+    ≡ (spec.unary l.parser.chain l.depth (from l.parser l.index) >>= λ x. resume l.parser.chain (spec.unary l.parser.chain l.depth) (waiting l.waiting) 0 x.0 x.1)
 
-abbrev pub decreases-chain-chain : goal.decreases-chain-chain
-decreases-chain-chain l = l.links
+abbrev pub decreases-operators-operators : goal.decreases-operators-operators
+decreases-operators-operators l = length (from l.parser l.index)
 
 abbrev pub invariant-steps-steps : goal.invariant-steps-steps
 invariant-steps-steps l =
