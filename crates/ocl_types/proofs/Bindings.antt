@@ -1,28 +1,15 @@
 -- Several bindings of a `let`, one inside the other.
 use Rattle.std.proofs.Common.{◌≡◌, ℕ, List, [], ◌∷◌, ◌++◌, map, Result, Ok, Err, refl, ap, ◌∙◌}
-use Rattle.std.proofs.lemmas.List.{map-append}
 use Rattle.imkl_model.specs.ClassModel.{Model}
 use Rattle.ocl_base.specs.Steps.{◌>>=◌}
 use Rattle.ocl_text.specs.Tree as t
 use Rattle.ocl_text.specs.Tree.{SurfaceTree, Bound, lets, lets_at, type_offset}
-use Rattle.ocl_types.specs.declared.core_tree.Core as declared
 use Rattle.ocl_types.specs.Core as tree
-use Rattle.ocl_types.specs.Core.{CoreTree, TypedTree, typed}
-use Rattle.ocl_types.specs.CoreView.{core_view}
+use Rattle.ocl_types.specs.Core.{CoreTree, TypedTree, typed, lets_of}
 use Rattle.ocl_types.specs.Faults.{TypeFaultAt}
 use Rattle.ocl_types.specs.Scope.{VariableScope, Named, scope_variable, inside}
 use Rattle.ocl_types.specs.Elaboration.{Elaborated, declared_kind, bound_value, elaborate}
-use Rattle.ocl_types.specs.Walk.{BoundCores, bound_core, bound_cores, lets_of, bind_one, bind_all, body_after}
-
--- ---- the cores
-
-inside_one : (vs : List CoreTree) (v body : CoreTree) → lets_of (vs ++ v ∷ []) body ≡ lets_of vs (tree.Let v body)
-inside_one [] v body = refl
-inside_one (w ∷ ws) v body = ap (λ (c : CoreTree). tree.Let w c) (inside_one ws v body)
-
--- the last value is the innermost
-pub one_inside : (vs : List declared.Core) (v : declared.Core) (body : CoreTree) → lets_of (map core_view (vs ++ v ∷ [])) body ≡ lets_of (map core_view vs) (tree.Let (core_view v) body)
-one_inside vs v body = ap (λ (cs : List CoreTree). lets_of cs body) (map-append core_view vs (v ∷ [])) ∙ inside_one (map core_view vs) (core_view v) body
+use Rattle.ocl_types.specs.Walk.{BoundCores, bound_core, bound_cores, bind_one, bind_all, body_after}
 
 -- ---- bindings that a loop reads
 

@@ -11,8 +11,7 @@ use Rattle.ocl_text.specs.Tree.{Variables, SurfaceTree, Trees, Bound, offset_of,
 use Rattle.ocl_text.specs.View.{link_of, spine_of}
 use Rattle.ocl_types.specs.declared.lets.BoundCore as declared
 use Rattle.ocl_types.specs.declared.lets.BoundCores as declared_all
-use Rattle.ocl_types.specs.Core as tree
-use Rattle.ocl_types.specs.Core.{CoreTree, TypedTree, typed}
+use Rattle.ocl_types.specs.Core.{CoreTree, TypedTree, typed, lets_of}
 use Rattle.ocl_types.specs.CoreView.{core_view}
 use Rattle.ocl_types.specs.Faults.{TypeFaultAt}
 use Rattle.ocl_types.specs.Operators.{class_operator}
@@ -45,11 +44,6 @@ pub record BoundCores : Type 0 where
 
 abbrev pub bound_cores : VariableScope → List CoreTree → BoundCores
 bound_cores scope values = record { scope = scope; values = values }
-
--- a body inside these values
-abbrev pub lets_of : List CoreTree → CoreTree → CoreTree
-lets_of [] body = body
-lets_of (v ∷ vs) body = tree.Let v (lets_of vs body)
 
 module _ (m : Model) (context : ℕ) where
   -- an operator after its left operand, which stands at its own offset

@@ -3,7 +3,6 @@
 ghost use Rattle.std.specs.Prelude.{◌≡◌, IfOk, map};
 ghost use Rattle.ocl_types.specs.Core as tree;
 ghost use Rattle.ocl_types.specs.CoreView.{core_view, typed_of};
-ghost use Rattle.ocl_types.specs.Walk as spec;
 
 use crate::core_tree::{Core, Typed};
 use crate::nodes;
@@ -24,20 +23,6 @@ pub(crate) struct BoundCores {
     pub(crate) values: Vec<Core>,
 }
 
-/// A body inside these values.
-#[tactic(auto, using(crate::proofs::Bindings::one_inside))]
-fn lets_of(alloc: Global, values: Vec<Core>, body: Core) -> Result<Core, AllocError>
-    ensures { IfOk result (λ c. core_view c
-        ≡ spec.lets_of (map core_view values.items) (core_view body)) }
-{
-    let mut outer = values;
-    let mut core = body;
-    'values: while let Some(value) = outer.pop() {
-        core = nodes::let_core(alloc, value, core)?;
-    }
-    Ok(core)
-}
-
 /// A body inside a first value and others.
 pub(crate) fn let_of(
     alloc: Global,
@@ -46,11 +31,11 @@ pub(crate) fn let_of(
     body: Typed,
 ) -> Result<Typed, AllocError>
     ensures value { IfOk result (λ t. typed_of t ≡ tree.typed (tree.Let (core_view first)
-        (spec.lets_of (map core_view others.items) (core_view body.core))) body.kind) }
+        (tree.lets_of (map core_view others.items) (core_view body.core))) body.kind) }
     ensures kind { IfOk result (λ t. t.kind ≡ body.kind) }
 {
     let Typed { core, kind } = body;
-    let core = lets_of(alloc, others, core)?;
+    let core = nodes::lets(alloc, others, core)?;
     Ok(Typed {
         core: nodes::let_core(alloc, first, core)?,
         kind,
