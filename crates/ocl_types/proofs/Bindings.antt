@@ -1,28 +1,15 @@
 -- Several bindings of a `let`, one inside the other.
-use Rattle.std.proofs.Common.{◌≡◌, ℕ, List, [], ◌∷◌, ◌++◌, map, Result, Ok, Err, refl, ap, ◌∙◌}
-use Rattle.std.proofs.lemmas.List.{map-append}
+use Rattle.std.proofs.Common.{◌≡◌, ℕ, List, [], ◌∷◌, ◌++◌, Result, Ok, Err, refl, ap, ◌∙◌}
 use Rattle.imkl_model.specs.ClassModel.{Model}
 use Rattle.ocl_base.specs.Steps.{◌>>=◌}
 use Rattle.ocl_text.specs.Tree as t
 use Rattle.ocl_text.specs.Tree.{SurfaceTree, Bound, lets, lets_at, type_offset}
-use Rattle.ocl_types.specs.declared.core_tree.Core as declared
 use Rattle.ocl_types.specs.Core as tree
-use Rattle.ocl_types.specs.Core.{CoreTree, TypedTree, typed}
-use Rattle.ocl_types.specs.CoreView.{core_view}
+use Rattle.ocl_types.specs.Core.{CoreTree, TypedTree, typed, lets_of}
 use Rattle.ocl_types.specs.Faults.{TypeFaultAt}
 use Rattle.ocl_types.specs.Scope.{VariableScope, Named, scope_variable, inside}
 use Rattle.ocl_types.specs.Elaboration.{Elaborated, declared_kind, bound_value, elaborate}
-use Rattle.ocl_types.specs.Walk.{BoundCores, bound_core, bound_cores, lets_of, bind_one, bind_all, body_after}
-
--- ---- the cores
-
-inside_one : (vs : List CoreTree) (v body : CoreTree) → lets_of (vs ++ v ∷ []) body ≡ lets_of vs (tree.Let v body)
-inside_one [] v body = refl
-inside_one (w ∷ ws) v body = ap (λ (c : CoreTree). tree.Let w c) (inside_one ws v body)
-
--- the last value is the innermost
-pub one_inside : (vs : List declared.Core) (v : declared.Core) (body : CoreTree) → lets_of (map core_view (vs ++ v ∷ [])) body ≡ lets_of (map core_view vs) (tree.Let (core_view v) body)
-one_inside vs v body = ap (λ (cs : List CoreTree). lets_of cs body) (map-append core_view vs (v ∷ [])) ∙ inside_one (map core_view vs) (core_view v) body
+use Rattle.ocl_types.specs.Walk.{BoundCores, bound_core, bound_cores, bind_one, bind_all, bind_others, body_after}
 
 -- ---- bindings that a loop reads
 
@@ -49,14 +36,10 @@ outer_by : (v : CoreTree) (vs : List CoreTree) (r : Elaborated) → ((r >>= λ y
 outer_by v vs (Ok y) = refl
 outer_by v vs (Err e) = refl
 
--- two steps, and what comes after both
-after_both : {A B C D : Type 0} (a : A) (r : Result B TypeFaultAt) (h : A → B → C) (g : C → Result D TypeFaultAt) → ((r >>= λ b. Ok (h a b)) >>= g) ≡ (r >>= λ b. g (h a b))
-after_both a (Ok b) h g = refl
-after_both a (Err e) h g = refl
-
-after_two : {A B C D : Type 0} (r : Result A TypeFaultAt) (f : A → Result B TypeFaultAt) (h : A → B → C) (g : C → Result D TypeFaultAt) → ((r >>= λ a. f a >>= λ b. Ok (h a b)) >>= g) ≡ (r >>= λ a. f a >>= λ b. g (h a b))
-after_two (Ok a) f h g = after_both a (f a) h g
-after_two (Err e) f h g = refl
+-- steps one after another, whatever is grouped
+grouped : {A B C : Type 0} (r : Result A TypeFaultAt) (f : A → Result B TypeFaultAt) (g : B → Result C TypeFaultAt) → ((r >>= f) >>= g) ≡ (r >>= λ a. f a >>= g)
+grouped (Ok a) f g = refl
+grouped (Err e) f g = refl
 
 module _ (m : Model) (context : ℕ) where
   -- a binding round several
@@ -81,7 +64,7 @@ module _ (m : Model) (context : ℕ) where
 
   -- a `let` in the steps of the code
   pub let_steps : (s : VariableScope) (b : Bound) (bs : List Bound) (body : SurfaceTree) (offset : ℕ) → elaborate m context s (lets_at offset (b ∷ bs) body)
-      ≡ (bind_one m context s b >>= λ first. bind_all m context first.scope bs >>= λ rest. elaborate m context rest.scope body >>= λ y. Ok (typed (tree.Let first.value (lets_of rest.values y.core)) y.kind))
+      ≡ (bind_one m context s b >>= λ first. bind_others m context first.scope bs first.value >>= body_after m context body)
   let_steps s b bs body offset =
       let_by s b bs body offset (λ u. lets_after u bs body)
-      ∙ after_two (bind_one m context s b) (λ first. bind_all m context first.scope bs) (λ first rest. bound_cores rest.scope (first.value ∷ rest.values)) (body_after m context body)
+      ∙ grouped (bind_one m context s b) (λ first. bind_others m context first.scope bs first.value) (body_after m context body)

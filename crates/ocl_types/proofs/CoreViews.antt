@@ -11,7 +11,7 @@ use Rattle.ocl_types.specs.declared.core_tree.Core.TheVariants as v
 use Rattle.ocl_types.specs.declared.core_tree.CoreLink.{CoreLink}
 use Rattle.ocl_types.specs.declared.core_tree.CoreLink.TheVariants as l
 use Rattle.ocl_types.specs.Core as tree
-use Rattle.ocl_types.specs.Core.{cores_of}
+use Rattle.ocl_types.specs.Core.{cores_of, lets_of}
 use Rattle.ocl_types.specs.CoreView.{constant_of, core_view, core_link_of, core_spine}
 
 -- how each kind of core expression is seen, one equation for each
@@ -27,8 +27,8 @@ core_view-AllInstances class = search (rules, the_lemmas)
 pub core_view-Spine : (first : Box Core Global) (links : Vec CoreLink Global) → core_view (v.Spine first links) ≡ core_spine (core_view first.value) (map core_link_of links.items)
 core_view-Spine first links = search (rules, the_lemmas)
 
-pub core_view-Let : (value body : Box Core Global) → core_view (v.Let value body) ≡ tree.Let (core_view value.value) (core_view body.value)
-core_view-Let value body = search (rules, the_lemmas)
+pub core_view-Let : (values : Vec Core Global) (body : Box Core Global) → core_view (v.Let values body) ≡ lets_of (map core_view values.items) (core_view body.value)
+core_view-Let values body = search (rules, the_lemmas)
 
 pub core_view-If : (kind : Kind) (condition then_branch else_branch : Box Core Global) → core_view (v.If kind condition then_branch else_branch) ≡ tree.If kind (core_view condition.value) (core_view then_branch.value) (core_view else_branch.value)
 core_view-If kind condition then_branch else_branch = search (rules, the_lemmas)

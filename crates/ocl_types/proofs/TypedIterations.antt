@@ -42,32 +42,32 @@ module _ (m : Model) where
 
   -- ---- the shorthand
 
-  -- the values of a body for each element, which is a variable of a wider kind
-  pub collect_sound : (g : List Kind) (source : CoreTree) (c : CollectionKind) (e : ScalarKind) (wider : Kind) (body : CoreTree) (kind : Kind) → IsTyped m g source (Collection c e) → fits m (Scalar e) wider ≡ true → IsTyped m (g ++ wider ∷ []) body kind → IsKindOf m kind → Sound m g (collect_by source c body kind)
-  collect_sound g source c e wider body (Scalar d) p w q k = ((c, e, wider, Scalar d, p, w, q, (d, refl, refl)), k)
-  collect_sound g source c e wider body (Collection b d) p w q k = ((c, e, wider, Collection b d, p, w, q, (b, d, refl, refl)), k)
+  -- the kind of a variable that stands for elements
+  abbrev pub IsVariable : ScalarKind → Kind → Type 0
+  IsVariable e kind = (fits m (Scalar e) kind ≡ true) × IsKindOf m kind
 
-  property_by_sound : IsClassModel m → (s : VariableScope) (core : CoreTree) (kind : Kind) (name : List ℕ) (offset : ℕ) → IsTyped m (kinds_of s) core kind → IfOk (property_by m (length s) core kind name offset) (Sound m (kinds_of s))
-  property_by_sound well s core (Scalar e) name offset p =
+  -- the values of a body for each element, which is a variable of a wider kind
+  pub collect_sound : (g : List Kind) (source : CoreTree) (c : CollectionKind) (e : ScalarKind) (wider : Kind) (body : CoreTree) (kind : Kind) → IsTyped m g source (Collection c e) → IsVariable e wider → IsTyped m (g ++ wider ∷ []) body kind → IsKindOf m kind → Sound m g (collect_by source c body kind)
+  collect_sound g source c e wider body (Scalar d) p w q k = ((c, e, wider, Scalar d, p, w.0, q, (d, refl, refl), w.1), k)
+  collect_sound g source c e wider body (Collection b d) p w q k = ((c, e, wider, Collection b d, p, w.0, q, (b, d, refl, refl), w.1), k)
+
+  property_by_sound : IsClassModel m → (s : VariableScope) (core : CoreTree) (kind : Kind) (name : List ℕ) (offset : ℕ) → IsTyped m (kinds_of s) core kind → IsKindOf m kind → IfOk (property_by m (length s) core kind name offset) (Sound m (kinds_of s))
+  property_by_sound well s core (Scalar e) name offset p k =
       there (Sound m (kinds_of s)) (feature_of m core (Scalar e) name) (type_fault_at UnknownName offset) (feature_sound m well (kinds_of s) core (Scalar e) name p)
-  property_by_sound well s core (Collection c e) name offset p =
+  property_by_sound well s core (Collection c e) name offset p k =
       let g = kinds_of s in
       let inner = g ++ Scalar e ∷ [] in
       let each : slice_get inner (length s) ≡ Some (Scalar e) = rw (as_many_kinds s) (get_next g [] (Scalar e)) in
       chained (Sound m inner) (Sound m g) (found (feature_of m (tree.Variable (length s)) (Scalar e) name) (type_fault_at UnknownName offset)) _
       (there (Sound m inner) (feature_of m (tree.Variable (length s)) (Scalar e) name) (type_fault_at UnknownName offset) (feature_sound m well inner (tree.Variable (length s)) (Scalar e) name each))
-      (λ body q. collect_sound g core c e (Scalar e) body.core body.kind p (fits_itself m (Scalar e)) q.0 q.1)
+      (λ body q. collect_sound g core c e (Scalar e) body.core body.kind p (fits_itself m (Scalar e), k) q.0 q.1)
 
   -- a feature of a value, or of each element
   pub property_sound : IsClassModel m → (s : VariableScope) (x : TypedTree) (name : List ℕ) (offset : ℕ) → Sound m (kinds_of s) x → IfOk (property_of m (length s) x name offset) (Sound m (kinds_of s))
   unfolding property_of
-  property_sound well s x name offset p = property_by_sound well s x.core x.kind name offset p.0
+  property_sound well s x name offset p = property_by_sound well s x.core x.kind name offset p.0 p.1
 
   -- ---- variables
-
-  -- the kind of a variable that stands for elements
-  abbrev IsVariable : ScalarKind → Kind → Type 0
-  IsVariable e kind = (fits m (Scalar e) kind ≡ true) × IsKindOf m kind
 
   declared_sound : IsClassModel m → (e : ScalarKind) (written : Option TypeTree) → IsScalarKindOf m e → IfOk (declared_element m e written) (IsVariable e)
   declared_sound well e None k = (fits_itself m (Scalar e), k)
@@ -123,18 +123,18 @@ module _ (m : Model) where
   turn_is i.Collect = tt
   turn_is i.IsUnique = tt
 
-  unique_sound : (g : List Kind) (x : Gathered) (wider : Kind) (body : CoreTree) (kind : Kind) (offset : ℕ) → IsGathered g x → fits m (Scalar x.element) wider ≡ true → IsTyped m (g ++ wider ∷ []) body kind → IsKindOf m kind → IfOk (unique_by x body kind offset) (Sound m g)
+  unique_sound : (g : List Kind) (x : Gathered) (wider : Kind) (body : CoreTree) (kind : Kind) (offset : ℕ) → IsGathered g x → IsVariable x.element wider → IsTyped m (g ++ wider ∷ []) body kind → IsKindOf m kind → IfOk (unique_by x body kind offset) (Sound m g)
   unique_sound g x wider body (Scalar d) offset p w q k =
-      ((x.collection, x.element, wider, Scalar d, p.0, w, q, (comparable_known m d k, (d, refl, fits_comparable m d, refl))), tt)
+      ((x.collection, x.element, wider, Scalar d, p.0, w.0, q, (comparable_known m d k, (d, refl, fits_comparable m d, refl)), w.1), tt)
   unique_sound g x wider body (Collection c d) offset p w q k = tt
 
-  iterate_sound_by : (g : List Kind) (turn : Turn) (x : Gathered) (wider : Kind) (y : TypedTree) (offset : ℕ) → IsTurn turn → IsGathered g x → fits m (Scalar x.element) wider ≡ true → Sound m (g ++ wider ∷ []) y → IfOk (iterate_by m turn x y offset) (Sound m g)
+  iterate_sound_by : (g : List Kind) (turn : Turn) (x : Gathered) (wider : Kind) (y : TypedTree) (offset : ℕ) → IsTurn turn → IsGathered g x → IsVariable x.element wider → Sound m (g ++ wider ∷ []) y → IfOk (iterate_by m turn x y offset) (Sound m g)
   iterate_sound_by g (Asks it) x wider y offset is p w q =
       chained (λ u. fits m y.kind truth_kind ≡ true) (Sound m g) (asks_truth m y.kind offset) _ (checked (fits m y.kind truth_kind) _) (λ u h.
-      ((x.collection, x.element, wider, y.kind, p.0, w, q.0, is x.collection x.element y.kind h), tt))
+      ((x.collection, x.element, wider, y.kind, p.0, w.0, q.0, is x.collection x.element y.kind h, w.1), tt))
   iterate_sound_by g (Keeps it) x wider y offset is p w q =
       chained (λ u. fits m y.kind truth_kind ≡ true) (Sound m g) (asks_truth m y.kind offset) _ (checked (fits m y.kind truth_kind) _) (λ u h.
-      ((x.collection, x.element, wider, y.kind, p.0, w, q.0, is x.collection x.element y.kind h), p.1))
+      ((x.collection, x.element, wider, y.kind, p.0, w.0, q.0, is x.collection x.element y.kind h, w.1), p.1))
   iterate_sound_by g Gathers x wider y offset is p w q = collect_sound g x.core x.collection x.element wider y.core y.kind p.0 w q.0 q.1
   iterate_sound_by g Compares x wider y offset is p w q = unique_sound g x wider y.core y.kind offset p w q.0 q.1
 
@@ -147,9 +147,9 @@ module _ (m : Model) where
       let two = one ++ v ∷ [] in
       let source = gathered (tree.Variable (length g)) x.collection x.element in
       let seen : slice_get one (length g) ≡ Some kind = get_next g [] kind in
-      chained (Sound m two) (Sound m g) (iterate_by m turn source y offset) _ (iterate_sound_by two turn source w y offset is (get_before one (v ∷ []) (length g) kind seen, p.1) h.0 q) (λ inner a.
-      chained (Sound m one) (Sound m g) (iterate_by m turn source inner offset) _ (iterate_sound_by one turn source v inner offset is (seen, p.1) f.0 a) (λ outer b.
-      ((kind, kind, p.0, fits_itself m kind, b.0), b.1)))
+      chained (Sound m two) (Sound m g) (iterate_by m turn source y offset) _ (iterate_sound_by two turn source w y offset is (get_before one (v ∷ []) (length g) kind seen, p.1) h q) (λ inner a.
+      chained (Sound m one) (Sound m g) (iterate_by m turn source inner offset) _ (iterate_sound_by one turn source v inner offset is (seen, p.1) f a) (λ outer b.
+      ((kind, kind, p.0, fits_itself m kind, b.0, p.1), b.1)))
 
   as_many : (s : VariableScope) (P : ℕ → Type 0) → P (length (kinds_of s)) → P (length s)
   as_many s P h = subst P (sym (as_many_kinds s)) h
@@ -161,9 +161,9 @@ module _ (m : Model) where
   pub iterate_sound : (context : ℕ) (s inner : VariableScope) (iterator : IteratorKind) (x : Gathered) (variables : Variables) (y : TypedTree) (offset : ℕ) → IsGathered (kinds_of s) x → IsInner context s x variables inner → Sound m (kinds_of inner) y → IfOk (iterate_of m (length s) iterator x variables y offset) (Sound m (kinds_of s))
   unfolding iterate_of
   iterate_sound context s inner iterator x t.Unnamed y offset p is q =
-      iterate_sound_by (kinds_of s) (turn_of iterator) x is.1.0 y offset (turn_is iterator) p is.1.1.0 (in_kinds (λ ks. Sound m ks y) (kinds_of inner) _ is.1.2 q)
+      iterate_sound_by (kinds_of s) (turn_of iterator) x is.1.0 y offset (turn_is iterator) p is.1.1 (in_kinds (λ ks. Sound m ks y) (kinds_of inner) _ is.1.2 q)
   iterate_sound context s inner iterator x (t.Single v) y offset p is q =
-      iterate_sound_by (kinds_of s) (turn_of iterator) x is.1.0 y offset (turn_is iterator) p is.1.1.0 (in_kinds (λ ks. Sound m ks y) (kinds_of inner) _ is.1.2 q)
+      iterate_sound_by (kinds_of s) (turn_of iterator) x is.1.0 y offset (turn_is iterator) p is.1.1 (in_kinds (λ ks. Sound m ks y) (kinds_of inner) _ is.1.2 q)
   iterate_sound context s inner iterator x (t.Pair v w) y offset p is q =
       as_many s (λ n. IfOk (iterate_twice m n (turn_of iterator) x y offset) (Sound m (kinds_of s)))
       (twice_sound (kinds_of s) (turn_of iterator) x is.1.0 is.1.1 y offset (turn_is iterator) p is.1.2 is.1.3 (in_kinds (λ ks. Sound m ks y) (kinds_of inner) _ is.1.4 q))

@@ -82,7 +82,7 @@ module _ (m : Model) (well : IsClassModel m) (context : ℕ) (within : context <
       let P : List Kind → Type 0 = λ g. HasArguments m g xs in
       chained (Sound m inner) (Sound m (kinds_of s)) (call_on m (typed (tree.Variable (length s)) (Scalar e)) name xs offset) _
       (call_sound m inner (typed (tree.Variable (length s)) (Scalar e)) name xs offset (each, p.1) (subst P (kinds_inside s (scope_variable Hidden (Scalar e))) ps))
-      (λ body q. collect_sound m (kinds_of s) core c e (Scalar e) body.core body.kind p.0 (fits_itself m (Scalar e)) q.0 q.1)
+      (λ body q. collect_sound m (kinds_of s) core c e (Scalar e) body.core body.kind p.0 (fits_itself m (Scalar e), p.1) q.0 q.1)
 
   call_of_sound : (s : VariableScope) (x : Receiver) (navigation : Navigation) (name : List ℕ) (xs : Arguments) (offset : ℕ) → IsReceiver s x → HasArguments m (kinds_of (seen_by_arguments x navigation s)) xs → Judged s (call_of m (length s) x navigation name xs offset)
   unfolding call_of
@@ -147,7 +147,7 @@ module _ (m : Model) (well : IsClassModel m) (context : ℕ) (within : context <
         let variable = scope_variable (Named name) kind in
         chained (Sound m (kinds_of (inside s variable))) Goal (elaborate m context (inside s variable) body) _ (elaborate_sound (inside s variable) body (scoped_inside m context s variable h known)) (λ y q.
         let P : List Kind → Type 0 = λ g. IsTyped m g y.core y.kind in
-        ((fv.0, kind, fv.1, fv.2, subst P (kinds_inside s variable) q.0), q.1)))))
+        ((fv.0, kind, fv.1, fv.2, subst P (kinds_inside s variable) q.0, known), q.1)))))
     elaborate_sound s (t.If condition then_branch else_branch offset) h =
         let Goal : TypedTree → Type 0 = Sound m (kinds_of s) in
         chained Goal Goal (elaborate m context s condition) _ (elaborate_sound s condition h) (λ x p.

@@ -33,6 +33,11 @@ mutual
     no_core : CoreTrees
     one_core : (first : CoreTree) (rest : CoreTrees) → CoreTrees
 
+-- a body inside these values, each seen by those after it
+abbrev pub lets_of : List CoreTree → CoreTree → CoreTree
+lets_of [] body = body
+lets_of (v ∷ vs) body = Let v (lets_of vs body)
+
 abbrev pub cores_of : List CoreTree → CoreTrees
 cores_of [] = no_core
 cores_of (c ∷ cs) = one_core c (cores_of cs)

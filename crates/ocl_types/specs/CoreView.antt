@@ -8,7 +8,7 @@ use Rattle.ocl_types.specs.declared.core_tree.CoreLink.{CoreLink, fold-CoreLink}
 use Rattle.ocl_types.specs.declared.core_tree.Typed.{Typed}
 use Rattle.ocl_types.specs.declared.core_tree.CoreRule.{CoreRule}
 use Rattle.ocl_types.specs.Core as c
-use Rattle.ocl_types.specs.Core.{Constant, CoreTree, TypedTree, CheckedRule, typed, cores_of}
+use Rattle.ocl_types.specs.Core.{Constant, CoreTree, TypedTree, CheckedRule, typed, cores_of, lets_of}
 
 abbrev pub constant_of : ConstantValue → Constant
 constant_of (cv.Boolean value) = c.Boolean value
@@ -30,7 +30,7 @@ core_step (Core-F.Constant value) = c.Value (constant_of value)
 core_step (Core-F.Variable number) = c.Variable number
 core_step (Core-F.AllInstances class) = c.AllInstances class
 core_step (Core-F.Spine first links) = core_spine first.value links.items
-core_step (Core-F.Let value body) = c.Let value.value body.value
+core_step (Core-F.Let values body) = lets_of values.items body.value
 core_step (Core-F.If kind condition then_branch else_branch) = c.If kind condition.value then_branch.value else_branch.value
 
 abbrev pub core_link_step : CoreLink-F CoreTree CoreOnward → CoreOnward

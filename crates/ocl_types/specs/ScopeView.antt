@@ -1,28 +1,37 @@
 -- What the scopes of the code are, and that their kinds are of the class model.
-use Rattle.std.specs.Prelude.{ℕ, List, map, All}
+use Rattle.std.specs.Prelude.{◌≡◌, ℕ, Bool, true, false, Option, Some, None, List, map, All, length, take}
+use denote.Ref.{Bor}
 use Rattle.imkl_model.specs.ClassModel.{Model, feature_at}
 use Rattle.ocl_kinds.specs.declared.kind.Kind.{Kind}
 use Rattle.ocl_kinds.specs.Kinds.{IsKindOf, feature_kind}
-use Rattle.ocl_types.specs.declared.scope.Binder as declared
-use Rattle.ocl_types.specs.declared.scope.Binder.TheVariants as b
-use Rattle.ocl_types.specs.declared.scope.ScopeVariable as declared_variable
+use Rattle.ocl_types.specs.declared.scope.ScopeVariable as declared
 use Rattle.ocl_types.specs.Core as tree
 use Rattle.ocl_types.specs.Core.{TypedTree, typed}
 use Rattle.ocl_types.specs.Scope.{Binder, Named, Implicit, Hidden, ScopeVariable, VariableScope, scope_variable}
 
-abbrev pub binder_view : declared.Binder → Binder
-binder_view (b.Named name) = Named name
-binder_view b.Implicit = Implicit
-binder_view b.Hidden = Hidden
+abbrev pub unnamed : Bool → Binder
+unnamed true = Implicit
+unnamed false = Hidden
 
-abbrev pub variable_view : declared_variable.ScopeVariable → ScopeVariable
-variable_view v = scope_variable (binder_view v.binder) v.kind
+abbrev pub binder_by : Option (Bor (List ℕ)) → Bool → Binder
+binder_by (Some name) is_implicit = Named name.now
+binder_by None is_implicit = unnamed is_implicit
 
-abbrev pub scope_view : List declared_variable.ScopeVariable → VariableScope
+abbrev pub binder_of : declared.ScopeVariable → Binder
+binder_of v = binder_by v.name v.is_implicit
+
+abbrev pub variable_view : declared.ScopeVariable → ScopeVariable
+variable_view v = scope_variable (binder_of v) v.kind
+
+abbrev pub scope_view : List declared.ScopeVariable → VariableScope
 scope_view vs = map variable_view vs
 
-abbrev pub AreKnownVariables : Model → List declared_variable.ScopeVariable → Type 0
+abbrev pub AreKnownVariables : Model → VariableScope → Type 0
 AreKnownVariables m vs = All (λ v. IsKindOf m v.kind) vs
+
+-- a scope begins with the variables of another one
+abbrev pub Extends : VariableScope → VariableScope → Type 0
+Extends outer s = take (length outer) s ≡ outer
 
 -- a variable by its number, with its kind
 abbrev pub typed_variable : ℕ × Kind → TypedTree

@@ -162,13 +162,13 @@ module _ (m : Model) where
         (x : Kind) × (xs : List Kind) × IsTyped g first x × AreTyped g others xs × IsOperation m operator x xs gives
     IsTyped g (tree.AsCollection c e source) gives =
         IsScalarKindOf m e × ((x : Kind) × IsTyped g source x × (fits m x (Scalar e) ≡ true) × (gives ≡ Collection c e))
-    -- the variable of a body may be of a wider kind than the elements
+    -- the variable of a body may be of a wider kind of the class model than the elements
     IsTyped g (tree.Iterate iteration source body) gives =
         (c : CollectionKind) × (e : ScalarKind) × (wider : Kind) × (y : Kind) × IsTyped g source (Collection c e)
-        × (fits m (Scalar e) wider ≡ true) × IsTyped (g ++ wider ∷ []) body y × IsTypedIteration m iteration c e y gives
+        × (fits m (Scalar e) wider ≡ true) × IsTyped (g ++ wider ∷ []) body y × IsTypedIteration m iteration c e y gives × IsKindOf m wider
     -- and that of a `let` than its value
     IsTyped g (tree.Let value body) gives =
-        (x : Kind) × (wider : Kind) × IsTyped g value x × (fits m x wider ≡ true) × IsTyped (g ++ wider ∷ []) body gives
+        (x : Kind) × (wider : Kind) × IsTyped g value x × (fits m x wider ≡ true) × IsTyped (g ++ wider ∷ []) body gives × IsKindOf m wider
     IsTyped g (tree.If kind condition then_branch else_branch) gives =
         IsKindOf m kind × ((x : Kind) × (y : Kind) × (z : Kind)
         × IsTyped g condition x × (fits m x truth_kind ≡ true)

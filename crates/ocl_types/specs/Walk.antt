@@ -9,15 +9,10 @@ use Rattle.ocl_text.specs.declared.tree.Link.{Link}
 use Rattle.ocl_text.specs.Tree as t
 use Rattle.ocl_text.specs.Tree.{Variables, SurfaceTree, Trees, Bound, offset_of, type_offset}
 use Rattle.ocl_text.specs.View.{link_of, spine_of}
-use Rattle.ocl_types.specs.declared.lets.BoundCore as declared
-use Rattle.ocl_types.specs.declared.lets.BoundCores as declared_all
-use Rattle.ocl_types.specs.Core as tree
-use Rattle.ocl_types.specs.Core.{CoreTree, TypedTree, typed}
-use Rattle.ocl_types.specs.CoreView.{core_view}
+use Rattle.ocl_types.specs.Core.{CoreTree, TypedTree, typed, lets_of}
 use Rattle.ocl_types.specs.Faults.{TypeFaultAt}
 use Rattle.ocl_types.specs.Operators.{class_operator}
 use Rattle.ocl_types.specs.Scope.{VariableScope, Named, scope_variable, inside}
-use Rattle.ocl_types.specs.ScopeView.{scope_view}
 use Rattle.ocl_types.specs.Elaboration.{Elaborated, Receiver, class_before, left_of, binary_of, arguments_of, classes_of_arguments, seen_by_arguments, instances_call, call_of, source_of_arrow, inner_scope, iterate_of, declared_kind, bound_value, elaborate, elaborates}
 
 -- the name of the class in `C.allInstances(..)`, with its offset
@@ -45,11 +40,6 @@ pub record BoundCores : Type 0 where
 
 abbrev pub bound_cores : VariableScope → List CoreTree → BoundCores
 bound_cores scope values = record { scope = scope; values = values }
-
--- a body inside these values
-abbrev pub lets_of : List CoreTree → CoreTree → CoreTree
-lets_of [] body = body
-lets_of (v ∷ vs) body = tree.Let v (lets_of vs body)
 
 module _ (m : Model) (context : ℕ) where
   -- an operator after its left operand, which stands at its own offset
@@ -94,6 +84,12 @@ module _ (m : Model) (context : ℕ) where
     rest ← bind_all first.scope bs
     Ok (bound_cores rest.scope (first.value ∷ rest.values))
 
+  -- bindings after a first one of this value
+  abbrev pub bind_others : VariableScope → List Bound → CoreTree → Result BoundCores TypeFaultAt
+  bind_others s bs first = do
+    rest ← bind_all s bs
+    Ok (bound_cores rest.scope (first ∷ rest.values))
+
   -- a body after its bindings
   abbrev pub body_after : SurfaceTree → BoundCores → Elaborated
   body_after body b = do
@@ -107,10 +103,3 @@ module _ (m : Model) (context : ℕ) where
     pub stands : offset_of left ≡ offset
     pub goes_on : spine_of left (map link_of rest) ≡ whole
     pub plain : class_before_links left rest ≡ None
-
--- what the values of the code are, as bindings
-abbrev pub bound_view : declared.BoundCore → BoundCore
-bound_view b = bound_core (scope_view b.scope.items) (core_view b.value)
-
-abbrev pub bounds_view : declared_all.BoundCores → BoundCores
-bounds_view b = bound_cores (scope_view b.scope.items) (map core_view b.values.items)

@@ -105,11 +105,11 @@ pub enum Core {
         /// What is applied.
         links: Vec<CoreLink>,
     },
-    /// A value as a variable of a body.
+    /// Values as variables of a body, each seen by those after it.
     Let {
-        /// The value.
-        value: Box<Core>,
-        /// What sees it.
+        /// The values, outermost first.
+        values: Vec<Core>,
+        /// What sees them all.
         body: Box<Core>,
     },
     /// One of two branches.

@@ -1,28 +1,29 @@
 //! Iterations, and the variables that their bodies see.
 
-ghost use Rattle.std.specs.Prelude.{◌≡◌, IfOk, option_map};
+ghost use Rattle.std.specs.Prelude.{◌≡◌, IfOk, IfErr, OnOk, option_map};
 ghost use Rattle.imkl_model.specs.ClassModel.{Model};
 ghost use Rattle.ocl_base.specs.Steps.{Gives};
 ghost use Rattle.ocl_kinds.specs.Kinds.{IsScalarKindOf, IsKindOf};
-ghost use Rattle.ocl_text.specs.View.{view_type, view_variable, view_variables};
+ghost use Rattle.ocl_text.specs.View.{view_type, view_variables};
 ghost use Rattle.ocl_types.specs.CoreView.{typed_of};
+ghost use Rattle.ocl_types.specs.declared.fault.TypeFault.TheVariants.{OutOfMemory};
 ghost use Rattle.ocl_types.specs.Elaboration as spec;
 ghost use Rattle.ocl_types.specs.Faults.{type_fault};
 ghost use Rattle.ocl_types.specs.GatheredView.{gathered_view};
-ghost use Rattle.ocl_types.specs.ScopeView.{variable_view, scope_view, AreKnownVariables};
+ghost use Rattle.ocl_types.specs.ScopeView.{AreKnownVariables, Extends};
 
 use crate::collecting::collect_of;
 use crate::core_tree::{Iteration, Typed};
 use crate::declared::declared_kind;
 use crate::fault::{TypeFault, TypeFlaw};
 use crate::nodes;
-use crate::scope::{Binder, ScopeVariable, copied};
+use crate::scope::Scope;
 use crate::table::{Turn, turn_of};
 use crate::wanted::{Gathered, asks_truth};
 use imkl_model::ClassModel;
 use ocl_kinds::{Kind, ScalarKind, comparable, fits};
 use ocl_text::{DeclaredType, IteratorKind, Variable, Variables};
-use std::alloc::{AllocError, Global};
+use std::alloc::Global;
 
 /// The kind of a variable that stands for elements: theirs, or the type that is written.
 fn declared_element(
@@ -50,89 +51,57 @@ fn declared_element(
     }
 }
 
-fn element_variable(
-    alloc: Global,
-    model: &ClassModel,
-    element: ScalarKind,
-    variable: &Variable,
-) -> Result<ScopeVariable, TypeFault>
-    requires { IsScalarKindOf model.now element }
-    ensures gives { Gives type_fault variable_view result
-        (spec.element_variable model.now element (view_variable variable.now)) }
-    ensures known { IfOk result (λ v. IsKindOf model.now v.kind) }
-{
-    let kind = declared_element(model, element, &variable.declared)?;
-    Ok(ScopeVariable {
-        binder: Binder::Named(variable.name.copy(alloc)?),
-        kind,
-    })
-}
-
-/// The variables that a body sees.
+/// The variables that a body sees beside those of the scope.
 #[tactic(auto, using(crate::proofs::Scopes::scopes), unfolding(crate::specs::Elaboration::inner_scope))]
-pub(crate) fn inner_scope(
-    alloc: Global,
+pub(crate) fn push_variables<'t>(
     model: &ClassModel,
-    scope: &[ScopeVariable],
+    scope: &mut Scope<'t>,
     source: &Gathered,
-    variables: &Variables,
-) -> Result<Vec<ScopeVariable>, TypeFault>
-    requires scope { AreKnownVariables model.now scope.now }
+    variables: &'t Variables,
+) -> Result<(), TypeFault>
+    requires scope { AreKnownVariables model.now scope.old }
     requires source { IsScalarKindOf model.now source.now.element }
-    ensures gives { Gives type_fault (λ v. scope_view v.items) result (spec.inner_scope model.now
-        (scope_view scope.now) (gathered_view source.now) (view_variables variables.now)) }
-    ensures known { IfOk result (λ v. AreKnownVariables model.now v.items) }
+    ensures gives { Gives type_fault (λ _. scope.new) result (spec.inner_scope model.now
+        scope.old (gathered_view source.now) (view_variables variables.now)) }
+    ensures known { OnOk result (AreKnownVariables model.now scope.new) }
+    ensures extends { OnOk result (Extends scope.old scope.new) }
 {
-    let mut inner = copied(alloc, scope)?;
     match variables {
-        Variables::Unnamed => {
-            inner.push(ScopeVariable {
-                binder: Binder::Implicit,
-                kind: Kind::Scalar(source.element),
-            })?;
-            Ok(inner)
-        }
+        Variables::Unnamed => scope.push_implicit(Kind::Scalar(source.element))?,
         Variables::Single(variable) => {
-            let each = element_variable(alloc, model, source.element, variable)?;
-            inner.push(each)?;
-            Ok(inner)
+            let kind = declared_element(model, source.element, &variable.declared)?;
+            scope.push_named(&variable.name, kind)?;
         }
         Variables::Pair(first, second) => {
-            let first = element_variable(alloc, model, source.element, first)?;
-            let second = element_variable(alloc, model, source.element, second)?;
-            inner.push(ScopeVariable {
-                binder: Binder::Hidden,
-                kind: Kind::Collection(source.collection, source.element),
-            })?;
-            inner.push(first)?;
-            inner.push(second)?;
-            Ok(inner)
+            let first_kind = declared_element(model, source.element, &first.declared)?;
+            let second_kind = declared_element(model, source.element, &second.declared)?;
+            scope.push_hidden(Kind::Collection(source.collection, source.element))?;
+            scope.push_named(&first.name, first_kind)?;
+            scope.push_named(&second.name, second_kind)?;
         }
     }
+    Ok(())
 }
 
-/// The variables that arguments see after a dot: on a collection they stand in a body, which has one more.
+/// The variable that arguments see beside those of the scope after a dot: on a collection they stand in a body, which has
+/// one more.
 #[tactic(auto, using(crate::proofs::Scopes::scopes))]
-pub(crate) fn seen_after_dot(
-    alloc: Global,
+pub(crate) fn push_after_dot(
     model: &ClassModel,
-    scope: &[ScopeVariable],
+    scope: &mut Scope<'_>,
     kind: &Kind,
-) -> Result<Vec<ScopeVariable>, AllocError>
-    requires scope { AreKnownVariables model.now scope.now }
+) -> Result<(), TypeFault>
+    requires scope { AreKnownVariables model.now scope.old }
     requires kind { IsKindOf model.now kind.now }
-    ensures seen { IfOk result (λ v. scope_view v.items
-        ≡ spec.seen_after_dot (scope_view scope.now) kind.now) }
-    ensures known { IfOk result (λ v. AreKnownVariables model.now v.items) }
+    ensures seen { OnOk result (scope.new ≡ spec.seen_after_dot scope.old kind.now) }
+    ensures fault { IfErr result (λ e. e ≡ OutOfMemory) }
+    ensures known { OnOk result (AreKnownVariables model.now scope.new) }
+    ensures extends { OnOk result (Extends scope.old scope.new) }
 {
-    let mut inner = copied(alloc, scope)?;
     if let Kind::Collection(_, element) = kind {
-        inner.push(ScopeVariable {
-            binder: Binder::Hidden,
-            kind: Kind::Scalar(*element),
-        })?;
+        scope.push_hidden(Kind::Scalar(*element))?;
     }
-    Ok(inner)
+    Ok(())
 }
 
 fn unique(alloc: Global, source: Gathered, body: Typed, offset: usize) -> Result<Typed, TypeFault>

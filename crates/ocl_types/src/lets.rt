@@ -3,56 +3,20 @@
 ghost use Rattle.std.specs.Prelude.{◌≡◌, IfOk, map};
 ghost use Rattle.ocl_types.specs.Core as tree;
 ghost use Rattle.ocl_types.specs.CoreView.{core_view, typed_of};
-ghost use Rattle.ocl_types.specs.Walk as spec;
 
 use crate::core_tree::{Core, Typed};
 use crate::nodes;
-use crate::scope::ScopeVariable;
 use std::alloc::{AllocError, Global};
 
-/// A variable of a `let`: a scope that ends with it, and its value.
-#[derive(Drop)]
-pub(crate) struct BoundCore {
-    pub(crate) scope: Vec<ScopeVariable>,
-    pub(crate) value: Core,
-}
-
-/// Several variables: a scope that ends with them, and their values.
-#[derive(Drop)]
-pub(crate) struct BoundCores {
-    pub(crate) scope: Vec<ScopeVariable>,
-    pub(crate) values: Vec<Core>,
-}
-
-/// A body inside these values.
-#[tactic(auto, using(crate::proofs::Bindings::one_inside))]
-fn lets_of(alloc: Global, values: Vec<Core>, body: Core) -> Result<Core, AllocError>
-    ensures { IfOk result (λ c. core_view c
-        ≡ spec.lets_of (map core_view values.items) (core_view body)) }
-{
-    let mut outer = values;
-    let mut core = body;
-    'values: while let Some(value) = outer.pop() {
-        core = nodes::let_core(alloc, value, core)?;
-    }
-    Ok(core)
-}
-
-/// A body inside a first value and others.
-pub(crate) fn let_of(
-    alloc: Global,
-    first: Core,
-    others: Vec<Core>,
-    body: Typed,
-) -> Result<Typed, AllocError>
-    ensures value { IfOk result (λ t. typed_of t ≡ tree.typed (tree.Let (core_view first)
-        (spec.lets_of (map core_view others.items) (core_view body.core))) body.kind) }
+/// A body inside values, with the body's kind.
+pub(crate) fn let_of(alloc: Global, values: Vec<Core>, body: Typed) -> Result<Typed, AllocError>
+    ensures value { IfOk result (λ t. typed_of t ≡ tree.typed
+        (tree.lets_of (map core_view values.items) (core_view body.core)) body.kind) }
     ensures kind { IfOk result (λ t. t.kind ≡ body.kind) }
 {
     let Typed { core, kind } = body;
-    let core = lets_of(alloc, others, core)?;
     Ok(Typed {
-        core: nodes::let_core(alloc, first, core)?,
+        core: nodes::lets(alloc, values, core)?,
         kind,
     })
 }

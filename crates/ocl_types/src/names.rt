@@ -8,12 +8,12 @@ ghost use Rattle.ocl_types.specs.Core as tree;
 ghost use Rattle.ocl_types.specs.CoreView.{core_view, typed_of};
 ghost use Rattle.ocl_types.specs.Elaboration as spec;
 ghost use Rattle.ocl_types.specs.Faults.{type_fault};
-ghost use Rattle.ocl_types.specs.ScopeView.{scope_view, AreKnownVariables};
+ghost use Rattle.ocl_types.specs.ScopeView.{AreKnownVariables};
 
 use crate::core_tree::{ConstantValue, Core, Typed};
 use crate::fault::{TypeFault, TypeFlaw};
 use crate::nodes;
-use crate::scope::{ScopeVariable, feature_named, variable_named};
+use crate::scope::Scope;
 use imkl_model::{ClassModel, ClassNo, FeatureNo};
 use ocl_kinds::{Kind, ScalarKind, feature_kind};
 use ocl_text::Keyword;
@@ -69,20 +69,20 @@ pub(crate) fn feature_value(
 pub(crate) fn name_value(
     alloc: Global,
     model: &ClassModel,
-    scope: &[ScopeVariable],
+    scope: &Scope<'_>,
     name: &str,
     offset: usize,
 ) -> Result<Typed, TypeFault>
     requires { AreKnownVariables model.now scope.now }
     ensures gives { Gives type_fault typed_of result
-        (spec.name_value model.now (scope_view scope.now) name.now offset) }
+        (spec.name_value model.now scope.now name.now offset) }
     ensures known { IfOk result (λ t. IsKindOf model.now t.kind) }
 {
-    if let Some((number, kind)) = variable_named(scope, name) {
+    if let Some((number, kind)) = scope.variable_named(name) {
         let core = nodes::variable(number);
         return Ok(Typed { core, kind });
     }
-    match feature_named(model, scope, name) {
+    match scope.feature_named(model, name) {
         Some((number, feature)) => {
             let source = nodes::variable(number);
             Ok(feature_value(alloc, model, source, feature)?)

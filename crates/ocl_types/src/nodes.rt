@@ -135,14 +135,24 @@ pub(crate) fn iterate(
     linked(alloc, source, CoreLink::Iterate { iteration, body })
 }
 
+/// A body inside these values.
 #[tactic(auto, using(crate::proofs::CoreViews::core_views))]
+pub(crate) fn lets(alloc: Global, values: Vec<Core>, body: Core) -> Result<Core, AllocError>
+    ensures { IfOk result (λ c. spec.core_view c
+        ≡ tree.lets_of (map spec.core_view values.items) (spec.core_view body)) }
+{
+    let body = Box::new(alloc, body)?;
+    Ok(Core::Let { values, body })
+}
+
+/// A body inside one value.
 pub(crate) fn let_core(alloc: Global, value: Core, body: Core) -> Result<Core, AllocError>
     ensures { IfOk result (λ c. spec.core_view c
         ≡ tree.Let (spec.core_view value) (spec.core_view body)) }
 {
-    let value = Box::new(alloc, value)?;
-    let body = Box::new(alloc, body)?;
-    Ok(Core::Let { value, body })
+    let mut values = Vec::new(alloc);
+    values.push(value)?;
+    lets(alloc, values, body)
 }
 
 #[tactic(auto, using(crate::proofs::CoreViews::core_views))]

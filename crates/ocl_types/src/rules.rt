@@ -15,7 +15,7 @@ use crate::arguments::known_class;
 use crate::core_tree::CoreRule;
 use crate::environment::Environment;
 use crate::fault::TypeFault;
-use crate::scope::outermost;
+use crate::scope::Scope;
 use crate::walk::elaborate;
 use crate::wanted::asks_truth;
 use imkl_model::ClassModel;
@@ -31,13 +31,9 @@ fn core_rule(alloc: Global, model: &ClassModel, rule: &SurfaceRule) -> Result<Co
         → result ≡ Err (At UnknownName rule.now.context_offset) }
 {
     let context = known_class(model, rule.context.as_str(), rule.context_offset)?;
-    let scope = outermost(alloc, context)?;
-    let environment = Environment {
-        model,
-        context,
-        scope: &scope,
-    };
-    let value = elaborate(alloc, &environment, &rule.expression)?;
+    let mut scope = Scope::outermost(alloc, context)?;
+    let environment = Environment { model, context };
+    let value = elaborate(alloc, &environment, &mut scope, &rule.expression)?;
     asks_truth(model, &value.kind, rule.expression.offset())?;
     Ok(CoreRule {
         name: rule.name.copy(alloc)?,

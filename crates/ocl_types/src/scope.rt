@@ -1,100 +1,178 @@
 //! The variables that an expression sees.
 
-ghost use Rattle.std.specs.Prelude.{◌≡◌, ◌<◌, ℕ, length, option_map, IfOk, IfSome};
-ghost use Rattle.imkl_model.specs.ClassModel.{Model};
+ghost use Rattle.std.specs.Prelude.{◌≡◌, ◌<◌, ◌++◌, ◌∷◌, [], ℕ, length, take, option_map, All, IfOk, IfErr, IfSome, OnOk};
+ghost use Rattle.imkl_model.specs.ClassModel.{Model as Classes};
 ghost use Rattle.ocl_kinds.specs.Kinds.{IsKindOf};
 ghost use Rattle.ocl_types.specs.Core as tree;
 ghost use Rattle.ocl_types.specs.Core.{CoreTree};
+ghost use Rattle.ocl_types.specs.declared.fault.TypeFault.TheVariants.{OutOfMemory};
 ghost use Rattle.ocl_types.specs.Scope as spec;
-ghost use Rattle.ocl_types.specs.ScopeView.{binder_view, scope_view, AreKnownVariables, typed_variable, typed_feature};
+ghost use Rattle.ocl_types.specs.ScopeView.{binder_of, scope_view, AreKnownVariables, typed_variable, typed_feature};
 
+use crate::fault::TypeFault;
 use imkl_model::{ClassModel, ClassNo, FeatureNo};
 use ocl_kinds::{Kind, ScalarKind};
 use ocl_text::Name;
-use std::alloc::{AllocError, Global};
-
-/// How an expression can speak of a variable.
-#[derive(Drop)]
-pub(crate) enum Binder {
-    /// By its name.
-    Named(Name),
-    /// Without naming it, by a feature of it.
-    Implicit,
-    /// Not at all.
-    Hidden,
-}
+use std::alloc::Global;
+use std::marker::Model;
 
 /// A variable with its kind.
+#[derive(Clone, Copy)]
+struct ScopeVariable<'t> {
+    /// Its name, where an expression can name it.
+    name: Option<&'t str>,
+    /// Whether its features can be named without it.
+    is_implicit: bool,
+    kind: Kind,
+}
+
+/// The variables that an expression sees, the outermost first. One scope serves a whole rule: variables are pushed before
+/// what sees them, and cut off after it.
 #[derive(Drop)]
-pub(crate) struct ScopeVariable {
-    pub(crate) binder: Binder,
-    pub(crate) kind: Kind,
+pub(crate) struct Scope<'t> {
+    variables: Vec<ScopeVariable<'t>>,
 }
 
-impl ScopeVariable {
-    fn copy(&self, alloc: Global) -> Result<ScopeVariable, AllocError>
-        ensures { IfOk result (λ v. v ≡ self.now) }
+impl<'t> Model for Scope<'t> {
+    ghost use Rattle.ocl_types.specs.Scope.{VariableScope};
+    ghost use Rattle.ocl_types.specs.ScopeView.{scope_view};
+
+    ghost Value = { VariableScope };
+
+    ghost view = { λ s. scope_view s.variables.items };
+}
+
+impl<'t> Scope<'t> {
+    /// The object of the context class alone: its features can be named without it.
+    #[tactic(auto, using(crate::proofs::Scopes::scopes))]
+    pub(crate) fn outermost(alloc: Global, context: ClassNo) -> Result<Scope<'t>, TypeFault>
+        ensures value { IfOk result (λ s. s ≡ spec.outermost context) }
+        ensures known { (m : Classes) → context < length m.classes
+            → IfOk result (AreKnownVariables m) }
+        ensures fault { IfErr result (λ e. e ≡ OutOfMemory) }
     {
-        let binder = match &self.binder {
-            Binder::Named(name) => Binder::Named(name.copy(alloc)?),
-            Binder::Implicit => Binder::Implicit,
-            Binder::Hidden => Binder::Hidden,
+        let mut variables = Vec::new(alloc);
+        let variable = ScopeVariable {
+            name: None,
+            is_implicit: true,
+            kind: Kind::Scalar(ScalarKind::Class(context)),
         };
-        Ok(ScopeVariable {
-            binder,
-            kind: self.kind,
-        })
+        push(&mut variables, variable)?;
+        Ok(Scope { variables })
+    }
+
+    /// How many variables there are: the number of the next one.
+    pub(crate) fn len(&self) -> usize
+        ensures { result ≡ length self.now }
+    {
+        self.variables.len()
+    }
+
+    /// One more variable, of this name.
+    #[tactic(auto, using(crate::proofs::Scopes::scopes))]
+    pub(crate) fn push_named(&mut self, name: &'t Name, kind: Kind) -> Result<(), TypeFault>
+        ensures pushed { OnOk result (self.new
+            ≡ spec.inside self.old (spec.scope_variable (spec.Named name.now) kind)) }
+        ensures fault { IfErr result (λ e. e ≡ OutOfMemory) }
+    {
+        let variable = ScopeVariable {
+            name: Some(name.as_str()),
+            is_implicit: false,
+            kind,
+        };
+        push(&mut self.variables, variable)
+    }
+
+    /// One more variable, whose features can be named without it.
+    #[tactic(auto, using(crate::proofs::Scopes::scopes))]
+    pub(crate) fn push_implicit(&mut self, kind: Kind) -> Result<(), TypeFault>
+        ensures pushed { OnOk result (self.new
+            ≡ spec.inside self.old (spec.scope_variable spec.Implicit kind)) }
+        ensures fault { IfErr result (λ e. e ≡ OutOfMemory) }
+    {
+        let variable = ScopeVariable {
+            name: None,
+            is_implicit: true,
+            kind,
+        };
+        push(&mut self.variables, variable)
+    }
+
+    /// One more variable, which no expression can name.
+    #[tactic(auto, using(crate::proofs::Scopes::scopes))]
+    pub(crate) fn push_hidden(&mut self, kind: Kind) -> Result<(), TypeFault>
+        ensures pushed { OnOk result (self.new
+            ≡ spec.inside self.old (spec.scope_variable spec.Hidden kind)) }
+        ensures fault { IfErr result (λ e. e ≡ OutOfMemory) }
+    {
+        let variable = ScopeVariable {
+            name: None,
+            is_implicit: false,
+            kind,
+        };
+        push(&mut self.variables, variable)
+    }
+
+    /// The outermost variables alone, this many.
+    #[tactic(auto, using(crate::proofs::Scopes::scopes))]
+    pub(crate) fn cut(&mut self, len: usize)
+        ensures { self.new ≡ take len self.old }
+    {
+        self.variables.truncate(len);
+    }
+
+    /// The innermost variable of this name, by its number.
+    #[tactic(auto, using(crate::proofs::Scopes::scopes))]
+    pub(crate) fn variable_named(&self, name: &str) -> Option<(usize, Kind)>
+        ensures found { option_map typed_variable result
+            ≡ spec.innermost (spec.by_binder name.now) 0 self.now }
+        ensures known { (m : Classes) → AreKnownVariables m self.now
+            → IfSome result (λ x. IsKindOf m x.1) }
+    {
+        variable_named(&self.variables, name)
+    }
+
+    /// The feature of this name of the innermost variable that needn't be named and has it.
+    #[tactic(auto, using(crate::proofs::Scopes::scopes))]
+    pub(crate) fn feature_named(&self, model: &ClassModel, name: &str) -> Option<(usize, FeatureNo)>
+        requires { AreKnownVariables model.now self.now }
+        ensures found { option_map (typed_feature model.now) result
+            ≡ spec.innermost (λ n v. spec.by_feature model.now name.now n v.binder v.kind) 0
+            self.now }
+        ensures in_range { IfSome result (λ x. x.1 < length model.now.features) }
+    {
+        feature_named(model, &self.variables, name)
     }
 }
 
-/// A scope once more, to which variables can be added.
-pub(crate) fn copied(
-    alloc: Global,
-    scope: &[ScopeVariable],
-) -> Result<Vec<ScopeVariable>, AllocError>
-    ensures { IfOk result (λ v. v.items ≡ scope.now) }
+/// Puts an item at a list's end.
+fn push<T: Drop>(items: &mut Vec<T>, item: T) -> Result<(), TypeFault>
+    ensures pushed { OnOk result (items.new.items ≡ items.old.items ++ item ∷ []) }
+    ensures fault { IfErr result (λ e. e ≡ OutOfMemory) }
 {
-    let mut copy = Vec::new(alloc);
-    'variables: for variable in scope {
-        copy.push(variable.copy(alloc)?)?;
-    }
-    Ok(copy)
+    items.push(item)?;
+    Ok(())
 }
 
-/// The object of the context class alone: its features can be named without it.
-pub(crate) fn outermost(alloc: Global, context: ClassNo) -> Result<Vec<ScopeVariable>, AllocError>
-    ensures value { IfOk result (λ v. scope_view v.items ≡ spec.outermost context) }
-    ensures known { (m : Model) → context < length m.classes
-        → IfOk result (λ v. AreKnownVariables m v.items) }
+fn has_name(variable: &ScopeVariable<'_>, name: &str) -> bool
+    ensures { result ≡ spec.has_binder_name (binder_of variable.now) name.now }
 {
-    let mut scope = Vec::new(alloc);
-    scope.push(ScopeVariable {
-        binder: Binder::Implicit,
-        kind: Kind::Scalar(ScalarKind::Class(context)),
-    })?;
-    Ok(scope)
-}
-
-fn has_name(binder: &Binder, name: &str) -> bool
-    ensures { result ≡ spec.has_binder_name (binder_view binder.now) name.now }
-{
-    match binder {
-        Binder::Named(own) => own.as_str() == name,
-        Binder::Implicit | Binder::Hidden => false,
+    match variable.name {
+        Some(own) => own == name,
+        None => false,
     }
 }
 
-/// The innermost variable of this name, by its number.
 #[tactic(auto, using(crate::proofs::Found::later))]
-pub(crate) fn variable_named(scope: &[ScopeVariable], name: &str) -> Option<(usize, Kind)>
+fn variable_named(scope: &[ScopeVariable<'_>], name: &str) -> Option<(usize, Kind)>
     ensures found { option_map typed_variable result
         ≡ spec.innermost (spec.by_binder name.now) 0 (scope_view scope.now) }
-    ensures known { (m : Model) → AreKnownVariables m scope.now
+    ensures known { (m : Classes) → All (λ v. IsKindOf m v.kind) scope.now
         → IfSome result (λ x. IsKindOf m x.1) }
 {
     let mut found = None;
     'variables: for (number, variable) in scope.iter().enumerate() {
-        if has_name(&variable.binder, name) {
+        if has_name(variable, name) {
             found = Some((number, variable.kind));
         }
     }
@@ -117,29 +195,27 @@ pub(crate) fn feature_of(model: &ClassModel, kind: &Kind, name: &str) -> Option<
 /// The feature of this name of a variable that needn't be named.
 fn implicit_feature(
     model: &ClassModel,
-    binder: &Binder,
-    kind: &Kind,
+    variable: &ScopeVariable<'_>,
     name: &str,
 ) -> Option<FeatureNo>
-    requires { IsKindOf model.now kind.now }
+    requires { IsKindOf model.now variable.now.kind }
     ensures found { (n : ℕ) → spec.feature_on model.now (tree.Variable n) result
-        ≡ spec.by_feature model.now name.now n (binder_view binder.now) kind.now }
+        ≡ spec.by_feature model.now name.now n (binder_of variable.now) variable.now.kind }
     ensures in_range { IfSome result (λ f. f < length model.now.features) }
 {
-    match binder {
-        Binder::Implicit => feature_of(model, kind, name),
-        Binder::Named(_) | Binder::Hidden => None,
+    match variable.name {
+        None if variable.is_implicit => feature_of(model, &variable.kind, name),
+        _ => None,
     }
 }
 
-/// The feature of this name of the innermost variable that needn't be named and has it.
 #[tactic(auto, using(crate::proofs::Found::later))]
-pub(crate) fn feature_named(
+fn feature_named(
     model: &ClassModel,
-    scope: &[ScopeVariable],
+    scope: &[ScopeVariable<'_>],
     name: &str,
 ) -> Option<(usize, FeatureNo)>
-    requires { AreKnownVariables model.now scope.now }
+    requires { All (λ v. IsKindOf model.now v.kind) scope.now }
     ensures found { option_map (typed_feature model.now) result
         ≡ spec.innermost (λ n v. spec.by_feature model.now name.now n v.binder v.kind) 0
         (scope_view scope.now) }
@@ -147,7 +223,7 @@ pub(crate) fn feature_named(
 {
     let mut found = None;
     'variables: for (number, variable) in scope.iter().enumerate() {
-        if let Some(feature) = implicit_feature(model, &variable.binder, &variable.kind, name) {
+        if let Some(feature) = implicit_feature(model, variable, name) {
             found = Some((number, feature));
         }
     }

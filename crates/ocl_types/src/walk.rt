@@ -1,38 +1,37 @@
 //! The walk over a rule's expression: children before their node, left before right.
 
-ghost use Rattle.std.specs.Prelude.{◌≡◌, ◌<◌, length, map, drop, All, Some, None, Ok, IfOk};
+ghost use Rattle.std.specs.Prelude.{◌≡◌, map, drop, All, Some, None, Ok, IfOk, OnOk};
 ghost use Rattle.ocl_base.specs.Steps.{Gives};
 ghost use Rattle.ocl_kinds.specs.Kinds.{IsKindOf};
 ghost use Rattle.ocl_text.specs.Tree as tree;
 ghost use Rattle.ocl_text.specs.Tree.{SurfaceTree, trees_of, offset_of};
 ghost use Rattle.ocl_text.specs.View.{view, bound_of, link_of, view_variables};
 ghost use Rattle.ocl_types.specs.CallView.{values_view, arguments_view, AreKnownArguments};
-ghost use Rattle.ocl_types.specs.CoreView.{typed_of};
+ghost use Rattle.ocl_types.specs.CoreView.{core_view, typed_of};
 ghost use Rattle.ocl_types.specs.Elaboration as spec;
 ghost use Rattle.ocl_types.specs.EnvironmentView.{IsEnvironment, within};
 ghost use Rattle.ocl_types.specs.Faults.{type_fault};
 ghost use Rattle.ocl_types.specs.Operators.{class_operator};
-ghost use Rattle.ocl_types.specs.ScopeView.{scope_view, AreKnownVariables};
+ghost use Rattle.ocl_types.specs.ScopeView.{AreKnownVariables, Extends};
 ghost use Rattle.ocl_types.specs.Walk as walk;
-ghost use Rattle.ocl_types.specs.Walk.{IsLeft, bound_view, bounds_view, class_of_call, binary_after, call_after, iterate_after};
+ghost use Rattle.ocl_types.specs.Walk.{IsLeft, class_of_call, binary_after, call_after, iterate_after};
 
 use crate::arguments::{class_before_links, classes_of_arguments, known_class};
 use crate::branches::if_of;
 use crate::calls::{Arguments, Values, arrow_call, dot_call, instances_call};
 use crate::collecting::property_of;
-use crate::core_tree::{ConstantValue, Typed};
+use crate::core_tree::{ConstantValue, Core, Typed};
 use crate::declared::declared_kind;
 use crate::environment::Environment;
 use crate::fault::TypeFault;
-use crate::iterations::{inner_scope, iterate_of, seen_after_dot};
-use crate::lets::{BoundCore, BoundCores, let_of};
+use crate::iterations::{iterate_of, push_after_dot, push_variables};
+use crate::lets::let_of;
 use crate::names::{keyword_value, literal_value, name_value};
 use crate::nodes;
 use crate::operators::{binary_of, left_of, prefix_of};
-use crate::scope::{Binder, ScopeVariable, copied};
+use crate::scope::Scope;
 use crate::table::class_operator;
 use crate::wanted::{asks_truth, bound_value, source_of_arrow};
-use imkl_model::{ClassModel, ClassNo};
 use ocl_kinds::{Kind, ScalarKind};
 use ocl_text::{
     BinaryOperator, Binding, Expression, IteratorKind, Link, Name, Navigation, Variables,
@@ -42,17 +41,19 @@ use std::alloc::Global;
 /// What an expression is elaborated to, with the kind of its value, or its first fault.
 #[cycle(walk)]
 #[tactic(auto, unfolding(crate::specs::Elaboration::elaborate), using(ocl_text::proofs::ForAbove::views))]
-pub(crate) fn elaborate(
+pub(crate) fn elaborate<'t>(
     alloc: Global,
     environment: &Environment<'_>,
-    expression: &Expression,
+    scope: &mut Scope<'t>,
+    expression: &'t Expression,
 ) -> Result<Typed, TypeFault>
-    requires { IsEnvironment environment.now }
+    requires { IsEnvironment environment.now scope.old }
     ensures gives { Gives type_fault typed_of result
-        (within environment.now spec.elaborate (view expression.now)) }
+        (within environment.now spec.elaborate scope.old (view expression.now)) }
     ensures known { IfOk result (λ t. IsKindOf environment.now.model.now t.kind) }
+    ensures kept { OnOk result (scope.new ≡ scope.old) }
 {
-    let Environment { model, scope, .. } = *environment;
+    let model = environment.model;
     match expression {
         Expression::Number { value, .. } => Ok(Typed {
             core: nodes::constant(ConstantValue::Integer(value.copy())),
@@ -80,18 +81,18 @@ pub(crate) fn elaborate(
             offset,
         } => {
             let operand_offset = operand.offset();
-            let value = elaborate(alloc, environment, operand)?;
+            let value = elaborate(alloc, environment, scope, operand)?;
             prefix_of(alloc, model, *operator, value, operand_offset, *offset)
         }
         Expression::Spine { first, links } => match class_before_links(first, links) {
             Some((class, at)) => {
                 let link = &links[0];
-                let value = instances_link(alloc, environment, link, class, at)?;
-                links_after(alloc, environment, links, 1, value, link.offset())
+                let value = instances_link(alloc, environment, scope, link, class, at)?;
+                links_after(alloc, environment, scope, links, 1, value, link.offset())
             }
             None => {
-                let left = elaborate(alloc, environment, first)?;
-                links_after(alloc, environment, links, 0, left, first.offset())
+                let left = elaborate(alloc, environment, scope, first)?;
+                links_after(alloc, environment, scope, links, 0, left, first.offset())
             }
         },
         Expression::Let {
@@ -100,14 +101,12 @@ pub(crate) fn elaborate(
             body,
             ..
         } => {
-            let outer = bind_one(alloc, environment, first)?;
-            let inner = bind_all(alloc, model, environment.context, outer.scope, others)?;
-            let inside = Environment {
-                scope: &inner.scope,
-                ..*environment
-            };
-            let value = elaborate(alloc, &inside, body)?;
-            Ok(let_of(alloc, outer.value, inner.values, value)?)
+            let outside = scope.len();
+            let outer = bind_one(alloc, environment, scope, first)?;
+            let values = bind_others(alloc, environment, scope, others, outer)?;
+            let value = elaborate(alloc, environment, scope, body)?;
+            scope.cut(outside);
+            Ok(let_of(alloc, values, value)?)
         }
         Expression::If {
             condition,
@@ -115,10 +114,10 @@ pub(crate) fn elaborate(
             else_branch,
             offset,
         } => {
-            let truth = elaborate(alloc, environment, condition)?;
+            let truth = elaborate(alloc, environment, scope, condition)?;
             asks_truth(model, &truth.kind, condition.offset())?;
-            let one = elaborate(alloc, environment, then_branch)?;
-            let other = elaborate(alloc, environment, else_branch)?;
+            let one = elaborate(alloc, environment, scope, then_branch)?;
+            let other = elaborate(alloc, environment, scope, else_branch)?;
             if_of(alloc, model, truth.core, one, other, *offset)
         }
     }
@@ -127,20 +126,22 @@ pub(crate) fn elaborate(
 /// The values of several arguments.
 #[cycle(walk)]
 #[tactic(auto, unfolding(crate::specs::Elaboration::elaborates), using(crate::proofs::Several::several))]
-fn elaborate_all(
+fn elaborate_all<'t>(
     alloc: Global,
     environment: &Environment<'_>,
-    arguments: &[Expression],
+    scope: &mut Scope<'t>,
+    arguments: &'t [Expression],
 ) -> Result<Values, TypeFault>
-    requires { IsEnvironment environment.now }
+    requires { IsEnvironment environment.now scope.old }
     ensures gives { Gives type_fault values_view result
-        (within environment.now spec.elaborates (trees_of (map view arguments.now))) }
+        (within environment.now spec.elaborates scope.old (trees_of (map view arguments.now))) }
     ensures known { IfOk result (λ v. All (IsKindOf environment.now.model.now) v.kinds.items) }
+    ensures kept { OnOk result (scope.new ≡ scope.old) }
 {
     let mut cores = Vec::new(alloc);
     let mut kinds = Vec::new(alloc);
     'arguments: for argument in arguments {
-        let value = elaborate(alloc, environment, argument)?;
+        let value = elaborate(alloc, environment, scope, argument)?;
         cores.push(value.core)?;
         kinds.push(value.kind)?;
     }
@@ -149,18 +150,21 @@ fn elaborate_all(
 
 /// The arguments of a call of this name.
 #[cycle(walk)]
-fn arguments_of(
+fn arguments_of<'t>(
     alloc: Global,
     environment: &Environment<'_>,
+    scope: &mut Scope<'t>,
     name: &str,
-    arguments: &[Expression],
+    arguments: &'t [Expression],
 ) -> Result<Arguments, TypeFault>
-    requires { IsEnvironment environment.now }
+    requires { IsEnvironment environment.now scope.old }
     ensures gives { Gives type_fault arguments_view result (spec.arguments_of
         (class_operator name.now)
         (spec.classes_of_arguments environment.now.model.now (trees_of (map view arguments.now)))
-        (within environment.now spec.elaborates (trees_of (map view arguments.now)))) }
+        (within environment.now spec.elaborates scope.old
+        (trees_of (map view arguments.now)))) }
     ensures known { IfOk result (AreKnownArguments environment.now.model.now) }
+    ensures kept { OnOk result (scope.new ≡ scope.old) }
 {
     match class_operator(name) {
         Some(operator) => {
@@ -168,7 +172,7 @@ fn arguments_of(
             Ok(Arguments::Classes(operator, classes))
         }
         None => {
-            let values = elaborate_all(alloc, environment, arguments)?;
+            let values = elaborate_all(alloc, environment, scope, arguments)?;
             Ok(Arguments::Values(values))
         }
     }
@@ -176,23 +180,25 @@ fn arguments_of(
 
 /// An operator with its right operand, after a left operand at its own offset.
 #[cycle(walk)]
-fn binary_link(
+fn binary_link<'t>(
     alloc: Global,
     environment: &Environment<'_>,
+    scope: &mut Scope<'t>,
     operator: BinaryOperator,
-    right: &Expression,
+    right: &'t Expression,
     offset: usize,
     left: Typed,
     left_offset: usize,
 ) -> Result<Typed, TypeFault>
-    requires environment { IsEnvironment environment.now }
+    requires environment { IsEnvironment environment.now scope.old }
     requires left { IsKindOf environment.now.model.now left.kind }
     ensures gives { Gives type_fault typed_of result (within environment.now binary_after
-        operator (typed_of left) left_offset (view right.now) offset) }
+        scope.old operator (typed_of left) left_offset (view right.now) offset) }
     ensures known { IfOk result (λ t. IsKindOf environment.now.model.now t.kind) }
+    ensures kept { OnOk result (scope.new ≡ scope.old) }
 {
     left_of(environment.model, operator, &left.kind, left_offset)?;
-    let other = elaborate(alloc, environment, right)?;
+    let other = elaborate(alloc, environment, scope, right)?;
     binary_of(
         alloc,
         environment.model,
@@ -207,35 +213,35 @@ fn binary_link(
 /// A call by a dot or an arrow on a value.
 #[cycle(walk)]
 #[tactic(auto, unfolding(crate::specs::Elaboration::call_of))]
-fn call_link(
+fn call_link<'t>(
     alloc: Global,
     environment: &Environment<'_>,
+    scope: &mut Scope<'t>,
     navigation: Navigation,
     name: &str,
-    arguments: &[Expression],
+    arguments: &'t [Expression],
     offset: usize,
     left: Typed,
 ) -> Result<Typed, TypeFault>
-    requires environment { IsEnvironment environment.now }
+    requires environment { IsEnvironment environment.now scope.old }
     requires left { IsKindOf environment.now.model.now left.kind }
     ensures gives { Gives type_fault typed_of result (within environment.now call_after
-        (spec.OfValue (typed_of left)) navigation name.now
+        scope.old (spec.OfValue (typed_of left)) navigation name.now
         (trees_of (map view arguments.now)) offset) }
     ensures known { IfOk result (λ t. IsKindOf environment.now.model.now t.kind) }
+    ensures kept { OnOk result (scope.new ≡ scope.old) }
 {
-    let Environment { model, scope, .. } = *environment;
+    let model = environment.model;
     match navigation {
         Navigation::Dot => {
-            let seen = seen_after_dot(alloc, model, scope, &left.kind)?;
-            let inner = Environment {
-                scope: &seen,
-                ..*environment
-            };
-            let values = arguments_of(alloc, &inner, name, arguments)?;
-            dot_call(alloc, model, scope.len(), left, name, values, offset)
+            let outside = scope.len();
+            push_after_dot(model, scope, &left.kind)?;
+            let values = arguments_of(alloc, environment, scope, name, arguments)?;
+            scope.cut(outside);
+            dot_call(alloc, model, outside, left, name, values, offset)
         }
         Navigation::Arrow => {
-            let values = arguments_of(alloc, environment, name, arguments)?;
+            let values = arguments_of(alloc, environment, scope, name, arguments)?;
             let source = source_of_arrow(alloc, left)?;
             arrow_call(alloc, model, source, name, values, offset)
         }
@@ -244,33 +250,33 @@ fn call_link(
 
 /// An iteration over a value.
 #[cycle(walk)]
-fn iterate_link(
+fn iterate_link<'t>(
     alloc: Global,
     environment: &Environment<'_>,
+    scope: &mut Scope<'t>,
     iterator: IteratorKind,
-    variables: &Variables,
-    body: &Expression,
+    variables: &'t Variables,
+    body: &'t Expression,
     left: Typed,
     offset: usize,
 ) -> Result<Typed, TypeFault>
-    requires environment { IsEnvironment environment.now }
+    requires environment { IsEnvironment environment.now scope.old }
     requires left { IsKindOf environment.now.model.now left.kind }
     ensures gives { Gives type_fault typed_of result (within environment.now iterate_after
-        iterator (typed_of left) (view_variables variables.now) (view body.now) offset) }
+        scope.old iterator (typed_of left) (view_variables variables.now) (view body.now) offset) }
     ensures known { IfOk result (λ t. IsKindOf environment.now.model.now t.kind) }
+    ensures kept { OnOk result (scope.new ≡ scope.old) }
 {
-    let Environment { model, scope, .. } = *environment;
+    let model = environment.model;
     let source = source_of_arrow(alloc, left)?;
-    let seen = inner_scope(alloc, model, scope, &source, variables)?;
-    let inner = Environment {
-        scope: &seen,
-        ..*environment
-    };
-    let value = elaborate(alloc, &inner, body)?;
+    let outside = scope.len();
+    push_variables(model, scope, &source, variables)?;
+    let value = elaborate(alloc, environment, scope, body)?;
+    scope.cut(outside);
     iterate_of(
         alloc,
         model,
-        scope.len(),
+        outside,
         iterator,
         source,
         variables,
@@ -281,23 +287,25 @@ fn iterate_link(
 
 /// A link after what stands on its left, which isn't a class before `.allInstances`.
 #[cycle(walk)]
-fn link_after(
+fn link_after<'t>(
     alloc: Global,
     environment: &Environment<'_>,
-    link: &Link,
+    scope: &mut Scope<'t>,
+    link: &'t Link,
     left: Typed,
     left_offset: usize,
 ) -> Result<Typed, TypeFault>
-    requires environment { IsEnvironment environment.now }
+    requires environment { IsEnvironment environment.now scope.old }
     requires left { IsKindOf environment.now.model.now left.kind }
     ensures gives { (tree : SurfaceTree)
-        → within environment.now spec.elaborate tree ≡ Ok (typed_of left)
+        → within environment.now spec.elaborate scope.old tree ≡ Ok (typed_of left)
         → offset_of tree ≡ left_offset → class_of_call (link_of link.now tree) ≡ None
         → Gives type_fault typed_of result
-        (within environment.now spec.elaborate (link_of link.now tree)) }
+        (within environment.now spec.elaborate scope.old (link_of link.now tree)) }
     ensures known { IfOk result (λ t. IsKindOf environment.now.model.now t.kind) }
+    ensures kept { OnOk result (scope.new ≡ scope.old) }
 {
-    let Environment { model, scope, .. } = *environment;
+    let model = environment.model;
     match link {
         Link::Binary {
             operator,
@@ -306,6 +314,7 @@ fn link_after(
         } => binary_link(
             alloc,
             environment,
+            scope,
             *operator,
             right,
             *offset,
@@ -325,6 +334,7 @@ fn link_after(
             call_link(
                 alloc,
                 environment,
+                scope,
                 *navigation,
                 name,
                 arguments,
@@ -340,6 +350,7 @@ fn link_after(
         } => iterate_link(
             alloc,
             environment,
+            scope,
             *iterator,
             variables,
             body,
@@ -351,19 +362,21 @@ fn link_after(
 
 /// `allInstances` on a class of this name.
 #[cycle(walk)]
-fn instances_link(
+fn instances_link<'t>(
     alloc: Global,
     environment: &Environment<'_>,
-    link: &Link,
+    scope: &mut Scope<'t>,
+    link: &'t Link,
     class: &Name,
     class_offset: usize,
 ) -> Result<Typed, TypeFault>
-    requires environment { IsEnvironment environment.now }
+    requires environment { IsEnvironment environment.now scope.old }
     requires call { class_of_call (link_of link.now (tree.Name class.now class_offset))
         ≡ Some (class.now, class_offset) }
     ensures gives { Gives type_fault typed_of result (within environment.now spec.elaborate
-        (link_of link.now (tree.Name class.now class_offset))) }
+        scope.old (link_of link.now (tree.Name class.now class_offset))) }
     ensures known { IfOk result (λ t. IsKindOf environment.now.model.now t.kind) }
+    ensures kept { OnOk result (scope.new ≡ scope.old) }
 {
     let Link::Call {
         name,
@@ -375,95 +388,85 @@ fn instances_link(
         unreachable!()
     };
     let class = known_class(environment.model, class.as_str(), class_offset)?;
-    let values = arguments_of(alloc, environment, name.as_str(), arguments)?;
+    let values = arguments_of(alloc, environment, scope, name.as_str(), arguments)?;
     instances_call(class, &values, *offset)
 }
 
 /// The links from an index on, one after another, where this stands on their left.
 #[cycle(walk)]
-fn links_after(
+fn links_after<'t>(
     alloc: Global,
     environment: &Environment<'_>,
-    links: &[Link],
+    scope: &mut Scope<'t>,
+    links: &'t [Link],
     from: usize,
     left: Typed,
     left_offset: usize,
 ) -> Result<Typed, TypeFault>
-    requires environment { IsEnvironment environment.now }
+    requires environment { IsEnvironment environment.now scope.old }
     requires left { IsKindOf environment.now.model.now left.kind }
     ensures gives { (tree : SurfaceTree)
-        → IsLeft environment.now.model.now environment.now.context
-        (scope_view environment.now.scope.now) tree (drop from links.now) (typed_of left)
-        left_offset
-        → Gives type_fault typed_of result (within environment.now spec.elaborate tree) }
+        → IsLeft environment.now.model.now environment.now.context scope.old tree
+        (drop from links.now) (typed_of left) left_offset
+        → Gives type_fault typed_of result
+        (within environment.now spec.elaborate scope.old tree) }
     ensures known { IfOk result (λ t. IsKindOf environment.now.model.now t.kind) }
+    ensures kept { OnOk result (scope.new ≡ scope.old) }
 {
     let mut value = left;
     let mut offset = left_offset;
     'links: for i in from..links.len() {
         let link = &links[i];
-        value = link_after(alloc, environment, link, value, offset)?;
+        value = link_after(alloc, environment, scope, link, value, offset)?;
         offset = link.offset();
     }
     Ok(value)
 }
 
-/// A variable of a `let`: the scope with it, and its value.
+/// The value of a variable of a `let`, which the scope ends with from then on.
 #[cycle(walk)]
-fn bind_one(
+fn bind_one<'t>(
     alloc: Global,
     environment: &Environment<'_>,
-    binding: &Binding,
-) -> Result<BoundCore, TypeFault>
-    requires { IsEnvironment environment.now }
-    ensures gives { Gives type_fault bound_view result
-        (within environment.now walk.bind_one (bound_of binding.now)) }
-    ensures known { IfOk result (λ b. AreKnownVariables environment.now.model.now b.scope.items) }
+    scope: &mut Scope<'t>,
+    binding: &'t Binding,
+) -> Result<Core, TypeFault>
+    requires { IsEnvironment environment.now scope.old }
+    ensures gives { Gives type_fault (λ c. walk.bound_core scope.new (core_view c)) result
+        (within environment.now walk.bind_one scope.old (bound_of binding.now)) }
+    ensures known { OnOk result (AreKnownVariables environment.now.model.now scope.new) }
+    ensures extends { OnOk result (Extends scope.old scope.new) }
 {
-    let Environment { model, scope, .. } = *environment;
+    let model = environment.model;
     let kind = declared_kind(model, &binding.declared)?;
-    let value = elaborate(alloc, environment, &binding.value)?;
+    let value = elaborate(alloc, environment, scope, &binding.value)?;
     let value = bound_value(alloc, model, &kind, value, binding.declared.offset())?;
-    let mut inner = copied(alloc, scope)?;
-    inner.push(ScopeVariable {
-        binder: Binder::Named(binding.name.copy(alloc)?),
-        kind,
-    })?;
-    Ok(BoundCore {
-        scope: inner,
-        value,
-    })
+    scope.push_named(&binding.name, kind)?;
+    Ok(value)
 }
 
-/// The variables of several bindings, each seen by those after it, and their values.
+/// The values of several variables of a `let`, each seen by those after it, behind that of a first one.
 #[cycle(walk)]
-fn bind_all(
+fn bind_others<'t>(
     alloc: Global,
-    model: &ClassModel,
-    context: ClassNo,
-    scope: Vec<ScopeVariable>,
-    bindings: &[Binding],
-) -> Result<BoundCores, TypeFault>
-    requires context { context < length model.now.classes }
-    requires scope { AreKnownVariables model.now scope.items }
-    ensures gives { Gives type_fault bounds_view result (walk.bind_all model.now context
-        (scope_view scope.items) (map bound_of bindings.now)) }
-    ensures known { IfOk result (λ b. AreKnownVariables model.now b.scope.items) }
+    environment: &Environment<'_>,
+    scope: &mut Scope<'t>,
+    bindings: &'t [Binding],
+    first: Core,
+) -> Result<Vec<Core>, TypeFault>
+    requires { IsEnvironment environment.now scope.old }
+    ensures gives { Gives type_fault
+        (λ v. walk.bound_cores scope.new (map core_view v.items)) result
+        (within environment.now walk.bind_others scope.old (map bound_of bindings.now)
+        (core_view first)) }
+    ensures known { OnOk result (AreKnownVariables environment.now.model.now scope.new) }
+    ensures extends { OnOk result (Extends scope.old scope.new) }
 {
-    let mut inner = scope;
     let mut values = Vec::new(alloc);
+    values.push(first)?;
     'bindings: for binding in bindings {
-        let environment = Environment {
-            model,
-            context,
-            scope: &inner,
-        };
-        let bound = bind_one(alloc, &environment, binding)?;
-        inner = bound.scope;
-        values.push(bound.value)?;
+        let value = bind_one(alloc, environment, scope, binding)?;
+        values.push(value)?;
     }
-    Ok(BoundCores {
-        scope: inner,
-        values,
-    })
+    Ok(values)
 }

@@ -1,4 +1,5 @@
-//! The deepest legal text: 64 constructs open, in each of them a chain of 256 operators and one of 256 steps.
+//! Deep and wide texts: 64 constructs open, in each of them a chain of 256 operators and one of 256 steps; a `let` with
+//! many bindings.
 
 use crate::model::MODEL;
 use crate::rows::answer;
@@ -42,6 +43,16 @@ fn nested(alloc: Global) -> Result<String, AllocError> {
     Ok(text)
 }
 
+/// A `let` of this many bindings, each with the value of the first.
+fn wide(alloc: Global, bindings: usize) -> Result<String, AllocError> {
+    let mut text = String::from_str(alloc, "context Tray inv: let b:Integer=1")?;
+    for number in 2..=bindings {
+        write!(text, ",a{number}:Integer=b")?;
+    }
+    write!(text, " in a{bindings}>b")?;
+    Ok(text)
+}
+
 fn shown(alloc: Global, text: &str) -> Result<String, ModelFault> {
     let model = ClassModel::read(alloc, MODEL.as_bytes())?;
     Ok(answer(alloc, &model, text)?)
@@ -62,6 +73,22 @@ fn is_innermost(alloc: Global) -> Result<bool, Fail> {
     let text = nested(alloc)?;
     let tree = shown(alloc, text.as_str())?;
     Ok(tree.as_str().contains("{$63.above.ForAll{$64.flag}}"))
+}
+
+/// Whether the body of a wide `let` sees its first and its last variable.
+fn is_wide(alloc: Global) -> Result<bool, Fail> {
+    let text = wide(alloc, 10_000)?;
+    let tree = shown(alloc, text.as_str())?;
+    Ok(
+        tree.as_str().starts_with("let(1 in let($1 in let($1 in ")
+            && tree.as_str().contains(" in $10000.Greater($1)))"),
+    )
+}
+
+#[test]
+fn a_let_of_many_bindings_is_checked_shown_and_dropped(rt: HostRuntime) -> Result<(), Fail> {
+    assert!(rt; is_wide(rt.alloc())?);
+    Ok(())
 }
 
 #[test]

@@ -46,12 +46,27 @@ Mantelbuis | omvat->forAll(diepte > 0) => $0.omvat.ForAll{$1.diepte.Greater(0)}
 Mantelbuis | self.omvat->forAll(k : KabelOfLeiding | k.diepte > 0) => $0.omvat.ForAll{$1.diepte.Greater(0)}
 Mantelbuis | omvat->forAll(diameter > 0) => $0.omvat.ForAll{$0.diameter.Greater(0)}
 Mantelbuis | self.thema = self.thema => UnknownName at 29
+Mantelbuis | omvat->forAll(k | diepte > 0) => $0.omvat.ForAll{$0.diepte.Greater(0)}
 ";
 
 /// Contexts that are no class.
 const CONTEXTS: &str = "\
 Nobody | true => UnknownName at 8
 Thema | true => UnknownName at 8
+";
+
+/// Variables that are bound inside, or that a later one of their name hides, and what is seen after them.
+const SCOPES: &str = "\
+Tray | marks.max((let a : Integer = 1 in a))->size() = 0 => $0.marks.Collect{$1.Maximum(let(1 in $2))}.ElementCount().Equal[Integer](0)
+Tray | marks.max(steps->select(s | s > 1)->size())->size() = 0 => $0.marks.Collect{$1.Maximum($0.steps.Select{$2.Greater(1)}.ElementCount())}.ElementCount().Equal[Integer](0)
+Tray | marks.max(1)->forAll(m | m > 0) => $0.marks.Collect{$1.Maximum(1)}.ForAll{$1.Greater(0)}
+Tray | (let a : Integer = 1 in a > 0) and a > 0 => UnknownName at 53
+Tray | marks->forAll(m | m > 0) and m > 0 => UnknownName at 47
+Tray | marks->forAll(m, n | m > n) and n > 0 => UnknownName at 50
+Tray | let a : Integer = 1 in (let a : Integer = 2 in a > 0) and a > 0 => let(1 in let(2 in $2.Greater(0)).And($1.Greater(0)))
+Tray | let m : Integer = 1 in marks->forAll(m | m > 0) and m > 0 => let(1 in $0.marks.ForAll{$2.Greater(0)}.And($1.Greater(0)))
+Tray | let a : Integer = 1, a : Integer = a in a > 0 => let(1 in let($1 in $2.Greater(0)))
+Mantelbuis | omvat->forAll(diepte > 0) and diepte > 0 => $0.omvat.ForAll{$1.diepte.Greater(0)}.And($0.diepte.Greater(0))
 ";
 
 /// Names of classes where a variable has the same name.
@@ -68,6 +83,12 @@ Tray | let Thing : Integer = 1 in (Thing + 1).allInstances() = 1 => UnknownOpera
 #[test]
 fn bare_names_and_literals(rt: HostRuntime) -> Result<(), Fail> {
     assert_eq!(rt; first_wrong(rt.alloc(), NAMES)?, None);
+    Ok(())
+}
+
+#[test]
+fn variables_inside_and_after(rt: HostRuntime) -> Result<(), Fail> {
+    assert_eq!(rt; first_wrong(rt.alloc(), SCOPES)?, None);
     Ok(())
 }
 

@@ -33,6 +33,12 @@ Mantelbuis | null => null
 Mantelbuis | omvat->collect(null)->size() = 0 => $0.omvat.Collect{null}.ElementCount().Equal[Integer](0)
 Mantelbuis | omvat->isUnique(null) => $0.omvat.IsUnique[Void]{null}
 Mantelbuis | omvat->forAll(null) => $0.omvat.ForAll{null}
+Mantelbuis | null->forAll(x : Set(Integer) | true) => WrongType at 41
+Mantelbuis | null->asSet().nope->size() = 0 => UnknownName at 38
+Tray | count.min(null) = 1 => $0.count.Minimum(null).Equal[Integer](1)
+Tray | label.substring(null, invalid) = 'a' => $0.label.Substring(null, invalid).Equal[String]('a')
+Tray | marks->count(null) = 1 => $0.marks.Occurrences[Integer](null).Equal[Integer](1)
+Tray | marks->excludes(null) => $0.marks.Includes[Integer](null).Not()
 Mantelbuis | if true then null else null endif = 1 => if[Void](true, null, null).Equal[Integer](1)
 ";
 

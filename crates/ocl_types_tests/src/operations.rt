@@ -34,6 +34,10 @@ Tray | steps->sum() = 0 => $0.steps.Sum().Equal[Integer](0)
 Tray | things->asSet() = things => $0.things.AsSet[AnyObject]().Equal[Set(AnyObject)]($0.things)
 Tray | steps->asSet() = marks => $0.steps.AsSet[Integer]().Equal[Set(Integer)]($0.marks)
 Tray | Thing.allInstances()->size() = 0 => all(Thing).ElementCount().Equal[Integer](0)
+Tray | marks = 1 => $0.marks.BothNull(1)
+Tray | ranks = steps => $0.ranks.BothNull($0.steps)
+Tray | self.oclIsKindOf(Left) => $0.IsKindOf[Left]()
+Tray | self.oclAsType(Left).weight = 1 => $0.AsType[Left]().weight.Equal[Integer](1)
 ";
 
 /// Each operation with each fault that it can have.
@@ -68,6 +72,7 @@ Tray | under.oclIsTypeOf(under.above) => UnknownName at 42
 Tray | under.oclAsType(1) = self => UnknownName at 34
 Tray | count.oclIsKindOf(Tray) => UnknownOperation at 24
 Tray | count.oclIsTypeOf(Nope) => UnknownName at 36
+Tray | things.oclIsUndefined(weight)->size() = 0 => UnknownName at 40
 Tray | things->oclIsKindOf(Left) => UnknownOperation at 26
 Tray | label.oclIsUndefined(1) => WrongArgumentCount at 24
 Tray | label->oclIsInvalid() => UnknownOperation at 25

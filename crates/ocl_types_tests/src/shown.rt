@@ -15,12 +15,10 @@ pub(crate) fn core(out: &mut String, model: &ClassModel, shown: &Core) -> Result
             core(out, model, first)?;
             each_link(out, model, links)
         }
-        Core::Let { value, body } => {
-            out.push_str("let(")?;
-            core(out, model, value)?;
-            out.push_str(" in ")?;
+        Core::Let { values, body } => {
+            each_value(out, model, values)?;
             core(out, model, body)?;
-            out.push(')')
+            close(out, values.len())
         }
         Core::If {
             kind,
@@ -68,6 +66,25 @@ fn one_link(out: &mut String, model: &ClassModel, link: &CoreLink) -> Result<(),
             out.push('}')
         }
     }
+}
+
+/// The values of a `let`, each round what comes after it.
+#[cycle(shown)]
+fn each_value(out: &mut String, model: &ClassModel, values: &[Core]) -> Result<(), AllocError> {
+    for value in values {
+        out.push_str("let(")?;
+        core(out, model, value)?;
+        out.push_str(" in ")?;
+    }
+    Ok(())
+}
+
+/// So many parentheses.
+fn close(out: &mut String, count: usize) -> Result<(), AllocError> {
+    for _ in 0..count {
+        out.push(')')?;
+    }
+    Ok(())
 }
 
 #[cycle(shown)]

@@ -52,6 +52,10 @@ Tray | if flag then Both.allInstances() else Left.allInstances() endif->size() =
 Tray | if flag then Right.allInstances() else Left.allInstances() endif->size() = 0 => NoCommonType at 18
 Tray | Both.allInstances()->forAll(b | b.weight > 0 and b.tray = self) => all(Both).ForAll{$1.weight.Greater(0).And($1.tray.Equal[AnyObject]($0))}
 Mantelbuis | if true then 1 else 'a' endif = 1 => NoCommonType at 24
+Mantelbuis | let x : Set(Bag(Integer)) = null in true => NestedCollection at 36
+Tray | let x : OrderedSet(Integer) = ranks in x->size() = 0 => let($0.ranks in $1.ElementCount().Equal[Integer](0))
+Tray | let x : Sequence(Integer) = ranks in true => WrongType at 26
+Mantelbuis | Mantelbuis.allInstances()->select(x : KabelOfLeiding | true)->forAll(m | m.diameter > 0) => all(Mantelbuis).Select{true}.ForAll{$1.diameter.Greater(0)}
 Mantelbuis | let x : Set(Set(Integer)) = null in true => NestedCollection at 36
 ";
 
