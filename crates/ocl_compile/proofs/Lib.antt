@@ -16,6 +16,8 @@ pub mod Emitted
 pub mod Counted
 pub mod Cuts
 pub mod TypedCode
+pub mod Places
+pub mod Added
 pub mod Keys
 pub mod Numbered
 pub mod RulesNumbered

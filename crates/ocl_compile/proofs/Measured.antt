@@ -27,10 +27,11 @@ use Rattle.rule_verify.specs.InstrKinds.{Surroundings, surroundings, operands_of
 use Rattle.rule_verify.specs.declared.named.Named.TheVariants as named
 use Rattle.ocl_compile.specs.Numbering.{Numbering, owned_feature, rule_uses, numbering_of}
 use Rattle.ocl_compile.specs.Translation.{symbol_of_unit, written_scalar, written_kind, constant_instr, variable_instr, plain_instr, operator_instr, iteration_instr, translate_rules, iteration_block, let_block, if_block, translate, translate_all}
-use Rattle.ocl_compile.specs.Compiling.{most_counted, has_long_text, numbering_so_far, compiled_tree, compiled_depths, limit_passed}
+use Rattle.ocl_compile.specs.Compiling.{most_counted, has_long_text, numbering_so_far, compiled_tree, compiled_depths, is_too_large, limit_passed}
 use Rattle.ocl_compile.specs.declared.fault.Limit.{Limit}
 use Rattle.ocl_compile.specs.declared.fault.Limit.TheVariants as limits
 use Rattle.ocl_compile.proofs.Operating.{operand_count, operands_counted}
+use Rattle.ocl_compile.specs.EmitWalk.{AreCounted}
 use Rattle.ocl_compile.specs.Extents.{extent_of, extent_after, then_above, cut_extent, limit_by}
 use Rattle.ocl_compile.specs.declared.extent.Extent.{Extent}
 
@@ -388,17 +389,29 @@ cut_passes limit n below = by_test (nat_lt limit n) refl
     by_test true e = lt-ltb limit (min n 65536) (omega (arith, below, ltb-true limit n e))
     by_test false e = le-ltb limit (min n 65536) (omega (arith, ltb-false limit n e))
 
--- the limit that a typed rule passes, by its measures
-pub limit_is : (m : Model) (all before : List CheckedRule) (r : CheckedRule) → IsTypedRule m r
-    → limit_passed m all before r ≡ limit_by (length before) (has_long_text m (rule_uses m r)) (length (numbering_so_far m before r).texts) (length (numbering_so_far m before r).symbols) (cut_extent (extent_of r.tree))
-limit_is m all before r typed =
-    let size : Bool → Bool = λ b. nat_le most_rules (length before) || nat_lt most_counted (length (numbering_so_far m before r).texts) || nat_lt most_counted (length (numbering_so_far m before r).symbols) || has_long_text m (rule_uses m r) || b in
-    let by : Bool → Bool → Bool → Option Limit = λ a b c. if size a then Some limits.Size else (if b then Some limits.Nesting else (if c then Some limits.Stack else None)) in
+not_these : (a b : Bool) → (a || false || false || false || b) ≡ (a || b)
+not_these true b = refl
+not_these false b = refl
+
+-- the limit that a typed rule passes, by its measures, where a unit takes what it numbers
+pub limit_is : (m : Model) (all before : List CheckedRule) (r : CheckedRule) → IsTypedRule m r → AreCounted (numbering_so_far m before r) → has_long_text m (rule_uses m r) ≡ false → limit_passed m all before r ≡ limit_by (length before) (cut_extent (extent_of r.tree))
+limit_is m all before r typed counted short =
+    let n = numbering_so_far m before r in
+    let many = nat_le most_rules (length before) in
+    let size : Bool → Bool → Bool → Bool → Bool = λ t s l i. many || t || s || l || i in
+    let by : Bool → Bool → Bool → Option Limit = λ a b c. if a then Some limits.Size else (if b then Some limits.Nesting else (if c then Some limits.Stack else None)) in
     let x = extent_of r.tree in
     let d = compiled_depths m all before r in
-    let a : nat_lt most_counted (instr_count (compiled_tree m all r)) ≡ nat_lt most_counted (min x.instructions 65536) = ap (nat_lt most_counted) (rule_count_is m all before r) ∙ sym (cut_passes most_counted x.instructions (omega arith)) in
+    let long = nat_lt most_counted (min x.instructions 65536) in
+    let a : nat_lt most_counted (instr_count (compiled_tree m all r)) ≡ long = ap (nat_lt most_counted) (rule_count_is m all before r) ∙ sym (cut_passes most_counted x.instructions (omega arith)) in
     let b : nat_lt block_limit d.blocks ≡ nat_lt block_limit (min x.blocks 65536) = ap (nat_lt block_limit) (rule_blocks_are m all before r) ∙ sym (cut_passes block_limit x.blocks (omega arith)) in
     let c : nat_lt operand_limit d.operands ≡ nat_lt operand_limit (min x.operands 65536) = ap (nat_lt operand_limit) (rule_operands_are m all before r typed) ∙ sym (cut_passes operand_limit x.operands (omega arith)) in
-    ap (λ (t : Bool). by t (nat_lt block_limit d.blocks) (nat_lt operand_limit d.operands)) a
-    ∙ ap (λ (t : Bool). by (nat_lt most_counted (min x.instructions 65536)) t (nat_lt operand_limit d.operands)) b
-    ∙ ap (λ (t : Bool). by (nat_lt most_counted (min x.instructions 65536)) (nat_lt block_limit (min x.blocks 65536)) t) c
+    let large : is_too_large m all before r ≡ (many || long) =
+    ap (λ (t : Bool). size t (nat_lt most_counted (length n.symbols)) (has_long_text m (rule_uses m r)) (nat_lt most_counted (instr_count (compiled_tree m all r)))) (le-ltb most_counted (length n.texts) counted.0)
+    ∙ ap (λ (t : Bool). size false t (has_long_text m (rule_uses m r)) (nat_lt most_counted (instr_count (compiled_tree m all r)))) (le-ltb most_counted (length n.symbols) counted.1)
+    ∙ ap (λ (t : Bool). size false false t (nat_lt most_counted (instr_count (compiled_tree m all r)))) short
+    ∙ ap (size false false false) a
+    ∙ not_these many long in
+    ap (λ (t : Bool). by t (nat_lt block_limit d.blocks) (nat_lt operand_limit d.operands)) large
+    ∙ ap (λ (t : Bool). by (many || long) t (nat_lt operand_limit d.operands)) b
+    ∙ ap (λ (t : Bool). by (many || long) (nat_lt block_limit (min x.blocks 65536)) t) c

@@ -1,5 +1,5 @@
 -- What is used by trees, one after another, is numbered by walking them.
-use Rattle.std.proofs.Common.{◌≡◌, ℕ, ◌+◌, ◌<◌, ◌≤◌, List, [], ◌∷◌, ◌++◌, length, map, drop, get_or, Box, Vec, Global, refl, sym, ap, ◌∙◌, subst, rules, append_assoc, append-nil}
+use Rattle.std.proofs.Common.{◌≡◌, ℕ, ◌+◌, ◌<◌, ◌≤◌, List, [], ◌∷◌, ◌++◌, length, map, drop, get_or, Result, Err, Box, Vec, Global, refl, sym, ap, ◌∙◌, subst, rules, append_assoc, append-nil}
 use Rattle.std.proofs.lemmas.List.{drop_more}
 use Rattle.std.proofs.Math.ListN.{drop_of_length-le}
 use Rattle.imkl_model.specs.ClassModel.{Model}
@@ -9,13 +9,17 @@ use Rattle.ocl_types.specs.declared.core_tree.Core.TheVariants as v
 use Rattle.ocl_types.specs.declared.core_tree.CoreLink.{CoreLink, Feature, Operation', AsCollection, Iterate}
 use Rattle.ocl_types.specs.declared.core_tree.CoreLink.TheVariants as l
 use Rattle.ocl_types.specs.declared.operator.Operator.{Operator}
+use Rattle.ocl_types.specs.declared.core_tree.Iteration.{Iteration}
 use Rattle.ocl_types.specs.Core.{CoreTree, cores_of}
 use Rattle.ocl_types.specs.Core as tree
 use Rattle.ocl_types.specs.CoreView.{core_view, core_link_of, core_spine}
-use Rattle.ocl_types.proofs.ForAbove.{core_view-Spine, core_view-Let, core_view-If, core_link_of-Operation}
+use Rattle.ocl_types.proofs.ForAbove.{core_view-Spine, core_view-Let, core_view-If, core_link_of-Operation, core_link_of-Iterate}
 use Rattle.ocl_compile.specs.EmitWalk.{link_node}
-use Rattle.ocl_compile.specs.Numbering.{Use, Numbering, tree_uses, trees_uses, kind_uses, operator_uses, with_use, with_uses}
-use Rattle.ocl_compile.specs.NumberWalk.{IsUseOf, AreUsesOf, links_uses}
+use Rattle.ocl_compile.specs.Numbering.{Use, Numbering, tree_uses, trees_uses, kind_uses, operator_uses, iteration_uses, with_use, with_uses}
+use Rattle.ocl_compile.specs.declared.numbers.NumberFault.{NumberFault}
+use Rattle.ocl_compile.specs.declared.numbers.NumberFault.TheVariants as faults
+use Rattle.ocl_compile.specs.NumberWalk.{IsUseOf, AreUsesOf, FitsUnit, NumbersTo, links_uses}
+use Rattle.ocl_compile.proofs.Added.{fit_before}
 use Rattle.ocl_compile.proofs.CodeFits.{first_all, rest_all}
 
 module _ (m : Model) where
@@ -25,9 +29,15 @@ module _ (m : Model) where
   uses_then (u ∷ us) vs n = uses_then us vs (with_use m n u)
 
   -- two steps, one after the other
-  pub numbered_then : (new mid old : Numbering) (us vs whole : List Use) → new ≡ with_uses m mid vs → mid ≡ with_uses m old us → whole ≡ us ++ vs → new ≡ with_uses m old whole
-  numbered_then new mid old us vs whole e f g =
-      e ∙ ap (λ (n : Numbering). with_uses m n vs) f ∙ sym (uses_then us vs old) ∙ ap (with_uses m old) (sym g)
+  pub numbered_then : (r : Result (Unit {0}) NumberFault) (new mid old : Numbering) (us vs whole : List Use) → NumbersTo r new (with_uses m mid vs) → mid ≡ with_uses m old us → whole ≡ us ++ vs → NumbersTo r new (with_uses m old whole)
+  numbered_then r new mid old us vs whole h f g =
+      subst (NumbersTo r new) (ap (λ (n : Numbering). with_uses m n vs) f ∙ sym (uses_then us vs old) ∙ ap (with_uses m old) (sym g)) h
+
+  -- numbering that stops at some uses stops at these and others after them
+  pub stopped : (e : NumberFault) (new later old : Numbering) (us vs whole : List Use) → NumbersTo (Err e) new (with_uses m old us) → whole ≡ us ++ vs → NumbersTo (Err e) later (with_uses m old whole)
+  stopped faults.TooLarge new later old us vs whole h g = λ fits.
+      h (fit_before m (with_uses m old us) vs (subst FitsUnit (ap (with_uses m old) g ∙ uses_then us vs old) fits))
+  stopped faults.OutOfMemory new later old us vs whole h g = tt
 
   -- where the uses of two parts are in the class model, so are those of each
   pub uses_parts : (us vs : List Use) → AreUsesOf m (us ++ vs) → AreUsesOf m us × AreUsesOf m vs
@@ -73,6 +83,11 @@ module _ (m : Model) where
   operation_uses link operator others is =
       ap (λ (f : CoreTree → CoreTree). tree_uses m (f (tree.Value tree.Null))) (ap core_link_of is ∙ core_link_of-Operation operator others)
 
+  -- and an iteration what it names, and then what its body uses
+  pub iterate_uses : (link : CoreLink) (i : Iteration) (body : Core) → link ≡ l.Iterate i body → tree_uses m (link_node link) ≡ iteration_uses i ++ tree_uses m (core_view body)
+  iterate_uses link i body is =
+      ap (λ (f : CoreTree → CoreTree). tree_uses m (f (tree.Value tree.Null))) (ap core_link_of is ∙ core_link_of-Iterate i body)
+
 -- ---- loops
 
 module _ {X : Type 0} (m : Model) (f : X → List Use) (F : List X → List Use) (step : (x : X) (xs : List X) → F (x ∷ xs) ≡ f x ++ F xs) where
@@ -89,6 +104,11 @@ module _ {X : Type 0} (m : Model) (f : X → List Use) (F : List X → List Use)
   numbered_on xs i x is lt old new total e h =
       let rest = F (drop (i + 1) xs) in
       ap (λ (n : Numbering). with_uses m n rest) e ∙ sym (uses_then m (f x) rest old) ∙ ap (with_uses m old) (sym (from_here xs i x is lt)) ∙ h
+
+  -- and where it stops, so does the loop
+  pub stopped_here : (xs : List X) (i : ℕ) (x : X) → x ≡ get_or xs i x → i < length xs → (e : NumberFault) (old new later total : Numbering) → NumbersTo (Err e) new (with_uses m old (f x)) → with_uses m old (F (drop i xs)) ≡ total → NumbersTo (Err e) later total
+  stopped_here xs i x is lt e old new later total h all =
+      subst (NumbersTo (Err e) later) all (stopped m e new later old (f x) (F (drop (i + 1) xs)) (F (drop i xs)) h (from_here xs i x is lt))
 
   -- at the end of a loop, all is numbered
   pub all_numbered : F [] ≡ [] → (xs : List X) (i : ℕ) → length xs ≤ i → (n total : Numbering) → with_uses m n (F (drop i xs)) ≡ total → n ≡ total

@@ -1,18 +1,27 @@
 -- Rules are numbered one after another, up to the first that passes a limit.
-use Rattle.std.proofs.Common.{◌≡◌, ℕ, ◌+◌, ◌||◌, Bool, false, List, [], ◌∷◌, ◌++◌, length, Option, Some, None, refl, sym, ap, ◌∙◌, append_assoc, append-nil, length-append, bytes_eq}
+use Rattle.std.proofs.Common.{◌≡◌, ℕ, ◌+◌, ◌||◌, Bool, true, false, if◌then◌else◌, List, [], ◌∷◌, ◌++◌, length, Option, Some, None, Err, refl, sym, ap, ◌∙◌, subst, append_assoc, append-nil, length-append, bytes_eq}
+use Rattle.std.specs.Prelude.{nat_lt}
 use Rattle.std.specs.List.{list_any, AllByRecursion}
 use Rattle.std.proofs.Math.Bool.{or-false, or_assoc}
+use Rattle.ocl_base.specs.Steps.{Means}
 use Rattle.imkl_model.specs.ClassModel.{Model}
 use Rattle.ocl_types.specs.Core.{CheckedRule}
 use Rattle.ocl_types.specs.Typing.{IsTypedRule}
+use Rattle.rule_verify.specs.KindRules.{operand_limit, block_limit}
 use Rattle.ocl_compile.specs.declared.fault.Limit.{Limit}
+use Rattle.ocl_compile.specs.declared.fault.Limit.TheVariants as limits
 use Rattle.ocl_compile.specs.Numbering.{Numbering, no_numbers, Use, UsedText, UsedSymbol, names_of_symbol, once_more, with_texts, with_use, with_uses, rule_uses, rules_uses, numbering_of}
-use Rattle.ocl_compile.specs.Compiling.{is_long_text, texts_of_use, has_long_text, limit_passed, limit_at, or_later, first_passed}
+use Rattle.ocl_compile.specs.Compiling.{is_long_text, texts_of_use, has_long_text, is_too_large, compiled_depths, limit_passed, LimitAt, limit_at, or_later, first_passed, unless_passed}
+use Rattle.ocl_compile.specs.EmitWalk.{AreCounted}
+use Rattle.ocl_compile.specs.declared.numbers.NumberFault.{NumberFault}
+use Rattle.ocl_compile.specs.declared.numbers.NumberFault.TheVariants as faults
+use Rattle.ocl_compile.specs.NumberWalk.{FitsUnit, NumbersTo}
+use Rattle.ocl_compile.specs.CompileWalk.{number_fault}
 use Rattle.ocl_compile.specs.Extents.{extent_of, cut_extent, limit_by}
-use Rattle.ocl_compile.proofs.Keys.{once_any}
+use Rattle.ocl_compile.proofs.Added.{once_any}
 use Rattle.ocl_compile.proofs.Measured.{limit_is}
 use Rattle.ocl_compile.proofs.Numbered.{uses_then}
-use Rattle.ocl_compile.proofs.UnitFits.{is_roomy}
+use Rattle.ocl_compile.proofs.UnitFits.{is_roomy, is_roomy_rule}
 
 -- ---- long texts
 
@@ -74,14 +83,24 @@ module _ (m : Model) (all : List CheckedRule) where
         ∙ uses_long m (rule_uses m r) n
         ∙ ap (λ (b : Bool). b || has_long_text m (rule_uses m r)) h.short
 
-    -- what is measured tells the limit
-    pub limit_here : limit_by i (list_any is_long_text new.texts) (length new.texts) (length new.symbols) (cut_extent (extent_of r.tree)) ≡ limit_passed m all h.before r
-    limit_here =
-        let x = cut_extent (extent_of r.tree) in
-        ap (λ (j : ℕ). limit_by j (list_any is_long_text new.texts) (length new.texts) (length new.symbols) x) (sym h.count)
-        ∙ ap (λ (b : Bool). limit_by (length h.before) b (length new.texts) (length new.symbols) x) long_now
-        ∙ ap (λ (o : Numbering). limit_by (length h.before) (has_long_text m (rule_uses m r)) (length o.texts) (length o.symbols) x) now
-        ∙ sym (limit_is m all h.before r h.typed.0)
+    -- where a unit takes what is numbered, what is measured tells the limit
+    pub limit_here : FitsUnit new → limit_by i (cut_extent (extent_of r.tree)) ≡ limit_passed m all h.before r
+    limit_here fits =
+        ap (λ (j : ℕ). limit_by j (cut_extent (extent_of r.tree))) (sym h.count)
+        ∙ sym (limit_is m all h.before r h.typed.0 (subst AreCounted now fits.0) (sym long_now ∙ fits.1))
+
+    -- and where it doesn't, the rule is too large
+    pub too_large : (FitsUnit new → ⊥) → limit_passed m all h.before r ≡ Some limits.Size
+    too_large unfit =
+        ap (λ (b : Bool). if b then Some limits.Size else (
+        if nat_lt block_limit (compiled_depths m all h.before r).blocks then Some limits.Nesting else (
+        if nat_lt operand_limit (compiled_depths m all h.before r).operands then Some limits.Stack else None))) (by_test (is_too_large m all h.before r) refl)
+      where
+        by_test : (b : Bool) → is_too_large m all h.before r ≡ b → is_too_large m all h.before r ≡ true
+        by_test true e = e
+        by_test false e =
+            let q = is_roomy_rule m all h.before r e in
+            absurd (unfit (subst AreCounted (sym now) (q.texts, q.symbols), long_now ∙ q.short))
 
     -- a limit that the rule at hand passes is the first that is passed
     pub first_is : (l : Limit) → limit_passed m all h.before r ≡ Some l → first_passed m all [] all ≡ Some (limit_at l i)
@@ -89,6 +108,11 @@ module _ (m : Model) (all : List CheckedRule) where
         h.passed
         ∙ ap (λ (o : Option Limit). or_later (length h.before) o (first_passed m all (h.before ++ r ∷ []) left)) p
         ∙ ap (λ (j : ℕ). Some (limit_at l j)) h.count
+
+    -- so it is where numbering the rule stops, unless memory runs out
+    pub stops_at : (f : NumberFault) (later x : Numbering) → NumbersTo (Err f) later new → Means (number_fault i f) (unless_passed (first_passed m all [] all) x)
+    stops_at faults.TooLarge later x unfit = ap (λ (o : Option LimitAt). unless_passed o x) (first_is limits.Size (too_large unfit))
+    stops_at faults.OutOfMemory later x unfit = tt
 
     -- a rule that passes none is numbered too
     pub one_numbered : limit_passed m all h.before r ≡ None → NumberedTo new (i + 1) left

@@ -21,6 +21,7 @@ use Rattle.ocl_compile.specs.Numbering.{same_named, literal_name, names_of_symbo
 use Rattle.ocl_compile.specs.Translation.{rule_tree, translate_rule, translate_symbol, translate_rules}
 use Rattle.ocl_compile.specs.Compiling.{most_counted, is_long_text, texts_of_use, has_long_text, numbering_so_far, is_too_large, limit_passed, first_passed, compiled_tree}
 use Rattle.ocl_compile.specs.Written.{IsWrittenRule}
+use Rattle.ocl_compile.proofs.Added.{or_parts}
 use Rattle.ocl_compile.proofs.Flat.{flat_count, translated_cut}
 use Rattle.ocl_compile.proofs.Resolving.{HasText, Has, Grows, all_texts, has_uses, texts_added, grows_by_use, text_stands}
 use Rattle.ocl_compile.proofs.CodeFits.{first_all, rest_all, both_all, text_within, symbol_within, tree_fits}
@@ -28,12 +29,7 @@ use Rattle.ocl_compile.proofs.CompiledUnits.{none_later}
 
 -- ---- what no limit says
 
--- one of several tests that fail together
-or_parts : (a b : Bool) → (a || b) ≡ false → (a ≡ false) × (b ≡ false)
-or_parts true b e = cc
-or_parts false b e = (refl, e)
-
--- a rule that passes no limit isn't too large
+-- a rule that isn't too large
 pub record IsRoomy (m : Model) (all before : List CheckedRule) (r : CheckedRule) : Type 0 where
   pub rules : length before < most_rules
   pub texts : length (numbering_so_far m before r).texts ≤ most_counted
@@ -41,10 +37,9 @@ pub record IsRoomy (m : Model) (all before : List CheckedRule) (r : CheckedRule)
   pub short : has_long_text m (rule_uses m r) ≡ false
   pub code : instr_count (compiled_tree m all r) ≤ most_counted
 
--- each rule that passes no limit is so
-pub is_roomy : (m : Model) (all before : List CheckedRule) (r : CheckedRule) → limit_passed m all before r ≡ None → IsRoomy m all before r
-is_roomy m all before r e =
-    let h = not_first (is_too_large m all before r) _ _ e in
+-- each rule that isn't is so
+pub is_roomy_rule : (m : Model) (all before : List CheckedRule) (r : CheckedRule) → is_too_large m all before r ≡ false → IsRoomy m all before r
+is_roomy_rule m all before r h =
     let d = or_parts _ (nat_lt most_counted (instr_count (compiled_tree m all r))) h in
     let c = or_parts _ (has_long_text m (rule_uses m r)) d.0 in
     let b = or_parts _ (nat_lt most_counted (length (numbering_so_far m before r).symbols)) c.0 in
@@ -56,6 +51,10 @@ is_roomy m all before r e =
       short = c.1;
       code = ltb-false most_counted (instr_count (compiled_tree m all r)) d.1;
     }
+
+-- as is each that passes no limit
+pub is_roomy : (m : Model) (all before : List CheckedRule) (r : CheckedRule) → limit_passed m all before r ≡ None → IsRoomy m all before r
+is_roomy m all before r e = is_roomy_rule m all before r (not_first (is_too_large m all before r) _ _ e)
   where
     not_first : (b : Bool) (l : Limit) (o : Option Limit) → (if b then Some l else o) ≡ None → b ≡ false
     not_first true l o e = cc

@@ -1,12 +1,16 @@
 -- The steps of compiling: rules are numbered, and then written as code.
-use Rattle.std.specs.Prelude.{◌≤◌, List, [], Result}
+use Rattle.std.specs.Prelude.{ℕ, ◌≤◌, List, [], Result}
 use Rattle.imkl_model.specs.ClassModel.{Model}
 use Rattle.ocl_types.specs.Core.{CheckedRule}
 use Rattle.ocl_types.specs.Typing.{IsTypedRule}
+use Rattle.ocl_base.specs.Steps.{FaultMeaning, fault, out_of_memory}
 use Rattle.rule_verify.specs.CodeTree.{instr_count}
+use Rattle.ocl_compile.specs.declared.fault.Limit.TheVariants as limits
+use Rattle.ocl_compile.specs.declared.numbers.NumberFault.{NumberFault}
+use Rattle.ocl_compile.specs.declared.numbers.NumberFault.TheVariants.{TooLarge, OutOfMemory}
 use Rattle.ocl_compile.specs.Numbering.{Numbering, numbering_of}
 use Rattle.ocl_compile.specs.Translation.{rule_tree}
-use Rattle.ocl_compile.specs.Compiling.{most_counted, LimitAt, first_passed, unless_passed}
+use Rattle.ocl_compile.specs.Compiling.{most_counted, LimitAt, limit_at, first_passed, unless_passed}
 
 -- what rules use, numbered, or the first limit that a rule passes
 abbrev pub numbered_rules : Model → List CheckedRule → Result Numbering LimitAt
@@ -15,3 +19,8 @@ numbered_rules m rs = unless_passed (first_passed m rs [] rs) (numbering_of m rs
 -- a typed rule whose code is short enough
 abbrev pub IsCodable : Model → Numbering → CheckedRule → Type 0
 IsCodable m n r = IsTypedRule m r × (instr_count (rule_tree m n r) ≤ most_counted)
+
+-- where numbering stops, the rule passes a limit of size
+abbrev pub number_fault : ℕ → NumberFault → FaultMeaning LimitAt
+number_fault rule TooLarge = fault (limit_at limits.Size rule)
+number_fault rule OutOfMemory = out_of_memory

@@ -1,5 +1,5 @@
 -- How large and how deep the code of a core tree is, by the tree alone.
-use Rattle.std.specs.Prelude.{ℕ, suc, ◌+◌, ◌||◌, max, min, Bool, Option, Some, None, nat_le, nat_lt, if◌then◌else◌}
+use Rattle.std.specs.Prelude.{ℕ, suc, ◌+◌, ◌||◌, max, min, Option, Some, None, nat_le, nat_lt, if◌then◌else◌}
 use Rattle.ocl_types.specs.Core as tree
 use Rattle.ocl_types.specs.Core.{CoreTree, CoreTrees}
 use Rattle.rule_code.specs.WellFormed.{most_rules}
@@ -58,11 +58,9 @@ cut_extent x = extent (min x.instructions 65536) (min x.operands 65536) (min x.b
 
 -- ---- limits by measures
 
--- the limit that a rule of an index passes, by whether a text that it uses is too long, by the numbers of texts and
--- symbols so far, and by the extent of its code
-abbrev pub limit_by : ℕ → Bool → ℕ → ℕ → Extent → Option Limit
-limit_by index is_long texts symbols x =
-    if nat_le most_rules index || nat_lt most_counted texts || nat_lt most_counted symbols || is_long || nat_lt most_counted x.instructions
-    then Some limits.Size else (
+-- the limit that a rule of an index passes by the extent of its code, if a unit takes what it numbers
+abbrev pub limit_by : ℕ → Extent → Option Limit
+limit_by index x =
+    if nat_le most_rules index || nat_lt most_counted x.instructions then Some limits.Size else (
     if nat_lt block_limit x.blocks then Some limits.Nesting else (
     if nat_lt operand_limit x.operands then Some limits.Stack else None))

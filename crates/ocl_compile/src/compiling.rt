@@ -1,9 +1,9 @@
 //! Compiling: what rules use is numbered, and then their code is written.
 
-ghost use Rattle.std.specs.Prelude.{◌≡◌, ◌≤◌, false, length, map, string_bytes, bytes_eq, IfOk, OnOk};
-ghost use Rattle.std.specs.List.{list_any, AllByRecursion};
+ghost use Rattle.std.specs.Prelude.{◌≡◌, map, IfOk, OnOk};
+ghost use Rattle.std.specs.List.{AllByRecursion};
 ghost use Rattle.ocl_base.specs.Steps.{Gives};
-ghost use Rattle.ocl_types.specs.CoreView.{core_view, checked_rule_of};
+ghost use Rattle.ocl_types.specs.CoreView.{checked_rule_of};
 ghost use Rattle.ocl_types.specs.AllRules.{HaveOwnNames};
 ghost use Rattle.ocl_types.specs.Typing.{IsTypedRule};
 ghost use Rattle.rule_code.specs.Content.{rule_content};
@@ -11,12 +11,11 @@ ghost use Rattle.rule_code.specs.View.{content};
 ghost use Rattle.ocl_compile.specs.Written.{IsWrittenRule};
 ghost use Rattle.ocl_compile.specs.Numbering.{rule_uses, with_uses};
 ghost use Rattle.ocl_compile.specs.Translation.{translate_rule, translate_symbol};
-ghost use Rattle.ocl_compile.specs.Compiling.{is_long_text, compile_of};
+ghost use Rattle.ocl_compile.specs.Compiling.{compile_of};
 ghost use Rattle.ocl_compile.specs.CompileFaults.{compile_fault};
 ghost use Rattle.ocl_compile.specs.CompileWalk.{numbered_rules, IsCodable};
-ghost use Rattle.ocl_compile.specs.Extents.{extent_of, cut_extent, limit_by};
 ghost use Rattle.ocl_compile.specs.EmitWalk.{AreCounted};
-ghost use Rattle.ocl_compile.specs.NumberWalk.{IsNamedIn};
+ghost use Rattle.ocl_compile.specs.NumberWalk.{IsNamedIn, NumbersTo};
 
 use crate::emitting::emit;
 use crate::fault::{CompileFault, Limit};
@@ -24,7 +23,7 @@ use crate::fields::{symbol_of_names, symbol_of_unit, text_of_unit};
 use crate::limits::limit_passed;
 use crate::measuring::measure;
 use crate::numbering::number_tree;
-use crate::numbers::Numbers;
+use crate::numbers::{NumberFault, Numbers};
 use imkl_model::ClassModel;
 use ocl_types::CoreRule;
 use rule_code::{Rule, Symbol, Unit};
@@ -37,31 +36,14 @@ fn number_rule(
     model: &ClassModel,
     rule: &CoreRule,
     numbers: &mut Numbers,
-) -> Result<(), AllocError>
+) -> Result<(), NumberFault>
     requires { IsTypedRule model.now (checked_rule_of rule.now) }
-    ensures { OnOk result (numbers.new
-        ≡ with_uses model.now numbers.old (rule_uses model.now (checked_rule_of rule.now))) }
+    ensures { NumbersTo result numbers.new
+        (with_uses model.now numbers.old (rule_uses model.now (checked_rule_of rule.now))) }
 {
     numbers.add_text(alloc, rule.name.as_str())?;
     numbers.add_symbol(alloc, model, Named::Class(rule.context))?;
     number_tree(alloc, model, &rule.tree, numbers)
-}
-
-/// Which limit the rule of an index passes, once what it uses is numbered.
-fn limit_of(index: usize, rule: &CoreRule, numbers: &Numbers) -> Option<Limit>
-    ensures { result ≡ limit_by index (list_any is_long_text numbers.now.texts)
-        (length numbers.now.texts) (length numbers.now.symbols)
-        (cut_extent (extent_of (core_view rule.now.tree))) }
-{
-    let texts = numbers.text_count();
-    let symbols = numbers.symbol_count();
-    limit_passed(
-        index,
-        numbers.has_long_text(),
-        texts,
-        symbols,
-        measure(&rule.tree),
-    )
 }
 
 /// Numbers what rules use, up to the first that passes a limit.
@@ -77,8 +59,11 @@ fn number_rules(
     let mut numbers = Numbers::new(alloc);
     for i in 0..rules.len() {
         let rule = &rules[i];
-        number_rule(alloc, model, rule, &mut numbers)?;
-        if let Some(limit) = limit_of(i, rule, &numbers) {
+        if let Err(fault) = number_rule(alloc, model, rule, &mut numbers) {
+            return Err(fault.of_rule(i));
+        }
+        numbers.fit();
+        if let Some(limit) = limit_passed(i, measure(&rule.tree)) {
             return Err(CompileFault::At { limit, rule: i });
         }
     }
@@ -159,9 +144,8 @@ pub fn compile(alloc: Global, model: &ClassModel, rules: &[CoreRule]) -> Result<
     let numbers = number_rules(alloc, model, rules)?;
     let coded = code_rules(alloc, model, &numbers, rules)?;
     let symbols = unit_symbols(alloc, model, &numbers)?;
-    let texts = numbers.into_texts(alloc)?;
     Ok(Unit {
-        texts,
+        texts: numbers.into_texts(),
         symbols,
         rules: coded,
     })

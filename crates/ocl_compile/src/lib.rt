@@ -13,6 +13,8 @@ mod limits;
 mod measuring;
 mod numbering;
 mod numbers;
+mod symbols;
+mod texts;
 
 pub use compiling::compile;
 pub use fault::{CompileFault, Limit};

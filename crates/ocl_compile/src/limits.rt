@@ -10,7 +10,7 @@ use crate::fault::Limit;
 const MOST_RULES: usize = 4_096;
 
 /// The most texts, the most symbols, and the most instructions of a rule.
-const MOST_COUNTED: usize = 65_535;
+pub(crate) const MOST_COUNTED: usize = 65_535;
 
 /// The most blocks that enclose each other.
 const MOST_BLOCKS: usize = 64;
@@ -18,23 +18,12 @@ const MOST_BLOCKS: usize = 64;
 /// The most operands at once.
 const MOST_OPERANDS: usize = 1_024;
 
-/// The limit that the rule of an index passes, if any: by whether a text that it uses is too long,
-/// by how many texts and symbols there are so far, and by the extent of its code.
-pub(crate) fn limit_passed(
-    index: usize,
-    is_long: bool,
-    texts: usize,
-    symbols: usize,
-    extent: Extent,
-) -> Option<Limit>
-    ensures { result ≡ limit_by index is_long texts symbols extent }
+/// The limit that the rule of an index passes by the extent of its code, if any. What it numbers is
+/// taken by the unit.
+pub(crate) fn limit_passed(index: usize, extent: Extent) -> Option<Limit>
+    ensures { result ≡ limit_by index extent }
 {
-    if index >= MOST_RULES
-        || texts > MOST_COUNTED
-        || symbols > MOST_COUNTED
-        || is_long
-        || extent.instructions > MOST_COUNTED
-    {
+    if index >= MOST_RULES || extent.instructions > MOST_COUNTED {
         Some(Limit::Size)
     } else if extent.blocks > MOST_BLOCKS {
         Some(Limit::Nesting)

@@ -1,18 +1,18 @@
 //! Numbers the texts and symbols of core trees, in the order of their code.
 
-ghost use Rattle.std.specs.Prelude.{◌≡◌, map, OnOk};
+ghost use Rattle.std.specs.Prelude.{map};
 ghost use Rattle.ocl_types.specs.Core.{cores_of};
 ghost use Rattle.ocl_types.specs.CoreView.{core_view, constant_of};
 ghost use Rattle.ocl_compile.specs.Numbering.{with_uses, constant_uses, scalar_uses, kind_uses, operator_uses, iteration_uses, tree_uses, trees_uses};
 ghost use Rattle.ocl_compile.specs.EmitWalk.{link_node};
-ghost use Rattle.ocl_compile.specs.NumberWalk.{AreUsesOf, links_uses};
+ghost use Rattle.ocl_compile.specs.NumberWalk.{AreUsesOf, NumbersTo, links_uses};
 
-use crate::numbers::Numbers;
+use crate::numbers::{NumberFault, Numbers};
 use imkl_model::ClassModel;
 use ocl_kinds::{Kind, ScalarKind};
 use ocl_types::{ConstantValue, Core, CoreLink, Iteration, Operator};
 use rule_verify::Named;
-use std::alloc::{AllocError, Global};
+use std::alloc::Global;
 
 /// Numbers what the kind of a single value names.
 fn number_scalar(
@@ -20,9 +20,10 @@ fn number_scalar(
     model: &ClassModel,
     kind: ScalarKind,
     numbers: &mut Numbers,
-) -> Result<(), AllocError>
+) -> Result<(), NumberFault>
     requires { AreUsesOf model.now (scalar_uses kind) }
-    ensures { OnOk result (numbers.new ≡ with_uses model.now numbers.old (scalar_uses kind)) }
+    ensures { NumbersTo result numbers.new
+        (with_uses model.now numbers.old (scalar_uses kind)) }
 {
     match kind {
         ScalarKind::Enumeration(enumeration) => {
@@ -39,9 +40,10 @@ fn number_kind(
     model: &ClassModel,
     kind: Kind,
     numbers: &mut Numbers,
-) -> Result<(), AllocError>
+) -> Result<(), NumberFault>
     requires { AreUsesOf model.now (kind_uses kind) }
-    ensures { OnOk result (numbers.new ≡ with_uses model.now numbers.old (kind_uses kind)) }
+    ensures { NumbersTo result numbers.new
+        (with_uses model.now numbers.old (kind_uses kind)) }
 {
     match kind {
         Kind::Scalar(element) => number_scalar(alloc, model, element, numbers),
@@ -55,10 +57,10 @@ fn number_constant(
     model: &ClassModel,
     value: &ConstantValue,
     numbers: &mut Numbers,
-) -> Result<(), AllocError>
+) -> Result<(), NumberFault>
     requires { AreUsesOf model.now (constant_uses (constant_of value.now)) }
-    ensures { OnOk result (numbers.new
-        ≡ with_uses model.now numbers.old (constant_uses (constant_of value.now))) }
+    ensures { NumbersTo result numbers.new
+        (with_uses model.now numbers.old (constant_uses (constant_of value.now))) }
 {
     match value {
         ConstantValue::Text(text) => numbers.add_text(alloc, text.as_str()),
@@ -75,10 +77,10 @@ fn number_operator(
     model: &ClassModel,
     operator: Operator,
     numbers: &mut Numbers,
-) -> Result<(), AllocError>
+) -> Result<(), NumberFault>
     requires { AreUsesOf model.now (operator_uses operator) }
-    ensures { OnOk result (numbers.new
-        ≡ with_uses model.now numbers.old (operator_uses operator)) }
+    ensures { NumbersTo result numbers.new
+        (with_uses model.now numbers.old (operator_uses operator)) }
 {
     match operator {
         Operator::Plain(_) => Ok(()),
@@ -94,10 +96,10 @@ fn number_iteration(
     model: &ClassModel,
     iteration: Iteration,
     numbers: &mut Numbers,
-) -> Result<(), AllocError>
+) -> Result<(), NumberFault>
     requires { AreUsesOf model.now (iteration_uses iteration) }
-    ensures { OnOk result (numbers.new
-        ≡ with_uses model.now numbers.old (iteration_uses iteration)) }
+    ensures { NumbersTo result numbers.new
+        (with_uses model.now numbers.old (iteration_uses iteration)) }
 {
     match iteration {
         Iteration::IsUnique(element) => number_scalar(alloc, model, element, numbers),
@@ -113,10 +115,10 @@ pub(crate) fn number_tree(
     model: &ClassModel,
     core: &Core,
     numbers: &mut Numbers,
-) -> Result<(), AllocError>
+) -> Result<(), NumberFault>
     requires { AreUsesOf model.now (tree_uses model.now (core_view core.now)) }
-    ensures { OnOk result (numbers.new
-        ≡ with_uses model.now numbers.old (tree_uses model.now (core_view core.now))) }
+    ensures { NumbersTo result numbers.new
+        (with_uses model.now numbers.old (tree_uses model.now (core_view core.now))) }
 {
     match core {
         Core::Constant { value } => number_constant(alloc, model, value, numbers),
@@ -144,20 +146,20 @@ pub(crate) fn number_tree(
     }
 }
 
-/// Numbers what operands use.
+/// Numbers what several core trees use, in their order.
 #[cycle(number)]
-fn number_operands(
+fn number_trees(
     alloc: Global,
     model: &ClassModel,
-    operands: &[Core],
+    trees: &[Core],
     numbers: &mut Numbers,
-) -> Result<(), AllocError>
-    requires { AreUsesOf model.now (trees_uses model.now (cores_of (map core_view operands.now))) }
-    ensures { OnOk result (numbers.new ≡ with_uses model.now numbers.old
-        (trees_uses model.now (cores_of (map core_view operands.now)))) }
+) -> Result<(), NumberFault>
+    requires { AreUsesOf model.now (trees_uses model.now (cores_of (map core_view trees.now))) }
+    ensures { NumbersTo result numbers.new (with_uses model.now numbers.old
+        (trees_uses model.now (cores_of (map core_view trees.now)))) }
 {
-    'operands: for operand in operands {
-        number_tree(alloc, model, operand, numbers)?;
+    'trees: for tree in trees {
+        number_tree(alloc, model, tree, numbers)?;
     }
     Ok(())
 }
@@ -170,10 +172,10 @@ fn number_link(
     model: &ClassModel,
     link: &CoreLink,
     numbers: &mut Numbers,
-) -> Result<(), AllocError>
+) -> Result<(), NumberFault>
     requires { AreUsesOf model.now (tree_uses model.now (link_node link.now)) }
-    ensures { OnOk result (numbers.new
-        ≡ with_uses model.now numbers.old (tree_uses model.now (link_node link.now))) }
+    ensures { NumbersTo result numbers.new
+        (with_uses model.now numbers.old (tree_uses model.now (link_node link.now))) }
 {
     match link {
         CoreLink::Feature { feature } => {
@@ -181,7 +183,7 @@ fn number_link(
             numbers.add_symbol(alloc, model, Named::Feature(owner, *feature))
         }
         CoreLink::Operation { operator, others } => {
-            number_operands(alloc, model, others, numbers)?;
+            number_trees(alloc, model, others, numbers)?;
             number_operator(alloc, model, *operator, numbers)
         }
         CoreLink::AsCollection { element, .. } => number_scalar(alloc, model, *element, numbers),
@@ -199,10 +201,10 @@ fn number_links(
     model: &ClassModel,
     links: &[CoreLink],
     numbers: &mut Numbers,
-) -> Result<(), AllocError>
+) -> Result<(), NumberFault>
     requires { AreUsesOf model.now (links_uses model.now links.now) }
-    ensures { OnOk result (numbers.new
-        ≡ with_uses model.now numbers.old (links_uses model.now links.now)) }
+    ensures { NumbersTo result numbers.new
+        (with_uses model.now numbers.old (links_uses model.now links.now)) }
 {
     'links: for link in links {
         number_link(alloc, model, link, numbers)?;

@@ -1,14 +1,17 @@
 //! The numbers of a unit's texts and symbols.
 
-ghost use Rattle.std.specs.Prelude.{◌≡◌, ◌<◌, Some, length, map, bytes_eq, slice_get, string_bytes, OnOk, IfOk};
-ghost use Rattle.std.specs.List.{list_any};
-ghost use Rattle.ocl_compile.specs.Compiling.{is_long_text};
-ghost use Rattle.ocl_compile.specs.Numbering.{UsedSymbol, no_numbers, once_more, with_texts, with_use, names_of_symbol, same_named, text_number, symbol_number};
-ghost use Rattle.ocl_compile.specs.NumberWalk.{IsNamedIn};
-ghost use Rattle.ocl_compile.specs.NumbersView.{named_of};
+ghost use Rattle.std.specs.Prelude.{◌≡◌, ◌<◌, Some, length, map, bytes_eq, slice_get, string_bytes};
+ghost use Rattle.ocl_compile.specs.Numbering.{UsedSymbol, no_numbers, once_more, same_named, with_texts, with_use, names_of_symbol, text_number, symbol_number};
+ghost use Rattle.ocl_compile.specs.CompileFaults.{compile_fault};
+ghost use Rattle.ocl_compile.specs.CompileWalk.{number_fault};
+ghost use Rattle.ocl_compile.specs.NumberWalk.{IsNamedIn, FitsUnit, NumbersTo};
+ghost use Rattle.ocl_compile.specs.declared.numbers.NumberFault.TheVariants.{OutOfMemory};
 
-use imkl_model::{ClassModel, ClassNo, EnumNo, FeatureNo, LiteralNo};
-use indexmap::IndexSet;
+use crate::fault::{CompileFault, Limit};
+use crate::limits::MOST_COUNTED;
+use crate::symbols::Symbols;
+use crate::texts::Texts;
+use imkl_model::ClassModel;
 use rule_verify::Named;
 use std::alloc::{AllocError, Global};
 use std::marker::Model;
@@ -16,69 +19,54 @@ use std::marker::Model;
 /// The most bytes of a text.
 const MOST_TEXT_BYTES: usize = 4_096;
 
-/// What a symbol names, by its numbers in the class model.
-#[derive(Clone, Copy, PartialEq, Eq, Hash)]
-pub(crate) enum Key {
-    /// A class.
-    Class(usize),
-    /// An enumeration.
-    Enumeration(usize),
-    /// A class, and a feature of it.
-    Feature(usize, usize),
-    /// An enumeration, and a literal of it.
-    Literal(usize, usize),
+/// Why numbering stops.
+#[derive(Clone, Copy)]
+pub(crate) enum NumberFault {
+    /// A text is too long, or there are more texts or symbols than a unit takes.
+    TooLarge,
+    /// Memory ran out.
+    OutOfMemory,
 }
 
-/// The texts and symbols of a unit, in the order of their numbers.
+impl NumberFault {
+    /// The fault of the rule of an index, with which numbering stops.
+    pub(crate) fn of_rule(self, rule: usize) -> CompileFault
+        ensures { compile_fault result ≡ number_fault rule self }
+    {
+        match self {
+            NumberFault::TooLarge => CompileFault::At {
+                limit: Limit::Size,
+                rule,
+            },
+            NumberFault::OutOfMemory => CompileFault::OutOfMemory,
+        }
+    }
+}
+
+impl From<AllocError> for NumberFault {
+    ghost from_gives = { λ _ e. e ≡ OutOfMemory };
+
+    fn from(_e: AllocError) -> NumberFault {
+        NumberFault::OutOfMemory
+    }
+}
+
+/// The texts and symbols of a unit, in the order of their numbers: as many as a unit takes, and none too long.
 #[derive(Drop)]
 pub(crate) struct Numbers {
-    texts: IndexSet<String>,
-    symbols: IndexSet<Key>,
-    has_long_text: bool,
+    texts: Texts,
+    symbols: Symbols,
 }
 
 impl Model for Numbers {
-    ghost use Rattle.std.specs.Prelude.{◌≡◌, map, string_bytes};
-    ghost use Rattle.std.specs.List.{list_any};
-    ghost use Rattle.ocl_compile.specs.Compiling.{is_long_text};
     ghost use Rattle.ocl_compile.specs.Numbering.{Numbering};
-    ghost use Rattle.ocl_compile.specs.NumbersView.{named_of};
+    ghost use Rattle.ocl_compile.specs.NumberWalk.{FitsUnit};
 
     ghost Value = { Numbering };
 
-    ghost view = { λ n. record { texts = map string_bytes n.texts.keys; symbols = map named_of n.symbols.keys } };
+    ghost view = { λ n. record { texts = n.texts; symbols = n.symbols } };
 
-    ghost invariant = { λ n. n.has_long_text ≡ list_any is_long_text (map string_bytes n.texts.keys) };
-}
-
-/// A symbol by its numbers.
-fn key_of(symbol: Named) -> Key
-    ensures { named_of result ≡ symbol }
-{
-    match symbol {
-        Named::Class(class) => Key::Class(class.index()),
-        Named::Enumeration(enumeration) => Key::Enumeration(enumeration.index()),
-        Named::Feature(class, feature) => Key::Feature(class.index(), feature.index()),
-        Named::Literal(enumeration, literal) => {
-            Key::Literal(enumeration.index(), literal.index())
-        }
-    }
-}
-
-/// What a key names.
-fn named(key: Key) -> Named
-    ensures { result ≡ named_of key }
-{
-    match key {
-        Key::Class(class) => Named::Class(ClassNo::new(class)),
-        Key::Enumeration(enumeration) => Named::Enumeration(EnumNo::new(enumeration)),
-        Key::Feature(class, feature) => {
-            Named::Feature(ClassNo::new(class), FeatureNo::new(feature))
-        }
-        Key::Literal(enumeration, literal) => {
-            Named::Literal(EnumNo::new(enumeration), LiteralNo::new(literal))
-        }
-    }
+    ghost invariant = { λ n. FitsUnit (record { texts = n.texts; symbols = n.symbols }) };
 }
 
 impl Numbers {
@@ -87,40 +75,43 @@ impl Numbers {
         ensures { result ≡ no_numbers }
     {
         Numbers {
-            texts: IndexSet::new(alloc),
-            symbols: IndexSet::new(alloc),
-            has_long_text: false,
+            texts: Texts::new(alloc),
+            symbols: Symbols::new(alloc),
         }
     }
 
     /// Adds a text, unless it is there.
-    pub(crate) fn add_text(&mut self, alloc: Global, text: &str) -> Result<(), AllocError>
-        ensures { OnOk result (self.new
-            ≡ record {
-              texts = once_more bytes_eq self.old.texts text.now;
-              symbols = self.old.symbols;
-            }) }
+    pub(crate) fn add_text(&mut self, alloc: Global, text: &str) -> Result<(), NumberFault>
+        ensures { NumbersTo result self.new (record {
+          texts = once_more bytes_eq self.old.texts text.now;
+          symbols = self.old.symbols;
+        }) }
     {
-        let is_long = text.len() > MOST_TEXT_BYTES;
-        let text = String::from_str(alloc, text)?;
-        self.texts.insert(text)?;
-        self.has_long_text |= is_long;
+        if text.len() > MOST_TEXT_BYTES {
+            return Err(NumberFault::TooLarge);
+        }
+        if self.texts.number_of(text).is_some() {
+            return Ok(());
+        }
+        if self.texts.len() == MOST_COUNTED {
+            return Err(NumberFault::TooLarge);
+        }
+        self.texts.push(alloc, text)?;
         Ok(())
     }
 
-    /// Adds the names that a symbol consists of.
+    /// Adds the names that a symbol consists of, unless they are there.
     fn add_names(
         &mut self,
         alloc: Global,
         model: &ClassModel,
         symbol: &Named,
-    ) -> Result<(), AllocError>
+    ) -> Result<(), NumberFault>
         requires { IsNamedIn model.now symbol.now }
-        ensures { OnOk result (self.new
-            ≡ record {
-              texts = with_texts self.old.texts (names_of_symbol model.now symbol.now);
-              symbols = self.old.symbols;
-            }) }
+        ensures { NumbersTo result self.new (record {
+          texts = with_texts self.old.texts (names_of_symbol model.now symbol.now);
+          symbols = self.old.symbols;
+        }) }
     {
         match symbol {
             Named::Class(class) => self.add_text(alloc, model.class_name(*class)),
@@ -137,15 +128,20 @@ impl Numbers {
         }
     }
 
-    /// Adds the key of a symbol, unless it is there.
-    fn add_key(&mut self, key: Key) -> Result<(), AllocError>
-        ensures { OnOk result (self.new
-            ≡ record {
-              texts = self.old.texts;
-              symbols = once_more same_named self.old.symbols (named_of key);
-            }) }
+    /// Adds a symbol without its names, unless it is there.
+    fn add_alone(&mut self, symbol: Named) -> Result<(), NumberFault>
+        ensures { NumbersTo result self.new (record {
+          texts = self.old.texts;
+          symbols = once_more same_named self.old.symbols symbol;
+        }) }
     {
-        self.symbols.insert(key)?;
+        if self.symbols.number_of(&symbol).is_some() {
+            return Ok(());
+        }
+        if self.symbols.len() == MOST_COUNTED {
+            return Err(NumberFault::TooLarge);
+        }
+        self.symbols.push(symbol)?;
         Ok(())
     }
 
@@ -155,41 +151,33 @@ impl Numbers {
         alloc: Global,
         model: &ClassModel,
         symbol: Named,
-    ) -> Result<(), AllocError>
+    ) -> Result<(), NumberFault>
         requires { IsNamedIn model.now symbol }
-        ensures { OnOk result (self.new ≡ with_use model.now self.old (UsedSymbol symbol)) }
+        ensures { NumbersTo result self.new (with_use model.now self.old (UsedSymbol symbol)) }
     {
         self.add_names(alloc, model, &symbol)?;
-        self.add_key(key_of(symbol))
+        self.add_alone(symbol)
     }
 
-    /// Whether a text has more bytes than a unit takes.
-    pub(crate) fn has_long_text(&self) -> bool
-        ensures { result ≡ list_any is_long_text self.now.texts }
+    /// A unit takes these texts and symbols.
+    pub(crate) fn fit(&self)
+        ensures { FitsUnit self.now }
     {
-        self.has_long_text
+        let _texts = &self.texts;
     }
 
     /// The number of a text.
     pub(crate) fn text_number(&self, text: &str) -> usize
         ensures { result ≡ text_number self.now text.now }
     {
-        self.texts.get_index_of(text).unwrap_or(0)
+        self.texts.number_of(text).unwrap_or(0)
     }
 
     /// The number of a symbol.
     pub(crate) fn symbol_number(&self, symbol: Named) -> usize
         ensures { result ≡ symbol_number self.now symbol }
     {
-        let key = key_of(symbol);
-        self.symbols.get_index_of(&key).unwrap_or(0)
-    }
-
-    /// How many texts there are.
-    pub(crate) fn text_count(&self) -> usize
-        ensures { result ≡ length self.now.texts }
-    {
-        self.texts.len()
+        self.symbols.number_of(&symbol).unwrap_or(0)
     }
 
     /// How many symbols there are.
@@ -204,13 +192,13 @@ impl Numbers {
         requires { number < length self.now.symbols }
         ensures { slice_get self.now.symbols number ≡ Some result }
     {
-        named(self.symbols[number])
+        self.symbols.at(number)
     }
 
     /// The texts, in the order of their numbers.
-    pub(crate) fn into_texts(self, alloc: Global) -> Result<Vec<String>, AllocError>
-        ensures { IfOk result (λ v. map string_bytes v.items ≡ self.texts) }
+    pub(crate) fn into_texts(self) -> Vec<String>
+        ensures { map string_bytes result.items ≡ self.texts }
     {
-        self.texts.into_iter().collect(alloc)
+        self.texts.into_vec()
     }
 }

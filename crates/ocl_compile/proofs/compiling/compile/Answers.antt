@@ -49,10 +49,10 @@ invariant_of-result c =
     let m = c.args.model.now in
     let rs = map checked_rule_of c.args.rules.now in
     let n = c.in_ok-numbers.numbers in
-    let texts = c.in_ok-texts.texts.items in
+    let texts = c.into_texts.result.items in
     let p = numbered_are m rs n c.in_ok-numbers.ensures in
-    let utf8 = subst (AllByRecursion (λ t. is_utf8 t ≡ true)) (c.in_ok-texts.ensures ∙ ap (λ (o : Numbering). o.texts) p.1) (strings_are_utf8 texts) in
-    let is = unit_is m rs n texts c.in_ok-symbols.symbols.items c.in_ok-coded.coded.items p.1 c.in_ok-texts.ensures c.in_ok-symbols.ensures c.in_ok-coded.ensures.codes in
+    let utf8 = subst (AllByRecursion (λ t. is_utf8 t ≡ true)) (c.into_texts.ensures ∙ ap (λ (o : Numbering). o.texts) p.1) (strings_are_utf8 texts) in
+    let is = unit_is m rs n texts c.in_ok-symbols.symbols.items c.in_ok-coded.coded.items p.1 c.into_texts.ensures c.in_ok-symbols.ensures c.in_ok-coded.ensures.codes in
     record { is_unit = ∣ subst IsUnit (sym is) (unit_fits m rs c.requires.typed c.in_ok-coded.ensures.written c.requires.names utf8 p.0) ∣₁ }
 
 pub returns : goal.returns
@@ -61,5 +61,5 @@ returns c =
     let rs = map checked_rule_of c.args.rules.now in
     let n = c.in_ok-numbers.numbers in
     let p = numbered_are m rs n c.in_ok-numbers.ensures in
-    let is = unit_is m rs n c.in_ok-texts.texts.items c.in_ok-symbols.symbols.items c.in_ok-coded.coded.items p.1 c.in_ok-texts.ensures c.in_ok-symbols.ensures c.in_ok-coded.ensures.codes in
+    let is = unit_is m rs n c.into_texts.result.items c.in_ok-symbols.symbols.items c.in_ok-coded.coded.items p.1 c.into_texts.ensures c.in_ok-symbols.ensures c.in_ok-coded.ensures.codes in
     ap (λ (o : Option LimitAt). unless_passed o (translate_rules m rs)) p.0 ∙ ap (λ (u : Content). unless_passed None u) (sym is)

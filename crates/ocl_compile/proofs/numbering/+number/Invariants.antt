@@ -10,7 +10,7 @@ invariant-number_links-links l =
     (with_uses l.model l.numbers (links_uses l.model (drop l.link-index l.links)) ≡ with_uses l.model l.initial.numbers (links_uses l.model l.links))
     × AreUsesOf l.model (links_uses l.model (drop l.link-index l.links))
 
-abbrev pub invariant-number_operands-operands : goal.invariant-number_operands-operands
-invariant-number_operands-operands l =
-    (with_uses l.model l.numbers (trees_uses l.model (cores_of (map core_view (drop l.operand-index l.operands)))) ≡ with_uses l.model l.initial.numbers (trees_uses l.model (cores_of (map core_view l.operands))))
-    × AreUsesOf l.model (trees_uses l.model (cores_of (map core_view (drop l.operand-index l.operands))))
+abbrev pub invariant-number_trees-trees : goal.invariant-number_trees-trees
+invariant-number_trees-trees l =
+    (with_uses l.model l.numbers (trees_uses l.model (cores_of (map core_view (drop l.tree-index l.trees)))) ≡ with_uses l.model l.initial.numbers (trees_uses l.model (cores_of (map core_view l.trees))))
+    × AreUsesOf l.model (trees_uses l.model (cores_of (map core_view (drop l.tree-index l.trees))))
