@@ -1,6 +1,6 @@
 -- The code of a tree in parts, as it is written: what follows a tree follows its code, and links follow their first
 -- operand.
-use Rattle.std.proofs.Common.{◌≡◌, ℕ, ◌+◌, ◌<◌, ◌≤◌, List, [], ◌∷◌, ◌++◌, map, length, drop, Result, Ok, Err, OnOk, refl, sym, ap, ◌∙◌, subst, arith, rules, get_or, length-append, append_assoc, append-nil, Box, Vec, Global}
+use Rattle.std.proofs.Common.{◌≡◌, ℕ, zero, suc, ◌+◌, ◌-◌, ◌<◌, ◌≤◌, List, [], ◌∷◌, ◌++◌, map, length, drop, Result, Ok, Err, OnOk, refl, sym, ap, ◌∙◌, subst, arith, rules, get_or, length-append, append_assoc, append-nil, Box, Vec, Global}
 use Rattle.std.proofs.lemmas.List.{drop_more}
 use Rattle.std.specs.List.{AllByRecursion}
 use Rattle.std.proofs.Math.ListN.{drop_of_length-le}
@@ -12,7 +12,7 @@ use Rattle.ocl_types.specs.declared.core_tree.CoreLink.{CoreLink, Feature, Opera
 use Rattle.ocl_types.specs.declared.core_tree.CoreLink.TheVariants as l
 use Rattle.ocl_types.specs.declared.core_tree.Iteration.{Iteration}
 use Rattle.ocl_types.specs.Core as tree
-use Rattle.ocl_types.specs.Core.{CoreTree, CoreTrees, cores_of}
+use Rattle.ocl_types.specs.Core.{CoreTree, CoreTrees, cores_of, lets_of}
 use Rattle.ocl_types.specs.CoreView.{core_view, core_link_of, core_spine}
 use Rattle.ocl_types.proofs.ForAbove.{core_view-Spine, core_view-Let, core_view-If, core_link_of-Iterate}
 use Rattle.rule_code.specs.declared.instruction.Instr.{Instr}
@@ -23,8 +23,12 @@ use Rattle.ocl_compile.specs.Numbering.{Numbering}
 use Rattle.ocl_compile.specs.Translation.{written_kind, operator_instr, iteration_instr, let_block, if_block, translate, translate_all, instrs_of}
 use Rattle.ocl_compile.specs.Compiling.{most_counted}
 use Rattle.ocl_compile.specs.Written.{IsWritten, AreWritten}
-use Rattle.ocl_compile.specs.EmitWalk.{KnownIn, KnownIn_all, VariablesBelow, VariablesBelow_all, code_of, codes_of, IsEmittable, AreEmittable, top_code, IsTopEmittable, link_node, links_code, AreEmittableLinks}
+use Rattle.ocl_compile.specs.EmitWalk.{KnownIn, KnownIn_all, VariablesBelow, VariablesBelow_all, code_of, codes_of, IsEmittable, AreEmittable, top_code, IsTopEmittable, link_node, links_code, lets_code, AreEmittableLinks}
 use Rattle.ocl_compile.proofs.Flat.{flat_count, translated_cut}
+
+-- values as variables of a body, as they lie in memory
+pub lets_is : (core : Core) (values : Vec Core Global) (body : Box Core Global) → core ≡ v.Let values body → core_view core ≡ lets_of (map core_view values.items) (core_view body.value)
+lets_is core values body is = ap core_view is ∙ core_view-Let values body
 
 module _ (m : Model) (n : Numbering) where
   block_then : (body rest : CodeTree) (i : Instr) → instrs_of (code.Block i body rest) ≡ instrs_of (code.Block i body code.End) ++ instrs_of rest
@@ -99,6 +103,30 @@ module _ (m : Model) (n : Numbering) where
         record { known = h.known.0; variables = h.variables.0; room = omega (arith, l, h.room) },
         record { known = h.known.1; variables = h.variables.1; room = omega (arith, l, h.room) },
       )
+
+  -- values as variables of a body: their code is put together from the body's
+  pub lets_are : (vs : List CoreTree) (body : CoreTree) → code_of m n (lets_of vs body) ≡ lets_code m n vs (code_of m n body)
+  lets_are [] body = refl
+  lets_are (v ∷ vs) body =
+      let_code v (lets_of vs body) ∙ ap (λ (is : List Instr). code_of m n v ++ instrs.Let (length is) ∷ is) (lets_are vs body)
+
+  -- and all can be written where the whole can
+  pub record LetsEmittable (vs : List CoreTree) (inner : CoreTree) : Type 0 where
+    pub values : AllByRecursion (IsEmittable m n) vs
+    pub body : IsEmittable m n inner
+    pub room : length (lets_code m n vs (code_of m n inner)) ≤ most_counted
+
+  lets_emittable : (vs : List CoreTree) (body : CoreTree) → IsEmittable m n (lets_of vs body) → LetsEmittable vs body
+  lets_emittable vs body h =
+      let p = each_emittable vs body h in
+      record { values = p.0; body = p.1; room = subst (λ (is : List Instr). length is ≤ most_counted) (lets_are vs body) h.room }
+    where
+      each_emittable : (ws : List CoreTree) (b : CoreTree) → IsEmittable m n (lets_of ws b) → AllByRecursion (IsEmittable m n) ws × IsEmittable m n b
+      each_emittable [] b g = (tt, g)
+      each_emittable (w ∷ ws) b g =
+          let p = let_emittable w (lets_of ws b) g in
+          let q = each_emittable ws b p.1 in
+          ((p.0, q.0), q.1)
 
   -- and so can those of an IF
   pub if_emittable : (k : Kind) (condition first second : CoreTree) → IsEmittable m n (tree.If k condition first second) → IsEmittable m n condition × IsEmittable m n first × IsEmittable m n second
@@ -223,13 +251,9 @@ module _ (m : Model) (n : Numbering) where
   spine_parts core first links is h v room =
       spine_emittable links.items (core_view first.value) (subst (IsEmittable m n) (ap core_view is ∙ core_view-Spine first links) (emittable (core_view core) h v room))
 
-  pub let_is : (core : Core) (value body : Box Core Global) → core ≡ v.Let value body → code_of m n (core_view core) ≡ code_of m n (core_view value.value) ++ instrs.Let (length (code_of m n (core_view body.value))) ∷ code_of m n (core_view body.value)
-  let_is core value body is =
-      ap (code_of m n) (ap core_view is ∙ core_view-Let value body) ∙ let_code (core_view value.value) (core_view body.value)
-
-  pub let_parts : (core : Core) (value body : Box Core Global) → core ≡ v.Let value body → KnownIn m (core_view core) → VariablesBelow 65536 (core_view core) → instr_count (translate m n (core_view core) code.End) ≤ most_counted → IsEmittable m n (core_view value.value) × IsEmittable m n (core_view body.value)
-  let_parts core value body is h v room =
-      let_emittable (core_view value.value) (core_view body.value) (subst (IsEmittable m n) (ap core_view is ∙ core_view-Let value body) (emittable (core_view core) h v room))
+  pub lets_parts : (core : Core) (values : Vec Core Global) (body : Box Core Global) → core ≡ v.Let values body → KnownIn m (core_view core) → VariablesBelow 65536 (core_view core) → instr_count (translate m n (core_view core) code.End) ≤ most_counted → LetsEmittable (map core_view values.items) (core_view body.value)
+  lets_parts core values body is h v room =
+      lets_emittable (map core_view values.items) (core_view body.value) (subst (IsEmittable m n) (lets_is core values body is) (emittable (core_view core) h v room))
 
   pub if_is : (core : Core) (k : Kind) (condition first second : Box Core Global) → core ≡ v.If k condition first second → code_of m n (core_view core) ≡ code_of m n (core_view condition.value) ++ instrs.If (written_kind n k) (length (code_of m n (core_view first.value))) (length (code_of m n (core_view second.value))) ∷ (code_of m n (core_view first.value) ++ code_of m n (core_view second.value))
   if_is core k condition first second is =
@@ -246,6 +270,20 @@ module _ (m : Model) (n : Numbering) where
       ∙ ap (λ (k : ℕ). iteration_instr n i k ∷ code_of m n (core_view body)) (sym (code_count (core_view body)))
 
   -- ---- loops
+
+  -- of values that can be written, the one before an index can, and so can a body inside those from the index on
+  pub value_here : (xs : List Core) (body : List Instr) (i : ℕ) (x : Core) → drop (i - 1) xs ≡ x ∷ drop i xs → AllByRecursion (IsEmittable m n) (map core_view xs) → length (lets_code m n (map core_view xs) body) ≤ most_counted → IsEmittable m n (core_view x) × (length (lets_code m n (map core_view (drop i xs)) body) ≤ most_counted)
+  value_here xs body i x here h room =
+      let whole = subst (λ (ys : List Core). AllByRecursion (IsEmittable m n) (map core_view ys) × (length (lets_code m n (map core_view ys) body) ≤ most_counted)) here (values_from xs body (i - 1) h room) in
+      let l = length-append (code_of m n (core_view x)) (instrs.Let (length (lets_code m n (map core_view (drop i xs)) body)) ∷ lets_code m n (map core_view (drop i xs)) body) in
+      (whole.0.0, omega (arith, l, whole.1))
+    where
+      values_from : (ys : List Core) (inner : List Instr) (k : ℕ) → AllByRecursion (IsEmittable m n) (map core_view ys) → length (lets_code m n (map core_view ys) inner) ≤ most_counted → AllByRecursion (IsEmittable m n) (map core_view (drop k ys)) × (length (lets_code m n (map core_view (drop k ys)) inner) ≤ most_counted)
+      values_from ys inner zero g r = (g, r)
+      values_from [] inner (suc k) g r = (g, r)
+      values_from (y ∷ ys) inner (suc k) g r =
+          let l = length-append (code_of m n (core_view y)) (instrs.Let (length (lets_code m n (map core_view ys) inner)) ∷ lets_code m n (map core_view ys) inner) in
+          values_from ys inner k g.1 (omega (arith, l, r))
 
   -- of operands that can be written, the one at hand and those after it can
   pub operands_here : (xs : List Core) (i : ℕ) (x : Core) → x ≡ get_or xs i x → i < length xs → AreEmittable m n (cores_of (map core_view (drop i xs))) → IsEmittable m n (core_view x) × AreEmittable m n (cores_of (map core_view (drop (i + 1) xs)))
@@ -274,10 +312,23 @@ pub spine_written : (core : Core) (first : Box Core Global) (links : Vec CoreLin
 spine_written core first links is h w =
     subst IsWritten (sym (ap core_view is ∙ core_view-Spine first links)) (links_written links.items (core_view first.value) h w)
 
+-- values with the body that sees them
+pub lets_written : (vs : List CoreTree) (body : CoreTree) → AllByRecursion IsWritten vs → IsWritten body → IsWritten (lets_of vs body)
+lets_written [] body h w = w
+lets_written (v ∷ vs) body h w = (h.0, lets_written vs body h.1 w)
+
 -- the operand at hand with those after it
 pub operands_written : (xs : List Core) (i : ℕ) (x : Core) → x ≡ get_or xs i x → i < length xs → IsWritten (core_view x) → AreWritten (cores_of (map core_view (drop (i + 1) xs))) → AreWritten (cores_of (map core_view (drop i xs)))
 operands_written xs i x is lt h w =
     subst (λ (ys : List Core). AreWritten (cores_of (map core_view ys))) (sym (drop_more xs i x lt ∙ ap (λ (y : Core). y ∷ drop (i + 1) xs) (sym is))) (h, w)
+
+-- the item before those from an index on
+pub drop_before : {X : Type 0} (xs : List X) (i : ℕ) (x : X) → x ≡ get_or xs (i - 1) x → 0 < i → i ≤ length xs → drop (i - 1) xs ≡ x ∷ drop i xs
+drop_before {X} xs i x is some le =
+    let next : i - 1 + 1 ≡ i = omega (arith, some) in
+    drop_more xs (i - 1) x (omega (arith, some, le))
+    ∙ ap (λ (y : X). y ∷ drop (i - 1 + 1) xs) (sym is)
+    ∙ ap (λ (k : ℕ). x ∷ drop k xs) next
 
 -- what a loop adds to, one item after another
 pub walked_on : {X Y : Type 0} (f : X → List Y) (F : List X → List Y) → ((x : X) (xs : List X) → F (x ∷ xs) ≡ f x ++ F xs)

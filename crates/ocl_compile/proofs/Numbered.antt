@@ -10,7 +10,7 @@ use Rattle.ocl_types.specs.declared.core_tree.CoreLink.{CoreLink, Feature, Opera
 use Rattle.ocl_types.specs.declared.core_tree.CoreLink.TheVariants as l
 use Rattle.ocl_types.specs.declared.operator.Operator.{Operator}
 use Rattle.ocl_types.specs.declared.core_tree.Iteration.{Iteration}
-use Rattle.ocl_types.specs.Core.{CoreTree, cores_of}
+use Rattle.ocl_types.specs.Core.{CoreTree, cores_of, lets_of}
 use Rattle.ocl_types.specs.Core as tree
 use Rattle.ocl_types.specs.CoreView.{core_view, core_link_of, core_spine}
 use Rattle.ocl_types.proofs.ForAbove.{core_view-Spine, core_view-Let, core_view-If, core_link_of-Operation, core_link_of-Iterate}
@@ -58,12 +58,17 @@ module _ (m : Model) where
       ∙ ap (λ (us : List Use). us ++ links_uses m ls) (link_then l first)
       ∙ append_assoc (tree_uses m first) (tree_uses m (link_node l)) (links_uses m ls)
 
+  lets_then : (vs : List CoreTree) (body : CoreTree) → tree_uses m (lets_of vs body) ≡ trees_uses m (cores_of vs) ++ tree_uses m body
+  lets_then [] body = refl
+  lets_then (v ∷ vs) body =
+      ap (λ (us : List Use). tree_uses m v ++ us) (lets_then vs body) ∙ sym (append_assoc (tree_uses m v) (trees_uses m (cores_of vs)) (tree_uses m body))
+
   -- nodes in memory, a spine, a LET and an IF, use what their parts use
   pub spine_uses : (core : Core) (first : Box Core Global) (links : Vec CoreLink Global) → core ≡ v.Spine first links → tree_uses m (core_view core) ≡ tree_uses m (core_view first.value) ++ links_uses m links.items
   spine_uses core first links is = ap (tree_uses m) (ap core_view is ∙ core_view-Spine first links) ∙ spine_then links.items (core_view first.value)
 
-  pub let_uses : (core : Core) (value body : Box Core Global) → core ≡ v.Let value body → tree_uses m (core_view core) ≡ tree_uses m (core_view value.value) ++ tree_uses m (core_view body.value)
-  let_uses core value body is = ap (tree_uses m) (ap core_view is ∙ core_view-Let value body)
+  pub let_uses : (core : Core) (values : Vec Core Global) (body : Box Core Global) → core ≡ v.Let values body → tree_uses m (core_view core) ≡ trees_uses m (cores_of (map core_view values.items)) ++ tree_uses m (core_view body.value)
+  let_uses core values body is = ap (tree_uses m) (ap core_view is ∙ core_view-Let values body) ∙ lets_then (map core_view values.items) (core_view body.value)
 
   pub if_uses : (core : Core) (k : Kind) (condition first second : Box Core Global) → core ≡ v.If k condition first second → tree_uses m (core_view core) ≡ tree_uses m (core_view condition.value) ++ (kind_uses k ++ (tree_uses m (core_view first.value) ++ tree_uses m (core_view second.value)))
   if_uses core k condition first second is = ap (tree_uses m) (ap core_view is ∙ core_view-If k condition first second)

@@ -63,6 +63,11 @@ module _ (m : Model) (n : Numbering) where
   abbrev pub codes_of : CoreTrees → List Instr
   codes_of ts = instrs_of (translate_all m n ts code.End)
 
+  -- the code of values as variables of a body with this code
+  abbrev pub lets_code : List CoreTree → List Instr → List Instr
+  lets_code [] body = body
+  lets_code (v ∷ vs) body = code_of v ++ instrs.Let (length (lets_code vs body)) ∷ lets_code vs body
+
   -- a tree that has code whose fields fit into two bytes
   pub record IsEmittable (t : CoreTree) : Type 0 where
     pub known : KnownIn m t

@@ -1,14 +1,15 @@
 //! The code of core trees: operands in order, and then what takes them.
 
-ghost use Rattle.std.specs.Prelude.{◌≡◌, ◌≤◌, [], ◌∷◌, ◌++◌, map, OnOk, IfOk};
+ghost use Rattle.std.specs.Prelude.{◌≡◌, ◌≤◌, [], ◌∷◌, ◌++◌, length, map, OnOk, IfOk};
 ghost use Rattle.std.specs.List.{AllByRecursion};
 ghost use Rattle.ocl_types.specs.Core.{cores_of};
 ghost use Rattle.ocl_types.specs.CoreView.{core_view};
+ghost use Rattle.rule_code.specs.declared.instruction.Instr.TheVariants.{Let};
 ghost use Rattle.rule_verify.specs.CodeTree.{End, instr_count};
 ghost use Rattle.ocl_compile.specs.Written.{IsWritten, AreWritten};
 ghost use Rattle.ocl_compile.specs.Translation.{translate, instrs_of};
 ghost use Rattle.ocl_compile.specs.Compiling.{most_counted};
-ghost use Rattle.ocl_compile.specs.EmitWalk.{AreCounted, KnownIn, VariablesBelow, IsEmittable, AreEmittable, IsTopEmittable, AreEmittableLinks, code_of, codes_of, top_code, link_node, links_code};
+ghost use Rattle.ocl_compile.specs.EmitWalk.{AreCounted, KnownIn, VariablesBelow, IsEmittable, AreEmittable, IsTopEmittable, AreEmittableLinks, code_of, codes_of, top_code, link_node, links_code, lets_code};
 
 use crate::fields::{body_length, feature_of_unit, symbol_of_unit, written_kind, written_scalar};
 use crate::instructions::{constant_instr, iteration_instr, operator_instr, variable_instr};
@@ -27,14 +28,21 @@ fn put(code: &mut Vec<Instr>, instr: Instr) -> Result<(), AllocError>
     Ok(())
 }
 
+/// Adds more code to code.
+fn put_code(code: &mut Vec<Instr>, more: Vec<Instr>) -> Result<(), AllocError>
+    ensures { OnOk result (code.new.items ≡ code.old.items ++ more.items) }
+{
+    let mut more = more;
+    code.append(&mut more)?;
+    Ok(())
+}
+
 /// Adds an instruction with its body to code.
 fn put_block(code: &mut Vec<Instr>, instr: Instr, body: Vec<Instr>) -> Result<(), AllocError>
     ensures { OnOk result (code.new.items ≡ code.old.items ++ instr ∷ body.items) }
 {
-    let mut body = body;
     put(code, instr)?;
-    code.append(&mut body)?;
-    Ok(())
+    put_code(code, body)
 }
 
 /// Adds an instruction with its two bodies to code.
@@ -47,10 +55,8 @@ fn put_branches(
     ensures { OnOk result (code.new.items ≡ code.old.items ++
         instr ∷ (first.items ++ second.items)) }
 {
-    let mut second = second;
     put_block(code, instr, first)?;
-    code.append(&mut second)?;
-    Ok(())
+    put_code(code, second)
 }
 
 /// Adds the code of a core tree to code.
@@ -87,10 +93,10 @@ pub(crate) fn emit(
             emit(alloc, model, numbers, first, code)?;
             emit_links(alloc, model, numbers, links, code)
         }
-        Core::Let { value, body } => {
-            emit(alloc, model, numbers, value, code)?;
+        Core::Let { values, body } => {
             let inner = code_of_body(alloc, model, numbers, body)?;
-            put_block(code, Instr::Let(body_length(&inner)), inner)
+            let lets = code_of_lets(alloc, model, numbers, values, inner)?;
+            put_code(code, lets)
         }
         Core::If {
             kind,
@@ -124,6 +130,52 @@ fn code_of_body(
 {
     let mut code = Vec::new(alloc);
     emit(alloc, model, numbers, body, &mut code)?;
+    Ok(code)
+}
+
+/// The code of values as variables of a body, from that of the body: the innermost first.
+#[cycle(emit)]
+fn code_of_lets(
+    alloc: Global,
+    model: &ClassModel,
+    numbers: &Numbers,
+    values: &[Core],
+    body: Vec<Instr>,
+) -> Result<Vec<Instr>, AllocError>
+    requires counts { AreCounted numbers.now }
+    requires values { AllByRecursion (IsEmittable model.now numbers.now)
+        (map core_view values.now) }
+    requires room { length (lets_code model.now numbers.now (map core_view values.now) body.items)
+        ≤ most_counted }
+    ensures code { IfOk result (λ v. v.items ≡ lets_code model.now numbers.now
+        (map core_view values.now) body.items) }
+    ensures written { OnOk result (AllByRecursion IsWritten (map core_view values.now)) }
+{
+    let mut code = body;
+    for i in (0..values.len()).rev() {
+        code = code_of_let(alloc, model, numbers, &values[i], code)?;
+    }
+    Ok(code)
+}
+
+/// The code of a value as the variable of a body, whose code is given.
+#[cycle(emit)]
+fn code_of_let(
+    alloc: Global,
+    model: &ClassModel,
+    numbers: &Numbers,
+    value: &Core,
+    body: Vec<Instr>,
+) -> Result<Vec<Instr>, AllocError>
+    requires counts { AreCounted numbers.now }
+    requires value { IsEmittable model.now numbers.now (core_view value.now) }
+    requires body { length body.items ≤ most_counted }
+    ensures code { IfOk result (λ v. v.items ≡ code_of model.now numbers.now
+        (core_view value.now) ++ Let (length body.items) ∷ body.items) }
+    ensures written { OnOk result (IsWritten (core_view value.now)) }
+{
+    let mut code = code_of_body(alloc, model, numbers, value)?;
+    put_block(&mut code, Instr::Let(body_length(&body)), body)?;
     Ok(code)
 }
 

@@ -1,7 +1,7 @@
 //! The extent of the code of core trees.
 
-ghost use Rattle.std.specs.Prelude.{◌≡◌};
-ghost use Rattle.ocl_types.specs.Core.{CoreTree};
+ghost use Rattle.std.specs.Prelude.{◌≡◌, map};
+ghost use Rattle.ocl_types.specs.Core.{CoreTree, lets_of};
 ghost use Rattle.ocl_types.specs.CoreView.{core_view, core_link_of};
 ghost use Rattle.ocl_compile.specs.Extents.{extent_of, cut_extent};
 
@@ -22,7 +22,7 @@ pub(crate) fn measure(core: &Core) -> Extent
             }
             extent
         }
-        Core::Let { value, body } => measure(value).then_block(measure(body)),
+        Core::Let { values, body } => measure_lets(values, measure(body)),
         Core::If {
             condition,
             then_branch,
@@ -30,6 +30,19 @@ pub(crate) fn measure(core: &Core) -> Extent
             ..
         } => measure(condition).then_branches(measure(then_branch), measure(else_branch)),
     }
+}
+
+/// The extent of the code of values as variables of a body, whose code has this extent.
+#[cycle(measuring)]
+fn measure_lets(values: &[Core], body: Extent) -> Extent
+    ensures { (inner : CoreTree) → body ≡ cut_extent (extent_of inner)
+        → result ≡ cut_extent (extent_of (lets_of (map core_view values.now) inner)) }
+{
+    let mut extent = body;
+    for i in (0..values.len()).rev() {
+        extent = measure(&values[i]).then_block(extent);
+    }
+    extent
 }
 
 /// The extent of code of this extent, and then that of a link.

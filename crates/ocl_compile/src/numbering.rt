@@ -128,8 +128,8 @@ pub(crate) fn number_tree(
             number_tree(alloc, model, first, numbers)?;
             number_links(alloc, model, links, numbers)
         }
-        Core::Let { value, body } => {
-            number_tree(alloc, model, value, numbers)?;
+        Core::Let { values, body } => {
+            number_trees(alloc, model, values, numbers)?;
             number_tree(alloc, model, body, numbers)
         }
         Core::If {

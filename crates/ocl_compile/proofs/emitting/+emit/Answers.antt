@@ -1,10 +1,13 @@
-use Rattle.std.proofs.Common.{◌++◌, map, List, rules, subst}
+use Rattle.std.proofs.Common.{◌-◌, ◌∷◌, ◌++◌, map, length, drop, List, sym, ap, ◌∙◌, rules, subst}
+use Rattle.std.specs.List.{AllByRecursion}
 use Rattle.ocl_types.specs.declared.core_tree.Core.{Core, the_lemmas}
 use Rattle.ocl_types.specs.Core.{cores_of}
 use Rattle.ocl_types.specs.CoreView.{core_view}
-use Rattle.ocl_compile.specs.EmitWalk.{code_of, codes_of}
+use Rattle.rule_code.specs.declared.instruction.Instr.{Instr}
+use Rattle.rule_code.specs.declared.instruction.Instr.TheVariants as instrs
+use Rattle.ocl_compile.specs.EmitWalk.{code_of, codes_of, lets_code}
 use Rattle.ocl_compile.specs.Written.{IsWritten}
-use Rattle.ocl_compile.proofs.Emitted.{spine_written, operands_written, asked, spine_is, spine_parts, let_is, let_parts, if_is, if_parts, iterate_is, operand_code, operands_here, walked_on, joined, on_ok}
+use Rattle.ocl_compile.proofs.Emitted.{spine_written, operands_written, asked, spine_is, spine_parts, lets_is, lets_are, lets_parts, lets_written, value_here, drop_before, if_is, if_parts, iterate_is, operand_code, operands_here, walked_on, joined, on_ok}
 use Rattle.ocl_compile.proofs.emitting.+emit.Goals as goal
 
 pub code_of_body-emit-requires : goal.code_of_body-emit-requires
@@ -40,36 +43,58 @@ emit-returns-in_ok-emit-in-Spine-clause-written t c =
     let first = subst (λ (x : Core). IsWritten (core_view x)) c.deref.ensures c.in_ok-emit-in-Spine.ensures.written in
     on_ok _ _ c.emit_links.result (spine_written c.args.core.now c.in-Spine.first c.in-Spine.links c.in-Spine.is first) (rw c.deref-in-Spine.ensures.value at c.emit_links.ensures.written)
 
--- ---- a variable with its body
-
-pub emit-emit-requires-in-Let : goal.emit-emit-requires-in-Let
-emit-emit-requires-in-Let t c =
-    let m = c.args.model.now in
-    let n = c.args.numbers.now in
-    let p = let_parts m n c.args.core.now c.in-Let.value c.in-Let.body c.in-Let.is c.requires.known c.requires.variables c.requires.room in
-    (search (rules, the_lemmas), (c.requires.counts, rw c.deref-in-Let.ensures (asked m n (core_view c.in-Let.value.value) p.0)))
+-- ---- values with the body that sees them
 
 pub emit-code_of_body-requires : goal.emit-code_of_body-requires
 emit-code_of_body-requires t c =
-    let m = c.args.model.now in
-    let n = c.args.numbers.now in
-    let p = let_parts m n c.args.core.now c.in-Let.value c.in-Let.body c.in-Let.is c.requires.known c.requires.variables c.requires.room in
-    (search (rules, the_lemmas), (c.requires.counts, rw c.deref-in-Let-2.ensures p.1))
+    let p = lets_parts c.args.model.now c.args.numbers.now c.args.core.now c.in-Let.values c.in-Let.body c.in-Let.is c.requires.known c.requires.variables c.requires.room in
+    (search (rules, the_lemmas), (c.requires.counts, rw c.deref-in-Let.ensures p.body))
 
-pub emit-body_length-requires : goal.emit-body_length-requires
-emit-body_length-requires t c =
-    let m = c.args.model.now in
-    let n = c.args.numbers.now in
-    let p = let_parts m n c.args.core.now c.in-Let.value c.in-Let.body c.in-Let.is c.requires.known c.requires.variables c.requires.room in
-    rw (c.deref-in-Let-3.ensures.value, c.in_ok-inner-in-Let.ensures.code, c.deref-in-Let-2.ensures) p.1.room
+pub emit-code_of_lets-requires : goal.emit-code_of_lets-requires
+emit-code_of_lets-requires t c =
+    let p = lets_parts c.args.model.now c.args.numbers.now c.args.core.now c.in-Let.values c.in-Let.body c.in-Let.is c.requires.known c.requires.variables c.requires.room in
+    (search (rules, the_lemmas), (c.requires.counts, (rw c.deref-in-Let-2.ensures.value p.values, rw (c.in_ok-inner-in-Let.ensures.code, c.deref-in-Let-2.ensures.value, c.deref-in-Let.ensures) p.room)))
 
-pub emit-returns-in_ok-inner-in-Let-clause-emitted : goal.emit-returns-in_ok-inner-in-Let-clause-emitted
-emit-returns-in_ok-inner-in-Let-clause-emitted t c =
+pub emit-returns-in_ok-lets-in-Let-clause-emitted : goal.emit-returns-in_ok-lets-in-Let-clause-emitted
+emit-returns-in_ok-lets-in-Let-clause-emitted t c =
     let m = c.args.model.now in
     let n = c.args.numbers.now in
-    let first = rw c.deref-in-Let.ensures at c.in_ok-emit-in-Let.ensures.emitted in
-    let after = rw (c.body_length.ensures, c.deref-in-Let-3.ensures.value, c.in_ok-inner-in-Let.ensures.code, c.deref-in-Let-2.ensures) at c.put_block.ensures in
-    on_ok _ _ c.put_block.result (λ e. joined _ _ _ _ _ _ e first (let_is m n c.args.core.now c.in-Let.value c.in-Let.body c.in-Let.is)) after
+    let vs = map core_view c.in-Let.values.items in
+    let body = core_view c.in-Let.body.value in
+    let after = rw (c.in_ok-lets-in-Let.ensures.code, c.in_ok-inner-in-Let.ensures.code, c.deref-in-Let-2.ensures.value, c.deref-in-Let.ensures) at c.put_code.ensures in
+    rw (lets_is c.args.core.now c.in-Let.values c.in-Let.body c.in-Let.is, lets_are m n vs body) after
+
+pub emit-returns-in_ok-lets-in-Let-clause-written : goal.emit-returns-in_ok-lets-in-Let-clause-written
+emit-returns-in_ok-lets-in-Let-clause-written t c =
+    let values = rw c.deref-in-Let-2.ensures.value at c.in_ok-lets-in-Let.ensures.written in
+    let body = rw c.deref-in-Let.ensures at c.in_ok-inner-in-Let.ensures.written in
+    let written = lets_written (map core_view c.in-Let.values.items) (core_view c.in-Let.body.value) values body in
+    on_ok _ _ c.put_code.result (λ e. subst IsWritten (sym (lets_is c.args.core.now c.in-Let.values c.in-Let.body c.in-Let.is)) written) c.put_code.ensures
+
+pub code_of_lets-code_of_let-requires : goal.code_of_lets-code_of_let-requires
+code_of_lets-code_of_let-requires t c =
+    let m = c.args.model.now in
+    let n = c.args.numbers.now in
+    let xs = c.args.values.now in
+    let i = c.loop-i.i in
+    let x = c.index-values-i.result in
+    let here = drop_before xs i x c.index-values-i.is c.loop-i-test.true c.loop-i.auto.i in
+    let p = value_here m n xs c.args.body.items i x here c.requires.values c.requires.room in
+    (search (rules, the_lemmas), (c.requires.counts, (p.0, rw c.loop-i.invariant.0 p.1)))
+
+pub code_of_lets-loop-i-preserved : goal.code_of_lets-loop-i-preserved
+code_of_lets-loop-i-preserved t c =
+    let m = c.args.model.now in
+    let n = c.args.numbers.now in
+    let xs = c.args.values.now in
+    let i = c.loop-i.i in
+    let x = c.index-values-i.result in
+    let here = drop_before xs i x c.index-values-i.is c.loop-i-test.true c.loop-i.auto.i in (
+      c.in_ok-code.ensures.code
+          ∙ ap (λ (is : List Instr). code_of m n (core_view x) ++ instrs.Let (length is) ∷ is) c.loop-i.invariant.0
+          ∙ ap (λ (ys : List Core). lets_code m n (map core_view ys) c.args.body.items) (sym here),
+      subst (λ (ys : List Core). AllByRecursion IsWritten (map core_view ys)) (sym here) (c.in_ok-code.ensures.written, c.loop-i.invariant.1),
+    )
 
 -- ---- a condition with its branches
 
@@ -94,15 +119,15 @@ emit-code_of_body-requires-in-If-2 t c =
     let p = if_parts m n c.args.core.now c.in-If.kind c.in-If.condition c.in-If.then_branch c.in-If.else_branch c.in-If.is c.requires.known c.requires.variables c.requires.room in
     (search (rules, the_lemmas), (c.requires.counts, rw c.deref-in-If-3.ensures p.2))
 
-pub emit-body_length-requires-in-If : goal.emit-body_length-requires-in-If
-emit-body_length-requires-in-If t c =
+pub emit-body_length-requires : goal.emit-body_length-requires
+emit-body_length-requires t c =
     let m = c.args.model.now in
     let n = c.args.numbers.now in
     let p = if_parts m n c.args.core.now c.in-If.kind c.in-If.condition c.in-If.then_branch c.in-If.else_branch c.in-If.is c.requires.known c.requires.variables c.requires.room in
     rw (c.deref-in-If-4.ensures.value, c.in_ok-first-in-If.ensures.code, c.deref-in-If-2.ensures) p.1.room
 
-pub emit-body_length-requires-in-If-2 : goal.emit-body_length-requires-in-If-2
-emit-body_length-requires-in-If-2 t c =
+pub emit-body_length-requires-in-If : goal.emit-body_length-requires-in-If
+emit-body_length-requires-in-If t c =
     let m = c.args.model.now in
     let n = c.args.numbers.now in
     let p = if_parts m n c.args.core.now c.in-If.kind c.in-If.condition c.in-If.then_branch c.in-If.else_branch c.in-If.is c.requires.known c.requires.variables c.requires.room in
@@ -113,7 +138,7 @@ emit-returns-in_ok-second-in-If-clause-emitted t c =
     let m = c.args.model.now in
     let n = c.args.numbers.now in
     let first = rw c.deref-in-If.ensures at c.in_ok-emit-in-If.ensures.emitted in
-    let after = rw (c.written_kind-kind.ensures, c.body_length-in-If.ensures, c.body_length-in-If-2.ensures, c.deref-in-If-4.ensures.value, c.deref-in-If-5.ensures.value, c.in_ok-first-in-If.ensures.code, c.in_ok-second-in-If.ensures.code, c.deref-in-If-2.ensures, c.deref-in-If-3.ensures) at c.put_branches.ensures in
+    let after = rw (c.written_kind-kind.ensures, c.body_length.ensures, c.body_length-in-If.ensures, c.deref-in-If-4.ensures.value, c.deref-in-If-5.ensures.value, c.in_ok-first-in-If.ensures.code, c.in_ok-second-in-If.ensures.code, c.deref-in-If-2.ensures, c.deref-in-If-3.ensures) at c.put_branches.ensures in
     on_ok _ _ c.put_branches.result (λ e. joined _ _ _ _ _ _ e first (if_is m n c.args.core.now c.in-If.kind c.in-If.condition c.in-If.then_branch c.in-If.else_branch c.in-If.is)) after
 
 -- ---- links

@@ -2,7 +2,7 @@ use Rattle.std.proofs.Common.{◌≡◌, ◌++◌, map, drop}
 use Rattle.std.specs.List.{AllByRecursion}
 use Rattle.ocl_types.specs.Core.{cores_of}
 use Rattle.ocl_types.specs.CoreView.{core_view}
-use Rattle.ocl_compile.specs.EmitWalk.{AreEmittable, AreEmittableLinks, codes_of, link_node, links_code}
+use Rattle.ocl_compile.specs.EmitWalk.{AreEmittable, AreEmittableLinks, codes_of, link_node, links_code, lets_code}
 use Rattle.ocl_compile.specs.Written.{IsWritten, AreWritten}
 use Rattle.ocl_compile.proofs.emitting.+emit.Given as goal
 
@@ -18,3 +18,8 @@ invariant-emit_operands-operands l =
     ≡ l.initial.code.items ++ codes_of l.model l.numbers (cores_of (map core_view l.operands)))
     × AreEmittable l.model l.numbers (cores_of (map core_view (drop l.operand-index l.operands)))
     × (AreWritten (cores_of (map core_view (drop l.operand-index l.operands))) → AreWritten (cores_of (map core_view l.operands)))
+
+abbrev pub invariant-code_of_lets-loop-i : goal.invariant-code_of_lets-loop-i
+invariant-code_of_lets-loop-i l =
+    (l.code.items ≡ lets_code l.model l.numbers (map core_view (drop l.i l.values)) l.fn.body.items)
+    × AllByRecursion IsWritten (map core_view (drop l.i l.values))

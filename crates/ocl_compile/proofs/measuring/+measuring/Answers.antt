@@ -2,12 +2,13 @@ use Rattle.std.proofs.Common.{◌≡◌, ℕ, suc, ◌+◌, ◌<◌, length, Lis
 use Rattle.std.proofs.lemmas.List.{drop_more, drop_all}
 use Rattle.ocl_types.specs.declared.core_tree.Core.{Core}
 use Rattle.ocl_types.specs.declared.core_tree.CoreLink.{CoreLink}
-use Rattle.ocl_types.specs.Core.{CoreTree, cores_of}
+use Rattle.ocl_types.specs.Core.{CoreTree, cores_of, lets_of}
 use Rattle.ocl_types.specs.CoreView.{CoreOnward, core_view, core_link_of, core_spine}
 use Rattle.ocl_types.proofs.ForAbove.{core_view-Spine, core_link_of-Operation}
 use Rattle.ocl_compile.specs.declared.extent.Extent.{Extent}
-use Rattle.ocl_compile.specs.Extents.{then_instruction, then_above, extent_of, extent_after, cut_extent}
-use Rattle.ocl_compile.proofs.Cuts.{cut_instruction, cut_above}
+use Rattle.ocl_compile.specs.Extents.{then_instruction, then_above, then_block, extent_of, extent_after, cut_extent}
+use Rattle.ocl_compile.proofs.Cuts.{cut_instruction, cut_above, cut_block}
+use Rattle.ocl_compile.proofs.Emitted.{drop_before}
 use Rattle.ocl_compile.proofs.measuring.+measuring.Goals as goal
 
 -- src/measuring.rt
@@ -70,3 +71,28 @@ measure_link-returns-after-loop-i t c = λ source e.
     ∙ ap (λ (x : Extent). cut_extent (then_instruction x)) all
     ∙ ap (λ (f : CoreOnward). cut_extent (extent_of (f source))) (sym (core_link_of-Operation c.in-Operation.operator others))
     ∙ ap (λ (l : CoreLink). cut_extent (extent_of (core_link_of l source))) (sym c.in-Operation.is)
+
+-- ---- values with the body that sees them
+
+pub measure_lets-loop-i-init : goal.measure_lets-loop-i-init
+measure_lets-loop-i-init t c = λ inner e.
+    let xs = c.args.values.now in
+    e ∙ ap (λ (ys : List Core). cut_extent (extent_of (lets_of (map core_view ys) inner))) (sym (drop_all (length xs) xs (omega arith)))
+
+pub measure_lets-loop-i-preserved : goal.measure_lets-loop-i-preserved
+measure_lets-loop-i-preserved t c = λ inner e.
+    let xs = c.args.values.now in
+    let i = c.loop-i.i in
+    let x = c.index-values-i.result in
+    let here = drop_before xs i x c.index-values-i.is c.loop-i-test.true c.loop-i.auto.i in
+    c.then_block-extent.ensures
+    ∙ ap (λ (y : Extent). cut_extent (then_block y c.loop-i.extent)) c.measure.ensures
+    ∙ ap (λ (y : Extent). cut_extent (then_block (cut_extent (extent_of (core_view x))) y)) (c.loop-i.invariant inner e)
+    ∙ cut_block (extent_of (core_view x)) (extent_of (lets_of (map core_view (drop i xs)) inner))
+    ∙ ap (λ (ys : List Core). cut_extent (extent_of (lets_of (map core_view ys) inner))) (sym here)
+
+pub measure_lets-returns : goal.measure_lets-returns
+measure_lets-returns t c = λ inner e.
+    let xs = c.args.values.now in
+    let none : c.loop-i.i ≡ 0 = omega (arith, c.loop-i-test.false) in
+    c.loop-i.invariant inner e ∙ ap (λ (k : ℕ). cut_extent (extent_of (lets_of (map core_view (drop k xs)) inner))) none

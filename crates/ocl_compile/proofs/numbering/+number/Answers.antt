@@ -1,4 +1,4 @@
-use Rattle.std.proofs.Common.{◌++◌, map, List, Err, refl, rules, subst}
+use Rattle.std.proofs.Common.{◌++◌, map, List, Result, Err, refl, rules, subst}
 use Rattle.ocl_types.specs.declared.core_tree.Core.{Core, the_lemmas}
 use Rattle.ocl_types.specs.declared.core_tree.CoreLink.{CoreLink}
 use Rattle.ocl_types.specs.Core.{cores_of}
@@ -40,33 +40,33 @@ number_tree-returns-in_err-number_tree-in-Spine t c =
     let first = rw c.deref.ensures at c.in_err-number_tree-in-Spine.ensures in
     rw (p.1, p.2) (stopped m _ _ _ _ (tree_uses m (core_view c.in-Spine.first.value)) (links_uses m c.in-Spine.links.items) _ first (spine_uses m c.args.core.now c.in-Spine.first c.in-Spine.links c.in-Spine.is))
 
--- ---- a variable with its body
+-- ---- values with the body that sees them
+
+pub number_tree-number_trees-requires : goal.number_tree-number_trees-requires
+number_tree-number_trees-requires t c =
+    let m = c.args.model.now in
+    let p = uses_parts m (trees_uses m (cores_of (map core_view c.in-Let.values.items))) (tree_uses m (core_view c.in-Let.body.value)) (subst (AreUsesOf m) (let_uses m c.args.core.now c.in-Let.values c.in-Let.body c.in-Let.is) c.requires) in
+    (search (rules, the_lemmas), rw c.deref-in-Let.ensures.value p.0)
 
 pub number_tree-number_tree-requires-in-Let : goal.number_tree-number_tree-requires-in-Let
 number_tree-number_tree-requires-in-Let t c =
     let m = c.args.model.now in
-    let p = uses_parts m (tree_uses m (core_view c.in-Let.value.value)) (tree_uses m (core_view c.in-Let.body.value)) (subst (AreUsesOf m) (let_uses m c.args.core.now c.in-Let.value c.in-Let.body c.in-Let.is) c.requires) in
-    (search (rules, the_lemmas), rw c.deref-in-Let.ensures p.0)
-
-pub number_tree-number_tree-requires-in-Let-2 : goal.number_tree-number_tree-requires-in-Let-2
-number_tree-number_tree-requires-in-Let-2 t c =
-    let m = c.args.model.now in
-    let p = uses_parts m (tree_uses m (core_view c.in-Let.value.value)) (tree_uses m (core_view c.in-Let.body.value)) (subst (AreUsesOf m) (let_uses m c.args.core.now c.in-Let.value c.in-Let.body c.in-Let.is) c.requires) in
+    let p = uses_parts m (trees_uses m (cores_of (map core_view c.in-Let.values.items))) (tree_uses m (core_view c.in-Let.body.value)) (subst (AreUsesOf m) (let_uses m c.args.core.now c.in-Let.values c.in-Let.body c.in-Let.is) c.requires) in
     (search (rules, the_lemmas), rw c.deref-in-Let-2.ensures p.1)
 
-pub number_tree-returns-in_ok-number_tree-in-Let : goal.number_tree-returns-in_ok-number_tree-in-Let
-number_tree-returns-in_ok-number_tree-in-Let t c =
+pub number_tree-returns-in_ok-number_trees-in-Let : goal.number_tree-returns-in_ok-number_trees-in-Let
+number_tree-returns-in_ok-number_trees-in-Let t c =
     let m = c.args.model.now in
-    let first = rw c.deref-in-Let.ensures at c.in_ok-number_tree-in-Let.ensures in
-    let after = rw c.deref-in-Let-2.ensures at c.number_tree-in-Let-2.ensures in
-    numbered_then m _ _ _ _ (tree_uses m (core_view c.in-Let.value.value)) (tree_uses m (core_view c.in-Let.body.value)) _ after first (let_uses m c.args.core.now c.in-Let.value c.in-Let.body c.in-Let.is)
+    let first = rw c.deref-in-Let.ensures.value at c.in_ok-number_trees-in-Let.ensures in
+    let after = rw c.deref-in-Let-2.ensures at c.number_tree-in-Let.ensures in
+    numbered_then m _ _ _ _ (trees_uses m (cores_of (map core_view c.in-Let.values.items))) (tree_uses m (core_view c.in-Let.body.value)) _ after first (let_uses m c.args.core.now c.in-Let.values c.in-Let.body c.in-Let.is)
 
-pub number_tree-returns-in_err-number_tree-in-Let : goal.number_tree-returns-in_err-number_tree-in-Let
-number_tree-returns-in_err-number_tree-in-Let t c =
+pub number_tree-returns-in_err-number_trees-in-Let : goal.number_tree-returns-in_err-number_trees-in-Let
+number_tree-returns-in_err-number_trees-in-Let t c =
     let m = c.args.model.now in
-    let p = err_from_is_err_and c.from_residual-in_err-number_tree-in-Let.result c.from_residual-in_err-number_tree-in-Let.ensures.1 in
-    let first = rw c.deref-in-Let.ensures at c.in_err-number_tree-in-Let.ensures in
-    rw (p.1, p.2) (stopped m _ _ _ _ (tree_uses m (core_view c.in-Let.value.value)) (tree_uses m (core_view c.in-Let.body.value)) _ first (let_uses m c.args.core.now c.in-Let.value c.in-Let.body c.in-Let.is))
+    let p = err_from_is_err_and c.from_residual-in_err-number_trees-in-Let.result c.from_residual-in_err-number_trees-in-Let.ensures.1 in
+    let first = rw c.deref-in-Let.ensures.value at c.in_err-number_trees-in-Let.ensures in
+    rw (p.1, p.2) (stopped m _ _ _ _ (trees_uses m (cores_of (map core_view c.in-Let.values.items))) (tree_uses m (core_view c.in-Let.body.value)) _ first (let_uses m c.args.core.now c.in-Let.values c.in-Let.body c.in-Let.is))
 
 -- ---- a condition with its branches
 
