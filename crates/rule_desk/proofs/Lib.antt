@@ -1,0 +1,6 @@
+pub mod Totals
+pub mod Runs
+pub mod Costs
+pub mod Jobs
+pub mod Worlds
+pub mod Events
