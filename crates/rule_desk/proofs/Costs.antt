@@ -152,8 +152,8 @@ rule_costs u p r (o ∷ os) all =
 costs_below : (u : Content) (p : Population) (n : ℕ) → IsRunnable u p → n ≤ length u.rules → sum (map (pair_cost u p) (pairs_below u p n)) ≤ bounds_below u p n
 costs_below u p zero can l = omega arith
 costs_below u p (suc r) can l =
-    let os = context_objects u p r in
-    let here = map (λ o. (r, o)) os in
+    let os : List ℕ = context_objects u p r in
+    let here : List (ℕ × ℕ) = map (λ o. (r, o)) os in
     let both : sum (map (pair_cost u p) (pairs_below u p r ++ here)) ≡ sum (map (pair_cost u p) (pairs_below u p r)) + sum (map (pair_cost u p) here) =
     ap sum (map-append (pair_cost u p) (pairs_below u p r) here) ∙ sum_by-append (λ x. x) (map (pair_cost u p) (pairs_below u p r)) (map (pair_cost u p) here) in
     let runs = rule_runs u p r can (omega (arith, l)) os (instances_are p (context_class p.model u (unit_rule u r))) in
@@ -163,7 +163,7 @@ pub total_within : (u : Content) (p : Population) → IsRunnable u p → sum (co
 total_within u p can = costs_below u p (length u.rules) can (omega arith)
 
 -- no bound is large
-bounds_small : (u : Content) (p : Population) (n : ℕ) → IsConsistent p → ((r : ℕ) → r < length u.rules → rule_bound u p r < 2 ^ 63) → n ≤ length u.rules → bounds_below u p n ≤ n * (2 ^ 63 * 1000000)
+pub bounds_small : (u : Content) (p : Population) (n : ℕ) → IsConsistent p → ((r : ℕ) → r < length u.rules → rule_bound u p r < 2 ^ 63) → n ≤ length u.rules → bounds_below u p n ≤ n * (2 ^ 63 * 1000000)
 bounds_small u p zero consistent small l = omega arith
 bounds_small u p (suc r) consistent small l =
     let one = mul-le (rule_bound u p r) (length (context_objects u p r)) (2 ^ 63) 1000000 (le_of_lt (small r (omega (arith, l)))) (few_instances p (context_class p.model u (unit_rule u r)) consistent) in

@@ -254,6 +254,21 @@ module _ (a : Admission) (p : Population) (c : CursorSeen) (m : Seen) (begun : B
       let at = cost_at a.linked.unit p k t.rule t.object (sym (due_in a p c m begun lines capacity spent s) ∙ t.due) in
       (omega (arith, paid, s.sum), omega (arith, s.sum, below, open_run.below, at.0, sum_next costs k at.1, sum_within costs (k + 1)))
 
+  -- what the pair that is due is charged so far is within its cost
+  pub pair_within : (new : Seen) (used g : ℕ) (result : Result Progress OutOfMemory) (t : IsInPair a.linked.unit p new c (s.work + used)) → new.unit ≡ a.linked.unit → new.population ≡ p → Came g used t.at result
+      → (s.work + used ≤ get_or (costs_of a.linked.unit p) (told_pairs c) 0) × (told_pairs c < length (costs_of a.linked.unit p))
+  pair_within new used g result t eu ep came =
+      let at = cost_at a.linked.unit p (told_pairs c) t.rule t.object (sym (due_in a p c m begun lines capacity spent s) ∙ t.due) in
+      (by_result result came at.0, at.1)
+    where
+      by_open : outcome t.at ≡ None → get_or (costs_of a.linked.unit p) (told_pairs c) 0 ≡ pair_cost a.linked.unit p (t.rule, t.object) → s.work + used ≤ get_or (costs_of a.linked.unit p) (told_pairs c) 0
+      by_open none cost = omega (arith, (is_under a.linked.unit p new t.rule t.object (s.work + used) t.at eu ep t.stands none).below, cost)
+      by_result : (r : Result Progress OutOfMemory) → Came g used t.at r → get_or (costs_of a.linked.unit p) (told_pairs c) 0 ≡ pair_cost a.linked.unit p (t.rule, t.object)
+          → s.work + used ≤ get_or (costs_of a.linked.unit p) (told_pairs c) 0
+      by_result (Ok Paused) h cost = by_open h.2 cost
+      by_result (Ok (Done v)) h cost = omega (arith, (ended a.linked.unit p new t.rule t.object (s.work + used) t.at v eu ep t.stands t.within h.2).0, cost)
+      by_result (Err e) h cost = by_open h.1 cost
+
   -- after a run that came to the pair's end, and its verdict is told
   pub stands_done : (new : Seen) (used : ℕ) (t : IsInPair a.linked.unit p new c (s.work + used)) (v : Verdict) (d : CursorSeen) (before after : List ℕ) (room : ℕ) → new.unit ≡ a.linked.unit → new.population ≡ p → outcome t.at ≡ Some v
       → before ≡ lines → IsToldMore c v before d after → Stands a p d new false after room (spent + used)

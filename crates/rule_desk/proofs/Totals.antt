@@ -27,7 +27,10 @@ total_first c cs t l =
 
 -- where all before is paid
 pub total_after : (xs ys : List ℕ) (t : ℕ) → sum xs ≤ t → greatest_total (xs ++ ys) t ≡ sum xs + greatest_total ys (t - sum xs)
-total_after [] ys t l = refl
+total_after [] ys t l =
+    let left : t ≡ t - 0 = omega arith in
+    let same : greatest_total ys t ≡ greatest_total ys (t - 0) = ap (greatest_total ys) left in
+    omega (arith, same)
 total_after (x ∷ xs) ys t l =
     let first = sum_first x xs in
     let rest = total_after xs ys (t - x) (omega (arith, l, first)) in
@@ -67,7 +70,11 @@ pub total_in_group : {A : Type 0} (f : A → List ℕ) (qs : List A) (k : ℕ) (
 total_in_group f [] k q t w e l here = cc
 total_in_group f (x ∷ qs) zero q t w e l here =
     let same : x ≡ q = cc in
-    ap (λ y. greatest_total (f y ++ flat_map f qs) t) same ∙ here (flat_map f qs)
+    let all : greatest_total (f x ++ flat_map f qs) t ≡ greatest_total (f q ++ flat_map f qs) t = ap (λ y. greatest_total (f y ++ flat_map f qs) t) same in
+    let left : t ≡ t - 0 = omega arith in
+    let paid : greatest_total (f q ++ flat_map f qs) t ≡ greatest_total (f q ++ flat_map f qs) (t - 0) = ap (greatest_total (f q ++ flat_map f qs)) left in
+    let some : greatest_total (f q ++ flat_map f qs) (t - 0) ≡ w = here (flat_map f qs) in
+    omega (arith, all, paid, some)
 total_in_group f (x ∷ qs) (suc k) q t w e l here =
     let costs = map (λ y. sum (f y)) qs in
     let first = sum_first (sum (f x)) (take k costs) in

@@ -99,8 +99,10 @@ impl<'a> Desk<'a> {
     {
         let number = self.jobs.len();
         let job = Job::new(self.alloc, admitted, population)?;
-        self.jobs.push(Some(job))?;
-        Ok(JobNo { index: number })
+        match self.jobs.push(Some(job)) {
+            Ok(()) => Ok(JobNo { index: number }),
+            Err(_) => Err(DeskFault::OutOfMemory),
+        }
     }
 
     /// Makes steps of a job while the whole charge of the next one is left of `grant`: `Over` once its report is whole, else

@@ -5,7 +5,6 @@ ghost use Rattle.rule_desk.specs.declared.fault.DeskFault.TheVariants.{OutOfMemo
 ghost use Rattle.rule_desk.specs.Faults.{desk_fault_number};
 
 use rule_machine::OutOfMemory;
-use std::alloc::AllocError;
 use thiserror::Error;
 
 /// Why a desk refuses a call.
@@ -39,14 +38,6 @@ impl From<OutOfMemory> for DeskFault {
     ghost from_gives = { λ _ e. e ≡ OutOfMemory };
 
     fn from(_error: OutOfMemory) -> DeskFault {
-        DeskFault::OutOfMemory
-    }
-}
-
-impl From<AllocError> for DeskFault {
-    ghost from_gives = { λ _ e. e ≡ OutOfMemory };
-
-    fn from(_error: AllocError) -> DeskFault {
         DeskFault::OutOfMemory
     }
 }

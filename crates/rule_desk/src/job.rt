@@ -1,8 +1,10 @@
 //! One job: a report that is made step by step.
 
-ghost use Rattle.std.specs.Prelude.{◌≡◌, ◌+◌, ◌<◌, ◌≤◌, ◌↔◌, ℕ, true, false, IsTrue, IsSome, length, vec_capacity, IfOk, OnOk, OnErr, Some};
+ghost use Rattle.std.specs.Prelude.{◌≡◌, ◌+◌, ◌*◌, ◌^◌, ◌<◌, ◌≤◌, ◌↔◌, ℕ, true, false, IsTrue, IsSome, length, vec_capacity, IfOk, OnOk, OnErr, Some};
 ghost use Rattle.rule_cost.specs.Admission.{Fits};
 ghost use Rattle.rule_machine.specs.Contract.{SameTask};
+ghost use Rattle.rule_machine.specs.Laws.{rule_bound};
+ghost use Rattle.rule_report.specs.Report.{context_objects};
 ghost use Rattle.rule_report.specs.Cursor.{due};
 ghost use Rattle.rule_desk.specs.Seen.{job_seen};
 ghost use Rattle.rule_desk.specs.Job.{IsWhole, total_cost, lines_now, bound_of};
@@ -138,15 +140,28 @@ impl<'a> Job<'a> {
         ensures bound { result ≡ bound_of self.now }
         ensures within { self.now.spent ≤ result }
     {
-        let admitted = self.admitted;
-        let accepted = admitted.accepted();
-        let population = self.population;
+        let accepted = self.admitted.accepted();
+        accepted.unit().well_formed();
         let mut bound = 0;
         for rule in 0..accepted.rules() {
-            let objects = population.instances(accepted.context(rule)).len();
-            bound += u128::from(admitted.bound(rule)) * objects as u128;
+            bound += self.rule_bound(rule);
         }
         bound
+    }
+
+    /// The bound of a rule, taken for all objects of its context class.
+    fn rule_bound(&self, rule: usize) -> u128
+        requires { rule < length self.now.admission.linked.unit.rules }
+        ensures bound { result ≡ rule_bound self.now.admission.linked.unit self.now.population rule
+            * length (context_objects self.now.admission.linked.unit self.now.population rule) }
+        ensures small { result ≤ 2 ^ 63 * 1000000 }
+    {
+        let admitted = self.admitted;
+        admitted.admitted();
+        self.population.consistent();
+        let context = admitted.accepted().context(rule);
+        let objects = self.population.instances(context).len();
+        u128::from(admitted.bound(rule)) * objects as u128
     }
 
     /// Makes steps of the pair that is due while the grant pays for them, and tells its verdict at its end. Answers what is
