@@ -1,16 +1,18 @@
 //! The report on a population: how it is made, counted and written, and the sinks that take it.
 #![tactic(auto)]
 
+mod between;
+mod cursor;
 mod fault;
 pub mod laws;
 mod lines;
-mod making;
 mod put;
 mod sink;
 mod summary;
 mod unfailed;
 mod writing;
 
+pub use cursor::ReportCursor;
 pub use fault::ReportFault;
 pub use put::{WriteFailed, write_and_flush, write_whole};
 pub use sink::{Sink, Telling};

@@ -13,7 +13,10 @@ use crate::unfailed::Unfailed;
 pub struct WriteFailed;
 
 /// Writes all the bytes.
-fn put_whole<S: Sink>(target: &mut Unfailed<'_, S>, bytes: &[u8]) -> Result<(), WriteFailed>
+pub(crate) fn put_whole<S: Sink>(
+    target: &mut Unfailed<'_, S>,
+    bytes: &[u8],
+) -> Result<(), WriteFailed>
     requires { S.has_failed target.old.sink.now ≡ false }
     ensures ok { OnOk result (Appends (S.contents target.old.sink.now)
         (S.contents target.new.sink.now) bytes.now) }
@@ -35,7 +38,10 @@ fn put_whole<S: Sink>(target: &mut Unfailed<'_, S>, bytes: &[u8]) -> Result<(), 
 }
 
 /// Writes all the bytes, and then flushes once.
-fn put_and_flush<S: Sink>(target: &mut Unfailed<'_, S>, bytes: &[u8]) -> Result<(), WriteFailed>
+pub(crate) fn put_and_flush<S: Sink>(
+    target: &mut Unfailed<'_, S>,
+    bytes: &[u8],
+) -> Result<(), WriteFailed>
     requires well { S.has_failed target.old.sink.now ≡ false }
     requires unflushed { target.old.flushes ≡ 0 }
     ensures ok { OnOk result (Appends (S.contents target.old.sink.now)

@@ -1,24 +1,106 @@
-//! Writing a report.
+//! Writing a report as it goes: pair by pair, in pieces.
 
-ghost use Rattle.std.specs.Prelude.{◌≡◌, false, OnOk, OnErr, IfOk};
+ghost use Rattle.std.specs.Prelude.{◌≡◌, ◌<◌, false, length, Some, OnOk, OnErr, IfOk, is_err};
 ghost use Rattle.std.specs.Io.KnownBytes.{Appends};
+ghost use Rattle.imkl_population.specs.Population.{IsInstance};
 ghost use Rattle.rule_cost.specs.Admission.{Fits};
+ghost use Rattle.rule_machine.specs.Contract.{SameTask};
+ghost use Rattle.rule_machine.specs.Machine.{setting_of};
+ghost use Rattle.rule_report.specs.Cursor.{due};
+ghost use Rattle.rule_report.specs.Pieces.{IsReportedMore, IsWrittenSoFar};
 ghost use Rattle.rule_report.specs.Sink.{WritesPrefix};
 ghost use Rattle.rule_report.specs.Report.{report_of, summary_of};
 ghost use Rattle.rule_report.specs.Writing.{is_write_fault};
 
+use crate::cursor::ReportCursor;
 use crate::fault::ReportFault;
-use crate::making::make_admitted_report;
-use crate::put::write_and_flush;
+use crate::put::{WriteFailed, put_and_flush, put_whole};
 use crate::sink::Sink;
 use crate::summary::Summary;
-use imkl_population::Population;
+use crate::unfailed::Unfailed;
+use imkl_population::{ObjectNo, Population};
 use rule_cost::Admitted;
+use rule_machine::{Machine, OutOfMemory};
 use std::alloc::Global;
 
+/// Text is written once there are so many bytes of it.
+const PIECE_BYTES: usize = 8_192;
+
+/// Judges the pair that is due, and appends its line and all up to the next pair's.
+fn report_pair(
+    machine: &mut Machine<'_>,
+    cursor: &mut ReportCursor<'_>,
+    pair: (usize, ObjectNo),
+    text: &mut Vec<u8>,
+) -> Result<(), OutOfMemory>
+    requires unit { machine.old.unit ≡ cursor.old.unit }
+    requires population { machine.old.population ≡ cursor.old.population }
+    requires due { due cursor.old ≡ Some pair }
+    requires rule { pair.0 < length cursor.old.unit.rules }
+    requires object { IsInstance cursor.old.population
+        (setting_of cursor.old.unit cursor.old.population pair.0).context pair.1 }
+    ensures task { SameTask machine.old machine.new }
+    ensures reported { OnOk result
+        (IsReportedMore cursor.old text.old.items cursor.new text.new.items) }
+{
+    let (rule, object) = pair;
+    let verdict = machine.judge(rule, object)?;
+    cursor.tell(verdict, text)
+}
+
+/// Writes the text, and empties it, once there is enough of it.
+fn put_piece<S: Sink>(target: &mut Unfailed<'_, S>, text: &mut Vec<u8>) -> Result<(), WriteFailed>
+    requires { S.has_failed target.old.sink.now ≡ false }
+    ensures ok { OnOk result (IsWrittenSoFar (S.contents target.old.sink.now)
+        (S.contents target.new.sink.now) text.new.items text.old.items) }
+    ensures err { OnErr result (WritesPrefix (S.contents target.old.sink.now)
+        (S.contents target.new.sink.now) text.old.items) }
+    ensures failed { S.has_failed target.new.sink.now ≡ is_err result }
+    ensures flushes { target.new.flushes ≡ target.old.flushes }
+    ensures same_sink { target.new.sink.ghost_name ≡ target.old.sink.ghost_name }
+{
+    if text.len() >= PIECE_BYTES {
+        put_whole(target, text)?;
+        text.clear();
+    }
+    Ok(())
+}
+
+/// Writes the report to a sink that has not failed, piece by piece, and then flushes it once.
+fn put_report<S: Sink>(
+    alloc: Global,
+    admitted: &Admitted<'_>,
+    population: &Population<'_>,
+    target: &mut Unfailed<'_, S>,
+) -> Result<Summary, ReportFault>
+    requires fits { Fits admitted.now population.now.content }
+    requires well { S.has_failed target.old.sink.now ≡ false }
+    requires unflushed { target.old.flushes ≡ 0 }
+    ensures report { OnOk result (Appends (S.contents target.old.sink.now)
+        (S.contents target.new.sink.now)
+        (report_of admitted.now.linked.unit population.now.content)) }
+    ensures summary { IfOk result (λ s. s ≡
+        summary_of admitted.now.linked.unit population.now.content) }
+    ensures prefix { OnErr result (WritesPrefix (S.contents target.old.sink.now)
+        (S.contents target.new.sink.now)
+        (report_of admitted.now.linked.unit population.now.content)) }
+    ensures write { S.has_failed target.new.sink.now ≡ is_write_fault result }
+    ensures same_sink { target.new.sink.ghost_name ≡ target.old.sink.ghost_name }
+{
+    let mut text = Vec::new(alloc);
+    let mut cursor = ReportCursor::new(admitted, population, &mut text)?;
+    let mut machine = Machine::new(alloc, admitted.accepted(), population)?;
+    while let Some(pair) = cursor.next() {
+        report_pair(&mut machine, &mut cursor, pair, &mut text)?;
+        put_piece(target, &mut text)?;
+    }
+    put_and_flush(target, &text)?;
+    Ok(cursor.summary())
+}
+
 /// Writes the report on a population that fits the admitted code, so that no run is charged more than the budget, and
-/// then flushes the sink once. Where a write, the flush or memory fails, the sink took a prefix of the report, and
-/// takes no more.
+/// then flushes the sink once. It is written as it goes, and only some lines of it are kept in memory. Where a write, the
+/// flush or memory fails, the sink took a prefix of the report, and takes no more.
 pub fn write_report<S: Sink>(
     alloc: Global,
     admitted: &Admitted<'_>,
@@ -35,7 +117,5 @@ pub fn write_report<S: Sink>(
         (report_of admitted.now.linked.unit population.now.content)) }
     ensures write { S.has_failed sink.new ≡ is_write_fault result }
 {
-    let report = make_admitted_report(alloc, admitted, population)?;
-    write_and_flush(sink, report.text.as_bytes())?;
-    Ok(report.summary)
+    put_report(alloc, admitted, population, &mut Unfailed::new(sink))
 }

@@ -1,0 +1,7 @@
+pub mod Totals
+pub mod Runs
+pub mod Costs
+pub mod Jobs
+pub mod Advances
+pub mod Worlds
+pub mod Events

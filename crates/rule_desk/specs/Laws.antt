@@ -1,0 +1,40 @@
+-- What holds of every world of a desk.
+use Rattle.std.specs.Prelude.{◌≡◌, ℕ, ◌+◌, ◌<◌, ◌≤◌, nat_le, List, [], ◌∷◌, ◌++◌, length, map, sum, Option, Some, None, if◌then◌else◌}
+use Rattle.imkl_population.specs.Population.{Population}
+use Rattle.rule_cost.specs.Admission.{Admission}
+use Rattle.rule_desk.specs.Seen.{JobSeen, job_seen}
+use Rattle.rule_desk.specs.Job.{IsRunnable, total_cost, bound_of}
+use Rattle.rule_desk.specs.World.{Own, Event, Jobs, job_at, goes_on, says, says_on, after, answers_to, own, entries, IsWorld}
+use Rattle.rule_desk.specs.World.Own.{Given}
+use Rattle.rule_desk.specs.World.Event.{Entered}
+use Rattle.rule_desk.specs.World.Answer.{WasOver, OverAt, PausedAt}
+
+-- each job, and the answers to it, are those of its own events alone
+abbrev pub EachJobAlone : Type 0
+EachJobAlone =
+    (es : List Event) (d : Jobs) (k : ℕ)
+    → k < length d → (job_at (after es d) k ≡ goes_on (own k es) (job_at d k)) × (answers_to k es d ≡ says_on (own k es) (job_at d k))
+
+-- the job that enters after es in a desk that was empty is, after fs, as its own events make it
+abbrev pub EachJobFromItsEntry : Type 0
+EachJobFromItsEntry =
+    (es fs : List Event) (a : Admission) (p : Population)
+    → job_at (after (es ++ Entered a p ∷ fs) []) (entries es) ≡ goes_on (own (entries es) fs) (Some (job_seen a p 0))
+
+-- the next number rises by one with each entry, and with nothing else
+abbrev pub NumbersInOrder : Type 0
+NumbersInOrder = (es : List Event) (d : Jobs) → length (after es d) ≡ length d + entries es
+
+abbrev pub IsWithin : Option JobSeen → Type 0
+IsWithin None = Unit {0}
+IsWithin (Some j) = j.spent ≤ total_cost j
+
+-- no job is ever past its cost
+abbrev pub NeverPastItsCost : Type 0
+NeverPastItsCost =
+    (es : List Event) (d : Jobs)
+    → IsWorld es d → ((k : ℕ) → IsWithin (job_at d k)) → (k : ℕ) → IsWithin (job_at (after es d) k)
+
+-- what a job costs is at most its bound
+abbrev pub CostsWithinBounds : Type 0
+CostsWithinBounds = (j : JobSeen) → IsRunnable j.admission.linked.unit j.population → total_cost j ≤ bound_of j
