@@ -16,7 +16,7 @@ use Rattle.ocl_types.specs.Core as tree
 use Rattle.ocl_types.specs.Core.{TypedTree, typed}
 use Rattle.ocl_types.specs.Scope.{Binder, Named, Implicit, Hidden, ScopeVariable, VariableScope, inside, has_binder_name, by_binder, by_feature, feature_of, innermost}
 use Rattle.ocl_types.specs.ScopeView.{binder_by, binder_of, variable_view, scope_view, AreKnownVariables}
-use Rattle.ocl_types.specs.ScopeIndex.{number_in, number_named, hidden_by, hidden_from, with_implicit, implicit_from, last_feature, IsIndexed}
+use Rattle.ocl_types.specs.ScopeIndex.{name_number, number_named, hidden_by, hidden_from, with_implicit, implicit_from, last_feature, IsIndexed}
 use Rattle.ocl_types.proofs.Scopes.{view_inside}
 
 -- ---- one more variable
@@ -64,13 +64,13 @@ same_by true i j r t e f = ap (λ (n : ℕ). Some n) e
 same_by false i j r t e f = f
 
 -- an index with what a variable that is pushed changes in it
-pub pushed : (vs : List declared.ScopeVariable) (named after : BTreeMap (Bor (List ℕ)) ℕ) (implicit more : List ImplicitVariable) (v : declared.ScopeVariable) → IsIndexed vs named implicit → ((q : List ℕ) → number_in after q ≡ (if has_binder_name (binder_of v) q then Some (length vs) else number_in named q)) → v.hides ≡ hidden_by (scope_view vs) (binder_of v) → more ≡ implicit ++ with_implicit (binder_of v) (numbered (length vs) v.kind) [] → IsIndexed (vs ++ v ∷ []) after more
+pub pushed : (vs : List declared.ScopeVariable) (named after : BTreeMap (Bor (List ℕ)) ℕ) (implicit more : List ImplicitVariable) (v : declared.ScopeVariable) → IsIndexed vs named implicit → ((q : List ℕ) → name_number after q ≡ (if has_binder_name (binder_of v) q then Some (length vs) else name_number named q)) → v.hides ≡ hidden_by (scope_view vs) (binder_of v) → more ≡ implicit ++ with_implicit (binder_of v) (numbered (length vs) v.kind) [] → IsIndexed (vs ++ v ∷ []) after more
 pushed vs named after implicit more v h names hides implicits =
     let s = scope_view vs in
     let long : length s ≡ length vs = length-map vs variable_view in
     record {
       names = λ q. names q
-          ∙ same_by (has_binder_name (binder_of v) q) (length vs) (0 + length s) (number_in named q) (number_named q 0 s) (omega (arith, long)) (h.names q)
+          ∙ same_by (has_binder_name (binder_of v) q) (length vs) (0 + length s) (name_number named q) (number_named q 0 s) (omega (arith, long)) (h.names q)
           ∙ sym (number_inside q 0 s (variable_view v))
           ∙ ap (number_named q 0) (sym (view_inside vs v));
       hides = map-append (λ (w : declared.ScopeVariable). w.hides) vs (v ∷ [])
@@ -91,7 +91,7 @@ pushed vs named after implicit more v h names hides implicits =
 
 -- what an index says of the innermost variable and of those outside it
 record Outside (vs : List declared.ScopeVariable) (named : BTreeMap (Bor (List ℕ)) ℕ) (implicit : List ImplicitVariable) (v : declared.ScopeVariable) : Type 0 where
-  names : (q : List ℕ) → number_in named q ≡ (if has_binder_name (binder_of v) q then Some (0 + length (scope_view vs)) else number_named q 0 (scope_view vs))
+  names : (q : List ℕ) → name_number named q ≡ (if has_binder_name (binder_of v) q then Some (0 + length (scope_view vs)) else number_named q 0 (scope_view vs))
   hides : map (λ w. w.hides) vs ≡ hidden_from [] (scope_view vs)
   hidden : v.hides ≡ hidden_by (scope_view vs) (binder_of v)
   implicits : implicit ≡ implicit_from 0 (scope_view vs) ++ with_implicit (binder_of v) (numbered (0 + length (scope_view vs)) v.kind) []
@@ -118,7 +118,7 @@ binder_unnamed : (v : declared.ScopeVariable) (b : Bool) → v.name ≡ None →
 binder_unnamed v b none is = ap (λ (o : Option (Bor (List ℕ))). binder_by o v.is_implicit) none ∙ ap (binder_by None) is
 
 -- the innermost variable had a name, which is now that of the one that it hid
-pub popped_named : (all vs : List declared.ScopeVariable) (named after : BTreeMap (Bor (List ℕ)) ℕ) (implicit : List ImplicitVariable) (v : declared.ScopeVariable) (name : Bor (List ℕ)) → IsIndexed all named implicit → all ≡ vs ++ v ∷ [] → v.name ≡ Some name → ((q : List ℕ) → number_in after q ≡ (if bytes_eq name.now q then v.hides else number_in named q)) → IsIndexed vs after implicit
+pub popped_named : (all vs : List declared.ScopeVariable) (named after : BTreeMap (Bor (List ℕ)) ℕ) (implicit : List ImplicitVariable) (v : declared.ScopeVariable) (name : Bor (List ℕ)) → IsIndexed all named implicit → all ≡ vs ++ v ∷ [] → v.name ≡ Some name → ((q : List ℕ) → name_number after q ≡ (if bytes_eq name.now q then v.hides else name_number named q)) → IsIndexed vs after implicit
 popped_named all vs named after implicit v name h is called names =
     let o = outside all vs named implicit v h is in
     let binder = binder_named v name called in
@@ -128,7 +128,7 @@ popped_named all vs named after implicit v name h is called names =
       implicits = o.implicits ∙ ap (λ (b : Binder). implicit_from 0 (scope_view vs) ++ with_implicit b (numbered (0 + length (scope_view vs)) v.kind) []) binder ∙ append-nil (implicit_from 0 (scope_view vs));
     }
   where
-    restored : (q : List ℕ) (b : Bool) → bytes_eq name.now q ≡ b → (if b then v.hides else number_in named q) ≡ number_named q 0 (scope_view vs)
+    restored : (q : List ℕ) (b : Bool) → bytes_eq name.now q ≡ b → (if b then v.hides else name_number named q) ≡ number_named q 0 (scope_view vs)
     restored q true e =
         let o = outside all vs named implicit v h is in
         let same : name.now ≡ q = (bytes_eq-Decides name.now q).0 e in
@@ -172,7 +172,7 @@ popped_hidden all vs named implicit v h is called implied =
     }
 
 -- the innermost variable's name has a number
-pub has_number : (all vs : List declared.ScopeVariable) (named : BTreeMap (Bor (List ℕ)) ℕ) (implicit : List ImplicitVariable) (v : declared.ScopeVariable) (name : Bor (List ℕ)) → IsIndexed all named implicit → all ≡ vs ++ v ∷ [] → v.name ≡ Some name → number_in named name.now ≡ Some (0 + length (scope_view vs))
+pub has_number : (all vs : List declared.ScopeVariable) (named : BTreeMap (Bor (List ℕ)) ℕ) (implicit : List ImplicitVariable) (v : declared.ScopeVariable) (name : Bor (List ℕ)) → IsIndexed all named implicit → all ≡ vs ++ v ∷ [] → v.name ≡ Some name → name_number named name.now ≡ Some (0 + length (scope_view vs))
 has_number all vs named implicit v name h is called =
     let o = outside all vs named implicit v h is in
     let itself : has_binder_name (binder_of v) name.now ≡ true = ap (λ (b : Binder). has_binder_name b name.now) (binder_named v name called) ∙ (bytes_eq-Decides name.now name.now).1 refl in

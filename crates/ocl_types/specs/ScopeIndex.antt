@@ -15,8 +15,8 @@ use Rattle.ocl_types.specs.Scope.{Binder, Named, Implicit, Hidden, VariableScope
 use Rattle.ocl_types.specs.ScopeView.{scope_view}
 
 -- the number of a name
-abbrev pub number_in : BTreeMap (Bor (List ℕ)) ℕ → List ℕ → Option ℕ
-number_in m name = get_by (λ k. slice_cmp nat_cmp name k.now) m
+abbrev pub name_number : BTreeMap (Bor (List ℕ)) ℕ → List ℕ → Option ℕ
+name_number m name = get_by (λ k. slice_cmp nat_cmp name k.now) m
 
 -- the number of the innermost variable of a name, where the first of the list has number n
 abbrev pub number_named : List ℕ → ℕ → VariableScope → Option ℕ
@@ -49,6 +49,6 @@ last_feature m name [] = None
 last_feature m name (v ∷ vs) = option_or (last_feature m name vs) (feature_of m (tree.Variable v.number) v.kind name)
 
 pub record IsIndexed (variables : List declared.ScopeVariable) (named : BTreeMap (Bor (List ℕ)) ℕ) (implicit : List ImplicitVariable) : Type 0 where
-  pub names : (q : List ℕ) → number_in named q ≡ number_named q 0 (scope_view variables)
+  pub names : (q : List ℕ) → name_number named q ≡ number_named q 0 (scope_view variables)
   pub hides : map (λ v. v.hides) variables ≡ hidden_from [] (scope_view variables)
   pub implicits : implicit ≡ implicit_from 0 (scope_view variables)

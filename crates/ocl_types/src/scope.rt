@@ -8,7 +8,7 @@ ghost use Rattle.ocl_types.specs.Core as tree;
 ghost use Rattle.ocl_types.specs.Core.{CoreTree};
 ghost use Rattle.ocl_types.specs.declared.fault.TypeFault.TheVariants.{OutOfMemory};
 ghost use Rattle.ocl_types.specs.Scope as spec;
-ghost use Rattle.ocl_types.specs.ScopeIndex.{number_in, last_feature};
+ghost use Rattle.ocl_types.specs.ScopeIndex.{name_number, last_feature};
 ghost use Rattle.ocl_types.specs.ScopeView.{AreKnownVariables, typed_variable, typed_feature};
 
 use crate::fault::TypeFault;
@@ -218,7 +218,7 @@ fn push<T: Drop>(items: &mut Vec<T>, item: T) -> Result<(), TypeFault>
 
 /// The number of a name.
 fn number_of(named: &BTreeMap<&str, usize>, name: &str) -> Option<usize>
-    ensures { result ≡ number_in named.now name.now }
+    ensures { result ≡ name_number named.now name.now }
 {
     named.get(name).copied()
 }
@@ -229,10 +229,10 @@ fn set_number<'t>(
     name: &'t str,
     number: usize,
 ) -> Result<(), TypeFault>
-    ensures set { OnOk result ((q : List ℕ) → number_in named.new q
-        ≡ update bytes_eq (number_in named.old) name.now (Some number) q) }
-    ensures unchanged { OnErr result ((q : List ℕ) → number_in named.new q
-        ≡ number_in named.old q) }
+    ensures set { OnOk result ((q : List ℕ) → name_number named.new q
+        ≡ update bytes_eq (name_number named.old) name.now (Some number) q) }
+    ensures unchanged { OnErr result ((q : List ℕ) → name_number named.new q
+        ≡ name_number named.old q) }
     ensures fault { IfErr result (λ e. e ≡ OutOfMemory) }
 {
     named.insert(name, number)?;
@@ -241,9 +241,9 @@ fn set_number<'t>(
 
 /// A name has the number again that it had before, or none.
 fn restore<'t>(named: &mut BTreeMap<&'t str, usize>, name: &'t str, before: Option<usize>)
-    requires { IsSome (number_in named.old name.now) }
-    ensures { (q : List ℕ) → number_in named.new q
-        ≡ update bytes_eq (number_in named.old) name.now before q }
+    requires { IsSome (name_number named.old name.now) }
+    ensures { (q : List ℕ) → name_number named.new q
+        ≡ update bytes_eq (name_number named.old) name.now before q }
 {
     match before {
         Some(number) => {
