@@ -1,8 +1,8 @@
 pub mod CoreViews
-pub mod Found
 pub mod KnownKinds
 pub mod Accepted
 pub mod Scopes
+pub mod ScopeIndexes
 pub mod Links
 pub mod Several
 pub mod Bindings

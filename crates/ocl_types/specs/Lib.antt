@@ -10,6 +10,7 @@ pub mod CoreView
 -- Bookkeeping: views, layouts, walks and tables that only proofs and private contracts use.
 pub mod TableView
 pub mod ScopeView
+pub mod ScopeIndex
 pub mod EnvironmentView
 pub mod GatheredView
 pub mod CallView

@@ -1,19 +1,22 @@
 //! The variables that an expression sees.
 
-ghost use Rattle.std.specs.Prelude.{◌≡◌, ◌<◌, ◌++◌, ◌∷◌, [], ℕ, length, take, option_map, All, IfOk, IfErr, IfSome, OnOk};
+ghost use Rattle.std.specs.Prelude.{◌≡◌, ◌<◌, ◌-◌, ◌++◌, ◌∷◌, [], ℕ, List, Some, length, take, option_map, bytes_eq, All, IsSome, IfOk, IfErr, IfSome, OnOk, OnErr};
+ghost use Rattle.std.specs.Map.{update};
 ghost use Rattle.imkl_model.specs.ClassModel.{Model as Classes};
 ghost use Rattle.ocl_kinds.specs.Kinds.{IsKindOf};
 ghost use Rattle.ocl_types.specs.Core as tree;
 ghost use Rattle.ocl_types.specs.Core.{CoreTree};
 ghost use Rattle.ocl_types.specs.declared.fault.TypeFault.TheVariants.{OutOfMemory};
 ghost use Rattle.ocl_types.specs.Scope as spec;
-ghost use Rattle.ocl_types.specs.ScopeView.{binder_of, scope_view, AreKnownVariables, typed_variable, typed_feature};
+ghost use Rattle.ocl_types.specs.ScopeIndex.{number_in, last_feature};
+ghost use Rattle.ocl_types.specs.ScopeView.{AreKnownVariables, typed_variable, typed_feature};
 
 use crate::fault::TypeFault;
 use imkl_model::{ClassModel, ClassNo, FeatureNo};
 use ocl_kinds::{Kind, ScalarKind};
 use ocl_text::Name;
 use std::alloc::Global;
+use std::collections::BTreeMap;
 use std::marker::Model;
 
 /// A variable with its kind.
@@ -24,6 +27,15 @@ struct ScopeVariable<'t> {
     /// Whether its features can be named without it.
     is_implicit: bool,
     kind: Kind,
+    /// The number of the variable of its name that it hides.
+    hides: Option<usize>,
+}
+
+/// A variable whose features can be named without it, by its number.
+#[derive(Clone, Copy)]
+struct ImplicitVariable {
+    number: usize,
+    kind: Kind,
 }
 
 /// The variables that an expression sees, the outermost first. One scope serves a whole rule: variables are pushed before
@@ -31,34 +43,39 @@ struct ScopeVariable<'t> {
 #[derive(Drop)]
 pub(crate) struct Scope<'t> {
     variables: Vec<ScopeVariable<'t>>,
+    /// The number of the innermost variable of each name.
+    named: BTreeMap<&'t str, usize>,
+    /// The variables whose features can be named without them, the outermost first.
+    implicit: Vec<ImplicitVariable>,
 }
 
 impl<'t> Model for Scope<'t> {
     ghost use Rattle.ocl_types.specs.Scope.{VariableScope};
     ghost use Rattle.ocl_types.specs.ScopeView.{scope_view};
+    ghost use Rattle.ocl_types.specs.ScopeIndex.{IsIndexed};
 
     ghost Value = { VariableScope };
 
     ghost view = { λ s. scope_view s.variables.items };
+
+    ghost invariant = { λ s. IsIndexed s.variables.items s.named s.implicit.items };
 }
 
 impl<'t> Scope<'t> {
     /// The object of the context class alone: its features can be named without it.
-    #[tactic(auto, using(crate::proofs::Scopes::scopes))]
     pub(crate) fn outermost(alloc: Global, context: ClassNo) -> Result<Scope<'t>, TypeFault>
         ensures value { IfOk result (λ s. s ≡ spec.outermost context) }
         ensures known { (m : Classes) → context < length m.classes
             → IfOk result (AreKnownVariables m) }
         ensures fault { IfErr result (λ e. e ≡ OutOfMemory) }
     {
-        let mut variables = Vec::new(alloc);
-        let variable = ScopeVariable {
-            name: None,
-            is_implicit: true,
-            kind: Kind::Scalar(ScalarKind::Class(context)),
+        let mut scope = Scope {
+            variables: Vec::new(alloc),
+            named: BTreeMap::new(alloc),
+            implicit: Vec::new(alloc),
         };
-        push(&mut variables, variable)?;
-        Ok(Scope { variables })
+        scope.push_implicit(Kind::Scalar(ScalarKind::Class(context)))?;
+        Ok(scope)
     }
 
     /// How many variables there are: the number of the next one.
@@ -75,12 +92,22 @@ impl<'t> Scope<'t> {
             ≡ spec.inside self.old (spec.scope_variable (spec.Named name.now) kind)) }
         ensures fault { IfErr result (λ e. e ≡ OutOfMemory) }
     {
+        let name = name.as_str();
+        let number = self.variables.len();
         let variable = ScopeVariable {
-            name: Some(name.as_str()),
+            name: Some(name),
             is_implicit: false,
             kind,
+            hides: number_of(&self.named, name),
         };
-        push(&mut self.variables, variable)
+        push(&mut self.variables, variable)?;
+        match set_number(&mut self.named, name, number) {
+            Ok(()) => Ok(()),
+            Err(fault) => {
+                self.variables.pop();
+                Err(fault)
+            }
+        }
     }
 
     /// One more variable, whose features can be named without it.
@@ -90,12 +117,25 @@ impl<'t> Scope<'t> {
             ≡ spec.inside self.old (spec.scope_variable spec.Implicit kind)) }
         ensures fault { IfErr result (λ e. e ≡ OutOfMemory) }
     {
+        let number = self.variables.len();
         let variable = ScopeVariable {
             name: None,
             is_implicit: true,
             kind,
+            hides: None,
         };
-        push(&mut self.variables, variable)
+        let implicit = ImplicitVariable {
+            number,
+            kind: variable.kind,
+        };
+        push(&mut self.variables, variable)?;
+        match push(&mut self.implicit, implicit) {
+            Ok(()) => Ok(()),
+            Err(fault) => {
+                self.variables.pop();
+                Err(fault)
+            }
+        }
     }
 
     /// One more variable, which no expression can name.
@@ -109,31 +149,52 @@ impl<'t> Scope<'t> {
             name: None,
             is_implicit: false,
             kind,
+            hides: None,
         };
-        push(&mut self.variables, variable)
+        push(&mut self.variables, variable)?;
+        Ok(())
     }
 
     /// The outermost variables alone, this many.
-    #[tactic(auto, using(crate::proofs::Scopes::scopes))]
     pub(crate) fn cut(&mut self, len: usize)
         ensures { self.new ≡ take len self.old }
     {
-        self.variables.truncate(len);
+        'inner: while self.len() > len {
+            self.pop();
+        }
+    }
+
+    /// All but the innermost variable.
+    fn pop(&mut self)
+        requires { 0 < length self.old }
+        ensures { self.new ≡ take (length self.old - 1) self.old }
+    {
+        let Some(variable) = self.variables.pop() else {
+            return;
+        };
+        match variable.name {
+            Some(name) => restore(&mut self.named, name, variable.hides),
+            None if variable.is_implicit => {
+                self.implicit.pop();
+            }
+            None => (),
+        }
     }
 
     /// The innermost variable of this name, by its number.
-    #[tactic(auto, using(crate::proofs::Scopes::scopes))]
     pub(crate) fn variable_named(&self, name: &str) -> Option<(usize, Kind)>
         ensures found { option_map typed_variable result
             ≡ spec.innermost (spec.by_binder name.now) 0 self.now }
         ensures known { (m : Classes) → AreKnownVariables m self.now
             → IfSome result (λ x. IsKindOf m x.1) }
     {
-        variable_named(&self.variables, name)
+        match number_of(&self.named, name) {
+            Some(number) => Some((number, self.variables[number].kind)),
+            None => None,
+        }
     }
 
     /// The feature of this name of the innermost variable that needn't be named and has it.
-    #[tactic(auto, using(crate::proofs::Scopes::scopes))]
     pub(crate) fn feature_named(&self, model: &ClassModel, name: &str) -> Option<(usize, FeatureNo)>
         requires { AreKnownVariables model.now self.now }
         ensures found { option_map (typed_feature model.now) result
@@ -141,42 +202,59 @@ impl<'t> Scope<'t> {
             self.now }
         ensures in_range { IfSome result (λ x. x.1 < length model.now.features) }
     {
-        feature_named(model, &self.variables, name)
+        innermost_feature(model, &self.implicit, name)
     }
 }
 
 /// Puts an item at a list's end.
 fn push<T: Drop>(items: &mut Vec<T>, item: T) -> Result<(), TypeFault>
     ensures pushed { OnOk result (items.new.items ≡ items.old.items ++ item ∷ []) }
+    ensures unchanged { OnErr result (items.new.items ≡ items.old.items) }
     ensures fault { IfErr result (λ e. e ≡ OutOfMemory) }
 {
     items.push(item)?;
     Ok(())
 }
 
-fn has_name(variable: &ScopeVariable<'_>, name: &str) -> bool
-    ensures { result ≡ spec.has_binder_name (binder_of variable.now) name.now }
+/// The number of a name.
+fn number_of(named: &BTreeMap<&str, usize>, name: &str) -> Option<usize>
+    ensures { result ≡ number_in named.now name.now }
 {
-    match variable.name {
-        Some(own) => own == name,
-        None => false,
-    }
+    named.get(name).copied()
 }
 
-#[tactic(auto, using(crate::proofs::Found::later))]
-fn variable_named(scope: &[ScopeVariable<'_>], name: &str) -> Option<(usize, Kind)>
-    ensures found { option_map typed_variable result
-        ≡ spec.innermost (spec.by_binder name.now) 0 (scope_view scope.now) }
-    ensures known { (m : Classes) → All (λ v. IsKindOf m v.kind) scope.now
-        → IfSome result (λ x. IsKindOf m x.1) }
+/// A name has this number from now on.
+fn set_number<'t>(
+    named: &mut BTreeMap<&'t str, usize>,
+    name: &'t str,
+    number: usize,
+) -> Result<(), TypeFault>
+    ensures set { OnOk result ((q : List ℕ) → number_in named.new q
+        ≡ update bytes_eq (number_in named.old) name.now (Some number) q) }
+    ensures unchanged { OnErr result ((q : List ℕ) → number_in named.new q
+        ≡ number_in named.old q) }
+    ensures fault { IfErr result (λ e. e ≡ OutOfMemory) }
 {
-    let mut found = None;
-    'variables: for (number, variable) in scope.iter().enumerate() {
-        if has_name(variable, name) {
-            found = Some((number, variable.kind));
+    named.insert(name, number)?;
+    Ok(())
+}
+
+/// A name has the number again that it had before, or none.
+fn restore<'t>(named: &mut BTreeMap<&'t str, usize>, name: &'t str, before: Option<usize>)
+    requires { IsSome (number_in named.old name.now) }
+    ensures { (q : List ℕ) → number_in named.new q
+        ≡ update bytes_eq (number_in named.old) name.now before q }
+{
+    match before {
+        Some(number) => {
+            let Ok(_) = named.insert(name, number) else {
+                unreachable!()
+            };
+        }
+        None => {
+            named.remove(name);
         }
     }
-    found
 }
 
 /// The feature of this name of an object of this kind.
@@ -192,40 +270,24 @@ pub(crate) fn feature_of(model: &ClassModel, kind: &Kind, name: &str) -> Option<
     }
 }
 
-/// The feature of this name of a variable that needn't be named.
-fn implicit_feature(
+/// The feature of this name of the last of these variables that has it.
+fn innermost_feature(
     model: &ClassModel,
-    variable: &ScopeVariable<'_>,
-    name: &str,
-) -> Option<FeatureNo>
-    requires { IsKindOf model.now variable.now.kind }
-    ensures found { (n : ℕ) → spec.feature_on model.now (tree.Variable n) result
-        ≡ spec.by_feature model.now name.now n (binder_of variable.now) variable.now.kind }
-    ensures in_range { IfSome result (λ f. f < length model.now.features) }
-{
-    match variable.name {
-        None if variable.is_implicit => feature_of(model, &variable.kind, name),
-        _ => None,
-    }
-}
-
-#[tactic(auto, using(crate::proofs::Found::later))]
-fn feature_named(
-    model: &ClassModel,
-    scope: &[ScopeVariable<'_>],
+    variables: &[ImplicitVariable],
     name: &str,
 ) -> Option<(usize, FeatureNo)>
-    requires { All (λ v. IsKindOf model.now v.kind) scope.now }
+    requires { All (λ v. IsKindOf model.now v.kind) variables.now }
     ensures found { option_map (typed_feature model.now) result
-        ≡ spec.innermost (λ n v. spec.by_feature model.now name.now n v.binder v.kind) 0
-        (scope_view scope.now) }
+        ≡ last_feature model.now name.now variables.now }
     ensures in_range { IfSome result (λ x. x.1 < length model.now.features) }
 {
-    let mut found = None;
-    'variables: for (number, variable) in scope.iter().enumerate() {
-        if let Some(feature) = implicit_feature(model, variable, name) {
-            found = Some((number, feature));
+    let mut left = variables.len();
+    'variables: while left > 0 {
+        left -= 1;
+        let variable = &variables[left];
+        if let Some(feature) = feature_of(model, &variable.kind, name) {
+            return Some((variable.number, feature));
         }
     }
-    found
+    None
 }
