@@ -10,7 +10,7 @@ use Rattle.ocl_base.specs.Lists.{is_among}
 use Rattle.imkl_model.specs.ClassModel.{Model}
 use Rattle.rule_verify.specs.declared.named.Named.{Named}
 use Rattle.ocl_compile.specs.Numbering.{Numbering, Use, UsedText, UsedSymbol, same_named, names_of_symbol, once_more, with_texts, with_use, with_uses}
-use Rattle.ocl_compile.specs.Compiling.{is_long_text}
+use Rattle.ocl_compile.specs.Compiling.{most_counted, is_long_text}
 use Rattle.ocl_compile.specs.declared.numbers.NumberFault.{NumberFault}
 use Rattle.ocl_compile.specs.declared.numbers.NumberFault.TheVariants as faults
 use Rattle.ocl_compile.specs.NumberWalk.{FitsUnit, NumbersTo}
@@ -35,8 +35,8 @@ pub once_new : {A : Type 0} (same : A → A → Bool) (xs : List A) (x : A) → 
 once_new same xs x e = ap (λ (b : Bool). if b then xs else xs ++ x ∷ []) (sym (placed_is_among same xs x) ∙ e)
 
 -- nothing new can be added to as many as a unit takes
-pub none_more : {A : Type 0} (same : A → A → Bool) (xs : List A) (x : A) → is_some (position (same x) xs) ≡ false → length xs ≡ 65535 → length (once_more same xs x) ≤ 65535 → ⊥
-none_more same xs x e full le = omega (arith, length-append xs (x ∷ []), full, subst (λ ys. length ys ≤ 65535) (once_new same xs x e) le)
+pub none_more : {A : Type 0} (same : A → A → Bool) (xs : List A) (x : A) → is_some (position (same x) xs) ≡ false → length xs ≡ most_counted → length (once_more same xs x) ≤ most_counted → ⊥
+none_more same xs x e full le = omega (arith, length-append xs (x ∷ []), full, subst (λ ys. length ys ≤ most_counted) (once_new same xs x e) le)
 
 -- ---- long texts
 
@@ -74,7 +74,7 @@ once_longer same xs x = by_test (is_among same xs x)
     by_test true = omega arith
     by_test false = omega (arith, length-append xs (x ∷ []))
 
-pub fit_before_texts : (symbols : List Named) (texts ts : List (List ℕ)) → FitsUnit (record { texts = with_texts texts ts; symbols = symbols }) → FitsUnit (record { texts = texts; symbols = symbols })
+fit_before_texts : (symbols : List Named) (texts ts : List (List ℕ)) → FitsUnit (record { texts = with_texts texts ts; symbols = symbols }) → FitsUnit (record { texts = texts; symbols = symbols })
 fit_before_texts symbols texts [] h = h
 fit_before_texts symbols texts (t ∷ ts) h =
     let later = fit_before_texts symbols (once_more bytes_eq texts t) ts h in (
@@ -82,13 +82,7 @@ fit_before_texts symbols texts (t ∷ ts) h =
       (or_parts (list_any is_long_text texts) (is_long_text t) (sym (once_any is_long_text texts t) ∙ later.1)).0,
     )
 
--- and so adding texts stops where adding the first of them does
-pub stopped_text : (e : NumberFault) (new later : Numbering) (symbols : List Named) (texts : List (List ℕ)) (t : List ℕ) (ts whole : List (List ℕ)) → NumbersTo (Err e) new (record { texts = once_more bytes_eq texts t; symbols = symbols }) → whole ≡ t ∷ ts → NumbersTo (Err e) later (record { texts = with_texts texts whole; symbols = symbols })
-stopped_text faults.TooLarge new later symbols texts t ts whole h is = λ fits.
-    h (fit_before_texts symbols (once_more bytes_eq texts t) ts (subst (λ (us : List (List ℕ)). FitsUnit (record { texts = with_texts texts us; symbols = symbols })) is fits))
-stopped_text faults.OutOfMemory new later symbols texts t ts whole h is = tt
-
-pub fit_before_symbol : (texts : List (List ℕ)) (symbols : List Named) (s : Named) → FitsUnit (record { texts = texts; symbols = once_more same_named symbols s }) → FitsUnit (record { texts = texts; symbols = symbols })
+fit_before_symbol : (texts : List (List ℕ)) (symbols : List Named) (s : Named) → FitsUnit (record { texts = texts; symbols = once_more same_named symbols s }) → FitsUnit (record { texts = texts; symbols = symbols })
 fit_before_symbol texts symbols s h = ((h.0.0, omega (arith, once_longer same_named symbols s, h.0.1)), h.1)
 
 fit_before_use : (m : Model) (n : Numbering) (u : Use) → FitsUnit (with_use m n u) → FitsUnit n
@@ -96,6 +90,13 @@ fit_before_use m n (UsedText t) h = fit_before_texts n.symbols n.texts (t ∷ []
 fit_before_use m n (UsedSymbol s) h =
     fit_before_texts n.symbols n.texts (names_of_symbol m s) (fit_before_symbol (with_texts n.texts (names_of_symbol m s)) n.symbols s h)
 
+-- a unit that takes a numbering took it before some uses were numbered
 pub fit_before : (m : Model) (n : Numbering) (us : List Use) → FitsUnit (with_uses m n us) → FitsUnit n
 fit_before m n [] h = h
 fit_before m n (u ∷ us) h = fit_before_use m n u (fit_before m (with_use m n u) us h)
+
+-- adding texts stops where adding the first of them does
+pub stopped_text : (e : NumberFault) (new later : Numbering) (symbols : List Named) (texts : List (List ℕ)) (t : List ℕ) (ts whole : List (List ℕ)) → NumbersTo (Err e) new (record { texts = once_more bytes_eq texts t; symbols = symbols }) → whole ≡ t ∷ ts → NumbersTo (Err e) later (record { texts = with_texts texts whole; symbols = symbols })
+stopped_text faults.TooLarge new later symbols texts t ts whole h is = λ fits.
+    h (fit_before_texts symbols (once_more bytes_eq texts t) ts (subst (λ (us : List (List ℕ)). FitsUnit (record { texts = with_texts texts us; symbols = symbols })) is fits))
+stopped_text faults.OutOfMemory new later symbols texts t ts whole h is = tt

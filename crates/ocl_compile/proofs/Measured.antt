@@ -31,7 +31,7 @@ use Rattle.ocl_compile.specs.Compiling.{most_counted, has_long_text, numbering_s
 use Rattle.ocl_compile.specs.declared.fault.Limit.{Limit}
 use Rattle.ocl_compile.specs.declared.fault.Limit.TheVariants as limits
 use Rattle.ocl_compile.proofs.Operating.{operand_count, operands_counted}
-use Rattle.ocl_compile.specs.EmitWalk.{AreCounted}
+use Rattle.ocl_compile.specs.NumberWalk.{AreCounted}
 use Rattle.ocl_compile.specs.Extents.{extent_of, extent_after, then_above, cut_extent, limit_by}
 use Rattle.ocl_compile.specs.declared.extent.Extent.{Extent}
 

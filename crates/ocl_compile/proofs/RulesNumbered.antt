@@ -12,10 +12,9 @@ use Rattle.ocl_compile.specs.declared.fault.Limit.{Limit}
 use Rattle.ocl_compile.specs.declared.fault.Limit.TheVariants as limits
 use Rattle.ocl_compile.specs.Numbering.{Numbering, no_numbers, Use, UsedText, UsedSymbol, names_of_symbol, once_more, with_texts, with_use, with_uses, rule_uses, rules_uses, numbering_of}
 use Rattle.ocl_compile.specs.Compiling.{is_long_text, texts_of_use, has_long_text, is_too_large, compiled_depths, limit_passed, LimitAt, limit_at, or_later, first_passed, unless_passed}
-use Rattle.ocl_compile.specs.EmitWalk.{AreCounted}
 use Rattle.ocl_compile.specs.declared.numbers.NumberFault.{NumberFault}
 use Rattle.ocl_compile.specs.declared.numbers.NumberFault.TheVariants as faults
-use Rattle.ocl_compile.specs.NumberWalk.{FitsUnit, NumbersTo}
+use Rattle.ocl_compile.specs.NumberWalk.{AreCounted, FitsUnit, NumbersTo}
 use Rattle.ocl_compile.specs.CompileWalk.{number_fault}
 use Rattle.ocl_compile.specs.Extents.{extent_of, cut_extent, limit_by}
 use Rattle.ocl_compile.proofs.Added.{once_any}

@@ -1,5 +1,5 @@
 -- The unit of rules, put together from its parts.
-use Rattle.std.proofs.Common.{◌≡◌, ℕ, true, List, [], ◌∷◌, ◌++◌, map, None, Ok, String, Global, string_bytes, ap, ◌∙◌, arith}
+use Rattle.std.proofs.Common.{◌≡◌, ℕ, true, List, [], ◌∷◌, ◌++◌, map, None, Ok, String, Global, string_bytes, ap, ◌∙◌}
 use Rattle.std.proofs.lemmas.Str.{is_utf8-from_IsUtf8, IsUtf8-string_bytes}
 use Rattle.std.specs.Str.{is_utf8}
 use Rattle.std.specs.List.{AllByRecursion}
@@ -13,21 +13,14 @@ use Rattle.ocl_compile.specs.Numbering.{Numbering, no_numbers, same_named, Use, 
 use Rattle.ocl_compile.specs.Translation.{translate_rule, translate_symbol, translate_rules}
 use Rattle.ocl_compile.specs.Compiling.{limit_passed, first_passed}
 use Rattle.ocl_compile.specs.CompileWalk.{numbered_rules, IsCodable}
-use Rattle.ocl_compile.specs.EmitWalk.{AreCounted}
 use Rattle.ocl_compile.specs.NumberWalk.{IsNamedIn, AreUsesOf}
 use Rattle.ocl_compile.proofs.CompiledUnits.{compiled_is, none_later}
 use Rattle.ocl_compile.proofs.Resolving.{rules_there}
-use Rattle.ocl_compile.proofs.UnitFits.{is_roomy, has_room, once_more_all}
+use Rattle.ocl_compile.proofs.UnitFits.{is_roomy, once_more_all}
 
 -- what is numbered passes no limit
 pub numbered_are : (m : Model) (rs : List CheckedRule) (n : Numbering) → numbered_rules m rs ≡ Ok n → (first_passed m rs [] rs ≡ None) × (n ≡ numbering_of m rs)
 numbered_are m rs n e = compiled_is (first_passed m rs [] rs) (numbering_of m rs) n e
-
--- the texts and symbols of rules that pass no limit are few enough to be counted in two bytes
-pub are_counted : (m : Model) (rs : List CheckedRule) → first_passed m rs [] rs ≡ None → AreCounted (numbering_of m rs)
-are_counted m rs none =
-    let room = has_room m rs [] rs none (record { rules = omega arith; texts = omega arith; symbols = omega arith }) in
-    (room.texts, room.symbols)
 
 -- typed rules that pass no limit have code that is short enough
 pub are_codable : (m : Model) (all before rs : List CheckedRule) → AllByRecursion (IsTypedRule m) rs → first_passed m all before rs ≡ None → AllByRecursion (IsCodable m (numbering_of m all)) rs

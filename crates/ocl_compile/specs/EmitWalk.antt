@@ -14,10 +14,6 @@ use Rattle.ocl_compile.specs.Numbering.{Numbering, owned_feature}
 use Rattle.ocl_compile.specs.Compiling.{most_counted}
 use Rattle.ocl_compile.specs.Translation.{symbol_of_unit, written_scalar, operator_instr, iteration_instr, translate, translate_all, instrs_of}
 
--- what a unit numbers can be counted
-abbrev pub AreCounted : Numbering → Type 0
-AreCounted n = (length n.texts ≤ most_counted) × (length n.symbols ≤ most_counted)
-
 -- each feature that a tree names is one of the class model
 module _ (m : Model) where
   abbrev mutual

@@ -1,5 +1,5 @@
 -- What a tree uses is in the class model, what links use, and where numbering stops.
-use Rattle.std.specs.Prelude.{◌≡◌, ◌<◌, List, false, Result, Ok, Err, length}
+use Rattle.std.specs.Prelude.{◌≡◌, ◌<◌, ◌≤◌, List, false, Result, Ok, Err, length}
 use Rattle.std.specs.List.{flat_map, list_any, AllByRecursion}
 use Rattle.imkl_model.specs.ClassModel.{Model, enumeration_at, feature_at}
 use Rattle.imkl_model.specs.WellFormed.{IsFeature}
@@ -9,8 +9,8 @@ use Rattle.rule_verify.specs.declared.named.Named.TheVariants as named
 use Rattle.ocl_compile.specs.declared.numbers.NumberFault.{NumberFault}
 use Rattle.ocl_compile.specs.declared.numbers.NumberFault.TheVariants.{TooLarge, OutOfMemory}
 use Rattle.ocl_compile.specs.Numbering.{Numbering, Use, UsedText, UsedSymbol, tree_uses}
-use Rattle.ocl_compile.specs.Compiling.{is_long_text}
-use Rattle.ocl_compile.specs.EmitWalk.{AreCounted, link_node}
+use Rattle.ocl_compile.specs.Compiling.{most_counted, is_long_text}
+use Rattle.ocl_compile.specs.EmitWalk.{link_node}
 
 abbrev pub IsNamedIn : Model → Named → Type 0
 IsNamedIn m (named.Class c) = c < length m.classes
@@ -29,7 +29,11 @@ AreUsesOf m us = AllByRecursion (IsUseOf m) us
 abbrev pub links_uses : Model → List CoreLink → List Use
 links_uses m links = flat_map (λ l. tree_uses m (link_node l)) links
 
--- a unit takes these texts and symbols
+-- as many texts and symbols as a unit takes
+abbrev pub AreCounted : Numbering → Type 0
+AreCounted n = (length n.texts ≤ most_counted) × (length n.symbols ≤ most_counted)
+
+-- and none too long
 abbrev pub FitsUnit : Numbering → Type 0
 FitsUnit n = AreCounted n × (list_any is_long_text n.texts ≡ false)
 

@@ -14,7 +14,6 @@ ghost use Rattle.ocl_compile.specs.Translation.{translate_rule, translate_symbol
 ghost use Rattle.ocl_compile.specs.Compiling.{compile_of};
 ghost use Rattle.ocl_compile.specs.CompileFaults.{compile_fault};
 ghost use Rattle.ocl_compile.specs.CompileWalk.{numbered_rules, IsCodable};
-ghost use Rattle.ocl_compile.specs.EmitWalk.{AreCounted};
 ghost use Rattle.ocl_compile.specs.NumberWalk.{IsNamedIn, NumbersTo};
 
 use crate::emitting::emit;
@@ -77,8 +76,7 @@ fn code_rule(
     numbers: &Numbers,
     rule: &CoreRule,
 ) -> Result<Rule, AllocError>
-    requires counts { AreCounted numbers.now }
-    requires codable { IsCodable model.now numbers.now (checked_rule_of rule.now) }
+    requires { IsCodable model.now numbers.now (checked_rule_of rule.now) }
     ensures code { IfOk result (λ r. rule_content r
         ≡ translate_rule model.now numbers.now (checked_rule_of rule.now)) }
     ensures written { OnOk result (IsWrittenRule (checked_rule_of rule.now)) }
@@ -99,8 +97,7 @@ fn code_rules(
     numbers: &Numbers,
     rules: &[CoreRule],
 ) -> Result<Vec<Rule>, AllocError>
-    requires counts { AreCounted numbers.now }
-    requires codable { AllByRecursion (IsCodable model.now numbers.now)
+    requires { AllByRecursion (IsCodable model.now numbers.now)
         (map checked_rule_of rules.now) }
     ensures codes { IfOk result (λ v. map rule_content v.items
         ≡ map (translate_rule model.now numbers.now) (map checked_rule_of rules.now)) }
@@ -119,8 +116,7 @@ fn unit_symbols(
     model: &ClassModel,
     numbers: &Numbers,
 ) -> Result<Vec<Symbol>, AllocError>
-    requires counts { AreCounted numbers.now }
-    requires named { AllByRecursion (IsNamedIn model.now) numbers.now.symbols }
+    requires { AllByRecursion (IsNamedIn model.now) numbers.now.symbols }
     ensures { IfOk result (λ v. v.items
         ≡ map (translate_symbol model.now numbers.now) numbers.now.symbols) }
 {

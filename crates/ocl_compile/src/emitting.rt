@@ -9,7 +9,7 @@ ghost use Rattle.rule_verify.specs.CodeTree.{End, instr_count};
 ghost use Rattle.ocl_compile.specs.Written.{IsWritten, AreWritten};
 ghost use Rattle.ocl_compile.specs.Translation.{translate, instrs_of};
 ghost use Rattle.ocl_compile.specs.Compiling.{most_counted};
-ghost use Rattle.ocl_compile.specs.EmitWalk.{AreCounted, KnownIn, VariablesBelow, IsEmittable, AreEmittable, IsTopEmittable, AreEmittableLinks, code_of, codes_of, top_code, link_node, links_code, lets_code};
+ghost use Rattle.ocl_compile.specs.EmitWalk.{KnownIn, VariablesBelow, IsEmittable, AreEmittable, IsTopEmittable, AreEmittableLinks, code_of, codes_of, top_code, link_node, links_code, lets_code};
 
 use crate::fields::{body_length, feature_of_unit, symbol_of_unit, written_kind, written_scalar};
 use crate::instructions::{constant_instr, iteration_instr, operator_instr, variable_instr};
@@ -71,7 +71,6 @@ pub(crate) fn emit(
     core: &Core,
     code: &mut Vec<Instr>,
 ) -> Result<(), AllocError>
-    requires counts { AreCounted numbers.now }
     requires known { KnownIn model.now (core_view core.now) }
     requires variables { VariablesBelow 65536 (core_view core.now) }
     requires room { instr_count (translate model.now numbers.now (core_view core.now) End)
@@ -122,8 +121,7 @@ fn code_of_body(
     numbers: &Numbers,
     body: &Core,
 ) -> Result<Vec<Instr>, AllocError>
-    requires counts { AreCounted numbers.now }
-    requires body { IsEmittable model.now numbers.now (core_view body.now) }
+    requires { IsEmittable model.now numbers.now (core_view body.now) }
     ensures code { IfOk result (λ v. v.items
         ≡ code_of model.now numbers.now (core_view body.now)) }
     ensures written { OnOk result (IsWritten (core_view body.now)) }
@@ -142,7 +140,6 @@ fn code_of_lets(
     values: &[Core],
     body: Vec<Instr>,
 ) -> Result<Vec<Instr>, AllocError>
-    requires counts { AreCounted numbers.now }
     requires values { AllByRecursion (IsEmittable model.now numbers.now)
         (map core_view values.now) }
     requires room { length (lets_code model.now numbers.now (map core_view values.now) body.items)
@@ -167,7 +164,6 @@ fn code_of_let(
     value: &Core,
     body: Vec<Instr>,
 ) -> Result<Vec<Instr>, AllocError>
-    requires counts { AreCounted numbers.now }
     requires value { IsEmittable model.now numbers.now (core_view value.now) }
     requires body { length body.items ≤ most_counted }
     ensures code { IfOk result (λ v. v.items ≡ code_of model.now numbers.now
@@ -188,8 +184,7 @@ fn emit_operands(
     operands: &[Core],
     code: &mut Vec<Instr>,
 ) -> Result<(), AllocError>
-    requires counts { AreCounted numbers.now }
-    requires operands { AreEmittable model.now numbers.now (cores_of (map core_view operands.now)) }
+    requires { AreEmittable model.now numbers.now (cores_of (map core_view operands.now)) }
     ensures codes { OnOk result (code.new.items ≡ code.old.items ++
         codes_of model.now numbers.now (cores_of (map core_view operands.now))) }
     ensures written { OnOk result (AreWritten (cores_of (map core_view operands.now))) }
@@ -210,8 +205,7 @@ fn emit_link(
     link: &CoreLink,
     code: &mut Vec<Instr>,
 ) -> Result<(), AllocError>
-    requires counts { AreCounted numbers.now }
-    requires link { IsTopEmittable model.now numbers.now (link_node link.now) }
+    requires { IsTopEmittable model.now numbers.now (link_node link.now) }
     ensures code { OnOk result (code.new.items ≡ code.old.items ++
         top_code model.now numbers.now (link_node link.now)) }
     ensures written { OnOk result (IsWritten (link_node link.now)) }
@@ -248,8 +242,7 @@ fn emit_links(
     links: &[CoreLink],
     code: &mut Vec<Instr>,
 ) -> Result<(), AllocError>
-    requires counts { AreCounted numbers.now }
-    requires links { AreEmittableLinks model.now numbers.now links.now }
+    requires { AreEmittableLinks model.now numbers.now links.now }
     ensures codes { OnOk result (code.new.items ≡ code.old.items ++
         links_code model.now numbers.now links.now) }
     ensures written { OnOk result (AllByRecursion (λ l. IsWritten (link_node l)) links.now) }

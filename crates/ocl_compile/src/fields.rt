@@ -2,7 +2,6 @@
 
 ghost use Rattle.std.specs.Prelude.{◌≡◌, ◌<◌, ◌≤◌, length};
 ghost use Rattle.ocl_compile.specs.Compiling.{most_counted};
-ghost use Rattle.ocl_compile.specs.EmitWalk.{AreCounted};
 ghost use Rattle.ocl_compile.specs.Numbering.{owned_feature};
 ghost use Rattle.ocl_compile.specs.NumberWalk.{IsNamedIn};
 ghost use Rattle.ocl_compile.specs.Translation.{translate_symbol};
@@ -15,18 +14,14 @@ use rule_code::{Instr, Symbol, SymbolNumber, TextNumber, WrittenKind, WrittenSca
 use rule_verify::Named;
 
 /// The field that names a text.
-#[tactic(auto, using(crate::proofs::Counted::counted))]
 pub(crate) fn text_of_unit(numbers: &Numbers, text: &str) -> TextNumber
-    requires counts { AreCounted numbers.now }
     ensures { result ≡ spec.text_of_unit numbers.now text.now }
 {
     TextNumber(numbers.text_number(text) as u16)
 }
 
 /// The field that names a symbol.
-#[tactic(auto, using(crate::proofs::Counted::counted))]
 pub(crate) fn symbol_of_unit(numbers: &Numbers, symbol: Named) -> SymbolNumber
-    requires counts { AreCounted numbers.now }
     ensures { result ≡ spec.symbol_of_unit numbers.now symbol }
 {
     SymbolNumber(numbers.symbol_number(symbol) as u16)
@@ -38,8 +33,7 @@ pub(crate) fn feature_of_unit(
     numbers: &Numbers,
     feature: FeatureNo,
 ) -> SymbolNumber
-    requires counts { AreCounted numbers.now }
-    requires feature { feature < length model.now.features }
+    requires { feature < length model.now.features }
     ensures { result ≡ spec.symbol_of_unit numbers.now (owned_feature model.now feature) }
 {
     let owner = model.feature_info(feature).owner;
@@ -48,8 +42,7 @@ pub(crate) fn feature_of_unit(
 
 /// What is named, as a symbol of the unit.
 pub(crate) fn symbol_of_names(model: &ClassModel, numbers: &Numbers, symbol: Named) -> Symbol
-    requires counts { AreCounted numbers.now }
-    requires named { IsNamedIn model.now symbol }
+    requires { IsNamedIn model.now symbol }
     ensures { result ≡ translate_symbol model.now numbers.now symbol }
 {
     match symbol {
@@ -74,7 +67,6 @@ pub(crate) fn symbol_of_names(model: &ClassModel, numbers: &Numbers, symbol: Nam
 
 /// The kind of a single value, as a code file has it.
 pub(crate) fn written_scalar(numbers: &Numbers, kind: ScalarKind) -> WrittenScalar
-    requires counts { AreCounted numbers.now }
     ensures { result ≡ spec.written_scalar numbers.now kind }
 {
     match kind {
@@ -94,7 +86,6 @@ pub(crate) fn written_scalar(numbers: &Numbers, kind: ScalarKind) -> WrittenScal
 
 /// The kind of a value, as a code file has it.
 pub(crate) fn written_kind(numbers: &Numbers, kind: Kind) -> WrittenKind
-    requires counts { AreCounted numbers.now }
     ensures { result ≡ spec.written_kind numbers.now kind }
 {
     match kind {

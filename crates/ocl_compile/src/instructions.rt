@@ -3,7 +3,6 @@
 ghost use Rattle.std.specs.Prelude.{◌≡◌, ◌<◌};
 ghost use Rattle.ocl_types.specs.CoreView.{constant_of};
 ghost use Rattle.ocl_compile.specs.Written.{IsWrittenConstant};
-ghost use Rattle.ocl_compile.specs.EmitWalk.{AreCounted};
 ghost use Rattle.ocl_compile.specs.Translation as spec;
 
 use crate::fields::{symbol_of_unit, text_of_unit, written_kind, written_scalar};
@@ -16,7 +15,6 @@ use rule_verify::Named;
 
 /// The instruction that gives a constant.
 pub(crate) fn constant_instr(numbers: &Numbers, value: &ConstantValue) -> Instr
-    requires counts { AreCounted numbers.now }
     ensures instr { result ≡ spec.constant_instr numbers.now (constant_of value.now) }
     ensures written { IsWrittenConstant (constant_of value.now) }
 {
@@ -102,7 +100,6 @@ fn element_instr(operator: ElementOperator, kind: WrittenScalar) -> Instr
 
 /// The instruction of an operator.
 pub(crate) fn operator_instr(numbers: &Numbers, operator: Operator) -> Instr
-    requires counts { AreCounted numbers.now }
     ensures { result ≡ spec.operator_instr numbers.now operator }
 {
     match operator {
@@ -119,7 +116,6 @@ pub(crate) fn operator_instr(numbers: &Numbers, operator: Operator) -> Instr
 
 /// The instruction of an iteration whose body has `length` instructions.
 pub(crate) fn iteration_instr(numbers: &Numbers, iteration: Iteration, length: u16) -> Instr
-    requires counts { AreCounted numbers.now }
     ensures { result ≡ spec.iteration_instr numbers.now iteration length }
 {
     match iteration {

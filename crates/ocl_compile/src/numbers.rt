@@ -167,15 +167,19 @@ impl Numbers {
     }
 
     /// The number of a text.
+    #[tactic(auto, using(crate::proofs::Counted::counted))]
     pub(crate) fn text_number(&self, text: &str) -> usize
-        ensures { result ≡ text_number self.now text.now }
+        ensures number { result ≡ text_number self.now text.now }
+        ensures counted { result < 65536 }
     {
         self.texts.number_of(text).unwrap_or(0)
     }
 
     /// The number of a symbol.
+    #[tactic(auto, using(crate::proofs::Counted::counted))]
     pub(crate) fn symbol_number(&self, symbol: Named) -> usize
-        ensures { result ≡ symbol_number self.now symbol }
+        ensures number { result ≡ symbol_number self.now symbol }
+        ensures counted { result < 65536 }
     {
         self.symbols.number_of(&symbol).unwrap_or(0)
     }

@@ -8,36 +8,21 @@ use Rattle.ocl_compile.specs.Numbering.{Numbering}
 use Rattle.ocl_compile.specs.Translation.{translate_rules}
 use Rattle.ocl_compile.specs.Compiling.{LimitAt, unless_passed}
 use Rattle.ocl_compile.specs.CompileWalk.{IsCodable}
-use Rattle.ocl_compile.specs.EmitWalk.{AreCounted}
 use Rattle.ocl_compile.specs.NumberWalk.{IsNamedIn}
 use Rattle.ocl_compile.proofs.UnitFits.{unit_fits}
-use Rattle.ocl_compile.proofs.UnitMade.{numbered_are, are_counted, are_codable, are_named, strings_are_utf8, unit_is}
+use Rattle.ocl_compile.proofs.UnitMade.{numbered_are, are_codable, are_named, strings_are_utf8, unit_is}
 use Rattle.ocl_compile.proofs.compiling.compile.Goals as goal
 
 -- src/compiling.rt
-pub code_rules-requires-clause-counts : goal.code_rules-requires-clause-counts
-code_rules-requires-clause-counts c =
-    let m = c.args.model.now in
-    let rs = map checked_rule_of c.args.rules.now in
-    let p = numbered_are m rs c.in_ok-numbers.numbers c.in_ok-numbers.ensures in
-    subst AreCounted (sym p.1) (are_counted m rs p.0)
-
-pub code_rules-requires-clause-codable : goal.code_rules-requires-clause-codable
-code_rules-requires-clause-codable c =
+pub code_rules-requires : goal.code_rules-requires
+code_rules-requires c =
     let m = c.args.model.now in
     let rs = map checked_rule_of c.args.rules.now in
     let p = numbered_are m rs c.in_ok-numbers.numbers c.in_ok-numbers.ensures in
     subst (λ (n : Numbering). AllByRecursion (IsCodable m n) rs) (sym p.1) (are_codable m rs [] rs c.requires.typed p.0)
 
-pub unit_symbols-requires-clause-counts : goal.unit_symbols-requires-clause-counts
-unit_symbols-requires-clause-counts c =
-    let m = c.args.model.now in
-    let rs = map checked_rule_of c.args.rules.now in
-    let p = numbered_are m rs c.in_ok-numbers.numbers c.in_ok-numbers.ensures in
-    subst AreCounted (sym p.1) (are_counted m rs p.0)
-
-pub unit_symbols-requires-clause-named : goal.unit_symbols-requires-clause-named
-unit_symbols-requires-clause-named c =
+pub unit_symbols-requires : goal.unit_symbols-requires
+unit_symbols-requires c =
     let m = c.args.model.now in
     let rs = map checked_rule_of c.args.rules.now in
     let p = numbered_are m rs c.in_ok-numbers.numbers c.in_ok-numbers.ensures in

@@ -1,4 +1,4 @@
-use Rattle.std.proofs.Common.{◌-◌, ◌∷◌, ◌++◌, map, length, drop, List, sym, ap, ◌∙◌, rules, subst}
+use Rattle.std.proofs.Common.{◌∷◌, ◌++◌, map, length, List, sym, ap, ◌∙◌, rules, subst}
 use Rattle.std.specs.List.{AllByRecursion}
 use Rattle.ocl_types.specs.declared.core_tree.Core.{Core, the_lemmas}
 use Rattle.ocl_types.specs.Core.{cores_of}
@@ -12,7 +12,7 @@ use Rattle.ocl_compile.proofs.emitting.+emit.Goals as goal
 
 pub code_of_body-emit-requires : goal.code_of_body-emit-requires
 code_of_body-emit-requires t c =
-    (search (rules, the_lemmas), (c.requires.counts, asked c.args.model.now c.args.numbers.now (core_view c.args.body.now) c.requires.body))
+    (search (rules, the_lemmas), (asked c.args.model.now c.args.numbers.now (core_view c.args.body.now) c.requires))
 
 -- ---- a first operand with its links
 
@@ -21,14 +21,14 @@ emit-emit-requires t c =
     let m = c.args.model.now in
     let n = c.args.numbers.now in
     let p = spine_parts m n c.args.core.now c.in-Spine.first c.in-Spine.links c.in-Spine.is c.requires.known c.requires.variables c.requires.room in
-    (search (rules, the_lemmas), (c.requires.counts, rw c.deref.ensures (asked m n (core_view c.in-Spine.first.value) p.0)))
+    (search (rules, the_lemmas), (rw c.deref.ensures (asked m n (core_view c.in-Spine.first.value) p.0)))
 
 pub emit-emit_links-requires : goal.emit-emit_links-requires
 emit-emit_links-requires t c =
     let m = c.args.model.now in
     let n = c.args.numbers.now in
     let p = spine_parts m n c.args.core.now c.in-Spine.first c.in-Spine.links c.in-Spine.is c.requires.known c.requires.variables c.requires.room in
-    (search (rules, the_lemmas), (c.requires.counts, rw c.deref-in-Spine.ensures.value p.1))
+    (search (rules, the_lemmas), (rw c.deref-in-Spine.ensures.value p.1))
 
 pub emit-returns-in_ok-emit-in-Spine-clause-emitted : goal.emit-returns-in_ok-emit-in-Spine-clause-emitted
 emit-returns-in_ok-emit-in-Spine-clause-emitted t c =
@@ -48,12 +48,12 @@ emit-returns-in_ok-emit-in-Spine-clause-written t c =
 pub emit-code_of_body-requires : goal.emit-code_of_body-requires
 emit-code_of_body-requires t c =
     let p = lets_parts c.args.model.now c.args.numbers.now c.args.core.now c.in-Let.values c.in-Let.body c.in-Let.is c.requires.known c.requires.variables c.requires.room in
-    (search (rules, the_lemmas), (c.requires.counts, rw c.deref-in-Let.ensures p.body))
+    (search (rules, the_lemmas), (rw c.deref-in-Let.ensures p.body))
 
 pub emit-code_of_lets-requires : goal.emit-code_of_lets-requires
 emit-code_of_lets-requires t c =
     let p = lets_parts c.args.model.now c.args.numbers.now c.args.core.now c.in-Let.values c.in-Let.body c.in-Let.is c.requires.known c.requires.variables c.requires.room in
-    (search (rules, the_lemmas), (c.requires.counts, (rw c.deref-in-Let-2.ensures.value p.values, rw (c.in_ok-inner-in-Let.ensures.code, c.deref-in-Let-2.ensures.value, c.deref-in-Let.ensures) p.room)))
+    (search (rules, the_lemmas), ((rw c.deref-in-Let-2.ensures.value p.values, rw (c.in_ok-inner-in-Let.ensures.code, c.deref-in-Let-2.ensures.value, c.deref-in-Let.ensures) p.room)))
 
 pub emit-returns-in_ok-lets-in-Let-clause-emitted : goal.emit-returns-in_ok-lets-in-Let-clause-emitted
 emit-returns-in_ok-lets-in-Let-clause-emitted t c =
@@ -80,7 +80,7 @@ code_of_lets-code_of_let-requires t c =
     let x = c.index-values-i.result in
     let here = drop_before xs i x c.index-values-i.is c.loop-i-test.true c.loop-i.auto.i in
     let p = value_here m n xs c.args.body.items i x here c.requires.values c.requires.room in
-    (search (rules, the_lemmas), (c.requires.counts, (p.0, rw c.loop-i.invariant.0 p.1)))
+    (search (rules, the_lemmas), ((p.0, rw c.loop-i.invariant.0 p.1)))
 
 pub code_of_lets-loop-i-preserved : goal.code_of_lets-loop-i-preserved
 code_of_lets-loop-i-preserved t c =
@@ -103,21 +103,21 @@ emit-emit-requires-in-If t c =
     let m = c.args.model.now in
     let n = c.args.numbers.now in
     let p = if_parts m n c.args.core.now c.in-If.kind c.in-If.condition c.in-If.then_branch c.in-If.else_branch c.in-If.is c.requires.known c.requires.variables c.requires.room in
-    (search (rules, the_lemmas), (c.requires.counts, rw c.deref-in-If.ensures (asked m n (core_view c.in-If.condition.value) p.0)))
+    (search (rules, the_lemmas), (rw c.deref-in-If.ensures (asked m n (core_view c.in-If.condition.value) p.0)))
 
 pub emit-code_of_body-requires-in-If : goal.emit-code_of_body-requires-in-If
 emit-code_of_body-requires-in-If t c =
     let m = c.args.model.now in
     let n = c.args.numbers.now in
     let p = if_parts m n c.args.core.now c.in-If.kind c.in-If.condition c.in-If.then_branch c.in-If.else_branch c.in-If.is c.requires.known c.requires.variables c.requires.room in
-    (search (rules, the_lemmas), (c.requires.counts, rw c.deref-in-If-2.ensures p.1))
+    (search (rules, the_lemmas), (rw c.deref-in-If-2.ensures p.1))
 
 pub emit-code_of_body-requires-in-If-2 : goal.emit-code_of_body-requires-in-If-2
 emit-code_of_body-requires-in-If-2 t c =
     let m = c.args.model.now in
     let n = c.args.numbers.now in
     let p = if_parts m n c.args.core.now c.in-If.kind c.in-If.condition c.in-If.then_branch c.in-If.else_branch c.in-If.is c.requires.known c.requires.variables c.requires.room in
-    (search (rules, the_lemmas), (c.requires.counts, rw c.deref-in-If-3.ensures p.2))
+    (search (rules, the_lemmas), (rw c.deref-in-If-3.ensures p.2))
 
 pub emit-body_length-requires : goal.emit-body_length-requires
 emit-body_length-requires t c =
@@ -157,7 +157,7 @@ emit_operands-emit-requires t c =
     let m = c.args.model.now in
     let n = c.args.numbers.now in
     let p = operands_here m n c.args.operands.now c.operands.operand-index c.operand-item.result c.operand-item.is c.operands-test.true c.operands.invariant.1 in
-    (search (rules, the_lemmas), (c.requires.counts, asked m n (core_view c.operand-item.result) p.0))
+    (search (rules, the_lemmas), (asked m n (core_view c.operand-item.result) p.0))
 
 pub emit_operands-operands-preserved : goal.emit_operands-operands-preserved
 emit_operands-operands-preserved t c =

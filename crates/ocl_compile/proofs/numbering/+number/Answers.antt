@@ -1,4 +1,4 @@
-use Rattle.std.proofs.Common.{◌++◌, map, List, Result, Err, refl, rules, subst}
+use Rattle.std.proofs.Common.{◌++◌, map, List, Err, refl, rules, subst}
 use Rattle.ocl_types.specs.declared.core_tree.Core.{Core, the_lemmas}
 use Rattle.ocl_types.specs.declared.core_tree.CoreLink.{CoreLink}
 use Rattle.ocl_types.specs.Core.{cores_of}
