@@ -1,6 +1,6 @@
 -- A grant as far as one pair goes: what the job's fields are after the pair was begun and the machine ran.
-use Rattle.std.proofs.Common.{◌≡◌, ℕ, suc, ◌+◌, ◌-◌, ◌^◌, ◌<◌, ◌≤◌, List, ◌++◌, length, take, sum, refl, sym, ap, ◌∙◌, subst, arith, Option, Some, None, Result, Ok, Err}
-use Rattle.std.specs.Prelude.{IsErr}
+use Rattle.std.proofs.Common.{◌≡◌, ℕ, ◌+◌, ◌-◌, ◌^◌, ◌<◌, ◌≤◌, Bool, true, false, List, length, sum, ap, ◌∙◌, subst, arith, Option, Some, None, Result, Ok, Err}
+use Rattle.std.specs.Prelude.{IsErr, IsOk, is_err, OnOk}
 use Rattle.imkl_population.specs.Population.{Population}
 use Rattle.rule_code.specs.Content.{Content}
 use Rattle.rule_cost.specs.Admission.{Admission}
@@ -9,16 +9,16 @@ use Rattle.rule_machine.specs.declared.verdict.Verdict.{Verdict}
 use Rattle.rule_machine.specs.declared.progress.Progress.{Progress}
 use Rattle.rule_machine.specs.declared.progress.Progress.TheVariants.{Paused, Done}
 use Rattle.rule_machine.specs.Verdict.{outcome}
-use Rattle.rule_machine.specs.Charges.{charge_of}
 use Rattle.rule_machine.specs.Seen.{Seen}
 use Rattle.rule_machine.specs.Contract.{SameTask, Ran, IsCount}
 use Rattle.rule_machine.proofs.ForAbove.{charged}
-use Rattle.rule_report.specs.Cursor.{CursorSeen, told_pairs, IsToldMore, room_of}
+use Rattle.rule_report.specs.Cursor.{CursorSeen, told_pairs, IsToldMore}
 use Rattle.rule_desk.specs.Seen.{JobSeen, job_seen}
 use Rattle.rule_desk.specs.Job.{IsWhole, charges_of, costs_of, greatest_total, total_cost, spent_after}
+use Rattle.rule_desk.specs.Calls.{SameJob}
 use Rattle.rule_desk.specs.Stands.{IsReady, IsAtPair, Stands, Advanced}
-use Rattle.rule_desk.proofs.Costs.{sum_next, sum_within, total_within, bound_small}
-use Rattle.rule_desk.proofs.Jobs.{IsInPair, Came, RanOn, due_in, spent_whole, ran_on, used_at_most, stands_on, paid_on, stands_done, counted, pair_within}
+use Rattle.rule_desk.proofs.Costs.{sum_next, sum_within, paid_all, total_within, bound_small}
+use Rattle.rule_desk.proofs.Jobs.{Came, RanOn, ran_on, used_at_most, stands_on, paid_on, stands_done, counted, pair_within}
 
 -- the same of a unit and a population that are named
 ran_of : (u : Content) (p : Population) (mid new : Seen) (c : CursorSeen) (work g : ℕ) (result : Result Progress OutOfMemory) → mid.unit ≡ u → mid.population ≡ p
@@ -31,14 +31,41 @@ pub advanced_err : {E : Type 0} (old new : JobSeen) (n : ℕ) (r : Result (Optio
 advanced_err old new n (Ok x) e from below within whole = let bad = e in cc
 advanced_err old new n (Err x) e from below within whole = (from, below, within, whole)
 
+-- what a grant has left at a pair's end
+pub advanced_left : {E : Type 0} (old new : JobSeen) (n left : ℕ) (r : Result (Option ℕ) E) → r ≡ Ok (Some left) → Advanced old n r new
+    → (left < n) × (new.spent + left ≡ old.spent + n) × (new.spent ≤ total_cost old) × IsWhole new
+advanced_left old new n left r e moved = subst (λ x. Advanced old n x new) e moved
+
+cost_of_same : (j i : JobSeen) → SameJob j i → total_cost i ≡ total_cost j
+cost_of_same j i same =
+    ap (λ a. total_cost (job_seen a i.population 0)) same.admission ∙ ap (λ p. total_cost (job_seen j.admission p 0)) same.population
+
+-- a job that is over after a grant
+pub over_is : (j k i : JobSeen) (n rest : ℕ) → SameJob j k → SameJob k i → total_cost i ≤ i.spent → i.spent ≤ total_cost i → i.spent + rest ≡ j.spent + n
+    → (i.spent ≡ spent_after j n) × (total_cost j ≤ j.spent + n)
+over_is j k i n rest first second over within sum =
+    let cost : total_cost i ≡ total_cost j = cost_of_same k i second ∙ cost_of_same j k first in
+    let paid = paid_all j.admission.linked.unit j.population (j.spent + n) (omega (arith, cost, over, sum)) in
+    (omega (arith, paid, cost, over, within), omega (arith, cost, over, sum))
+
+-- a call that isn't an error told what it says on success
+pub is_told : {A E : Type 0} (r : Result A E) (X : Type 0) → is_err r ≡ false → OnOk r X → X
+is_told (Ok x) X e h = h
+is_told (Err x) X e h = let bad = e in cc
+
+-- nor is one that succeeded an error
+pub not_refused : {A E : Type 0} (r : Result A E) → IsOk r → is_err r ≡ true → ⊥
+not_refused (Ok x) h e = let bad = e in cc
+not_refused (Err x) h e = let bad = h in cc
+
 module _
-  (a : Admission) (p : Population) (c : CursorSeen) (m mid new : Seen) (begun : Bool) (lines after : List ℕ) (capacity room spent g : ℕ) (result : Result Progress OutOfMemory)
-  (s : Stands a p c m begun lines capacity spent)
-  (begins : SameTask m mid)
-  (same : SameTask mid new)
-  (kept : after ≡ lines)
-  (ready_by : (work : ℕ) → IsAtPair begun m c work (length lines) capacity → IsReady mid c work (length after) room)
-  (ran : Ran mid g result new) where
+    (a : Admission) (p : Population) (c : CursorSeen) (m mid new : Seen) (begun : Bool) (lines after : List ℕ) (capacity room spent g : ℕ) (result : Result Progress OutOfMemory)
+    (s : Stands a p c m begun lines capacity spent)
+    (begins : SameTask m mid)
+    (same : SameTask mid new)
+    (kept : after ≡ lines)
+    (ready_by : (work : ℕ) → IsAtPair begun m c work (length lines) capacity → IsReady mid c work (length after) room)
+    (ran : Ran mid g result new) where
   mid_unit : mid.unit ≡ a.linked.unit
   mid_unit = begins.unit ∙ s.machine_code
 
@@ -51,11 +78,11 @@ module _
   new_population : new.population ≡ p
   new_population = same.population ∙ mid_population
 
-  ready : IsReady mid c s.work (length after) room
+  pub ready : IsReady mid c s.work (length after) room
   ready = ready_by s.work s.at_pair
 
   -- the run, and what it used of the grant
-  went : RanOn a.linked.unit p new c s.work g result
+  pub went : RanOn a.linked.unit p new c s.work g result
   went = ran_of a.linked.unit p mid new c s.work g result mid_unit mid_population (ran_on mid new c s.work (length after) room g result ready ran)
 
   -- the machine's count rose by that
@@ -99,7 +126,7 @@ module _
   pub paused_pays : result ≡ Ok Paused → (spent + went.used ≡ greatest_total (charges_of a.linked.unit p) (spent + g)) × (spent + g < sum (costs_of a.linked.unit p))
   paused_pays r =
       let came = subst (λ x. Came g went.used went.run.at x) r went.came in
-      paid_on a p c m begun lines capacity spent s new went.used g a.linked.unit p went.run new_unit new_population came.2 came.0 came.1
+      paid_on a p c m begun lines capacity spent s new g went.used a.linked.unit p went.run new_unit new_population came.2 came.0 came.1
 
   -- the pair's verdict is told
   pub next_stands : (v : Verdict) (d : CursorSeen) (told : List ℕ) (rest : ℕ) → result ≡ Ok (Done v) → IsToldMore c v after d told → (0 < went.used) × Stands a p d new false told rest (spent + went.used)

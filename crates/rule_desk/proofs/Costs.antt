@@ -1,7 +1,6 @@
 -- How far a job is once some of it is paid, and what it costs.
-use Rattle.std.proofs.Common.{◌≡◌, ℕ, zero, suc, ◌+◌, ◌-◌, ◌*◌, ◌^◌, ◌<◌, ◌≤◌, Bool, true, false, List, [], ◌∷◌, ◌++◌, length, map, take, get_or, sum, All, refl, sym, ap, ◌∙◌, subst, arith, inl, inr, if◌then◌else◌, Option, Some, None}
-use Rattle.std.specs.Prelude.{nat_le, unwrap_or, slice_get}
-use Rattle.std.specs.List.{sum_by}
+use Rattle.std.proofs.Common.{◌≡◌, ℕ, zero, suc, ◌+◌, ◌-◌, ◌*◌, ◌^◌, ◌<◌, ◌≤◌, List, [], ◌∷◌, ◌++◌, length, map, take, get_or, sum, All, refl, sym, ap, ◌∙◌, subst, arith, inl, inr, if◌then◌else◌, Option, Some, None}
+use Rattle.std.specs.Prelude.{unwrap_or, slice_get}
 use Rattle.std.proofs.lemmas.Bool.Decides.{leb_tells}
 use Rattle.std.proofs.lemmas.List.{length-map, map-append, get_or-map, take_all}
 use Rattle.std.proofs.lemmas.List.Elements.{All-append}
@@ -21,9 +20,9 @@ use Rattle.rule_machine.specs.Verdict.{outcome}
 use Rattle.rule_machine.specs.Laws.{IsAcceptedRun, tree_of_rule, rule_bound}
 use Rattle.rule_machine.proofs.ForAbove.{charged}
 use Rattle.rule_report.specs.Report.{instances_of, context_objects}
-use Rattle.rule_report.specs.Cursor.{pairs_below, all_pairs}
+use Rattle.rule_report.specs.Cursor.{pairs_of_rules, all_pairs}
 use Rattle.rule_report.proofs.ForAbove.{few_instances}
-use Rattle.rule_desk.specs.Job.{IsRunnable, pair_charges, charges_of, pair_cost, costs_of, paid_for, greatest_total, bounds_below}
+use Rattle.rule_desk.specs.Job.{IsRunnable, pair_charges, charges_of, pair_cost, costs_of, paid_for, greatest_total, bounds_of_rules}
 use Rattle.rule_desk.proofs.Totals.{sum_first, sum_of_groups, total_in_group, total_all}
 use Rattle.rule_desk.proofs.Runs.{is_open, paid_in_run, none_at_start, cost_some}
 
@@ -74,10 +73,10 @@ rule_runs u p r can within os all = λ k d l.
     subst (λ (q : ℕ × ℕ). IsAcceptedRun u p q.0 q.1) (sym (get_or-map (λ o. (r, o)) os k 0 d there))
     (record { model = can.model; population = can.population; unit = can.unit; accepted = can.accepted; rule = within; object = all k 0 there })
 
-runs_below : (u : Content) (p : Population) (n : ℕ) → IsRunnable u p → n ≤ length u.rules → RunsAll u p (pairs_below u p n)
+runs_below : (u : Content) (p : Population) (n : ℕ) → IsRunnable u p → n ≤ length u.rules → RunsAll u p (pairs_of_rules u p n)
 runs_below u p zero can l = λ k d h. absurd (omega (arith, h))
 runs_below u p (suc r) can l =
-    All-append (λ (q : ℕ × ℕ). IsAcceptedRun u p q.0 q.1) (pairs_below u p r) (map (λ o. (r, o)) (context_objects u p r))
+    All-append (λ (q : ℕ × ℕ). IsAcceptedRun u p q.0 q.1) (pairs_of_rules u p r) (map (λ o. (r, o)) (context_objects u p r))
     (runs_below u p r can (omega (arith, l)))
     (rule_runs u p r can (omega (arith, l)) (context_objects u p r) (instances_are p (context_class p.model u (unit_rule u r))))
 
@@ -149,21 +148,21 @@ rule_costs u p r (o ∷ os) all =
     let rest = rule_costs u p r os (λ k d l. all (suc k) d (omega (arith, l))) in
     omega (arith, rest, first, times, (cost_some u p r o (all 0 (0, 0) (omega arith))).1)
 
-costs_below : (u : Content) (p : Population) (n : ℕ) → IsRunnable u p → n ≤ length u.rules → sum (map (pair_cost u p) (pairs_below u p n)) ≤ bounds_below u p n
+costs_below : (u : Content) (p : Population) (n : ℕ) → IsRunnable u p → n ≤ length u.rules → sum (map (pair_cost u p) (pairs_of_rules u p n)) ≤ bounds_of_rules u p n
 costs_below u p zero can l = omega arith
 costs_below u p (suc r) can l =
     let os : List ℕ = context_objects u p r in
     let here : List (ℕ × ℕ) = map (λ o. (r, o)) os in
-    let both : sum (map (pair_cost u p) (pairs_below u p r ++ here)) ≡ sum (map (pair_cost u p) (pairs_below u p r)) + sum (map (pair_cost u p) here) =
-    ap sum (map-append (pair_cost u p) (pairs_below u p r) here) ∙ sum_by-append (λ x. x) (map (pair_cost u p) (pairs_below u p r)) (map (pair_cost u p) here) in
+    let both : sum (map (pair_cost u p) (pairs_of_rules u p r ++ here)) ≡ sum (map (pair_cost u p) (pairs_of_rules u p r)) + sum (map (pair_cost u p) here) =
+    ap sum (map-append (pair_cost u p) (pairs_of_rules u p r) here) ∙ sum_by-append (λ x. x) (map (pair_cost u p) (pairs_of_rules u p r)) (map (pair_cost u p) here) in
     let runs = rule_runs u p r can (omega (arith, l)) os (instances_are p (context_class p.model u (unit_rule u r))) in
     omega (arith, costs_below u p r can (omega (arith, l)), rule_costs u p r os runs, both)
 
-pub total_within : (u : Content) (p : Population) → IsRunnable u p → sum (costs_of u p) ≤ bounds_below u p (length u.rules)
+pub total_within : (u : Content) (p : Population) → IsRunnable u p → sum (costs_of u p) ≤ bounds_of_rules u p (length u.rules)
 total_within u p can = costs_below u p (length u.rules) can (omega arith)
 
 -- no bound is large
-pub bounds_small : (u : Content) (p : Population) (n : ℕ) → IsConsistent p → ((r : ℕ) → r < length u.rules → rule_bound u p r < 2 ^ 63) → n ≤ length u.rules → bounds_below u p n ≤ n * (2 ^ 63 * 1000000)
+pub bounds_small : (u : Content) (p : Population) (n : ℕ) → IsConsistent p → ((r : ℕ) → r < length u.rules → rule_bound u p r < 2 ^ 63) → n ≤ length u.rules → bounds_of_rules u p n ≤ n * (2 ^ 63 * 1000000)
 bounds_small u p zero consistent small l = omega arith
 bounds_small u p (suc r) consistent small l =
     let one = mul-le (rule_bound u p r) (length (context_objects u p r)) (2 ^ 63) 1000000 (le_of_lt (small r (omega (arith, l)))) (few_instances p (context_class p.model u (unit_rule u r)) consistent) in
@@ -175,7 +174,7 @@ pub short_runs : (a : Admission) (p : Population) (r : ℕ) → IsAdmission a �
 short_runs a p r admission fits within =
     subst (λ z. rule_step_bound a.linked.unit z r < 2 ^ 63) (sym fits.1) (admission.below_limit r within)
 
-pub bound_small : (a : Admission) (p : Population) → IsAdmission a → Fits a p → IsRunnable a.linked.unit p → bounds_below a.linked.unit p (length a.linked.unit.rules) < 2 ^ 128
+pub bound_small : (a : Admission) (p : Population) → IsAdmission a → Fits a p → IsRunnable a.linked.unit p → bounds_of_rules a.linked.unit p (length a.linked.unit.rules) < 2 ^ 128
 bound_small a p admission fits can =
     let all = bounds_small a.linked.unit p (length a.linked.unit.rules) can.population (λ r l. short_runs a p r admission fits l) (omega arith) in
     omega (arith, all, can.unit.rule_count)

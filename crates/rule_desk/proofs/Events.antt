@@ -1,10 +1,8 @@
 -- Each call of a desk is an event of its world.
-use Rattle.std.proofs.Common.{◌≡◌, ℕ, ◌+◌, ◌<◌, ◌≤◌, min, Bool, true, false, leb, List, [], ◌∷◌, ◌++◌, length, Option, Some, None, Result, Ok, Err, refl, sym, ap, ◌∙◌, subst, arith, inl, inr, set, get_or-set_same, if◌then◌else◌}
+use Rattle.std.proofs.Common.{◌≡◌, ℕ, ◌+◌, ◌<◌, ◌≤◌, Bool, true, false, leb, length, Option, Some, None, Result, Ok, Err, refl, sym, ap, ◌∙◌, subst, arith, inl, inr, set, get_or-set_same, if◌then◌else◌}
 use Rattle.std.proofs.lemmas.Bool.{cases_lt}
 use Rattle.std.proofs.lemmas.Bool.Decides.{leb_tells}
 use Rattle.std.proofs.lemmas.List.{set_past, get_or_past}
-use Rattle.imkl_population.specs.Population.{Population}
-use Rattle.rule_cost.specs.Admission.{Admission}
 use Rattle.rule_desk.specs.declared.job.JobReply.{JobReply}
 use Rattle.rule_desk.specs.declared.job.JobReply.TheVariants.{Paused, Over}
 use Rattle.rule_desk.specs.declared.fault.DeskFault.{DeskFault}
@@ -12,12 +10,12 @@ use Rattle.rule_desk.specs.declared.fault.DeskFault.TheVariants.{NoSuchJob, JobO
 use Rattle.rule_desk.specs.Seen.{JobSeen, job_seen}
 use Rattle.rule_desk.specs.Job.{IsWhole, total_cost, spent_after}
 use Rattle.rule_desk.proofs.Costs.{paid_all}
-use Rattle.rule_desk.specs.World.{Own, Event, Answer, Jobs, job_at, next, answer, goes, says, MayLeave}
+use Rattle.rule_desk.specs.World.{Own, Jobs, job_at, goes, says, MayLeave}
 use Rattle.rule_desk.specs.World.Own.{Given, GivenRefused, Left}
-use Rattle.rule_desk.specs.World.Event.{Entered, EnteredRefused, To}
-use Rattle.rule_desk.specs.World.Answer.{Number, PausedAt, OverAt, NoJob, WasOver}
-use Rattle.rule_desk.specs.Calls.{IsEntered, SameJob, IsGrantedAt, IsGranted, IsTaken, IsWithdrawn}
-use Rattle.rule_desk.specs.Events.{fault_answer, enter_answer, spent_of, grant_answer, withdraw_answer, IsEvent, IsGive, IsEntry, EntersAreEvents, GrantsAreEvents, WithdrawalsAreEvents}
+use Rattle.rule_desk.specs.World.Event.{Entered, EnteredRefused}
+use Rattle.rule_desk.specs.World.DeskAnswer.{Number, PausedAt, OverAt, WasOver}
+use Rattle.rule_desk.specs.Calls.{SameJob, IsGrantedAt, IsGivenUp}
+use Rattle.rule_desk.specs.Events.{grant_answer, withdraw_answer, IsGive, EntersAreEvents, GrantsAreEvents, WithdrawalsAreEvents}
 
 pub enters : EntersAreEvents
 enters old new a p (Ok k) admission fits h = (Entered a p, (refl, refl), record { may_come = (admission, fits); moves = h.1; answered = ap Number h.0 })
@@ -84,7 +82,7 @@ grants old new k n r h =
     let there : job_at new k ≡ h.0 = ap (λ x. job_at x k) h.1 ∙ put_there old k n h.0 r h.2 in
     (g.0, g.1, record { may_come = g.2; moves = h.1 ∙ ap (set old k) g.3; answered = ap (grant_answer r) there ∙ g.4 })
 
-taken : (q : Option JobSeen) (r : Result (Unit {0}) DeskFault) → IsTaken q r → (None ≡ goes Left q) × (withdraw_answer r ≡ says Left q) × MayLeave Left q
+taken : (q : Option JobSeen) (r : Result (Unit {0}) DeskFault) → IsGivenUp q r → (None ≡ goes Left q) × (withdraw_answer r ≡ says Left q) × MayLeave Left q
 taken None r h = (refl, ap withdraw_answer h, tt)
 taken (Some j) r h = (refl, ap withdraw_answer h, tt)
 

@@ -1,7 +1,7 @@
 -- How the fields of a job stand to what is seen of it, and how they move.
-use Rattle.std.proofs.Common.{◌≡◌, ℕ, zero, suc, ◌+◌, ◌-◌, ◌*◌, ◌^◌, ◌<◌, ◌≤◌, min, Bool, true, false, List, [], ◌∷◌, ◌++◌, length, take, get_or, sum, refl, sym, ap, ◌∙◌, subst, arith, inl, inr, Option, Some, None, Result, Ok, Err}
+use Rattle.std.proofs.Common.{◌≡◌, ℕ, zero, suc, ◌+◌, ◌-◌, ◌<◌, ◌≤◌, Bool, true, false, List, [], ◌++◌, length, take, get_or, sum, refl, sym, ap, ◌∙◌, subst, arith, inl, inr, Option, Some, None, Result, Ok, Err}
 use Rattle.std.specs.Prelude.{slice_get, IsSome, is_none, ◌↔◌}
-use Rattle.std.proofs.lemmas.Option.{slice_get_within, slice_get-get_or, slice_get_past}
+use Rattle.std.proofs.lemmas.Option.{slice_get_within, slice_get-get_or}
 use Rattle.std.proofs.lemmas.Bool.{cases_lt}
 use Rattle.imkl_population.specs.Population.{Population}
 use Rattle.rule_code.specs.Content.{Content}
@@ -15,16 +15,15 @@ use Rattle.rule_machine.specs.Charges.{charge_of, work_of}
 use Rattle.rule_machine.specs.Verdict.{outcome}
 use Rattle.rule_machine.specs.Laws.{tree_of_rule, rule_bound, verdict_at}
 use Rattle.rule_machine.specs.Seen.{Seen, Represents}
-use Rattle.rule_machine.specs.Contract.{SameTask, Ran, IsPaused, IsDone, IsRefused, IsCount, Further}
+use Rattle.rule_machine.specs.Contract.{Ran, IsCount, Further}
 use Rattle.rule_machine.proofs.ForAbove.{charged, work_more, steps_within, verdict_found}
 use Rattle.rule_report.specs.Report.{Verdicts}
 use Rattle.rule_report.specs.Cursor.{CursorSeen, told_pairs, all_pairs, due, verdict_due, IsToldBy, IsToldMore, part_of, report_until, room_of}
 use Rattle.rule_report.proofs.ForAbove.{until_next, until_first}
-use Rattle.rule_desk.specs.Seen.{JobSeen, job_seen}
-use Rattle.rule_desk.specs.Job.{IsRunnable, charges_of, pair_cost, costs_of, greatest_total, lines_at, total_cost}
+use Rattle.rule_desk.specs.Job.{IsRunnable, charges_of, pair_cost, costs_of, greatest_total, lines_at, bounds_of_rules}
 use Rattle.rule_desk.specs.Stands.{IsReady, IsAtPair, Stands}
 use Rattle.rule_desk.proofs.Runs.{cost_is, is_open}
-use Rattle.rule_desk.proofs.Costs.{paid_is, sum_next, sum_within, sum_whole, as_many_costs, costs_some, cost_at, paid_all, paid_in_pair, paid_before_pair, short_runs}
+use Rattle.rule_desk.proofs.Costs.{paid_is, sum_next, sum_within, sum_whole, as_many_costs, costs_some, cost_at, paid_all, paid_in_pair, paid_before_pair, total_within, short_runs}
 
 -- ---- an open run of a pair
 
@@ -125,6 +124,10 @@ module _ (a : Admission) (p : Population) (c : CursorSeen) (m : Seen) (begun : B
   -- what is spent is the total of whole steps
   pub spent_whole : greatest_total (charges_of a.linked.unit p) spent ≡ spent
   spent_whole = whole_at begun s.at_pair
+
+  -- nor ever above the bound
+  pub spent_bounded : spent ≤ bounds_of_rules a.linked.unit p (length a.linked.unit.rules)
+  spent_bounded = omega (arith, spent_within, total_within a.linked.unit p s.runnable)
 
 -- ---- a new job
 
@@ -263,6 +266,7 @@ module _ (a : Admission) (p : Population) (c : CursorSeen) (m : Seen) (begun : B
     where
       by_open : outcome t.at ≡ None → get_or (costs_of a.linked.unit p) (told_pairs c) 0 ≡ pair_cost a.linked.unit p (t.rule, t.object) → s.work + used ≤ get_or (costs_of a.linked.unit p) (told_pairs c) 0
       by_open none cost = omega (arith, (is_under a.linked.unit p new t.rule t.object (s.work + used) t.at eu ep t.stands none).below, cost)
+
       by_result : (r : Result Progress OutOfMemory) → Came g used t.at r → get_or (costs_of a.linked.unit p) (told_pairs c) 0 ≡ pair_cost a.linked.unit p (t.rule, t.object)
           → s.work + used ≤ get_or (costs_of a.linked.unit p) (told_pairs c) 0
       by_result (Ok Paused) h cost = by_open h.2 cost

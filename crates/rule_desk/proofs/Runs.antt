@@ -1,5 +1,5 @@
 -- What a pair costs is what its run is charged up to its verdict.
-use Rattle.std.proofs.Common.{◌≡◌, ℕ, zero, suc, ◌+◌, ◌-◌, ◌<◌, ◌≤◌, Bool, true, false, List, [], ◌∷◌, ◌++◌, sum, Option, Some, None, refl, sym, ap, ◌∙◌, subst, arith, if◌then◌else◌}
+use Rattle.std.proofs.Common.{◌≡◌, ℕ, zero, suc, ◌+◌, ◌-◌, ◌<◌, ◌≤◌, List, [], ◌∷◌, ◌++◌, sum, Option, Some, None, refl, sym, ap, ◌∙◌, arith, if◌then◌else◌}
 use Rattle.std.specs.Prelude.{is_some, IsSome, unwrap_or, option_and_then}
 use Rattle.std.specs.Option.{option_map}
 use Rattle.imkl_population.specs.Population.{Population}
@@ -11,7 +11,7 @@ use Rattle.rule_machine.specs.Charges.{charge_of, work_of}
 use Rattle.rule_machine.specs.Verdict.{outcome, final_verdict}
 use Rattle.rule_machine.specs.Laws.{IsAcceptedRun, tree_of_rule, rule_bound}
 use Rattle.rule_machine.proofs.ForAbove.{charged, work_first, work_more, steps_within, ends_within}
-use Rattle.rule_desk.specs.Job.{charges_within, pair_charges, pair_cost, greatest_total}
+use Rattle.rule_desk.specs.Job.{charges_within, pair_cost, greatest_total}
 use Rattle.rule_desk.proofs.Totals.{sum_first, total_none, total_first}
 
 -- ---- runs

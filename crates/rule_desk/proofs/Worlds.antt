@@ -1,20 +1,17 @@
 -- The laws of the desk's world.
-use Rattle.std.proofs.Common.{◌≡◌, ℕ, zero, suc, ◌+◌, ◌<◌, ◌≤◌, min, Bool, true, false, List, [], ◌∷◌, ◌++◌, length, map, sum, Option, Some, None, refl, sym, ap, ◌∙◌, subst, arith, length-append, set, get_or-set_same, get_or-set_other, inl, inr, if◌then◌else◌}
+use Rattle.std.proofs.Common.{◌≡◌, ℕ, zero, suc, ◌+◌, ◌<◌, ◌≤◌, Bool, List, [], ◌∷◌, ◌++◌, length, Option, Some, None, refl, sym, ap, ◌∙◌, subst, arith, length-append, set, get_or-set_same, get_or-set_other, inl, inr, if◌then◌else◌}
 use Rattle.std.proofs.lemmas.Bool.Decides.{eqb_tells}
 use Rattle.std.proofs.lemmas.List.{length-set}
-use Rattle.std.proofs.lemmas.List.Sums.{sum_by-cons}
 use Rattle.std.proofs.Math.ListN.{get_or-append}
 use Rattle.std.proofs.Math.Seq.{get_or-append_seam}
-use Rattle.imkl_population.specs.Population.{Population}
-use Rattle.rule_cost.specs.Admission.{Admission}
 use Rattle.rule_desk.specs.Seen.{JobSeen, job_seen}
 use Rattle.rule_desk.specs.Job.{charges_of, total_cost, spent_after}
 use Rattle.rule_desk.proofs.Totals.{total_at_most}
 use Rattle.rule_desk.proofs.Costs.{charges_are_costs}
-use Rattle.rule_desk.specs.World.{Own, Event, Answer, Jobs, job_at, next, after, answers_to, own, goes, says, goes_on, says_on, MayLeave, entries}
+use Rattle.rule_desk.specs.World.{Own, Event, Jobs, job_at, next, after, answers_to, own, goes, says, goes_on, says_on, MayLeave, entries}
 use Rattle.rule_desk.specs.World.Own.{Given, GivenRefused, Left}
 use Rattle.rule_desk.specs.World.Event.{Entered, EnteredRefused, To}
-use Rattle.rule_desk.specs.Laws.{EachJobAlone, NeverPastItsCost, IsWithin, EachJobFromItsEntry, NumbersInOrder}
+use Rattle.rule_desk.specs.Laws.{EachJobAlone, NeverPastItsCost, IsWithinCost, EachJobFromItsEntry, NumbersInOrder}
 
 -- the job of that number goes on
 same_job : (d : Jobs) (i k : ℕ) (o : Own) → i ≡ k → k < length d → job_at (set d i (goes o (job_at d i))) k ≡ goes o (job_at d k)
@@ -42,20 +39,20 @@ each_alone (To i o ∷ es) d k lt =
           subst P (sym t.0) (h.0 ∙ ap (goes_on (own k es)) e, h.1 ∙ ap (says_on (own k es)) e)
     ]
 
-within_append : (d : Jobs) (q : Option JobSeen) → ((k : ℕ) → IsWithin (job_at d k)) → IsWithin q → (k : ℕ) → IsWithin (job_at (d ++ q ∷ []) k)
+within_append : (d : Jobs) (q : Option JobSeen) → ((k : ℕ) → IsWithinCost (job_at d k)) → IsWithinCost q → (k : ℕ) → IsWithinCost (job_at (d ++ q ∷ []) k)
 within_append [] q f w zero = w
 within_append [] q f w (suc k) = tt
 within_append (p ∷ d) q f w zero = f 0
 within_append (p ∷ d) q f w (suc k) = within_append d q (λ i. f (suc i)) w k
 
-within_set : (d : Jobs) (i : ℕ) (q : Option JobSeen) → ((k : ℕ) → IsWithin (job_at d k)) → IsWithin q → (k : ℕ) → IsWithin (job_at (set d i q) k)
+within_set : (d : Jobs) (i : ℕ) (q : Option JobSeen) → ((k : ℕ) → IsWithinCost (job_at d k)) → IsWithinCost q → (k : ℕ) → IsWithinCost (job_at (set d i q) k)
 within_set [] i q f w k = tt
 within_set (p ∷ d) zero q f w zero = w
 within_set (p ∷ d) zero q f w (suc k) = f (suc k)
 within_set (p ∷ d) (suc i) q f w zero = f 0
 within_set (p ∷ d) (suc i) q f w (suc k) = within_set d i q (λ j. f (suc j)) w k
 
-within_goes : (o : Own) (q : Option JobSeen) → MayLeave o q → IsWithin q → IsWithin (goes o q)
+within_goes : (o : Own) (q : Option JobSeen) → MayLeave o q → IsWithinCost q → IsWithinCost (goes o q)
 within_goes (Given n) None f w = tt
 within_goes (GivenRefused n l) None f w = tt
 within_goes Left None f w = tt

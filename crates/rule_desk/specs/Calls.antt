@@ -43,13 +43,13 @@ IsGrantedAt (Some j) n r (Some i) = SameJob j i × IsJobGranted j n r i
 abbrev pub IsGranted : Jobs → ℕ → ℕ → Result JobReply DeskFault → Jobs → Type 0
 IsGranted old k n r new = (q : Option JobSeen) × (new ≡ slice_set old k q) × IsGrantedAt (job_at old k) n r q
 
-abbrev pub IsTaken : Option JobSeen → Result (Unit {0}) DeskFault → Type 0
-IsTaken None r = r ≡ Err NoSuchJob
-IsTaken (Some j) r = r ≡ Ok tt
+abbrev pub IsGivenUp : Option JobSeen → Result (Unit {0}) DeskFault → Type 0
+IsGivenUp None r = r ≡ Err NoSuchJob
+IsGivenUp (Some j) r = r ≡ Ok tt
 
 -- the job of that number is gone, and the others stay
 abbrev pub IsWithdrawn : Jobs → ℕ → Result (Unit {0}) DeskFault → Jobs → Type 0
-IsWithdrawn old k r new = (new ≡ slice_set old k None) × IsTaken (job_at old k) r
+IsWithdrawn old k r new = (new ≡ slice_set old k None) × IsGivenUp (job_at old k) r
 
 -- a number that is read of a job, if it is there
 abbrev pub IsRead : (JobSeen → ℕ) → Option JobSeen → Result ℕ DeskFault → Type 0

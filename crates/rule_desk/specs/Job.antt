@@ -79,9 +79,9 @@ abbrev pub IsWhole : JobSeen → Type 0
 IsWhole j = greatest_total (charges_of j.admission.linked.unit j.population) j.spent ≡ j.spent
 
 -- the bounds of the first n rules, each taken for all objects of its context class
-abbrev pub bounds_below : Content → Population → ℕ → ℕ
-bounds_below u p zero = 0
-bounds_below u p (suc r) = bounds_below u p r + rule_bound u p r * length (context_objects u p r)
+abbrev pub bounds_of_rules : Content → Population → ℕ → ℕ
+bounds_of_rules u p zero = 0
+bounds_of_rules u p (suc r) = bounds_of_rules u p r + rule_bound u p r * length (context_objects u p r)
 
-abbrev pub bound_of : JobSeen → ℕ
-bound_of j = bounds_below j.admission.linked.unit j.population (length j.admission.linked.unit.rules)
+abbrev pub job_bound : JobSeen → ℕ
+job_bound j = bounds_of_rules j.admission.linked.unit j.population (length j.admission.linked.unit.rules)

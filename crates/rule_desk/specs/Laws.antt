@@ -1,13 +1,11 @@
 -- What holds of every world of a desk.
-use Rattle.std.specs.Prelude.{◌≡◌, ℕ, ◌+◌, ◌<◌, ◌≤◌, nat_le, List, [], ◌∷◌, ◌++◌, length, map, sum, Option, Some, None, if◌then◌else◌}
+use Rattle.std.specs.Prelude.{◌≡◌, ℕ, ◌+◌, ◌<◌, ◌≤◌, List, [], ◌∷◌, ◌++◌, length, Option, Some, None}
 use Rattle.imkl_population.specs.Population.{Population}
 use Rattle.rule_cost.specs.Admission.{Admission}
 use Rattle.rule_desk.specs.Seen.{JobSeen, job_seen}
-use Rattle.rule_desk.specs.Job.{IsRunnable, total_cost, bound_of}
-use Rattle.rule_desk.specs.World.{Own, Event, Jobs, job_at, goes_on, says, says_on, after, answers_to, own, entries, IsWorld}
-use Rattle.rule_desk.specs.World.Own.{Given}
+use Rattle.rule_desk.specs.Job.{IsRunnable, total_cost, job_bound}
+use Rattle.rule_desk.specs.World.{Event, Jobs, job_at, goes_on, says_on, after, answers_to, own, entries, IsWorld}
 use Rattle.rule_desk.specs.World.Event.{Entered}
-use Rattle.rule_desk.specs.World.Answer.{WasOver, OverAt, PausedAt}
 
 -- each job, and the answers to it, are those of its own events alone
 abbrev pub EachJobAlone : Type 0
@@ -25,16 +23,16 @@ EachJobFromItsEntry =
 abbrev pub NumbersInOrder : Type 0
 NumbersInOrder = (es : List Event) (d : Jobs) → length (after es d) ≡ length d + entries es
 
-abbrev pub IsWithin : Option JobSeen → Type 0
-IsWithin None = Unit {0}
-IsWithin (Some j) = j.spent ≤ total_cost j
+abbrev pub IsWithinCost : Option JobSeen → Type 0
+IsWithinCost None = Unit {0}
+IsWithinCost (Some j) = j.spent ≤ total_cost j
 
 -- no job is ever past its cost
 abbrev pub NeverPastItsCost : Type 0
 NeverPastItsCost =
     (es : List Event) (d : Jobs)
-    → IsWorld es d → ((k : ℕ) → IsWithin (job_at d k)) → (k : ℕ) → IsWithin (job_at (after es d) k)
+    → IsWorld es d → ((k : ℕ) → IsWithinCost (job_at d k)) → (k : ℕ) → IsWithinCost (job_at (after es d) k)
 
 -- what a job costs is at most its bound
 abbrev pub CostsWithinBounds : Type 0
-CostsWithinBounds = (j : JobSeen) → IsRunnable j.admission.linked.unit j.population → total_cost j ≤ bound_of j
+CostsWithinBounds = (j : JobSeen) → IsRunnable j.admission.linked.unit j.population → total_cost j ≤ job_bound j

@@ -1,5 +1,5 @@
 -- The world of a desk: a list of events, and what each does to the jobs.
-use Rattle.std.specs.Prelude.{ℕ, ◌+◌, ◌-◌, ◌<◌, ◌≤◌, ◌==◌, nat_le, List, [], ◌∷◌, ◌++◌, length, Option, Some, None, slice_index_or, slice_set, if◌then◌else◌}
+use Rattle.std.specs.Prelude.{ℕ, ◌+◌, ◌<◌, ◌≤◌, ◌==◌, nat_le, List, [], ◌∷◌, ◌++◌, length, Option, Some, None, slice_index_or, slice_set, if◌then◌else◌}
 use Rattle.imkl_population.specs.Population.{Population}
 use Rattle.rule_cost.specs.Admission.{Admission, Fits, IsAdmission}
 use Rattle.rule_desk.specs.Seen.{JobSeen, job_seen}
@@ -18,14 +18,14 @@ pub data Event : Type 0 where
   To : ℕ → Own → Event
 
 -- what is answered
-pub data Answer : Type 0 where
-  Number : ℕ → Answer
-  PausedAt : ℕ → Answer
-  OverAt : ℕ → Answer
-  IsWithdrawn : Answer
-  NoJob : Answer
-  WasOver : Answer
-  NoMemory : Answer
+pub data DeskAnswer : Type 0 where
+  Number : ℕ → DeskAnswer
+  PausedAt : ℕ → DeskAnswer
+  OverAt : ℕ → DeskAnswer
+  IsWithdrawn : DeskAnswer
+  NoJob : DeskAnswer
+  WasOver : DeskAnswer
+  NoMemory : DeskAnswer
 
 -- ---- one job alone
 
@@ -35,7 +35,7 @@ goes (Given n) (Some j) = Some (job_seen j.admission j.population (spent_after j
 goes (GivenRefused n left) (Some j) = Some (job_seen j.admission j.population left)
 goes Left (Some j) = None
 
-abbrev pub says : Own → Option JobSeen → Answer
+abbrev pub says : Own → Option JobSeen → DeskAnswer
 says o None = NoJob
 says (Given n) (Some j) =
     if nat_le (total_cost j) j.spent then WasOver
@@ -55,7 +55,7 @@ abbrev pub goes_on : List Own → Option JobSeen → Option JobSeen
 goes_on [] q = q
 goes_on (o ∷ os) q = goes_on os (goes o q)
 
-abbrev pub says_on : List Own → Option JobSeen → List Answer
+abbrev pub says_on : List Own → Option JobSeen → List DeskAnswer
 says_on [] q = []
 says_on (o ∷ os) q = says o q ∷ says_on os (goes o q)
 
@@ -73,7 +73,7 @@ next (Entered a p) d = d ++ Some (job_seen a p 0) ∷ []
 next (EnteredRefused a p) d = d
 next (To k o) d = slice_set d k (goes o (job_at d k))
 
-abbrev pub answer : Event → Jobs → Answer
+abbrev pub answer : Event → Jobs → DeskAnswer
 answer (Entered a p) d = Number (length d)
 answer (EnteredRefused a p) d = NoMemory
 answer (To k o) d = says o (job_at d k)
@@ -87,7 +87,7 @@ abbrev pub after : List Event → Jobs → Jobs
 after [] d = d
 after (e ∷ es) d = after es (next e d)
 
-abbrev pub answers : List Event → Jobs → List Answer
+abbrev pub answers : List Event → Jobs → List DeskAnswer
 answers [] d = []
 answers (e ∷ es) d = answer e d ∷ answers es (next e d)
 
@@ -104,7 +104,7 @@ own k (Entered a p ∷ es) = own k es
 own k (EnteredRefused a p ∷ es) = own k es
 own k (To i o ∷ es) = if i == k then o ∷ own k es else own k es
 
-abbrev pub answers_to : ℕ → List Event → Jobs → List Answer
+abbrev pub answers_to : ℕ → List Event → Jobs → List DeskAnswer
 answers_to k [] d = []
 answers_to k (Entered a p ∷ es) d = answers_to k es (next (Entered a p) d)
 answers_to k (EnteredRefused a p ∷ es) d = answers_to k es d

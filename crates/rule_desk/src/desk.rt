@@ -2,7 +2,7 @@
 
 ghost use Rattle.std.specs.Prelude.{◌≡◌, [], IfOk, MatchResult};
 ghost use Rattle.rule_cost.specs.Admission.{Fits};
-ghost use Rattle.rule_desk.specs.Job.{lines_now, bound_of};
+ghost use Rattle.rule_desk.specs.Job.{lines_now, job_bound};
 ghost use Rattle.rule_desk.specs.World.{job_at};
 ghost use Rattle.rule_desk.specs.Calls.{IsEntered, IsGranted, IsGrantedAt, IsWithdrawn, IsRead, IsSpentWithin, IsNoJob, HasLines};
 
@@ -164,7 +164,7 @@ impl<'a> Desk<'a> {
     /// The most that a job can cost: the bounds of its rules, each taken for all objects of its context class. What is spent
     /// of it never passes that.
     pub fn bound_of(&self, job: JobNo) -> Result<u128, DeskFault>
-        ensures bound { IsRead bound_of (job_at self.now job) result }
+        ensures bound { IsRead job_bound (job_at self.now job) result }
         ensures within { IfOk result (IsSpentWithin (job_at self.now job)) }
     {
         let index = job.index;

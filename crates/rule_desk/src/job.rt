@@ -7,7 +7,7 @@ ghost use Rattle.rule_machine.specs.Laws.{rule_bound};
 ghost use Rattle.rule_report.specs.Report.{context_objects};
 ghost use Rattle.rule_report.specs.Cursor.{due};
 ghost use Rattle.rule_desk.specs.Seen.{job_seen};
-ghost use Rattle.rule_desk.specs.Job.{IsWhole, total_cost, lines_now, bound_of};
+ghost use Rattle.rule_desk.specs.Job.{IsWhole, total_cost, lines_now, job_bound};
 ghost use Rattle.rule_desk.specs.Calls.{SameJob, Granted};
 ghost use Rattle.rule_desk.specs.Stands.{IsReady, IsAtPair, Advanced};
 
@@ -137,7 +137,7 @@ impl<'a> Job<'a> {
 
     /// The most that it can cost: the bounds of its rules, each taken for all objects of its context class.
     pub(crate) fn bound(&self) -> u128
-        ensures bound { result ≡ bound_of self.now }
+        ensures bound { result ≡ job_bound self.now }
         ensures within { self.now.spent ≤ result }
     {
         let accepted = self.admitted.accepted();

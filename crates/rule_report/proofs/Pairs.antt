@@ -19,45 +19,45 @@ use Rattle.rule_machine.specs.declared.verdict.Verdict.TheVariants.{Holds, Fails
 use Rattle.rule_report.specs.declared.summary.Summary.{Summary}
 use Rattle.rule_report.specs.Report.{Verdicts, context_objects, verdicts_below, all_verdicts, counts_of, name_of, line_of, object_line, rule_line, rule_line_of, total_line, reports_below}
 use Rattle.rule_report.specs.Counting.{all_counted, counted, counts_joined}
-use Rattle.rule_report.specs.Cursor.{pairs_below, all_pairs, part_of, report_until, CursorSeen, cursor_seen, objects_due, told_pairs, due, verdict_due, IsToldBy, IsToldMore, lines_without, next_from, next_rule, total_at, lines_between, ending_of_rule, told_text, greatest_told, room_of, IsPlaced}
+use Rattle.rule_report.specs.Cursor.{pairs_of_rules, all_pairs, part_of, report_until, CursorSeen, cursor_seen, objects_due, told_pairs, due, verdict_due, IsToldBy, IsToldMore, lines_without, next_from, next_rule, total_at, lines_between, ending_of_rule, told_text, greatest_told, room_of, StandsWithin}
 use Rattle.rule_report.proofs.Counts.{plus_one, counts_next, rule_counted, few_instances}
 use Rattle.rule_report.proofs.Reports.{text_more, report_is, counts_are, reports_more}
 use Rattle.rule_report.proofs.Told.{pairs_of_rule, as_many_pairs, reported, until_pair, until_end, until_next, until_first, reports_without, verdicts_without}
 
 -- ---- the pair that is due
 
-pair_stays : (u : Content) (p : Population) (r n i : ℕ) (d : ℕ × ℕ) → r ≤ n → i < length (pairs_below u p r) → (get_or (pairs_below u p n) i d ≡ get_or (pairs_below u p r) i d) × (i < length (pairs_below u p n))
+pair_stays : (u : Content) (p : Population) (r n i : ℕ) (d : ℕ × ℕ) → r ≤ n → i < length (pairs_of_rules u p r) → (get_or (pairs_of_rules u p n) i d ≡ get_or (pairs_of_rules u p r) i d) × (i < length (pairs_of_rules u p n))
 pair_stays u p r zero i d h l =
     let e : r ≡ zero = omega (arith, h) in
-    let P : ℕ → Type 0 = λ k. (get_or (pairs_below u p zero) i d ≡ get_or (pairs_below u p k) i d) × (i < length (pairs_below u p zero)) in
-    subst P (sym e) (refl, subst (λ k. i < length (pairs_below u p k)) e l)
+    let P : ℕ → Type 0 = λ k. (get_or (pairs_of_rules u p zero) i d ≡ get_or (pairs_of_rules u p k) i d) × (i < length (pairs_of_rules u p zero)) in
+    subst P (sym e) (refl, subst (λ k. i < length (pairs_of_rules u p k)) e l)
 pair_stays u p r (suc n) i d h l =
     elim (eq-or-lt_of_le h) [
-      | inl e ↦ (ap (λ k. get_or (pairs_below u p k) i d) (sym e), subst (λ k. i < length (pairs_below u p k)) e l)
+      | inl e ↦ (ap (λ k. get_or (pairs_of_rules u p k) i d) (sym e), subst (λ k. i < length (pairs_of_rules u p k)) e l)
       | inr s ↦
           let below = pair_stays u p r n i d (omega (arith, s)) l in
-          (get_or_append_left (pairs_below u p n) (map (λ o. (n, o)) (context_objects u p n)) d i below.1 ∙ below.0, omega (arith, below.1, pairs_of_rule u p n))
+          (get_or_append_left (pairs_of_rules u p n) (map (λ o. (n, o)) (context_objects u p n)) d i below.1 ∙ below.0, omega (arith, below.1, pairs_of_rule u p n))
     ]
 
 pub due_at : (u : Content) (p : Population) (r k : ℕ) → r < length u.rules → k < length (context_objects u p r)
-    → slice_get (all_pairs u p) (length (pairs_below u p r) + k) ≡ Some (r, get_or (context_objects u p r) k 0)
+    → slice_get (all_pairs u p) (length (pairs_of_rules u p r) + k) ≡ Some (r, get_or (context_objects u p r) k 0)
 due_at u p r k within there =
     let d : ℕ × ℕ = (0, 0) in
-    let i = length (pairs_below u p r) + k in
+    let i = length (pairs_of_rules u p r) + k in
     let os = context_objects u p r in
     let stays = pair_stays u p (suc r) (length u.rules) i d (omega (arith, within)) (omega (arith, there, pairs_of_rule u p r)) in
     slice_get-get_or (all_pairs u p) i d stays.1
-    ∙ ap Some (stays.0 ∙ get_or-append-add (pairs_below u p r) (map (λ o. (r, o)) os) k d ∙ get_or-map (λ o. (r, o)) os k 0 d there)
+    ∙ ap Some (stays.0 ∙ get_or-append-add (pairs_of_rules u p r) (map (λ o. (r, o)) os) k d ∙ get_or-map (λ o. (r, o)) os k 0 d there)
 
-pub due_is : (c : CursorSeen) → IsPlaced c → c.rule < length c.unit.rules → due c ≡ Some (c.rule, get_or (objects_due c) c.at 0)
+pub due_is : (c : CursorSeen) → StandsWithin c → c.rule < length c.unit.rules → due c ≡ Some (c.rule, get_or (objects_due c) c.at 0)
 due_is c placed within = due_at c.unit c.population c.rule c.at within (placed.some within)
 
-pub none_due : (c : CursorSeen) → IsPlaced c → c.rule ≡ length c.unit.rules → due c ≡ None
+pub none_due : (c : CursorSeen) → StandsWithin c → c.rule ≡ length c.unit.rules → due c ≡ None
 none_due c placed end =
     slice_get_past (all_pairs c.unit c.population) (told_pairs c)
-    (omega (arith, placed.none end, ap (λ r. length (pairs_below c.unit c.population r)) end))
+    (omega (arith, placed.none end, ap (λ r. length (pairs_of_rules c.unit c.population r)) end))
 
-pub at_end : (c : CursorSeen) → IsPlaced c → due c ≡ None → c.rule ≡ length c.unit.rules
+pub at_end : (c : CursorSeen) → StandsWithin c → due c ≡ None → c.rule ≡ length c.unit.rules
 at_end c placed none =
     elim (cases_lt c.rule (length c.unit.rules)) [
       | inl l ↦ let bad = due_is c placed l in cc
@@ -68,7 +68,7 @@ some_none : {A : Type 0} (o : Option A) → o ≡ None → IsSome o → ⊥
 some_none None e s = let bad = s in cc
 some_none (Some x) e s = let bad = e in cc
 
-pub is_due : (c : CursorSeen) → IsPlaced c → IsSome (due c) → c.rule < length c.unit.rules
+pub is_due : (c : CursorSeen) → StandsWithin c → IsSome (due c) → c.rule < length c.unit.rules
 is_due c placed some =
     elim (cases_lt c.rule (length c.unit.rules)) [
       | inl l ↦ l
@@ -162,16 +162,16 @@ reports_at_next u p v from next l none =
 
 -- The report up to the next line of an object, or to the end, is the report of the rules before and what stands between.
 pub until_between : (u : Content) (p : Population) (v : Verdicts) (from : ℕ) (s : Summary) → from ≤ length u.rules → s ≡ counts_of (verdicts_below u p v from)
-    → report_until u p v (length (pairs_below u p from)) ≡ reports_below u p v from ++ lines_between u from (next_rule u p from) s
+    → report_until u p v (length (pairs_of_rules u p from)) ≡ reports_below u p v from ++ lines_between u from (next_rule u p from) s
 until_between u p v from s h counted_so =
     let next = next_rule u p from in
     let is = next_is u p from h in
     let text = reports_at_next u p v from next is.above is.none in
-    let many : length (pairs_below u p from) ≡ length (pairs_below u p next) =
+    let many : length (pairs_of_rules u p from) ≡ length (pairs_of_rules u p next) =
     sym (as_many_pairs u p v from) ∙ ap length (sym (pairs_without u p v from next is.above is.none)) ∙ as_many_pairs u p v next in
     elim (cases_lt next (length u.rules)) [
       | inl l ↦
-          let k : length (pairs_below u p from) ≡ length (pairs_below u p next) + 0 = omega (arith, many) in
+          let k : length (pairs_of_rules u p from) ≡ length (pairs_of_rules u p next) + 0 = omega (arith, many) in
           ap (report_until u p v) k ∙ until_pair u p v next 0 l (is.some (omega (arith, l, h)))
           ∙ append-nil (reports_below u p v next) ∙ text
           ∙ ap (λ (x : List ℕ). reports_below u p v from ++ x) (sym (append-nil (lines_without u from (next - from))))
@@ -179,7 +179,7 @@ until_between u p v from s h counted_so =
       | inr g ↦
           let end : next ≡ length u.rules = omega (arith, g, is.within, h) in
           let so : counts_of (all_verdicts u p v) ≡ s = ap (λ n. counts_of (verdicts_below u p v n)) (sym end) ∙ ap counts_of (pairs_without u p v from next is.above is.none) ∙ sym counted_so in
-          ap (report_until u p v) (many ∙ ap (λ n. length (pairs_below u p n)) end) ∙ until_end u p v
+          ap (report_until u p v) (many ∙ ap (λ n. length (pairs_of_rules u p n)) end) ∙ until_end u p v
           ∙ ap (λ (x : Summary). reports_below u p v (length u.rules) ++ total_line x) so
           ∙ ap (λ (n : ℕ). reports_below u p v n ++ total_line s) (sym end)
           ∙ ap (λ (x : List ℕ). x ++ total_line s) text
@@ -194,7 +194,7 @@ first_part u p v = sym (until_between u p v 0 (counts_of []) (omega arith) refl)
 -- ---- one verdict is told
 
 -- what is due by verdicts is the one that is told
-verdict_here : (c : CursorSeen) (v : Verdicts) (w : Verdict) → IsPlaced c → c.rule < length c.unit.rules → verdict_due v (due c) ≡ Some w → v c.rule (get_or (objects_due c) c.at 0) ≡ Some w
+verdict_here : (c : CursorSeen) (v : Verdicts) (w : Verdict) → StandsWithin c → c.rule < length c.unit.rules → verdict_due v (due c) ≡ Some w → v c.rule (get_or (objects_due c) c.at 0) ≡ Some w
 verdict_here c v w placed within is = ap (verdict_due v) (sym (due_is c placed within)) ∙ is
 
 -- bytes that end the report up to the next pair are the next part
@@ -203,7 +203,7 @@ part_from : (u : Content) (p : Population) (v : Verdicts) (n : ℕ) (before text
 part_from u p v n before text there now after =
     append_cancel_left before text (part_of u p v (suc n)) (sym after ∙ until_next u p v n there ∙ ap (λ (x : List ℕ). x ++ part_of u p v (suc n)) now)
 
-due_within : (c : CursorSeen) → IsPlaced c → c.rule < length c.unit.rules → told_pairs c < length (all_pairs c.unit c.population)
+due_within : (c : CursorSeen) → StandsWithin c → c.rule < length c.unit.rules → told_pairs c < length (all_pairs c.unit c.population)
 due_within c placed within =
     let d : ℕ × ℕ = (0, 0) in
     (pair_stays c.unit c.population (suc c.rule) (length c.unit.rules) (told_pairs c) d (omega (arith, within)) (omega (arith, placed.some within, pairs_of_rule c.unit c.population c.rule))).1
@@ -214,17 +214,17 @@ line_told : (c : CursorSeen) (v : Verdicts) (w : Verdict) → v c.rule (get_or (
 line_told c v w is = ap (λ x. line_of x (name_of c.unit c.rule) (object_at c.population (get_or (objects_due c) c.at 0)).id) (sym is)
 
 -- what was reported, and the line of the pair that is due
-line_more : (c : CursorSeen) (v : Verdicts) (w : Verdict) → IsPlaced c → c.rule < length c.unit.rules → v c.rule (get_or (objects_due c) c.at 0) ≡ Some w
+line_more : (c : CursorSeen) (v : Verdicts) (w : Verdict) → StandsWithin c → c.rule < length c.unit.rules → v c.rule (get_or (objects_due c) c.at 0) ≡ Some w
     → reported c.unit c.population v c.rule c.at ++ line_of (Some w) (name_of c.unit c.rule) (object_at c.population (get_or (objects_due c) c.at 0)).id
     ≡ reported c.unit c.population v c.rule (c.at + 1)
 line_more c v w placed within is =
     text_more (object_line c.unit c.population v c.rule) (objects_due c) c.at 0 (reports_below c.unit c.population v c.rule) (reported c.unit c.population v c.rule c.at) _ (placed.some within) refl
     (ap (λ (x : List ℕ). reported c.unit c.population v c.rule c.at ++ x) (line_told c v w is))
 
-told_now : (c : CursorSeen) (v : Verdicts) → IsPlaced c → c.rule < length c.unit.rules → report_until c.unit c.population v (told_pairs c) ≡ reported c.unit c.population v c.rule c.at
+told_now : (c : CursorSeen) (v : Verdicts) → StandsWithin c → c.rule < length c.unit.rules → report_until c.unit c.population v (told_pairs c) ≡ reported c.unit c.population v c.rule c.at
 told_now c v placed within = until_pair c.unit c.population v c.rule c.at within (placed.some within)
 
-counted_now : (c : CursorSeen) (v : Verdicts) (w : Verdict) → IsPlaced c → c.rule < length c.unit.rules → IsToldBy c v → v c.rule (get_or (objects_due c) c.at 0) ≡ Some w
+counted_now : (c : CursorSeen) (v : Verdicts) (w : Verdict) → StandsWithin c → c.rule < length c.unit.rules → IsToldBy c v → v c.rule (get_or (objects_due c) c.at 0) ≡ Some w
     → counted c.here w ≡ counts_of (map (v c.rule) (take (c.at + 1) (objects_due c)))
 counted_now c v w placed within told is = counts_next (v c.rule) (objects_due c) c.at 0 w c.here (placed.some within) is told.here
 
@@ -252,7 +252,7 @@ text_last c w last =
     isnt_less : (m n : ℕ) → n ≤ m → nat_lt m n ≡ false
     isnt_less m n l = elim (leb_tells (suc m) n) [ inl t ↦ absurd (omega (arith, t.1, l)) | inr t ↦ t.0 ]
 
-pub more_here : (c : CursorSeen) (w : Verdict) (bytes : List ℕ) → IsPlaced c → c.rule < length c.unit.rules → c.at + 1 < length (objects_due c)
+pub more_here : (c : CursorSeen) (w : Verdict) (bytes : List ℕ) → StandsWithin c → c.rule < length c.unit.rules → c.at + 1 < length (objects_due c)
     → IsToldMore c w bytes (told_here c w) (bytes ++ told_text c w)
 more_here c w bytes placed within left = record {
   unit = refl;
@@ -261,7 +261,7 @@ more_here c w bytes placed within left = record {
   told = λ v told is. record { here = counted_now c v w placed within told (verdict_here c v w placed within is); before = told.before };
   part = λ v told is.
       let here = verdict_here c v w placed within is in
-      let next : suc (told_pairs c) ≡ length (pairs_below c.unit c.population c.rule) + (c.at + 1) = omega arith in
+      let next : suc (told_pairs c) ≡ length (pairs_of_rules c.unit c.population c.rule) + (c.at + 1) = omega arith in
       ap (λ (x : List ℕ). bytes ++ x)
       (text_here c w left
       ∙ part_from c.unit c.population v (told_pairs c) (reported c.unit c.population v c.rule c.at) _ (due_within c placed within) (told_now c v placed within)
@@ -272,7 +272,7 @@ more_here c w bytes placed within left = record {
 abbrev pub told_last : CursorSeen → Verdict → CursorSeen
 told_last c w = cursor_seen c.unit c.population (next_rule c.unit c.population (c.rule + 1)) 0 (counts_of []) (counts_joined c.before (counted c.here w))
 
-pub more_last : (c : CursorSeen) (w : Verdict) (bytes : List ℕ) → IsPlaced c → c.rule < length c.unit.rules → c.at + 1 ≡ length (objects_due c)
+pub more_last : (c : CursorSeen) (w : Verdict) (bytes : List ℕ) → StandsWithin c → c.rule < length c.unit.rules → c.at + 1 ≡ length (objects_due c)
     → IsToldMore c w bytes (told_last c w) (bytes ++ told_text c w)
 more_last c w bytes placed within last =
     let u = c.unit in
@@ -281,9 +281,9 @@ more_last c w bytes placed within last =
     let one = plus_one c.rule in
     let is = next_is u p from (omega (arith, within)) in
     let total = counts_joined c.before (counted c.here w) in
-    let pairs_from : suc (told_pairs c) ≡ length (pairs_below u p from) = omega (arith, last, pairs_of_rule u p c.rule, ap (λ n. length (pairs_below u p n)) one) in
+    let pairs_from : suc (told_pairs c) ≡ length (pairs_of_rules u p from) = omega (arith, last, pairs_of_rule u p c.rule, ap (λ n. length (pairs_of_rules u p n)) one) in
     let v0 : Verdicts = λ r o. None in
-    let many : length (pairs_below u p from) ≡ length (pairs_below u p (next_rule u p from)) =
+    let many : length (pairs_of_rules u p from) ≡ length (pairs_of_rules u p (next_rule u p from)) =
     sym (as_many_pairs u p v0 from) ∙ ap length (sym (pairs_without u p v0 from (next_rule u p from) is.above is.none)) ∙ as_many_pairs u p v0 (next_rule u p from) in
     record {
       unit = refl;
@@ -329,7 +329,7 @@ counted_one s Undecided = omega arith
 few_due : (c : CursorSeen) → IsConsistent c.population → length (objects_due c) ≤ most_objects
 few_due c consistent = few_instances c.population (context_class c.population.model c.unit (unit_rule c.unit c.rule)) consistent
 
-pub placed_here : (c : CursorSeen) (w : Verdict) → IsPlaced c → c.rule < length c.unit.rules → c.at + 1 < length (objects_due c) → IsPlaced (told_here c w)
+pub placed_here : (c : CursorSeen) (w : Verdict) → StandsWithin c → c.rule < length c.unit.rules → c.at + 1 < length (objects_due c) → StandsWithin (told_here c w)
 placed_here c w placed within left = record {
   within = placed.within;
   some = λ h. left;
@@ -342,7 +342,7 @@ placed_here c w placed within left = record {
 joined_all : (s t : Summary) → all_counted (counts_joined s t) ≡ all_counted s + all_counted t
 joined_all s t = omega arith
 
-pub placed_last : (c : CursorSeen) (w : Verdict) → IsPlaced c → IsConsistent c.population → c.rule < length c.unit.rules → c.at + 1 ≡ length (objects_due c) → IsPlaced (told_last c w)
+pub placed_last : (c : CursorSeen) (w : Verdict) → StandsWithin c → IsConsistent c.population → c.rule < length c.unit.rules → c.at + 1 ≡ length (objects_due c) → StandsWithin (told_last c w)
 placed_last c w placed consistent within last =
     let is = next_is c.unit c.population (c.rule + 1) (omega (arith, within)) in
     let above = mul-le (c.rule + 1) most_objects (next_rule c.unit c.population (c.rule + 1)) most_objects is.above (omega arith) in
@@ -355,7 +355,7 @@ placed_last c w placed consistent within last =
       end_here = λ e. refl;
     }
 
-pub placed_first : (u : Content) (p : Population) → IsPlaced (cursor_seen u p (next_rule u p 0) 0 (counts_of []) (counts_of []))
+pub placed_first : (u : Content) (p : Population) → StandsWithin (cursor_seen u p (next_rule u p 0) 0 (counts_of []) (counts_of []))
 placed_first u p =
     let is = next_is u p 0 (omega arith) in
     record {
@@ -368,16 +368,16 @@ placed_first u p =
     }
 
 -- no count is large
-pub few_here : (c : CursorSeen) → IsPlaced c → IsConsistent c.population → c.rule < length c.unit.rules → all_counted c.here < most_objects
+pub few_here : (c : CursorSeen) → StandsWithin c → IsConsistent c.population → c.rule < length c.unit.rules → all_counted c.here < most_objects
 few_here c placed consistent within = omega (arith, placed.few_here, placed.some within, few_due c consistent)
 
-pub few_joined : (c : CursorSeen) (w : Verdict) → IsPlaced c → IsConsistent c.population → IsUnit c.unit → c.rule < length c.unit.rules → all_counted c.before + all_counted (counted c.here w) < 2 ^ 64
+pub few_joined : (c : CursorSeen) (w : Verdict) → StandsWithin c → IsConsistent c.population → IsUnit c.unit → c.rule < length c.unit.rules → all_counted c.before + all_counted (counted c.here w) < 2 ^ 64
 few_joined c w placed consistent unit within =
     omega (arith, placed.few_before, few_here c placed consistent within, counted_one c.here w, unit.rule_count, within, mul-le c.rule most_objects 4096 most_objects (omega (arith, unit.rule_count, within)) (omega arith))
 
 -- ---- the end
 
-pub summary_is : (c : CursorSeen) (v : Verdicts) → IsPlaced c → due c ≡ None → IsToldBy c v → c.before ≡ counts_of (all_verdicts c.unit c.population v)
+pub summary_is : (c : CursorSeen) (v : Verdicts) → StandsWithin c → due c ≡ None → IsToldBy c v → c.before ≡ counts_of (all_verdicts c.unit c.population v)
 summary_is c v placed none told = told.before ∙ ap (λ n. counts_of (verdicts_below c.unit c.population v n)) (at_end c placed none)
 
 -- ---- names and ids are short
@@ -479,23 +479,23 @@ told_length_last c w name id objects here before next line rule_line between las
 
 -- ---- the beginning
 
-none_first : (u : Content) (p : Population) → length (pairs_below u p (next_rule u p 0)) ≡ 0
+none_first : (u : Content) (p : Population) → length (pairs_of_rules u p (next_rule u p 0)) ≡ 0
 none_first u p =
     let v : Verdicts = λ r o. None in
     let is = next_is u p 0 (omega arith) in
     sym (as_many_pairs u p v (next_rule u p 0)) ∙ ap length (pairs_without u p v 0 (next_rule u p 0) is.above is.none)
 
 pub told_none : (u : Content) (p : Population) (r : ℕ) (s t : Summary) → r ≡ next_rule u p 0 → told_pairs (cursor_seen u p r 0 s t) ≡ 0
-told_none u p r s t e = omega (arith, ap (λ n. length (pairs_below u p n)) e, none_first u p)
+told_none u p r s t e = omega (arith, ap (λ n. length (pairs_of_rules u p n)) e, none_first u p)
 
 pub told_first : (u : Content) (p : Population) (r : ℕ) (s t : Summary) (v : Verdicts) → r ≡ next_rule u p 0 → s ≡ counts_of [] → t ≡ counts_of [] → IsToldBy (cursor_seen u p r 0 s t) v
 told_first u p r s t v e f g =
     let is = next_is u p 0 (omega arith) in
     record { here = f; before = g ∙ ap counts_of (sym (pairs_without u p v 0 (next_rule u p 0) is.above is.none)) ∙ ap (λ n. counts_of (verdicts_below u p v n)) (sym e) }
 
-pub placed_at_first : (u : Content) (p : Population) (r : ℕ) (s t : Summary) → r ≡ next_rule u p 0 → s ≡ counts_of [] → t ≡ counts_of [] → IsPlaced (cursor_seen u p r 0 s t)
+pub placed_at_first : (u : Content) (p : Population) (r : ℕ) (s t : Summary) → r ≡ next_rule u p 0 → s ≡ counts_of [] → t ≡ counts_of [] → StandsWithin (cursor_seen u p r 0 s t)
 placed_at_first u p r s t e f g =
-    subst (λ n. IsPlaced (cursor_seen u p n 0 s t)) (sym e) (subst (λ x. IsPlaced (cursor_seen u p (next_rule u p 0) 0 x t)) (sym f) (subst (λ x. IsPlaced (cursor_seen u p (next_rule u p 0) 0 (counts_of []) x)) (sym g) (placed_first u p)))
+    subst (λ n. StandsWithin (cursor_seen u p n 0 s t)) (sym e) (subst (λ x. StandsWithin (cursor_seen u p (next_rule u p 0) 0 x t)) (sym f) (subst (λ x. StandsWithin (cursor_seen u p (next_rule u p 0) 0 (counts_of []) x)) (sym g) (placed_first u p)))
 
 pub part_first : (u : Content) (p : Population) (r : ℕ) (t : Summary) (v : Verdicts) (before after : List ℕ) → r ≡ next_rule u p 0 → t ≡ counts_of [] → after ≡ before ++ lines_between u 0 r t → after ≡ before ++ part_of u p v 0
 part_first u p r t v before after e g is =
@@ -545,7 +545,7 @@ pub here_text : (c : CursorSeen) (w : Verdict) (old line : List ℕ) → c.at + 
     → old ++ line ≡ old ++ told_text c w
 here_text c w old line left is = ap (λ (x : List ℕ). old ++ x) (is ∙ sym (text_here c w left))
 
-pub told_last_is : (c : CursorSeen) (w : Verdict) (bytes after : List ℕ) (here before : Summary) (next : ℕ) → IsPlaced c → c.rule < length c.unit.rules → c.at + 1 ≡ length (objects_due c)
+pub told_last_is : (c : CursorSeen) (w : Verdict) (bytes after : List ℕ) (here before : Summary) (next : ℕ) → StandsWithin c → c.rule < length c.unit.rules → c.at + 1 ≡ length (objects_due c)
     → here ≡ counts_of [] → before ≡ counts_joined c.before (counted c.here w) → next ≡ next_rule c.unit c.population (c.rule + 1) → after ≡ bytes ++ told_text c w
     → IsToldMore c w bytes (cursor_seen c.unit c.population next 0 here before) after
 told_last_is c w bytes after here before next placed within last eh eb ex ea =
@@ -555,20 +555,20 @@ told_last_is c w bytes after here before next placed within last eh eb ex ea =
     (subst (λ s. IsToldMore c w bytes (cursor_seen c.unit c.population (next_rule c.unit c.population (c.rule + 1)) 0 (counts_of []) s) (bytes ++ told_text c w)) (sym eb)
     (more_last c w bytes placed within last))))
 
-pub told_here_is : (c : CursorSeen) (w : Verdict) (bytes after : List ℕ) (here : Summary) → IsPlaced c → c.rule < length c.unit.rules → c.at + 1 < length (objects_due c)
+pub told_here_is : (c : CursorSeen) (w : Verdict) (bytes after : List ℕ) (here : Summary) → StandsWithin c → c.rule < length c.unit.rules → c.at + 1 < length (objects_due c)
     → here ≡ counted c.here w → after ≡ bytes ++ told_text c w → IsToldMore c w bytes (cursor_seen c.unit c.population c.rule (c.at + 1) here c.before) after
 told_here_is c w bytes after here placed within left eh ea =
     subst (λ (x : List ℕ). IsToldMore c w bytes (cursor_seen c.unit c.population c.rule (c.at + 1) here c.before) x) (sym ea)
     (subst (λ s. IsToldMore c w bytes (cursor_seen c.unit c.population c.rule (c.at + 1) s c.before) (bytes ++ told_text c w)) (sym eh) (more_here c w bytes placed within left))
 
-pub placed_here_is : (c : CursorSeen) (w : Verdict) (here : Summary) → IsPlaced c → c.rule < length c.unit.rules → c.at + 1 < length (objects_due c) → here ≡ counted c.here w
-    → IsPlaced (cursor_seen c.unit c.population c.rule (c.at + 1) here c.before)
-placed_here_is c w here placed within left eh = subst (λ s. IsPlaced (cursor_seen c.unit c.population c.rule (c.at + 1) s c.before)) (sym eh) (placed_here c w placed within left)
+pub placed_here_is : (c : CursorSeen) (w : Verdict) (here : Summary) → StandsWithin c → c.rule < length c.unit.rules → c.at + 1 < length (objects_due c) → here ≡ counted c.here w
+    → StandsWithin (cursor_seen c.unit c.population c.rule (c.at + 1) here c.before)
+placed_here_is c w here placed within left eh = subst (λ s. StandsWithin (cursor_seen c.unit c.population c.rule (c.at + 1) s c.before)) (sym eh) (placed_here c w placed within left)
 
-pub placed_last_is : (c : CursorSeen) (w : Verdict) (none here before : Summary) (next : ℕ) → IsPlaced c → IsConsistent c.population → c.rule < length c.unit.rules → c.at + 1 ≡ length (objects_due c)
+pub placed_last_is : (c : CursorSeen) (w : Verdict) (none here before : Summary) (next : ℕ) → StandsWithin c → IsConsistent c.population → c.rule < length c.unit.rules → c.at + 1 ≡ length (objects_due c)
     → none ≡ counts_of [] → here ≡ counted c.here w → before ≡ counts_joined c.before here → next ≡ next_rule c.unit c.population (c.rule + 1)
-    → IsPlaced (cursor_seen c.unit c.population next 0 none before)
+    → StandsWithin (cursor_seen c.unit c.population next 0 none before)
 placed_last_is c w none here before next placed consistent within last en eh eb ex =
-    subst (λ n. IsPlaced (cursor_seen c.unit c.population n 0 none before)) (sym ex)
-    (subst (λ s. IsPlaced (cursor_seen c.unit c.population (next_rule c.unit c.population (c.rule + 1)) 0 s before)) (sym en)
-    (subst (λ s. IsPlaced (cursor_seen c.unit c.population (next_rule c.unit c.population (c.rule + 1)) 0 (counts_of []) s)) (sym (eb ∙ ap (counts_joined c.before) eh)) (placed_last c w placed consistent within last)))
+    subst (λ n. StandsWithin (cursor_seen c.unit c.population n 0 none before)) (sym ex)
+    (subst (λ s. StandsWithin (cursor_seen c.unit c.population (next_rule c.unit c.population (c.rule + 1)) 0 s before)) (sym en)
+    (subst (λ s. StandsWithin (cursor_seen c.unit c.population (next_rule c.unit c.population (c.rule + 1)) 0 (counts_of []) s)) (sym (eb ∙ ap (counts_joined c.before) eh)) (placed_last c w placed consistent within last)))

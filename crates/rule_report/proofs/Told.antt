@@ -8,7 +8,7 @@ use Rattle.std.proofs.Math.Seq.{take-suc, take-append-add}
 use Rattle.imkl_population.specs.Population.{Population}
 use Rattle.rule_code.specs.Content.{Content}
 use Rattle.rule_report.specs.Report.{Verdicts, context_objects, rule_verdicts, verdicts_below, all_verdicts, counts_of, name_of, object_line, rule_line, rule_line_of, total_line, report_of_rule, reports_below, report_by, after_last, parts_below, report_parts}
-use Rattle.rule_report.specs.Cursor.{pairs_below, all_pairs, part_of, report_until, lines_without}
+use Rattle.rule_report.specs.Cursor.{pairs_of_rules, all_pairs, part_of, report_until, lines_without}
 use Rattle.rule_report.proofs.Parts.{parts_of_pairs, parts_of_rules, concat-map, parts_are_the_report, one_part_for_each_pair}
 
 -- ---- how many pairs and parts there are
@@ -16,24 +16,24 @@ use Rattle.rule_report.proofs.Parts.{parts_of_pairs, parts_of_rules, concat-map,
 abbrev pub pair : ℕ → ℕ → ℕ × ℕ
 pair r o = (r, o)
 
-pub as_many_pairs : (u : Content) (p : Population) (v : Verdicts) (n : ℕ) → length (verdicts_below u p v n) ≡ length (pairs_below u p n)
+pub as_many_pairs : (u : Content) (p : Population) (v : Verdicts) (n : ℕ) → length (verdicts_below u p v n) ≡ length (pairs_of_rules u p n)
 as_many_pairs u p v zero = refl
 as_many_pairs u p v (suc r) =
     omega (
       arith,
       as_many_pairs u p v r,
       length-append (verdicts_below u p v r) (rule_verdicts u p v r),
-      length-append (pairs_below u p r) (map (λ o. (r, o)) (context_objects u p r)),
+      length-append (pairs_of_rules u p r) (map (λ o. (r, o)) (context_objects u p r)),
       length-map (context_objects u p r) (v r),
       length-map (context_objects u p r) (λ (o : ℕ). pair r o),
     )
 
-pub parts_there : (u : Content) (p : Population) (v : Verdicts) (n : ℕ) → length (parts_below u p v n) ≡ suc (length (pairs_below u p n))
+pub parts_there : (u : Content) (p : Population) (v : Verdicts) (n : ℕ) → length (parts_below u p v n) ≡ suc (length (pairs_of_rules u p n))
 parts_there u p v n = parts_of_pairs u p v n ∙ ap suc (as_many_pairs u p v n)
 
-pub pairs_of_rule : (u : Content) (p : Population) (r : ℕ) → length (pairs_below u p (suc r)) ≡ length (pairs_below u p r) + length (context_objects u p r)
+pub pairs_of_rule : (u : Content) (p : Population) (r : ℕ) → length (pairs_of_rules u p (suc r)) ≡ length (pairs_of_rules u p r) + length (context_objects u p r)
 pairs_of_rule u p r =
-    omega (arith, length-append (pairs_below u p r) (map (λ o. (r, o)) (context_objects u p r)), length-map (context_objects u p r) (λ (o : ℕ). pair r o))
+    omega (arith, length-append (pairs_of_rules u p r) (map (λ o. (r, o)) (context_objects u p r)), length-map (context_objects u p r) (λ (o : ℕ). pair r o))
 
 -- ---- the parts before the last one stay
 
@@ -77,11 +77,11 @@ abbrev pub reported : Content → Population → Verdicts → ℕ → ℕ → Li
 reported u p v r k = reports_below u p v r ++ flat_map (object_line u p v r) (take k (context_objects u p r))
 
 pub until_pair : (u : Content) (p : Population) (v : Verdicts) (r k : ℕ) → r < length u.rules → k < length (context_objects u p r)
-    → report_until u p v (length (pairs_below u p r) + k) ≡ reported u p v r k
+    → report_until u p v (length (pairs_of_rules u p r) + k) ≡ reported u p v r k
 until_pair u p v r k within there =
     let os = context_objects u p r in
     let lines = map (object_line u p v r) os in
-    let m = suc (length (pairs_below u p r) + k) in
+    let m = suc (length (pairs_of_rules u p r) + k) in
     let few : m < length (parts_below u p v (suc r)) = omega (arith, there, parts_there u p v (suc r), pairs_of_rule u p r) in
     let front : m ≡ length (parts_below u p v r) + k = omega (arith, parts_there u p v r) in
     let cut : take m (report_parts u p v) ≡ take m (parts_below u p v (suc r)) =

@@ -14,12 +14,12 @@ use Rattle.rule_report.specs.Counting.{all_counted, counted, counts_joined}
 -- ---- pairs, and the report cut before the line of one
 
 -- the pairs of the first n rules, in the order of the report, and those of all
-abbrev pub pairs_below : Content → Population → ℕ → List (ℕ × ℕ)
-pairs_below u p zero = []
-pairs_below u p (suc r) = pairs_below u p r ++ map (λ o. (r, o)) (context_objects u p r)
+abbrev pub pairs_of_rules : Content → Population → ℕ → List (ℕ × ℕ)
+pairs_of_rules u p zero = []
+pairs_of_rules u p (suc r) = pairs_of_rules u p r ++ map (λ o. (r, o)) (context_objects u p r)
 
 abbrev pub all_pairs : Content → Population → List (ℕ × ℕ)
-all_pairs u p = pairs_below u p (length u.rules)
+all_pairs u p = pairs_of_rules u p (length u.rules)
 
 -- the part that the line of the pair before begins; the first part stands before every line of a pair
 abbrev pub part_of : Content → Population → Verdicts → ℕ → List ℕ
@@ -49,7 +49,7 @@ objects_due c = context_objects c.unit c.population c.rule
 
 -- how many pairs were told
 abbrev pub told_pairs : CursorSeen → ℕ
-told_pairs c = length (pairs_below c.unit c.population c.rule) + c.at
+told_pairs c = length (pairs_of_rules c.unit c.population c.rule) + c.at
 
 -- the pair that is due, if any is left
 abbrev pub due : CursorSeen → Option (ℕ × ℕ)
@@ -117,7 +117,7 @@ room_of c = if c.rule == length c.unit.rules then 0 else greatest_told c
 
 -- ---- what each cursor keeps
 
-pub record IsPlaced (c : CursorSeen) : Type 0 where
+pub record StandsWithin (c : CursorSeen) : Type 0 where
   pub within : c.rule ≤ length c.unit.rules
   pub some : c.rule < length c.unit.rules → c.at < length (objects_due c)
   pub none : c.rule ≡ length c.unit.rules → c.at ≡ 0
