@@ -1,5 +1,7 @@
 //! Readers that fail, never end, or give a byte at a time.
 
+ghost use Rattle.std.specs.Prelude.{◌≡◌, false};
+
 use crate::files::{BY_CODE, DEPTH, MODEL, NO_OBJECTS, NO_RULES};
 use ocl_check::{
     CommandFault, Counting, InputFault, Outcome, Telling, read_input, run_bound, run_compile,
@@ -104,7 +106,9 @@ fn reads_up_to_the_limit(rt: HostRuntime) {
 }
 
 /// A source of which the first read fails.
-fn failing() -> Counting<Scripted> {
+fn failing() -> Counting<Scripted>
+    ensures unread { (result.2 ≡ false) × (result.1 ≡ 0) }
+{
     Counting::new(Scripted {
         first: Event::Fails,
         how_often: 1,

@@ -93,20 +93,27 @@ refused verify 7 0 1024: Mantelbuis true«1024 ; true»
 refused cost 1 0: Mantelbuis true
 "#;
 
+/// Writes `x` three times for `3 x`.
+fn put_repeated(text: &mut String, repeated: &str) -> Result<(), AllocError> {
+    let (count, piece) = repeated.split_once(' ').unwrap_or(("0", ""));
+    for _ in 0..count.parse::<u32>().unwrap_or(0) {
+        text.push_str(piece)?;
+    }
+    Ok(())
+}
+
 /// The text with each `«3 x»` written out.
 fn written_out(alloc: Global, input: &str) -> Result<String, AllocError> {
     let mut text = String::new(alloc);
-    let mut rest = input;
-    while let Some((before, after)) = rest.split_once('«') {
-        text.push_str(before)?;
-        let (repeated, behind) = after.split_once('»').unwrap_or((after, ""));
-        let (count, piece) = repeated.split_once(' ').unwrap_or(("0", ""));
-        for _ in 0..count.parse::<u32>().unwrap_or(0) {
-            text.push_str(piece)?;
+    for part in input.split('«') {
+        match part.split_once('»') {
+            Some((repeated, after)) => {
+                put_repeated(&mut text, repeated)?;
+                text.push_str(after)?;
+            }
+            None => text.push_str(part)?,
         }
-        rest = behind;
     }
-    text.push_str(rest)?;
     Ok(text)
 }
 
