@@ -121,12 +121,19 @@ fn a_let_has_at_most_64_bindings(rt: HostRuntime) -> Result<(), Fail> {
     Ok(())
 }
 
+#[test]
+fn a_unit_takes_65535_texts(rt: HostRuntime) -> Result<(), Fail> {
+    let alloc = rt.alloc();
+    let text = most_texts(alloc)?;
+    assert_eq!(rt; refusal(alloc, text.as_str())?, None);
+    Ok(())
+}
+
 /// One more text is the name of one more rule.
 #[test]
-fn a_unit_has_at_most_65535_texts(rt: HostRuntime) -> Result<(), Fail> {
+fn a_unit_takes_no_65536th_text(rt: HostRuntime) -> Result<(), Fail> {
     let alloc = rt.alloc();
     let mut text = most_texts(alloc)?;
-    assert_eq!(rt; refusal(alloc, text.as_str())?, None);
     text.push_str(" inv: true")?;
     let passed = Refusal::Passes(Limit::Size, 302);
     assert_eq!(rt; refusal(alloc, text.as_str())?, Some(passed));
