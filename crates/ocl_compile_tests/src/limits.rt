@@ -55,24 +55,6 @@ fn bindings(alloc: Global, count: usize) -> Result<String, AllocError> {
     Ok(text)
 }
 
-/// Adds a rule with 216 texts that no other rule has, beside its name.
-fn push_texts(text: &mut String, rule: usize) -> Result<(), AllocError> {
-    text.push_str(" inv: false")?;
-    for i in 0..108_usize {
-        write!(text, " or '{rule} {i}' = '{rule}-{i}'")?;
-    }
-    Ok(())
-}
-
-/// 302 rules with 65,535 texts: 217 for each rule, and the name of their class.
-fn most_texts(alloc: Global) -> Result<String, AllocError> {
-    let mut text = String::from_str(alloc, "context Lid")?;
-    for rule in 0..302_usize {
-        push_texts(&mut text, rule)?;
-    }
-    Ok(text)
-}
-
 #[test]
 fn a_unit_has_at_most_4096_rules(rt: HostRuntime) -> Result<(), Fail> {
     let alloc = rt.alloc();
@@ -118,25 +100,6 @@ fn a_let_has_at_most_64_bindings(rt: HostRuntime) -> Result<(), Fail> {
     let passed = Refusal::Passes(Limit::Nesting, 0);
     assert_eq!(rt; refusal(alloc, more.as_str())?, Some(passed));
     assert_eq!(rt; refusal(alloc, many.as_str())?, Some(passed));
-    Ok(())
-}
-
-#[test]
-fn a_unit_takes_65535_texts(rt: HostRuntime) -> Result<(), Fail> {
-    let alloc = rt.alloc();
-    let text = most_texts(alloc)?;
-    assert_eq!(rt; refusal(alloc, text.as_str())?, None);
-    Ok(())
-}
-
-/// One more text is the name of one more rule.
-#[test]
-fn a_unit_takes_no_65536th_text(rt: HostRuntime) -> Result<(), Fail> {
-    let alloc = rt.alloc();
-    let mut text = most_texts(alloc)?;
-    text.push_str(" inv: true")?;
-    let passed = Refusal::Passes(Limit::Size, 302);
-    assert_eq!(rt; refusal(alloc, text.as_str())?, Some(passed));
     Ok(())
 }
 
