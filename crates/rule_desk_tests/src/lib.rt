@@ -1,0 +1,7 @@
+//! Tests of `rule_desk`, by its public functions.
+#![tactic(auto)]
+
+#[cfg(test)]
+mod scripts;
+#[cfg(test)]
+mod worked;
