@@ -316,24 +316,3 @@ module _ (a : Admission) (p : Population) (c : CursorSeen) (m : Seen) (begun : B
       let within : t.rule < length a.linked.unit.rules = subst (λ x. t.rule < length x.rules) eu t.stands.accepted.rule in
       let small = short_runs a p t.rule s.admission s.fits within in
       (omega (arith, one, two, small, t.within), omega (arith, one, two, small, t.within))
-
-  -- while the pair isn't begun
-  pub stands_waiting : (new : Seen) (after : List ℕ) (room : ℕ) → begun ≡ false → new.unit ≡ m.unit → new.population ≡ m.population → after ≡ lines → Stands a p c new false after room spent
-  stands_waiting new after room e eu ep same =
-      record {
-        admission = s.admission;
-        fits = s.fits;
-        runnable = s.runnable;
-        code = s.code;
-        over = s.over;
-        machine_code = eu ∙ s.machine_code;
-        machine_over = ep ∙ s.machine_over;
-        told = s.told;
-        text = same ∙ s.text;
-        pairs = s.pairs;
-        work = s.work;
-        sum = s.sum;
-        short = s.short;
-        none = s.none;
-        at_pair = subst (λ b. IsAtPair b m c s.work (length lines) capacity) e s.at_pair;
-      }

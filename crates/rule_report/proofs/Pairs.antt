@@ -1,18 +1,16 @@
 -- What a cursor stands at, and what telling one verdict does.
-use Rattle.std.proofs.Common.{◌≡◌, ℕ, zero, suc, ◌+◌, ◌-◌, ◌^◌, ◌<◌, ◌≤◌, max, true, false, eqb, List, [], ◌∷◌, ◌++◌, length, map, take, get_or, refl, sym, ap, ◌∙◌, subst, inl, inr, arith, append_assoc, length-append, if◌then◌else◌, Option, Some, None}
-use Rattle.std.specs.Prelude.{slice_get, nat_lt, nat_le, ◌&&◌, IsSome}
-use Rattle.std.specs.List.{list_all, AllByRecursion}
-use Rattle.std.proofs.lemmas.Bool.{cases_lt, leb-true, and_parts}
+use Rattle.std.proofs.Common.{◌≡◌, ℕ, zero, suc, ◌+◌, ◌-◌, ◌<◌, ◌≤◌, max, true, false, eqb, List, [], ◌++◌, length, map, take, get_or, refl, sym, ap, ◌∙◌, subst, inl, inr, arith, append_assoc, length-append, if◌then◌else◌, Option, Some, None}
+use Rattle.std.specs.Prelude.{slice_get, nat_lt, IsSome}
+use Rattle.std.proofs.lemmas.Bool.{cases_lt}
 use Rattle.std.proofs.lemmas.Nat.{mul-le}
 use Rattle.std.proofs.lemmas.Bool.Decides.{eqb_tells, leb_tells}
 use Rattle.std.proofs.lemmas.List.{append-nil, append_cancel_left, get_or_append_left, get_or-append-add, get_or-map, nil_from_length}
 use Rattle.std.proofs.lemmas.Option.{slice_get-get_or, slice_get_past}
 use Rattle.std.proofs.Math.Nat.{eq-or-lt_of_le}
 use Rattle.imkl_population.specs.Population.{Population, object_at}
-use Rattle.imkl_population.specs.Building.{most_objects, is_id_byte}
+use Rattle.imkl_population.specs.Building.{most_objects}
 use Rattle.imkl_population.specs.Consistency.{IsConsistent}
 use Rattle.rule_code.specs.Content.{Content}
-use Rattle.rule_code.specs.WellFormed.{IsUnit, IsTextOfUnit}
 use Rattle.rule_verify.specs.UnitRules.{context_class, unit_rule}
 use Rattle.rule_machine.specs.declared.verdict.Verdict.{Verdict}
 use Rattle.rule_machine.specs.declared.verdict.Verdict.TheVariants.{Holds, Fails, Undecided}
@@ -371,31 +369,10 @@ placed_first u p =
 pub few_here : (c : CursorSeen) → StandsWithin c → IsConsistent c.population → c.rule < length c.unit.rules → all_counted c.here < most_objects
 few_here c placed consistent within = omega (arith, placed.few_here, placed.some within, few_due c consistent)
 
-pub few_joined : (c : CursorSeen) (w : Verdict) → StandsWithin c → IsConsistent c.population → IsUnit c.unit → c.rule < length c.unit.rules → all_counted c.before + all_counted (counted c.here w) < 2 ^ 64
-few_joined c w placed consistent unit within =
-    omega (arith, placed.few_before, few_here c placed consistent within, counted_one c.here w, unit.rule_count, within, mul-le c.rule most_objects 4096 most_objects (omega (arith, unit.rule_count, within)) (omega arith))
-
 -- ---- the end
 
 pub summary_is : (c : CursorSeen) (v : Verdicts) → StandsWithin c → due c ≡ None → IsToldBy c v → c.before ≡ counts_of (all_verdicts c.unit c.population v)
 summary_is c v placed none told = told.before ∙ ap (λ n. counts_of (verdicts_below c.unit c.population v n)) (at_end c placed none)
-
--- ---- names and ids are short
-
-all_short : (xs : List (List ℕ)) (n : ℕ) → AllByRecursion IsTextOfUnit xs → length (get_or xs n []) ≤ 4096
-all_short [] n h = omega arith
-all_short (x ∷ xs) zero h = h.0.0
-all_short (x ∷ xs) (suc n) h = all_short xs n h.1
-
-pub short_name : (u : Content) (r : ℕ) → IsUnit u → length (name_of u r) ≤ 4096
-short_name u r unit = all_short u.texts (unit_rule u r).name unit.texts
-
-pub short_id : (p : Population) (o : ℕ) → IsConsistent p → o < length p.objects → length (object_at p o).id ≤ 128
-short_id p o consistent there =
-    let id = (object_at p o).id in
-    let both = and_parts (nat_lt 0 (length id) && nat_le (length id) 128) (list_all is_id_byte id) (consistent.formed o there) in
-    let short = and_parts (nat_lt 0 (length id)) (nat_le (length id) 128) both.0 in
-    leb-true (length id) 128 short.1
 
 -- ---- how long lines are
 
@@ -437,9 +414,6 @@ line_fits u from r next s l h =
 
 pub between_ended : (u : Content) (from next : ℕ) (s : Summary) → next ≡ length u.rules → lines_between u from next s ≡ lines_without u from (next - from) ++ total_line s
 between_ended u from next s e = ap (λ (x : List ℕ). lines_without u from (next - from) ++ x) (total_there u next s e)
-
-pub between_open : (u : Content) (from next : ℕ) (s : Summary) → next < length u.rules → lines_between u from next s ≡ lines_without u from (next - from)
-between_open u from next s l = ap (λ (x : List ℕ). lines_without u from (next - from) ++ x) (no_total u next s l) ∙ append-nil (lines_without u from (next - from))
 
 pub line_same : (u : Content) (r : ℕ) (name : List ℕ) (s : Summary) → name ≡ name_of u r → s ≡ counts_of [] → rule_line_of name 0 s ≡ rule_line_of (name_of u r) 0 (counts_of [])
 line_same u r name s e f = ap (λ n. rule_line_of n 0 s) e ∙ ap (λ t. rule_line_of (name_of u r) 0 t) f

@@ -24,10 +24,6 @@ until_begins u p v n =
     let ps = report_parts u p v in
     sym (parts_are_the_report u p v) ∙ ap concat (sym (take-append-drop (suc n) ps)) ∙ concat-append (take (suc n) ps) (drop (suc n) ps)
 
--- nothing is written yet
-pub written_none : (old : Option (List ℕ)) (waiting told : List ℕ) → Appends old old [] → waiting ≡ told → IsWrittenSoFar old old waiting told
-written_none old waiting told same is = ([], same, is)
-
 -- more waits
 pub written_more : (old new : Option (List ℕ)) (waiting told part more_waiting more_told : List ℕ) → IsWrittenSoFar old new waiting told
     → more_waiting ≡ waiting ++ part → more_told ≡ told ++ part → IsWrittenSoFar old new more_waiting more_told
@@ -38,10 +34,6 @@ written_more old new waiting told part more_waiting more_told so w t =
 pub written_on : (old mid new : Option (List ℕ)) (still waiting told : List ℕ) → IsWrittenSoFar old mid waiting told → IsWrittenSoFar mid new still waiting → IsWrittenSoFar old new still told
 written_on old mid new still waiting told so on =
     (so.0 ++ on.0, Appends-trans old mid new so.0 on.0 so.1 on.1, append_assoc so.0 on.0 still ∙ ap (λ (x : List ℕ). so.0 ++ x) on.2 ∙ so.2)
-
--- what waited is written
-pub written_now : (old mid new : Option (List ℕ)) (waiting told : List ℕ) → IsWrittenSoFar old mid waiting told → Appends mid new waiting → IsWrittenSoFar old new [] told
-written_now old mid new waiting told so now = (so.0 ++ waiting, Appends-trans old mid new so.0 waiting so.1 now, append-nil (so.0 ++ waiting) ∙ so.2)
 
 -- what is told is all, and is written
 pub written_all : (old mid new : Option (List ℕ)) (waiting told : List ℕ) → IsWrittenSoFar old mid waiting told → Appends mid new waiting → Appends old new told
