@@ -1,5 +1,5 @@
 -- What readers may have had.
-use Rattle.std.proofs.Common.{ℕ, List, [], ◌++◌, Option, Some, None, refl, sym, ap, ◌∙◌}
+use Rattle.std.proofs.Common.{ℕ, ◌⊎◌, inl, inr, List, [], ◌++◌, Option, Some, None, refl, sym, ap, ◌∙◌}
 use Rattle.std.specs.Io.KnownBytes.{Consumes, IsAtEnd}
 use Rattle.std.proofs.lemmas.List.{append-nil}
 use Rattle.ocl_check.specs.Answers.{MayHave}
@@ -19,3 +19,9 @@ known_bytes (Some xs) = xs
 pub has_known : (known : Option (List ℕ)) → MayHave known (known_bytes known)
 has_known None = tt
 has_known (Some xs) = refl
+
+-- what is true of one of three inputs is true of one of four
+pub one_more : {A B C D : Type 0} → A ⊎ (B ⊎ C) → A ⊎ (B ⊎ (C ⊎ D))
+one_more (inl a) = inl a
+one_more (inr (inl b)) = inr (inl b)
+one_more (inr (inr c)) = inr (inr (inl c))

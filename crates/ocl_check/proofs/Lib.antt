@@ -1,6 +1,7 @@
 pub mod Endings
 pub mod Accepting
 pub mod Budgets
+pub mod Scripts
 pub mod Inputs
 pub mod Described
 pub mod TextReadings

@@ -1,7 +1,7 @@
 -- What is asked of a population and rules, and what is answered.
 use Rattle.std.specs.Prelude.{ℕ, Bool, true, false, List}
 use Rattle.ocl_check.specs.declared.commands.rules.Question.{Question}
-use Rattle.ocl_check.specs.declared.commands.rules.Question.TheVariants.{Report, Bounds}
+use Rattle.ocl_check.specs.declared.commands.rules.Question.TheVariants.{Report, Bounds, Replies}
 use Rattle.ocl_check.specs.declared.commands.rules.Asked.{Asked}
 use Rattle.ocl_check.specs.declared.commands.rules.Asked.TheVariants.{Code, Text}
 use Rattle.ocl_check.specs.declared.commands.judge.RulesForm.{RulesForm}
@@ -12,6 +12,7 @@ use Rattle.ocl_check.specs.ThreeInputs.{PopulationAnswer}
 use Rattle.ocl_check.specs.Judge.{budget_answer}
 use Rattle.ocl_check.specs.JudgeText.{text_answer}
 use Rattle.ocl_check.specs.Bound.{bounds_answer}
+use Rattle.ocl_check.specs.Desk.{calls_answer}
 
 -- what `judge` asks
 abbrev pub asked_by : RulesForm → ℕ → Asked
@@ -22,11 +23,14 @@ asked_by form.Text budget = Text budget
 abbrev pub answer_to : Question → UnitAnswer
 answer_to (Report budget) = budget_answer budget
 answer_to Bounds = bounds_answer
+answer_to (Replies script) = calls_answer script.now
 
--- whether the answer to a question is put together whole before its first byte is written; a report need not be
+-- whether the answer to a question is put together whole before its first byte is written; a report and the replies to a
+-- script need not be
 abbrev pub is_whole_answer : Question → Bool
 is_whole_answer (Report budget) = false
 is_whole_answer Bounds = true
+is_whole_answer (Replies script) = false
 
 abbrev pub is_whole_asked : Asked → Bool
 is_whole_asked (Code question) = is_whole_answer question

@@ -10,6 +10,7 @@ pub mod CompiledRules
 pub mod MeantReport
 pub mod JudgeText
 pub mod Bound
+pub mod Desk
 pub mod Verify
 pub mod Compile
 pub mod TextLaws

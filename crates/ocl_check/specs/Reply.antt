@@ -83,6 +83,10 @@ refused_verify f =
 abbrev pub refused_cost : ℕ → Answer
 refused_cost r = refused (codes "refused cost 1 " ++ (decimal r ++ 10 ∷ []))
 
+-- a script whose first wrong line is this one, from 1
+abbrev pub refused_script : ℕ → Answer
+refused_script line = refused (codes "refused script " ++ (decimal line ++ 10 ∷ []))
+
 -- code that is accepted, by the number of its rules
 abbrev pub accepted_reply : ℕ → Answer
 accepted_reply n = (codes "accepted " ++ (decimal n ++ 10 ∷ []), 0)

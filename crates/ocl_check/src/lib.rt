@@ -12,6 +12,7 @@ mod text_reading;
 
 pub use commands::bound::run_bound;
 pub use commands::compile::run_compile;
+pub use commands::desk::run_desk;
 pub use commands::judge::{JudgeOptions, MAX_BUDGET, RulesForm, run_judge};
 pub use commands::verify::run_verify;
 pub use input::{InputFault, read_input};

@@ -3,7 +3,7 @@
 ghost use Rattle.std.specs.Prelude.{◌≡◌, ◌≢◌, string_bytes, IfOk};
 ghost use Rattle.imkl_model.specs.declared.fault.ModelFault.TheVariants as model;
 ghost use Rattle.imkl_delivery.specs.declared.fault.DeliveryFault.TheVariants as delivery;
-ghost use Rattle.ocl_check.specs.Reply.{said, refused_model, refused_delivery, refused_code, refused_verify, refused_cost, accepted_reply, compiled_reply};
+ghost use Rattle.ocl_check.specs.Reply.{said, refused_model, refused_delivery, refused_code, refused_verify, refused_cost, refused_script, accepted_reply, compiled_reply};
 ghost use Rattle.ocl_check.specs.TextParts.{text_rules_fault, IsRefusedAs};
 
 use crate::compiled_rules::TextRulesFault;
@@ -137,6 +137,16 @@ pub(crate) fn refused_cost(alloc: Global, rule: usize) -> Result<Reply, OutOfMem
 {
     Ok(Reply {
         text: format!(in alloc; "refused cost 1 {rule}\n")?,
+        status: REFUSED,
+    })
+}
+
+/// The reply to a script whose first wrong line is this one, from 1.
+pub(crate) fn refused_script(alloc: Global, line: usize) -> Result<Reply, OutOfMemory>
+    ensures { IfOk result (λ r. said r ≡ refused_script line) }
+{
+    Ok(Reply {
+        text: format!(in alloc; "refused script {line}\n")?,
         status: REFUSED,
     })
 }

@@ -5,7 +5,7 @@ use clap::{Arg, ArgAction, ArgMatches, Command, Error, value_parser};
 use ocl_check::{JudgeOptions, MAX_BUDGET, RulesForm};
 use std::alloc::{AllocError, Global};
 
-/// The files that `judge` and `bound` name.
+/// The files that `judge` and `bound` name, and `desk` first.
 #[derive(Clone, Copy, Drop)]
 pub struct RuleFiles<'a> {
     /// The path of the class model.
@@ -36,6 +36,15 @@ pub struct CompileFiles<'a> {
     pub out: &'a str,
 }
 
+/// The files that `desk` names.
+#[derive(Clone, Copy, Drop)]
+pub struct DeskFiles<'a> {
+    /// The class model, the delivery and the code file.
+    pub rules: RuleFiles<'a>,
+    /// The path of the script.
+    pub script: &'a str,
+}
+
 /// A command with its files.
 #[derive(Clone, Copy, Drop)]
 pub enum Request<'a> {
@@ -47,6 +56,8 @@ pub enum Request<'a> {
     Bound(RuleFiles<'a>),
     /// `verify` with its files.
     Verify(VerifyFiles<'a>),
+    /// `desk` with its files.
+    Desk(DeskFiles<'a>),
 }
 
 /// A file that must be named.
@@ -122,6 +133,17 @@ fn bound<'a>(alloc: Global) -> Result<Command<'a>, AllocError> {
     on_delivery(alloc, command, "CODE", "The code file")
 }
 
+fn desk<'a>(alloc: Global) -> Result<Command<'a>, AllocError> {
+    let command = Command::new(alloc, "desk")
+        .about("Makes many reports on a delivery side by side, as a script of calls says")
+        .after_help(help::DESK);
+    on_delivery(alloc, command, "CODE", "The code file")?.arg(file(
+        alloc,
+        "SCRIPT",
+        "The script, a call in each line",
+    ))
+}
+
 /// The program's commands and their arguments.
 fn command<'a>(alloc: Global) -> Result<Command<'a>, AllocError> {
     Command::new(alloc, "ocl_check")
@@ -132,7 +154,8 @@ fn command<'a>(alloc: Global) -> Result<Command<'a>, AllocError> {
         .subcommand(judge(alloc)?)?
         .subcommand(compile(alloc)?)?
         .subcommand(verify(alloc)?)?
-        .subcommand(bound(alloc)?)
+        .subcommand(bound(alloc)?)?
+        .subcommand(desk(alloc)?)
 }
 
 /// The word given for an argument; one that is required is always given.
@@ -143,7 +166,7 @@ fn word<'a>(matches: Option<&ArgMatches<'a>>, name: &str) -> &'a str {
     }
 }
 
-/// The files that are given to `judge` or `bound`, of which the last has this name.
+/// The files that are given to `judge`, `bound` or `desk`, of which the third has this name.
 fn rule_files<'a>(matches: Option<&ArgMatches<'a>>, rules: &str) -> RuleFiles<'a> {
     RuleFiles {
         model: word(matches, "MODEL"),
@@ -192,6 +215,13 @@ pub(crate) fn read_words<'a>(alloc: Global, words: &'a [String]) -> Result<Reque
     let bound = matches.subcommand_matches("bound");
     if bound.is_some() {
         return Ok(Request::Bound(rule_files(bound, "CODE")));
+    }
+    let desk = matches.subcommand_matches("desk");
+    if desk.is_some() {
+        return Ok(Request::Desk(DeskFiles {
+            rules: rule_files(desk, "CODE"),
+            script: word(desk, "SCRIPT"),
+        }));
     }
     let judge = matches.subcommand_matches("judge");
     Ok(Request::Judge(rule_files(judge, "RULES"), options(judge)))

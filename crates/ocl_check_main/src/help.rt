@@ -43,3 +43,19 @@ input prints one line instead: `refused WHAT NUMBER ..`.
 Status 0: printed. 2: an input or the command line is refused. 3: memory, a read or a write failed.
 
 docs/commands.md has every line, docs/machine.md how bounds are computed.";
+
+/// Of `desk`.
+pub const DESK: &str = "\
+A job is the report on the delivery by the code, made step by step. In each line of SCRIPT a call:
+  enter        a new job, number 0 first        job K
+  grant K N    N charges for job K              paused K SPENT, or over K SPENT
+  lines K      the lines of its report so far   these lines
+  withdraw K   job K is given up                withdrawn K
+A call that can't be answered gives `refused desk 1` (no such job) or `refused desk 2` (the job is
+over), and the script goes on. A refused input, a script with a wrong line too, prints one line
+instead: `refused WHAT NUMBER ..`.
+
+Status 0: the script was run. 2: an input, a rule's cost, the script or the command line is refused.
+3: memory, a read or a write failed.
+
+docs/commands.md has every line, docs/machine.md what steps are charged.";

@@ -7,11 +7,11 @@ mod help;
 mod opening;
 
 use clap::error::{Error, ErrorKind};
-use command_line::{CompileFiles, Request, RuleFiles, VerifyFiles, read_words};
+use command_line::{CompileFiles, DeskFiles, Request, RuleFiles, VerifyFiles, read_words};
 use creating::Creating;
 use ocl_check::{
-    CommandFault, Counting, JudgeOptions, Outcome, Telling, run_bound, run_compile, run_judge,
-    run_verify,
+    CommandFault, Counting, JudgeOptions, Outcome, Telling, run_bound, run_compile, run_desk,
+    run_judge, run_verify,
 };
 use opening::Opening;
 use std::process::ExitCode;
@@ -77,6 +77,17 @@ fn verify(rt: &HostRuntime, files: VerifyFiles<'_>) -> Outcome {
     )
 }
 
+fn desk(rt: &HostRuntime, files: DeskFiles<'_>) -> Outcome {
+    run_desk(
+        rt.alloc(),
+        &mut Counting::new(Opening::new(rt, files.rules.model)),
+        &mut Counting::new(Opening::new(rt, files.rules.delivery)),
+        &mut Counting::new(Opening::new(rt, files.rules.rules)),
+        &mut Counting::new(Opening::new(rt, files.script)),
+        &mut Telling::new(io::writer(rt)),
+    )
+}
+
 fn main(rt: HostRuntime) -> ExitCode {
     let args = match env::args(&rt) {
         Ok(args) => args,
@@ -96,6 +107,7 @@ fn main(rt: HostRuntime) -> ExitCode {
         Ok(Request::Compile(files)) => ended(&rt, compile(&rt, files)),
         Ok(Request::Bound(files)) => ended(&rt, bound(&rt, files)),
         Ok(Request::Verify(files)) => ended(&rt, verify(&rt, files)),
+        Ok(Request::Desk(files)) => ended(&rt, desk(&rt, files)),
         Err(error) => refused(&rt, &error),
     }
 }

@@ -5,7 +5,7 @@ ghost use Rattle.std.specs.Prelude.{◌≡◌, false};
 use crate::files::{BY_CODE, DEPTH, MODEL, NO_OBJECTS, NO_RULES};
 use ocl_check::{
     CommandFault, Counting, InputFault, Outcome, Telling, read_input, run_bound, run_compile,
-    run_judge, run_verify,
+    run_desk, run_judge, run_verify,
 };
 use std::alloc::Global;
 use std::io;
@@ -196,6 +196,44 @@ fn bound_fails_where_an_input_does(rt: HostRuntime) {
     assert!(rt; outcome == Outcome::Failed(CommandFault::Read));
     assert!(rt; delivery.into_inner().is_empty());
     assert!(rt; sink.into_inner().is_empty());
+}
+
+/// How `desk` of a refused model ends where its script can't be read, and how many bytes the code has left and the sink
+/// took.
+fn script_fails(alloc: Global) -> (Outcome, usize, usize) {
+    let mut code = Counting::new(DEPTH.as_slice());
+    let mut sink = Telling::new(Vec::new(alloc));
+    let outcome = run_desk(
+        alloc,
+        &mut Counting::new(b"{}".as_slice()),
+        &mut Counting::new(NO_OBJECTS.as_bytes()),
+        &mut code,
+        &mut failing(),
+        &mut sink,
+    );
+    (outcome, code.into_inner().len(), sink.into_inner().len())
+}
+
+/// How `desk` ends where its code can't be read, and how many bytes its script has left.
+fn code_fails(alloc: Global) -> (Outcome, usize) {
+    let mut script = Counting::new(b"enter".as_slice());
+    let mut sink = Telling::new(Vec::new(alloc));
+    let outcome = run_desk(
+        alloc,
+        &mut Counting::new(MODEL.as_bytes()),
+        &mut Counting::new(NO_OBJECTS.as_bytes()),
+        &mut failing(),
+        &mut script,
+        &mut sink,
+    );
+    (outcome, script.into_inner().len())
+}
+
+#[test]
+fn desk_fails_where_an_input_does(rt: HostRuntime) {
+    let failed = Outcome::Failed(CommandFault::Read);
+    assert!(rt; script_fails(rt.alloc()) == (failed, 0, 0));
+    assert!(rt; code_fails(rt.alloc()) == (failed, 5));
 }
 
 /// How `verify` and `compile` end where the second input fails, and how many bytes their sinks took.

@@ -8,6 +8,8 @@ mod budget;
 #[cfg(test)]
 mod compiling;
 #[cfg(test)]
+mod desk;
+#[cfg(test)]
 mod files;
 #[cfg(test)]
 mod inputs;

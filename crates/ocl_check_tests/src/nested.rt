@@ -7,7 +7,7 @@ use std::fmt::Write;
 use std::test::*;
 
 /// Two classes.
-const MODEL: &str = r#"{"model":"m","enums":[],"classes":[
+pub const MODEL: &str = r#"{"model":"m","enums":[],"classes":[
 {"name":"A","abstract":false,"supers":[],"attributes":[]},
 {"name":"B","abstract":false,"supers":[],"attributes":[]}],"associations":[]}"#;
 
@@ -16,7 +16,7 @@ const HEAD: &[u8] = b"OCLB\x00\x01\x00\x03\x00\x01x\x00\x01A\x00\x01B\
 \x00\x02\x01\x00\x01\x01\x00\x02\x00\x01\x00\x00\x00\x01";
 
 /// A delivery of so many objects of A, and none of B.
-fn many(alloc: Global, count: u32) -> Result<String, AllocError> {
+pub fn many(alloc: Global, count: u32) -> Result<String, AllocError> {
     let mut text = String::new(alloc);
     text.push_str("{\"model\":\"m\",\"objects\":[")?;
     for id in 0..count {
@@ -38,7 +38,7 @@ fn put_iteration(code: &mut Vec<u8>, class: u8, body: u16) -> Result<(), AllocEr
 
 /// A file of which the rule is this many iterations over A, one in the other, round BOOL 1; `around` puts
 /// them all in one more over B.
-fn nested(alloc: Global, depth: u16, around: bool) -> Result<Vec<u8>, AllocError> {
+pub fn nested(alloc: Global, depth: u16, around: bool) -> Result<Vec<u8>, AllocError> {
     let inside = depth.saturating_mul(2).saturating_add(1);
     let count = if around {
         inside.saturating_add(2)

@@ -2,7 +2,8 @@
 
 use crate::files::{BY_CODE, DEPTH, MODEL, NO_OBJECTS, NO_RULES};
 use ocl_check::{
-    CommandFault, Counting, Outcome, Telling, run_bound, run_compile, run_judge, run_verify,
+    CommandFault, Counting, Outcome, Telling, run_bound, run_compile, run_desk, run_judge,
+    run_verify,
 };
 use std::alloc::Global;
 use std::test::*;
@@ -21,6 +22,8 @@ enum Written {
     Code,
     /// What `compile` prints.
     Compiled,
+    /// The replies of `desk`.
+    Replies,
 }
 
 impl Written {
@@ -34,6 +37,9 @@ impl Written {
             Written::Accepted => b"accepted 1\n",
             Written::Code => &NO_RULES,
             Written::Compiled => b"compiled 0\n",
+            Written::Replies => {
+                b"job 0\nrule diepteMin checked 0 holds 0 fails 0 undecided 0\ntotal fails 0 undecided 0\n"
+            }
         }
     }
 }
@@ -82,6 +88,16 @@ fn written_into(alloc: Global, written: Written, writer: Narrow) -> (Outcome, Na
             )
         }
         Written::Bounds => run_bound(alloc, &mut model, &mut delivery, &mut code, &mut sink),
+        Written::Replies => {
+            run_desk(
+                alloc,
+                &mut model,
+                &mut delivery,
+                &mut code,
+                &mut Counting::new(b"enter\nlines 0".as_slice()),
+                &mut sink,
+            )
+        }
         _ => run_verify(alloc, &mut model, &mut code, &mut sink),
     };
     (outcome, sink.into_inner())
@@ -93,12 +109,13 @@ fn fails_after(alloc: Global, written: Written, left: usize, when_full: WhenFull
     outcome == Outcome::Failed(CommandFault::Write) && writer.has_first(left, written.bytes())
 }
 
-const EACH: [Written; 5] = [
+const EACH: [Written; 6] = [
     Written::Report,
     Written::Bounds,
     Written::Accepted,
     Written::Code,
     Written::Compiled,
+    Written::Replies,
 ];
 
 #[test]

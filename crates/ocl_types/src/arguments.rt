@@ -36,6 +36,7 @@ pub(crate) fn as_name(expression: &Expression) -> Option<(&Name, usize)>
 }
 
 /// The class of this name, which stands at the offset.
+#[inline(never)]
 pub(crate) fn known_class(
     model: &ClassModel,
     name: &str,
@@ -72,6 +73,7 @@ fn class_of_argument(model: &ClassModel, argument: &Expression) -> Result<ClassN
 
 /// The classes that arguments name.
 #[tactic(auto, unfolding(crate::specs::Elaboration::classes_of_arguments), using(crate::proofs::Several::several))]
+#[inline(never)]
 pub(crate) fn classes_of_arguments(
     alloc: Global,
     model: &ClassModel,
@@ -105,6 +107,7 @@ fn is_all_instances(link: &Link) -> bool
 }
 
 /// The name of the class in `C.allInstances(..)`, with its offset, where an operand and its first link are that.
+#[inline(never)]
 pub(crate) fn class_before_links<'t>(
     first: &'t Expression,
     links: &[Link],

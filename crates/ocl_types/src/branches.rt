@@ -33,6 +33,7 @@ fn branch_kind(model: &ClassModel, one: &Kind, other: &Kind) -> Option<Kind>
 
 /// One of two branches, by a condition.
 #[tactic(auto, unfolding(crate::specs::Elaboration::if_of))]
+#[inline(never)]
 pub(crate) fn if_of(
     alloc: Global,
     model: &ClassModel,

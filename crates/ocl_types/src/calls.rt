@@ -278,6 +278,7 @@ fn call_on(
 }
 
 /// A call by a dot: on a single value, or on each element of a collection, which is the variable of this number.
+#[inline(never)]
 pub(crate) fn dot_call(
     alloc: Global,
     model: &ClassModel,
@@ -308,6 +309,7 @@ pub(crate) fn dot_call(
 }
 
 /// A call by an arrow.
+#[inline(never)]
 pub(crate) fn arrow_call(
     alloc: Global,
     model: &ClassModel,
@@ -332,6 +334,7 @@ pub(crate) fn arrow_call(
 }
 
 /// All objects of a class.
+#[inline(never)]
 pub(crate) fn instances_call(
     class: ClassNo,
     arguments: &Arguments,

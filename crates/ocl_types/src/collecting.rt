@@ -44,6 +44,7 @@ pub(crate) fn collect_of(
 
 /// A feature of an object, or of each element of a collection, which is the variable of this number.
 #[tactic(auto, unfolding(crate::specs::Elaboration::property_of))]
+#[inline(never)]
 pub(crate) fn property_of(
     alloc: Global,
     model: &ClassModel,

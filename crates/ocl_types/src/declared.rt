@@ -89,6 +89,7 @@ fn inner_type(model: &ClassModel, declared: &DeclaredType) -> Result<ScalarKind,
 
 /// The kind of the values of a type.
 #[tactic(auto, using(ocl_text::proofs::ForAbove::type_views), unfolding(crate::specs::Elaboration::declared_kind))]
+#[inline(never)]
 pub(crate) fn declared_kind(model: &ClassModel, declared: &DeclaredType) -> Result<Kind, TypeFault>
     ensures gives { Gives type_fault (λ k. k) result
         (spec.declared_kind model.now (view_type declared.now)) }

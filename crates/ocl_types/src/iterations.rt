@@ -53,6 +53,7 @@ fn declared_element(
 
 /// The variables that a body sees beside those of the scope.
 #[tactic(auto, using(crate::proofs::Scopes::scopes), unfolding(crate::specs::Elaboration::inner_scope))]
+#[inline(never)]
 pub(crate) fn push_variables<'t>(
     model: &ClassModel,
     scope: &mut Scope<'t>,
@@ -86,6 +87,7 @@ pub(crate) fn push_variables<'t>(
 /// The variable that arguments see beside those of the scope after a dot: on a collection they stand in a body, which has
 /// one more.
 #[tactic(auto, using(crate::proofs::Scopes::scopes))]
+#[inline(never)]
 pub(crate) fn push_after_dot(
     model: &ClassModel,
     scope: &mut Scope<'_>,
@@ -202,6 +204,7 @@ fn iterate_twice(
 
 /// An iteration, where the next variable has this number and the body stands at the offset.
 #[tactic(auto, unfolding(crate::specs::Elaboration::iterate_of))]
+#[inline(never)]
 pub(crate) fn iterate_of(
     alloc: Global,
     model: &ClassModel,

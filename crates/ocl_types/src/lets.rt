@@ -9,6 +9,7 @@ use crate::nodes;
 use std::alloc::{AllocError, Global};
 
 /// A body inside values, with the body's kind.
+#[inline(never)]
 pub(crate) fn let_of(alloc: Global, values: Vec<Core>, body: Typed) -> Result<Typed, AllocError>
     ensures value { IfOk result (λ t. typed_of t ≡ tree.typed
         (tree.lets_of (map core_view values.items) (core_view body.core)) body.kind) }

@@ -21,6 +21,7 @@ use std::alloc::{AllocError, Global};
 
 /// What a word stands for in a rule of this context class.
 #[tactic(auto, unfolding(crate::specs::Elaboration::keyword_value))]
+#[inline(never)]
 pub(crate) fn keyword_value(context: ClassNo, keyword: Keyword) -> Typed
     ensures value { typed_of result ≡ spec.keyword_value context keyword }
     ensures known { (m : Model) → context < length m.classes → IsKindOf m result.kind }
@@ -66,6 +67,7 @@ pub(crate) fn feature_value(
 
 /// What a bare name stands for: a variable, or else a feature of one that needn't be named.
 #[tactic(auto, unfolding(crate::specs::Elaboration::name_value))]
+#[inline(never)]
 pub(crate) fn name_value(
     alloc: Global,
     model: &ClassModel,
@@ -96,6 +98,7 @@ pub(crate) fn name_value(
 
 /// A literal of an enumeration.
 #[tactic(auto, unfolding(crate::specs::Elaboration::literal_value))]
+#[inline(never)]
 pub(crate) fn literal_value(
     model: &ClassModel,
     enumeration: &str,

@@ -24,6 +24,7 @@ const NUMBER: Kind = Kind::Scalar(ScalarKind::Integer);
 
 /// An operator before an operand, which stands at its own offset.
 #[tactic(auto, unfolding(crate::specs::Elaboration::prefix_of))]
+#[inline(never)]
 pub(crate) fn prefix_of(
     alloc: Global,
     model: &ClassModel,
@@ -64,6 +65,7 @@ pub(crate) fn prefix_of(
 
 /// Refuses a left operand, before the right one is looked at, where an operator asks for a truth value.
 #[tactic(auto, unfolding(crate::specs::Elaboration::left_of))]
+#[inline(never)]
 pub(crate) fn left_of(
     model: &ClassModel,
     operator: BinaryOperator,
@@ -106,6 +108,7 @@ fn equality_operator(left: &Kind, right: &Kind) -> Option<Operator>
 
 /// An operator between two operands; the right one stands at its own offset.
 #[tactic(auto, unfolding(crate::specs::Elaboration::binary_of))]
+#[inline(never)]
 pub(crate) fn binary_of(
     alloc: Global,
     model: &ClassModel,

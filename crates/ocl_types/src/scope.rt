@@ -87,6 +87,7 @@ impl<'t> Scope<'t> {
 
     /// One more variable, of this name.
     #[tactic(auto, using(crate::proofs::Scopes::scopes))]
+    #[inline(never)]
     pub(crate) fn push_named(&mut self, name: &'t Name, kind: Kind) -> Result<(), TypeFault>
         ensures pushed { OnOk result (self.new
             ≡ spec.inside self.old (spec.scope_variable (spec.Named name.now) kind)) }

@@ -126,6 +126,7 @@ pub(crate) fn elaborate<'t>(
 /// The values of several arguments.
 #[cycle(walk)]
 #[tactic(auto, unfolding(crate::specs::Elaboration::elaborates), using(crate::proofs::Several::several))]
+#[inline(never)]
 fn elaborate_all<'t>(
     alloc: Global,
     environment: &Environment<'_>,
@@ -150,6 +151,7 @@ fn elaborate_all<'t>(
 
 /// The arguments of a call of this name.
 #[cycle(walk)]
+#[inline(never)]
 fn arguments_of<'t>(
     alloc: Global,
     environment: &Environment<'_>,
@@ -180,6 +182,7 @@ fn arguments_of<'t>(
 
 /// An operator with its right operand, after a left operand at its own offset.
 #[cycle(walk)]
+#[inline(never)]
 fn binary_link<'t>(
     alloc: Global,
     environment: &Environment<'_>,
@@ -213,6 +216,7 @@ fn binary_link<'t>(
 /// A call by a dot or an arrow on a value.
 #[cycle(walk)]
 #[tactic(auto, unfolding(crate::specs::Elaboration::call_of))]
+#[inline(never)]
 fn call_link<'t>(
     alloc: Global,
     environment: &Environment<'_>,
@@ -250,6 +254,7 @@ fn call_link<'t>(
 
 /// An iteration over a value.
 #[cycle(walk)]
+#[inline(never)]
 fn iterate_link<'t>(
     alloc: Global,
     environment: &Environment<'_>,
@@ -362,6 +367,7 @@ fn link_after<'t>(
 
 /// `allInstances` on a class of this name.
 #[cycle(walk)]
+#[inline(never)]
 fn instances_link<'t>(
     alloc: Global,
     environment: &Environment<'_>,
@@ -425,6 +431,7 @@ fn links_after<'t>(
 
 /// The value of a variable of a `let`, which the scope ends with from then on.
 #[cycle(walk)]
+#[inline(never)]
 fn bind_one<'t>(
     alloc: Global,
     environment: &Environment<'_>,
@@ -447,6 +454,7 @@ fn bind_one<'t>(
 
 /// The values of several variables of a `let`, each seen by those after it, behind that of a first one.
 #[cycle(walk)]
+#[inline(never)]
 fn bind_others<'t>(
     alloc: Global,
     environment: &Environment<'_>,

@@ -27,6 +27,7 @@ pub(crate) fn is_of(model: &ClassModel, kind: &Kind, wanted: BasicType) -> bool
 }
 
 /// Refuses a node that gives no truth value.
+#[inline(never)]
 pub(crate) fn asks_truth(model: &ClassModel, kind: &Kind, offset: usize) -> Result<(), TypeFault>
     requires { IsKindOf model.now kind.now }
     ensures { Gives type_fault (λ u. tt) result (spec.asks_truth model.now kind.now offset) }
@@ -77,6 +78,7 @@ pub(crate) fn as_wanted(alloc: Global, wanted: &Kind, value: Typed) -> Result<Co
 
 /// A value where a type is declared, which is written at the offset.
 #[tactic(auto, unfolding(crate::specs::Elaboration::bound_value))]
+#[inline(never)]
 pub(crate) fn bound_value(
     alloc: Global,
     model: &ClassModel,
@@ -107,6 +109,7 @@ pub(crate) struct Gathered {
 }
 
 /// A value as the source of an arrow: a single one is a set of itself.
+#[inline(never)]
 pub(crate) fn source_of_arrow(alloc: Global, value: Typed) -> Result<Gathered, AllocError>
     ensures value { IfOk result (λ g. gathered_view g ≡ spec.source_of_arrow (typed_of value)) }
     ensures known { (m : Model) → IsKindOf m value.kind

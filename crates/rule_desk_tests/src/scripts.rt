@@ -4,6 +4,7 @@ ghost use Rattle.std.specs.Prelude.{◌≡◌};
 ghost use Rattle.imkl_population.specs.Sizes.{sizes_of};
 ghost use Rattle.rule_cost.specs.Admission.{Fits};
 
+use crate::random::are_as_if_alone;
 use imkl_delivery::load;
 use imkl_model::ClassModel;
 use imkl_population::{Population, Sizes};
@@ -89,6 +90,15 @@ fn job(word: &str) -> usize {
     word.parse().unwrap_or(0)
 }
 
+/// What is asked of desks.
+#[derive(Clone, Copy)]
+pub(crate) enum Asked<'s> {
+    /// The calls of a script.
+    Script(&'s str),
+    /// Random calls for many jobs, and whether each of these is answered as if alone.
+    Random,
+}
+
 /// Makes the call of one line.
 fn perform<'a>(
     desk: &mut Desk<'a>,
@@ -129,18 +139,35 @@ fn perform_all<'a>(
     Ok(out)
 }
 
+fn answer_to<'a>(
+    alloc: Global,
+    admitted: &'a Admitted<'a>,
+    population: &'a Population<'a>,
+    asked: Asked<'_>,
+) -> Option<String>
+    requires { Fits admitted.now population.now.content }
+{
+    match asked {
+        Asked::Script(script) => perform_all(alloc, admitted, population, script).ok(),
+        Asked::Random => {
+            let alone = are_as_if_alone(alloc, admitted, population)?;
+            format!(in alloc; "{alone}").ok()
+        }
+    }
+}
+
 fn replies_within(
     alloc: Global,
     population: &Population<'_>,
     sizes: &Sizes<'_>,
     accepted: &Accepted<'_>,
-    script: &str,
+    asked: Asked<'_>,
 ) -> Option<String>
     requires one_model { population.now.content.model ≡ accepted.now.model }
     requires sizes { sizes.now ≡ sizes_of population.now.content }
 {
     match admit(alloc, accepted, sizes, BUDGET) {
-        Ok(admitted) => perform_all(alloc, &admitted, population, script).ok(),
+        Ok(admitted) => answer_to(alloc, &admitted, population, asked),
         Err(_refused) => None,
     }
 }
@@ -149,12 +176,12 @@ fn replies_accepted(
     alloc: Global,
     population: &Population<'_>,
     accepted: &Accepted<'_>,
-    script: &str,
+    asked: Asked<'_>,
 ) -> Option<String>
     requires { population.now.content.model ≡ accepted.now.model }
 {
     match population.sizes(alloc) {
-        Ok(sizes) => replies_within(alloc, population, &sizes, accepted, script),
+        Ok(sizes) => replies_within(alloc, population, &sizes, accepted, asked),
         Err(_refused) => None,
     }
 }
@@ -163,11 +190,11 @@ fn replies_by(
     alloc: Global,
     population: &Population<'_>,
     code: &[u8],
-    script: &str,
+    asked: Asked<'_>,
 ) -> Option<String> {
     let unit = read_unit(alloc, code).ok()?;
     match verify(alloc, population.model(), unit) {
-        Ok(accepted) => replies_accepted(alloc, population, &accepted, script),
+        Ok(accepted) => replies_accepted(alloc, population, &accepted, asked),
         Err(_refused) => None,
     }
 }
@@ -177,28 +204,28 @@ fn replies_on(
     model: &ClassModel,
     delivery: &str,
     code: &[u8],
-    script: &str,
+    asked: Asked<'_>,
 ) -> Option<String> {
     let population = load(alloc, delivery.as_bytes(), model).ok()?;
-    replies_by(alloc, &population, code, script)
+    replies_by(alloc, &population, code, asked)
 }
 
-fn replies(alloc: Global, delivery: &str, code: &[u8], script: &str) -> Option<String> {
+fn replies(alloc: Global, delivery: &str, code: &[u8], asked: Asked<'_>) -> Option<String> {
     let model = ClassModel::read(alloc, CATALOGUE.as_bytes()).ok()?;
-    replies_on(alloc, &model, delivery, code, script)
+    replies_on(alloc, &model, delivery, code, asked)
 }
 
-/// Whether a desk answers so to a script, of which each job is the report on this delivery by rules, each a line `CLASS
+/// Whether a desk answers so to what is asked, where each job is the report on this delivery by rules, each a line `CLASS
 /// NAME: CODE`.
 pub(crate) fn answers(
     alloc: Global,
     delivery: &str,
     rules: &str,
-    script: &str,
+    asked: Asked<'_>,
     expected: &str,
 ) -> Result<bool, AllocError> {
     let code = file_of_rules(alloc, rules)?;
-    match replies(alloc, delivery, &code, script) {
+    match replies(alloc, delivery, &code, asked) {
         Some(text) => Ok(text.as_str() == expected),
         None => Ok(false),
     }

@@ -1,6 +1,6 @@
 //! Scripts worked by hand.
 
-use crate::scripts::answers;
+use crate::scripts::{Asked, answers};
 use std::test::*;
 use test_support::{DUCT, DUCT_OF_EQUALS};
 
@@ -38,7 +38,7 @@ bound 0";
             rt.alloc(),
             DUCT,
             HOLDS_DEEP_ENOUGH,
-            script,
+            Asked::Script(script),
             expected.as_str()
         )?
     );
@@ -57,7 +57,15 @@ over 0 15
 rule s checked 1 holds 1 fails 0 undecided 0
 total fails 0 undecided 0
 ";
-    assert!(rt; answers(rt.alloc(), DUCT_OF_EQUALS, DEPTHS_ADD_UP, script, expected)?);
+    assert!(rt;
+        answers(
+            rt.alloc(),
+            DUCT_OF_EQUALS,
+            DEPTHS_ADD_UP,
+            Asked::Script(script),
+            expected
+        )?
+    );
     Ok(())
 }
 
@@ -73,7 +81,15 @@ withdrawn 0
 refused desk 1
 ";
     let none = r#"{"model":"imkl-profile","objects":[]}"#;
-    assert!(rt; answers(rt.alloc(), none, HOLDS_DEEP_ENOUGH, script, expected)?);
+    assert!(rt;
+        answers(
+            rt.alloc(),
+            none,
+            HOLDS_DEEP_ENOUGH,
+            Asked::Script(script),
+            expected
+        )?
+    );
     Ok(())
 }
 
@@ -100,6 +116,20 @@ paused 3 4
 refused desk 1
 refused desk 1
 ";
-    assert!(rt; answers(rt.alloc(), DUCT, HOLDS_DEEP_ENOUGH, script, expected)?);
+    assert!(rt;
+        answers(
+            rt.alloc(),
+            DUCT,
+            HOLDS_DEEP_ENOUGH,
+            Asked::Script(script),
+            expected
+        )?
+    );
+    Ok(())
+}
+
+#[test]
+fn twenty_jobs_are_each_answered_as_if_alone(rt: HostRuntime) -> Result<(), Fail> {
+    assert!(rt; answers(rt.alloc(), DUCT, HOLDS_DEEP_ENOUGH, Asked::Random, "true")?);
     Ok(())
 }

@@ -1,47 +1,130 @@
 -- What the machine finds that its next step is charged is the charge of its configuration.
-use Rattle.std.proofs.Common.{◌≡◌, ℕ, suc, ◌+◌, ◌-◌, ◌^◌, ◌<◌, ◌≤◌, Bool, true, false, List, [], ◌∷◌, length, get_or, take, drop, Some, None, refl, sym, ap, ◌∙◌, arith}
-use Rattle.std.specs.Prelude.{min, nat_le, slice_get, slice_range, if◌then◌else◌}
-use Rattle.std.proofs.lemmas.Bool.{lt-leb, le-leb}
+use Rattle.std.proofs.Common.{◌≡◌, ℕ, ◌+◌, ◌-◌, ◌*◌, ◌<◌, ◌≤◌, Bool, true, false, List, [], ◌∷◌, length, get_or, take, drop, Some, None, refl, sym, ap, ◌∙◌, arith}
+use Rattle.std.specs.Prelude.{nat_le, slice_get, slice_range, if◌then◌else◌}
+use Rattle.std.proofs.lemmas.Bool.{and_parts, lt-leb, le-leb}
 use Rattle.std.proofs.lemmas.List.{length-drop}
 use Rattle.std.proofs.lemmas.Option.{slice_get-get_or}
+use Rattle.ocl_base.specs.declared.collection_kind.CollectionKind.{CollectionKind}
+use Rattle.imkl_population.specs.Population.{Population}
+use Rattle.ocl_kinds.specs.declared.kind.Kind.TheVariants as kind
+use Rattle.ocl_kinds.specs.declared.kind.ScalarKind.{ScalarKind}
+use Rattle.ocl_kinds.specs.declared.kind.ScalarKind.TheVariants as element
 use Rattle.rule_code.specs.declared.instruction.Instr.{Instr}
 use Rattle.rule_code.specs.declared.instruction.Instr.TheVariants as instrs
 use Rattle.rule_code.specs.declared.kind.WrittenKind.TheVariants as kinds
+use Rattle.rule_verify.specs.declared.pattern.Pattern.{Pattern}
+use Rattle.rule_verify.specs.declared.pattern.Pattern.TheVariants.{Fitting, CollectionOf}
 use Rattle.rule_verify.specs.CodeTree.{Block, Branch, Torn, shape_of, cut_one, code_tree}
 use Rattle.rule_verify.specs.declared.shape.Shape.{Shape}
 use Rattle.rule_verify.specs.declared.shape.Shape.TheVariants.{Single, OneBody, TwoBodies}
+use Rattle.rule_verify.specs.InstrKinds.{scalar_meant, operands_of, ends_with}
 use Rattle.rule_verify.proofs.ForAbove.{tree_cons, stretch_first}
 use Rattle.rule_cost.specs.Bounds.{top_length, second_length, extra_charge, taking_charge, ending_charge}
-use Rattle.rule_machine.specs.declared.value.Value.{Value as Held}
-use Rattle.rule_machine.specs.declared.value.Item.{Item}
-use Rattle.rule_machine.specs.declared.iterating.Iteration.{Iteration}
-use Rattle.rule_machine.specs.declared.control.Control.{Control}
-use Rattle.rule_machine.specs.declared.control.Control.TheVariants as control
+use Rattle.rule_values.specs.Value as value
 use Rattle.rule_values.specs.Value.{Element, Value}
 use Rattle.rule_values.specs.Endings.{Source}
-use Rattle.rule_machine.specs.Machine.{Piece, Sequence, configuration}
+use Rattle.rule_slots.specs.declared.slot.Slot.{Slot}
+use Rattle.rule_slots.specs.Slots.{Lists, SlotIs, SlotsAre, plain_mark}
+use Rattle.rule_slots.proofs.ForAbove.{as_many}
+use Rattle.rule_machine.specs.declared.control.Control.{Control}
+use Rattle.rule_machine.specs.declared.control.Control.TheVariants as control
+use Rattle.rule_machine.specs.Machine.{Setting, judged_by, is_what, are_what, Piece, Sequence, LetEnd, Opened, Turning, Skipped, Configuration, configuration, step}
 use Rattle.rule_machine.specs.Places.{long}
-use Rattle.rule_machine.specs.Charges.{longs, turn_charge, piece_charge, charge_of}
-use Rattle.rule_machine.specs.Meant.{meant, meant_items, source}
-use Rattle.rule_machine.specs.Shown.{all_meant, piece, pieces, configuration_at, turn_charge_by}
+use Rattle.rule_machine.specs.Charges.{longs, turn_charge, charge_of}
+use Rattle.rule_machine.specs.StandFor.{TopStandsFor, IsAt}
+use Rattle.rule_machine.specs.Shown.{HasNext, IsMark, slot_length, slot_lengths, turn_charge_by, mark_charge_by}
+use Rattle.rule_machine.proofs.InstrSteps.{past, plain_fits, ops_are}
+use Rattle.rule_machine.proofs.EndSlots.{IsMany, many_what}
+use Rattle.rule_machine.proofs.TurnEnds.{end_of}
+
+-- ---- lengths
+
+-- a slot of a collection, or of invalid, is as long as its value
+many_long : (l : Lists) (p : List Slot) (s : Slot) (v : Value) → SlotIs l p (length p) s v → IsMany v → slot_length s ≡ long v
+many_long l p s (value.Collection c es) h k = ap (λ m. if plain_mark m then s.count else 0) h.0 ∙ sym (as_many l p (length p) s es (omega arith) h.1)
+many_long l p s value.Invalid h k = ap (λ m. if plain_mark m then s.count else 0) h
+many_long l p s v h k = absurd k
+
+elements_what : (pop : Population) (k : ScalarKind) (v : Value) → is_what pop (CollectionOf k) v ≡ true → IsMany v
+elements_what pop k (value.Collection c es) h = tt
+elements_what pop k value.Invalid h = tt
+elements_what pop k value.Null h = cc
+elements_what pop k (value.Single v) h = cc
+
+many_in : (pop : Population) (c : CollectionKind) (k : ScalarKind) (v : Value) → is_what pop (Fitting (kind.Collection c k)) v ≡ true → IsMany v
+many_in pop c k (value.Collection d es) h = tt
+many_in pop c k value.Invalid h = tt
+many_in pop c k value.Null h = cc
+many_in pop c k (value.Single v) h = cc
 
 -- ---- operands
 
-pub top_there : (l : List Held) (x : Held) → Some x ≡ slice_get l 0 → long (meant x) ≡ top_length (longs (all_meant l))
+-- the length of the topmost operand, and of the one below it
+pub top_there : (l : List Slot) (x : Slot) → Some x ≡ slice_get l 0 → slot_length x ≡ top_length (slot_lengths l)
 top_there [] x e = cc
-top_there (y ∷ l) x e = let same : x ≡ y = cc in ap (λ v. long (meant v)) same
+top_there (y ∷ l) x e = let same : x ≡ y = cc in ap slot_length same
 
-pub none_there : (l : List Held) → None ≡ slice_get l 0 → 0 ≡ top_length (longs (all_meant l))
+-- there is none
+pub none_there : (l : List Slot) → None ≡ slice_get l 0 → 0 ≡ top_length (slot_lengths l)
 none_there [] e = refl
 none_there (y ∷ l) e = cc
 
-pub second_there : (l : List Held) (x : Held) → Some x ≡ slice_get l 1 → long (meant x) ≡ second_length (longs (all_meant l))
+-- the one below it
+pub second_there : (l : List Slot) (x : Slot) → Some x ≡ slice_get l 1 → slot_length x ≡ second_length (slot_lengths l)
 second_there [] x e = cc
 second_there (y ∷ l) x e = top_there l x e
 
-pub no_second : (l : List Held) → None ≡ slice_get l 1 → 0 ≡ second_length (longs (all_meant l))
+-- there is none below it
+pub no_second : (l : List Slot) → None ≡ slice_get l 1 → 0 ≡ second_length (slot_lengths l)
 no_second [] e = refl
 no_second (y ∷ l) e = none_there l e
+
+module _ (pop : Population) (l : Lists) (p : List Slot) where
+  top_same : (w : Pattern) (ws : List Pattern) (os : List Slot) (ops : List Value) → SlotsAre l p (length p) os ops → are_what pop (w ∷ ws) ops ≡ true → ((v : Value) → is_what pop w v ≡ true → IsMany v) → top_length (slot_lengths os) ≡ top_length (longs ops)
+  top_same w ws [] [] are what many = refl
+  top_same w ws [] (v ∷ ops) are what many = absurd are
+  top_same w ws (o ∷ os) [] are what many = absurd are
+  top_same w ws (o ∷ os) (v ∷ ops) are what many = many_long l p o v are.0 (many v (and_parts (is_what pop w v) (are_what pop ws ops) what).0)
+
+  second_same : (x w : Pattern) (ws : List Pattern) (os : List Slot) (ops : List Value) → SlotsAre l p (length p) os ops → are_what pop (x ∷ w ∷ ws) ops ≡ true → ((v : Value) → is_what pop w v ≡ true → IsMany v) → second_length (slot_lengths os) ≡ second_length (longs ops)
+  second_same x w ws [] [] are what many = refl
+  second_same x w ws [] (v ∷ ops) are what many = absurd are
+  second_same x w ws (o ∷ os) [] are what many = absurd are
+  second_same x w ws (o ∷ os) (v ∷ ops) are what many = top_same w ws os ops are.1 (and_parts (is_what pop x v) (are_what pop (w ∷ ws) ops) what).1 many
+
+-- an instruction is charged by the lengths of its operands' slots
+module _ (s : Setting) (l : Lists) (p : List Slot) where
+  abbrev Takes : Instr → List Value → Type 0
+  Takes i ops = shape_of i ≡ Single → are_what s.population (operands_of (judged_by s) i) ops ≡ true
+
+  both_same : (x w : Pattern) (os : List Slot) (ops : List Value) → SlotsAre l p (length p) os ops → are_what s.population (x ∷ w ∷ []) ops ≡ true → ((v : Value) → is_what s.population x v ≡ true → IsMany v) → ((v : Value) → is_what s.population w v ≡ true → IsMany v)
+      → second_length (slot_lengths os) * top_length (slot_lengths os) ≡ second_length (longs ops) * top_length (longs ops)
+  both_same x w os ops are what many other =
+      ap (λ n. n * top_length (slot_lengths os)) (second_same s.population l p x w [] os ops are what other) ∙ ap (λ n. second_length (longs ops) * n) (top_same s.population l p x (w ∷ []) os ops are what many)
+
+  extra_same : (i : Instr) (os : List Slot) (ops : List Value) → SlotsAre l p (length p) os ops → Takes i ops → extra_charge i (slot_lengths os) ≡ extra_charge i (longs ops)
+  extra_same (instrs.Includes k) os ops are what =
+      let w = scalar_meant (judged_by s) k in
+      second_same s.population l p (Fitting (kind.Scalar w)) (CollectionOf w) [] os ops are (what refl) (elements_what s.population w)
+  extra_same (instrs.Count k) os ops are what =
+      let w = scalar_meant (judged_by s) k in
+      second_same s.population l p (Fitting (kind.Scalar w)) (CollectionOf w) [] os ops are (what refl) (elements_what s.population w)
+  extra_same (instrs.IncAll k) os ops are what =
+      let w = scalar_meant (judged_by s) k in
+      both_same (CollectionOf w) (CollectionOf w) os ops are (what refl) (elements_what s.population w) (elements_what s.population w)
+  extra_same (instrs.ExcAll k) os ops are what =
+      let w = scalar_meant (judged_by s) k in
+      both_same (CollectionOf w) (CollectionOf w) os ops are (what refl) (elements_what s.population w) (elements_what s.population w)
+  extra_same (instrs.Eq (kinds.Collection c k)) os ops are what =
+      let w = scalar_meant (judged_by s) k in
+      let fit = Fitting (kind.Collection c w) in
+      both_same fit fit os ops are (what refl) (many_in s.population c w) (many_in s.population c w)
+  extra_same instrs.Sum os ops are what = top_same s.population l p (CollectionOf element.Integer) [] os ops are (what refl) (elements_what s.population element.Integer)
+  extra_same (instrs.AsSet k) os ops are what =
+      let w = scalar_meant (judged_by s) k in
+      let top = top_same s.population l p (CollectionOf w) [] os ops are (what refl) (elements_what s.population w) in
+      ap (λ n. n * top_length (slot_lengths os)) top ∙ ap (λ n. top_length (longs ops) * n) top
+  extra_same i os ops are what = refl
 
 -- ---- turns
 
@@ -50,12 +133,8 @@ turn_left i s n [] e = ap (λ b. if b then ending_charge i (length s.elements) e
 turn_left i s n (x ∷ left) e = ap (λ b. if b then ending_charge i (length s.elements) else 0) (sym (lt-leb (length s.elements) n (omega (arith, e))))
 
 -- the next turn is charged by the number of the elements that were taken
-pub turn_by : (i : Instr) (s : Source) (n : ℕ) → turn_charge i s (drop n s.elements) ≡ turn_charge_by i (length s.elements) n
+turn_by : (i : Instr) (s : Source) (n : ℕ) → turn_charge i s (drop n s.elements) ≡ turn_charge_by i (length s.elements) n
 turn_by i s n = turn_left i s n (drop n s.elements) (length-drop n s.elements)
-
-pub as_many_meant : (is : List Item) → length (meant_items is) ≡ length is
-as_many_meant [] = refl
-as_many_meant (i ∷ is) = ap suc (as_many_meant is)
 
 -- ---- instructions
 
@@ -97,20 +176,59 @@ cut_charge i (TwoBodies n m) is q vs os e = by_test (nat_le (n + m) (length is))
 first_is : (code : List Instr) (at : ℕ) (i : Instr) → at < length code → slice_get code at ≡ Some i → i ≡ get_or code at i
 first_is code at i lt here = let e : Some i ≡ Some (get_or code at i) = sym here ∙ slice_get-get_or code at i lt in cc
 
--- the next step at an instruction is charged by it
-pub instr_charge : (code : List Instr) (at end : ℕ) (cs : List Control) (vs os : List Held) (i : Instr) → at < end → end ≤ length code → slice_get code at ≡ Some i → charge_of (configuration_at code at end cs vs os) ≡ 1 + extra_charge i (longs (all_meant os))
-instr_charge code at end cs vs os i lt le here =
-    ap (λ l. charge_of (configuration (Sequence (code_tree l) ∷ pieces code cs) (all_meant vs) (all_meant os))) (stretch_first code at end i lt le (first_is code at i (omega arith) here))
-    ∙ ap (λ t. charge_of (configuration (Sequence t ∷ pieces code cs) (all_meant vs) (all_meant os))) (tree_cons i (slice_range code (at + 1) end))
-    ∙ cut_charge i (shape_of i) (slice_range code (at + 1) end) (pieces code cs) (all_meant vs) (all_meant os) refl
+at_instr : (code : List Instr) (at end : ℕ) (q : List Piece) (vars ops : List Value) (i : Instr) → at < end → end ≤ length code → slice_get code at ≡ Some i → charge_of (configuration (Sequence (code_tree (slice_range code at end)) ∷ q) vars ops) ≡ 1 + extra_charge i (longs ops)
+at_instr code at end q vars ops i lt le here =
+    ap (λ l. charge_of (configuration (Sequence (code_tree l) ∷ q) vars ops)) (stretch_first code at end i lt le (first_is code at i (omega arith) here))
+    ∙ ap (λ t. charge_of (configuration (Sequence t ∷ q) vars ops)) (tree_cons i (slice_range code (at + 1) end))
+    ∙ cut_charge i (shape_of i) (slice_range code (at + 1) end) q vars ops refl
 
--- ---- marks
+module _ (s : Setting) (l : Lists) (code : List Instr) (p : List Slot) where
+  -- the next step at an instruction is charged by it
+  pub instr_charge : (at end : ℕ) (cs : List Control) (vs os : List Slot) (i : Instr) (c : Configuration) → at < end → end ≤ length code → slice_get code at ≡ Some i → IsAt s l code p at end cs vs os c → HasNext (step s c) → charge_of c ≡ 1 + extra_charge i (slot_lengths os)
+  instr_charge at end cs vs os i c lt le here h goes =
+      let same = extra_same s l p i os h.ops (ops_are s l code p at end cs vs os i c lt le here h goes) (plain_fits s l code p at end cs vs os i c lt le here h goes) in
+      ap charge_of h.same ∙ at_instr code at end h.pieces h.vars h.ops i lt le here ∙ ap (λ n. 1 + n) (sym same)
 
--- the end of a turn is charged by what was taken, and by what comes next
-pub turning_charge : (code : List Instr) (i : Iteration) (q : List Piece) (os : List Held) (len top taking turn both r : ℕ) → len ≡ length i.elements.items → top ≡ top_length (longs (all_meant os)) → taking ≡ taking_charge i.instr top
-    → turn ≡ min (turn_charge_by i.instr len i.next) (2 ^ 128 - 1) → both ≡ min (taking + turn) (2 ^ 128 - 1) → r ≡ min (both + 1) (2 ^ 128 - 1) → r ≡ min (piece_charge (piece code (control.Turning i) ∷ q) (all_meant os)) (2 ^ 128 - 1)
-turning_charge code i q os len top taking turn both r is_len is_top is_taking is_turn is_both is_all =
-    let es = meant_items i.elements.items in
-    let next : turn_charge i.instr (source i.kind es) (drop i.next es) ≡ turn_charge_by i.instr len i.next = turn_by i.instr (source i.kind es) i.next ∙ ap (λ n. turn_charge_by i.instr n i.next) (as_many_meant i.elements.items ∙ sym is_len) in
-    let took : taking ≡ taking_charge i.instr (top_length (longs (all_meant os))) = is_taking ∙ ap (taking_charge i.instr) is_top in
-    omega (arith, next, took, is_turn, is_both, is_all)
+  -- ---- marks
+
+  taking_same : (i : Instr) (y : Slot) (v : Value) → SlotIs l p (length p) y v → is_what s.population (ends_with (judged_by s) i) v ≡ true → taking_charge i (slot_length y) ≡ taking_charge i (long v)
+  taking_same (instrs.CollectFlat n) y v h w = many_long l p y v h (many_what s.population v w)
+  taking_same i y v h w = refl
+
+  -- the step of a mark is charged by it
+  pub mark_charged : (at end : ℕ) (m : Control) (cs : List Control) (vs os : List Slot) (c : Configuration) → at ≡ end → IsMark m → IsAt s l code p at end (m ∷ cs) vs os c → HasNext (step s c) → charge_of c ≡ mark_charge_by m (slot_lengths os)
+  mark_charged at end (control.Rest a b) cs vs os c e mark h goes = absurd mark
+  mark_charged at end control.LetEnd cs vs os c e mark h goes =
+      let f = past s l code p at end (control.LetEnd ∷ cs) vs os c e h in
+      by_pieces f.0 f.1 f.2 f.3 f.4 f.5 f.7
+    where
+      by_pieces : (ps : List Piece) (vars ops : List Value) (v n : ℕ) → c ≡ configuration ps vars ops → TopStandsFor s l code p v n (control.LetEnd ∷ cs) vs os ps vars ops → charge_of c ≡ 1
+      by_pieces (LetEnd ∷ q) vars ops v n same h = ap charge_of same
+      by_pieces ps vars ops v n same h = absurd h
+  mark_charged at end control.Skipped cs vs os c e mark h goes =
+      let f = past s l code p at end (control.Skipped ∷ cs) vs os c e h in
+      by_pieces f.0 f.1 f.2 f.3 f.4 f.5 f.7
+    where
+      by_pieces : (ps : List Piece) (vars ops : List Value) (v n : ℕ) → c ≡ configuration ps vars ops → TopStandsFor s l code p v n (control.Skipped ∷ cs) vs os ps vars ops → charge_of c ≡ 1
+      by_pieces (Skipped ∷ q) vars ops v n same h = ap charge_of same
+      by_pieces ps vars ops v n same h = absurd h
+  mark_charged at end (control.Opened t) cs vs os c e mark h goes =
+      let f = past s l code p at end (control.Opened t ∷ cs) vs os c e h in
+      by_pieces f.0 f.1 f.2 f.3 f.4 f.5 f.7
+    where
+      by_pieces : (ps : List Piece) (vars ops : List Value) (v n : ℕ) → c ≡ configuration ps vars ops → TopStandsFor s l code p v n (control.Opened t ∷ cs) vs os ps vars ops → charge_of c ≡ 1 + turn_charge_by t.instr t.source.count 0
+      by_pieces (Opened i body source kept ∷ q) vars ops v n same h =
+          let many : length source.elements ≡ t.source.count = as_many l p t.opened t.source source.elements (omega (arith, h.0)) h.2.part in
+          ap charge_of same ∙ ap (λ k. 1 + k) (turn_by i source 0 ∙ ap (λ k. turn_charge_by i k 0) many ∙ ap (λ j. turn_charge_by j t.source.count 0) h.2.same_instr)
+      by_pieces ps vars ops v n same h = absurd h
+  mark_charged at end (control.Turning t) cs vs os c e mark h goes =
+      let e0 = end_of s l code p at end t cs vs os c e h goes in
+      let r = e0.leaving in
+      let same : c ≡ configuration (Turning r.i r.body r.source r.left r.bodies ∷ r.q) r.vars_before (r.value ∷ r.ops) = r.before in
+      let many : length r.source.elements ≡ t.source.count = as_many l p t.opened t.source r.source.elements (omega (arith, r.turn.above)) r.turn.part in
+      let next : turn_charge r.i r.source r.left ≡ turn_charge_by t.instr t.source.count t.next =
+      ap (turn_charge r.i r.source) r.turn.rest ∙ turn_by r.i r.source t.next ∙ ap (λ k. turn_charge_by r.i k t.next) many ∙ ap (λ j. turn_charge_by j t.source.count t.next) r.turn.same_instr in
+      let took : taking_charge r.i (long r.value) ≡ taking_charge t.instr (slot_length e0.y) =
+      ap (λ j. taking_charge j (long r.value)) r.turn.same_instr ∙ sym (taking_same t.instr e0.y r.value r.operand r.what) in
+      let top : top_length (slot_lengths os) ≡ slot_length e0.y = ap (λ x. top_length (slot_lengths x)) e0.ops_are in
+      ap charge_of same ∙ ap (λ k. 1 + k + turn_charge r.i r.source r.left) (took ∙ ap (taking_charge t.instr) (sym top)) ∙ ap (λ k. 1 + taking_charge t.instr (top_length (slot_lengths os)) + k) next

@@ -20,11 +20,13 @@ use Rattle.rule_verify.specs.Patterns.{matches, a_boolean}
 use Rattle.rule_verify.specs.KindRules.{InstrFault, Enclosing, kinds_after, rule_ends, instr_fault}
 use Rattle.rule_verify.proofs.ForAbove.{rule_accepted, has_context}
 use Rattle.rule_values.specs.Value.{object_value}
-use Rattle.rule_machine.specs.Machine.{setting_of, judged_by, Piece, Sequence, Configuration, run, start}
+use Rattle.rule_machine.specs.Machine.{Setting, setting_of, judged_by, Piece, Sequence, Configuration, run, start}
 use Rattle.rule_cost.specs.Admission.{rule_step_bound}
 use Rattle.rule_machine.specs.Laws.{IsAcceptedRun, tree_of_rule, rule_bound, NeverStuck, EndsWithin, EndsWithinBudget, StandsInKinds, rule_depths_in, StaysWithinDepths, PlacesAreByRules}
-use Rattle.rule_machine.specs.Places.{self_place, places_after, stand, Mark, Here, now_at, marks_before}
-use Rattle.rule_machine.specs.Live.{IsOneBoolean, GoesNoDeeper, Going, Live}
+use Rattle.rule_machine.specs.Counts.{Balanced}
+use Rattle.rule_machine.specs.Places.{Place, self_place, places_after, stand, Mark, Here, now_at, marks_before}
+use Rattle.rule_machine.specs.Live.{Kinded, IsOneBoolean, GoesNoDeeper, Going, Live}
+use Rattle.rule_machine.proofs.Counted.{balanced}
 use Rattle.rule_machine.proofs.Marks.{marks_are}
 use Rattle.rule_machine.proofs.Deep.{sequence_room, as_many_at}
 use Rattle.rule_machine.proofs.Moves.{moves, settled, held}
@@ -47,9 +49,11 @@ rule_fits : (u : Content) (p : Population) (n o : ℕ) → IsAcceptedRun u p n o
 rule_fits u p n o a =
     (EachFits-at (RuleFits u.texts u.symbols) [] u.rules n (unit_rule u n) (slice_get-get_or u.rules n empty_rule a.rule) a.unit.rules).1.code
 
--- the start of accepted code can go on, for as many steps as its bound
-begins : (u : Content) (p : Population) (n o : ℕ) → IsAcceptedRun u p n o → Live (setting_of u p n) (rule_depths_in u p n) (start (tree_of_rule u n) o) (marks_before (setting_of u p n) (tree_of_rule u n) (start (tree_of_rule u n) o)) (rule_bound u p n)
-begins u p n o a =
+-- the code of a rule has kinds, is charged at most its bound, and leaves one operand, which fits Boolean
+code_kinded : (u : Content) (p : Population) (n o : ℕ) → IsAcceptedRun u p n o
+    → Kinded (setting_of u p n) (tree_of_rule u n) (self_place (setting_of u p n) ∷ []) [] (places_after (setting_of u p n) (tree_of_rule u n) (self_place (setting_of u p n) ∷ []) []) (rule_bound u p n)
+    × IsOneBoolean (setting_of u p n) (places_after (setting_of u p n) (tree_of_rule u n) (self_place (setting_of u p n) ∷ []) [])
+code_kinded u p n o a =
     let s = setting_of u p n in
     let t = tree_of_rule u n in
     let accepted = code_has_kinds u p n o a in
@@ -58,15 +62,35 @@ begins u p n o a =
     let ended = ended_says (judged_by s) a_boolean (instr_count t) after.0 accepted.0 after.2 in
     let b = bridge s t e (self_place s ∷ []) [] 0 after.0 refl (code_is_cut s (unit_rule u n).code (rule_fits u p n o a)) refl after.1 in
     let one = body_ends_in s t e (self_place s ∷ []) 0 after.0 accepted.0 refl after.1 ended.0 in
+    (b, subst (IsOneBoolean s) (sym one.0) (ap (matches p.model a_boolean) one.1 ∙ ended.1))
+
+one_long : (s : Setting) (ps : List Place) → IsOneBoolean s ps → length ps ≡ 1
+one_long s [] b = absurd b
+one_long s (p ∷ []) b = refl
+one_long s (p ∷ q ∷ ps) b = absurd b
+
+-- the code of a rule takes no operand from below, and leaves one
+pub code_balanced : (u : Content) (p : Population) (n o : ℕ) → IsAcceptedRun u p n o → Balanced (setting_of u p n) (tree_of_rule u n) 0 1
+code_balanced u p n o a =
+    let s = setting_of u p n in
+    let k = code_kinded u p n o a in
+    let out = places_after s (tree_of_rule u n) (self_place s ∷ []) [] in
+    subst (Balanced s (tree_of_rule u n) 0) (one_long s out k.1) (balanced s (tree_of_rule u n) (self_place s ∷ []) [] out (rule_bound u p n) k.0)
+
+-- the start of accepted code can go on, for as many steps as its bound
+begins : (u : Content) (p : Population) (n o : ℕ) → IsAcceptedRun u p n o → Live (setting_of u p n) (rule_depths_in u p n) (start (tree_of_rule u n) o) (marks_before (setting_of u p n) (tree_of_rule u n) (start (tree_of_rule u n) o)) (rule_bound u p n)
+begins u p n o a =
+    let s = setting_of u p n in
+    let t = tree_of_rule u n in
+    let k = code_kinded u p n o a in
     let object = and_from _ _ (lt-ltb o (length p.objects) a.object.0) a.object.1 in
     let out = places_after s t (self_place s ∷ []) [] in
-    let boolean : IsOneBoolean s out = subst (IsOneBoolean s) (sym one.0) (ap (matches p.model a_boolean) one.1 ∙ ended.1) in
     let q : List Piece = Sequence t ∷ [] in
     let ms : List Mark = Here (stand (self_place s ∷ []) []) ∷ Here (stand (self_place s ∷ []) out) ∷ [] in
     let deep = rule_depths_in u p n in
     let whole : GoesNoDeeper s deep t 1 0 0 = record { blocks = 0; covered = omega arith; within = record { operands = omega arith; variables = omega arith; blocks = omega arith } } in
     let g : Going s deep q ms (rule_bound u p n) =
-    (rule_bound u p n, 0, [], [], out, refl, b, ap (stand (self_place s ∷ [])) (sym (append-nil out)), boolean, omega arith, whole) in
+    (rule_bound u p n, 0, [], [], out, refl, k.0, ap (stand (self_place s ∷ [])) (sym (append-nil out)), k.1, omega arith, whole) in
     subst (λ l. Live s deep (start t o) l (rule_bound u p n)) (sym (marks_are q (object_value o ∷ []) [] [] ms refl))
     (settled s deep a.model a.population q (object_value o ∷ []) [] (rule_bound u p n) ms (record { in_kind = object; within = omega arith }, tt) tt (sequence_room s deep t (stand (self_place s ∷ []) []) 0 whole) g)
 

@@ -1,23 +1,29 @@
--- What the parts of a machine stand for.
-use Rattle.std.specs.Prelude.{◌≡◌, ◌⊎◌, ℕ, ◌+◌, ◌<◌, ◌≤◌, Bool, true, List, [], ◌∷◌, ◌++◌, Vec, vec_capacity, length, map, drop, Option, Some, None, nat_le, if◌then◌else◌, slice_range}
-use Rattle.std.specs.Global.{Global}
+-- What the parts of a machine stand for, and what its steps keep.
+use Rattle.std.specs.Prelude.{◌≡◌, ◌⊎◌, ℕ, ◌+◌, ◌*◌, ◌<◌, ◌≤◌, true, List, [], ◌∷◌, length, map, nat_le, if◌then◌else◌, Option, Some, None}
+use Rattle.std.specs.List.{list_any}
+use Rattle.imkl_population.specs.FinishedPopulation.{FinishedPopulation}
+use Rattle.imkl_population.specs.declared.scalar.Scalar.TheVariants as scalar
+use Rattle.imkl_model.specs.ClassModel.{Model}
+use Rattle.rule_code.specs.Content.{Content}
 use Rattle.rule_code.specs.declared.instruction.Instr.{Instr}
-use Rattle.rule_verify.specs.CodeTree.{CodeTree, code_tree}
-use Rattle.rule_verify.specs.UnitRules.{unit_rule}
-use Rattle.rule_cost.specs.Bounds.{ending_charge}
-use Rattle.rule_machine.specs.declared.value.Value.{Value as Held}
-use Rattle.rule_machine.specs.declared.iterating.Iteration.{Iteration}
+use Rattle.rule_verify.specs.declared.depths.Depths.{Depths}
+use Rattle.rule_verify.specs.CodeTree.{code_tree}
+use Rattle.rule_verify.specs.InstrKinds.{gathers}
+use Rattle.rule_verify.specs.UnitRules.{unit_rule, depths_of}
+use Rattle.rule_cost.specs.Bounds.{top_length, taking_charge, ending_charge}
+use Rattle.rule_slots.specs.declared.slot.Slot.{Slot}
+use Rattle.rule_slots.specs.Slots.{Lists, plain_mark}
+use Rattle.rule_values.specs.Value as value
+use Rattle.rule_values.specs.Value.{Value}
+use Rattle.rule_machine.specs.declared.control.Turn.{Turn}
 use Rattle.rule_machine.specs.declared.control.Control.{Control}
 use Rattle.rule_machine.specs.declared.control.Control.TheVariants as control
 use Rattle.rule_machine.specs.declared.state.State.{State}
 use Rattle.rule_machine.specs.declared.task.Task.{Task}
-use Rattle.imkl_population.specs.declared.scalar.Scalar.TheVariants as scalar
-use Rattle.rule_values.specs.Value as value
-use Rattle.rule_values.specs.Value.{Value}
-use Rattle.rule_machine.specs.Machine.{Setting, setting_of, Piece, Sequence, LetEnd, Opened, Turning, Skipped, Configuration, configuration, step, piece_advanced, turned, start}
+use Rattle.rule_machine.specs.Machine.{Setting, setting_of, Piece, Configuration, step, start}
 use Rattle.rule_machine.specs.Verdict.{outcome}
 use Rattle.rule_machine.specs.Live.{is_iteration}
-use Rattle.rule_machine.specs.Meant.{meant, meant_items, source}
+use Rattle.rule_machine.specs.StandFor.{IsAt, Between}
 
 -- ---- what a run is over
 
@@ -27,52 +33,33 @@ code_in t = (unit_rule t.accepted.now.unit t.rule).code
 abbrev pub setting_in : Task → Setting
 setting_in t = setting_of t.accepted.now.unit t.population.now.content t.rule
 
--- the rule is there, and the population is of the class model
+-- what slots index in a unit and a population: the unit's texts, the population's values and its instances
+abbrev pub lists_of : Content → FinishedPopulation → Lists
+lists_of u p = record { texts = u.texts; scalars = p.scalars; instances = p.instance_list }
+
+abbrev pub task_lists : Task → Lists
+task_lists t = lists_of t.accepted.now.unit t.population.now
+
+-- the rule is there, the population is of the class model, and the lists are those of the unit and the population
 pub record IsTask (t : Task) : Type 0 where
   pub rule : t.rule < length t.accepted.now.unit.rules
   pub one_model : t.population.now.content.model ≡ t.accepted.now.model
 
--- ---- configurations
-
-abbrev pub all_meant : List Held → List Value
-all_meant vs = map meant vs
-
-abbrev pub body_of : List Instr → Iteration → CodeTree
-body_of code i = code_tree (slice_range code i.from i.end)
-
-abbrev pub piece : List Instr → Control → Piece
-piece code (control.Rest from end) = Sequence (code_tree (slice_range code from end))
-piece code control.LetEnd = LetEnd
-piece code (control.Opened i) = Opened i.instr (body_of code i) (source i.kind (meant_items i.elements.items)) (all_meant i.bodies.items)
-piece code (control.Turning i) =
-    Turning i.instr (body_of code i) (source i.kind (meant_items i.elements.items)) (drop i.next (meant_items i.elements.items)) (all_meant i.bodies.items)
-piece code control.Skipped = Skipped
-
-abbrev pub pieces : List Instr → List Control → List Piece
-pieces code cs = map (piece code) cs
-
--- the configuration at an index of a sequence with an end
-abbrev pub configuration_at : List Instr → ℕ → ℕ → List Control → List Held → List Held → Configuration
-configuration_at code at end cs vs os = configuration (Sequence (code_tree (slice_range code at end)) ∷ pieces code cs) (all_meant vs) (all_meant os)
-
-abbrev pub configuration_of : Task → State → Configuration
-configuration_of t m = configuration_at (code_in t) m.at m.end m.controls.0 m.variables.0 m.operands.0
-
 -- ---- places
 
--- the body lies in the code, and no more elements are taken than there are
-pub record IsIterationIn (code : List Instr) (i : Iteration) : Type 0 where
-  pub iterates : is_iteration i.instr ≡ true
-  pub order : i.from ≤ i.end
-  pub within : i.end ≤ length code
-  pub next : i.next ≤ length i.elements.items
+-- the body lies in the code, and no more elements are taken than there are; what gathers is in the code
+pub record IsTurnIn (code : List Instr) (t : Turn) : Type 0 where
+  pub iterates : is_iteration t.instr ≡ true
+  pub order : t.from ≤ t.end
+  pub within : t.end ≤ length code
+  pub next : t.next ≤ t.source.count
+  pub listed : gathers t.instr ≡ true → list_any gathers code ≡ true
 
--- a body gave something in each turn that is over, and there is room for what it gives in all
 abbrev pub IsControlIn : List Instr → Control → Type 0
 IsControlIn code (control.Rest from end) = (from ≤ end) × (end ≤ length code)
 IsControlIn code control.LetEnd = Unit {0}
-IsControlIn code (control.Opened i) = IsIterationIn code i × (i.next ≡ 0) × (length i.bodies.items ≡ 0)
-IsControlIn code (control.Turning i) = IsIterationIn code i × (length i.bodies.items + 1 ≡ i.next) × (length i.elements.items ≤ vec_capacity i.bodies)
+IsControlIn code (control.Opened t) = IsTurnIn code t
+IsControlIn code (control.Turning t) = IsTurnIn code t
 IsControlIn code control.Skipped = Unit {0}
 
 abbrev pub AreControlsIn : List Instr → List Control → Type 0
@@ -88,15 +75,20 @@ pub record LiesInAt (code : List Instr) (at end : ℕ) (cs : List Control) : Typ
 abbrev pub LiesIn : Task → State → Type 0
 LiesIn t m = LiesInAt (code_in t) m.at m.end m.controls.0
 
--- ---- steps
+-- ---- room
 
--- there is a next configuration
-abbrev pub HasNext : Option Configuration → Type 0
-HasNext None = ⊥
-HasNext (Some d) = Unit {0}
+-- the stacks have room for what a rule that goes so deep puts on them, and for one step more
+pub record HasRoomFor (d : Depths) (m : State) : Type 0 where
+  pub operands : d.operands < m.operands.1
+  pub variables : d.variables < m.variables.1
+  pub controls : 2 * d.blocks + 3 ≤ m.controls.1
 
-abbrev pub HasStep : Task → State → Type 0
-HasStep t m = HasNext (step (setting_in t) (configuration_of t m))
+-- they have room for each rule
+abbrev pub HasRoomForRules : Model → Content → ℕ → State → Type 0
+HasRoomForRules model u count m = (r : ℕ) → r < count → HasRoomFor (depths_of model u r (unit_rule u r)) m
+
+abbrev pub depths_in : Task → Depths
+depths_in t = depths_of t.population.now.content.model t.accepted.now.unit t.rule (unit_rule t.accepted.now.unit t.rule)
 
 -- there is room for what a step puts on the stacks
 pub record Room (m : State) : Type 0 where
@@ -104,49 +96,66 @@ pub record Room (m : State) : Type 0 where
   pub variables : length m.variables.0 < m.variables.1
   pub controls : length m.controls.0 + 2 ≤ m.controls.1
 
--- the same run, and the same count
+-- as much room
+pub record SameRoom (old new : State) : Type 0 where
+  pub operands : new.operands.1 ≡ old.operands.1
+  pub variables : new.variables.1 ≡ old.variables.1
+  pub controls : new.controls.1 ≡ old.controls.1
+
+-- ---- configurations
+
+-- the machine stands in a configuration
+abbrev pub Is : Task → State → Configuration → Type 0
+Is t m c = IsAt (setting_in t) (task_lists t) (code_in t) m.pool.items m.at m.end m.controls.0 m.variables.0 m.operands.0 c
+
+-- there is a next configuration
+abbrev pub HasNext : Option Configuration → Type 0
+HasNext None = ⊥
+HasNext (Some d) = Unit {0}
+
+-- it stands in a configuration that has a next one
+abbrev pub HasStep : Task → State → Type 0
+HasStep t m = (c : Configuration) × Is t m c × HasNext (step (setting_in t) c)
+
+-- an operand that may be the verdict: a truth value, null or invalid
+abbrev pub IsTruth : Value → Type 0
+IsTruth (value.Single (scalar.Bool b)) = Unit {0}
+IsTruth value.Null = Unit {0}
+IsTruth value.Invalid = Unit {0}
+IsTruth v = ⊥
+
+-- with nothing pending, the topmost operand is one
+abbrev pub EndsInTruth : List Piece → List Value → Type 0
+EndsInTruth [] (v ∷ vs) = IsTruth v
+EndsInTruth ps vs = Unit {0}
+
+-- The machine stands in a configuration that has a verdict or a next one, and that goes no deeper than there is room for.
+pub record CanGoOn (t : Task) (m : State) (c : Configuration) : Type 0 where
+  pub is : Is t m c
+  pub next : outcome c ≡ None → HasNext (step (setting_in t) c)
+  pub truth : EndsInTruth c.pending c.operands
+
+-- the same run, the same count and the same room
 pub record Kept (old new : State) : Type 0 where
   pub started : new.started ≡ old.started
   pub count : new.count ≡ old.count
+  pub room : SameRoom old new
 
 -- it stands in the same configuration
 pub record Same (t : Task) (old new : State) : Type 0 where
-  pub same : configuration_of t new ≡ configuration_of t old
+  pub same : (c : Configuration) → Is t old c → Is t new c
   pub place : LiesIn t new
   pub kept : Kept old new
+
+-- c goes on to a configuration in which the machine stands
+abbrev pub GoesTo : Task → Configuration → State → Type 0
+GoesTo t c new = (d : Configuration) × (step (setting_in t) c ≡ Some d) × Is t new d
 
 -- a step is made
 pub record Stepped (t : Task) (old new : State) : Type 0 where
-  pub made : step (setting_in t) (configuration_of t old) ≡ Some (configuration_of t new)
+  pub made : (c : Configuration) → Is t old c → HasNext (step (setting_in t) c) → GoesTo t c new
   pub place : LiesIn t new
   pub kept : Kept old new
-
--- ---- the operands of blocks
-
--- what a condition may be
-abbrev pub IsCondition : Value → Type 0
-IsCondition (value.Single (scalar.Bool b)) = Unit {0}
-IsCondition value.Null = Unit {0}
-IsCondition value.Invalid = Unit {0}
-IsCondition v = ⊥
-
--- the branch that a condition chooses
-abbrev pub choice_of : Value → Option Bool
-choice_of (value.Single (scalar.Bool b)) = Some b
-choice_of v = None
-
--- what an iteration may go over
-abbrev pub IsIterable : Value → Type 0
-IsIterable (value.Collection c es) = Unit {0}
-IsIterable value.Invalid = Unit {0}
-IsIterable v = ⊥
-
--- the mark that the opening of an iteration puts
-abbrev pub IsOpening : Instr → ℕ → ℕ → Value → Control → Type 0
-IsOpening instr from end (value.Collection c es) (control.Opened i) =
-    (i.instr ≡ instr) × (i.from ≡ from) × (i.end ≡ end) × (i.kind ≡ c) × (meant_items i.elements.items ≡ es) × (i.next ≡ 0) × (i.bodies.items ≡ [])
-IsOpening instr from end value.Invalid control.Skipped = Unit {0}
-IsOpening instr from end v c = ⊥
 
 -- ---- marks: what is pending after a sequence, and is no sequence
 
@@ -163,58 +172,49 @@ IsFirstMark (c ∷ cs) = IsMark c
 abbrev pub IsAtFront : State → Type 0
 IsAtFront m = (m.at < m.end) ⊎ IsFirstMark m.controls.0
 
+-- ---- charges
+
+-- the length of a slot's collection, 0 of null and invalid
+abbrev pub slot_length : Slot → ℕ
+slot_length s = if plain_mark s.mark then s.count else 0
+
+abbrev pub slot_lengths : List Slot → List ℕ
+slot_lengths ss = map slot_length ss
+
 -- what the next turn is charged besides its step, by the length of the source and the number of elements that were taken
 abbrev pub turn_charge_by : Instr → ℕ → ℕ → ℕ
 turn_charge_by i l n = if nat_le l n then ending_charge i l else 0
 
--- the step of a mark before what is pending
-abbrev pub after_mark : Task → Control → State → Option Configuration
-after_mark t c m =
-    piece_advanced (setting_in t) (piece (code_in t) c ∷ pieces (code_in t) m.controls.0) (all_meant m.variables.0) (all_meant m.operands.0)
+-- what the step of a mark is charged, by the lengths of the operands
+abbrev pub mark_charge_by : Control → List ℕ → ℕ
+mark_charge_by (control.Opened t) ls = 1 + turn_charge_by t.instr t.source.count 0
+mark_charge_by (control.Turning t) ls = 1 + taking_charge t.instr (top_length ls) + turn_charge_by t.instr t.source.count t.next
+mark_charge_by c ls = 1
 
--- the mark stands before what is pending, and its step can be made
-pub record IsMarkBefore (t : Task) (c : Control) (m : State) : Type 0 where
-  pub at_end : m.at ≡ m.end
-  pub is_in : IsControlIn (code_in t) c
-  pub mark : IsMark c
-  pub goes : HasNext (after_mark t c m)
+-- ---- iterations
 
--- the step of a mark is made
-pub record Passed (t : Task) (c : Control) (old new : State) : Type 0 where
-  pub made : after_mark t c old ≡ Some (configuration_of t new)
+-- an iteration stands between two turns
+abbrev pub BetweenIn : Task → Turn → State → Configuration → Type 0
+BetweenIn t turn m d = Between (setting_in t) (task_lists t) (code_in t) m.pool.items turn m.controls.0 m.variables.0 m.operands.0 d
+
+-- it goes on to its next turn, or to its end
+pub record WentOn (t : Task) (turn : Turn) (old new : State) : Type 0 where
+  pub made : (d : Configuration) → BetweenIn t turn old d → Is t new d
   pub place : LiesIn t new
   pub kept : Kept old new
 
--- the mark stands before what is pending again
-pub record PutBack (t : Task) (c : Control) (old new : State) : Type 0 where
-  pub same : configuration_of t new ≡ configuration (piece (code_in t) c ∷ pieces (code_in t) old.controls.0) (all_meant old.variables.0) (all_meant old.operands.0)
+-- a turn is over: its step leads to where the iteration stands between two turns
+pub record TurnEnded (t : Task) (after : Turn) (old new : State) : Type 0 where
+  pub made : (c : Configuration) → Is t old c → HasNext (step (setting_in t) c) → (d : Configuration) × (step (setting_in t) c ≡ Some d) × BetweenIn t after new d
+  pub turn : IsTurnIn (code_in t) after
   pub place : LiesIn t new
   pub kept : Kept old new
 
--- the turn of the next element is begun
-pub record Begun (t : Task) (i : Iteration) (old new : State) : Type 0 where
-  pub same : configuration_of t new ≡ turned i.instr (body_of (code_in t) i) (source i.kind (meant_items i.elements.items)) (drop i.next (meant_items i.elements.items)) (all_meant i.bodies.items) (pieces (code_in t) old.controls.0) (all_meant old.variables.0) (all_meant old.operands.0)
-  pub place : LiesIn t new
-  pub kept : Kept old new
-
--- the last body of an iteration is an operand again, and the iteration in its turn stands before what is pending
-pub record BodyBack (i : Iteration) (old new : State) : Type 0 where
-  pub body : Held
-  pub before : Vec Held Global
-  pub bodies : i.bodies.items ≡ before.items ++ body ∷ []
-  pub room : vec_capacity before ≡ vec_capacity i.bodies
-  pub controls : new.controls.0 ≡ control.Turning (record i { bodies = before }) ∷ old.controls.0
-  pub operands : new.operands.0 ≡ body ∷ old.operands.0
-  pub variables : new.variables.0 ≡ old.variables.0
-  pub at : new.at ≡ old.at
-  pub end : new.end ≡ old.end
-  pub kept : Kept old new
-
--- ---- starts and ends
+-- ---- starts
 
 -- before the first step of the rule for an object
 pub record IsStartOf (t : Task) (o : ℕ) (m : State) : Type 0 where
-  pub same : configuration_of t m ≡ start (code_tree (code_in t)) o
+  pub is : Is t m (start (code_tree (code_in t)) o)
   pub place : LiesIn t m
   pub started : m.started ≡ Some (record { rule = t.rule; object = o })
   pub count : m.count ≡ 0
@@ -222,7 +222,3 @@ pub record IsStartOf (t : Task) (o : ℕ) (m : State) : Type 0 where
 -- the task is that for which the machine was started
 abbrev pub IsTaskOf : Task → State → Type 0
 IsTaskOf t m = (o : ℕ) × (m.started ≡ Some (record { rule = t.rule; object = o }))
-
--- it has a verdict, or a next step
-abbrev pub CanGoOn : Task → State → Type 0
-CanGoOn t m = outcome (configuration_of t m) ≡ None → HasStep t m

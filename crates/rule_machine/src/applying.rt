@@ -1,32 +1,23 @@
 //! What instructions make of operands alone.
 
-ghost use Rattle.std.specs.Prelude.{◌≡◌, List, ◌∷◌, Some, Decides};
-ghost use Rattle.rule_values.specs.Value.{Value as Operand};
-ghost use Rattle.rule_machine.specs.Machine.{Setting, result_of};
-ghost use Rattle.rule_machine.specs.Meant.{meant, TakesTwo, TakesOne};
+ghost use Rattle.std.specs.Prelude.{◌≡◌, Decides};
+ghost use Rattle.rule_machine.specs.Applied.{TakesOne, TakesTwo, CanTakeOne, CanTakeTwo, GivesOfOne, GivesOfTwo};
+ghost use Rattle.rule_machine.specs.Shown.{setting_in, task_lists};
 
-use crate::elements::{
-    collection_size, emptiness, exclusion, inclusion, membership, occurrence_count,
-};
-use crate::equality::equality;
-use crate::integers::{
-    absolute, addition, at_most, division, greater, less_than, lesser, multiplication, negative,
-    remainder, subtraction,
-};
-use crate::sums::summation;
-use crate::texts::text_length;
-use crate::truth::{
-    both_null, conjunction, disjunction, exclusive_disjunction, implication, invalid_test,
-    negation, undefined_test,
-};
-use crate::value::Value;
+use crate::task::Task;
 use rule_code::Instr;
+use rule_slots::{
+    Slot, absolute, addition, at_most, both_null, collection_size, conjunction, disjunction,
+    division, emptiness, equality, exclusion, exclusive_disjunction, greater, implication,
+    inclusion, invalid_test, less_than, lesser, membership, multiplication, negation, negative,
+    occurrence_count, remainder, subtraction, summation, text_length, undefined_test,
+};
 
 /// What an instruction makes of two operands, the second of which is the topmost.
-pub(crate) fn apply_two<'a>(instr: Instr, v: &Value<'_>, w: &Value<'_>) -> Value<'a>
-    requires { TakesTwo instr }
-    ensures { (s : Setting) (vars os : List Operand) → result_of s vars instr
-        (meant w.now ∷ meant v.now ∷ os) ≡ Some (meant result) }
+pub(crate) fn apply_two(task: Task<'_>, pool: &[Slot], instr: Instr, v: Slot, w: Slot) -> Slot
+    requires takes { TakesTwo instr }
+    requires can { CanTakeTwo (setting_in task) (task_lists task) pool.now instr v w }
+    ensures { GivesOfTwo (setting_in task.entry) (task_lists task.entry) pool.now instr v w result }
 {
     match instr {
         Instr::Add => addition(v, w),
@@ -44,21 +35,21 @@ pub(crate) fn apply_two<'a>(instr: Instr, v: &Value<'_>, w: &Value<'_>) -> Value
         Instr::Or => disjunction(v, w),
         Instr::Xor => exclusive_disjunction(v, w),
         Instr::Implies => implication(v, w),
-        Instr::Eq(_) => equality(v, w),
         Instr::Eqx => both_null(v, w),
-        Instr::Includes(_) => membership(v, w),
-        Instr::Count(_) => occurrence_count(v, w),
-        Instr::IncAll(_) => inclusion(v, w),
-        Instr::ExcAll(_) => exclusion(v, w),
+        Instr::Eq(kind) => equality(task.lists(), pool, kind, v, w),
+        Instr::Includes(kind) => membership(task.lists(), pool, kind, v, w),
+        Instr::Count(kind) => occurrence_count(task.lists(), pool, kind, v, w),
+        Instr::IncAll(kind) => inclusion(task.lists(), pool, kind, v, w),
+        Instr::ExcAll(kind) => exclusion(task.lists(), pool, kind, v, w),
         _ => unreachable!(),
     }
 }
 
 /// What an instruction makes of one operand.
-pub(crate) fn apply_one<'a>(instr: Instr, v: &Value<'_>) -> Value<'a>
-    requires { TakesOne instr }
-    ensures { (s : Setting) (vars os : List Operand) → result_of s vars instr (meant v.now ∷ os) ≡
-        Some (meant result) }
+pub(crate) fn apply_one(task: Task<'_>, pool: &[Slot], instr: Instr, v: Slot) -> Slot
+    requires takes { TakesOne instr }
+    requires can { CanTakeOne (setting_in task) (task_lists task) pool.now instr v }
+    ensures { GivesOfOne (setting_in task.entry) (task_lists task.entry) pool.now instr v result }
 {
     match instr {
         Instr::Neg => negative(v),
@@ -66,10 +57,10 @@ pub(crate) fn apply_one<'a>(instr: Instr, v: &Value<'_>) -> Value<'a>
         Instr::Not => negation(v),
         Instr::Undef => undefined_test(v),
         Instr::IsInv => invalid_test(v),
-        Instr::TLen => text_length(v),
+        Instr::TLen => text_length(task.lists(), v),
         Instr::Size => collection_size(v),
         Instr::IsEmpty => emptiness(v),
-        Instr::Sum => summation(v),
+        Instr::Sum => summation(task.lists(), pool, v),
         _ => unreachable!(),
     }
 }

@@ -1,33 +1,32 @@
 //! What the next step of a machine is charged. Charges are cut at 2^128-1.
 
-ghost use Rattle.std.specs.Prelude.{◌≡◌, ℕ, ◌+◌, ◌*◌, ◌-◌, ◌^◌, List, [], ◌∷◌, min};
-ghost use Rattle.rule_code.specs.declared.instruction.Instr.{Instr};
+ghost use Rattle.std.specs.Prelude.{◌≡◌, ◌+◌, ◌*◌, ◌-◌, ◌^◌, min};
 ghost use Rattle.rule_cost.specs.Bounds as bound;
-ghost use Rattle.rule_machine.specs.Machine.{Piece};
-ghost use Rattle.rule_machine.specs.Places.{long};
-ghost use Rattle.rule_machine.specs.Charges.{longs, piece_charge, charge_of};
-ghost use Rattle.rule_machine.specs.Meant.{meant};
-ghost use Rattle.rule_machine.specs.Shown.{all_meant, piece, configuration_of, turn_charge_by, LiesIn, IsMark, IsAtFront};
+ghost use Rattle.rule_machine.specs.Machine.{Configuration, step};
+ghost use Rattle.rule_machine.specs.Charges.{charge_of};
+ghost use Rattle.rule_machine.specs.Shown.{setting_in, Is, HasNext, slot_length, slot_lengths, turn_charge_by, mark_charge_by, IsTask, LiesIn, IsAtFront};
 
 use crate::control::Control;
 use crate::stack::ReservedStack;
 use crate::state::State;
 use crate::task::Task;
-use crate::value::Value;
 use rule_code::{Instr, WrittenKind};
+use rule_slots::Slot;
 
-impl<'a> State<'a> {
+impl State {
     /// The charge of the next step.
-    pub(crate) fn charge(&self, task: Task<'a>) -> u128
+    pub(crate) fn charge(&self, task: Task<'_>) -> u128
+        requires task { IsTask task }
         requires place { LiesIn task self.now }
         requires front { IsAtFront self.now }
-        ensures { result ≡ min (charge_of (configuration_of task.entry self.now)) (2 ^ 128 - 1) }
+        ensures { (c : Configuration) → Is task.entry self.now c → HasNext (step
+            (setting_in task.entry) c) → result ≡ min (charge_of c) (2 ^ 128 - 1) }
     {
         if self.at < self.end {
             return extra_charge(&self.operands, task.code()[self.at]).saturating_add(1);
         }
         match self.controls.top() {
-            Some(mark) => mark_charge(mark, &self.operands),
+            Some(mark) => mark_charge(*mark, &self.operands),
             None => unreachable!(),
         }
     }
@@ -44,47 +43,48 @@ pub(crate) fn with_charge(count: u64, charge: u128) -> u64
 }
 
 /// The charge of the step of a mark.
-fn mark_charge(mark: &Control<'_>, operands: &ReservedStack<Value<'_>>) -> u128
-    ensures { (code : List Instr) (q : List Piece) → IsMark mark.now → result ≡ min (piece_charge (piece code mark.now ∷ q) (all_meant operands.now.0)) (2 ^ 128 - 1) }
+fn mark_charge(mark: Control, operands: &ReservedStack<Slot>) -> u128
+    ensures { result ≡ min (mark_charge_by mark (slot_lengths operands.now.0)) (2 ^ 128 - 1) }
 {
     match mark {
-        Control::Opened(i) => turn_charge(i.instr, i.elements.len(), 0).saturating_add(1),
-        Control::Turning(i) => {
-            let taking = taking_charge(i.instr, top_length(operands));
+        Control::Opened(turn) => turn_charge(turn.instr, turn.source.count, 0).saturating_add(1),
+        Control::Turning(turn) => {
+            let taking = taking_charge(turn.instr, top_length(operands));
             taking
-                .saturating_add(turn_charge(i.instr, i.elements.len(), i.next))
+                .saturating_add(turn_charge(turn.instr, turn.source.count, turn.next))
                 .saturating_add(1)
         }
         _ => 1,
     }
 }
 
-/// The length of a collection, 0 of any other value.
-fn length_of(value: &Value<'_>) -> u64
-    ensures { result ≡ long (meant value.now) }
+/// The length of a slot's collection, 0 of null and invalid.
+fn length_of(value: Slot) -> u64
+    ensures { result ≡ slot_length value }
 {
-    match value {
-        Value::Collection(_, items) => items.len() as u64,
-        _ => 0,
+    if value.is_plain() {
+        value.count as u64
+    } else {
+        0
     }
 }
 
 /// The length of the topmost operand, 0 where there is none.
-fn top_length(operands: &ReservedStack<Value<'_>>) -> u64
-    ensures { result ≡ bound.top_length (longs (all_meant operands.now.0)) }
+fn top_length(operands: &ReservedStack<Slot>) -> u64
+    ensures { result ≡ bound.top_length (slot_lengths operands.now.0) }
 {
     match operands.from_top(0) {
-        Some(value) => length_of(value),
+        Some(value) => length_of(*value),
         None => 0,
     }
 }
 
 /// The length of the operand below it, 0 where there is none.
-fn second_length(operands: &ReservedStack<Value<'_>>) -> u64
-    ensures { result ≡ bound.second_length (longs (all_meant operands.now.0)) }
+fn second_length(operands: &ReservedStack<Slot>) -> u64
+    ensures { result ≡ bound.second_length (slot_lengths operands.now.0) }
 {
     match operands.from_top(1) {
-        Some(value) => length_of(value),
+        Some(value) => length_of(*value),
         None => 0,
     }
 }
@@ -97,8 +97,8 @@ fn product(first: u64, second: u64) -> u128
 }
 
 /// What an instruction without a body is charged besides its step.
-fn extra_charge(operands: &ReservedStack<Value<'_>>, instr: Instr) -> u128
-    ensures { result ≡ min (bound.extra_charge instr (longs (all_meant operands.now.0))) (2 ^ 128 - 1) }
+fn extra_charge(operands: &ReservedStack<Slot>, instr: Instr) -> u128
+    ensures { result ≡ min (bound.extra_charge instr (slot_lengths operands.now.0)) (2 ^ 128 - 1) }
 {
     let top = top_length(operands);
     match instr {

@@ -1,18 +1,36 @@
 //! What is pending after the sequence that runs.
 
-use crate::iterating::Iteration;
+use rule_code::Instr;
+use rule_slots::Slot;
+
+/// An iteration: its instruction, where its body begins and ends, what it goes over, the index of the next element, the
+/// pool's length when it was opened, how many elements it keeps from there on, and how many bodies were true, false and
+/// invalid.
+#[derive(Clone, Copy)]
+pub(crate) struct Turn {
+    pub(crate) instr: Instr,
+    pub(crate) from: usize,
+    pub(crate) end: usize,
+    pub(crate) source: Slot,
+    pub(crate) next: usize,
+    pub(crate) opened: usize,
+    pub(crate) kept: usize,
+    pub(crate) trues: usize,
+    pub(crate) falses: usize,
+    pub(crate) invalids: usize,
+}
 
 /// What is pending after the sequence that runs.
-#[derive(Drop)]
-pub(crate) enum Control<'a> {
+#[derive(Clone, Copy)]
+pub(crate) enum Control {
     /// The rest of a sequence: the indices of its first instruction and of the end.
     Rest(usize, usize),
     /// The end of a LET.
     LetEnd,
     /// An iteration before its first turn.
-    Opened(Iteration<'a>),
+    Opened(Turn),
     /// An iteration in a turn.
-    Turning(Iteration<'a>),
+    Turning(Turn),
     /// An iteration over invalid.
     Skipped,
 }

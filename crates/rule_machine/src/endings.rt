@@ -1,130 +1,86 @@
-//! What iterations give at their end, by what their body gave for each element.
+//! What iterations give at their end, by what they kept and counted.
 
-ghost use Rattle.std.specs.Prelude.{◌≡◌, ◌++◌, map, length, IfOk, OnOk};
-ghost use Rattle.std.specs.List.{list_all, list_any};
-ghost use Rattle.rule_values.specs.Operations.{is_true, is_false};
-ghost use Rattle.rule_values.specs.Endings.{for_all, exists, is_undecided, count_true, one, kept_by};
-ghost use Rattle.rule_machine.specs.Meant.{meant, meant_item, meant_items, kept_one, is_wanted};
+ghost use Rattle.std.specs.Prelude.{◌≡◌, ◌+◌, ◌-◌, ◌<◌, ◌^◌, ℕ, true, IsSome, if◌then◌else◌};
+ghost use Rattle.rule_slots.specs.Slots.{invalid_slot};
+ghost use Rattle.rule_machine.specs.StandFor.{gives_truths, all_decided, kept_part, slot_if, ending_slot, one_more_if, turn_after};
 
-use crate::memory::{OutOfMemory, push};
-use crate::value::{Item, Value, copy_of, is_false, is_true, truth_known};
-use ocl_base::CollectionKind;
-use std::alloc::Global;
+use crate::control::Turn;
+use rule_code::Instr;
+use rule_slots::{Slot, invalid_slot, is_false, is_true, known_slot, part_slot, truth_slot};
 
-/// Whether a body is neither true nor false.
-fn is_undecided(body: &Value<'_>) -> bool
-    ensures { result ≡ is_undecided (meant body.now) }
+/// What an iteration gives at its end, by whether no element that it keeps stands there twice.
+pub(crate) fn ending(turn: Turn, distinct: bool) -> Slot
+    requires { gives_truths turn.instr ≡ true → turn.trues + turn.falses < 2 ^ 64 }
+    ensures { result ≡ ending_slot turn.instr turn distinct }
 {
-    !(is_true(body) || is_false(body))
-}
-
-fn all_true(bodies: &[Value<'_>]) -> bool
-    ensures { result ≡ list_all (λ b. is_true (meant b)) bodies.now }
-{
-    bodies.iter().all(is_true)
-}
-
-fn any_true(bodies: &[Value<'_>]) -> bool
-    ensures { result ≡ list_any (λ b. is_true (meant b)) bodies.now }
-{
-    bodies.iter().any(is_true)
-}
-
-fn all_false(bodies: &[Value<'_>]) -> bool
-    ensures { result ≡ list_all (λ b. is_false (meant b)) bodies.now }
-{
-    bodies.iter().all(is_false)
-}
-
-fn any_false(bodies: &[Value<'_>]) -> bool
-    ensures { result ≡ list_any (λ b. is_false (meant b)) bodies.now }
-{
-    bodies.iter().any(is_false)
-}
-
-pub(crate) fn any_undecided(bodies: &[Value<'_>]) -> bool
-    ensures { result ≡ list_any (λ b. is_undecided (meant b)) bodies.now }
-{
-    bodies.iter().any(is_undecided)
-}
-
-/// False where one is false, else true where all are true.
-#[tactic(auto, using(crate::proofs::Bodies::all_bodies, crate::proofs::Bodies::any_bodies))]
-pub(crate) fn for_all<'a>(bodies: &[Value<'_>]) -> Value<'a>
-    ensures { meant result ≡ for_all (map meant bodies.now) }
-{
-    truth_known(all_true(bodies), any_false(bodies))
-}
-
-/// True where one is true, else false where all are false.
-#[tactic(auto, using(crate::proofs::Bodies::all_bodies, crate::proofs::Bodies::any_bodies))]
-pub(crate) fn exists<'a>(bodies: &[Value<'_>]) -> Value<'a>
-    ensures { meant result ≡ exists (map meant bodies.now) }
-{
-    truth_known(any_true(bodies), all_false(bodies))
-}
-
-/// How many bodies are true.
-fn count_true(bodies: &[Value<'_>]) -> usize
-    ensures { result ≡ count_true (map meant bodies.now) }
-{
-    let mut count = 0;
-    for body in bodies {
-        if is_true(body) {
-            count += 1;
-        }
+    match turn.instr {
+        Instr::ForAll(_) => known_slot(turn.trues == turn.next, 0 < turn.falses),
+        Instr::Exists(_) => known_slot(0 < turn.trues, turn.falses == turn.next),
+        Instr::One(_) => slot_if(all_decided(turn), truth_slot(turn.trues == 1)),
+        Instr::Select(_) | Instr::Reject(_) => slot_if(all_decided(turn), kept_part(turn)),
+        Instr::Collect(_) | Instr::CollectFlat(_) => slot_if(turn.invalids == 0, kept_part(turn)),
+        Instr::IsUnique(_, _) => slot_if(turn.invalids == 0, truth_slot(distinct)),
+        _ => invalid_slot(),
     }
-    count
 }
 
-/// Whether just one body is true; invalid where one is undecided.
-#[tactic(auto, using(crate::proofs::Bodies::any_bodies))]
-pub(crate) fn one<'a>(bodies: &[Value<'_>]) -> Value<'a>
-    ensures { meant result ≡ one (map meant bodies.now) }
+/// Whether each body was true or false.
+fn all_decided(turn: Turn) -> bool
+    requires { turn.trues + turn.falses < 2 ^ 64 }
+    ensures { result ≡ all_decided turn }
 {
-    if any_undecided(bodies) {
-        return Value::Invalid;
+    turn.trues + turn.falses == turn.next
+}
+
+/// What an iteration keeps, as a part of the pool.
+pub(crate) fn kept_part(turn: Turn) -> Slot
+    ensures { result ≡ kept_part turn }
+{
+    part_slot(2, turn.opened, turn.kept)
+}
+
+/// A slot, or invalid.
+fn slot_if(known: bool, slot: Slot) -> Slot
+    ensures { result ≡ slot_if known slot }
+{
+    if known { slot } else { invalid_slot() }
+}
+
+/// Whether the body of an iteration gives truth values.
+fn gives_truths(instr: Instr) -> bool
+    ensures { result ≡ gives_truths instr }
+{
+    match instr {
+        Instr::ForAll(_) | Instr::Exists(_) | Instr::One(_) => true,
+        Instr::Select(_) | Instr::Reject(_) => true,
+        _ => false,
     }
-    Value::Item(Item::Bool(count_true(bodies) == 1))
 }
 
-/// Puts a copy of an element at a list's end, if it is to be kept.
-fn keep_if<'a>(kept: &mut Vec<Item<'a>>, keep: bool, item: &Item<'a>) -> Result<(), OutOfMemory>
-    ensures { OnOk result (meant_items kept.new.items ≡ meant_items kept.old.items ++
-        kept_one keep (meant_item item.now)) }
+/// One more, if a test passes.
+fn one_more_if(passes: bool, n: usize) -> usize
+    requires { passes ≡ true → n < 2 ^ 64 - 1 }
+    ensures { result ≡ one_more_if passes n }
 {
-    if keep {
-        push(kept, copy_of(item))?;
-    }
-    Ok(())
+    if passes { n + 1 } else { n }
 }
 
-/// The elements whose body is true, or else those whose body is false.
-pub(crate) fn kept_items<'a>(
-    alloc: Global,
-    items: &[Item<'a>],
-    bodies: &[Value<'_>],
-    wanted: bool,
-) -> Result<Vec<Item<'a>>, OutOfMemory>
-    requires { length bodies.now ≡ length items.now }
-    ensures { IfOk result (λ v. meant_items v.items ≡ kept_by (is_wanted wanted)
-        (meant_items items.now) (map meant bodies.now)) }
+/// The mark of an iteration after a turn, which adds so many elements.
+pub(crate) fn turn_after(turn: Turn, more: usize, value: Slot) -> Turn
+    requires kept { turn.kept + more < 2 ^ 64 }
+    requires trues { gives_truths turn.instr ≡ true → turn.trues < 2 ^ 64 - 1 }
+    requires falses { gives_truths turn.instr ≡ true → turn.falses < 2 ^ 64 - 1 }
+    requires invalids { turn.invalids < 2 ^ 64 - 1 }
+    ensures { result ≡ turn_after turn more value }
 {
-    let mut kept = Vec::new(alloc);
-    for index in 0..items.len() {
-        let keep = is_wanted(wanted, &bodies[index]);
-        keep_if(&mut kept, keep, &items[index])?;
-    }
-    Ok(kept)
-}
-
-/// Whether a body is the truth value that is wanted.
-fn is_wanted(wanted: bool, body: &Value<'_>) -> bool
-    ensures { result ≡ is_wanted wanted (meant body.now) }
-{
-    if wanted {
-        is_true(body)
-    } else {
-        is_false(body)
+    let is_test = gives_truths(turn.instr);
+    let is_true = is_test && is_true(value);
+    let is_false = is_test && is_false(value);
+    Turn {
+        kept: turn.kept + more,
+        trues: one_more_if(is_true, turn.trues),
+        falses: one_more_if(is_false, turn.falses),
+        invalids: one_more_if(value.is_invalid(), turn.invalids),
+        ..turn
     }
 }

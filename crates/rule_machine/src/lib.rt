@@ -3,29 +3,20 @@
 
 mod applying;
 mod charging;
-mod collecting;
 mod control;
-mod elements;
 mod endings;
-mod equality;
-mod integers;
-mod iterating;
+mod keeping;
 pub mod laws;
 mod machine;
 mod memory;
-mod objects;
 mod performing;
 mod progress;
 mod running;
 mod stack;
 mod state;
 mod stepping;
-mod sums;
 mod task;
-mod texts;
-mod truth;
 mod turning;
-mod value;
 mod verdict;
 
 pub use machine::Machine;

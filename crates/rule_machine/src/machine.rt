@@ -1,11 +1,12 @@
 //! The machine.
 
-ghost use Rattle.std.specs.Prelude.{◌≡◌, ◌<◌, ℕ, length, IfOk, OnOk, OnErr, Some};
+ghost use Rattle.std.specs.Prelude.{◌≡◌, ◌<◌, ℕ, false, length, IfOk, OnOk, OnErr, IsOk, Some};
 ghost use Rattle.imkl_population.specs.Population.{IsInstance};
-ghost use Rattle.rule_machine.specs.Machine.{setting_of};
+ghost use Rattle.rule_verify.specs.UnitRules.{unit_rule, takes_memory};
+ghost use Rattle.rule_machine.specs.Machine.{setting_of, Configuration};
 ghost use Rattle.rule_machine.specs.Laws.{IsAcceptedRun, verdict_at};
-ghost use Rattle.rule_machine.specs.Shown.{IsTask};
-ghost use Rattle.rule_machine.specs.Seen.{IsIdle};
+ghost use Rattle.rule_machine.specs.Shown.{IsTask, task_lists, depths_in, HasRoomFor};
+ghost use Rattle.rule_machine.specs.Seen.{IsIdle, Represents};
 ghost use Rattle.rule_machine.specs.Contract.{SameTask, IsStarted, IsBegun, Ran, Judged, IsCount};
 
 use crate::memory::OutOfMemory;
@@ -22,22 +23,24 @@ use std::marker::Model;
 /// run can be stopped after any step. Rules are numbered by their indices, from 0.
 #[derive(Drop)]
 pub struct Machine<'a> {
-    alloc: Global,
     accepted: &'a Accepted<'a>,
     population: &'a Population<'a>,
-    state: State<'a>,
+    state: State,
 }
 
 impl<'a> Model for Machine<'a> {
-    ghost use Rattle.std.specs.Prelude.{◌≡◌, None};
+    ghost use Rattle.std.specs.Prelude.{◌≡◌, None, length};
     ghost use Rattle.rule_machine.specs.Seen.{Seen, seen};
+    ghost use Rattle.rule_machine.specs.Shown.{lists_of, HasRoomForRules};
 
     ghost Value = { Seen };
 
-    ghost view = { λ m. seen m.accepted.now.unit m.population.now.content m.state };
+    ghost view = { λ m. seen m.accepted.now.unit m.population.now.content
+        (lists_of m.accepted.now.unit m.population.now) m.state };
 
     ghost invariant = { λ m. (m.population.now.content.model ≡ m.accepted.now.model) ×
-        (m.state.started ≡ None → m.state.count ≡ 0) };
+        (m.state.started ≡ None → m.state.count ≡ 0) × HasRoomForRules m.accepted.now.model
+        m.accepted.now.unit (length m.accepted.now.unit.rules) m.state };
 }
 
 impl<'a> Machine<'a> {
@@ -58,15 +61,14 @@ impl<'a> Machine<'a> {
             state.reserve(accepted.depths(rule))?;
         }
         Ok(Machine {
-            alloc,
             accepted,
             population,
             state,
         })
     }
 
-    /// Stands before the first step of a rule for an object of its context class, whatever ran before. Where memory
-    /// runs out, the machine is as it was.
+    /// Stands before the first step of a rule for an object of its context class, whatever ran before. It takes no memory,
+    /// and is never refused.
     pub fn start(&mut self, rule: usize, object: ObjectNo) -> Result<(), OutOfMemory>
         requires rule { rule < length self.old.unit.rules }
         requires object { IsInstance self.old.population
@@ -74,21 +76,24 @@ impl<'a> Machine<'a> {
         ensures task { SameTask self.old self.new }
         ensures begun { OnOk result (IsBegun self.old rule object self.new) }
         ensures refused { OnErr result (self.new ≡ self.old) }
+        ensures ok { IsOk result }
     {
         let task = self.task(rule);
-        self.state.start(task, object)?;
+        self.state.start(task, object);
         Ok(())
     }
 
     /// Makes steps while the whole charge of the next one is left of `grant`: `Done` as soon as the last step is made,
     /// and again without a step; else `Paused`, and what is left isn't kept for a later call. Where memory runs out, the
     /// machine stands before the step that it didn't suffice for, which the next call tries again; a grant of 0 takes
-    /// none. Only after `start` or `judge`.
+    /// none, nor does a rule that gathers nothing. Only after `start` or `judge`.
     pub fn run(&mut self, grant: u64) -> Result<Progress, OutOfMemory>
         requires { IsStarted self.old }
         ensures task { SameTask self.old self.new }
         ensures ran { Ran self.old grant result self.new }
         ensures spare { OnErr result (0 < grant) }
+        ensures free { (r o : ℕ) (c : Configuration) (k : ℕ) → Represents self.old r o c k →
+            takes_memory (unit_rule self.old.unit r) ≡ false → IsOk result }
         ensures started { IsStarted self.new }
     {
         let Some(started) = self.state.started else {
@@ -99,7 +104,8 @@ impl<'a> Machine<'a> {
     }
 
     /// Runs a rule for an object of its context class from the start to the end, and gives its verdict. Where memory
-    /// runs out, the machine is as it was, or stands before the step that it didn't suffice for.
+    /// runs out, the machine is as it was, or stands before the step that it didn't suffice for; a rule that gathers
+    /// nothing takes none.
     pub fn judge(&mut self, rule: usize, object: ObjectNo) -> Result<Verdict, OutOfMemory>
         requires rule { rule < length self.old.unit.rules }
         requires object { IsInstance self.old.population
@@ -108,6 +114,7 @@ impl<'a> Machine<'a> {
         ensures judged { Judged self.old rule object result self.new }
         ensures verdict { IfOk result (λ v. verdict_at self.old.unit self.old.population rule object
             ≡ Some v) }
+        ensures free { takes_memory (unit_rule self.old.unit rule) ≡ false → IsOk result }
     {
         let task = self.task(rule);
         self.state.judge(task, object)
@@ -128,6 +135,8 @@ impl<'a> Machine<'a> {
         ensures unit { result.accepted.now.unit ≡ self.now.unit }
         ensures population { result.population.now.content ≡ self.now.population }
         ensures rule { result.rule ≡ rule }
+        ensures lists { task_lists result ≡ self.now.lists }
+        ensures room { HasRoomFor (depths_in result) self.now.state }
         ensures runs { (o : ℕ) → IsInstance self.now.population (setting_of self.now.unit
             self.now.population rule).context o →
             IsAcceptedRun result.accepted.now.unit result.population.now.content rule o }
@@ -137,7 +146,6 @@ impl<'a> Machine<'a> {
         self.population.consistent();
         self.population.model().well_formed();
         Task {
-            alloc: self.alloc,
             accepted: self.accepted,
             population: self.population,
             rule,

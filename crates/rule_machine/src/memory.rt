@@ -1,7 +1,5 @@
 //! Memory that ran out.
 
-ghost use Rattle.std.specs.Prelude.{◌≡◌, ◌++◌, ◌∷◌, [], OnOk};
-
 use std::alloc::{AllocError, AllocFailed};
 use thiserror::Error;
 
@@ -20,12 +18,4 @@ impl<T: Drop> From<AllocFailed<T>> for OutOfMemory {
     fn from(_error: AllocFailed<T>) -> OutOfMemory {
         OutOfMemory
     }
-}
-
-/// Puts an item at a list's end.
-pub(crate) fn push<T: Drop>(items: &mut Vec<T>, item: T) -> Result<(), OutOfMemory>
-    ensures ok { OnOk result (items.new.items ≡ items.old.items ++ item ∷ []) }
-{
-    items.push(item)?;
-    Ok(())
 }

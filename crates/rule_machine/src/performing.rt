@@ -1,68 +1,67 @@
 //! What instructions without a body make of variables and operands.
 
-ghost use Rattle.std.specs.Prelude.{◌≡◌, ◌<◌, ◌⊎◌, ℕ, true, List, ◌∷◌, length, slice_get, OnOk, OnErr, IfOk, IsSome, Some};
+ghost use Rattle.std.specs.Prelude.{◌≡◌, ◌<◌, ◌≤◌, ◌⊎◌, ℕ, false, true, List, ◌∷◌, length, take, slice_get, IfOk, OnOk, OnErr, IsOk, IsSome, Some};
+ghost use Rattle.imkl_model.specs.ClassModel.{feature_at, belongs};
 ghost use Rattle.rule_code.specs.SymbolTag.{is_symbol_of};
 ghost use Rattle.rule_code.specs.declared.symbol.SymbolTag.TheVariants as tags;
 ghost use Rattle.rule_code.specs.WellFormed.{InstrFits};
 ghost use Rattle.rule_verify.specs.CodeTree.{shape_of};
-ghost use Rattle.rule_verify.specs.declared.shape.Shape.TheVariants.{Single};
-ghost use Rattle.rule_verify.specs.InstrKinds.{Surroundings, operands_of, variable_at};
+ghost use Rattle.rule_verify.specs.InstrKinds.{Surroundings, gathers, operands_of, variable_at};
 ghost use Rattle.rule_verify.specs.Known.{IsKnownName};
-ghost use Rattle.rule_machine.specs.declared.value.Value.{Value as Held};
-ghost use Rattle.rule_values.specs.Value.{Value as Operand};
-ghost use Rattle.rule_machine.specs.Machine.{Setting, symbol_named, literal_named, result_of, performed};
-ghost use Rattle.rule_machine.specs.Meant.{meant, TakesOne, TakesTwo};
-ghost use Rattle.rule_machine.specs.Shown.{IsTask, all_meant, setting_in};
+ghost use Rattle.rule_verify.specs.declared.shape.Shape.TheVariants.{Single};
+ghost use Rattle.rule_values.specs.Value.{Value};
+ghost use Rattle.rule_values.specs.Operations.{all_instances, value_read};
+ghost use Rattle.rule_slots.specs.declared.slot.Slot.{Slot as Held};
+ghost use Rattle.rule_slots.specs.Slots.{SlotIs};
+ghost use Rattle.rule_slots.specs.Operands.{HasFeature};
+ghost use Rattle.rule_machine.specs.Machine.{symbol_named, literal_named, on_class_named, value_named_read};
+ghost use Rattle.rule_machine.specs.Applied.{TakesOne, TakesTwo};
+ghost use Rattle.rule_machine.specs.StandFor.{GivesSlot, CanPerform, Performed};
+ghost use Rattle.rule_machine.specs.Shown.{IsTask, setting_in, task_lists};
 
 use crate::applying::{apply_one, apply_two, takes_one};
-use crate::elements::{as_collection, as_set};
 use crate::memory::OutOfMemory;
-use crate::objects::{all_instances, cast, kind_test, type_test, value_read};
 use crate::stack::ReservedStack;
 use crate::task::Task;
-use crate::texts::substring;
-use crate::value::{Item, Value, copy_value};
 use imkl_model::{ClassNo, FeatureNo};
 use rule_code::{Instr, SymbolNumber};
+use rule_slots::{
+    Lists, Slot, all_instances, as_collection, as_set, cast, index_slot, invalid_slot, kind_test,
+    null_slot, number_slot, substring, truth_slot, type_test, unit_text, value_read,
+};
 use rule_verify::Named;
-use std::alloc::Global;
 
 /// The topmost operand.
-fn topmost<'s, 'a>(operands: &'s ReservedStack<Value<'a>>) -> &'s Value<'a>
+fn topmost(operands: &ReservedStack<Slot>) -> Slot
     requires { 0 < length operands.now.0 }
-    ensures { (rest : List Held) × (operands.now.0 ≡ result.now ∷ rest) }
+    ensures { (rest : List Held) × (operands.now.0 ≡ result ∷ rest) }
 {
     let Some(operand) = operands.top() else {
         unreachable!()
     };
-    operand
+    *operand
 }
 
 /// The operand below the `number` topmost ones.
-fn below<'s, 'a>(operands: &'s ReservedStack<Value<'a>>, number: usize) -> &'s Value<'a>
+fn below(operands: &ReservedStack<Slot>, number: usize) -> Slot
     requires { number < length operands.now.0 }
-    ensures { slice_get operands.now.0 number ≡ Some result.now }
+    ensures { slice_get operands.now.0 number ≡ Some result }
 {
     let Some(operand) = operands.from_top(number) else {
         unreachable!()
     };
-    operand
+    *operand
 }
 
-/// A copy of a variable.
-#[inline(always)]
-fn variable<'a>(
-    alloc: Global,
-    variables: &ReservedStack<Value<'a>>,
-    number: usize,
-) -> Result<Value<'a>, OutOfMemory>
-    requires { IsSome (variable_at (all_meant variables.now.0) number) }
-    ensures { IfOk result (λ v. variable_at (all_meant variables.now.0) number ≡ Some (meant v)) }
+/// A variable.
+fn variable(variables: &ReservedStack<Slot>, number: usize) -> Slot
+    requires { IsSome (variable_at variables.now.0 number) }
+    ensures { variable_at variables.now.0 number ≡ Some result }
 {
     let Some(value) = variables.from_bottom(number) else {
         unreachable!()
     };
-    copy_value(alloc, value)
+    *value
 }
 
 /// What a symbol names.
@@ -108,80 +107,143 @@ fn feature_named(task: Task<'_>, symbol: SymbolNumber) -> FeatureNo
 }
 
 /// The literal that a symbol names.
-fn literal_named<'a>(task: Task<'_>, symbol: SymbolNumber) -> Value<'a>
+fn literal_slot(task: Task<'_>, symbol: SymbolNumber) -> Slot
     requires task { IsTask task }
     requires tag { is_symbol_of tags.Literal task.accepted.now.unit.symbols symbol.0 ≡ true }
     requires named { IsSome (symbol_named (setting_in task) symbol.0) }
-    ensures { literal_named (symbol_named (setting_in task.entry) symbol.0) ≡ Some (meant result) }
+    ensures { (pool : List Held) (r : Value) →
+        literal_named (symbol_named (setting_in task.entry) symbol.0) ≡ Some r →
+        SlotIs (task_lists task.entry) pool (length pool) result r }
 {
-    let Named::Literal(enumeration, literal) = named(task, symbol) else {
+    let Named::Literal(_, literal) = named(task, symbol) else {
         unreachable!()
     };
-    Value::Item(Item::Literal(enumeration, literal))
+    index_slot(literal.index())
+}
+
+/// The instances of a class.
+fn class_instances(task: Task<'_>, class: ClassNo) -> Slot
+    requires { class < length task.population.now.content.model.classes }
+    ensures { (pool : List Held) → SlotIs (task_lists task.entry) pool (length pool) result
+        (all_instances task.entry.population.now.content class) }
+{
+    let lists = Lists {
+        unit: task.accepted.unit(),
+        population: task.population,
+    };
+    all_instances(lists, class)
+}
+
+/// A feature of an object; of null and invalid it is invalid.
+fn feature_read(task: Task<'_>, feature: FeatureNo, v: Slot) -> Slot
+    requires feature { feature < length task.population.now.content.model.features }
+    requires has { HasFeature task.population.now.content feature v }
+    ensures { (pool : List Held) (x r : Value) →
+        SlotIs (task_lists task.entry) pool (length pool) v x →
+        value_read task.entry.population.now.content feature x ≡ Some r →
+        SlotIs (task_lists task.entry) pool (length pool) result r }
+{
+    let lists = Lists {
+        unit: task.accepted.unit(),
+        population: task.population,
+    };
+    value_read(lists, feature, v)
 }
 
 /// What an instruction makes of operands alone.
-fn on_operands<'a>(instr: Instr, operands: &ReservedStack<Value<'a>>) -> Value<'a>
-    requires { (TakesOne instr × (0 < length operands.now.0)) ⊎
-        (TakesTwo instr × (1 < length operands.now.0)) }
-    ensures { (s : Setting) (vars : List Operand) →
-        result_of s vars instr (all_meant operands.now.0) ≡ Some (meant result) }
+fn on_operands(task: Task<'_>, operands: &ReservedStack<Slot>, pool: &[Slot], instr: Instr) -> Slot
+    requires takes { TakesOne instr ⊎ TakesTwo instr }
+    requires can { (vars : List Held) × CanPerform (setting_in task) (task_lists task) pool.now vars
+        operands.now.0 instr }
+    ensures { (vars : List Held) → GivesSlot (setting_in task.entry) (task_lists task.entry)
+        pool.now pool.now vars operands.now.0 instr result }
 {
     if takes_one(instr) {
-        apply_one(instr, topmost(operands))
+        apply_one(task, pool, instr, topmost(operands))
     } else {
-        apply_two(instr, below(operands, 1), topmost(operands))
+        apply_two(task, pool, instr, below(operands, 1), topmost(operands))
     }
 }
 
-/// What an instruction gives.
-fn result_of<'a>(
-    task: Task<'a>,
-    variables: &ReservedStack<Value<'a>>,
-    operands: &ReservedStack<Value<'a>>,
+/// What an instruction gives that gathers nothing.
+fn plain_result(
+    task: Task<'_>,
+    variables: &ReservedStack<Slot>,
+    operands: &ReservedStack<Slot>,
+    pool: &[Slot],
     instr: Instr,
-) -> Result<Value<'a>, OutOfMemory>
+) -> Slot
     requires task { IsTask task }
     requires fits { InstrFits (length task.accepted.now.unit.texts)
         task.accepted.now.unit.symbols instr }
     requires shape { shape_of instr ≡ Single }
-    requires can { IsSome (performed (setting_in task) (all_meant variables.now.0) instr
-        (all_meant operands.now.0)) }
-    ensures { IfOk result (λ v. result_of (setting_in task.entry) (all_meant variables.now.0) instr
-        (all_meant operands.now.0) ≡ Some (meant v)) }
+    requires plain { gathers instr ≡ false }
+    requires can { CanPerform (setting_in task) (task_lists task) pool.now variables.now.0
+        operands.now.0 instr }
+    ensures { GivesSlot (setting_in task.entry) (task_lists task.entry) pool.now pool.now
+        variables.now.0 operands.now.0 instr result }
 {
-    let alloc = task.alloc;
     match instr {
-        Instr::SelfObject => variable(alloc, variables, 0),
-        Instr::Get(number) => variable(alloc, variables, usize::from(number)),
-        Instr::Int(n) => Ok(Value::Item(Item::Int(n))),
-        Instr::Bool(b) => Ok(Value::Item(Item::Bool(b))),
-        Instr::Text(text) => Ok(Value::Item(Item::Text(task.accepted.unit().text(text)))),
-        Instr::Enum(literal) => Ok(literal_named(task, literal)),
-        Instr::Null => Ok(Value::Item(Item::Null)),
-        Instr::Invalid => Ok(Value::Invalid),
+        Instr::SelfObject => variable(variables, 0),
+        Instr::Get(number) => variable(variables, usize::from(number)),
+        Instr::Int(n) => number_slot(n),
+        Instr::Bool(b) => truth_slot(b),
+        Instr::Text(text) => unit_text(task.lists(), text),
+        Instr::Enum(literal) => literal_slot(task, literal),
+        Instr::Null => null_slot(),
+        Instr::Invalid => invalid_slot(),
         Instr::Attr(feature) => {
-            let feature = feature_named(task, feature);
-            value_read(alloc, task.population, feature, topmost(operands))
+            feature_read(task, feature_named(task, feature), topmost(operands))
         }
-        Instr::All(class) => all_instances(alloc, task.population, class_named(task, class)),
-        Instr::AsColl(kind, _) => as_collection(alloc, kind, topmost(operands)),
+        Instr::All(class) => class_instances(task, class_named(task, class)),
         Instr::KindOf(class) => {
-            Ok(kind_test(task.population, class_named(task, class), topmost(operands)))
+            kind_test(task.population, class_named(task, class), topmost(operands))
         }
         Instr::TypeOf(class) => {
-            Ok(type_test(task.population, class_named(task, class), topmost(operands)))
+            type_test(task.population, class_named(task, class), topmost(operands))
         }
-        Instr::AsType(class) => Ok(cast(
-            task.population,
-            class_named(task, class),
+        Instr::AsType(class) => cast(task.population, class_named(task, class), topmost(operands)),
+        Instr::SubStr => substring(
+            task.lists(),
+            below(operands, 2),
+            below(operands, 1),
             topmost(operands),
-        )),
-        Instr::SubStr => {
-            Ok(substring(below(operands, 2), below(operands, 1), topmost(operands)))
+        ),
+        _ => on_operands(task, operands, pool, instr),
+    }
+}
+
+/// What an instruction gives. Only what gathers puts something into the pool.
+fn result_of(
+    task: Task<'_>,
+    variables: &ReservedStack<Slot>,
+    operands: &ReservedStack<Slot>,
+    pool: &mut Vec<Slot>,
+    instr: Instr,
+) -> Result<Slot, OutOfMemory>
+    requires task { IsTask task }
+    requires fits { InstrFits (length task.accepted.now.unit.texts)
+        task.accepted.now.unit.symbols instr }
+    requires shape { shape_of instr ≡ Single }
+    requires can { CanPerform (setting_in task) (task_lists task) pool.old.items variables.now.0
+        operands.now.0 instr }
+    ensures gives { IfOk result (λ o. GivesSlot (setting_in task.entry) (task_lists task.entry)
+        pool.old.items pool.new.items variables.now.0 operands.now.0 instr o) }
+    ensures longer { length pool.old.items ≤ length pool.new.items }
+    ensures same { take (length pool.old.items) pool.new.items ≡ pool.old.items }
+    ensures pool { OnErr result (pool.new.items ≡ pool.old.items) }
+    ensures spare { gathers instr ≡ false → IsOk result }
+{
+    match instr {
+        Instr::AsColl(_, _) => {
+            let made = as_collection(pool, topmost(operands))?;
+            Ok(made)
         }
-        Instr::AsSet(_) => as_set(alloc, topmost(operands)),
-        _ => Ok(on_operands(instr, operands)),
+        Instr::AsSet(kind) => {
+            let made = as_set(task.lists(), pool, kind, topmost(operands))?;
+            Ok(made)
+        }
+        _ => Ok(plain_result(task, variables, operands, pool, instr)),
     }
 }
 
@@ -200,26 +262,30 @@ fn operand_count(instr: Instr) -> usize
     }
 }
 
-/// The step of an instruction without a body: its result takes the place of its operands. Nothing
-/// is taken before the result is there.
-pub(crate) fn perform<'a>(
-    task: Task<'a>,
-    variables: &ReservedStack<Value<'a>>,
-    operands: &mut ReservedStack<Value<'a>>,
+/// The step of an instruction without a body: its result takes the place of its operands. Nothing is taken before the
+/// result is there.
+pub(crate) fn perform(
+    task: Task<'_>,
+    variables: &ReservedStack<Slot>,
+    operands: &mut ReservedStack<Slot>,
+    pool: &mut Vec<Slot>,
     instr: Instr,
 ) -> Result<(), OutOfMemory>
     requires task { IsTask task }
     requires fits { InstrFits (length task.accepted.now.unit.texts)
         task.accepted.now.unit.symbols instr }
     requires shape { shape_of instr ≡ Single }
-    requires can { IsSome (performed (setting_in task) (all_meant variables.now.0) instr
-        (all_meant operands.old.0)) }
+    requires can { CanPerform (setting_in task) (task_lists task) pool.old.items variables.now.0
+        operands.old.0 instr }
     requires room { length operands.old.0 < operands.old.1 }
-    ensures made { OnOk result (performed (setting_in task.entry) (all_meant variables.now.0) instr
-        (all_meant operands.old.0) ≡ Some (all_meant operands.new.0)) }
-    ensures refused { OnErr result (operands.new ≡ operands.old) }
+    ensures made { OnOk result (Performed (setting_in task.entry) (task_lists task.entry)
+        pool.old.items pool.new.items variables.now.0 operands.old.0 operands.new.0 instr) }
+    ensures room { operands.new.1 ≡ operands.old.1 }
+    ensures operands { OnErr result (operands.new ≡ operands.old) }
+    ensures pool { OnErr result (pool.new.items ≡ pool.old.items) }
+    ensures spare { gathers instr ≡ false → IsOk result }
 {
-    let value = result_of(task, variables, operands, instr)?;
+    let value = result_of(task, variables, operands, pool, instr)?;
     operands.drop_top(operand_count(instr));
     operands.push(value);
     Ok(())

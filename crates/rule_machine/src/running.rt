@@ -1,8 +1,9 @@
 //! Runs of a machine.
 
-ghost use Rattle.std.specs.Prelude.{◌≡◌, ◌<◌, IfOk, OnErr, Some};
+ghost use Rattle.std.specs.Prelude.{◌≡◌, ◌<◌, false, IfOk, OnErr, IsOk, Some};
+ghost use Rattle.rule_verify.specs.UnitRules.{unit_rule, takes_memory};
 ghost use Rattle.rule_machine.specs.Laws.{IsAcceptedRun, verdict_at};
-ghost use Rattle.rule_machine.specs.Shown.{IsTask, IsTaskOf};
+ghost use Rattle.rule_machine.specs.Shown.{IsTask, IsTaskOf, HasRoomFor, SameRoom, depths_in};
 ghost use Rattle.rule_machine.specs.Seen.{seen_in};
 ghost use Rattle.rule_machine.specs.Contract.{IsStarted, Ran, Judged};
 
@@ -16,16 +17,20 @@ use imkl_population::ObjectNo;
 use std::marker::Brand;
 use std::sync::ledger::{Blank, Ledger};
 
-impl<'a> State<'a> {
+impl State {
     /// Makes steps whose charges add up to at most `grant`: as many as it pays for.
-    pub(crate) fn run(&mut self, task: Task<'a>, grant: u64) -> Result<Progress, OutOfMemory>
+    pub(crate) fn run(&mut self, task: Task<'_>, grant: u64) -> Result<Progress, OutOfMemory>
         requires task { IsTask task }
         requires rule { IsTaskOf task self.old }
         requires stands { IsStarted (seen_in task self.old) }
+        requires room { HasRoomFor (depths_in task) self.old }
         ensures ran { Ran (seen_in task.entry self.old) grant result (seen_in task.entry self.new) }
         ensures spare { OnErr result (0 < grant) }
+        ensures free { takes_memory (unit_rule task.entry.accepted.now.unit task.entry.rule) ≡ false
+            → IsOk result }
         ensures rule { IsTaskOf task.entry self.new }
         ensures stands { IsStarted (seen_in task.entry self.new) }
+        ensures room { SameRoom self.old self.new }
     {
         let mut left = u128::from(grant);
         'steps: loop {
@@ -43,14 +48,18 @@ impl<'a> State<'a> {
     }
 
     /// A whole run for an object.
-    pub(crate) fn judge(&mut self, task: Task<'a>, object: ObjectNo) -> Result<Verdict, OutOfMemory>
+    pub(crate) fn judge(&mut self, task: Task<'_>, object: ObjectNo) -> Result<Verdict, OutOfMemory>
         requires task { IsTask task }
         requires accepted { IsAcceptedRun task.accepted.now.unit task.population.now.content
             task.rule object }
+        requires room { HasRoomFor (depths_in task) self.old }
         ensures judged { Judged (seen_in task.entry self.old) task.entry.rule object result
             (seen_in task.entry self.new) }
         ensures verdict { IfOk result (λ v. verdict_at task.entry.accepted.now.unit
             task.entry.population.now.content task.entry.rule object ≡ Some v) }
+        ensures free { takes_memory (unit_rule task.entry.accepted.now.unit task.entry.rule) ≡ false
+            → IsOk result }
+        ensures room { SameRoom self.old self.new }
     {
         self.judge_counted::<Brand>(task, object, Blank::new(1))
     }
@@ -58,13 +67,14 @@ impl<'a> State<'a> {
     /// A whole run for an object. The book counts its steps, for the proof that it ends; it takes no bytes.
     fn judge_counted<L: Ledger>(
         &mut self,
-        task: Task<'a>,
+        task: Task<'_>,
         object: ObjectNo,
         blank: Blank,
     ) -> Result<Verdict, OutOfMemory>
         requires task { IsTask task }
         requires accepted { IsAcceptedRun task.accepted.now.unit task.population.now.content
             task.rule object }
+        requires room { HasRoomFor (depths_in task) self.old }
         requires name { blank.name ≡ L.name }
         requires parts { blank.parts ≡ L.parts }
         requires whole { 0 < L.parts }
@@ -72,8 +82,11 @@ impl<'a> State<'a> {
             (seen_in task.entry self.new) }
         ensures verdict { IfOk result (λ v. verdict_at task.entry.accepted.now.unit
             task.entry.population.now.content task.entry.rule object ≡ Some v) }
+        ensures free { takes_memory (unit_rule task.entry.accepted.now.unit task.entry.rule) ≡ false
+            → IsOk result }
+        ensures room { SameRoom self.old self.new }
     {
-        self.start(task, object)?;
+        self.start(task, object);
         let (mut book, mut share) = blank.open::<L>();
         'steps: loop {
             if let Some(verdict) = self.ended(task) {

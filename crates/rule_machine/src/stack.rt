@@ -33,6 +33,7 @@ impl<T: Drop> ReservedStack<T> {
     pub(crate) fn reserve(&mut self, count: usize) -> Result<(), OutOfMemory>
         ensures items { self.new.0 ≡ self.old.0 }
         ensures room { OnOk result (length self.new.0 + count ≤ self.new.1) }
+        ensures grows { self.old.1 ≤ self.new.1 }
         ensures refused { OnErr result (self.new ≡ self.old) }
     {
         self.items.reserve(count)?;

@@ -1,16 +1,18 @@
 //! Where a machine stands.
 
-ghost use Rattle.std.specs.Prelude.{◌≡◌, None, OnOk, OnErr, MatchOption};
+ghost use Rattle.std.specs.Prelude.{◌≡◌, ◌≤◌, ◌+◌, None, IfOk, OnOk, MatchOption};
+ghost use Rattle.rule_machine.specs.Machine.{Configuration};
 ghost use Rattle.rule_machine.specs.Verdict.{outcome};
-ghost use Rattle.rule_machine.specs.Shown.{configuration_of, IsTask, LiesIn, CanGoOn, Same, IsStartOf, IsAtFront};
+ghost use Rattle.rule_machine.specs.Laws.{IsAcceptedRun};
+ghost use Rattle.rule_machine.specs.Shown.{depths_in, IsTask, LiesIn, CanGoOn, Same, IsStartOf, IsAtFront, HasRoomFor, SameRoom};
 
 use crate::control::Control;
 use crate::memory::OutOfMemory;
 use crate::stack::ReservedStack;
 use crate::task::Task;
-use crate::value::{Item, Value};
 use crate::verdict::{Verdict, verdict_of};
 use imkl_population::ObjectNo;
+use rule_slots::{Slot, index_slot};
 use rule_verify::Depths;
 use std::alloc::Global;
 
@@ -22,21 +24,23 @@ pub(crate) struct Started {
 }
 
 /// Where a machine stands: before the instruction at an index of a sequence with an end, with what is pending after it,
-/// the variables and the operands; what it was started for, and the charges since then, at most 2^64-1.
+/// the variables, the operands and the pool of elements; what it was started for, and the charges since then, at most
+/// 2^64-1.
 #[derive(Drop)]
-pub(crate) struct State<'a> {
-    pub(crate) controls: ReservedStack<Control<'a>>,
-    pub(crate) variables: ReservedStack<Value<'a>>,
-    pub(crate) operands: ReservedStack<Value<'a>>,
+pub(crate) struct State {
+    pub(crate) controls: ReservedStack<Control>,
+    pub(crate) variables: ReservedStack<Slot>,
+    pub(crate) operands: ReservedStack<Slot>,
+    pub(crate) pool: Vec<Slot>,
     pub(crate) at: usize,
     pub(crate) end: usize,
     pub(crate) started: Option<Started>,
     pub(crate) count: u64,
 }
 
-impl<'a> State<'a> {
+impl State {
     /// No run is started.
-    pub(crate) fn new(alloc: Global) -> State<'a>
+    pub(crate) fn new(alloc: Global) -> State
         ensures started { result.started ≡ None }
         ensures count { result.count ≡ 0 }
     {
@@ -44,6 +48,7 @@ impl<'a> State<'a> {
             controls: ReservedStack::new(alloc),
             variables: ReservedStack::new(alloc),
             operands: ReservedStack::new(alloc),
+            pool: Vec::new(alloc),
             at: 0,
             end: 0,
             started: None,
@@ -51,29 +56,37 @@ impl<'a> State<'a> {
         }
     }
 
-    /// Has room for code that goes so deep: a block has two pending pieces at most, and each step makes sure of room for
-    /// two more.
+    /// Has room for code that goes so deep, and for one step more: a block has two pending pieces at most.
     pub(crate) fn reserve(&mut self, depths: Depths) -> Result<(), OutOfMemory>
+        ensures room { OnOk result (HasRoomFor depths self.new) }
+        ensures operands { self.old.operands.1 ≤ self.new.operands.1 }
+        ensures variables { self.old.variables.1 ≤ self.new.variables.1 }
+        ensures controls { self.old.controls.1 ≤ self.new.controls.1 }
         ensures started { self.new.started ≡ self.old.started }
         ensures count { self.new.count ≡ self.old.count }
     {
-        self.operands.reserve(depths.operands)?;
-        self.variables.reserve(depths.variables)?;
-        let controls = depths.blocks.saturating_mul(2).saturating_add(2);
+        let operands = sum(depths.operands, 1)?;
+        let variables = sum(depths.variables, 1)?;
+        let controls = sum(sum(depths.blocks, depths.blocks)?, 3)?;
+        self.operands.reserve(operands)?;
+        self.variables.reserve(variables)?;
         self.controls.reserve(controls)
     }
 
     /// Stands before the first step of a rule for an object.
-    pub(crate) fn start(&mut self, task: Task<'a>, object: ObjectNo) -> Result<(), OutOfMemory>
-        requires { IsTask task }
-        ensures started { OnOk result (IsStartOf task.entry object self.new) }
-        ensures refused { OnErr result (self.new ≡ self.old) }
+    pub(crate) fn start(&mut self, task: Task<'_>, object: ObjectNo)
+        requires task { IsTask task }
+        requires accepted { IsAcceptedRun task.accepted.now.unit task.population.now.content
+            task.rule object }
+        requires room { HasRoomFor (depths_in task) self.old }
+        ensures started { IsStartOf task.entry object self.new }
+        ensures room { SameRoom self.old self.new }
     {
-        self.variables.reserve(1)?;
         self.controls.clear();
         self.variables.clear();
         self.operands.clear();
-        self.variables.push(Value::Item(Item::Object(object)));
+        self.pool.clear();
+        self.variables.push(index_slot(object.index()));
         self.at = 0;
         self.end = task.code().len();
         self.started = Some(Started {
@@ -81,15 +94,15 @@ impl<'a> State<'a> {
             object,
         });
         self.count = 0;
-        Ok(())
     }
 
     /// The verdict, if the end is reached. Sequences that are through drop out.
-    pub(crate) fn ended(&mut self, task: Task<'a>) -> Option<Verdict>
+    pub(crate) fn ended(&mut self, task: Task<'_>) -> Option<Verdict>
         requires place { LiesIn task self.old }
-        requires goes { CanGoOn task self.old }
+        requires goes { (c : Configuration) × CanGoOn task self.old c }
         ensures same { Same task.entry self.old self.new }
-        ensures outcome { outcome (configuration_of task.entry self.new) ≡ result }
+        ensures outcome { (c : Configuration) → CanGoOn task.entry self.old c →
+            outcome c ≡ result }
         ensures front { MatchOption result (IsAtFront self.new) (λ v. Unit {0}) }
     {
         while self.at == self.end {
@@ -98,16 +111,28 @@ impl<'a> State<'a> {
                     let Some(value) = self.operands.top() else {
                         unreachable!()
                     };
-                    return Some(verdict_of(value));
+                    return Some(verdict_of(*value));
                 }
-                Some(Control::Rest(from, end)) => {
-                    self.at = *from;
-                    self.end = *end;
-                    let _ = self.controls.pop();
-                }
-                Some(_) => return None,
+                Some(mark) => match *mark {
+                    Control::Rest(from, end) => {
+                        self.at = from;
+                        self.end = end;
+                        let _ = self.controls.pop();
+                    }
+                    _ => return None,
+                },
             }
         }
         None
+    }
+}
+
+/// The sum of two numbers of items. There is no memory for more than a machine word counts.
+fn sum(count: usize, more: usize) -> Result<usize, OutOfMemory>
+    ensures { IfOk result (λ n. n ≡ count + more) }
+{
+    match count.checked_add(more) {
+        Some(sum) => Ok(sum),
+        None => Err(OutOfMemory),
     }
 }

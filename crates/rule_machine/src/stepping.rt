@@ -1,50 +1,44 @@
 //! The steps of a machine.
 
-ghost use Rattle.std.specs.Prelude.{◌≡◌, ◌<◌, slice_get, true, Some, OnOk, OnErr};
+ghost use Rattle.std.specs.Prelude.{◌≡◌, ◌<◌, length, slice_get, false, Some, OnOk, OnErr, IsOk};
+ghost use Rattle.rule_code.specs.WellFormed.{InstrFits};
 ghost use Rattle.rule_verify.specs.CodeTree.{shape_of};
-ghost use Rattle.rule_verify.specs.declared.shape.Shape.TheVariants.{OneBody, TwoBodies};
-ghost use Rattle.rule_machine.specs.Live.{is_iteration};
-ghost use Rattle.rule_machine.specs.Meant.{meant};
-ghost use Rattle.rule_machine.specs.Shown.{code_in, IsTask, LiesIn, HasStep, Room, Same, Stepped, IsCondition, choice_of, IsIterable, IsOpening};
+ghost use Rattle.rule_verify.specs.UnitRules.{unit_rule, takes_memory};
+ghost use Rattle.rule_verify.specs.declared.shape.Shape.TheVariants.{Single, OneBody, TwoBodies};
+ghost use Rattle.rule_machine.specs.StandFor.{choice_slot, opening_mark};
+ghost use Rattle.rule_machine.specs.Shown.{code_in, IsTask, LiesIn, HasStep, Room, Same, Stepped, IsAtFront};
 
-use crate::control::Control;
-use crate::iterating::Iteration;
+use crate::control::{Control, Turn};
 use crate::memory::OutOfMemory;
 use crate::performing::perform;
 use crate::state::State;
 use crate::task::Task;
-use crate::value::{Item, Value};
 use rule_code::Instr;
+use rule_slots::{Slot, invalid_slot};
 use rule_verify::{Shape, shape_of};
-use std::alloc::Global;
 
-impl<'a> State<'a> {
-    /// One step. Where memory runs out, the machine stands before it.
-    pub(crate) fn step(&mut self, task: Task<'a>) -> Result<(), OutOfMemory>
+impl State {
+    /// One step. Where memory runs out, the machine stands before it; a rule that gathers nothing takes none.
+    pub(crate) fn step(&mut self, task: Task<'_>) -> Result<(), OutOfMemory>
         requires task { IsTask task }
         requires place { LiesIn task self.old }
+        requires front { IsAtFront self.old }
         requires goes { HasStep task self.old }
+        requires room { Room self.old }
         ensures made { OnOk result (Stepped task.entry self.old self.new) }
         ensures refused { OnErr result (Same task.entry self.old self.new) }
+        ensures spare { takes_memory (unit_rule task.entry.accepted.now.unit task.entry.rule) ≡ false
+            → IsOk result }
     {
-        self.operands.reserve(1)?;
-        self.variables.reserve(1)?;
-        self.controls.reserve(2)?;
-        while self.at == self.end {
-            match self.controls.pop() {
-                None => unreachable!(),
-                Some(Control::Rest(from, end)) => {
-                    self.at = from;
-                    self.end = end;
-                }
-                Some(mark) => return self.pass(task, mark),
-            }
+        if self.at < self.end {
+            self.instruct(task)
+        } else {
+            self.pass(task)
         }
-        self.instruct(task)
     }
 
     /// The step of an instruction.
-    fn instruct(&mut self, task: Task<'a>) -> Result<(), OutOfMemory>
+    fn instruct(&mut self, task: Task<'_>) -> Result<(), OutOfMemory>
         requires task { IsTask task }
         requires place { LiesIn task self.old }
         requires before_end { self.old.at < self.old.end }
@@ -52,14 +46,12 @@ impl<'a> State<'a> {
         requires room { Room self.old }
         ensures made { OnOk result (Stepped task.entry self.old self.new) }
         ensures refused { OnErr result (Same task.entry self.old self.new) }
+        ensures spare { takes_memory (unit_rule task.entry.accepted.now.unit task.entry.rule) ≡ false
+            → IsOk result }
     {
         let instr = task.code()[self.at];
         match shape_of(instr) {
-            Shape::Single => {
-                perform(task, &self.variables, &mut self.operands, instr)?;
-                self.at += 1;
-                Ok(())
-            }
+            Shape::Single => self.carry_out(task, instr),
             Shape::OneBody(body) => {
                 self.open_block(task, instr, body);
                 Ok(())
@@ -72,7 +64,7 @@ impl<'a> State<'a> {
     }
 
     /// The step of a block with one body: a LET binds its operand, an iteration goes over it.
-    fn open_block(&mut self, task: Task<'a>, instr: Instr, body: usize)
+    fn open_block(&mut self, task: Task<'_>, instr: Instr, body: usize)
         requires place { LiesIn task self.old }
         requires before_end { self.old.at < self.old.end }
         requires here { slice_get (code_in task) self.old.at ≡ Some instr }
@@ -98,7 +90,7 @@ impl<'a> State<'a> {
                 self.end = after;
             }
             _ => {
-                let mark = opened(task.alloc, instr, from, after, value);
+                let mark = opened(instr, from, after, value, self.pool.len());
                 self.controls.push(mark);
                 self.at = after;
                 self.end = after;
@@ -107,7 +99,7 @@ impl<'a> State<'a> {
     }
 
     /// The step of an IF: the branch that its condition chooses; with null or invalid it is invalid.
-    fn branch(&mut self, task: Task<'a>, instr: Instr, first: usize, second: usize)
+    fn branch(&mut self, task: Task<'_>, instr: Instr, first: usize, second: usize)
         requires place { LiesIn task self.old }
         requires before_end { self.old.at < self.old.end }
         requires here { slice_get (code_in task) self.old.at ≡ Some instr }
@@ -128,8 +120,8 @@ impl<'a> State<'a> {
         let Some(value) = self.operands.pop() else {
             unreachable!()
         };
-        let Some(condition) = condition(&value) else {
-            self.operands.push(Value::Invalid);
+        let Some(condition) = choice(value) else {
+            self.operands.push(invalid_slot());
             self.at = after;
             return;
         };
@@ -142,36 +134,64 @@ impl<'a> State<'a> {
             self.end = after;
         }
     }
+
+    /// The step of an instruction without a body.
+    fn carry_out(&mut self, task: Task<'_>, instr: Instr) -> Result<(), OutOfMemory>
+        requires task { IsTask task }
+        requires place { LiesIn task self.old }
+        requires before_end { self.old.at < self.old.end }
+        requires here { slice_get (code_in task) self.old.at ≡ Some instr }
+        requires fits { InstrFits (length task.accepted.now.unit.texts)
+            task.accepted.now.unit.symbols instr }
+        requires shape { shape_of instr ≡ Single }
+        requires goes { HasStep task self.old }
+        requires room { Room self.old }
+        ensures made { OnOk result (Stepped task.entry self.old self.new) }
+        ensures refused { OnErr result (Same task.entry self.old self.new) }
+        ensures spare { takes_memory (unit_rule task.entry.accepted.now.unit task.entry.rule) ≡ false
+            → IsOk result }
+    {
+        perform(
+            task,
+            &self.variables,
+            &mut self.operands,
+            &mut self.pool,
+            instr,
+        )?;
+        self.at += 1;
+        Ok(())
+    }
 }
 
 /// The truth value that a condition is, if it is one.
-fn condition(value: &Value<'_>) -> Option<bool>
-    requires { IsCondition (meant value.now) }
-    ensures { result ≡ choice_of (meant value.now) }
+fn choice(value: Slot) -> Option<bool>
+    ensures { result ≡ choice_slot value }
 {
-    match value {
-        Value::Item(Item::Bool(truth)) => Some(*truth),
-        _ => None,
+    if value.is_plain() {
+        Some(value.number == 1)
+    } else {
+        None
     }
 }
 
 /// An iteration over a collection, before its first turn; one over invalid is skipped.
-fn opened<'a>(alloc: Global, instr: Instr, from: usize, end: usize, value: Value<'a>) -> Control<'a>
-    requires iterates { is_iteration instr ≡ true }
-    requires source { IsIterable (meant value) }
-    ensures { IsOpening instr from end (meant value.entry) result }
+fn opened(instr: Instr, from: usize, end: usize, source: Slot, opened: usize) -> Control
+    ensures { result ≡ opening_mark instr from end source opened }
 {
-    match value {
-        Value::Collection(kind, elements) => Control::Opened(Iteration {
+    if source.is_plain() {
+        Control::Opened(Turn {
             instr,
             from,
             end,
-            kind,
-            elements,
+            source,
             next: 0,
-            bodies: Vec::new(alloc),
-        }),
-        Value::Invalid => Control::Skipped,
-        Value::Item(_) => unreachable!(),
+            opened,
+            kept: 0,
+            trues: 0,
+            falses: 0,
+            invalids: 0,
+        })
+    } else {
+        Control::Skipped
     }
 }

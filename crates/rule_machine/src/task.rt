@@ -2,17 +2,17 @@
 
 ghost use Rattle.std.specs.Prelude.{◌≡◌, ◌<◌, length, All};
 ghost use Rattle.rule_code.specs.WellFormed.{InstrFits};
-ghost use Rattle.rule_machine.specs.Shown.{code_in};
+ghost use Rattle.rule_slots.specs.Slots.{lists_in};
+ghost use Rattle.rule_machine.specs.Shown.{code_in, task_lists};
 
 use imkl_population::Population;
 use rule_code::Instr;
+use rule_slots::Lists;
 use rule_verify::Accepted;
-use std::alloc::Global;
 
 /// Accepted code, a population of its class model, and the index of a rule.
 #[derive(Clone, Copy)]
 pub(crate) struct Task<'a> {
-    pub(crate) alloc: Global,
     pub(crate) accepted: &'a Accepted<'a>,
     pub(crate) population: &'a Population<'a>,
     pub(crate) rule: usize,
@@ -27,5 +27,15 @@ impl<'a> Task<'a> {
             self.entry.accepted.now.unit.symbols) result.now }
     {
         self.accepted.unit().rule(self.rule).code.as_slice()
+    }
+
+    /// What slots index.
+    pub(crate) fn lists(self) -> Lists<'a>
+        ensures { lists_in result ≡ task_lists self.entry }
+    {
+        Lists {
+            unit: self.accepted.unit(),
+            population: self.population,
+        }
     }
 }

@@ -1,141 +1,244 @@
 //! The steps at the end of a body, and those of iterations.
 
-ghost use Rattle.std.specs.Prelude.{◌≡◌, ◌+◌, ◌<◌, ◌≤◌, length, vec_capacity, OnOk, OnErr};
-ghost use Rattle.rule_machine.specs.declared.control.Control.TheVariants.{Opened, Turning};
-ghost use Rattle.rule_machine.specs.Shown.{code_in, LiesIn, Room, IsIterationIn, IsMarkBefore, Passed, PutBack, Begun, BodyBack};
+ghost use Rattle.std.specs.Prelude.{◌≡◌, ◌+◌, ◌<◌, ◌≤◌, ◌∷◌, List, length, false, IfOk, OnOk, OnErr, IsOk};
+ghost use Rattle.rule_verify.specs.UnitRules.{unit_rule, takes_memory};
+ghost use Rattle.rule_machine.specs.Machine.{Configuration};
+ghost use Rattle.rule_machine.specs.declared.control.Control.TheVariants.{LetEnd, Opened, Turning, Skipped};
+ghost use Rattle.rule_machine.specs.declared.control.Control.{Control as Pending};
+ghost use Rattle.rule_machine.specs.StandFor.{TellsDistinct, gives_part, given_pool};
+ghost use Rattle.rule_machine.specs.Shown.{code_in, task_lists, IsTurnIn, LiesIn, BetweenIn, WentOn, TurnEnded, HasStep, IsFirstMark, Same, Stepped, Room};
 
-use crate::control::Control;
-use crate::iterating::{Iteration, ending};
+use crate::control::{Control, Turn};
+use crate::endings::{ending, kept_part, turn_after};
+use crate::keeping::keep;
 use crate::memory::OutOfMemory;
 use crate::state::State;
 use crate::task::Task;
-use crate::value::{Value, item_value};
+use rule_code::Instr;
+use rule_slots::{Slot, are_distinct, element, invalid_slot};
 
-impl<'a> State<'a> {
-    /// The step of what comes after a sequence that is through, and has been taken from the pending ones. Where memory
-    /// runs out, it is put back.
-    pub(crate) fn pass(&mut self, task: Task<'a>, mark: Control<'a>) -> Result<(), OutOfMemory>
+impl State {
+    /// The step of the mark that comes after a sequence that is through. Where memory runs out, the machine stands
+    /// before it; a rule that gathers nothing takes none.
+    pub(crate) fn pass(&mut self, task: Task<'_>) -> Result<(), OutOfMemory>
         requires place { LiesIn task self.old }
-        requires mark { IsMarkBefore task mark self.old }
+        requires at_end { self.old.at ≡ self.old.end }
+        requires mark { IsFirstMark self.old.controls.0 }
+        requires goes { HasStep task self.old }
         requires room { Room self.old }
-        ensures made { OnOk result (Passed task.entry mark.entry self.old self.new) }
-        ensures refused { OnErr result (PutBack task.entry mark.entry self.old self.new) }
+        ensures made { OnOk result (Stepped task.entry self.old self.new) }
+        ensures refused { OnErr result (Same task.entry self.old self.new) }
+        ensures spare { takes_memory (unit_rule task.entry.accepted.now.unit task.entry.rule) ≡ false
+            → IsOk result }
     {
-        match mark {
+        let Some(mark) = self.controls.top() else {
+            unreachable!()
+        };
+        match *mark {
             Control::LetEnd => {
-                let Some(_) = self.variables.pop() else {
-                    unreachable!()
-                };
+                self.end_let(task);
                 Ok(())
             }
             Control::Skipped => {
-                self.operands.push(Value::Invalid);
+                self.skip(task);
                 Ok(())
             }
-            Control::Opened(iteration) => self.first_turn(task, iteration),
-            Control::Turning(iteration) => self.next_turn(task, iteration),
+            Control::Opened(turn) => {
+                self.first_turn(task, turn);
+                Ok(())
+            }
+            Control::Turning(turn) => self.next_turn(task, turn),
             Control::Rest(_, _) => unreachable!(),
         }
     }
 
-    /// The first turn of an iteration, or its end. There is room then for what the body gives in all turns.
-    fn first_turn(
-        &mut self,
-        task: Task<'a>,
-        mut iteration: Iteration<'a>,
-    ) -> Result<(), OutOfMemory>
+    /// The end of a LET drops its variable.
+    fn end_let(&mut self, task: Task<'_>)
         requires place { LiesIn task self.old }
-        requires mark { IsMarkBefore task (Opened iteration) self.old }
-        requires room { Room self.old }
-        ensures made { OnOk result (Passed task.entry (Opened iteration.entry) self.old self.new) }
-        ensures refused { OnErr result
-            (PutBack task.entry (Opened iteration.entry) self.old self.new) }
+        requires at_end { self.old.at ≡ self.old.end }
+        requires top { (cs : List Pending) × (self.old.controls.0 ≡ LetEnd ∷ cs) }
+        requires goes { HasStep task self.old }
+        ensures { Stepped task.entry self.old self.new }
     {
-        let turns = iteration.elements.len();
-        if let Err(refused) = iteration.bodies.reserve(turns) {
-            self.controls.push(Control::Opened(iteration));
-            return Err(refused.into());
-        }
-        if iteration.next < turns {
-            self.begin_turn(task, iteration);
-            return Ok(());
-        }
-        match ending(task.alloc, &iteration) {
-            Ok(value) => {
-                self.operands.push(value);
-                Ok(())
-            }
-            Err(refused) => {
-                self.controls.push(Control::Opened(iteration));
-                Err(refused)
-            }
-        }
-    }
-
-    /// The next turn of an iteration, or its end: the body's value is kept.
-    fn next_turn(&mut self, task: Task<'a>, mut iteration: Iteration<'a>) -> Result<(), OutOfMemory>
-        requires place { LiesIn task self.old }
-        requires mark { IsMarkBefore task (Turning iteration) self.old }
-        requires room { Room self.old }
-        ensures made { OnOk result (Passed task.entry (Turning iteration.entry) self.old self.new) }
-        ensures refused { OnErr result
-            (PutBack task.entry (Turning iteration.entry) self.old self.new) }
-    {
-        let Some(body) = self.operands.pop() else {
+        let Some(_) = self.controls.pop() else {
             unreachable!()
         };
-        iteration.bodies.push_reserved(body);
-        if iteration.next < iteration.elements.len() {
-            let Some(_) = self.variables.pop() else {
-                unreachable!()
-            };
-            self.begin_turn(task, iteration);
-            return Ok(());
-        }
-        match ending(task.alloc, &iteration) {
-            Ok(value) => {
-                let Some(_) = self.variables.pop() else {
-                    unreachable!()
-                };
-                self.operands.push(value);
-                Ok(())
-            }
-            Err(refused) => {
-                self.put_back(iteration);
-                Err(refused)
-            }
+        let Some(_) = self.variables.pop() else {
+            unreachable!()
+        };
+    }
+
+    /// The step of an iteration over invalid gives invalid.
+    fn skip(&mut self, task: Task<'_>)
+        requires place { LiesIn task self.old }
+        requires at_end { self.old.at ≡ self.old.end }
+        requires top { (cs : List Pending) × (self.old.controls.0 ≡ Skipped ∷ cs) }
+        requires room { Room self.old }
+        ensures { Stepped task.entry self.old self.new }
+    {
+        let Some(_) = self.controls.pop() else {
+            unreachable!()
+        };
+        self.operands.push(invalid_slot());
+    }
+
+    /// The first turn of an iteration, or its end.
+    fn first_turn(&mut self, task: Task<'_>, turn: Turn)
+        requires place { LiesIn task self.old }
+        requires at_end { self.old.at ≡ self.old.end }
+        requires top { (cs : List Pending) × (self.old.controls.0 ≡ Opened turn ∷ cs) }
+        requires goes { HasStep task self.old }
+        requires room { Room self.old }
+        ensures { Stepped task.entry self.old self.new }
+    {
+        self.leave_opening(task, turn);
+        self.go_on(task, turn);
+    }
+
+    /// The next turn of an iteration, or its end: what its body gave is kept.
+    fn next_turn(&mut self, task: Task<'_>, turn: Turn) -> Result<(), OutOfMemory>
+        requires place { LiesIn task self.old }
+        requires at_end { self.old.at ≡ self.old.end }
+        requires top { (cs : List Pending) × (self.old.controls.0 ≡ Turning turn ∷ cs) }
+        requires goes { HasStep task self.old }
+        requires room { Room self.old }
+        ensures made { OnOk result (Stepped task.entry self.old self.new) }
+        ensures refused { OnErr result (Same task.entry self.old self.new) }
+        ensures spare { takes_memory (unit_rule task.entry.accepted.now.unit task.entry.rule) ≡ false
+            → IsOk result }
+    {
+        let turn = self.end_turn(task, turn)?;
+        self.go_on(task, turn);
+        Ok(())
+    }
+
+    /// An iteration that was opened stands before its first turn, or its end.
+    fn leave_opening(&mut self, task: Task<'_>, turn: Turn)
+        requires place { LiesIn task self.old }
+        requires at_end { self.old.at ≡ self.old.end }
+        requires top { (cs : List Pending) × (self.old.controls.0 ≡ Opened turn ∷ cs) }
+        requires room { Room self.old }
+        ensures over { TurnEnded task.entry turn self.old self.new }
+        ensures at_end { self.new.at ≡ self.new.end }
+        ensures room { Room self.new }
+    {
+        let Some(_) = self.controls.pop() else {
+            unreachable!()
+        };
+    }
+
+    /// Ends a turn: what its body gave is kept, and the pool is cut back to that. Where memory runs out, the machine
+    /// stands as before. Tells the mark to go on with.
+    fn end_turn(&mut self, task: Task<'_>, turn: Turn) -> Result<Turn, OutOfMemory>
+        requires place { LiesIn task self.old }
+        requires at_end { self.old.at ≡ self.old.end }
+        requires top { (cs : List Pending) × (self.old.controls.0 ≡ Turning turn ∷ cs) }
+        requires goes { HasStep task self.old }
+        requires room { Room self.old }
+        ensures over { IfOk result (λ next. TurnEnded task.entry next self.old self.new) }
+        ensures at_end { OnOk result (self.new.at ≡ self.new.end) }
+        ensures room { OnOk result (Room self.new) }
+        ensures refused { OnErr result (Same task.entry self.old self.new) }
+        ensures spare { takes_memory (unit_rule task.entry.accepted.now.unit task.entry.rule) ≡ false
+            → IsOk result }
+    {
+        let Some(value) = self.operands.top() else {
+            unreachable!()
+        };
+        let value = *value;
+        let lists = task.lists();
+        let last = element(lists, &self.pool, turn.source, turn.next - 1);
+        let more = keep(lists, &mut self.pool, turn, last, value)?;
+        let Some(_) = self.operands.pop() else {
+            unreachable!()
+        };
+        let Some(_) = self.variables.pop() else {
+            unreachable!()
+        };
+        let Some(_) = self.controls.pop() else {
+            unreachable!()
+        };
+        Ok(turn_after(turn, more, value))
+    }
+
+    /// From between two turns to the next turn, or to the end of the iteration.
+    fn go_on(&mut self, task: Task<'_>, turn: Turn)
+        requires place { LiesIn task self.old }
+        requires at_end { self.old.at ≡ self.old.end }
+        requires turn { IsTurnIn (code_in task) turn }
+        requires between { (d : Configuration) × BetweenIn task turn self.old d }
+        requires room { Room self.old }
+        ensures { WentOn task.entry turn self.old self.new }
+    {
+        if turn.next < turn.source.count {
+            self.begin_turn(task, turn);
+        } else {
+            self.end_turns(task, turn);
         }
     }
 
     /// Begins the turn of the next element.
-    fn begin_turn(&mut self, task: Task<'a>, mut iteration: Iteration<'a>)
+    fn begin_turn(&mut self, task: Task<'_>, turn: Turn)
         requires place { LiesIn task self.old }
-        requires at_end { self.old.at ≡ self.old.end }
-        requires iteration { IsIterationIn (code_in task) iteration }
-        requires left { iteration.next < length iteration.elements.items }
-        requires kept { length iteration.bodies.items ≡ iteration.next }
-        requires bodies { length iteration.elements.items ≤ vec_capacity iteration.bodies }
+        requires turn { IsTurnIn (code_in task) turn }
+        requires left { turn.next < turn.source.count }
+        requires between { (d : Configuration) × BetweenIn task turn self.old d }
         requires room { Room self.old }
-        ensures { Begun task.entry iteration.entry self.old self.new }
+        ensures { WentOn task.entry turn self.old self.new }
     {
-        let element = item_value(&iteration.elements[iteration.next]);
-        self.variables.push(element);
-        self.at = iteration.from;
-        self.end = iteration.end;
-        iteration.next += 1;
-        self.controls.push(Control::Turning(iteration));
+        let next = element(task.lists(), &self.pool, turn.source, turn.next);
+        self.variables.push(next);
+        self.at = turn.from;
+        self.end = turn.end;
+        let following = Turn {
+            next: turn.next + 1,
+            ..turn
+        };
+        self.controls.push(Control::Turning(following));
     }
 
-    /// Puts the last body back on the operands, and the iteration before what is pending.
-    fn put_back(&mut self, mut iteration: Iteration<'a>)
-        requires body { 0 < length iteration.bodies.items }
+    /// Ends an iteration with no element left: what it gives is an operand.
+    fn end_turns(&mut self, task: Task<'_>, turn: Turn)
+        requires place { LiesIn task self.old }
+        requires at_end { self.old.at ≡ self.old.end }
+        requires all { turn.next ≡ turn.source.count }
+        requires between { (d : Configuration) × BetweenIn task turn self.old d }
         requires room { Room self.old }
-        ensures { BodyBack iteration.entry self.old self.new }
+        ensures { WentOn task.entry turn self.old self.new }
     {
-        let Some(body) = iteration.bodies.pop() else {
-            unreachable!()
-        };
-        self.operands.push(body);
-        self.controls.push(Control::Turning(iteration));
+        let distinct = keeps_distinct(task, &self.pool, turn);
+        let gives = ending(turn, distinct);
+        cut_to_given(&mut self.pool, turn, gives);
+        self.operands.push(gives);
+    }
+}
+
+/// Whether ISUNIQUE keeps no element twice; no other iteration asks for it.
+fn keeps_distinct(task: Task<'_>, pool: &[Slot], turn: Turn) -> bool
+    requires { turn.opened + turn.kept ≤ length pool.now }
+    ensures { TellsDistinct (task_lists task.entry) pool.now turn result }
+{
+    match turn.instr {
+        Instr::IsUnique(kind, _) => are_distinct(task.lists(), pool, kind, kept_part(turn)),
+        _ => false,
+    }
+}
+
+/// Cuts the pool back to where an iteration was opened, unless what it gives is what it keeps.
+fn cut_to_given(pool: &mut Vec<Slot>, turn: Turn, gives: Slot)
+    ensures { pool.new.items ≡ given_pool turn gives pool.old.items }
+{
+    if !gives_part(turn.instr, gives) {
+        pool.truncate(turn.opened);
+    }
+}
+
+/// Whether what an iteration gives is what it keeps.
+fn gives_part(instr: Instr, gives: Slot) -> bool
+    ensures { result ≡ gives_part instr gives }
+{
+    match instr {
+        Instr::IsUnique(_, _) => false,
+        _ => gives.is_plain(),
     }
 }

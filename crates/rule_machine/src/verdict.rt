@@ -1,10 +1,9 @@
 //! What a rule says of an object.
 
 ghost use Rattle.std.specs.Prelude.{◌≡◌};
-ghost use Rattle.rule_machine.specs.Meant.{meant};
-ghost use Rattle.rule_machine.specs.Verdict.{verdict_of};
+ghost use Rattle.rule_machine.specs.StandFor.{verdict_slot};
 
-use crate::value::{Item, Value};
+use rule_slots::{Slot, is_false, is_true};
 
 /// What a rule says of an object.
 #[derive(Clone, Copy, Debug, PartialEq, Eq)]
@@ -17,18 +16,15 @@ pub enum Verdict {
     Undecided,
 }
 
-/// The verdict of a value.
-pub(crate) fn verdict_of(value: &Value<'_>) -> Verdict
-    ensures { result ≡ verdict_of (meant value.now) }
+/// The verdict of a truth value, null or invalid.
+pub(crate) fn verdict_of(value: Slot) -> Verdict
+    ensures { result ≡ verdict_slot value }
 {
-    match value {
-        Value::Item(Item::Bool(truth)) => {
-            if *truth {
-                Verdict::Holds
-            } else {
-                Verdict::Fails
-            }
-        }
-        _ => Verdict::Undecided,
+    if is_true(value) {
+        Verdict::Holds
+    } else if is_false(value) {
+        Verdict::Fails
+    } else {
+        Verdict::Undecided
     }
 }

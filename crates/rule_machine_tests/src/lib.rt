@@ -20,6 +20,8 @@ mod nesting;
 #[cfg(test)]
 mod objects;
 #[cfg(test)]
+mod pool;
+#[cfg(test)]
 mod rows;
 #[cfg(test)]
 mod texts;

@@ -56,6 +56,28 @@ text 漢😀é; int 2; int 2; substr; text 😀; eq String -> Holds
 text 漢😀é; int 2; int 3; substr; text 😀é; eq String -> Holds
 ";
 
+/// Parts of parts, where some characters have two bytes.
+const PARTS_OF_PARTS: &str = "\
+self; attr Box.name; int 2; int 3; substr; int 1; int 1; substr; text é; eq String -> Holds
+self; attr Box.name; int 2; int 3; substr; int 2; int 2; substr; text b; eq String -> Holds
+self; attr Box.name; int 1; int 2; substr; int 2; int 2; substr; text é; eq String -> Holds
+text aéèb; int 2; int 4; substr; int 2; int 3; substr; text èb; eq String -> Holds
+text aéèb; int 2; int 4; substr; int 1; int 2; substr; int 2; int 2; substr; text è; \
+eq String -> Holds
+text éèéè; int 2; int 4; substr; int 2; int 3; substr; tlen; int 2; eq Integer -> Holds
+text éèéè; int 2; int 3; substr; int 3; int 3; substr; isinv -> Holds
+# parts of different texts
+self; attr Box.name; int 2; int 2; substr; text éè; int 1; int 1; substr; eq String -> Holds
+self; attr Box.name; int 2; int 3; substr; text éb; int 1; int 1; substr; eq String -> Fails
+# parts that a variable or a collection holds
+text aéb; int 2; int 3; substr; let 10; self; attr Box.Sequence12; forall 7; get 1; get 2; get 2; \
+substr; tlen; int 1; eq Integer -> Holds
+text aéè; let 11; self; attr Box.Sequence123; collect 4; get 1; get 2; get 2; substr; \
+exists 3; get 2; text è; eq String -> Holds
+self; attr Box.SequenceTexts; collect 4; get 1; int 1; int 1; substr; \
+select 3; get 1; text é; eq String; size; int 1; eq Integer -> Holds
+";
+
 /// With `_` for null or invalid.
 const UNDEFINED: &str = "\
 _; int 1; int 1; substr; isinv -> Holds
@@ -74,6 +96,12 @@ fn a_length_counts_characters(rt: HostRuntime) -> Result<(), Fail> {
 #[test]
 fn parts_are_bounded_by_characters(rt: HostRuntime) -> Result<(), Fail> {
     assert_eq!(rt; wrong_rows(rt.alloc(), "", PARTS)?.as_str(), "");
+    Ok(())
+}
+
+#[test]
+fn parts_are_cut_again(rt: HostRuntime) -> Result<(), Fail> {
+    assert_eq!(rt; wrong_rows(rt.alloc(), "", PARTS_OF_PARTS)?.as_str(), "");
     Ok(())
 }
 

@@ -1,6 +1,6 @@
 //! What is asked of a delivery and rules: the chain from the bytes of the inputs to the answer.
 
-ghost use Rattle.std.specs.Prelude.{◌≡◌, ◌⊎◌, ◌||◌, true, false, Err, IfOk};
+ghost use Rattle.std.specs.Prelude.{◌≡◌, ◌⊎◌, ◌||◌, true, false, Err, IfOk, OnOk};
 ghost use Rattle.std.specs.Io.KnownBytes.{IsAtEnd};
 ghost use Rattle.ocl_check.specs.declared.input.InputFault.TheVariants as fault;
 ghost use Rattle.ocl_check.specs.Answers.{IsAnswered, IsReadWithinLimits, IsUnread, ReadBy, fails_read, fails_write, most_bytes};
@@ -24,16 +24,16 @@ use std::alloc::Global;
 /// Answers what is asked of a delivery and rules.
 fn answer_delivery<S: Sink>(
     alloc: Global,
-    asked: Asked,
+    asked: Asked<'_>,
     model: &ClassModel,
     delivery: &[u8],
     rules: &[u8],
     sink: &mut S,
 ) -> Outcome
     requires { S.has_failed sink.old ≡ false }
-    ensures { (reading : ReadingFor asked rules.now) ×
-        IsEnding S.contents S.has_failed (is_whole_asked asked)
-        (delivery_answer (answer_by asked rules.now reading)
+    ensures { (reading : ReadingFor asked.entry rules.now) ×
+        IsEnding S.contents S.has_failed (is_whole_asked asked.entry)
+        (delivery_answer (answer_by asked.entry rules.now reading)
         (population_of model.now delivery.now)) sink.old result sink.new }
 {
     each_text_is_read();
@@ -44,18 +44,18 @@ fn answer_delivery<S: Sink>(
 }
 
 /// Answers what is asked of a class model, a delivery and rules.
-fn answer_inputs<S: Sink>(
+pub(crate) fn answer_inputs<S: Sink>(
     alloc: Global,
-    asked: Asked,
+    asked: Asked<'_>,
     model: &[u8],
     delivery: &[u8],
     rules: &[u8],
     sink: &mut S,
 ) -> Outcome
     requires { S.has_failed sink.old ≡ false }
-    ensures { (reading : ReadingFor asked rules.now) ×
-        IsEnding S.contents S.has_failed (is_whole_asked asked)
-        (inputs_answer (answer_by asked rules.now reading) model.now delivery.now) sink.old
+    ensures { (reading : ReadingFor asked.entry rules.now) ×
+        IsEnding S.contents S.has_failed (is_whole_asked asked.entry)
+        (inputs_answer (answer_by asked.entry rules.now reading) model.now delivery.now) sink.old
         result sink.new }
 {
     each_text_is_read();
@@ -67,14 +67,17 @@ fn answer_inputs<S: Sink>(
 
 /// A class model, a delivery and rules, each read whole.
 #[derive(Drop)]
-struct Inputs {
-    model: Vec<u8>,
-    delivery: Vec<u8>,
-    rules: Vec<u8>,
+pub(crate) struct Inputs {
+    /// The class model.
+    pub(crate) model: Vec<u8>,
+    /// The delivery.
+    pub(crate) delivery: Vec<u8>,
+    /// The rules.
+    pub(crate) rules: Vec<u8>,
 }
 
 /// Reads three inputs, one after another, each whole.
-fn read_inputs<M: Source, D: Source, R: Source>(
+pub(crate) fn read_inputs<M: Source, D: Source, R: Source>(
     alloc: Global,
     model: &mut M,
     delivery: &mut D,
@@ -86,6 +89,7 @@ fn read_inputs<M: Source, D: Source, R: Source>(
     ensures model { IfOk result (λ i. IsInput (M.remaining model.old) i.model.items) }
     ensures delivery { IfOk result (λ i. IsInput (D.remaining delivery.old) i.delivery.items) }
     ensures rules { IfOk result (λ i. IsInput (R.remaining rules.old) i.rules.items) }
+    ensures end { OnOk result (IsAtEnd (R.remaining rules.new)) }
     ensures model_read { IsReadWithinLimits (M.remaining model.old) (M.remaining model.new)
         (M.reads model.new) }
     ensures delivery_read { IsReadWithinLimits (D.remaining delivery.old) (D.remaining delivery.new)
@@ -117,7 +121,7 @@ fn read_inputs<M: Source, D: Source, R: Source>(
 /// them, or writes one line on the first of them that is refused.
 pub(crate) fn ask<M: Source, D: Source, R: Source, S: Sink>(
     alloc: Global,
-    asked: Asked,
+    asked: Asked<'_>,
     model: &mut M,
     delivery: &mut D,
     rules: &mut R,
@@ -129,11 +133,11 @@ pub(crate) fn ask<M: Source, D: Source, R: Source, S: Sink>(
     requires sink { S.has_failed sink.old ≡ false }
     ensures answered { ReadBy result (M.remaining model.old) (λ xs.
         ReadBy result (D.remaining delivery.old) (λ ys. ReadBy result (R.remaining rules.old) (λ zs.
-        (reading : ReadingFor asked zs)
-        × IsAnswered (inputs_answer (answer_by asked zs reading) xs ys)
+        (reading : ReadingFor asked.entry zs)
+        × IsAnswered (inputs_answer (answer_by asked.entry zs reading) xs ys)
         (S.contents sink.old) (S.contents sink.new) result))) }
     ensures sink { S.has_failed sink.new ≡ fails_write result }
-    ensures kept { KeepsBy (is_whole_asked asked) result sink.old sink.new }
+    ensures kept { KeepsBy (is_whole_asked asked.entry) result sink.old sink.new }
     ensures model_read { IsReadWithinLimits (M.remaining model.old) (M.remaining model.new)
         (M.reads model.new) }
     ensures delivery_read { IsReadWithinLimits (D.remaining delivery.old) (D.remaining delivery.new)

@@ -98,7 +98,7 @@ pub struct JudgeOptions {
 
 impl JudgeOptions {
     /// What these options ask of a population and rules.
-    fn asked(self) -> Asked
+    fn asked(self) -> Asked<'static>
         ensures { result ≡ asked_by self.form self.budget }
     {
         let budget = self.budget;

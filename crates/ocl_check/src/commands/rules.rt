@@ -10,6 +10,7 @@ ghost use Rattle.ocl_check.specs.JudgeText.{text_answer};
 ghost use Rattle.ocl_check.specs.TextReading.{TextReading, ReadsAs};
 
 use crate::commands::bound::bounds_reply;
+use crate::commands::desk::reply_within;
 use crate::commands::judge::judge_within;
 use crate::compiled_rules::compile_text;
 use crate::outcome::{CommandFault, Outcome, answer};
@@ -22,7 +23,7 @@ use std::alloc::Global;
 
 /// What is asked of a population and accepted code.
 #[derive(Clone, Copy)]
-pub(crate) enum Question {
+pub(crate) enum Question<'a> {
     /// The report, by rules that are within a budget for an object.
     Report {
         /// The greatest bound that a rule may have, in charges.
@@ -30,12 +31,17 @@ pub(crate) enum Question {
     },
     /// The bounds of the rules.
     Bounds,
+    /// What a desk replies to a script.
+    Replies {
+        /// The script.
+        script: &'a [u8],
+    },
 }
 
 /// Answers a question on a population of these sizes and accepted code.
 fn answer_sized<S: Sink>(
     alloc: Global,
-    question: Question,
+    question: Question<'_>,
     population: &Population<'_>,
     sizes: &Sizes<'_>,
     accepted: &Accepted<'_>,
@@ -44,29 +50,32 @@ fn answer_sized<S: Sink>(
     requires one_model { population.now.content.model ≡ accepted.now.model }
     requires sizes { sizes.now ≡ sizes_of population.now.content }
     requires well { S.has_failed sink.old ≡ false }
-    ensures { IsEnding S.contents S.has_failed (is_whole_answer question)
-        (answer_to question population.now.content accepted.now.unit) sink.old result sink.new }
+    ensures { IsEnding S.contents S.has_failed (is_whole_answer question.entry)
+        (answer_to question.entry population.now.content accepted.now.unit) sink.old result sink.new }
 {
     match question {
         Question::Report { budget } => {
             judge_within(alloc, budget, population, sizes, accepted, sink)
         }
         Question::Bounds => answer(sink, bounds_reply(alloc, sizes, accepted)),
+        Question::Replies { script } => {
+            reply_within(alloc, script, population, sizes, accepted, sink)
+        }
     }
 }
 
 /// Answers a question on a population and accepted code.
 fn answer_accepted<S: Sink>(
     alloc: Global,
-    question: Question,
+    question: Question<'_>,
     population: &Population<'_>,
     accepted: &Accepted<'_>,
     sink: &mut S,
 ) -> Outcome
     requires one_model { population.now.content.model ≡ accepted.now.model }
     requires well { S.has_failed sink.old ≡ false }
-    ensures { IsEnding S.contents S.has_failed (is_whole_answer question)
-        (answer_to question population.now.content accepted.now.unit) sink.old result sink.new }
+    ensures { IsEnding S.contents S.has_failed (is_whole_answer question.entry)
+        (answer_to question.entry population.now.content accepted.now.unit) sink.old result sink.new }
 {
     match population.sizes(alloc) {
         Ok(sizes) => answer_sized(alloc, question, population, &sizes, accepted, sink),
@@ -77,14 +86,14 @@ fn answer_accepted<S: Sink>(
 /// Answers a question on a population and a unit.
 fn answer_unit<S: Sink>(
     alloc: Global,
-    question: Question,
+    question: Question<'_>,
     population: &Population<'_>,
     unit: Unit,
     sink: &mut S,
 ) -> Outcome
     requires { S.has_failed sink.old ≡ false }
-    ensures { IsEnding S.contents S.has_failed (is_whole_answer question)
-        (code_answer (answer_to question) population.now.content (Ok (content unit)))
+    ensures { IsEnding S.contents S.has_failed (is_whole_answer question.entry)
+        (code_answer (answer_to question.entry) population.now.content (Ok (content unit)))
         sink.old result sink.new }
 {
     match verify(alloc, population.model(), unit) {
@@ -99,14 +108,14 @@ fn answer_unit<S: Sink>(
 /// Answers a question on a population and a code file.
 fn answer_code<S: Sink>(
     alloc: Global,
-    question: Question,
+    question: Question<'_>,
     population: &Population<'_>,
     code: &[u8],
     sink: &mut S,
 ) -> Outcome
     requires { S.has_failed sink.old ≡ false }
-    ensures { IsEnding S.contents S.has_failed (is_whole_answer question)
-        (code_file_answer (answer_to question) code.now population.now.content)
+    ensures { IsEnding S.contents S.has_failed (is_whole_answer question.entry)
+        (code_file_answer (answer_to question.entry) code.now population.now.content)
         sink.old result sink.new }
 {
     match read_unit(alloc, code) {
@@ -142,9 +151,9 @@ fn answer_text<S: Sink>(
 
 /// What is asked of a population and rules, by the form in which they come.
 #[derive(Clone, Copy)]
-pub(crate) enum Asked {
+pub(crate) enum Asked<'a> {
     /// A question on the rules of a code file.
-    Code(Question),
+    Code(Question<'a>),
     /// The report by the rules of a text, each within a budget for an object.
     Text {
         /// The greatest bound that a rule may have, in charges.
@@ -155,15 +164,15 @@ pub(crate) enum Asked {
 /// Answers what is asked of a population and rules.
 pub(crate) fn answer_rules<S: Sink>(
     alloc: Global,
-    asked: Asked,
+    asked: Asked<'_>,
     population: &Population<'_>,
     rules: &[u8],
     sink: &mut S,
 ) -> Outcome
     requires { S.has_failed sink.old ≡ false }
-    ensures { (reading : ReadingFor asked rules.now) ×
-        IsEnding S.contents S.has_failed (is_whole_asked asked)
-        (answer_by asked rules.now reading population.now.content) sink.old result sink.new }
+    ensures { (reading : ReadingFor asked.entry rules.now) ×
+        IsEnding S.contents S.has_failed (is_whole_asked asked.entry)
+        (answer_by asked.entry rules.now reading population.now.content) sink.old result sink.new }
 {
     match asked {
         Asked::Code(question) => answer_code(alloc, question, population, rules, sink),

@@ -1,16 +1,25 @@
-use Rattle.std.proofs.Common.{Some, sym, ap}
-use Rattle.rule_machine.specs.Shown.{all_meant, setting_in}
-use Rattle.rule_machine.proofs.Performed.{three_are, alone, takes_there}
+use Rattle.std.proofs.Common.{[], refl, subst}
+use Rattle.rule_code.specs.declared.instruction.Instr.TheVariants as instrs
+use Rattle.rule_verify.specs.declared.pattern.Pattern.TheVariants.{CollectionOf}
+use Rattle.rule_verify.specs.InstrKinds.{scalar_meant}
+use Rattle.rule_values.specs.Operations.{as_set}
+use Rattle.rule_slots.specs.Operands.{MadeInPool, is_elements_operand}
+use Rattle.rule_machine.specs.Machine.{judged_by}
+use Rattle.rule_machine.specs.Shown.{setting_in, task_lists}
+use Rattle.rule_machine.proofs.Operands.{covers_meant, elements_what, first_what}
+use Rattle.rule_machine.proofs.Performs.{of_one_made}
 use Rattle.rule_machine.proofs.performing.result_of.Goals as goal
 
-pub on_operands-requires : goal.on_operands-requires
-on_operands-requires c =
-    let d = c.in_default in
-    takes_there (setting_in c.args.task) (all_meant c.args.variables.now.0) c.args.instr c.args.operands.now.0
-    (alone c.args.instr d.not-SelfObject d.not-Get d.not-Int d.not-Bool d.not-Text d.not-Enum d.not-Null d.not-Invalid d.not-Attr d.not-All d.not-AsColl d.not-KindOf d.not-TypeOf d.not-AsType d.not-SubStr d.not-AsSet c.requires.shape)
-    c.requires.can
-
-pub returns-in-SubStr : goal.returns-in-SubStr
-returns-in-SubStr c =
-    let three = three_are c.args.operands.now.0 _ _ _ _ c.topmost-in-SubStr.ensures.1 c.below-in-SubStr.ensures c.below.ensures in
-    rw (c.in-SubStr.is, three.1) (ap Some (sym c.substring.ensures))
+pub returns-in_ok-made-in-AsSet-clause-gives : goal.returns-in_ok-made-in-AsSet-clause-gives
+returns-in_ok-made-in-AsSet-clause-gives c =
+    let s = setting_in c.args.task in
+    let l = task_lists c.args.task in
+    let n = s.population in
+    let p = c.args.pool.now.items in
+    let q = c.as_set.new.pool.items in
+    let x = c.topmost-in-AsSet.result in
+    let o = c.in_ok-made-in-AsSet.made in
+    let k = scalar_meant (judged_by s) c.in-AsSet.kind in
+    let test = is_elements_operand n k in
+    let made = subst (λ z. MadeInPool z p q test as_set x o) c.lists.ensures (c.in_ok-made-in-AsSet.ensures.made n k (covers_meant (judged_by s) c.in-AsSet.kind)) in
+    rw c.in-AsSet.is (of_one_made s l p q c.args.variables.now.0 c.args.operands.now.0 (instrs.AsSet c.in-AsSet.kind) test as_set x o c.topmost-in-AsSet.ensures.0 c.topmost-in-AsSet.ensures.1 (λ vars v more. refl) (λ v more a. elements_what n k v (first_what n (CollectionOf k) [] v more a)) made)

@@ -1,5 +1,11 @@
 use Rattle.std.proofs.Common.{◌≡◌, None}
+use Rattle.rule_machine.specs.Shown.{HasRoomForRules}
 use Rattle.rule_machine.proofs.machine.Machine.new.Given as goal
 
 abbrev pub invariant-loop-rule : goal.invariant-loop-rule
-invariant-loop-rule l = record { started : l.state.started ≡ None; count : l.state.count ≡ 0 }
+invariant-loop-rule l =
+    record {
+      started : l.state.started ≡ None;
+      count : l.state.count ≡ 0;
+      room : HasRoomForRules l.accepted.model l.accepted.unit l.rule l.state;
+    }

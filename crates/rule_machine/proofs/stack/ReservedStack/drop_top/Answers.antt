@@ -1,5 +1,5 @@
 use Rattle.std.proofs.Common.{◌∙◌}
-use Rattle.rule_machine.proofs.Performed.{one_more_taken}
+use Rattle.rule_machine.proofs.Lies.{one_more_taken}
 use Rattle.rule_machine.proofs.stack.ReservedStack.drop_top.Goals as goal
 
 pub loop-preserved : goal.loop-preserved

@@ -1,21 +1,27 @@
-use Rattle.std.proofs.Common.{arith, refl, sym, subst, ◌+◌}
-use Rattle.rule_machine.specs.Shown.{code_in, IsIterationIn, AreControlsIn}
-use Rattle.rule_machine.proofs.Turns.{turn_begun}
+use Rattle.std.proofs.Common.{◌≡◌, Some, arith, refl, sym, subst}
+use Rattle.std.specs.Prelude.{slice_get}
+use Rattle.rule_slots.specs.Slots.{held_slots, lists_in}
+use Rattle.rule_machine.specs.StandFor.{following_turn}
+use Rattle.rule_machine.specs.Shown.{code_in, setting_in, task_lists, IsTurnIn, AreControlsIn}
+use Rattle.rule_machine.proofs.MarkSteps.{turn_begins}
+use Rattle.rule_machine.proofs.Lies.{is_with}
 use Rattle.rule_machine.proofs.state.State.begin_turn.Goals as goal
 
 pub returns : goal.returns
 returns c =
     let m = c.args.self.now in
     let r = c.requires in
-    let i = c.args.iteration in
-    let next = turn_begun (code_in c.args.task) i m.controls.0 c.push-2.new.self.0 m.variables.0 c.push.new.self.0 m.operands.0 c.index.result.now c.item_value-element.result c.index.ensures r.left c.item_value-element.ensures c.push.ensures.items c.push-2.ensures.items in
-    let inside : IsIterationIn (code_in c.args.task) (record i { next = i.next + 1 }) = record { iterates = r.iteration.iterates; order = r.iteration.order; within = r.iteration.within; next = omega (arith, r.left) } in
+    let t = c.args.task in
+    let u = c.args.turn in
+    let s = setting_in t in
+    let l = task_lists t in
+    let code = code_in t in
+    let e = c.element-next.result in
+    let g : slice_get (held_slots l m.pool.items u.source) u.next ≡ Some e =
+    subst (λ x. slice_get (held_slots x m.pool.items u.source) u.next ≡ Some e) c.lists.ensures (subst (λ q. slice_get (held_slots (lists_in c.lists.result) q u.source) u.next ≡ Some e) c.deref.ensures.value c.element-next.ensures) in
+    let inside : IsTurnIn code (following_turn u) = record { iterates = r.turn.iterates; order = r.turn.order; within = r.turn.within; next = omega (arith, r.left); listed = r.turn.listed } in
     record {
-      same = next;
-      place = record {
-        order = r.iteration.order;
-        within = r.iteration.within;
-        pending = subst (AreControlsIn (code_in c.args.task)) (sym c.push-2.ensures.items) ((inside, omega (arith, r.kept), r.bodies), r.place.pending);
-      };
-      kept = record { started = refl; count = refl };
+      made = λ d b. is_with s l code m.pool.items _ _ _ _ _ _ _ _ d c.push-2.ensures.items c.push.ensures.items refl (turn_begins s l code m.pool.items u m.controls.0 m.variables.0 m.operands.0 d e b g);
+      place = record { order = r.turn.order; within = r.turn.within; pending = subst (AreControlsIn code) (sym c.push-2.ensures.items) (inside, r.place.pending) };
+      kept = record { started = refl; count = refl; room = record { operands = refl; variables = c.push.ensures.room; controls = c.push-2.ensures.room } };
     }

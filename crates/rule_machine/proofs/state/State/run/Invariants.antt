@@ -1,5 +1,5 @@
 use Rattle.std.proofs.Common.{◌≤◌, ◌-◌}
-use Rattle.rule_machine.specs.Shown.{IsTaskOf}
+use Rattle.rule_machine.specs.Shown.{IsTaskOf, SameRoom}
 use Rattle.rule_machine.proofs.Ran.{StandsSomewhere, Came}
 use Rattle.rule_machine.proofs.state.State.run.Given as goal
 
@@ -10,6 +10,7 @@ invariant-steps l =
       rule : IsTaskOf l.task l.self;
       stands : StandsSomewhere l.task l.self;
       came : Came l.task l.fn.self (l.grant - l.left) l.self;
+      room : SameRoom l.fn.self l.self;
     }
 
 abbrev pub decreases-steps : goal.decreases-steps

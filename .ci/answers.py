@@ -1,0 +1,100 @@
+"""What the built program may print and how it may end: shared by .ci/fuzz, .ci/damage and .ci/refusals."""
+import os
+import pathlib
+import re
+import resource
+import subprocess
+import sys
+
+ROOT = pathlib.Path(__file__).resolve().parent.parent
+PROGRAM = pathlib.Path(os.environ.get("OCL_CHECK", ROOT / "crates/ocl_check_main/out/ocl_check_main"))
+
+# (a hostile input may want any amount of memory; that it isn't had is an answer too)
+MOST_MEMORY = 4 << 30
+
+NAME = rb"[A-Za-z_][A-Za-z0-9_]*"
+ID = rb"[A-Za-z0-9._:-]{1,128}"
+REPORT_LINE = (
+    rb"(fail|undecided) " + NAME + rb" " + ID + rb"\n"
+    rb"|rule " + NAME + rb" checked \d+ holds \d+ fails \d+ undecided \d+\n"
+)
+REPORT = re.compile(rb"(" + REPORT_LINE + rb")*total fails (\d+) undecided (\d+)\n")
+REPLIES = {
+    "compile": re.compile(rb"compiled \d+\n"),
+    "verify": re.compile(rb"accepted \d+\n"),
+    "bound": re.compile(rb"(bound " + NAME + rb" (\d+|over)\n)*"),
+    "desk": re.compile(
+        rb"(job \d+\n|(paused|over) \d+ \d+\n|withdrawn \d+\n|refused desk [12]\n|" + REPORT_LINE
+        + rb"|total fails \d+ undecided \d+\n)*"
+    ),
+}
+REFUSAL = re.compile(
+    rb"refused (model \d+|delivery \d+( \d+){0,2}|text \d+ \d+|types \d+ \d+ \d+|compile \d+ \d+|code \d+ \d+"
+    rb"|verify \d+ \d+ \d+|cost 1 \d+|script \d+)\n"
+)
+FAILURE = re.compile(rb"failed (memory|read|write)\n")
+
+
+class Answer:
+    """How one run of the program ended; `status` is None where it was ended after some seconds."""
+
+    def __init__(self, status, out, err):
+        self.status, self.out, self.err = status, out, err
+
+    def __eq__(self, other):
+        return (self.status, self.out, self.err) == (other.status, other.out, other.err)
+
+    def __str__(self):
+        status = "none, it didn't end" if self.status is None else self.status
+        return f"status {status}, standard output {self.out[:300]!r}, standard error {self.err[:300]!r}"
+
+
+def require_program():
+    if not os.access(PROGRAM, os.X_OK):
+        sys.exit(f"{sys.argv[0]}: {PROGRAM} isn't built; rt ci builds it")
+
+
+def limit_memory():
+    """From here on the programs that are run have no more than MOST_MEMORY."""
+    resource.setrlimit(resource.RLIMIT_AS, (MOST_MEMORY, MOST_MEMORY))
+
+
+def run(folder, words, seconds=10, environment=None, before=None):
+    """Runs the program in a folder with these arguments."""
+    try:
+        done = subprocess.run(
+            [PROGRAM, *words],
+            cwd=folder,
+            stdin=subprocess.DEVNULL,
+            capture_output=True,
+            timeout=seconds,
+            env=environment,
+            preexec_fn=before,
+        )
+        return Answer(done.returncode, done.stdout, done.stderr)
+    except subprocess.TimeoutExpired:
+        return Answer(None, b"", b"")
+
+
+
+def fault_in(words, answer):
+    """What is wrong with an answer to a well-formed command line; None where nothing is."""
+    if answer.status is None:
+        return "it didn't end"
+    if answer.status < 0:
+        return f"it ended by signal {-answer.status}"
+    if answer.status == 3:
+        return None if FAILURE.fullmatch(answer.err) else "status 3 without its line on standard error"
+    if answer.err:
+        return "something on standard error"
+    if answer.status == 2:
+        return None if REFUSAL.fullmatch(answer.out) else "status 2 without the line of a refusal"
+    if words[0] == "judge":
+        report = REPORT.fullmatch(answer.out)
+        if not report:
+            return "no report"
+        holds = report[3] == b"0" and report[4] == b"0"
+        return None if answer.status == (0 if holds else 1) else "a status that isn't its report's"
+    if answer.status != 0:
+        return "a status that there isn't"
+    return None if REPLIES[words[0]].fullmatch(answer.out) else "no reply"

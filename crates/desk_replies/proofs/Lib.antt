@@ -1,0 +1,3 @@
+pub mod Calls
+pub mod Writes
+pub mod Scripts

@@ -1,0 +1,64 @@
+//! The calls of a script, one after another.
+
+ghost use Rattle.std.specs.Prelude.{◌≡◌, false, OnOk, OnErr, is_err};
+ghost use Rattle.std.specs.Io.KnownBytes.{Appends};
+ghost use Rattle.rule_cost.specs.Admission.{Fits};
+ghost use Rattle.rule_report.specs.Sink.{WritesPrefix};
+ghost use Rattle.rule_report.specs.Writing.{is_write_fault};
+ghost use Rattle.desk_replies.specs.Replies.{script_replies};
+ghost use Rattle.desk_replies.specs.Told.{IsToldSoFar};
+
+use crate::reply::reply;
+use desk_script::Call;
+use imkl_population::Population;
+use rule_cost::Admitted;
+use rule_desk::Desk;
+use rule_report::{ReportFault, Sink, WriteFailed, write_and_flush, write_whole};
+use std::alloc::Global;
+
+/// Replies are written once there are so many bytes of them.
+const PIECE_BYTES: usize = 8_192;
+
+/// Writes the text, and empties it, once there is enough of it.
+fn write_piece<S: Sink>(sink: &mut S, text: &mut Vec<u8>) -> Result<(), WriteFailed>
+    requires { S.has_failed sink.old ≡ false }
+    ensures ok { OnOk result (IsToldSoFar (S.contents sink.old) (S.contents sink.new)
+        text.new.items text.old.items) }
+    ensures err { OnErr result
+        (WritesPrefix (S.contents sink.old) (S.contents sink.new) text.old.items) }
+    ensures failed { S.has_failed sink.new ≡ is_err result }
+{
+    if text.len() >= PIECE_BYTES {
+        write_whole(sink, text)?;
+        text.clear();
+    }
+    Ok(())
+}
+
+/// Makes the calls of a script on a desk without jobs, each job being the report on a population that fits the admitted
+/// code, and writes what is replied. Where memory runs out or a write fails, the sink took a prefix of the replies; it has
+/// failed exactly where the answer is `Write`.
+pub fn answer_calls<'a, S: Sink>(
+    alloc: Global,
+    admitted: &'a Admitted<'a>,
+    population: &'a Population<'a>,
+    calls: &[Call],
+    sink: &mut S,
+) -> Result<(), ReportFault>
+    requires fits { Fits admitted.now population.now.content }
+    requires well { S.has_failed sink.old ≡ false }
+    ensures replies { OnOk result (Appends (S.contents sink.old) (S.contents sink.new)
+        (script_replies admitted.entry.now population.entry.now.content calls.now)) }
+    ensures prefix { OnErr result (WritesPrefix (S.contents sink.old) (S.contents sink.new)
+        (script_replies admitted.entry.now population.entry.now.content calls.now)) }
+    ensures write { S.has_failed sink.new ≡ is_write_fault result }
+{
+    let mut desk = Desk::new(alloc);
+    let mut text = Vec::new(alloc);
+    for call in calls {
+        reply(alloc, &mut desk, admitted, population, *call, &mut text)?;
+        write_piece(sink, &mut text)?;
+    }
+    write_and_flush(sink, &text)?;
+    Ok(())
+}

@@ -1,0 +1,5 @@
+//! Tests of `desk_script`, from outside.
+#![tactic(auto)]
+
+#[cfg(test)]
+mod scripts;

@@ -1,0 +1,9 @@
+//! How other code uses the crates: which objects of a delivery break which rule of a stranger's code file. The page
+//! `docs/embedding.md` goes through it.
+#![tactic(auto)]
+
+mod judging;
+mod refusal;
+
+pub use judging::{Broken, broken_rules};
+pub use refusal::Refusal;

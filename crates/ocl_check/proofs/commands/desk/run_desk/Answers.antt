@@ -1,0 +1,69 @@
+use Rattle.std.proofs.Common.{false, sym, ◌∙◌}
+use Rattle.std.proofs.KnownBytes.{Appends-nil}
+use Rattle.std.proofs.lemmas.Bool.{false≢true}
+use Rattle.ocl_check.specs.declared.outcome.Outcome.TheVariants.{Failed}
+use Rattle.ocl_check.proofs.Endings.{within, kept_unread, kept_untouched, no_write, failed_read, read_fails, was_read}
+use Rattle.ocl_check.proofs.Inputs.{known_bytes, has_known}
+use Rattle.ocl_check.proofs.Scripts.{desk_alike}
+use Rattle.ocl_check.proofs.commands.desk.run_desk.Goals as goal
+
+pub returns-in-Ok-clause-answered : goal.returns-in-Ok-clause-answered
+returns-in-Ok-clause-answered g c =
+    let i = c.in-Ok.inputs in
+    let script = c.in-Ok.script.items in
+    let read = c.in-Ok.ensures in
+    let o = c.answer_inputs.result in
+    let whole = desk_alike g.S.Sink.contents g.S.Sink.has_failed c.args.sink.now o c.answer_inputs.new.sink _ _ _ _ i.model.items i.delivery.items i.rules.items script c.deref-in-Ok.ensures.value c.deref-in-Ok-2.ensures.value c.deref-in-Ok-3.ensures.value c.deref.ensures.value c.answer_inputs.ensures.1 in (
+      i.model.items,
+      read.model.0,
+      within o i.model.items read.model.1,
+      (
+        i.delivery.items,
+        read.delivery.0,
+        within o i.delivery.items read.delivery.1,
+        (
+          i.rules.items,
+          read.code.0,
+          within o i.rules.items read.code.1,
+          (script, read.script.0, within o script read.script.1, whole.answered),
+        ),
+      ),
+    )
+
+pub returns-in-Ok-clause-kept : goal.returns-in-Ok-clause-kept
+returns-in-Ok-clause-kept g c = kept_unread false c.answer_inputs.result c.args.sink.now c.answer_inputs.new.sink c.answer_inputs.ensures.1.kept
+
+pub returns-in-Ok-clause-read_fault : goal.returns-in-Ok-clause-read_fault
+returns-in-Ok-clause-read_fault g c = λ h. absurd (false≢true (sym c.answer_inputs.ensures.1.read ∙ h))
+
+pub returns-in-Ok-clause-failed : goal.returns-in-Ok-clause-failed
+returns-in-Ok-clause-failed g c = λ h. absurd (was_read (c.in-Ok.inputs, c.in-Ok.script) (c.in-Ok.ensures.failed h))
+
+pub returns-in-Err-clause-answered : goal.returns-in-Err-clause-answered
+returns-in-Err-clause-answered g c =
+    let model = g.M.Source.remaining c.args.model.now in
+    let delivery = g.D.Source.remaining c.args.delivery.now in
+    let code = g.C.Source.remaining c.args.code.now in
+    let script = g.P.Source.remaining c.args.script.now in (
+      known_bytes model,
+      has_known model,
+      tt,
+      (
+        known_bytes delivery,
+        has_known delivery,
+        tt,
+        (known_bytes code, has_known code, tt, (known_bytes script, has_known script, tt, (0, Appends-nil (g.S.Sink.contents c.args.sink.now)))),
+      ),
+    )
+
+pub returns-in-Err-clause-sink : goal.returns-in-Err-clause-sink
+returns-in-Err-clause-sink g c = c.requires.sink ∙ sym (no_write c.from.result c.in-Err.fault c.from.ensures)
+
+pub returns-in-Err-clause-kept : goal.returns-in-Err-clause-kept
+returns-in-Err-clause-kept g c = kept_unread false (Failed c.from.result) c.args.sink.now c.args.sink.now (kept_untouched false c.from.result c.args.sink.now)
+
+pub returns-in-Err-clause-read_fault : goal.returns-in-Err-clause-read_fault
+returns-in-Err-clause-read_fault g c = λ h. c.in-Err.ensures.read_fault (failed_read c.from.result c.in-Err.fault c.from.ensures h)
+
+pub returns-in-Err-clause-failed : goal.returns-in-Err-clause-failed
+returns-in-Err-clause-failed g c = λ h. read_fails c.from.result c.in-Err.fault c.from.ensures (c.in-Err.ensures.failed h)

@@ -1,0 +1,199 @@
+//! The command `desk`.
+
+ghost use Rattle.std.specs.Prelude.{◌≡◌, ◌⊎◌, ◌||◌, true, false, Ok, Err, IfOk};
+ghost use Rattle.std.specs.Io.KnownBytes.{IsAtEnd};
+ghost use Rattle.imkl_population.specs.Sizes.{sizes_of};
+ghost use Rattle.rule_cost.specs.Admission.{Fits};
+ghost use Rattle.desk_script.specs.Script.{script_of};
+ghost use Rattle.ocl_check.specs.declared.input.InputFault.TheVariants as fault;
+ghost use Rattle.ocl_check.specs.Answers.{IsAnswered, IsReadWithinLimits, IsUnread, KeepsUnread, ReadBy, fails_read, fails_write, most_bytes};
+ghost use Rattle.ocl_check.specs.Desk.{script_answer, calls_answer, desk_answer};
+ghost use Rattle.ocl_check.specs.Ending.{IsEnding, IsInput};
+ghost use Rattle.ocl_check.specs.Input.{CantBeRead};
+
+use crate::commands::asking::{Inputs, answer_inputs, read_inputs};
+use crate::commands::judge::MAX_BUDGET;
+use crate::commands::rules::{Asked, Question};
+use crate::input::{InputFault, MOST_BYTES, read_input};
+use crate::outcome::{CommandFault, Outcome, answer};
+use crate::reply::{refused_cost, refused_script};
+use crate::source::Source;
+use desk_replies::answer_calls;
+use desk_script::{Call, ScriptFault, read_script};
+use imkl_population::{Population, Sizes};
+use rule_cost::{Admitted, CostFault, admit};
+use rule_report::{ReportFault, Sink};
+use rule_verify::Accepted;
+use std::alloc::Global;
+
+/// Answers the calls of a script on a population that fits the admitted code.
+fn reply_calls<S: Sink>(
+    alloc: Global,
+    population: &Population<'_>,
+    admitted: &Admitted<'_>,
+    calls: &[Call],
+    sink: &mut S,
+) -> Outcome
+    requires fits { Fits admitted.now population.now.content }
+    requires well { S.has_failed sink.old ≡ false }
+    ensures { IsEnding S.contents S.has_failed false (script_answer admitted.now
+        population.now.content (Ok calls.now)) sink.old result sink.new }
+{
+    match answer_calls(alloc, admitted, population, calls, sink) {
+        Ok(()) => Outcome::Status(0),
+        Err(ReportFault::Write) => Outcome::Failed(CommandFault::Write),
+        Err(ReportFault::OutOfMemory) => Outcome::Failed(CommandFault::OutOfMemory),
+    }
+}
+
+/// Answers a script, which is read whole before its first call is made.
+fn reply_admitted<S: Sink>(
+    alloc: Global,
+    script: &[u8],
+    population: &Population<'_>,
+    admitted: &Admitted<'_>,
+    sink: &mut S,
+) -> Outcome
+    requires fits { Fits admitted.now population.now.content }
+    requires well { S.has_failed sink.old ≡ false }
+    ensures { IsEnding S.contents S.has_failed false (script_answer admitted.now
+        population.now.content (script_of script.now)) sink.old result sink.new }
+{
+    match read_script(alloc, script) {
+        Ok(calls) => reply_calls(alloc, population, admitted, &calls, sink),
+        Err(ScriptFault::At { line }) => answer(sink, refused_script(alloc, line)),
+        Err(ScriptFault::OutOfMemory) => Outcome::Failed(CommandFault::OutOfMemory),
+    }
+}
+
+/// Answers a script on a population of these sizes and accepted code, of which each rule must be within the greatest
+/// budget.
+pub(crate) fn reply_within<S: Sink>(
+    alloc: Global,
+    script: &[u8],
+    population: &Population<'_>,
+    sizes: &Sizes<'_>,
+    accepted: &Accepted<'_>,
+    sink: &mut S,
+) -> Outcome
+    requires one_model { population.now.content.model ≡ accepted.now.model }
+    requires sizes { sizes.now ≡ sizes_of population.now.content }
+    requires well { S.has_failed sink.old ≡ false }
+    ensures { IsEnding S.contents S.has_failed false (calls_answer script.now
+        population.now.content accepted.now.unit) sink.old result sink.new }
+{
+    match admit(alloc, accepted, sizes, MAX_BUDGET) {
+        Ok(admitted) => reply_admitted(alloc, script, population, &admitted, sink),
+        Err(CostFault::TooCostly { rule }) => answer(sink, refused_cost(alloc, rule)),
+        Err(CostFault::OutOfMemory) => Outcome::Failed(CommandFault::OutOfMemory),
+    }
+}
+
+/// Reads three inputs and a script, one after another, each whole.
+fn read_all<M: Source, D: Source, C: Source, P: Source>(
+    alloc: Global,
+    model: &mut M,
+    delivery: &mut D,
+    code: &mut C,
+    script: &mut P,
+) -> Result<(Inputs, Vec<u8>), InputFault>
+    requires model { IsUnread (M.has_failed model.old) (M.reads model.old) }
+    requires delivery { IsUnread (D.has_failed delivery.old) (D.reads delivery.old) }
+    requires code { IsUnread (C.has_failed code.old) (C.reads code.old) }
+    requires script { IsUnread (P.has_failed script.old) (P.reads script.old) }
+    ensures model { IfOk result (λ i. IsInput (M.remaining model.old) i.0.model.items) }
+    ensures delivery { IfOk result (λ i. IsInput (D.remaining delivery.old) i.0.delivery.items) }
+    ensures code { IfOk result (λ i. IsInput (C.remaining code.old) i.0.rules.items) }
+    ensures script { IfOk result (λ i. IsInput (P.remaining script.old) i.1.items) }
+    ensures model_read { IsReadWithinLimits (M.remaining model.old) (M.remaining model.new)
+        (M.reads model.new) }
+    ensures delivery_read { IsReadWithinLimits (D.remaining delivery.old) (D.remaining delivery.new)
+        (D.reads delivery.new) }
+    ensures code_read { IsReadWithinLimits (C.remaining code.old) (C.remaining code.new)
+        (C.reads code.new) }
+    ensures script_read { IsReadWithinLimits (P.remaining script.old) (P.remaining script.new)
+        (P.reads script.new) }
+    ensures read_fault { result ≡ Err fault.Read →
+        CantBeRead most_bytes (M.remaining model.old) (M.remaining model.new)
+        (M.has_failed model.new) (M.reads model.new)
+        ⊎ (CantBeRead most_bytes (D.remaining delivery.old) (D.remaining delivery.new)
+        (D.has_failed delivery.new) (D.reads delivery.new)
+        ⊎ (CantBeRead most_bytes (C.remaining code.old) (C.remaining code.new)
+        (C.has_failed code.new) (C.reads code.new)
+        ⊎ CantBeRead most_bytes (P.remaining script.old) (P.remaining script.new)
+        (P.has_failed script.new) (P.reads script.new))) }
+    ensures failed { (M.has_failed model.new || D.has_failed delivery.new
+        || C.has_failed code.new || P.has_failed script.new) ≡ true → result ≡ Err fault.Read }
+    ensures delivery_waits { IsAtEnd (M.remaining model.new) ⊎ (delivery.new ≡ delivery.old) }
+    ensures code_waits { IsAtEnd (D.remaining delivery.new) ⊎ (code.new ≡ code.old) }
+    ensures script_waits { IsAtEnd (C.remaining code.new) ⊎ (script.new ≡ script.old) }
+{
+    let inputs = read_inputs(alloc, model, delivery, code)?;
+    let script = read_input(alloc, script, MOST_BYTES)?;
+    Ok((inputs, script))
+}
+
+/// Answers a script of calls on a desk. Reads the class model (JSON), the delivery (JSON), the code file and the script,
+/// each whole and of at most 268,435,456 bytes; an input is untouched until the one before it has ended. Then makes the
+/// script's calls in their order, each job being the report on the delivery by the code, and writes what is replied, with
+/// status 0; or, with status 2, the line of the first input that is refused, or of the first rule whose bound is 2^63 or
+/// more. The script is checked whole before its first call is made.
+///
+/// It fails as `run_judge` does. Where memory runs out, for the desk too, the sink took a prefix of the answer.
+pub fn run_desk<M: Source, D: Source, C: Source, P: Source, S: Sink>(
+    alloc: Global,
+    model: &mut M,
+    delivery: &mut D,
+    code: &mut C,
+    script: &mut P,
+    sink: &mut S,
+) -> Outcome
+    requires model { IsUnread (M.has_failed model.old) (M.reads model.old) }
+    requires delivery { IsUnread (D.has_failed delivery.old) (D.reads delivery.old) }
+    requires code { IsUnread (C.has_failed code.old) (C.reads code.old) }
+    requires script { IsUnread (P.has_failed script.old) (P.reads script.old) }
+    requires sink { S.has_failed sink.old ≡ false }
+    ensures answered { ReadBy result (M.remaining model.old) (λ xs.
+        ReadBy result (D.remaining delivery.old) (λ ys. ReadBy result (C.remaining code.old) (λ zs.
+        ReadBy result (P.remaining script.old) (λ ws. IsAnswered (desk_answer xs ys zs ws)
+        (S.contents sink.old) (S.contents sink.new) result)))) }
+    ensures sink { S.has_failed sink.new ≡ fails_write result }
+    ensures kept { KeepsUnread result sink.old sink.new }
+    ensures model_read { IsReadWithinLimits (M.remaining model.old) (M.remaining model.new)
+        (M.reads model.new) }
+    ensures delivery_read { IsReadWithinLimits (D.remaining delivery.old) (D.remaining delivery.new)
+        (D.reads delivery.new) }
+    ensures code_read { IsReadWithinLimits (C.remaining code.old) (C.remaining code.new)
+        (C.reads code.new) }
+    ensures script_read { IsReadWithinLimits (P.remaining script.old) (P.remaining script.new)
+        (P.reads script.new) }
+    ensures read_fault { fails_read result ≡ true →
+        CantBeRead most_bytes (M.remaining model.old) (M.remaining model.new)
+        (M.has_failed model.new) (M.reads model.new)
+        ⊎ (CantBeRead most_bytes (D.remaining delivery.old) (D.remaining delivery.new)
+        (D.has_failed delivery.new) (D.reads delivery.new)
+        ⊎ (CantBeRead most_bytes (C.remaining code.old) (C.remaining code.new)
+        (C.has_failed code.new) (C.reads code.new)
+        ⊎ CantBeRead most_bytes (P.remaining script.old) (P.remaining script.new)
+        (P.has_failed script.new) (P.reads script.new))) }
+    ensures failed { (M.has_failed model.new || D.has_failed delivery.new
+        || C.has_failed code.new || P.has_failed script.new) ≡ true → fails_read result ≡ true }
+    ensures delivery_waits { IsAtEnd (M.remaining model.new) ⊎ (delivery.new ≡ delivery.old) }
+    ensures code_waits { IsAtEnd (D.remaining delivery.new) ⊎ (code.new ≡ code.old) }
+    ensures script_waits { IsAtEnd (C.remaining code.new) ⊎ (script.new ≡ script.old) }
+{
+    match read_all(alloc, model, delivery, code, script) {
+        Ok((inputs, script)) => {
+            let question = Question::Replies { script: &script };
+            answer_inputs(
+                alloc,
+                Asked::Code(question),
+                &inputs.model,
+                &inputs.delivery,
+                &inputs.rules,
+                sink,
+            )
+        }
+        Err(fault) => Outcome::Failed(CommandFault::from(fault)),
+    }
+}

@@ -1,0 +1,94 @@
+-- Where marks lie, places whose stacks are equal to others, and states that are the same.
+use Rattle.std.proofs.Common.{◌≡◌, ℕ, zero, suc, ◌+◌, ◌≤◌, Bool, true, false, List, [], ◌∷◌, ◌||◌, length, drop, Option, Some, None, Result, Ok, Err, refl, sym, ap, ◌∙◌, subst, arith}
+use Rattle.std.specs.Prelude.{slice_get, MatchOption, IsOk, if◌then◌else◌}
+use Rattle.std.proofs.lemmas.List.{drop-drop}
+use Rattle.std.specs.List.{list_any}
+use Rattle.rule_code.specs.declared.instruction.Instr.{Instr}
+use Rattle.rule_verify.specs.InstrKinds.{gathers}
+use Rattle.rule_machine.specs.Live.{is_iteration}
+use Rattle.rule_machine.specs.Machine.{Setting, Configuration}
+use Rattle.rule_slots.specs.declared.slot.Slot.{Slot}
+use Rattle.rule_machine.specs.declared.control.Control.TheVariants as control
+use Rattle.rule_machine.specs.declared.control.Control.{Control}
+use Rattle.rule_slots.specs.Slots.{Lists, plain_mark}
+use Rattle.rule_machine.specs.StandFor.{IsAt, opening_turn, opening_mark}
+use Rattle.rule_machine.specs.declared.control.Turn.{Turn}
+use Rattle.rule_machine.specs.declared.state.State.{State}
+use Rattle.rule_machine.specs.declared.task.Task.{Task}
+use Rattle.rule_machine.specs.Shown.{IsControlIn, Kept, HasStep, BetweenIn, TurnEnded, WentOn, Stepped}
+
+-- a place stays where its stacks are equal to others
+pub is_with : (s : Setting) (l : Lists) (code : List Instr) (p : List Slot) (at end : ℕ) (cs cs' : List Control) (vs vs' os os' : List Slot) (d : Configuration) → cs' ≡ cs → vs' ≡ vs → os' ≡ os → IsAt s l code p at end cs vs os d → IsAt s l code p at end cs' vs' os' d
+is_with s l code p at end cs cs' vs vs' os os' d ec ev eo h =
+    subst (λ x. IsAt s l code p at end x vs' os' d) (sym ec) (subst (λ x. IsAt s l code p at end cs x os' d) (sym ev) (subst (λ x. IsAt s l code p at end cs vs x d) (sym eo) h))
+
+-- and where its pool is equal to another
+pub is_under : (s : Setting) (l : Lists) (code : List Instr) (p p' : List Slot) (at end : ℕ) (cs : List Control) (vs os : List Slot) (d : Configuration) → p' ≡ p → IsAt s l code p at end cs vs os d → IsAt s l code p' at end cs vs os d
+is_under s l code p p' at end cs vs os d e h = subst (λ x. IsAt s l code x at end cs vs os d) (sym e) h
+
+-- what is kept from one state to the next, and from that to another
+pub kept_joined : (m m' m'' : State) → Kept m m' → Kept m' m'' → Kept m m''
+kept_joined m m' m'' h k =
+    record { started = k.started ∙ h.started; count = k.count ∙ h.count; room = record { operands = k.room.operands ∙ h.room.operands; variables = k.room.variables ∙ h.room.variables; controls = k.room.controls ∙ h.room.controls } }
+
+-- nothing is changed
+pub kept_same : (m : State) → Kept m m
+kept_same m = record { started = refl; count = refl; room = record { operands = refl; variables = refl; controls = refl } }
+
+-- a machine whose turn ended, and which then went on, has made a step
+pub turn_made : (t : Task) (u : Turn) (m m' m'' : State) → TurnEnded t u m m' → WentOn t u m' m'' → Stepped t m m''
+turn_made t u m m' m'' ended went =
+    record {
+      made = λ c i n. let over = ended.made c i n in (over.0, over.1, went.made over.0 over.2);
+      place = went.place;
+      kept = kept_joined m m' m'' ended.kept went.kept;
+    }
+
+-- it stands between two turns then
+pub is_between : (t : Task) (u : Turn) (m m' : State) → HasStep t m → TurnEnded t u m m' → (d : Configuration) × BetweenIn t u m' d
+is_between t u m m' goes ended = let over = ended.made goes.0 goes.1 goes.2 in (over.0, over.2)
+
+-- a call that succeeds is no error
+pub not_refused : {A E : Type 0} (r : Result A E) (e : E) → r ≡ Err e → IsOk r → ⊥
+not_refused (Ok x) e is h = cc
+not_refused (Err x) e is h = let bad = h in cc
+
+-- the items that are left when the topmost is taken
+pub tail_taken : {A : Type 0} (r : Option A) (old new : List A) (y : A) (ys : List A) → MatchOption r ((old ≡ []) × (new ≡ [])) (λ x. old ≡ x ∷ new) → old ≡ y ∷ ys → new ≡ ys
+tail_taken None old new y ys h e = let bad = sym h.0 ∙ e in cc
+tail_taken (Some x) old new y ys h e = let both = sym h ∙ e in cc
+
+-- one more item is taken, if one is there
+pub one_more_taken : {A : Type 0} (r : Option A) (old new xs : List A) (i : ℕ) → MatchOption r ((old ≡ []) × (new ≡ [])) (λ x. old ≡ x ∷ new) → old ≡ drop i xs → new ≡ drop (i + 1) xs
+one_more_taken None old new xs i h e = h.1 ∙ sym (ap (drop 1) h.0) ∙ ap (drop 1) e ∙ drop-drop 1 i xs
+one_more_taken (Some x) old new xs i h e = sym (ap (drop 1) h) ∙ ap (drop 1) e ∙ drop-drop 1 i xs
+
+or_first : (a b : Bool) → a ≡ true → (a || b) ≡ true
+or_first true b h = refl
+or_first false b h = cc
+
+or_last : (a b : Bool) → b ≡ true → (a || b) ≡ true
+or_last true b h = refl
+or_last false b h = h
+
+-- an instruction of the code that gathers
+pub listed : (code : List Instr) (at : ℕ) (i : Instr) → slice_get code at ≡ Some i → gathers i ≡ true → list_any gathers code ≡ true
+listed [] at i e g = cc
+listed (j ∷ code) zero i e g = let q : j ≡ i = cc in or_first (gathers j) (list_any gathers code) (ap gathers q ∙ g)
+listed (j ∷ code) (suc at) i e g = or_last (gathers j) (list_any gathers code) (listed code at i e g)
+
+-- code that gathers nothing has no instruction that gathers
+pub gathers_none : (code : List Instr) (i : Instr) → (gathers i ≡ true → list_any gathers code ≡ true) → list_any gathers code ≡ false → gathers i ≡ false
+gathers_none code i listed none = by_bool (gathers i) refl
+  where
+    by_bool : (b : Bool) → gathers i ≡ b → gathers i ≡ false
+    by_bool false e = e
+    by_bool true e = let bad = sym none ∙ listed e in cc
+
+-- the mark of an opening lies in the code
+pub mark_in : (code : List Instr) (i : Instr) (from end : ℕ) (source : Slot) (opened : ℕ) → is_iteration i ≡ true → from ≤ end → end ≤ length code → (at : ℕ) → slice_get code at ≡ Some i → IsControlIn code (opening_mark i from end source opened)
+mark_in code i from end source opened it order within at here = by_mark (plain_mark source.mark)
+  where
+    by_mark : (b : Bool) → IsControlIn code (if b then control.Opened (opening_turn i from end source opened) else control.Skipped)
+    by_mark true = record { iterates = it; order = order; within = within; next = omega arith; listed = λ g. listed code at i here g }
+    by_mark false = tt

@@ -1,7 +1,0 @@
-use Rattle.std.proofs.Common.{◌∙◌}
-use Rattle.rule_machine.proofs.Characters.{same_chars}
-use Rattle.rule_machine.proofs.elements.same_text.Goals as goal
-
--- src/elements.rt
-pub returns : goal.returns
-returns c = c.eq.ensures ∙ same_chars c.args.a.now c.args.b.now c.utf8.a c.utf8.b

@@ -1,0 +1,131 @@
+use Rattle.std.proofs.Common.{◌≡◌, ◌+◌, ◌-◌, ◌∷◌, ◌++◌, Some, length, take, arith, refl, sym, subst, ap, ◌∙◌}
+use Rattle.std.specs.Prelude.{slice_get}
+use Rattle.rule_values.specs.Operations.{is_true, is_false, is_invalid}
+use Rattle.rule_machine.specs.declared.control.Control.TheVariants as control
+use Rattle.rule_slots.specs.declared.slot.Slot.{Slot}
+use Rattle.rule_slots.specs.Slots.{lists_in, held_slots, invalid_mark, IsInHome}
+use Rattle.rule_machine.specs.StandFor.{IsAt, Between, kept_slots, turn_after}
+use Rattle.rule_machine.specs.Shown.{code_in, setting_in, task_lists, IsTurnIn, AreControlsIn}
+use Rattle.rule_machine.proofs.Keeps.{count_low}
+use Rattle.rule_machine.proofs.MarkSteps.{leaves}
+use Rattle.rule_machine.proofs.TurnEnds.{end_of, turn_over, flat_within, same_front}
+use Rattle.rule_machine.proofs.state.State.end_turn.Goals as goal
+
+pub unreachable-requires : goal.unreachable-requires
+unreachable-requires c =
+    let m = c.args.self.now in
+    let r = c.requires in
+    let t = c.args.task in
+    let u = c.args.turn in
+    let s = setting_in t in
+    let l = task_lists t in
+    let code = code_in t in
+    let p = m.pool.items in
+    let e0 = end_of s l code p m.at m.end u r.top.0 m.variables.0 m.operands.0 r.goes.0 r.at_end (subst (λ x. IsAt s l code p m.at m.end x m.variables.0 m.operands.0 r.goes.0) r.top.1 r.goes.1) r.goes.2 in
+    let none = c.in_default.ensures in
+    let there = e0.ops_are in
+    cc (none, there)
+
+pub keep-requires-clause-there : goal.keep-requires-clause-there
+keep-requires-clause-there c =
+    let m = c.args.self.now in
+    let r = c.requires in
+    let t = c.args.task in
+    let u = c.args.turn in
+    let s = setting_in t in
+    let l = task_lists t in
+    let code = code_in t in
+    let p = m.pool.items in
+    let e0 = end_of s l code p m.at m.end u r.top.0 m.variables.0 m.operands.0 r.goes.0 r.at_end (subst (λ x. IsAt s l code p m.at m.end x m.variables.0 m.operands.0 r.goes.0) r.top.1 r.goes.1) r.goes.2 in
+    let y : e0.y ≡ c.in-Some.value.now = let a = e0.ops_are in let b = c.in-Some.ensures.1 in cc (a, b) in
+    λ n is no. subst (λ q. IsInHome q (length p) c.in-Some.value.now) (sym c.lists-lists.ensures) (subst (λ x. IsInHome l (length p) x) y (flat_within s l code p p u r.top.0 e0.vs1 e0.y e0.os1 r.goes.0 n e0.leaving is (ap (λ (x : Slot). invalid_mark x.mark) y ∙ no)))
+
+pub unreachable-requires-in_default-pop-2 : goal.unreachable-requires-in_default-pop-2
+unreachable-requires-in_default-pop-2 c =
+    let m = c.args.self.now in
+    let r = c.requires in
+    let t = c.args.task in
+    let u = c.args.turn in
+    let s = setting_in t in
+    let l = task_lists t in
+    let code = code_in t in
+    let p = m.pool.items in
+    let e0 = end_of s l code p m.at m.end u r.top.0 m.variables.0 m.operands.0 r.goes.0 r.at_end (subst (λ x. IsAt s l code p m.at m.end x m.variables.0 m.operands.0 r.goes.0) r.top.1 r.goes.1) r.goes.2 in
+    let none = c.in_default-pop-2.ensures.items.0 in
+    let there = e0.vars_are in
+    cc (none, there)
+
+pub turn_after-requires-clause-trues : goal.turn_after-requires-clause-trues
+turn_after-requires-clause-trues c =
+    let m = c.args.self.now in
+    let r = c.requires in
+    let t = c.args.task in
+    let u = c.args.turn in
+    let s = setting_in t in
+    let l = task_lists t in
+    let code = code_in t in
+    let p = m.pool.items in
+    let e0 = end_of s l code p m.at m.end u r.top.0 m.variables.0 m.operands.0 r.goes.0 r.at_end (subst (λ x. IsAt s l code p m.at m.end x m.variables.0 m.operands.0 r.goes.0) r.top.1 r.goes.1) r.goes.2 in
+    λ k. omega (arith, e0.leaving.turn.trues k, count_low is_true e0.leaving.bodies, e0.leaving.turns)
+
+pub turn_after-requires-clause-falses : goal.turn_after-requires-clause-falses
+turn_after-requires-clause-falses c =
+    let m = c.args.self.now in
+    let r = c.requires in
+    let t = c.args.task in
+    let u = c.args.turn in
+    let s = setting_in t in
+    let l = task_lists t in
+    let code = code_in t in
+    let p = m.pool.items in
+    let e0 = end_of s l code p m.at m.end u r.top.0 m.variables.0 m.operands.0 r.goes.0 r.at_end (subst (λ x. IsAt s l code p m.at m.end x m.variables.0 m.operands.0 r.goes.0) r.top.1 r.goes.1) r.goes.2 in
+    λ k. omega (arith, e0.leaving.turn.falses k, count_low is_false e0.leaving.bodies, e0.leaving.turns)
+
+pub turn_after-requires-clause-invalids : goal.turn_after-requires-clause-invalids
+turn_after-requires-clause-invalids c =
+    let m = c.args.self.now in
+    let r = c.requires in
+    let t = c.args.task in
+    let u = c.args.turn in
+    let s = setting_in t in
+    let l = task_lists t in
+    let code = code_in t in
+    let p = m.pool.items in
+    let e0 = end_of s l code p m.at m.end u r.top.0 m.variables.0 m.operands.0 r.goes.0 r.at_end (subst (λ x. IsAt s l code p m.at m.end x m.variables.0 m.operands.0 r.goes.0) r.top.1 r.goes.1) r.goes.2 in
+    omega (arith, e0.leaving.turn.invalids, count_low is_invalid e0.leaving.bodies, e0.leaving.turns)
+
+pub returns-clause-over : goal.returns-clause-over
+returns-clause-over c =
+    let m = c.args.self.now in
+    let r = c.requires in
+    let t = c.args.task in
+    let u = c.args.turn in
+    let s = setting_in t in
+    let l = task_lists t in
+    let code = code_in t in
+    let p = m.pool.items in
+    let y = c.in-Some.value.now in
+    let o = c.in-Some-pop-2.field-0 in
+    let cs = c.pop-3.new.self.0 in
+    let vs = c.pop-2.new.self.0 in
+    let os = c.pop.new.self.0 in
+    let p2 = c.keep.new.pool.items in
+    let eo = same_front m.operands.0 y _ _ os c.in-Some.ensures.1 c.in-Some-pop.ensures.items in
+    let ec = same_front m.controls.0 (control.Turning u) _ r.top.0 cs r.top.1 c.in-Some-pop-3.ensures.items in
+    let g : slice_get (held_slots l p u.source) (u.next - 1) ≡ Some c.element-last.result =
+    subst (λ x. slice_get (held_slots x p u.source) (u.next - 1) ≡ Some c.element-last.result) c.lists-lists.ensures (subst (λ q. slice_get (held_slots (lists_in c.lists-lists.result) q u.source) (u.next - 1) ≡ Some c.element-last.result) c.deref.ensures.value c.element-last.ensures) in
+    let kept = subst (λ x. p2 ≡ take (u.opened + u.kept) p ++ kept_slots x p u.instr c.element-last.result y) c.lists-lists.ensures c.in_ok-more.ensures.kept in
+    let count = subst (λ x. c.in_ok-more.more ≡ length (kept_slots x p u.instr c.element-last.result y)) c.lists-lists.ensures c.in_ok-more.ensures.count in
+    let lies = subst (AreControlsIn code) ec r.place.pending in
+    let inside : IsTurnIn code (turn_after u c.in_ok-more.more y) = record { iterates = lies.0.iterates; order = lies.0.order; within = lies.0.within; next = lies.0.next; listed = lies.0.listed } in
+    record {
+      made = λ x i n.
+          let i1 = subst (λ k. IsAt s l code p m.at m.end k m.variables.0 m.operands.0 x) ec i in
+          let i2 = subst (λ k. IsAt s l code p m.at m.end (control.Turning u ∷ cs) k m.operands.0 x) c.in-Some-pop-2.ensures.items i1 in
+          let i3 = subst (λ k. IsAt s l code p m.at m.end (control.Turning u ∷ cs) (o ∷ vs) k x) eo i2 in
+          let st = turn_over s l code p p2 u cs vs y os x c.element-last.result c.in_ok-more.more (leaves s l code p m.at m.end u cs o vs y os x r.at_end i3 n) g kept count in
+          (st.0, st.1, subst (λ k. Between s l code p2 k cs vs os st.0) (sym c.turn_after.ensures) st.2);
+      turn = subst (IsTurnIn code) (sym c.turn_after.ensures) inside;
+      place = record { order = r.place.order; within = r.place.within; pending = lies.1 };
+      kept = record { started = refl; count = refl; room = record { operands = c.in-Some-pop.ensures.room; variables = c.in-Some-pop-2.ensures.room; controls = c.in-Some-pop-3.ensures.room } };
+    }

@@ -1,0 +1,32 @@
+use Rattle.std.proofs.Common.{arith, refl, subst}
+use Rattle.rule_machine.specs.Shown.{code_in, setting_in, task_lists}
+use Rattle.rule_machine.specs.StandFor.{TellsDistinct}
+use Rattle.rule_machine.proofs.EndSlots.{decided_low}
+use Rattle.rule_machine.proofs.TurnEnds.{end_gives}
+use Rattle.rule_machine.proofs.Lies.{is_with, is_under}
+use Rattle.rule_machine.proofs.state.State.end_turns.Goals as goal
+
+pub ending-gives-requires : goal.ending-gives-requires
+ending-gives-requires c =
+    let b = c.requires.between.1 in
+    λ k. omega (arith, decided_low (setting_in c.args.task) (task_lists c.args.task) (code_in c.args.task) c.args.self.now.pool.items c.args.turn b.i b.body b.source b.left b.bodies b.turn b.turns k)
+
+pub returns : goal.returns
+returns c =
+    let m = c.args.self.now in
+    let r = c.requires in
+    let t = c.args.task in
+    let u = c.args.turn in
+    let s = setting_in t in
+    let l = task_lists t in
+    let code = code_in t in
+    let p = m.pool.items in
+    let pool = c.cut_to_given.ensures in
+    let tells = subst (λ q. TellsDistinct l q u c.keeps_distinct-distinct.result) c.deref.ensures.value c.keeps_distinct-distinct.ensures in
+    record {
+      made = λ d b.
+          let e = end_gives s l code p m.at m.end u m.controls.0 m.variables.0 m.operands.0 d c.keeps_distinct-distinct.result c.ending-gives.result r.at_end b r.all tells c.ending-gives.ensures in
+          is_under s l code _ _ m.at m.end m.controls.0 m.variables.0 _ d pool (is_with s l code _ _ _ _ _ _ _ _ _ d refl refl c.push.ensures.items e);
+      place = r.place;
+      kept = record { started = refl; count = refl; room = record { operands = c.push.ensures.room; variables = refl; controls = refl } };
+    }

@@ -1,7 +1,0 @@
-use Rattle.std.proofs.Common.{rules}
-use Rattle.std.proofs.lemmas.Str.{chars_from_encodes}
-use Rattle.rule_machine.proofs.texts.character_count.Goals as goal
-
--- src/texts.rt
-pub returns : goal.returns
-returns c = search (rules, chars_from_encodes)

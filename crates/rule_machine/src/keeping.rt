@@ -1,0 +1,173 @@
+//! What iterations keep of their turns, at the end of the pool.
+
+ghost use Rattle.std.specs.Prelude.{◌≡◌, ◌+◌, ◌≤◌, ◌++◌, ◌∷◌, ℕ, [], length, map, take, false, slice_range, IfOk, OnOk, OnErr, IsOk, if◌then◌else◌};
+ghost use Rattle.rule_code.specs.declared.instruction.Instr.TheVariants.{CollectFlat};
+ghost use Rattle.rule_verify.specs.InstrKinds.{gathers};
+ghost use Rattle.rule_slots.specs.Slots.{lists_in, index_slot, invalid_mark, scalar_slots, held_slots, IsInHome};
+ghost use Rattle.rule_machine.specs.StandFor.{kept_slots};
+
+use crate::control::Turn;
+use crate::memory::OutOfMemory;
+use rule_code::Instr;
+use rule_slots::{Home, Lists, Slot, home_named, index_slot, is_false, is_true, scalar_slot};
+
+/// Cuts the pool, and puts a slot at its end, if it is to be kept. Tells how many are put.
+fn keep_if(pool: &mut Vec<Slot>, at: usize, keep: bool, slot: Slot) -> Result<usize, OutOfMemory>
+    requires { at ≤ length pool.old.items }
+    ensures kept { OnOk result (pool.new.items ≡ take at pool.old.items ++
+        (if keep then slot ∷ [] else [])) }
+    ensures count { IfOk result (λ n. n ≡ length (if keep then slot ∷ [] else [])) }
+    ensures refused { OnErr result (pool.new.items ≡ pool.old.items) }
+{
+    if keep {
+        pool.reserve(1)?;
+        pool.truncate(at);
+        pool.push_reserved(slot);
+        Ok(1)
+    } else {
+        pool.truncate(at);
+        Ok(0)
+    }
+}
+
+/// Cuts the pool back to a place, with a range that lies past it moved down to there.
+fn move_down(pool: &mut Vec<Slot>, at: usize, start: usize, count: usize)
+    requires past { at ≤ start }
+    requires there { start + count ≤ length pool.old.items }
+    ensures { pool.new.items ≡ take at pool.old.items ++
+        slice_range pool.old.items start (start + count) }
+{
+    pool.copy_within(start..start + count, at);
+    pool.truncate(at + count);
+}
+
+/// Cuts the pool back, and keeps a part of itself from there on.
+fn keep_own(pool: &mut Vec<Slot>, at: usize, start: usize, count: usize) -> Result<(), OutOfMemory>
+    requires at { at ≤ length pool.old.items }
+    requires there { start + count ≤ length pool.old.items }
+    ensures ok { OnOk result (pool.new.items ≡ take at pool.old.items ++
+        slice_range pool.old.items start (start + count)) }
+    ensures err { OnErr result (pool.new.items ≡ pool.old.items) }
+{
+    let old = pool.len();
+    if start < at {
+        pool.extend_from_within(start..start + count)?;
+        move_down(pool, at, old, count);
+    } else {
+        move_down(pool, at, start, count);
+    }
+    Ok(())
+}
+
+/// Keeps a part of a list from a place of the pool on. Tells how many elements it has.
+fn keep_part(
+    lists: Lists<'_>,
+    pool: &mut Vec<Slot>,
+    at: usize,
+    value: Slot,
+) -> Result<usize, OutOfMemory>
+    requires at { at ≤ length pool.old.items }
+    requires there { IsInHome (lists_in lists) (length pool.old.items) value }
+    ensures kept { OnOk result (pool.new.items ≡ take at pool.old.items ++
+        held_slots (lists_in lists.entry) pool.old.items value) }
+    ensures count { IfOk result (λ n. n ≡ length (held_slots (lists_in lists.entry)
+        pool.old.items value)) }
+    ensures refused { OnErr result (pool.new.items ≡ pool.old.items) }
+{
+    match home_named(value.list) {
+        Home::Pool => {
+            keep_own(pool, at, value.start, value.count)?;
+            Ok(value.count)
+        }
+        Home::Scalars => keep_scalars(lists, pool, at, value),
+        Home::Instances => keep_instances(lists, pool, at, value),
+    }
+}
+
+/// Keeps values of the population.
+fn keep_scalars(
+    lists: Lists<'_>,
+    pool: &mut Vec<Slot>,
+    at: usize,
+    value: Slot,
+) -> Result<usize, OutOfMemory>
+    requires at { at ≤ length pool.old.items }
+    requires there { value.start + value.count ≤ length (lists_in lists).scalars }
+    ensures kept { OnOk result (pool.new.items ≡ take at pool.old.items ++ scalar_slots value.start
+        (slice_range (lists_in lists.entry).scalars value.start (value.start + value.count))) }
+    ensures count { IfOk result (λ n. n ≡ value.count) }
+    ensures refused { OnErr result (pool.new.items ≡ pool.old.items) }
+{
+    let scalars = lists.scalars();
+    pool.reserve(value.count)?;
+    pool.truncate(at);
+    for offset in 0..value.count {
+        let index = value.start + offset;
+        pool.push_reserved(scalar_slot(index, &scalars[index]));
+    }
+    Ok(value.count)
+}
+
+/// Keeps instances.
+fn keep_instances(
+    lists: Lists<'_>,
+    pool: &mut Vec<Slot>,
+    at: usize,
+    value: Slot,
+) -> Result<usize, OutOfMemory>
+    requires at { at ≤ length pool.old.items }
+    requires there { value.start + value.count ≤ length (lists_in lists).instances }
+    ensures kept { OnOk result (pool.new.items ≡ take at pool.old.items ++ map index_slot
+        (slice_range (lists_in lists.entry).instances value.start (value.start + value.count))) }
+    ensures count { IfOk result (λ n. n ≡ value.count) }
+    ensures refused { OnErr result (pool.new.items ≡ pool.old.items) }
+{
+    let instances = lists.instances();
+    pool.reserve(value.count)?;
+    pool.truncate(at);
+    for offset in 0..value.count {
+        let index = value.start + offset;
+        pool.push_reserved(index_slot(instances[index].index()));
+    }
+    Ok(value.count)
+}
+
+/// Cuts the pool back to what an iteration keeps, with what a turn adds to it. Tells how many are added. An iteration
+/// that gathers nothing takes no memory.
+pub(crate) fn keep(
+    lists: Lists<'_>,
+    pool: &mut Vec<Slot>,
+    turn: Turn,
+    element: Slot,
+    value: Slot,
+) -> Result<usize, OutOfMemory>
+    requires at { turn.opened + turn.kept ≤ length pool.old.items }
+    requires there { (n : ℕ) → turn.instr ≡ CollectFlat n → invalid_mark value.mark ≡ false →
+        IsInHome (lists_in lists) (length pool.old.items) value }
+    ensures kept { OnOk result (pool.new.items ≡ take (turn.opened + turn.kept) pool.old.items ++
+        kept_slots (lists_in lists.entry) pool.old.items turn.instr element value) }
+    ensures count { IfOk result (λ n. n ≡ length (kept_slots (lists_in lists.entry) pool.old.items
+        turn.instr element value)) }
+    ensures refused { OnErr result (pool.new.items ≡ pool.old.items) }
+    ensures spare { gathers turn.instr ≡ false → IsOk result }
+{
+    let at = turn.opened + turn.kept;
+    match turn.instr {
+        Instr::Select(_) => keep_if(pool, at, is_true(value), element),
+        Instr::Reject(_) => keep_if(pool, at, is_false(value), element),
+        Instr::Collect(_) | Instr::IsUnique(_, _) => {
+            keep_if(pool, at, !value.is_invalid(), value)
+        }
+        Instr::CollectFlat(_) => {
+            if value.is_invalid() {
+                pool.truncate(at);
+                return Ok(0);
+            }
+            keep_part(lists, pool, at, value)
+        }
+        _ => {
+            pool.truncate(at);
+            Ok(0)
+        }
+    }
+}

@@ -1,0 +1,10 @@
+pub mod Parts
+pub mod Pool
+pub mod Stood
+pub mod Made
+pub mod Alike
+pub mod Equal
+pub mod Characters
+pub mod Loops
+pub mod Taken
+pub mod ForAbove

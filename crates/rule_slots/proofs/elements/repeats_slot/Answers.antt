@@ -1,0 +1,26 @@
+use Rattle.std.proofs.Common.{sym, ap, ◌∙◌, drop, ◌+◌, arith}
+use Rattle.std.specs.Prelude.{◌||◌}
+use Rattle.ocl_base.specs.Lists.{repeats}
+use Rattle.rule_slots.specs.Slots.{lists_in, held_slots}
+use Rattle.rule_slots.specs.Compared.{same_slots}
+use Rattle.rule_slots.proofs.Loops.{held_long, repeats_next, repeats_end}
+use Rattle.rule_slots.proofs.elements.repeats_slot.Goals as goal
+
+pub returns-then-is_among_from : goal.returns-then-is_among_from
+returns-then-is_among_from c =
+    let l = lists_in c.args.lists in
+    let same = same_slots l c.args.kind in
+    let held = held_slots l c.args.pool.now c.args.source in
+    sym (c.loop-index.invariant ∙ repeats_next same held c.loop-index.index c.element-slot.result c.element-slot.ensures ∙ ap (λ z. z || repeats same (drop (c.loop-index.index + 1) held)) (sym c.is_among_from.ensures ∙ c.if-is_among_from.true))
+
+pub loop-index-preserved : goal.loop-index-preserved
+loop-index-preserved c =
+    let l = lists_in c.args.lists in
+    let same = same_slots l c.args.kind in
+    let held = held_slots l c.args.pool.now c.args.source in
+    c.loop-index.invariant ∙ repeats_next same held c.loop-index.index c.element-slot.result c.element-slot.ensures ∙ ap (λ z. z || repeats same (drop (c.loop-index.index + 1) held)) (sym c.is_among_from.ensures ∙ c.if-is_among_from.false)
+
+pub returns : goal.returns
+returns c =
+    let l = lists_in c.args.lists in
+    sym (c.loop-index.invariant ∙ repeats_end (same_slots l c.args.kind) (held_slots l c.args.pool.now c.args.source) c.loop-index.index (omega (arith, held_long l c.args.pool.now c.args.source c.requires, c.loop-index-test.false)))

@@ -1,0 +1,108 @@
+//! Operations on collections, which are ranges of lists.
+
+ghost use Rattle.std.specs.Prelude.{◌≡◌, List, length, pos, true};
+ghost use Rattle.imkl_population.specs.Population.{Population};
+ghost use Rattle.ocl_kinds.specs.declared.kind.Kind.TheVariants.{Scalar as Single};
+ghost use Rattle.ocl_kinds.specs.declared.kind.ScalarKind.{ScalarKind};
+ghost use Rattle.rule_values.specs.Value.{is_in};
+ghost use Rattle.rule_values.specs.Operations.{collection_size, emptiness, membership, occurrence_count, inclusion, exclusion};
+ghost use Rattle.rule_slots.specs.Slots.{Lists as Indexed, lists_in, LiesInHome, PartIs};
+ghost use Rattle.rule_slots.specs.declared.slot.Slot.{Slot as Held};
+ghost use Rattle.rule_slots.specs.Operands.{MakesOfOne, MakesOfTwo, is_many_operand, is_elements_operand, integer_slot};
+ghost use Rattle.rule_slots.specs.Compared.{covers};
+
+use crate::elements::{are_all_among, is_any_among, is_slot_among, times_among};
+use crate::integers::if_plain;
+use crate::lists::Lists;
+use crate::slot::{Slot, invalid_slot, number_slot, truth_slot};
+use rule_code::WrittenScalar;
+
+/// A count as a whole number; invalid where it is too large for one.
+pub(crate) fn count_slot(n: usize) -> Slot
+    ensures { result ≡ integer_slot (pos n) }
+{
+    match i64::try_from(n) {
+        Ok(n) => number_slot(n),
+        Err(_) => invalid_slot(),
+    }
+}
+
+/// How many elements there are.
+pub fn collection_size(v: Slot) -> Slot
+    ensures { (l : Indexed) (pool : List Held) →
+        MakesOfOne l pool is_many_operand collection_size v result }
+{
+    if_plain(v, count_slot(v.count))
+}
+
+/// Whether there is no element.
+pub fn emptiness(v: Slot) -> Slot
+    ensures { (l : Indexed) (pool : List Held) →
+        MakesOfOne l pool is_many_operand emptiness v result }
+{
+    if_plain(v, truth_slot(v.count == 0))
+}
+
+/// Whether an element is in a collection.
+pub fn membership(lists: Lists<'_>, pool: &[Slot], kind: WrittenScalar, v: Slot, w: Slot) -> Slot
+    requires { LiesInHome (lists_in lists) (length pool.now) v }
+    ensures { (p : Population) (k : ScalarKind) → covers kind k ≡ true →
+        MakesOfTwo (lists_in lists.entry) pool.now (is_elements_operand p k)
+        (λ x. is_in p x (Single k)) membership v w result }
+{
+    if v.is_plain() && !w.is_invalid() {
+        truth_slot(is_slot_among(lists, pool, kind, v, w))
+    } else {
+        invalid_slot()
+    }
+}
+
+/// How often an element is in a collection.
+pub fn occurrence_count(
+    lists: Lists<'_>,
+    pool: &[Slot],
+    kind: WrittenScalar,
+    v: Slot,
+    w: Slot,
+) -> Slot
+    requires { LiesInHome (lists_in lists) (length pool.now) v }
+    ensures { (p : Population) (k : ScalarKind) → covers kind k ≡ true →
+        MakesOfTwo (lists_in lists.entry) pool.now (is_elements_operand p k)
+        (λ x. is_in p x (Single k)) occurrence_count v w result }
+{
+    if v.is_plain() && !w.is_invalid() {
+        count_slot(times_among(lists, pool, kind, v, w))
+    } else {
+        invalid_slot()
+    }
+}
+
+/// Whether each element of the second collection is in the first.
+pub fn inclusion(lists: Lists<'_>, pool: &[Slot], kind: WrittenScalar, v: Slot, w: Slot) -> Slot
+    requires source { LiesInHome (lists_in lists) (length pool.now) v }
+    requires others { LiesInHome (lists_in lists) (length pool.now) w }
+    ensures { (p : Population) (k : ScalarKind) → covers kind k ≡ true →
+        MakesOfTwo (lists_in lists.entry) pool.now (is_elements_operand p k)
+        (is_elements_operand p k) inclusion v w result }
+{
+    if v.is_plain() && w.is_plain() {
+        truth_slot(are_all_among(lists, pool, kind, v, w))
+    } else {
+        invalid_slot()
+    }
+}
+
+/// Whether no element of the second collection is in the first.
+pub fn exclusion(lists: Lists<'_>, pool: &[Slot], kind: WrittenScalar, v: Slot, w: Slot) -> Slot
+    requires source { LiesInHome (lists_in lists) (length pool.now) v }
+    requires others { LiesInHome (lists_in lists) (length pool.now) w }
+    ensures { (p : Population) (k : ScalarKind) → covers kind k ≡ true →
+        MakesOfTwo (lists_in lists.entry) pool.now (is_elements_operand p k)
+        (is_elements_operand p k) exclusion v w result }
+{
+    if v.is_plain() && w.is_plain() {
+        truth_slot(!is_any_among(lists, pool, kind, v, w))
+    } else {
+        invalid_slot()
+    }
+}
