@@ -1,4 +1,4 @@
--- What the crates above cite: steps that may fail, lists that loops read, and numbers that pass a test.
+-- What the crates above cite: steps that may fail, lists that loops read, numbers that pass a test, and the items of a stack by their numbers.
 use Rattle.std.proofs.Common.{◌≡◌, ℕ, zero, suc, ◌+◌, ◌<◌, ◌≤◌, ◌&&◌, ◌||◌, ◌⊎◌, inl, inr, Bool, true, false, if◌then◌else◌, List, [], ◌∷◌, ◌++◌, length, get_or, drop, map, find, Option, Some, None, IfSome, Result, Ok, Err, refl, sym, ap, subst, ◌∙◌, append_assoc, drop-cons, add-one, arith, All}
 use Rattle.std.specs.Prelude.{nat_eq}
 use Rattle.std.specs.Option.{option_or}
@@ -14,6 +14,7 @@ use Rattle.std.proofs.Math.ListN.{drop_of_length-le}
 use Rattle.ocl_base.specs.Lists.{is_among, repeats}
 use Rattle.ocl_base.specs.Steps.{◌>>=◌, found, each, FaultMeaning, fault, out_of_memory, never, Means, Fails}
 use Rattle.ocl_base.specs.Numbers.{places, least}
+pub use Rattle.ocl_base.proofs.Stacks.{at_bottom, past_bottom}
 
 -- ---- steps that succeeded
 

@@ -1,5 +1,5 @@
--- What stands in a list, and lists in which something stands twice, by a test of equality.
-use Rattle.std.specs.Prelude.{◌||◌, List, [], ◌∷◌, Bool, false}
+-- What stands in a list, lists in which something stands twice, by a test of equality, and variables by their numbers.
+use Rattle.std.specs.Prelude.{ℕ, ◌==◌, ◌||◌, List, [], ◌∷◌, length, Option, Some, None, Bool, false, if◌then◌else◌}
 use Rattle.std.specs.List.{list_any}
 
 -- a value is one of these
@@ -10,3 +10,8 @@ is_among same xs x = list_any (same x) xs
 abbrev pub repeats : {A : Type 0} → (A → A → Bool) → List A → Bool
 repeats same [] = false
 repeats same (x ∷ xs) = is_among same xs x || repeats same xs
+
+-- the variable of this number, where the newest comes first and the oldest has number 0
+abbrev pub variable_at : {A : Type 0} → List A → ℕ → Option A
+variable_at [] n = None
+variable_at (k ∷ ks) n = if n == length ks then Some k else variable_at ks n
