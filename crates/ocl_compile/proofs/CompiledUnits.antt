@@ -19,7 +19,8 @@ use Rattle.rule_verify.specs.declared.named.Named.{Named}
 use Rattle.rule_verify.specs.declared.depths.Depths.{Depths}
 use Rattle.rule_verify.specs.declared.fault.VerifyFlaw.TheVariants as flaws
 use Rattle.rule_verify.specs.CodeTree.{CodeTree, End, code_tree, instr_count}
-use Rattle.rule_verify.specs.InstrKinds.{surroundings, variable_at}
+use Rattle.ocl_base.specs.Lists.{variable_at}
+use Rattle.rule_verify.specs.InstrKinds.{surroundings}
 use Rattle.rule_verify.specs.KindRules.{InstrFault, instr_fault, Enclosing, operand_limit, block_limit, ended_with, rule_ends}
 use Rattle.rule_verify.specs.Patterns.{a_boolean}
 use Rattle.rule_verify.specs.Symbols.{class_in}

@@ -13,9 +13,9 @@ use Rattle.rule_values.specs.Value as value
 use Rattle.rule_values.specs.Value.{Element, Value, element_value}
 use Rattle.rule_values.specs.Operations.{or_invalid}
 use Rattle.rule_values.specs.Endings.{Source, ending}
-use Rattle.rule_machine.specs.Machine.{Setting, judged_by, is_what, operands_below, result_of, performed, Piece, Sequence, LetEnd, Opened, Turning, Skipped, Configuration, configuration, branched, opened_over, block_opened, turned, on_operand, step, run}
+use Rattle.rule_machine.specs.Machine.{Setting, judged_by, is_what, operands_below, result_of, performed, Piece, Sequence, LetEnd, Opened, Turning, Skipped, Configuration, configuration, branched, opened_over, block_opened, keeping, turned, on_operand, step, run}
 use Rattle.rule_machine.specs.Verdict.{outcome}
-use Rattle.rule_machine.proofs.ForAbove.{run_more}
+use Rattle.rule_machine.proofs.ForAbove.{one_bound, element_bound, one_kept, run_more}
 use Rattle.ocl_compile.specs.Meaning.{iteration_value, iterated, chosen}
 use Rattle.ocl_compile.specs.Numbering.{Numbering}
 use Rattle.ocl_compile.specs.Translation.{iteration_instr}
@@ -112,10 +112,11 @@ module _ (s : Setting) (first : Configuration) (goes_on : (k : ℕ) (c : Configu
   turns_reached i body source ps vars os f go [] kept r = subst (λ l. Reached (configuration ps vars (ending i source l ∷ os))) (sym (append-nil kept)) r
   turns_reached i body source ps vars os f go (e ∷ left) kept r =
       let c = configuration (Turning i body source left kept ∷ ps) (element_value e ∷ vars) (f e ∷ os) in
-      let given = go e (Turning i body source left kept ∷ ps) r in
+      let given = go e (Turning i body source left kept ∷ ps) (subst (λ vs. Reached (configuration (Sequence body ∷ Turning i body source left kept ∷ ps) (vs ++ vars) os)) (element_bound i e kept) r) in
       let m = goes_on given.0 c given.1 refl in
-      let same = test_passed (nat_le (bound_count i) (length (element_value e ∷ vars)) && is_what s.population (ends_with (judged_by s) i) (f e)) (turned i body source left (kept ++ f e ∷ []) ps vars os) m.0 m.1 in
-      let next = subst Reached (sym same) (on_to c m.0 given m.1) in
+      let after : List Value → ℕ → Configuration = λ l n. turned i body source left l ps (drop n (element_value e ∷ vars)) os in
+      let same = test_passed (nat_le (bound_count i) (length (element_value e ∷ vars)) && is_what s.population (ends_with (judged_by s) i) (f e)) (after (keeping i kept (f e)) (bound_count i)) m.0 m.1 in
+      let next = subst Reached (sym same ∙ ap (λ l. after l (bound_count i)) (one_kept i kept (f e)) ∙ ap (after (kept ++ f e ∷ [])) (one_bound i)) (on_to c m.0 given m.1) in
       subst (λ l. Reached (configuration ps vars (ending i source l ∷ os))) (append_assoc kept (f e ∷ []) (map f left))
       (turns_reached i body source ps vars os f go left (kept ++ f e ∷ []) next)
 

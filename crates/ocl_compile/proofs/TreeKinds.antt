@@ -25,7 +25,7 @@ use Rattle.rule_verify.specs.declared.named.Named.TheVariants as named
 use Rattle.rule_verify.specs.declared.pattern.Pattern.TheVariants as pattern
 use Rattle.rule_verify.specs.CodeTree as code
 use Rattle.rule_verify.specs.CodeTree.{CodeTree, instr_count}
-use Rattle.rule_verify.specs.InstrKinds.{Surroundings, has_names, has_variable, operands_of, result_kind, binds, ends_with, yields, or_void, class_kind, literal_kind, owner_kind, feature_read, collected, kind_meant}
+use Rattle.rule_verify.specs.InstrKinds.{Surroundings, has_names, has_variable, operands_of, result_kind, block_operand, binds, ends_with, yields, or_void, class_kind, literal_kind, owner_kind, feature_read, collected, kind_meant}
 use Rattle.rule_verify.specs.Patterns.{matches}
 use Rattle.rule_verify.specs.KindRules.{Enclosing, in_block, kinds_after}
 use Rattle.ocl_compile.specs.Numbering.{Numbering, Use, tree_uses, trees_uses, constant_uses, kind_uses, iteration_uses, owned_feature}
@@ -75,16 +75,17 @@ module _ (s : Surroundings) (n : Numbering) where
     operands : operands_of s (iteration_instr n it len) ≡ pattern.AnyCollection ∷ []
     variable : (vars : List Kind) → has_variable vars (iteration_instr n it len) ≡ true
     binding : (k : Kind) → binds s (iteration_instr n it len) k ≡ Scalar (elements_kind k) ∷ []
+    topmost : (k : Kind) (ks : List Kind) → block_operand (iteration_instr n it len) (k ∷ ks) ≡ k
 
   iterates : (it : Iteration) (len : ℕ) → Iterates it len
-  iterates iteration.ForAll len = record { operands = refl; variable = λ vars. refl; binding = λ k. refl }
-  iterates iteration.Exists len = record { operands = refl; variable = λ vars. refl; binding = λ k. refl }
-  iterates iteration.One len = record { operands = refl; variable = λ vars. refl; binding = λ k. refl }
-  iterates iteration.Select len = record { operands = refl; variable = λ vars. refl; binding = λ k. refl }
-  iterates iteration.Reject len = record { operands = refl; variable = λ vars. refl; binding = λ k. refl }
-  iterates iteration.Collect len = record { operands = refl; variable = λ vars. refl; binding = λ k. refl }
-  iterates iteration.CollectFlat len = record { operands = refl; variable = λ vars. refl; binding = λ k. refl }
-  iterates (iteration.IsUnique k) len = record { operands = refl; variable = λ vars. refl; binding = λ k. refl }
+  iterates iteration.ForAll len = record { operands = refl; variable = λ vars. refl; binding = λ k. refl; topmost = λ k ks. refl }
+  iterates iteration.Exists len = record { operands = refl; variable = λ vars. refl; binding = λ k. refl; topmost = λ k ks. refl }
+  iterates iteration.One len = record { operands = refl; variable = λ vars. refl; binding = λ k. refl; topmost = λ k ks. refl }
+  iterates iteration.Select len = record { operands = refl; variable = λ vars. refl; binding = λ k. refl; topmost = λ k ks. refl }
+  iterates iteration.Reject len = record { operands = refl; variable = λ vars. refl; binding = λ k. refl; topmost = λ k ks. refl }
+  iterates iteration.Collect len = record { operands = refl; variable = λ vars. refl; binding = λ k. refl; topmost = λ k ks. refl }
+  iterates iteration.CollectFlat len = record { operands = refl; variable = λ vars. refl; binding = λ k. refl; topmost = λ k ks. refl }
+  iterates (iteration.IsUnique k) len = record { operands = refl; variable = λ vars. refl; binding = λ k. refl; topmost = λ k ks. refl }
 
   iteration_named : (it : Iteration) (len : ℕ) → Known (iteration_uses it) → has_names s (iteration_instr n it len) ≡ true
   iteration_named iteration.ForAll len h = refl
@@ -223,15 +224,17 @@ module _ (s : Surroundings) (n : Numbering) where
         let after = of_rest m s.unit n (tree_uses m source) _ h in
         let known = of_first m s.unit n (iteration_uses it) _ after in
         let p = tree_past source g x t.4 o (of_first m s.unit n (tree_uses m source) _ h) (iteration_block n it b rest) e d at ks w stands shallow in
-        let inner = in_block e (binds s i p.kind ++ e.variables) ks in
-        let bound = subst (λ (l : List Kind). Narrower m (l ++ e.variables) (g ++ t.2 ∷ [])) (sym ((iterates it len).binding p.kind)) (bound_too m e.variables g (Scalar (elements_kind p.kind)) t.2 w (element_fits p.kind t.0 t.1 t.2 p.is_narrower t.5)) in
-        let q = past_block s e p.depths i b rest p.next (p.kind ∷ ks) ks (λ r. fits m (yields s i p.kind r) k ≡ true) (iteration_takes it len e.variables p.kind t.0 t.1 ks known p.is_narrower) p.stands p.shallow
+        let on = block_operand i (p.kind ∷ ks) in
+        let same = (iterates it len).topmost p.kind ks in
+        let inner = in_block e (binds s i on ++ e.variables) ks in
+        let bound = subst (λ (l : List Kind). Narrower m (l ++ e.variables) (g ++ t.2 ∷ [])) (sym (ap (binds s i) same ∙ (iterates it len).binding p.kind)) (bound_too m e.variables g (Scalar (elements_kind p.kind)) t.2 w (element_fits p.kind t.0 t.1 t.2 p.is_narrower t.5)) in
+        let q = past_block s e p.depths i b rest p.next (p.kind ∷ ks) ks (λ r. fits m (yields s i on r) k ≡ true) (iteration_takes it len e.variables p.kind t.0 t.1 ks known p.is_narrower) p.stands p.shallow
         (λ deep stands_in shallow_in.
         let r = tree_past body (g ++ t.2 ∷ []) t.3 t.6 (object_stays g t.2 o) (of_rest m s.unit n (iteration_uses it) _ after) code.End inner deep (p.next + 1) [] bound stands_in shallow_in in
         let z = iteration_ends it len t.0 t.1 t.3 k p.kind r.kind t.7 known p.is_narrower r.is_narrower in
-        (r.kind, r.after, z.0, z.1)) in
+        (r.kind, r.after, z.0, subst (λ j. fits m (yields s i j r.kind) k ≡ true) (sym same) z.1)) in
         then_past _ (iteration_block n it b rest) rest e at ks x k p
-        (record { kind = yields s i p.kind q.0; is_narrower = q.5; next = p.next + 1 + len; depths = q.1; after = q.2; stands = q.3; shallow = q.4 })
+        (record { kind = yields s i on q.0; is_narrower = q.5; next = p.next + 1 + len; depths = q.1; after = q.2; stands = q.3; shallow = q.4 })
     tree_past (tree.Let v body) g k t o h rest e d at ks w stands shallow =
         let m = s.model in
         let b = translate m n body code.End in

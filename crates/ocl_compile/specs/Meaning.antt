@@ -3,7 +3,7 @@ use Rattle.std.specs.Prelude.{ℕ, pos, List, [], ◌∷◌, map, true, false}
 use Rattle.std.specs.Str.{chars}
 use Rattle.imkl_population.specs.declared.scalar.Scalar.TheVariants as scalar
 use Rattle.imkl_population.specs.Population.{Population}
-use Rattle.rule_verify.specs.InstrKinds.{variable_at}
+use Rattle.ocl_base.specs.Lists.{variable_at}
 use Rattle.ocl_types.specs.declared.operator.PlainOperator.{PlainOperator}
 use Rattle.ocl_types.specs.declared.operator.PlainOperator.TheVariants as plain
 use Rattle.ocl_types.specs.declared.operator.ClassOperator.{ClassOperator}

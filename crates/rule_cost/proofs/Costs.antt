@@ -1,12 +1,13 @@
 -- Costs of code where lengths are one when they are cut.
-use Rattle.std.proofs.Common.{◌≡◌, ℕ, zero, suc, ◌+◌, ◌*◌, ◌<◌, ◌≤◌, Bool, true, false, List, [], ◌∷◌, ◌++◌, length, drop, Some, None, refl, sym, ap, subst, ◌∙◌, arith}
+use Rattle.std.proofs.Common.{◌≡◌, ℕ, zero, suc, ◌+◌, ◌*◌, Bool, true, false, List, [], ◌∷◌, ◌++◌, length, drop, Some, refl, sym, ap, ◌∙◌}
 use Rattle.std.specs.Prelude.{◌==◌, max, if◌then◌else◌}
 use Rattle.imkl_population.specs.Sizes.{Sizes}
 use Rattle.rule_code.specs.declared.instruction.Instr.{Instr}
 use Rattle.rule_code.specs.declared.instruction.Instr.TheVariants as instrs
 use Rattle.rule_verify.specs.CodeTree.{CodeTree, End, Plain, Block, Branch, Torn}
 use Rattle.rule_code.specs.declared.kind.WrittenKind.TheVariants as kinds
-use Rattle.rule_verify.specs.InstrKinds.{Surroundings, operands_of, operands_above, bound_count, variable_at}
+use Rattle.ocl_base.specs.Lists.{variable_at}
+use Rattle.rule_verify.specs.InstrKinds.{Surroundings, operands_of, operands_above}
 use Rattle.rule_cost.specs.Bounds.{Cost, more_charges, top_length, second_length, or_zero, length_given, block_length, lengths_bound_by, length_yielded, extra_charge, taking_charge, ending_charge, block_charges, branch_charges, lengths_below, cost_of}
 use Rattle.rule_cost.specs.Limits.{SameCut}
 use Rattle.rule_cost.specs.CostWalk.{SameLengths, SameCost}
@@ -81,14 +82,11 @@ pub binds_same : (i : Instr) (l m : ℕ) (vars vars' : List ℕ) → SameCut l m
 binds_same (instrs.Let n) l m vars vars' h g = (h, g)
 binds_same i l m vars vars' h g = (refl, g)
 
--- what a block that is no LET binds
-pub others_bind : (i : Instr) (l : ℕ) → ((n : ℕ) → i ≡ instrs.Let n → ⊥) → (lengths_bound_by i l ≡ 0 ∷ []) × (bound_count i ≡ 1)
-others_bind (instrs.Let n) l h = absurd (h n refl)
-others_bind i l h = (refl, refl)
-
--- a length that is put on others
-pub pushed_same : (l x : ℕ) (new old : List ℕ) → new ≡ x ∷ old → SameCut x l → SameLengths new (l ∷ old)
-pushed_same l x new old e h = rw e (h, same_lengths old)
+-- the one length that a block binds, put on others
+pub bound_same : (ls : List ℕ) (x : ℕ) (new old : List ℕ) → SameLengths (x ∷ []) ls → new ≡ x ∷ old → SameLengths new (ls ++ old)
+bound_same [] x new old h e = absurd h
+bound_same (l ∷ []) x new old h e = rw e (h.0, same_lengths old)
+bound_same (l ∷ m ∷ ls) x new old h e = absurd h.1
 
 pub yields_same : (i : Instr) (l m r q : ℕ) → SameCut l m → SameCut r q → SameCut (length_yielded i l r) (length_yielded i m q)
 yields_same (instrs.Let n) l m r q h g = g
@@ -130,11 +128,6 @@ turns_same l m b c t u e f h g j k =
 pub block_same : (i : Instr) (l m b c r q : ℕ) → SameCut l m → SameCut b c → SameCut r q → SameCut (block_charges i l b r) (block_charges i m c q)
 block_same (instrs.Let n) l m b c r q h g j = plus_same 2 b 2 c refl g
 block_same i l m b c r q h g j = turns_same l m b c (taking_charge i r) (taking_charge i q) (ending_charge i l) (ending_charge i m) h g (taking_same i r q j) (ending_same i l m h)
-
--- the charges of a block that is no LET
-pub turns_are : (i : Instr) (l b m : ℕ) → ((n : ℕ) → i ≡ instrs.Let n → ⊥) → block_charges i l b m ≡ 2 + l * (1 + b + taking_charge i m) + ending_charge i l
-turns_are (instrs.Let n) l b m h = absurd (h n refl)
-turns_are i l b m h = refl
 
 -- ---- code
 

@@ -9,11 +9,14 @@ use Rattle.imkl_population.specs.Sizes.{Sizes}
 use Rattle.rule_code.specs.declared.instruction.Instr.{Instr}
 use Rattle.rule_code.specs.declared.instruction.Instr.TheVariants as instrs
 use Rattle.rule_code.specs.declared.kind.WrittenKind.TheVariants as kinds
+use Rattle.rule_verify.specs.declared.block_instr.BlockInstr.{BlockInstr}
+use Rattle.rule_verify.specs.declared.block_instr.BlockInstr.TheVariants as blocks
 use Rattle.rule_verify.specs.declared.named.Named.{Named}
 use Rattle.rule_verify.specs.declared.named.Named.TheVariants as named
 use Rattle.rule_verify.specs.Symbols.{named_at}
-use Rattle.rule_verify.specs.CodeTree.{CodeTree, End, Plain, Block, Branch, Torn}
-use Rattle.rule_verify.specs.InstrKinds.{Surroundings, operands_of, operands_above, variable_at}
+use Rattle.rule_verify.specs.CodeTree.{CodeTree, End, Plain, Block, Branch, Torn, block_of}
+use Rattle.ocl_base.specs.Lists.{variable_at}
+use Rattle.rule_verify.specs.InstrKinds.{Surroundings, operands_of, operands_above}
 
 -- ---- lengths of collections
 
@@ -65,19 +68,40 @@ length_given s z vars i ls = 0
 abbrev pub block_length : Instr → List ℕ → ℕ
 block_length i ls = top_length (drop (operands_above i) ls)
 
--- the lengths of the variables that a block binds, the newest first, by that of the operand that it works on
+-- the lengths of the variables that a block with one body binds, the newest first, by that of the operand that it works
+-- on; of no other instruction this is asked
+abbrev pub block_binds_lengths : Option BlockInstr → ℕ → List ℕ
+block_binds_lengths None l = 0 ∷ []
+block_binds_lengths (Some (blocks.Let n)) l = l ∷ []
+block_binds_lengths (Some (blocks.If k n m)) l = 0 ∷ []
+block_binds_lengths (Some (blocks.ForAll n)) l = 0 ∷ []
+block_binds_lengths (Some (blocks.Exists n)) l = 0 ∷ []
+block_binds_lengths (Some (blocks.One n)) l = 0 ∷ []
+block_binds_lengths (Some (blocks.Select n)) l = 0 ∷ []
+block_binds_lengths (Some (blocks.Reject n)) l = 0 ∷ []
+block_binds_lengths (Some (blocks.Collect n)) l = 0 ∷ []
+block_binds_lengths (Some (blocks.CollectFlat n)) l = 0 ∷ []
+block_binds_lengths (Some (blocks.IsUnique k n)) l = 0 ∷ []
+
 abbrev pub lengths_bound_by : Instr → ℕ → List ℕ
-lengths_bound_by (instrs.Let n) l = l ∷ []
-lengths_bound_by i l = 0 ∷ []
+lengths_bound_by i l = block_binds_lengths (block_of i) l
 
 -- the length of what a block with one body gives, by those of the operand that it works on and of what its body ends with
+abbrev pub block_yields_length : Option BlockInstr → ℕ → ℕ → ℕ
+block_yields_length None l r = 0
+block_yields_length (Some (blocks.Let n)) l r = r
+block_yields_length (Some (blocks.If k n m)) l r = 0
+block_yields_length (Some (blocks.ForAll n)) l r = 0
+block_yields_length (Some (blocks.Exists n)) l r = 0
+block_yields_length (Some (blocks.One n)) l r = 0
+block_yields_length (Some (blocks.Select n)) l r = l
+block_yields_length (Some (blocks.Reject n)) l r = l
+block_yields_length (Some (blocks.Collect n)) l r = l
+block_yields_length (Some (blocks.CollectFlat n)) l r = l * r
+block_yields_length (Some (blocks.IsUnique k n)) l r = 0
+
 abbrev pub length_yielded : Instr → ℕ → ℕ → ℕ
-length_yielded (instrs.Let n) l r = r
-length_yielded (instrs.Select n) l r = l
-length_yielded (instrs.Reject n) l r = l
-length_yielded (instrs.Collect n) l r = l
-length_yielded (instrs.CollectFlat n) l r = l * r
-length_yielded i l r = 0
+length_yielded i l r = block_yields_length (block_of i) l r
 
 -- ---- charges
 
@@ -97,20 +121,62 @@ extra_charge (instrs.AsSet k) ls = top_length ls * top_length ls
 extra_charge i ls = 0
 
 -- what the step is charged besides that takes the value of an iteration's body, by the length of that value
+abbrev pub block_taking_charge : Option BlockInstr → ℕ → ℕ
+block_taking_charge None m = 0
+block_taking_charge (Some (blocks.Let n)) m = 0
+block_taking_charge (Some (blocks.If k a b)) m = 0
+block_taking_charge (Some (blocks.ForAll n)) m = 0
+block_taking_charge (Some (blocks.Exists n)) m = 0
+block_taking_charge (Some (blocks.One n)) m = 0
+block_taking_charge (Some (blocks.Select n)) m = 0
+block_taking_charge (Some (blocks.Reject n)) m = 0
+block_taking_charge (Some (blocks.Collect n)) m = 0
+block_taking_charge (Some (blocks.CollectFlat n)) m = m
+block_taking_charge (Some (blocks.IsUnique k n)) m = 0
+
 abbrev pub taking_charge : Instr → ℕ → ℕ
-taking_charge (instrs.CollectFlat n) m = m
-taking_charge i m = 0
+taking_charge i m = block_taking_charge (block_of i) m
 
 -- what the step is charged besides that ends an iteration, by the length of its source
-abbrev pub ending_charge : Instr → ℕ → ℕ
-ending_charge (instrs.IsUnique k n) l = l * l
-ending_charge i l = 0
+abbrev pub block_ending_charge : Option BlockInstr → ℕ → ℕ
+block_ending_charge None l = 0
+block_ending_charge (Some (blocks.Let n)) l = 0
+block_ending_charge (Some (blocks.If k n m)) l = 0
+block_ending_charge (Some (blocks.ForAll n)) l = 0
+block_ending_charge (Some (blocks.Exists n)) l = 0
+block_ending_charge (Some (blocks.One n)) l = 0
+block_ending_charge (Some (blocks.Select n)) l = 0
+block_ending_charge (Some (blocks.Reject n)) l = 0
+block_ending_charge (Some (blocks.Collect n)) l = 0
+block_ending_charge (Some (blocks.CollectFlat n)) l = 0
+block_ending_charge (Some (blocks.IsUnique k n)) l = l * l
 
--- the charges of a block with one body, by the length of the operand that it works on, the charges of its body and the
--- length of what its body ends with
+abbrev pub ending_charge : Instr → ℕ → ℕ
+ending_charge i l = block_ending_charge (block_of i) l
+
+-- the charges of an iteration over a source of length l: of its opening and its end, and for each element of a turn, its
+-- body and what taking the body's value is charged
+abbrev pub turns_charges : ℕ → ℕ → ℕ → ℕ → ℕ
+turns_charges l b taking ending = 2 + l * (1 + b + taking) + ending
+
+-- the charges of a block with one body, by the length of the operand that it works on, the charges of its body, and what
+-- taking the body's value and the end of an iteration are charged; of no other instruction this is asked
+abbrev pub block_body_charges : Option BlockInstr → ℕ → ℕ → ℕ → ℕ → ℕ
+block_body_charges None l b t e = turns_charges l b t e
+block_body_charges (Some (blocks.Let n)) l b t e = 2 + b
+block_body_charges (Some (blocks.If k n m)) l b t e = turns_charges l b t e
+block_body_charges (Some (blocks.ForAll n)) l b t e = turns_charges l b t e
+block_body_charges (Some (blocks.Exists n)) l b t e = turns_charges l b t e
+block_body_charges (Some (blocks.One n)) l b t e = turns_charges l b t e
+block_body_charges (Some (blocks.Select n)) l b t e = turns_charges l b t e
+block_body_charges (Some (blocks.Reject n)) l b t e = turns_charges l b t e
+block_body_charges (Some (blocks.Collect n)) l b t e = turns_charges l b t e
+block_body_charges (Some (blocks.CollectFlat n)) l b t e = turns_charges l b t e
+block_body_charges (Some (blocks.IsUnique k n)) l b t e = turns_charges l b t e
+
+-- the same, by the length of what its body ends with
 abbrev pub block_charges : Instr → ℕ → ℕ → ℕ → ℕ
-block_charges (instrs.Let n) l b m = 2 + b
-block_charges i l b m = 2 + l * (1 + b + taking_charge i m) + ending_charge i l
+block_charges i l b m = block_body_charges (block_of i) l b (taking_charge i m) (ending_charge i l)
 
 -- the charges of a block with two bodies, by theirs
 abbrev pub branch_charges : ℕ → ℕ → ℕ

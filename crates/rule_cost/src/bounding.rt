@@ -11,7 +11,8 @@ use crate::place::Place;
 use crate::sized::SizedCode;
 use crate::walk::sequence;
 use imkl_population::Sizes;
-use rule_verify::{Accepted, Stack};
+use ocl_base::Stack;
+use rule_verify::Accepted;
 use std::alloc::Global;
 
 /// The bound of a rule: an upper limit on what its run is charged for an object of its context class, in populations of

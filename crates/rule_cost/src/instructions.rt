@@ -1,6 +1,6 @@
 //! What instructions make of lengths, and what they are charged.
 
-ghost use Rattle.std.specs.Prelude.{◌≡◌, ◌+◌, ◌++◌, drop, length, OnOk};
+ghost use Rattle.std.specs.Prelude.{◌≡◌, ◌+◌, ◌++◌, ◌∷◌, [], drop, length, OnOk};
 ghost use Rattle.rule_code.specs.WellFormed.{InstrFits};
 ghost use Rattle.rule_verify.specs.InstrKinds.{bound_count};
 ghost use Rattle.rule_cost.specs.Bounds as spec;
@@ -11,8 +11,9 @@ use crate::cut::Cut;
 use crate::feature_lengths::named_length;
 use crate::operands::{second_length, top_length};
 use crate::sized::SizedCode;
+use ocl_base::Stack;
 use rule_code::{Instr, WrittenKind};
-use rule_verify::Stack;
+use rule_verify::{BlockInstr, block_of};
 use std::alloc::AllocError;
 
 /// The length of what an instruction without a body gives.
@@ -40,28 +41,39 @@ pub(crate) fn length_given(
     }
 }
 
+/// The length of the variable that a block with one body binds, by that of the operand that it works on.
+fn bound_length(block: Option<BlockInstr>, source: Cut) -> Cut
+    ensures { SameLengths (result ∷ []) (spec.block_binds_lengths block source) }
+{
+    match block {
+        Some(BlockInstr::Let(_)) => source,
+        Some(BlockInstr::ForAll(_) | BlockInstr::Exists(_) | BlockInstr::One(_)) => Cut::new(0),
+        Some(BlockInstr::Select(_) | BlockInstr::Reject(_)) => Cut::new(0),
+        Some(BlockInstr::Collect(_) | BlockInstr::CollectFlat(_)) => Cut::new(0),
+        Some(BlockInstr::IsUnique(_, _) | BlockInstr::If(_, _, _)) | None => Cut::new(0),
+    }
+}
+
 /// Binds the variables of a block with one body, by the length of the operand that it works on.
 pub(crate) fn bind(variables: &mut Stack<Cut>, instr: Instr, source: Cut) -> Result<(), AllocError>
     ensures bound { OnOk result (SameLengths variables.new
         (spec.lengths_bound_by instr source ++ variables.old)) }
     ensures kept { OnOk result (variables.old ≡ drop (bound_count instr) variables.new) }
 {
-    match instr {
-        Instr::Let(_) => variables.push(source),
-        _ => variables.push(Cut::new(0)),
-    }
+    variables.push(bound_length(block_of(instr), source))
 }
 
 /// The length of what a block with one body gives, by those of its operand and of what the body
 /// ends with.
-pub(crate) fn length_yielded(instr: Instr, source: Cut, ended: Cut) -> Cut
-    ensures { SameCut result (spec.length_yielded instr source ended) }
+pub(crate) fn length_yielded(block: Option<BlockInstr>, source: Cut, ended: Cut) -> Cut
+    ensures { SameCut result (spec.block_yields_length block source ended) }
 {
-    match instr {
-        Instr::Let(_) => ended,
-        Instr::Select(_) | Instr::Reject(_) | Instr::Collect(_) => source,
-        Instr::CollectFlat(_) => source.times(ended),
-        _ => Cut::new(0),
+    match block {
+        Some(BlockInstr::Let(_)) => ended,
+        Some(BlockInstr::ForAll(_) | BlockInstr::Exists(_) | BlockInstr::One(_)) => Cut::new(0),
+        Some(BlockInstr::Select(_) | BlockInstr::Reject(_) | BlockInstr::Collect(_)) => source,
+        Some(BlockInstr::CollectFlat(_)) => source.times(ended),
+        Some(BlockInstr::If(_, _, _) | BlockInstr::IsUnique(_, _)) | None => Cut::new(0),
     }
 }
 
@@ -88,39 +100,56 @@ pub(crate) fn plain_charge(operands: &Stack<Cut>, instr: Instr) -> Cut
 }
 
 /// What taking the value of an iteration's body is charged besides the step, by the value's length.
-fn taking_charge(instr: Instr, ended: Cut) -> Cut
-    ensures { SameCut result (spec.taking_charge instr ended) }
+fn taking_charge(block: Option<BlockInstr>, ended: Cut) -> Cut
+    ensures { SameCut result (spec.block_taking_charge block ended) }
 {
-    match instr {
-        Instr::CollectFlat(_) => ended,
-        _ => Cut::new(0),
+    match block {
+        Some(BlockInstr::CollectFlat(_)) => ended,
+        Some(BlockInstr::ForAll(_) | BlockInstr::Exists(_) | BlockInstr::One(_)) => Cut::new(0),
+        Some(BlockInstr::Select(_) | BlockInstr::Reject(_) | BlockInstr::Collect(_)) => Cut::new(0),
+        Some(BlockInstr::IsUnique(_, _) | BlockInstr::Let(_)) => Cut::new(0),
+        Some(BlockInstr::If(_, _, _)) | None => Cut::new(0),
     }
 }
 
 /// What the end of an iteration is charged besides its step, by the length of its source.
-fn ending_charge(instr: Instr, source: Cut) -> Cut
-    ensures { SameCut result (spec.ending_charge instr source) }
+fn ending_charge(block: Option<BlockInstr>, source: Cut) -> Cut
+    ensures { SameCut result (spec.block_ending_charge block source) }
 {
-    match instr {
-        Instr::IsUnique(_, _) => source.times(source),
-        _ => Cut::new(0),
+    match block {
+        Some(BlockInstr::IsUnique(_, _)) => source.times(source),
+        Some(BlockInstr::ForAll(_) | BlockInstr::Exists(_) | BlockInstr::One(_)) => Cut::new(0),
+        Some(BlockInstr::Select(_) | BlockInstr::Reject(_) | BlockInstr::Collect(_)) => Cut::new(0),
+        Some(BlockInstr::CollectFlat(_) | BlockInstr::Let(_)) => Cut::new(0),
+        Some(BlockInstr::If(_, _, _)) | None => Cut::new(0),
     }
+}
+
+/// The charges of an iteration, by the length of its source, the charges of its body and the length of what the body ends
+/// with.
+fn turns_charges(block: Option<BlockInstr>, source: Cut, body: Cut, ended: Cut) -> Cut
+    ensures { SameCut result (spec.turns_charges source body
+        (spec.block_taking_charge block ended) (spec.block_ending_charge block source)) }
+{
+    let made = Cut::new(1).plus(body);
+    let turn = made.plus(taking_charge(block, ended));
+    let turns = Cut::new(2).plus(source.times(turn));
+    turns.plus(ending_charge(block, source))
 }
 
 /// The charges of a block with one body, by the length of its operand, the charges of the body and
 /// the length of what the body ends with.
-pub(crate) fn block_charges(instr: Instr, source: Cut, body: Cut, ended: Cut) -> Cut
-    ensures { SameCut result (spec.block_charges instr source body ended) }
+pub(crate) fn block_charges(block: Option<BlockInstr>, source: Cut, body: Cut, ended: Cut) -> Cut
+    ensures { SameCut result (spec.block_body_charges block source body
+        (spec.block_taking_charge block ended) (spec.block_ending_charge block source)) }
 {
-    let two = Cut::new(2);
-    match instr {
-        Instr::Let(_) => two.plus(body),
-        _ => {
-            let made = Cut::new(1).plus(body);
-            let turn = made.plus(taking_charge(instr, ended));
-            let turns = two.plus(source.times(turn));
-            turns.plus(ending_charge(instr, source))
-        }
+    let turns = turns_charges(block, source, body, ended);
+    match block {
+        Some(BlockInstr::Let(_)) => Cut::new(2).plus(body),
+        Some(BlockInstr::ForAll(_) | BlockInstr::Exists(_) | BlockInstr::One(_)) => turns,
+        Some(BlockInstr::Select(_) | BlockInstr::Reject(_) | BlockInstr::Collect(_)) => turns,
+        Some(BlockInstr::CollectFlat(_) | BlockInstr::IsUnique(_, _)) => turns,
+        Some(BlockInstr::If(_, _, _)) | None => turns,
     }
 }
 

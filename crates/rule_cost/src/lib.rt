@@ -9,7 +9,6 @@ mod cut;
 mod fault;
 mod feature_lengths;
 mod instructions;
-mod operand_count;
 mod operands;
 mod place;
 mod sized;

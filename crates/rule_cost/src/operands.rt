@@ -5,9 +5,9 @@ ghost use Rattle.rule_verify.specs.InstrKinds.{Surroundings};
 ghost use Rattle.rule_cost.specs.Bounds as spec;
 
 use crate::cut::Cut;
-use crate::operand_count::operand_count;
+use ocl_base::Stack;
 use rule_code::Instr;
-use rule_verify::{Stack, operands_above};
+use rule_verify::{operand_count, operands_above};
 
 /// The length of the topmost operand, 0 where there is none.
 pub(crate) fn top_length(operands: &Stack<Cut>) -> Cut

@@ -11,8 +11,9 @@ use crate::instructions::{
 use crate::operands::{block_length, take, take_operands, top_length};
 use crate::place::{Advance, Place, Total};
 use crate::sized::SizedCode;
+use ocl_base::Stack;
 use rule_code::Instr;
-use rule_verify::{Shape, Stack, bound_count, shape_of};
+use rule_verify::{Shape, block_of, bound_count, shape_of};
 use std::alloc::{AllocError, Global};
 
 /// Puts a length on top of others.
@@ -146,10 +147,11 @@ fn block(
     let body = sequence(alloc, code, variables, Place { at, end })?;
     take(variables, bound_count(instr));
     take_operands(operands, instr);
-    put(operands, length_yielded(instr, source, body.length))?;
+    let opened = block_of(instr);
+    put(operands, length_yielded(opened, source, body.length))?;
     Ok(Advance {
         next: end,
-        charges: block_charges(instr, source, body.charges, body.length),
+        charges: block_charges(opened, source, body.charges, body.length),
     })
 }
 

@@ -18,7 +18,8 @@ use Rattle.rule_verify.specs.declared.named.Named.TheVariants as named
 use Rattle.rule_verify.specs.Known.{IsKnownName, AreKnownKinds}
 use Rattle.rule_verify.specs.Symbols.{named_at}
 use Rattle.rule_verify.specs.Patterns.{IsPatternOf, ArePatterns}
-use Rattle.rule_verify.specs.InstrKinds.{Surroundings, class_kind, enumeration_kind, literal_kind, owner_kind, feature_read, scalar_meant, kind_meant, operands_of, variable_at, or_void, topmost, result_kind, operands_above, block_operand, binds, ends_with, yields}
+use Rattle.ocl_base.specs.Lists.{variable_at}
+use Rattle.rule_verify.specs.InstrKinds.{Surroundings, class_kind, enumeration_kind, literal_kind, owner_kind, feature_read, scalar_meant, kind_meant, operands_of, or_void, topmost, result_kind, operands_above, block_operand, binds, ends_with, yields}
 use Rattle.rule_verify.proofs.Stretches.{named_known}
 
 -- ---- names

@@ -1,6 +1,5 @@
 pub mod Stretches
 pub mod SymbolLaws
-pub mod Stacks
 pub mod Taken
 pub mod KnownKinds
 pub mod Walking

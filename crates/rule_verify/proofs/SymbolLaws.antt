@@ -1,5 +1,5 @@
 -- What is read of linked units.
-use Rattle.std.proofs.Common.{◌≡◌, ℕ, get_or, ◌<◌, List, [], ◌∷◌, length, Option, Some, None, map, refl, sym, ap, ◌∙◌, subst, IfSome, arith}
+use Rattle.std.proofs.Common.{◌≡◌, ℕ, get_or, ◌<◌, List, length, Option, Some, None, map, refl, sym, ap, ◌∙◌, subst, IfSome, arith}
 use Rattle.std.specs.Prelude.{slice_get, option_and_then}
 use Rattle.std.specs.Option.{option_map}
 use Rattle.std.proofs.lemmas.List.{length-map}

@@ -36,7 +36,8 @@ too_few [] ks n m e f lt = absurd (omega arith)
 too_few (w ∷ ws) [] n m e f lt = refl
 too_few (w ∷ ws) (k ∷ ks) n m e f lt = too_few ws ks (n - 1) (m - 1) (omega arith) (omega arith) (omega arith)
 
-enough : (ws : List Pattern) (ks : List Kind) → length ws ≤ length ks → are_there ws ks ≡ true
+-- as many operands as are wanted are all there
+pub enough : (ws : List Pattern) (ks : List Kind) → length ws ≤ length ks → are_there ws ks ≡ true
 enough [] ks le = refl
 enough (w ∷ ws) [] le = absurd (omega arith)
 enough (w ∷ ws) (k ∷ ks) le = enough ws ks (omega arith)
@@ -49,9 +50,9 @@ pub record Taking (m : Model) (ws : List Pattern) (old : List Kind) (i : ℕ) (k
   pub past_is : below ws old ≡ below (drop i ws) ks
   pub known : AreKnownKinds m ks
 
--- before the first operand is taken, where there are as many as are wanted
-pub begins : (m : Model) (ws : List Pattern) (ks : List Kind) (n : ℕ) → AreKnownKinds m ks → n ≡ length ks → length ws ≤ n → Taking m ws ks 0 ks
-begins m ws ks n known e le = let h = enough ws ks (omega arith) in record { all_there = h; there = h; fit_is = refl; past_is = refl; known = known }
+-- before the first operand is taken
+pub begins : (m : Model) (ws : List Pattern) (ks : List Kind) → AreKnownKinds m ks → are_there ws ks ≡ true → Taking m ws ks 0 ks
+begins m ws ks known h = record { all_there = h; there = h; fit_is = refl; past_is = refl; known = known }
 
 -- where all operands are of known kinds, so is the topmost, and so are those below it
 pub top_known : (m : Model) (ks : List Kind) (k : Kind) (rest : List Kind) → ks ≡ k ∷ rest → AreKnownKinds m ks → IsKindOf m k × AreKnownKinds m rest

@@ -1,6 +1,7 @@
 -- What each instruction takes and gives. An instruction has its row in each table.
-use Rattle.std.specs.Prelude.{ℕ, ◌==◌, Bool, true, false, drop, List, [], ◌∷◌, ◌++◌, length, Option, Some, None, is_some, if◌then◌else◌}
+use Rattle.std.specs.Prelude.{ℕ, Bool, true, false, drop, List, [], ◌∷◌, ◌++◌, Option, Some, None, is_some}
 use Rattle.std.specs.List.{list_all}
+use Rattle.ocl_base.specs.Lists.{variable_at}
 use Rattle.ocl_base.specs.declared.collection_kind.CollectionKind.{CollectionKind}
 use Rattle.ocl_base.specs.declared.collection_kind.CollectionKind.TheVariants as collection
 use Rattle.imkl_model.specs.ClassModel.{Model, feature_at}
@@ -17,12 +18,15 @@ use Rattle.rule_code.specs.declared.kind.WrittenKind.{WrittenKind}
 use Rattle.rule_code.specs.declared.kind.WrittenKind.TheVariants as kinds
 use Rattle.rule_code.specs.InstrRows.{FieldValue, symbol_field, scalar_field, collection_field, kind_field, row_of}
 use Rattle.rule_code.specs.Content.{Content}
+use Rattle.rule_verify.specs.declared.block_instr.BlockInstr.{BlockInstr}
+use Rattle.rule_verify.specs.declared.block_instr.BlockInstr.TheVariants as blocks
 use Rattle.rule_verify.specs.declared.named.Named.{Named}
 use Rattle.rule_verify.specs.declared.named.Named.TheVariants as named
 use Rattle.rule_verify.specs.declared.pattern.Pattern.{Pattern}
 use Rattle.rule_verify.specs.declared.pattern.Pattern.TheVariants.{Fitting, Anything, AnySingle, AnyCollection, CollectionOf}
 use Rattle.rule_verify.specs.Patterns.{a_boolean, an_integer, a_string, an_object}
 use Rattle.rule_verify.specs.Symbols.{named_at}
+use Rattle.rule_verify.specs.CodeTree.{block_of}
 
 -- what the code of a rule is checked against: a class model, the unit, the rule's index and its context class
 pub record Surroundings : Type 0 where
@@ -103,6 +107,20 @@ kind_meant s (kinds.Collection c k) = Collection c (scalar_meant s k)
 
 -- ---- operands
 
+-- the operands that a block takes, the topmost first
+abbrev pub block_takes : Option BlockInstr → List Pattern
+block_takes None = []
+block_takes (Some (blocks.Let n)) = Anything ∷ []
+block_takes (Some (blocks.If k n m)) = a_boolean ∷ []
+block_takes (Some (blocks.ForAll n)) = AnyCollection ∷ []
+block_takes (Some (blocks.Exists n)) = AnyCollection ∷ []
+block_takes (Some (blocks.One n)) = AnyCollection ∷ []
+block_takes (Some (blocks.Select n)) = AnyCollection ∷ []
+block_takes (Some (blocks.Reject n)) = AnyCollection ∷ []
+block_takes (Some (blocks.Collect n)) = AnyCollection ∷ []
+block_takes (Some (blocks.CollectFlat n)) = AnyCollection ∷ []
+block_takes (Some (blocks.IsUnique k n)) = AnyCollection ∷ []
+
 -- the operands that an instruction takes, the topmost first, where they depend on none of its fields
 abbrev pub fixed_operands : Instr → List Pattern
 fixed_operands (instrs.KindOf c) = an_object ∷ []
@@ -134,17 +152,7 @@ fixed_operands instrs.SubStr = an_integer ∷ an_integer ∷ a_string ∷ []
 fixed_operands instrs.Size = AnyCollection ∷ []
 fixed_operands instrs.IsEmpty = AnyCollection ∷ []
 fixed_operands instrs.Sum = CollectionOf element.Integer ∷ []
-fixed_operands (instrs.Let n) = Anything ∷ []
-fixed_operands (instrs.If k n m) = a_boolean ∷ []
-fixed_operands (instrs.ForAll n) = AnyCollection ∷ []
-fixed_operands (instrs.Exists n) = AnyCollection ∷ []
-fixed_operands (instrs.One n) = AnyCollection ∷ []
-fixed_operands (instrs.Select n) = AnyCollection ∷ []
-fixed_operands (instrs.Reject n) = AnyCollection ∷ []
-fixed_operands (instrs.Collect n) = AnyCollection ∷ []
-fixed_operands (instrs.CollectFlat n) = AnyCollection ∷ []
-fixed_operands (instrs.IsUnique k n) = AnyCollection ∷ []
-fixed_operands i = []
+fixed_operands i = block_takes (block_of i)
 
 -- the operands that an instruction takes, the topmost first
 abbrev pub operands_of : Surroundings → Instr → List Pattern
@@ -159,11 +167,6 @@ operands_of s (instrs.AsSet k) = CollectionOf (scalar_meant s k) ∷ []
 operands_of s i = fixed_operands i
 
 -- ---- variables
-
--- the variable of this number, where the newest comes first and the oldest has number 0
-abbrev pub variable_at : {A : Type 0} → List A → ℕ → Option A
-variable_at [] n = None
-variable_at (k ∷ ks) n = if n == length ks then Some k else variable_at ks n
 
 -- the variable that an instruction reads is there
 abbrev pub has_variable : List Kind → Instr → Bool
@@ -235,55 +238,122 @@ result_kind s vars i ks = fixed_result i
 -- ---- blocks
 
 -- how many of the operands that a block takes lie above the one that it works on
+abbrev pub block_operands_above : Option BlockInstr → ℕ
+block_operands_above None = 0
+block_operands_above (Some (blocks.Let n)) = 0
+block_operands_above (Some (blocks.If k n m)) = 0
+block_operands_above (Some (blocks.ForAll n)) = 0
+block_operands_above (Some (blocks.Exists n)) = 0
+block_operands_above (Some (blocks.One n)) = 0
+block_operands_above (Some (blocks.Select n)) = 0
+block_operands_above (Some (blocks.Reject n)) = 0
+block_operands_above (Some (blocks.Collect n)) = 0
+block_operands_above (Some (blocks.CollectFlat n)) = 0
+block_operands_above (Some (blocks.IsUnique k n)) = 0
+
 abbrev pub operands_above : Instr → ℕ
-operands_above i = 0
+operands_above i = block_operands_above (block_of i)
 
 -- the operand that a block works on: what LET binds, what IF tests, what an iteration goes over
 abbrev pub block_operand : Instr → List Kind → Kind
 block_operand i ks = topmost (drop (operands_above i) ks)
 
--- the variables that a block with one body binds, the newest first, by the operand that it works on
+-- the variable of the elements of what an iteration goes over
+abbrev pub an_element : Kind → List Kind
+an_element k = Scalar (elements_kind k) ∷ []
+
+-- the variables that a block with one body binds, the newest first, by the operand that it works on; of no other
+-- instruction this is asked
+abbrev pub block_binds : Surroundings → Option BlockInstr → Kind → List Kind
+block_binds s None k = an_element k
+block_binds s (Some (blocks.Let n)) k = k ∷ []
+block_binds s (Some (blocks.If w n m)) k = an_element k
+block_binds s (Some (blocks.ForAll n)) k = an_element k
+block_binds s (Some (blocks.Exists n)) k = an_element k
+block_binds s (Some (blocks.One n)) k = an_element k
+block_binds s (Some (blocks.Select n)) k = an_element k
+block_binds s (Some (blocks.Reject n)) k = an_element k
+block_binds s (Some (blocks.Collect n)) k = an_element k
+block_binds s (Some (blocks.CollectFlat n)) k = an_element k
+block_binds s (Some (blocks.IsUnique w n)) k = an_element k
+
 abbrev pub binds : Surroundings → Instr → Kind → List Kind
-binds s (instrs.Let n) k = k ∷ []
-binds s i k = Scalar (elements_kind k) ∷ []
+binds s i k = block_binds s (block_of i) k
 
 -- how many these are
+abbrev pub block_bound_count : Option BlockInstr → ℕ
+block_bound_count None = 1
+block_bound_count (Some (blocks.Let n)) = 1
+block_bound_count (Some (blocks.If k n m)) = 1
+block_bound_count (Some (blocks.ForAll n)) = 1
+block_bound_count (Some (blocks.Exists n)) = 1
+block_bound_count (Some (blocks.One n)) = 1
+block_bound_count (Some (blocks.Select n)) = 1
+block_bound_count (Some (blocks.Reject n)) = 1
+block_bound_count (Some (blocks.Collect n)) = 1
+block_bound_count (Some (blocks.CollectFlat n)) = 1
+block_bound_count (Some (blocks.IsUnique k n)) = 1
+
 abbrev pub bound_count : Instr → ℕ
-bound_count i = 1
+bound_count i = block_bound_count (block_of i)
 
 -- what the bodies of a block end with
+abbrev pub block_ends_with : Surroundings → Option BlockInstr → Pattern
+block_ends_with s None = a_boolean
+block_ends_with s (Some (blocks.Let n)) = Anything
+block_ends_with s (Some (blocks.If k n m)) = Fitting (kind_meant s k)
+block_ends_with s (Some (blocks.ForAll n)) = a_boolean
+block_ends_with s (Some (blocks.Exists n)) = a_boolean
+block_ends_with s (Some (blocks.One n)) = a_boolean
+block_ends_with s (Some (blocks.Select n)) = a_boolean
+block_ends_with s (Some (blocks.Reject n)) = a_boolean
+block_ends_with s (Some (blocks.Collect n)) = AnySingle
+block_ends_with s (Some (blocks.CollectFlat n)) = AnyCollection
+block_ends_with s (Some (blocks.IsUnique k n)) = Fitting (Scalar (scalar_meant s k))
+
 abbrev pub ends_with : Surroundings → Instr → Pattern
-ends_with s (instrs.Let n) = Anything
-ends_with s (instrs.If k n m) = Fitting (kind_meant s k)
-ends_with s (instrs.Collect n) = AnySingle
-ends_with s (instrs.CollectFlat n) = AnyCollection
-ends_with s (instrs.IsUnique k n) = Fitting (Scalar (scalar_meant s k))
-ends_with s i = a_boolean
+ends_with s i = block_ends_with s (block_of i)
 
 -- the kind of what is collected from the operand of a block; of a single value, which none takes, a Bag
 abbrev pub collected : Kind → CollectionKind
 collected (Scalar k) = collection.Bag
 collected (Collection c k) = collected_kind c
 
--- what a block gives, by the operand that it takes and by what its body ends with
+-- what a block gives, by the operand that it works on and by what its body ends with
+abbrev pub block_yields : Surroundings → Option BlockInstr → Kind → Kind → Kind
+block_yields s None k r = Scalar element.Boolean
+block_yields s (Some (blocks.Let n)) k r = r
+block_yields s (Some (blocks.If w n m)) k r = kind_meant s w
+block_yields s (Some (blocks.ForAll n)) k r = Scalar element.Boolean
+block_yields s (Some (blocks.Exists n)) k r = Scalar element.Boolean
+block_yields s (Some (blocks.One n)) k r = Scalar element.Boolean
+block_yields s (Some (blocks.Select n)) k r = k
+block_yields s (Some (blocks.Reject n)) k r = k
+block_yields s (Some (blocks.Collect n)) k r = Collection (collected k) (elements_kind r)
+block_yields s (Some (blocks.CollectFlat n)) k r = Collection (collected k) (elements_kind r)
+block_yields s (Some (blocks.IsUnique w n)) k r = Scalar element.Boolean
+
 abbrev pub yields : Surroundings → Instr → Kind → Kind → Kind
-yields s (instrs.Let n) k r = r
-yields s (instrs.If w n m) k r = kind_meant s w
-yields s (instrs.Select n) k r = k
-yields s (instrs.Reject n) k r = k
-yields s (instrs.Collect n) k r = Collection (collected k) (elements_kind r)
-yields s (instrs.CollectFlat n) k r = Collection (collected k) (elements_kind r)
-yields s i k r = Scalar element.Boolean
+yields s i k r = block_yields s (block_of i) k r
 
 -- ---- memory
 
--- an instruction that gathers a collection of its own when it is run
+-- a block that gathers a collection of its own when it is run
+abbrev pub block_gathers : Option BlockInstr → Bool
+block_gathers None = false
+block_gathers (Some (blocks.Let n)) = false
+block_gathers (Some (blocks.If k n m)) = false
+block_gathers (Some (blocks.ForAll n)) = false
+block_gathers (Some (blocks.Exists n)) = false
+block_gathers (Some (blocks.One n)) = false
+block_gathers (Some (blocks.Select n)) = true
+block_gathers (Some (blocks.Reject n)) = true
+block_gathers (Some (blocks.Collect n)) = true
+block_gathers (Some (blocks.CollectFlat n)) = true
+block_gathers (Some (blocks.IsUnique k n)) = true
+
+-- an instruction that does
 abbrev pub gathers : Instr → Bool
 gathers (instrs.AsColl c k) = true
 gathers (instrs.AsSet k) = true
-gathers (instrs.Select n) = true
-gathers (instrs.Reject n) = true
-gathers (instrs.Collect n) = true
-gathers (instrs.CollectFlat n) = true
-gathers (instrs.IsUnique k n) = true
-gathers i = false
+gathers i = block_gathers (block_of i)

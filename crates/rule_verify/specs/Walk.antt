@@ -1,5 +1,5 @@
 -- The verifier's walk: its code and how it stands to the definitions.
-use Rattle.std.specs.Prelude.{◌≡◌, ℕ, ◌+◌, ◌<◌, ◌≤◌, List, [], ◌∷◌, length, true, false, Option, Some, None, Result, Ok, Err, slice_range, All}
+use Rattle.std.specs.Prelude.{◌≡◌, ℕ, ◌+◌, ◌<◌, ◌≤◌, List, [], ◌∷◌, length, Bool, true, false, Option, Some, None, Result, Ok, Err, slice_range, All}
 use Rattle.std.specs.List.{AllByRecursion}
 use Rattle.imkl_model.specs.ClassModel.{Model}
 use Rattle.imkl_model.specs.WellFormed.{IsClassModel}
@@ -8,8 +8,6 @@ use Rattle.ocl_kinds.specs.declared.kind.Kind.{Kind}
 use Rattle.rule_code.specs.declared.symbol.SymbolNumber.{SymbolNumber}
 use Rattle.rule_code.specs.declared.instruction.Instr.{Instr}
 use Rattle.rule_code.specs.Content.{Content}
-use Rattle.rule_verify.specs.declared.fault.VerifyFlaw.{VerifyFlaw}
-use Rattle.rule_verify.specs.declared.fault.VerifyFlaw.TheVariants as flaws
 use Rattle.rule_verify.specs.declared.fault.VerifyFault.{VerifyFault}
 use Rattle.rule_verify.specs.declared.judged.RuleCode.{RuleCode}
 use Rattle.rule_verify.specs.declared.pattern.Pattern.{Pattern}
@@ -25,7 +23,7 @@ use Rattle.rule_verify.specs.Faults.{verify_fault}
 use Rattle.rule_verify.specs.InstrKinds.{Surroundings, surroundings, symbols_used, block_operand, ends_with}
 use Rattle.rule_verify.specs.KindRules.{InstrFault, Enclosing, taken, ended_with, kinds_after, operand_limit, block_limit}
 use Rattle.rule_verify.specs.Known.{AreKnownKinds}
-use Rattle.rule_verify.specs.Patterns.{are_there, all_match, below}
+use Rattle.rule_verify.specs.Patterns.{all_match, below}
 
 -- ---- single instructions
 
@@ -48,12 +46,10 @@ surroundings_of r = surroundings r.linked.now.model r.linked.now.unit r.index r.
 abbrev pub AreSymbols : Content → List ℕ → Type 0
 AreSymbols u ns = AllByRecursion (λ n. n < length u.symbols) ns
 
--- the operands are taken, or which fault comes first
-abbrev pub AreTaken : Model → List Pattern → List Kind → Option VerifyFlaw → List Kind → Type 0
-AreTaken m ws old None new = (are_there ws old ≡ true) × (all_match m ws old ≡ true) × (new ≡ below ws old)
-AreTaken m ws old (Some flaws.MissingOperand) new = are_there ws old ≡ false
-AreTaken m ws old (Some flaws.WrongKind) new = (are_there ws old ≡ true) × (all_match m ws old ≡ false)
-AreTaken m ws old (Some flaw) new = ⊥
+-- the operands are taken, if each is what it may be
+abbrev pub AreTaken : Model → List Pattern → List Kind → Bool → List Kind → Type 0
+AreTaken m ws old true new = (all_match m ws old ≡ true) × (new ≡ below ws old)
+AreTaken m ws old false new = all_match m ws old ≡ false
 
 -- what was returned is what is given: a fault, or what the value means
 abbrev pub Leads : {X Y : Type 0} → Result X VerifyFault → Result Y InstrFault → (X → Result Y InstrFault) → Type 0

@@ -1,38 +1,73 @@
 //! Blocks: which instructions have bodies, what these may use and end with, and what the block gives.
 
 ghost use Rattle.std.specs.Prelude.{◌≡◌, ◌++◌, drop, OnOk};
-ghost use Rattle.rule_verify.specs.CodeTree.{shape_of};
+ghost use Rattle.rule_verify.specs.CodeTree.{block_of, shape_of};
 ghost use Rattle.rule_verify.specs.InstrKinds as spec;
 ghost use Rattle.rule_verify.specs.Walk.{surroundings_of, AreSymbols};
 
+use crate::block_instr::BlockInstr;
 use crate::judged::RuleCode;
 use crate::meant::{kind_meant, scalar_meant};
 use crate::pattern::Pattern;
 use crate::shape::Shape;
-use crate::stack::Stack;
 use crate::taking::put;
 use imkl_model::CollectionKind;
+use ocl_base::Stack;
 use ocl_kinds::{Kind, ScalarKind, collected_kind, elements_kind};
 use rule_code::Instr;
 use std::alloc::AllocError;
+
+/// The block that an instruction is; none where it has no body. Every instruction is named here: what holds of blocks
+/// goes by this, and each of its tables names each block.
+#[inline(always)]
+pub fn block_of(instr: Instr) -> Option<BlockInstr>
+    ensures { result ≡ block_of instr }
+{
+    match instr {
+        Instr::SelfObject | Instr::Get(_) | Instr::Int(_) | Instr::Bool(_) | Instr::Text(_) => None,
+        Instr::Enum(_) | Instr::Null | Instr::Invalid | Instr::Attr(_) | Instr::All(_) => None,
+        Instr::AsColl(_, _) | Instr::KindOf(_) | Instr::TypeOf(_) | Instr::AsType(_) => None,
+        Instr::Add | Instr::Sub | Instr::Mul | Instr::Div | Instr::Mod | Instr::Neg => None,
+        Instr::Abs | Instr::Min | Instr::Max | Instr::Lt | Instr::Le | Instr::Gt => None,
+        Instr::Ge | Instr::Not | Instr::And | Instr::Or | Instr::Xor | Instr::Implies => None,
+        Instr::Eq(_) | Instr::Eqx | Instr::Undef | Instr::IsInv | Instr::TLen => None,
+        Instr::SubStr | Instr::Size | Instr::IsEmpty | Instr::Includes(_) => None,
+        Instr::Count(_) | Instr::IncAll(_) | Instr::ExcAll(_) | Instr::Sum | Instr::AsSet(_) =>
+            None,
+        Instr::Let(body) => Some(BlockInstr::Let(body)),
+        Instr::If(kind, first, second) => Some(BlockInstr::If(kind, first, second)),
+        Instr::ForAll(body) => Some(BlockInstr::ForAll(body)),
+        Instr::Exists(body) => Some(BlockInstr::Exists(body)),
+        Instr::One(body) => Some(BlockInstr::One(body)),
+        Instr::Select(body) => Some(BlockInstr::Select(body)),
+        Instr::Reject(body) => Some(BlockInstr::Reject(body)),
+        Instr::Collect(body) => Some(BlockInstr::Collect(body)),
+        Instr::CollectFlat(body) => Some(BlockInstr::CollectFlat(body)),
+        Instr::IsUnique(kind, body) => Some(BlockInstr::IsUnique(kind, body)),
+    }
+}
 
 /// How many bodies an instruction has, with the number of instructions of each.
 #[inline(always)]
 pub fn shape_of(instr: Instr) -> Shape
     ensures { result ≡ shape_of instr }
 {
-    match instr {
-        Instr::Let(body)
-        | Instr::ForAll(body)
-        | Instr::Exists(body)
-        | Instr::One(body)
-        | Instr::Select(body)
-        | Instr::Reject(body)
-        | Instr::Collect(body)
-        | Instr::CollectFlat(body)
-        | Instr::IsUnique(_, body) => Shape::OneBody(usize::from(body)),
-        Instr::If(_, first, second) => { Shape::TwoBodies(usize::from(first), usize::from(second)) }
-        _ => Shape::Single,
+    match block_of(instr) {
+        None => Shape::Single,
+        Some(
+            BlockInstr::Let(body)
+            | BlockInstr::ForAll(body)
+            | BlockInstr::Exists(body)
+            | BlockInstr::One(body)
+            | BlockInstr::Select(body)
+            | BlockInstr::Reject(body)
+            | BlockInstr::Collect(body)
+            | BlockInstr::CollectFlat(body)
+            | BlockInstr::IsUnique(_, body),
+        ) => Shape::OneBody(usize::from(body)),
+        Some(BlockInstr::If(_, first, second)) => {
+            Shape::TwoBodies(usize::from(first), usize::from(second))
+        }
     }
 }
 
@@ -51,8 +86,12 @@ fn collected(kind: &Kind) -> CollectionKind
 pub fn operands_above(instr: Instr) -> usize
     ensures { result ≡ spec.operands_above instr }
 {
-    match instr {
-        _ => 0,
+    match block_of(instr) {
+        Some(BlockInstr::Let(_) | BlockInstr::If(_, _, _)) | None => 0,
+        Some(BlockInstr::ForAll(_) | BlockInstr::Exists(_) | BlockInstr::One(_)) => 0,
+        Some(BlockInstr::Select(_) | BlockInstr::Reject(_)) => 0,
+        Some(BlockInstr::Collect(_) | BlockInstr::CollectFlat(_)) => 0,
+        Some(BlockInstr::IsUnique(_, _)) => 0,
     }
 }
 
@@ -77,9 +116,16 @@ pub(crate) fn bind(
     ensures { OnOk result (variables.new ≡
         spec.binds (surroundings_of rule.now) instr operand.now ++ variables.old) }
 {
-    match instr {
-        Instr::Let(_) => put(variables, *operand),
-        _ => put(variables, Kind::Scalar(elements_kind(operand))),
+    let element = Kind::Scalar(elements_kind(operand));
+    match block_of(instr) {
+        Some(BlockInstr::Let(_)) => put(variables, *operand),
+        Some(BlockInstr::ForAll(_) | BlockInstr::Exists(_) | BlockInstr::One(_)) => {
+            put(variables, element)
+        }
+        Some(BlockInstr::Select(_) | BlockInstr::Reject(_)) => put(variables, element),
+        Some(BlockInstr::Collect(_) | BlockInstr::CollectFlat(_)) => put(variables, element),
+        Some(BlockInstr::IsUnique(_, _)) => put(variables, element),
+        Some(BlockInstr::If(_, _, _)) | None => put(variables, element),
     }
 }
 
@@ -88,8 +134,12 @@ pub(crate) fn bind(
 pub fn bound_count(instr: Instr) -> usize
     ensures { result ≡ spec.bound_count instr }
 {
-    match instr {
-        _ => 1,
+    match block_of(instr) {
+        Some(BlockInstr::Let(_) | BlockInstr::If(_, _, _)) | None => 1,
+        Some(BlockInstr::ForAll(_) | BlockInstr::Exists(_) | BlockInstr::One(_)) => 1,
+        Some(BlockInstr::Select(_) | BlockInstr::Reject(_)) => 1,
+        Some(BlockInstr::Collect(_) | BlockInstr::CollectFlat(_)) => 1,
+        Some(BlockInstr::IsUnique(_, _)) => 1,
     }
 }
 
@@ -105,13 +155,17 @@ pub(crate) fn ends_with(rule: &RuleCode<'_, '_>, instr: Instr) -> Pattern
     requires { AreSymbols rule.now.linked.now.unit (spec.symbols_used instr) }
     ensures { result ≡ spec.ends_with (surroundings_of rule.now) instr }
 {
-    match instr {
-        Instr::Let(_) => Pattern::Anything,
-        Instr::If(kind, _, _) => Pattern::Fitting(kind_meant(rule, kind)),
-        Instr::Collect(_) => Pattern::AnySingle,
-        Instr::CollectFlat(_) => Pattern::AnyCollection,
-        Instr::IsUnique(kind, _) => Pattern::Fitting(Kind::Scalar(scalar_meant(rule, kind))),
-        _ => Pattern::Fitting(Kind::Scalar(ScalarKind::Boolean)),
+    let boolean = Pattern::Fitting(Kind::Scalar(ScalarKind::Boolean));
+    match block_of(instr) {
+        Some(BlockInstr::Let(_)) => Pattern::Anything,
+        Some(BlockInstr::If(kind, _, _)) => Pattern::Fitting(kind_meant(rule, kind)),
+        Some(BlockInstr::ForAll(_) | BlockInstr::Exists(_) | BlockInstr::One(_)) => boolean,
+        Some(BlockInstr::Select(_) | BlockInstr::Reject(_)) | None => boolean,
+        Some(BlockInstr::Collect(_)) => Pattern::AnySingle,
+        Some(BlockInstr::CollectFlat(_)) => Pattern::AnyCollection,
+        Some(BlockInstr::IsUnique(kind, _)) => {
+            Pattern::Fitting(Kind::Scalar(scalar_meant(rule, kind)))
+        }
     }
 }
 
@@ -120,13 +174,15 @@ pub(crate) fn yields(rule: &RuleCode<'_, '_>, instr: Instr, operand: &Kind, ende
     requires { AreSymbols rule.now.linked.now.unit (spec.symbols_used instr) }
     ensures { result ≡ spec.yields (surroundings_of rule.now) instr operand.now ended.now }
 {
-    match instr {
-        Instr::Let(_) => *ended,
-        Instr::If(kind, _, _) => kind_meant(rule, kind),
-        Instr::Select(_) | Instr::Reject(_) => *operand,
-        Instr::Collect(_) | Instr::CollectFlat(_) => {
+    let boolean = Kind::Scalar(ScalarKind::Boolean);
+    match block_of(instr) {
+        Some(BlockInstr::Let(_)) => *ended,
+        Some(BlockInstr::If(kind, _, _)) => kind_meant(rule, kind),
+        Some(BlockInstr::ForAll(_) | BlockInstr::Exists(_) | BlockInstr::One(_)) => boolean,
+        Some(BlockInstr::Select(_) | BlockInstr::Reject(_)) => *operand,
+        Some(BlockInstr::Collect(_) | BlockInstr::CollectFlat(_)) => {
             Kind::Collection(collected(operand), elements_kind(ended))
         }
-        _ => Kind::Scalar(ScalarKind::Boolean),
+        Some(BlockInstr::IsUnique(_, _)) | None => boolean,
     }
 }

@@ -2,6 +2,7 @@
 #![tactic(auto)]
 
 mod accepted;
+mod block_instr;
 mod blocks;
 mod depths;
 mod fault;
@@ -17,18 +18,18 @@ mod place;
 mod results;
 mod rules;
 mod shape;
-mod stack;
 mod symbols_used;
 mod taking;
 mod verifier;
 mod walk;
 
 pub use accepted::Accepted;
-pub use blocks::{bound_count, operands_above, shape_of};
+pub use block_instr::BlockInstr;
+pub use blocks::{block_of, bound_count, operands_above, shape_of};
 pub use depths::Depths;
 pub use fault::{VerifyFault, VerifyFlaw};
 pub use named::Named;
+pub use operands::operand_count;
 pub use pattern::Pattern;
 pub use shape::Shape;
-pub use stack::Stack;
 pub use verifier::verify;

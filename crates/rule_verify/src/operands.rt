@@ -1,7 +1,8 @@
 //! The operands that instructions take.
 
-ghost use Rattle.std.specs.Prelude.{◌≡◌};
+ghost use Rattle.std.specs.Prelude.{◌≡◌, length};
 ghost use Rattle.rule_verify.specs.InstrKinds as spec;
+ghost use Rattle.rule_verify.specs.InstrKinds.{Surroundings};
 ghost use Rattle.rule_verify.specs.Walk.{surroundings_of, operand_list, AreSymbols};
 
 use crate::judged::RuleCode;
@@ -49,7 +50,11 @@ fn fixed_operands(instr: Instr) -> Operands
         Instr::Collect(_) | Instr::CollectFlat(_) | Instr::IsUnique(_, _) => {
             Operands::One(Pattern::AnyCollection)
         }
-        _ => Operands::Nothing,
+        Instr::SelfObject | Instr::Get(_) | Instr::Int(_) | Instr::Bool(_) => Operands::Nothing,
+        Instr::Text(_) | Instr::Enum(_) | Instr::Null | Instr::Invalid => Operands::Nothing,
+        Instr::Attr(_) | Instr::All(_) | Instr::AsColl(_, _) | Instr::Eq(_) => Operands::Nothing,
+        Instr::Includes(_) | Instr::Count(_) | Instr::IncAll(_) => Operands::Nothing,
+        Instr::ExcAll(_) | Instr::AsSet(_) => Operands::Nothing,
     }
 }
 
@@ -78,5 +83,30 @@ pub(crate) fn operands_of(rule: &RuleCode<'_, '_>, instr: Instr) -> Operands
         }
         Instr::AsSet(kind) => Operands::One(Pattern::CollectionOf(scalar_meant(rule, kind))),
         _ => fixed_operands(instr),
+    }
+}
+
+/// How many operands an instruction takes, whatever they may be.
+pub fn operand_count(instr: Instr) -> usize
+    ensures { (s : Surroundings) → result ≡ length (spec.operands_of s instr) }
+{
+    match instr {
+        Instr::SelfObject | Instr::Get(_) | Instr::Int(_) | Instr::Bool(_) | Instr::Text(_) => 0,
+        Instr::Enum(_) | Instr::Null | Instr::Invalid | Instr::All(_) => 0,
+        Instr::Attr(_) | Instr::AsColl(_, _) => 1,
+        Instr::KindOf(_) | Instr::TypeOf(_) | Instr::AsType(_) => 1,
+        Instr::Add | Instr::Sub | Instr::Mul | Instr::Div | Instr::Mod => 2,
+        Instr::Neg | Instr::Abs => 1,
+        Instr::Min | Instr::Max | Instr::Lt | Instr::Le | Instr::Gt | Instr::Ge => 2,
+        Instr::Not => 1,
+        Instr::And | Instr::Or | Instr::Xor | Instr::Implies | Instr::Eq(_) | Instr::Eqx => 2,
+        Instr::Undef | Instr::IsInv | Instr::TLen => 1,
+        Instr::SubStr => 3,
+        Instr::Size | Instr::IsEmpty => 1,
+        Instr::Includes(_) | Instr::Count(_) | Instr::IncAll(_) | Instr::ExcAll(_) => 2,
+        Instr::Sum | Instr::AsSet(_) => 1,
+        Instr::Let(_) | Instr::If(_, _, _) => 1,
+        Instr::ForAll(_) | Instr::Exists(_) | Instr::One(_) | Instr::Select(_) => 1,
+        Instr::Reject(_) | Instr::Collect(_) | Instr::CollectFlat(_) | Instr::IsUnique(_, _) => 1,
     }
 }

@@ -1,7 +1,7 @@
 //! Where the verifier's walk stands.
 
 use crate::depths::Depths;
-use crate::stack::Stack;
+use ocl_base::Stack;
 use ocl_kinds::Kind;
 
 /// An instruction of a sequence, and what encloses it.

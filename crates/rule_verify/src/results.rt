@@ -7,8 +7,8 @@ ghost use Rattle.rule_verify.specs.Walk.{surroundings_of, AreSymbols};
 
 use crate::judged::RuleCode;
 use crate::meant::{class_kind, feature_read, literal_kind, scalar_meant};
-use crate::stack::Stack;
 use imkl_model::CollectionKind;
+use ocl_base::Stack;
 use ocl_kinds::{Kind, ScalarKind, elements_kind};
 use rule_code::Instr;
 
@@ -17,6 +17,7 @@ use rule_code::Instr;
 fn fixed_result(instr: Instr) -> Kind
     ensures { result ≡ spec.fixed_result instr }
 {
+    let nothing = Kind::Scalar(ScalarKind::Void);
     match instr {
         Instr::Bool(_) | Instr::KindOf(_) | Instr::TypeOf(_) => Kind::Scalar(ScalarKind::Boolean),
         Instr::Lt | Instr::Le | Instr::Gt | Instr::Ge => Kind::Scalar(ScalarKind::Boolean),
@@ -34,7 +35,12 @@ fn fixed_result(instr: Instr) -> Kind
         Instr::Int(_) | Instr::Neg | Instr::Abs | Instr::TLen => Kind::Scalar(ScalarKind::Integer),
         Instr::Size | Instr::Count(_) | Instr::Sum => Kind::Scalar(ScalarKind::Integer),
         Instr::Text(_) | Instr::SubStr => Kind::Scalar(ScalarKind::String),
-        _ => Kind::Scalar(ScalarKind::Void),
+        Instr::SelfObject | Instr::Get(_) | Instr::Enum(_) | Instr::Null | Instr::Invalid =>
+            nothing,
+        Instr::Attr(_) | Instr::All(_) | Instr::AsColl(_, _) | Instr::AsType(_) => nothing,
+        Instr::AsSet(_) | Instr::Let(_) | Instr::If(_, _, _) | Instr::ForAll(_) => nothing,
+        Instr::Exists(_) | Instr::One(_) | Instr::Select(_) | Instr::Reject(_) => nothing,
+        Instr::Collect(_) | Instr::CollectFlat(_) | Instr::IsUnique(_, _) => nothing,
     }
 }
 

@@ -11,9 +11,9 @@ use crate::judged::RuleCode;
 use crate::linked::Linked;
 use crate::pattern::Pattern;
 use crate::place::{Place, Walk};
-use crate::stack::Stack;
 use crate::taking::put;
 use crate::walk::{ended_with, sequence};
+use ocl_base::Stack;
 use ocl_kinds::{Kind, ScalarKind};
 use std::alloc::Global;
 

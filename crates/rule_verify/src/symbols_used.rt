@@ -47,7 +47,14 @@ pub fn symbol_used(instr: Instr) -> Option<SymbolNumber>
         | Instr::AsSet(kind)
         | Instr::IsUnique(kind, _) => symbol_of_scalar(kind),
         Instr::Eq(kind) | Instr::If(kind, _, _) => symbol_of_kind(kind),
-        _ => None,
+        Instr::SelfObject | Instr::Get(_) | Instr::Int(_) | Instr::Bool(_) | Instr::Text(_) => None,
+        Instr::Null | Instr::Invalid | Instr::Add | Instr::Sub | Instr::Mul | Instr::Div => None,
+        Instr::Mod | Instr::Neg | Instr::Abs | Instr::Min | Instr::Max | Instr::Lt => None,
+        Instr::Le | Instr::Gt | Instr::Ge | Instr::Not | Instr::And | Instr::Or => None,
+        Instr::Xor | Instr::Implies | Instr::Eqx | Instr::Undef | Instr::IsInv => None,
+        Instr::TLen | Instr::SubStr | Instr::Size | Instr::IsEmpty | Instr::Sum => None,
+        Instr::Let(_) | Instr::ForAll(_) | Instr::Exists(_) | Instr::One(_) => None,
+        Instr::Select(_) | Instr::Reject(_) | Instr::Collect(_) | Instr::CollectFlat(_) => None,
     }
 }
 

@@ -1,64 +1,53 @@
 //! Operands are taken.
 
-ghost use Rattle.std.specs.Prelude.{◌≡◌, ◌∷◌, List, OnOk, Ok};
+ghost use Rattle.std.specs.Prelude.{◌≡◌, ◌∷◌, List, true, OnOk, Ok};
 ghost use Rattle.ocl_kinds.specs.declared.kind.Kind.{Kind};
 ghost use Rattle.rule_verify.specs.InstrKinds as spec;
 ghost use Rattle.rule_verify.specs.KindRules.{taken};
 ghost use Rattle.rule_verify.specs.Known.{AreKnownKinds};
-ghost use Rattle.rule_verify.specs.Patterns.{ArePatterns};
+ghost use Rattle.rule_verify.specs.Patterns.{are_there, ArePatterns};
 ghost use Rattle.rule_verify.specs.Walk.{surroundings_of, operand_list, AreSymbols, AreTaken, Leads, IsRuleCode};
 
 use crate::fault::{VerifyFault, VerifyFlaw};
 use crate::judged::RuleCode;
-use crate::operands::operands_of;
+use crate::operands::{operand_count, operands_of};
 use crate::pattern::{Operands, Pattern, matches};
-use crate::stack::Stack;
 use crate::symbols_used::has_names;
 use imkl_model::ClassModel;
+use ocl_base::Stack;
 use ocl_kinds::{Kind, ScalarKind, elements_kind};
 use rule_code::Instr;
 use std::alloc::AllocError;
 
-/// Takes operands that may be this, the topmost first.
-fn take_each(
-    model: &ClassModel,
-    operands: &mut Stack<Kind>,
-    wanted: &[Pattern],
-) -> Option<VerifyFlaw>
+/// Takes operands, the topmost first, if each may be what it is: whether it does.
+fn take_each(model: &ClassModel, operands: &mut Stack<Kind>, wanted: &[Pattern]) -> bool
     requires operands { AreKnownKinds model.now operands.old }
     requires wanted { ArePatterns model.now wanted.now }
+    requires there { are_there wanted.now operands.old ≡ true }
     ensures taken { AreTaken model.now wanted.now operands.old result operands.new }
     ensures known { AreKnownKinds model.now operands.new }
 {
-    if operands.len() < wanted.len() {
-        return Some(VerifyFlaw::MissingOperand);
-    }
     for want in wanted {
-        match operands.pop() {
-            None => return Some(VerifyFlaw::MissingOperand),
-            Some(kind) => {
-                if !matches(model, want, &kind) {
-                    return Some(VerifyFlaw::WrongKind);
-                }
-            }
+        let Some(kind) = operands.pop() else {
+            unreachable!()
+        };
+        if !matches(model, want, &kind) {
+            return false;
         }
     }
-    None
+    true
 }
 
-/// Takes the operands of an instruction.
-fn take_operands(
-    model: &ClassModel,
-    operands: &mut Stack<Kind>,
-    wanted: Operands,
-) -> Option<VerifyFlaw>
+/// Takes the operands of an instruction, which are there, if each may be what it is: whether it does.
+fn take_operands(model: &ClassModel, operands: &mut Stack<Kind>, wanted: Operands) -> bool
     requires operands { AreKnownKinds model.now operands.old }
     requires wanted { ArePatterns model.now (operand_list wanted) }
+    requires there { are_there (operand_list wanted) operands.old ≡ true }
     ensures taken { AreTaken model.now (operand_list wanted) operands.old result operands.new }
     ensures known { AreKnownKinds model.now operands.new }
 {
     match wanted {
-        Operands::Nothing => None,
+        Operands::Nothing => true,
         Operands::One(first) => take_each(model, operands, &[first]),
         Operands::Two(first, second) => take_each(model, operands, &[first, second]),
         Operands::Three(first, second, third) => {
@@ -108,9 +97,13 @@ pub(crate) fn take(
     if !has_variable(variables, instr) {
         return Err(rule.fault(VerifyFlaw::BadVariable, at));
     }
-    match take_operands(rule.linked.model(), operands, operands_of(rule, instr)) {
-        Some(flaw) => Err(rule.fault(flaw, at)),
-        None => Ok(()),
+    if operands.len() < operand_count(instr) {
+        return Err(rule.fault(VerifyFlaw::MissingOperand, at));
+    }
+    if take_operands(rule.linked.model(), operands, operands_of(rule, instr)) {
+        Ok(())
+    } else {
+        Err(rule.fault(VerifyFlaw::WrongKind, at))
     }
 }
 

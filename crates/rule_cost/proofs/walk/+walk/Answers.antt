@@ -20,8 +20,8 @@ block-returns-clause-advances t c =
       within = omega (arith, c.requires.nests);
       cost = block_advances code c.args.variables.now c.args.place c.args.instr c.requires.inside c.requires.place.within c.requires.here c.args.operands.now c.args.length c.requires.shape c.requires.nests yielded c.block_charges.result (at + c.args.length) c.bind.new.variables c.put.new.lengths (record { at = at; end = at + c.args.length }) total refl refl refl
           (subst (λ l. SameLengths c.bind.new.variables (spec.lengths_bound_by c.args.instr l ++ c.args.variables.now)) source c.in_ok-bind.ensures.bound) c.in_ok-body.ensures.totals
-          (subst (λ l. SameCut c.block_charges.result (spec.block_charges c.args.instr l total.charges total.length)) source c.block_charges.ensures)
-          (subst (λ l. SameCut yielded (spec.length_yielded c.args.instr l total.length)) source c.length_yielded.ensures)
+          (subst (λ l. SameCut c.block_charges.result (spec.block_charges c.args.instr l total.charges total.length)) source (subst (λ b. SameCut c.block_charges.result (spec.block_body_charges b c.block_length-source.result total.charges (spec.block_taking_charge b total.length) (spec.block_ending_charge b c.block_length-source.result))) c.block_of-opened.ensures c.block_charges.ensures))
+          (subst (λ l. SameCut yielded (spec.length_yielded c.args.instr l total.length)) source (subst (λ b. SameCut yielded (spec.block_yields_length b c.block_length-source.result total.length)) c.block_of-opened.ensures c.length_yielded.ensures))
           (c.in_ok-put.ensures ∙ ap (λ l. yielded ∷ l) (c.take_operands.ensures (surroundings_of_code code)));
     }
 
