@@ -1,16 +1,46 @@
 -- What blocks are by their rows: what they take, and how they open.
-use Rattle.std.proofs.Common.{◌≡◌, None, ℕ, suc, ◌+◌, ◌*◌, ◌≤◌, true, List, [], ◌∷◌, ◌++◌, length, refl, ap, arith, length-append}
+use Rattle.std.proofs.Common.{◌≡◌, Some, None, ℕ, suc, ◌+◌, ◌*◌, ◌≤◌, true, false, List, [], ◌∷◌, ◌++◌, length, refl, ap, arith, length-append}
 use Rattle.rule_code.specs.declared.instruction.Instr.{Instr}
 use Rattle.rule_code.specs.declared.instruction.Instr.TheVariants as instrs
+use Rattle.rule_verify.specs.declared.block_instr.BlockInstr.{BlockInstr}
+use Rattle.rule_verify.specs.declared.block_instr.BlockInstr.TheVariants as blocks
 use Rattle.rule_verify.specs.declared.pattern.Pattern.TheVariants.{AnyCollection}
-use Rattle.rule_verify.specs.CodeTree.{CodeTree, Block}
+use Rattle.rule_verify.specs.declared.shape.Shape.TheVariants.{OneBody}
+use Rattle.rule_verify.specs.CodeTree.{CodeTree, block_of, shape_of}
 use Rattle.rule_verify.specs.Patterns.{a_boolean}
-use Rattle.rule_verify.specs.InstrKinds.{Surroundings, operands_of, operands_above}
+use Rattle.rule_verify.specs.InstrKinds.{Surroundings, operands_of, operands_above, bound_count}
 use Rattle.rule_cost.specs.Bounds.{taking_charge, ending_charge, block_charges}
-use Rattle.rule_values.specs.Value.{Value}
-use Rattle.rule_machine.specs.Machine.{Setting, Piece, block_opened, opened_over, keeping}
+use Rattle.rule_values.specs.Value.{Element, Value, element_value}
+use Rattle.rule_machine.specs.Machine.{Setting, Piece, block_opened, opened_over, bound_values, keeping}
 use Rattle.rule_machine.specs.Places.{Place, bound_by, end_place, stand, Mark, Here, Iterating, block_marked}
 use Rattle.rule_machine.specs.Live.{HasBody, HasBranches, is_iteration, block_gives, HasKept, turns_kept}
+
+-- the instruction that a block is
+abbrev pub instr_of : BlockInstr → Instr
+instr_of (blocks.Let n) = instrs.Let n
+instr_of (blocks.If k n m) = instrs.If k n m
+instr_of (blocks.ForAll n) = instrs.ForAll n
+instr_of (blocks.Exists n) = instrs.Exists n
+instr_of (blocks.One n) = instrs.One n
+instr_of (blocks.Select n) = instrs.Select n
+instr_of (blocks.Reject n) = instrs.Reject n
+instr_of (blocks.Collect n) = instrs.Collect n
+instr_of (blocks.CollectFlat n) = instrs.CollectFlat n
+instr_of (blocks.IsUnique k n) = instrs.IsUnique k n
+
+-- an instruction is the one of its block
+pub block_is : (i : Instr) (b : BlockInstr) → block_of i ≡ Some b → i ≡ instr_of b
+block_is (instrs.Let n) b e = cc
+block_is (instrs.If k n m) b e = cc
+block_is (instrs.ForAll n) b e = cc
+block_is (instrs.Exists n) b e = cc
+block_is (instrs.One n) b e = cc
+block_is (instrs.Select n) b e = cc
+block_is (instrs.Reject n) b e = cc
+block_is (instrs.Collect n) b e = cc
+block_is (instrs.CollectFlat n) b e = cc
+block_is (instrs.IsUnique k n) b e = cc
+block_is i b e = absurd cc
 
 -- a block with one body is LET or an iteration
 pub data BlockSort (i : Instr) : Type 0 where
@@ -29,6 +59,32 @@ block_sort (instrs.Collect n) h = iterates refl refl
 block_sort (instrs.CollectFlat n) h = iterates refl refl
 block_sort (instrs.IsUnique k n) h = iterates refl refl
 block_sort i h = let bad = h.1 in cc
+
+-- one that is no iteration is a LET
+pub let_of : (i : Instr) (body : ℕ) → shape_of i ≡ OneBody body → is_iteration i ≡ false → (n : ℕ) × (i ≡ instrs.Let n)
+let_of i body e other = by_sort (block_sort i (body, e))
+  where
+    by_sort : BlockSort i → (n : ℕ) × (i ≡ instrs.Let n)
+    by_sort (is_let n is) = (n, is)
+    by_sort (iterates it one) = cc
+
+-- ---- rows that all blocks share: they work on the topmost operand, a turn binds its element, and adds what its body gave
+
+pub none_above : (i : Instr) → operands_above i ≡ 0
+none_above (instrs.Let n) = refl
+none_above i = refl
+
+pub one_bound : (i : Instr) → bound_count i ≡ 1
+one_bound (instrs.Let n) = refl
+one_bound i = refl
+
+pub element_bound : (i : Instr) (e : Element) (kept : List Value) → bound_values i e kept ≡ element_value e ∷ []
+element_bound (instrs.Let n) e kept = refl
+element_bound i e kept = refl
+
+pub one_kept : (i : Instr) (kept : List Value) (v : Value) → keeping i kept v ≡ kept ++ v ∷ []
+one_kept (instrs.Let n) kept v = refl
+one_kept i kept v = refl
 
 -- ---- what they take
 
@@ -89,7 +145,7 @@ nothing_kept s i one = (tt, refl)
 
 -- what is kept with the value that a body gave is of as many turns, or one more
 pub keeping_turns : (i : Instr) (kept : List Value) (v : Value) → turns_kept i (keeping i kept v) ≤ suc (turns_kept i kept)
-keeping_turns i kept v = omega (arith, length-append kept (v ∷ []))
+keeping_turns i kept v = omega (arith, ap length (one_kept i kept v), length-append kept (v ∷ []))
 
 pub keeping_has : (i : Instr) (kept : List Value) (v : Value) → HasKept i (keeping i kept v)
 keeping_has i kept v = tt

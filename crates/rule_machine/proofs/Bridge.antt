@@ -15,7 +15,8 @@ use Rattle.rule_verify.specs.declared.shape.Shape.{Shape}
 use Rattle.rule_verify.specs.declared.shape.Shape.TheVariants.{Single, OneBody, TwoBodies}
 use Rattle.rule_verify.specs.CodeTree.{CodeTree, End, Plain, Block, Branch, Torn, shape_of, instr_count, cut_one, cut, code_tree}
 use Rattle.rule_verify.specs.Patterns.{matches, all_match, below, a_boolean}
-use Rattle.rule_verify.specs.InstrKinds.{has_variable, operands_of, variable_at, block_operand, binds, ends_with, yields, kind_meant}
+use Rattle.ocl_base.specs.Lists.{variable_at}
+use Rattle.rule_verify.specs.InstrKinds.{has_variable, operands_of, block_operand, binds, ends_with, yields, kind_meant}
 use Rattle.rule_verify.specs.KindRules.{Enclosing, taken, after_plain, in_block, kinds_after}
 use Rattle.rule_verify.proofs.ForAbove.{Takes}
 use Rattle.rule_cost.specs.Bounds.{cost_of, top_length, length_given, length_yielded, lengths_below, lengths_bound_by, block_charges}

@@ -18,8 +18,7 @@ use Rattle.rule_machine.specs.declared.task.Task.{Task}
 use Rattle.rule_machine.specs.Shown.{code_in, HasNext}
 use Rattle.imkl_population.specs.declared.scalar.Scalar.TheVariants as scalar
 use Rattle.std.specs.Ordering.{int_eq}
-use Rattle.rule_machine.proofs.Blocks as sorts
-use Rattle.rule_machine.proofs.Blocks.{BlockSort, block_sort, block_takes_one, branch_takes, none_opened, iteration_opens}
+use Rattle.rule_machine.proofs.Blocks.{none_above, block_takes_one, branch_takes, none_opened, iteration_opens}
 use Rattle.rule_slots.specs.declared.slot.Slot.{Slot}
 use Rattle.rule_machine.specs.declared.control.Control.{Control}
 use Rattle.rule_machine.specs.declared.control.Control.TheVariants as control
@@ -29,14 +28,6 @@ use Rattle.rule_machine.specs.StandFor.{TurnIs, StandsFor, TopStandsFor, IsAt, G
 use Rattle.rule_machine.proofs.Segments.{stand_same}
 use Rattle.rule_machine.proofs.Stacks.{ops_pop, ops_push, vars_push, ops_drop, all_vars, all_ops}
 use Rattle.rule_machine.proofs.Counted.{body_above}
-
--- a block with one body that is no LET is an iteration
-pub iterates : (i : Instr) (n : ℕ) → shape_of i ≡ OneBody n → ((x : ℕ) → i ≡ instrs.Let x → ⊥) → is_iteration i ≡ true
-iterates i n e other = by_sort (block_sort i (n, e))
-  where
-    by_sort : BlockSort i → is_iteration i ≡ true
-    by_sort (sorts.is_let x is) = absurd (other x is)
-    by_sort (sorts.iterates it one) = it
 
 -- the instruction that a machine reads is that of its code
 pub instr_here : (t : Task) (at end : ℕ) (code : List Instr) → at < end → end ≤ length (code_in t) → code ≡ code_in t → slice_get (code_in t) at ≡ Some (get_or code at instrs.SelfObject)
@@ -267,7 +258,7 @@ module _ (s : Setting) (l : Lists) (code : List Instr) where
       below : at + 1 + n ≤ end → (o : Slot) (os1 : List Slot) (x : Value) (ops1 : List Value) → os ≡ o ∷ os1 → h.ops ≡ x ∷ ops1 → Below o os1 x ops1
       below nests o os1 x ops1 e f =
           let b = ends_at (Block i body rest) (tree_block code at end i lt le here n shape nests) in
-          let one : h.n ≡ suc b.1.0 = omega (arith, b.1.1, block_takes_one (judged_by s) i (n, shape) refl) in
+          let one : h.n ≡ suc b.1.0 = omega (arith, b.1.1, block_takes_one (judged_by s) i (n, shape) (none_above i)) in
           let st = subst (λ m. StandsFor s l code p (length p) h.v m cs vs (o ∷ os1) h.pieces h.vars (x ∷ ops1)) one (subst (λ y. StandsFor s l code p (length p) h.v h.n cs vs y h.pieces h.vars (x ∷ ops1)) e (subst (λ y. StandsFor s l code p (length p) h.v h.n cs vs os h.pieces h.vars y) f (h.stand lt))) in
           let r = ops_pop s l code p (length p) h.v b.1.0 cs vs o os1 h.pieces h.vars x ops1 st in
           record { k = b.1.0; m = b.0; operand = r.0; left = r.1; body_ends = b.1.2; rest_ends = b.1.3; later = b.2 }
@@ -275,7 +266,7 @@ module _ (s : Setting) (l : Lists) (code : List Instr) where
       -- a LET binds its operand and enters its body
       pub let_steps : (y : ℕ) → i ≡ instrs.Let y → at + 1 + n ≤ end → (o : Slot) (os1 : List Slot) → os ≡ o ∷ os1 → StepsTo s l code p (at + 1) (at + 1 + n) (control.LetEnd ∷ control.Rest (at + 1 + n) end ∷ cs) (o ∷ vs) os1 c
       let_steps y is nests o os1 e =
-          let t = block_taken refl nests o os1 e in
+          let t = block_taken (none_above i) nests o os1 e in
           let b = below nests o os1 t.value t.rest_values e t.are in
           let pushed = vars_push s l code p (length p) h.v b.k cs o vs os1 h.pieces t.value h.vars t.rest_values b.operand b.left in
           record {
@@ -300,9 +291,9 @@ module _ (s : Setting) (l : Lists) (code : List Instr) where
       pub iteration_steps : is_iteration i ≡ true → at + 1 + n ≤ end → (o : Slot) (os1 : List Slot) → os ≡ o ∷ os1
           → StepsTo s l code p (at + 1 + n) (at + 1 + n) (opening_mark i (at + 1) (at + 1 + n) o (length p) ∷ control.Rest (at + 1 + n) end ∷ cs) vs os1 c
       iteration_steps it nests o os1 e =
-          let t = block_taken refl nests o os1 e in
+          let t = block_taken (none_above i) nests o os1 e in
           let b = below nests o os1 t.value t.rest_values e t.are in
-          let first = t.made ∙ iteration_opens i body t.value t.rest_values after h.vars t.rest_values it refl in
+          let first = t.made ∙ iteration_opens i body t.value t.rest_values after h.vars t.rest_values it (none_above i) in
           by_value t.value t.rest_values b first (subst HasNext first goes)
         where
           z : ℕ

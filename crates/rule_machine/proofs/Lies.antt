@@ -31,10 +31,6 @@ pub kept_joined : (m m' m'' : State) → Kept m m' → Kept m' m'' → Kept m m'
 kept_joined m m' m'' h k =
     record { started = k.started ∙ h.started; count = k.count ∙ h.count; room = record { operands = k.room.operands ∙ h.room.operands; variables = k.room.variables ∙ h.room.variables; controls = k.room.controls ∙ h.room.controls } }
 
--- nothing is changed
-pub kept_same : (m : State) → Kept m m
-kept_same m = record { started = refl; count = refl; room = record { operands = refl; variables = refl; controls = refl } }
-
 -- a machine whose turn ended, and which then went on, has made a step
 pub turn_made : (t : Task) (u : Turn) (m m' m'' : State) → TurnEnded t u m m' → WentOn t u m' m'' → Stepped t m m''
 turn_made t u m m' m'' ended went =

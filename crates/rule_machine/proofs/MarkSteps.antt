@@ -21,6 +21,7 @@ use Rattle.rule_slots.specs.Slots.{Lists, ElementsAre, SlotIs, invalid_slot, hel
 use Rattle.rule_machine.specs.Counts.{Balanced, LeavesOne}
 use Rattle.rule_machine.specs.StandFor.{TurnIs, StandsFor, TopStandsFor, IsAt, StepsTo, Between, kept_elements, gives_truths, following_turn, count_passing}
 use Rattle.rule_slots.proofs.ForAbove.{part_same, is_replaced, kept_more, as_many, element_next, element_slot, elements_join, none_left}
+use Rattle.rule_machine.proofs.Blocks.{one_bound, element_bound, one_kept}
 use Rattle.rule_machine.proofs.Segments.{stand_same}
 use Rattle.rule_machine.proofs.Stacks.{cut_pop, cut_none, cut_push, cut_empty, ops_push, vars_pop, all_vars, ops_there, vars_there}
 use Rattle.rule_machine.proofs.InstrSteps.{is_at, is_past, past, top_of}
@@ -107,9 +108,9 @@ module _ (s : Setting) (l : Lists) (code : List Instr) (p : List Slot) where
         omega (arith, b.turns),
       ) in
       let ed : d ≡ configuration (Sequence b.body ∷ Turning b.i b.body b.source left1 b.bodies ∷ b.q) (element_value x.0 ∷ b.vars) b.ops =
-      b.same ∙ ap (λ y. turned b.i b.body b.source y b.bodies b.q b.vars b.ops) left in
+      b.same ∙ ap (λ y. turned b.i b.body b.source y b.bodies b.q b.vars b.ops) left ∙ ap (λ vs. configuration (Sequence b.body ∷ Turning b.i b.body b.source left1 b.bodies ∷ b.q) (vs ++ b.vars) b.ops) (element_bound b.i x.0 b.bodies) in
       subst (IsAt s l code p t.from t.end (control.Turning (following_turn t) ∷ cs) (e ∷ vs) os) (sym ed)
-      (is_at s l code p t.from t.end (control.Turning (following_turn t) ∷ cs) (e ∷ vs) os (Turning b.i b.body b.source left1 b.bodies ∷ b.q) (element_value x.0 ∷ b.vars) b.ops 1 0 b.body b.turn.same_body (1, b.body_ends, (refl, refl)) here)
+      (is_at s l code p t.from t.end (control.Turning (following_turn t) ∷ cs) (e ∷ vs) os (Turning b.i b.body b.source left1 b.bodies ∷ b.q) (element_value x.0 ∷ b.vars) b.ops 1 0 b.body b.turn.same_body (1, b.body_ends, (sym (one_bound b.i), refl)) here)
 
   -- the step of an iteration that was opened leads to before its first turn, or its end
   pub open_steps : (at end : ℕ) (t : Turn) (cs : List Control) (vs os : List Slot) (c : Configuration) → at ≡ end → IsAt s l code p at end (control.Opened t ∷ cs) vs os c → (d : Configuration) × (step s c ≡ Some d) × Between s l code p t cs vs os d
@@ -179,16 +180,16 @@ module _ (s : Setting) (l : Lists) (code : List Instr) (p : List Slot) where
 
       by_pieces : (ps : List Piece) (vars ops : List Value) (v n : ℕ) → c ≡ configuration ps vars ops → LeavesOne s ps v n → TopStandsFor s l code p v n (control.Turning t ∷ cs) (o ∷ vs) (y ∷ os) ps vars ops → HasNext (step s (configuration ps vars ops)) → Leaving t cs vs y os c
       by_pieces (Turning i body source left kept ∷ q) [] ops v n same ends h g =
-          absurd (omega (arith, ends.0, vars_there s l code p (length p) v n (control.Turning t ∷ cs) (o ∷ vs) (y ∷ os) (Turning i body source left kept ∷ q) [] ops h))
+          absurd (omega (arith, ends.0, one_bound i, vars_there s l code p (length p) v n (control.Turning t ∷ cs) (o ∷ vs) (y ∷ os) (Turning i body source left kept ∷ q) [] ops h))
       by_pieces (Turning i body source left kept ∷ q) (x ∷ vars) [] v n same ends h g =
           absurd (omega (arith, ends.1, ops_there s l code p (length p) v n (control.Turning t ∷ cs) (o ∷ vs) (y ∷ os) (Turning i body source left kept ∷ q) (x ∷ vars) [] h))
       by_pieces (Turning i body source left kept ∷ q) (x ∷ vars) (z ∷ ops) v n same ends h g =
-          let a = cut_pop l p (length p) v 0 (omega (arith, ends.0)) o vs x vars h.0 in
+          let a = cut_pop l p (length p) v 0 (omega (arith, ends.0, one_bound i)) o vs x vars h.0 in
           let b = cut_pop l p (length p) n 0 (omega (arith, ends.1)) y os z ops h.1 in
           let an = cut_none l p (length p) vs vars a.1 in
           let bn = cut_none l p (length p) os ops b.1 in
-          let d = turned i body source left (keeping i kept z) q vars ops in
-          let there : nat_le (bound_count i) (length (x ∷ vars)) ≡ true = le-leb (bound_count i) (length (x ∷ vars)) (omega arith) in
+          let d = turned i body source left (keeping i kept z) q (drop (bound_count i) (x ∷ vars)) ops in
+          let there : nat_le (bound_count i) (length (x ∷ vars)) ≡ true = le-leb (bound_count i) (length (x ∷ vars)) (omega (arith, one_bound i)) in
           let what : is_what s.population (ends_with (judged_by s) i) z ≡ true = both (nat_le (bound_count i) (length (x ∷ vars))) (is_what s.population (ends_with (judged_by s) i) z) d g in
           record {
             i = i;
@@ -204,7 +205,7 @@ module _ (s : Setting) (l : Lists) (code : List Instr) (p : List Slot) where
             m = h.5;
             vars_before = x ∷ vars;
             before = same;
-            made = ap (step s) same ∙ ap (λ b. if b then Some d else None) (and_from _ _ there what);
+            made = ap (step s) same ∙ ap (λ b. if b then Some d else None) (and_from _ _ there what) ∙ ap (λ k. Some (turned i body source left k q (drop (bound_count i) (x ∷ vars)) ops)) (one_kept i kept z) ∙ ap (λ n. Some (turned i body source left (kept ++ z ∷ []) q (drop n (x ∷ vars)) ops)) (one_bound i);
             operand = b.0;
             what = subst (λ j. is_what s.population (ends_with (judged_by s) j) z ≡ true) h.2.same_instr what;
             turn = h.2;

@@ -33,7 +33,7 @@ use Rattle.rule_machine.specs.Verdict.{outcome}
 use Rattle.rule_machine.specs.Places.{Place, place, kinds_of, long, At, AllAt, EachAt, given, places_left, bound_by, top_place, operand_place, kept_place, block_marked, yielded, end_place, Stand, stand, Mark, Here, Iterating, now_at, sequence_marked, marked, marks_for, AllHeldAt}
 use Rattle.rule_machine.specs.Charges.{turn_charge, charge_of}
 use Rattle.rule_machine.specs.Live.{AllBelow, IsTaken, is_iteration, block_gives, branch_gives, Kinded, HasKept, turns_kept, IsOpenIteration, IsOneBoolean, GoesNoDeeper, HasRoom, Going, IsThere, IsSettled, Live}
-use Rattle.rule_machine.proofs.Blocks.{BlockSort, is_let, iterates, block_sort, iteration_takes, branch_takes, iteration_charges, iteration_opens, iteration_marked, nothing_kept, keeping_turns, keeping_has}
+use Rattle.rule_machine.proofs.Blocks.{BlockSort, is_let, iterates, block_sort, one_kept, iteration_takes, branch_takes, iteration_charges, iteration_opens, iteration_marked, nothing_kept, keeping_turns, keeping_has}
 use Rattle.rule_machine.proofs.InKinds.{matches_in, match_all, left_at, left_above, invalid_at, single_at, all_below, each_joined}
 use Rattle.rule_machine.proofs.Results.{results, given_above}
 use Rattle.rule_machine.proofs.EndingKinds.{ending_at}
@@ -105,7 +105,7 @@ module _ (s : Setting) (deep : Depths) (model : IsClassModel s.population.model)
 
   -- what is kept stands at its place
   keeping_at : (i : Instr) (r : Place) (kept : List Value) (o : Value) → is_what s.population (ends_with (judged_by s) i) o ≡ true → At s o r → EachAt s (kept_place s i r) kept → EachAt s (kept_place s i r) (keeping i kept o)
-  keeping_at i r kept o w a each = each_joined s r kept (o ∷ []) each (a, tt)
+  keeping_at i r kept o w a each = subst (EachAt s (kept_place s i r)) (sym (one_kept i kept o)) (each_joined s r kept (o ∷ []) each (a, tt))
 
   -- a turn, or the end
   turning : (c : Configuration) (ms : List Mark) (n : ℕ) (i : Instr) (body : CodeTree) (source : Source) (left : List Element) (kept : List Value) (q : List Piece) (vars os : List Value) (p r : Place) (below : Stand) (later : List Mark) (m k b : ℕ)

@@ -17,7 +17,8 @@ use Rattle.rule_verify.specs.CodeTree.{shape_of}
 use Rattle.rule_verify.specs.declared.named.Named.{Named}
 use Rattle.rule_verify.specs.Symbols.{named_at}
 use Rattle.std.specs.List.{list_all}
-use Rattle.rule_verify.specs.InstrKinds.{Surroundings, symbols_used, has_names, operands_of, variable_at}
+use Rattle.ocl_base.specs.Lists.{variable_at}
+use Rattle.rule_verify.specs.InstrKinds.{Surroundings, symbols_used, has_names, operands_of}
 use Rattle.rule_values.specs.Value.{Value}
 use Rattle.rule_slots.specs.declared.slot.Slot.{Slot}
 use Rattle.rule_slots.specs.Slots.{Lists, SlotIs, SlotsAre}
@@ -108,51 +109,6 @@ two_taken s (instrs.Count k) t = refl
 two_taken s (instrs.IncAll k) t = refl
 two_taken s (instrs.ExcAll k) t = refl
 two_taken s i t = absurd t
-
--- an instruction without a body that isn't one of these works on operands alone
-pub alone : (i : Instr) → (i ≡ instrs.SelfObject → ⊥) → ((n : ℕ) → i ≡ instrs.Get n → ⊥) → ((n : ℤ) → i ≡ instrs.Int n → ⊥) → ((b : Bool) → i ≡ instrs.Bool b → ⊥) → ((t : TextNumber) → i ≡ instrs.Text t → ⊥) → ((l : SymbolNumber) → i ≡ instrs.Enum l → ⊥) → (i ≡ instrs.Null → ⊥) → (i ≡ instrs.Invalid → ⊥) → ((a : SymbolNumber) → i ≡ instrs.Attr a → ⊥) → ((a : SymbolNumber) → i ≡ instrs.All a → ⊥) → ((c : CollectionKind) (k : WrittenScalar) → i ≡ instrs.AsColl c k → ⊥) → ((a : SymbolNumber) → i ≡ instrs.KindOf a → ⊥) → ((a : SymbolNumber) → i ≡ instrs.TypeOf a → ⊥) → ((a : SymbolNumber) → i ≡ instrs.AsType a → ⊥) → (i ≡ instrs.SubStr → ⊥) → ((k : WrittenScalar) → i ≡ instrs.AsSet k → ⊥) → shape_of i ≡ Single → TakesOne i ⊎ TakesTwo i
-alone instrs.SelfObject h1 h2 h3 h4 h5 h6 h7 h8 h9 h10 h11 h12 h13 h14 h15 h16 e = absurd (h1 refl)
-alone (instrs.Get n) h1 h2 h3 h4 h5 h6 h7 h8 h9 h10 h11 h12 h13 h14 h15 h16 e = absurd (h2 n refl)
-alone (instrs.Int n) h1 h2 h3 h4 h5 h6 h7 h8 h9 h10 h11 h12 h13 h14 h15 h16 e = absurd (h3 n refl)
-alone (instrs.Bool b) h1 h2 h3 h4 h5 h6 h7 h8 h9 h10 h11 h12 h13 h14 h15 h16 e = absurd (h4 b refl)
-alone (instrs.Text t) h1 h2 h3 h4 h5 h6 h7 h8 h9 h10 h11 h12 h13 h14 h15 h16 e = absurd (h5 t refl)
-alone (instrs.Enum l) h1 h2 h3 h4 h5 h6 h7 h8 h9 h10 h11 h12 h13 h14 h15 h16 e = absurd (h6 l refl)
-alone instrs.Null h1 h2 h3 h4 h5 h6 h7 h8 h9 h10 h11 h12 h13 h14 h15 h16 e = absurd (h7 refl)
-alone instrs.Invalid h1 h2 h3 h4 h5 h6 h7 h8 h9 h10 h11 h12 h13 h14 h15 h16 e = absurd (h8 refl)
-alone (instrs.Attr a) h1 h2 h3 h4 h5 h6 h7 h8 h9 h10 h11 h12 h13 h14 h15 h16 e = absurd (h9 a refl)
-alone (instrs.All a) h1 h2 h3 h4 h5 h6 h7 h8 h9 h10 h11 h12 h13 h14 h15 h16 e = absurd (h10 a refl)
-alone (instrs.AsColl c k) h1 h2 h3 h4 h5 h6 h7 h8 h9 h10 h11 h12 h13 h14 h15 h16 e = absurd (h11 c k refl)
-alone (instrs.KindOf a) h1 h2 h3 h4 h5 h6 h7 h8 h9 h10 h11 h12 h13 h14 h15 h16 e = absurd (h12 a refl)
-alone (instrs.TypeOf a) h1 h2 h3 h4 h5 h6 h7 h8 h9 h10 h11 h12 h13 h14 h15 h16 e = absurd (h13 a refl)
-alone (instrs.AsType a) h1 h2 h3 h4 h5 h6 h7 h8 h9 h10 h11 h12 h13 h14 h15 h16 e = absurd (h14 a refl)
-alone instrs.SubStr h1 h2 h3 h4 h5 h6 h7 h8 h9 h10 h11 h12 h13 h14 h15 h16 e = absurd (h15 refl)
-alone (instrs.AsSet k) h1 h2 h3 h4 h5 h6 h7 h8 h9 h10 h11 h12 h13 h14 h15 h16 e = absurd (h16 k refl)
-alone instrs.Neg h1 h2 h3 h4 h5 h6 h7 h8 h9 h10 h11 h12 h13 h14 h15 h16 e = inl tt
-alone instrs.Abs h1 h2 h3 h4 h5 h6 h7 h8 h9 h10 h11 h12 h13 h14 h15 h16 e = inl tt
-alone instrs.Not h1 h2 h3 h4 h5 h6 h7 h8 h9 h10 h11 h12 h13 h14 h15 h16 e = inl tt
-alone instrs.Undef h1 h2 h3 h4 h5 h6 h7 h8 h9 h10 h11 h12 h13 h14 h15 h16 e = inl tt
-alone instrs.IsInv h1 h2 h3 h4 h5 h6 h7 h8 h9 h10 h11 h12 h13 h14 h15 h16 e = inl tt
-alone instrs.TLen h1 h2 h3 h4 h5 h6 h7 h8 h9 h10 h11 h12 h13 h14 h15 h16 e = inl tt
-alone instrs.Size h1 h2 h3 h4 h5 h6 h7 h8 h9 h10 h11 h12 h13 h14 h15 h16 e = inl tt
-alone instrs.IsEmpty h1 h2 h3 h4 h5 h6 h7 h8 h9 h10 h11 h12 h13 h14 h15 h16 e = inl tt
-alone instrs.Sum h1 h2 h3 h4 h5 h6 h7 h8 h9 h10 h11 h12 h13 h14 h15 h16 e = inl tt
-alone (instrs.Let n) h1 h2 h3 h4 h5 h6 h7 h8 h9 h10 h11 h12 h13 h14 h15 h16 e = cc
-alone (instrs.If k n m) h1 h2 h3 h4 h5 h6 h7 h8 h9 h10 h11 h12 h13 h14 h15 h16 e = cc
-alone (instrs.ForAll n) h1 h2 h3 h4 h5 h6 h7 h8 h9 h10 h11 h12 h13 h14 h15 h16 e = cc
-alone (instrs.Exists n) h1 h2 h3 h4 h5 h6 h7 h8 h9 h10 h11 h12 h13 h14 h15 h16 e = cc
-alone (instrs.One n) h1 h2 h3 h4 h5 h6 h7 h8 h9 h10 h11 h12 h13 h14 h15 h16 e = cc
-alone (instrs.Select n) h1 h2 h3 h4 h5 h6 h7 h8 h9 h10 h11 h12 h13 h14 h15 h16 e = cc
-alone (instrs.Reject n) h1 h2 h3 h4 h5 h6 h7 h8 h9 h10 h11 h12 h13 h14 h15 h16 e = cc
-alone (instrs.Collect n) h1 h2 h3 h4 h5 h6 h7 h8 h9 h10 h11 h12 h13 h14 h15 h16 e = cc
-alone (instrs.CollectFlat n) h1 h2 h3 h4 h5 h6 h7 h8 h9 h10 h11 h12 h13 h14 h15 h16 e = cc
-alone (instrs.IsUnique k n) h1 h2 h3 h4 h5 h6 h7 h8 h9 h10 h11 h12 h13 h14 h15 h16 e = cc
-alone i h1 h2 h3 h4 h5 h6 h7 h8 h9 h10 h11 h12 h13 h14 h15 h16 e = inr tt
-
--- and its operands are there, where it can be carried out
-pub takes_there : (s : Setting) (l : Lists) (p vs os : List Slot) (i : Instr) → TakesOne i ⊎ TakesTwo i → CanPerform s l p vs os i → (TakesOne i × (0 < length os)) ⊎ (TakesTwo i × (1 < length os))
-takes_there s l p vs os i t h =
-    let there = operands_there s l p vs os i h in
-    ⊎_elim (λ o. inl (o, omega (arith, one_taken (judged_by s) i o, there))) (λ o. inr (o, omega (arith, two_taken (judged_by s) i o, there))) t
 
 -- two operands are there where two are taken, and not one
 pub two_there : (s : Setting) (l : Lists) (p vs os : List Slot) (i : Instr) → (TakesOne i → ⊥) → TakesOne i ⊎ TakesTwo i → CanPerform s l p vs os i → 1 < length os
@@ -258,13 +214,3 @@ variable_there s l p vs os i n same h =
     variable_found l p (length p) vs h.0 n h.2 (subst IsSome (same h.0 h.1) (parts_of s h.0 i h.1 h.4).gives)
 
 -- ---- names
-
--- the symbol that an instruction uses first names something
-pub first_named : (s : Setting) (l : Lists) (p vs os : List Slot) (i : Instr) (n : ℕ) (more : List ℕ) → symbols_used i ≡ n ∷ more → CanPerform s l p vs os i → IsSome (symbol_named s n)
-first_named s l p vs os i n more e h =
-    let names = ap (list_all (λ m. is_some (named_at s.population.model s.unit m))) (sym e) ∙ (parts_of s h.0 i h.1 h.4).names in
-    by_name (symbol_named s n) (and_parts (is_some (symbol_named s n)) (list_all (λ m. is_some (named_at s.population.model s.unit m)) more) names).0
-  where
-    by_name : (o : Option Named) → is_some o ≡ true → IsSome o
-    by_name (Some x) q = refl
-    by_name None q = cc

@@ -29,7 +29,8 @@ use Rattle.rule_verify.specs.declared.shape.Shape.TheVariants.{Single}
 use Rattle.rule_verify.specs.CodeTree.{shape_of}
 use Rattle.rule_verify.specs.Known.{IsKnownName}
 use Rattle.rule_verify.specs.Patterns.{matches, all_match, a_boolean, an_integer, a_string, an_object}
-use Rattle.rule_verify.specs.InstrKinds.{variable_at, owner_kind, class_kind, literal_kind, scalar_meant, kind_meant, feature_read}
+use Rattle.ocl_base.specs.Lists.{variable_at}
+use Rattle.rule_verify.specs.InstrKinds.{owner_kind, class_kind, literal_kind, scalar_meant, kind_meant, feature_read}
 use Rattle.rule_cost.specs.Bounds.{named_length, feature_length}
 use Rattle.rule_values.specs.Value as value
 use Rattle.rule_values.specs.Value.{Value, object_value, is_element_in, is_in}

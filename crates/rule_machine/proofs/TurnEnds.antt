@@ -26,6 +26,7 @@ use Rattle.rule_machine.specs.Counts.{LeavesOne}
 use Rattle.rule_slots.specs.Operands.{is_number}
 use Rattle.rule_machine.specs.StandFor.{TopStandsFor, IsAt, Between, kept_slots, gives_truths, count_passing, one_more_if, turn_after, TellsDistinct, ending_slot, gives_part, given_pool}
 use Rattle.rule_machine.proofs.Stacks.{all_vars, all_ops, ops_there, vars_there}
+use Rattle.rule_machine.proofs.Blocks.{one_bound}
 use Rattle.rule_machine.proofs.InstrSteps.{past}
 use Rattle.rule_slots.proofs.ForAbove.{element_next, is_cut, truth_by, invalid_by, truth_operand}
 use Rattle.rule_machine.proofs.MarkSteps.{Leaving, leaves, left_behind, turn_keeping, turns_end}
@@ -53,7 +54,7 @@ module _ (s : Setting) (l : Lists) (code : List Instr) (p : List Slot) where
     where
       by_pieces : (ps : List Piece) (vars ops : List Value) (v n : ℕ) → LeavesOne s ps v n → TopStandsFor s l code p v n (control.Turning t ∷ cs) [] os ps vars ops → ⊥
       by_pieces (Turning i body source left kept ∷ q) [] ops v n ends h =
-          omega (arith, ends.0, vars_there s l code p (length p) v n (control.Turning t ∷ cs) [] os (Turning i body source left kept ∷ q) [] ops h)
+          omega (arith, ends.0, one_bound i, vars_there s l code p (length p) v n (control.Turning t ∷ cs) [] os (Turning i body source left kept ∷ q) [] ops h)
       by_pieces (Turning i body source left kept ∷ q) (x ∷ vars) ops v n ends h = all_vars s l code p (length p) v n (control.Turning t ∷ cs) [] os (Turning i body source left kept ∷ q) (x ∷ vars) ops h
       by_pieces ps vars ops v n ends h = absurd h
   end_of at end t cs (o ∷ vs) [] c e h g =

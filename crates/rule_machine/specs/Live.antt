@@ -1,16 +1,17 @@
 -- Code with kinds, and configurations that can go on: what every run of accepted code keeps.
-use Rattle.std.specs.Prelude.{◌≡◌, ℕ, suc, ◌+◌, ◌*◌, ◌≤◌, Bool, true, false, List, [], ◌∷◌, ◌++◌, length, Some}
+use Rattle.std.specs.Prelude.{◌≡◌, ℕ, suc, ◌+◌, ◌*◌, ◌≤◌, Bool, true, false, List, [], ◌∷◌, ◌++◌, length, Option, Some, None}
 use Rattle.ocl_kinds.specs.Kinds.{fits}
 use Rattle.rule_code.specs.declared.instruction.Instr.{Instr}
-use Rattle.rule_code.specs.declared.instruction.Instr.TheVariants as instrs
 use Rattle.rule_code.specs.WellFormed.{InstrFits}
+use Rattle.rule_verify.specs.declared.block_instr.BlockInstr.{BlockInstr}
+use Rattle.rule_verify.specs.declared.block_instr.BlockInstr.TheVariants as blocks
 use Rattle.rule_verify.specs.declared.depths.Depths.{Depths}
 use Rattle.rule_verify.specs.CodeDepths.{deepest}
-use Rattle.rule_verify.specs.CodeTree.{CodeTree, End, Plain, Block, Branch, Torn, shape_of}
-use Rattle.rule_verify.specs.declared.shape.Shape.{Shape}
+use Rattle.rule_verify.specs.CodeTree.{CodeTree, End, Plain, Block, Branch, Torn, block_of, shape_of}
 use Rattle.rule_verify.specs.declared.shape.Shape.TheVariants.{Single, OneBody, TwoBodies}
 use Rattle.rule_verify.specs.Patterns.{matches, all_match, a_boolean}
-use Rattle.rule_verify.specs.InstrKinds.{has_names, has_variable, variable_at, operands_of, ends_with}
+use Rattle.ocl_base.specs.Lists.{variable_at}
+use Rattle.rule_verify.specs.InstrKinds.{has_names, has_variable, operands_of, ends_with}
 use Rattle.rule_cost.specs.Bounds.{extra_charge, taking_charge, ending_charge, block_charges}
 use Rattle.rule_values.specs.Value.{Element, Value}
 use Rattle.rule_values.specs.Endings.{Source}
@@ -45,13 +46,21 @@ abbrev pub HasBranches : Instr → Type 0
 HasBranches i = (n : ℕ) × (m : ℕ) × (shape_of i ≡ TwoBodies n m)
 
 -- a block with one body that is no LET
+abbrev pub block_is_iteration : Option BlockInstr → Bool
+block_is_iteration None = false
+block_is_iteration (Some (blocks.Let n)) = false
+block_is_iteration (Some (blocks.If k n m)) = false
+block_is_iteration (Some (blocks.ForAll n)) = true
+block_is_iteration (Some (blocks.Exists n)) = true
+block_is_iteration (Some (blocks.One n)) = true
+block_is_iteration (Some (blocks.Select n)) = true
+block_is_iteration (Some (blocks.Reject n)) = true
+block_is_iteration (Some (blocks.Collect n)) = true
+block_is_iteration (Some (blocks.CollectFlat n)) = true
+block_is_iteration (Some (blocks.IsUnique k n)) = true
+
 abbrev pub is_iteration : Instr → Bool
-is_iteration (instrs.Let n) = false
-is_iteration i = has_body (shape_of i)
-  where
-    has_body : Shape → Bool
-    has_body (OneBody n) = true
-    has_body shape = false
+is_iteration i = block_is_iteration (block_of i)
 
 -- the places of what a block and an IF give
 abbrev pub block_gives : Setting → Instr → CodeTree → List Place → Place → Place

@@ -7,14 +7,17 @@ use Rattle.imkl_population.specs.Population.{Population}
 use Rattle.rule_code.specs.declared.instruction.Instr.{Instr}
 use Rattle.rule_code.specs.declared.instruction.Instr.TheVariants as instrs
 use Rattle.rule_code.specs.Content.{Content, text_at}
+use Rattle.rule_verify.specs.declared.block_instr.BlockInstr.{BlockInstr}
+use Rattle.rule_verify.specs.declared.block_instr.BlockInstr.TheVariants as blocks
 use Rattle.rule_verify.specs.declared.named.Named.{Named}
 use Rattle.rule_verify.specs.declared.named.Named.TheVariants as named
 use Rattle.rule_verify.specs.declared.pattern.Pattern.{Pattern}
 use Rattle.rule_verify.specs.declared.pattern.Pattern.TheVariants.{Fitting, Anything, AnySingle, AnyCollection, CollectionOf}
 use Rattle.rule_verify.specs.Symbols.{named_at}
-use Rattle.rule_verify.specs.CodeTree.{CodeTree, End, Plain, Block, Branch, Torn}
+use Rattle.rule_verify.specs.CodeTree.{CodeTree, End, Plain, Block, Branch, Torn, block_of}
 use Rattle.rule_verify.specs.UnitRules.{unit_rule, context_class}
-use Rattle.rule_verify.specs.InstrKinds.{Surroundings, surroundings, has_names, operands_of, bound_count, ends_with, variable_at}
+use Rattle.ocl_base.specs.Lists.{variable_at}
+use Rattle.rule_verify.specs.InstrKinds.{Surroundings, surroundings, has_names, operands_of, bound_count, ends_with}
 use Rattle.rule_values.specs.Value as value
 use Rattle.rule_values.specs.Value.{Element, Value, is_in, is_collection_in, truth_value, object_value, element_value}
 use Rattle.rule_values.specs.Operations.{addition, subtraction, multiplication, division, remainder, lesser, greater, negative, absolute, less_than, at_most, negation, conjunction, disjunction, exclusive_disjunction, implication, equality, both_null, undefined_test, invalid_test, text_length, substring, kind_test, type_test, cast, value_read, all_instances, as_collection, collection_size, emptiness, membership, occurrence_count, inclusion, exclusion, summation, as_set}
@@ -180,18 +183,56 @@ opened_over i body value.Invalid kept ps vars os = Some (configuration (Skipped 
 opened_over i body v kept ps vars os = None
 
 -- LET binds the value that it takes; every other block with one body is an iteration
+abbrev pub block_opened_by : Option BlockInstr → Instr → CodeTree → Value → List Piece → List Value → List Value → Option Configuration
+block_opened_by None i body v ps vars left = opened_over i body v [] ps vars left
+block_opened_by (Some (blocks.Let n)) i body v ps vars left = Some (configuration (Sequence body ∷ LetEnd ∷ ps) (v ∷ vars) left)
+block_opened_by (Some (blocks.If k n m)) i body v ps vars left = opened_over i body v [] ps vars left
+block_opened_by (Some (blocks.ForAll n)) i body v ps vars left = opened_over i body v [] ps vars left
+block_opened_by (Some (blocks.Exists n)) i body v ps vars left = opened_over i body v [] ps vars left
+block_opened_by (Some (blocks.One n)) i body v ps vars left = opened_over i body v [] ps vars left
+block_opened_by (Some (blocks.Select n)) i body v ps vars left = opened_over i body v [] ps vars left
+block_opened_by (Some (blocks.Reject n)) i body v ps vars left = opened_over i body v [] ps vars left
+block_opened_by (Some (blocks.Collect n)) i body v ps vars left = opened_over i body v [] ps vars left
+block_opened_by (Some (blocks.CollectFlat n)) i body v ps vars left = opened_over i body v [] ps vars left
+block_opened_by (Some (blocks.IsUnique k n)) i body v ps vars left = opened_over i body v [] ps vars left
+
 abbrev pub block_opened : Instr → CodeTree → List Value → List Piece → List Value → List Value → Option Configuration
-block_opened (instrs.Let n) body (v ∷ os) ps vars left = Some (configuration (Sequence body ∷ LetEnd ∷ ps) (v ∷ vars) left)
-block_opened i body (v ∷ os) ps vars left = opened_over i body v [] ps vars left
 block_opened i body [] ps vars left = None
+block_opened i body (v ∷ os) ps vars left = block_opened_by (block_of i) i body v ps vars left
 
 -- what a turn binds, the newest first
+abbrev pub block_bound_values : Option BlockInstr → Element → List Value → List Value
+block_bound_values None e kept = element_value e ∷ []
+block_bound_values (Some (blocks.Let n)) e kept = element_value e ∷ []
+block_bound_values (Some (blocks.If k n m)) e kept = element_value e ∷ []
+block_bound_values (Some (blocks.ForAll n)) e kept = element_value e ∷ []
+block_bound_values (Some (blocks.Exists n)) e kept = element_value e ∷ []
+block_bound_values (Some (blocks.One n)) e kept = element_value e ∷ []
+block_bound_values (Some (blocks.Select n)) e kept = element_value e ∷ []
+block_bound_values (Some (blocks.Reject n)) e kept = element_value e ∷ []
+block_bound_values (Some (blocks.Collect n)) e kept = element_value e ∷ []
+block_bound_values (Some (blocks.CollectFlat n)) e kept = element_value e ∷ []
+block_bound_values (Some (blocks.IsUnique k n)) e kept = element_value e ∷ []
+
 abbrev pub bound_values : Instr → Element → List Value → List Value
-bound_values i e kept = element_value e ∷ []
+bound_values i e kept = block_bound_values (block_of i) e kept
 
 -- what is kept with the value that a body gave
+abbrev pub block_keeping : Option BlockInstr → List Value → Value → List Value
+block_keeping None kept v = kept ++ v ∷ []
+block_keeping (Some (blocks.Let n)) kept v = kept ++ v ∷ []
+block_keeping (Some (blocks.If k n m)) kept v = kept ++ v ∷ []
+block_keeping (Some (blocks.ForAll n)) kept v = kept ++ v ∷ []
+block_keeping (Some (blocks.Exists n)) kept v = kept ++ v ∷ []
+block_keeping (Some (blocks.One n)) kept v = kept ++ v ∷ []
+block_keeping (Some (blocks.Select n)) kept v = kept ++ v ∷ []
+block_keeping (Some (blocks.Reject n)) kept v = kept ++ v ∷ []
+block_keeping (Some (blocks.Collect n)) kept v = kept ++ v ∷ []
+block_keeping (Some (blocks.CollectFlat n)) kept v = kept ++ v ∷ []
+block_keeping (Some (blocks.IsUnique k n)) kept v = kept ++ v ∷ []
+
 abbrev pub keeping : Instr → List Value → Value → List Value
-keeping i kept v = kept ++ v ∷ []
+keeping i kept v = block_keeping (block_of i) kept v
 
 -- the next turn of an iteration binds the next element; with none left it ends
 abbrev pub turned : Instr → CodeTree → Source → List Element → List Value → List Piece → List Value → List Value → Configuration

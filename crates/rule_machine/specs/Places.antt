@@ -1,6 +1,6 @@
 -- Places along a run: of each variable and operand the kind that the rules of kinds give it, and the greatest length
 -- that a collection may have there.
-use Rattle.std.specs.Prelude.{◌≡◌, ℕ, zero, suc, ◌-◌, ◌≤◌, max, true, List, [], ◌∷◌, ◌++◌, length, drop, Option, Some, option_and_then}
+use Rattle.std.specs.Prelude.{◌≡◌, ℕ, zero, suc, ◌-◌, ◌≤◌, max, true, List, [], ◌∷◌, ◌++◌, length, drop, Option, Some, None, option_and_then}
 use Rattle.std.specs.List.{list_all}
 use Rattle.imkl_population.specs.Sizes.{Sizes, sizes_of}
 use Rattle.ocl_kinds.specs.declared.kind.Kind.{Kind}
@@ -8,8 +8,9 @@ use Rattle.ocl_kinds.specs.declared.kind.Kind.TheVariants as kind
 use Rattle.ocl_kinds.specs.declared.kind.ScalarKind.TheVariants as element
 use Rattle.ocl_kinds.specs.Kinds.{elements_kind}
 use Rattle.rule_code.specs.declared.instruction.Instr.{Instr}
-use Rattle.rule_code.specs.declared.instruction.Instr.TheVariants as instrs
-use Rattle.rule_verify.specs.CodeTree.{CodeTree, End, Plain, Block, Branch, Torn}
+use Rattle.rule_verify.specs.declared.block_instr.BlockInstr.{BlockInstr}
+use Rattle.rule_verify.specs.declared.block_instr.BlockInstr.TheVariants as blocks
+use Rattle.rule_verify.specs.CodeTree.{CodeTree, End, Plain, Block, Branch, Torn, block_of}
 use Rattle.rule_verify.specs.InstrKinds.{operands_of, scalar_meant, result_kind, operands_above, binds, yields}
 use Rattle.rule_cost.specs.Bounds.{length_given, lengths_bound_by, length_yielded}
 use Rattle.rule_values.specs.Value as value
@@ -120,10 +121,25 @@ now_at s (Turning i body source left kept ∷ q) (Iterating p r below ∷ ms) = 
 now_at s q (Iterating p r below ∷ ms) = below
 
 -- LET gives its body a variable that its end drops; an iteration stands below its source until it gives its result
-abbrev pub block_marked : Setting → Instr → CodeTree → List Place → Place → List Place → List Mark
-block_marked s (instrs.Let n) body vars p ps =
+abbrev pub iteration_mark : Setting → Instr → CodeTree → List Place → Place → List Place → List Mark
+iteration_mark s i body vars p ps = Iterating p (end_place s body (bound_by s i p ++ vars)) (stand vars ps) ∷ []
+
+abbrev pub block_marked_by : Setting → Option BlockInstr → Instr → CodeTree → List Place → Place → List Place → List Mark
+block_marked_by s None i body vars p ps = iteration_mark s i body vars p ps
+block_marked_by s (Some (blocks.Let n)) i body vars p ps =
     Here (stand (p ∷ vars) ps) ∷ Here (stand (p ∷ vars) (end_place s body (p ∷ vars) ∷ ps)) ∷ []
-block_marked s i body vars p ps = Iterating p (end_place s body (bound_by s i p ++ vars)) (stand vars ps) ∷ []
+block_marked_by s (Some (blocks.If k n m)) i body vars p ps = iteration_mark s i body vars p ps
+block_marked_by s (Some (blocks.ForAll n)) i body vars p ps = iteration_mark s i body vars p ps
+block_marked_by s (Some (blocks.Exists n)) i body vars p ps = iteration_mark s i body vars p ps
+block_marked_by s (Some (blocks.One n)) i body vars p ps = iteration_mark s i body vars p ps
+block_marked_by s (Some (blocks.Select n)) i body vars p ps = iteration_mark s i body vars p ps
+block_marked_by s (Some (blocks.Reject n)) i body vars p ps = iteration_mark s i body vars p ps
+block_marked_by s (Some (blocks.Collect n)) i body vars p ps = iteration_mark s i body vars p ps
+block_marked_by s (Some (blocks.CollectFlat n)) i body vars p ps = iteration_mark s i body vars p ps
+block_marked_by s (Some (blocks.IsUnique k n)) i body vars p ps = iteration_mark s i body vars p ps
+
+abbrev pub block_marked : Setting → Instr → CodeTree → List Place → Place → List Place → List Mark
+block_marked s i body vars p ps = block_marked_by s (block_of i) i body vars p ps
 
 -- the marks of what the first instruction of a sequence leaves, above those of the pieces below
 abbrev pub sequence_marked : Setting → CodeTree → List Place → List Place → List Mark → List Mark

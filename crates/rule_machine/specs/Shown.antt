@@ -1,10 +1,11 @@
 -- What the parts of a machine stand for, and what its steps keep.
-use Rattle.std.specs.Prelude.{◌≡◌, ◌⊎◌, ℕ, ◌+◌, ◌*◌, ◌<◌, ◌≤◌, true, List, [], ◌∷◌, length, map, nat_le, if◌then◌else◌, Option, Some, None}
+use Rattle.std.specs.Prelude.{◌≡◌, ◌⊎◌, ℕ, ◌+◌, ◌*◌, ◌<◌, ◌≤◌, true, List, [], ◌∷◌, length, map, nat_le, if◌then◌else◌, Option, Some, None, All}
 use Rattle.std.specs.List.{list_any}
 use Rattle.imkl_population.specs.FinishedPopulation.{FinishedPopulation}
 use Rattle.imkl_population.specs.declared.scalar.Scalar.TheVariants as scalar
 use Rattle.imkl_model.specs.ClassModel.{Model}
 use Rattle.rule_code.specs.Content.{Content}
+use Rattle.rule_code.specs.WellFormed.{InstrFits}
 use Rattle.rule_code.specs.declared.instruction.Instr.{Instr}
 use Rattle.rule_verify.specs.declared.depths.Depths.{Depths}
 use Rattle.rule_verify.specs.CodeTree.{code_tree}
@@ -40,9 +41,11 @@ lists_of u p = record { texts = u.texts; scalars = p.scalars; instances = p.inst
 abbrev pub task_lists : Task → Lists
 task_lists t = lists_of t.accepted.now.unit t.population.now
 
--- the rule is there, the population is of the class model, and the lists are those of the unit and the population
+-- the rule is there, its code is the one that is held, and the population is of the class model
 pub record IsTask (t : Task) : Type 0 where
   pub rule : t.rule < length t.accepted.now.unit.rules
+  pub code : t.code.now ≡ code_in t
+  pub fits : All (InstrFits (length t.accepted.now.unit.texts) t.accepted.now.unit.symbols) t.code.now
   pub one_model : t.population.now.content.model ≡ t.accepted.now.model
 
 -- ---- places

@@ -8,7 +8,9 @@ use Rattle.ocl_kinds.specs.declared.kind.ScalarKind.{ScalarKind}
 use Rattle.rule_code.specs.declared.kind.WrittenScalar.{WrittenScalar}
 use Rattle.rule_code.specs.declared.instruction.Instr.{Instr}
 use Rattle.rule_code.specs.declared.instruction.Instr.TheVariants as instrs
-use Rattle.rule_verify.specs.CodeTree.{CodeTree, code_tree}
+use Rattle.rule_verify.specs.declared.block_instr.BlockInstr.{BlockInstr}
+use Rattle.rule_verify.specs.declared.block_instr.BlockInstr.TheVariants as blocks
+use Rattle.rule_verify.specs.CodeTree.{CodeTree, block_of, code_tree}
 use Rattle.rule_verify.specs.InstrKinds.{ends_with, operands_of}
 use Rattle.rule_values.specs.Value.{Element, Value, as_element, same_element, is_element_in}
 use Rattle.rule_values.specs.Operations.{is_true, is_false, is_invalid}
@@ -28,13 +30,21 @@ use Rattle.rule_machine.specs.Counts.{Balanced, LeavesOne}
 -- ---- iterations
 
 -- what an iteration keeps in the pool of its elements and bodies so far
+abbrev pub block_kept_elements : Option BlockInstr → List Element → List Value → List Element
+block_kept_elements None es bs = []
+block_kept_elements (Some (blocks.Let n)) es bs = []
+block_kept_elements (Some (blocks.If k n m)) es bs = []
+block_kept_elements (Some (blocks.ForAll n)) es bs = []
+block_kept_elements (Some (blocks.Exists n)) es bs = []
+block_kept_elements (Some (blocks.One n)) es bs = []
+block_kept_elements (Some (blocks.Select n)) es bs = kept_by is_true es bs
+block_kept_elements (Some (blocks.Reject n)) es bs = kept_by is_false es bs
+block_kept_elements (Some (blocks.Collect n)) es bs = filter_map as_element bs
+block_kept_elements (Some (blocks.CollectFlat n)) es bs = joined bs
+block_kept_elements (Some (blocks.IsUnique k n)) es bs = filter_map as_element bs
+
 abbrev pub kept_elements : Instr → List Element → List Value → List Element
-kept_elements (instrs.Select n) es bs = kept_by is_true es bs
-kept_elements (instrs.Reject n) es bs = kept_by is_false es bs
-kept_elements (instrs.Collect n) es bs = filter_map as_element bs
-kept_elements (instrs.IsUnique k n) es bs = filter_map as_element bs
-kept_elements (instrs.CollectFlat n) es bs = joined bs
-kept_elements i es bs = []
+kept_elements i es bs = block_kept_elements (block_of i) es bs
 
 -- how many pass a test
 abbrev pub count_passing : (Value → Bool) → List Value → ℕ
@@ -42,13 +52,21 @@ count_passing p [] = 0
 count_passing p (b ∷ bs) = if p b then suc (count_passing p bs) else count_passing p bs
 
 -- the body of an iteration gives truth values
+abbrev pub block_gives_truths : Option BlockInstr → Bool
+block_gives_truths None = false
+block_gives_truths (Some (blocks.Let n)) = false
+block_gives_truths (Some (blocks.If k n m)) = false
+block_gives_truths (Some (blocks.ForAll n)) = true
+block_gives_truths (Some (blocks.Exists n)) = true
+block_gives_truths (Some (blocks.One n)) = true
+block_gives_truths (Some (blocks.Select n)) = true
+block_gives_truths (Some (blocks.Reject n)) = true
+block_gives_truths (Some (blocks.Collect n)) = false
+block_gives_truths (Some (blocks.CollectFlat n)) = false
+block_gives_truths (Some (blocks.IsUnique k n)) = false
+
 abbrev pub gives_truths : Instr → Bool
-gives_truths (instrs.ForAll n) = true
-gives_truths (instrs.Exists n) = true
-gives_truths (instrs.One n) = true
-gives_truths (instrs.Select n) = true
-gives_truths (instrs.Reject n) = true
-gives_truths i = false
+gives_truths i = block_gives_truths (block_of i)
 
 -- the iteration of a mark: its source lies below where the pool was opened, and what it keeps from there on
 pub record TurnIs (s : Setting) (l : Lists) (code : List Instr) (pool : List Slot) (hi : ℕ) (t : Turn) (i : Instr) (body : CodeTree) (source : Source) (left : List Element) (bodies : List Value) : Type 0 where
@@ -160,13 +178,21 @@ choice_slot s = if plain_mark s.mark then Some (int_eq s.number (pos 1)) else No
 -- ---- what iterations keep, and give
 
 -- the slots that a turn adds to what is kept, by its element and by what its body gave
+abbrev pub block_kept_slots : Lists → List Slot → Option BlockInstr → Slot → Slot → List Slot
+block_kept_slots l pool None e y = []
+block_kept_slots l pool (Some (blocks.Let n)) e y = []
+block_kept_slots l pool (Some (blocks.If k n m)) e y = []
+block_kept_slots l pool (Some (blocks.ForAll n)) e y = []
+block_kept_slots l pool (Some (blocks.Exists n)) e y = []
+block_kept_slots l pool (Some (blocks.One n)) e y = []
+block_kept_slots l pool (Some (blocks.Select n)) e y = if is_number y (pos 1) then e ∷ [] else []
+block_kept_slots l pool (Some (blocks.Reject n)) e y = if is_number y (pos 0) then e ∷ [] else []
+block_kept_slots l pool (Some (blocks.Collect n)) e y = if invalid_mark y.mark then [] else y ∷ []
+block_kept_slots l pool (Some (blocks.CollectFlat n)) e y = if invalid_mark y.mark then [] else held_slots l pool y
+block_kept_slots l pool (Some (blocks.IsUnique k n)) e y = if invalid_mark y.mark then [] else y ∷ []
+
 abbrev pub kept_slots : Lists → List Slot → Instr → Slot → Slot → List Slot
-kept_slots l pool (instrs.Select n) e y = if is_number y (pos 1) then e ∷ [] else []
-kept_slots l pool (instrs.Reject n) e y = if is_number y (pos 0) then e ∷ [] else []
-kept_slots l pool (instrs.Collect n) e y = if invalid_mark y.mark then [] else y ∷ []
-kept_slots l pool (instrs.IsUnique k n) e y = if invalid_mark y.mark then [] else y ∷ []
-kept_slots l pool (instrs.CollectFlat n) e y = if invalid_mark y.mark then [] else held_slots l pool y
-kept_slots l pool i e y = []
+kept_slots l pool i e y = block_kept_slots l pool (block_of i) e y
 
 -- An iteration between two turns: the pool is cut to what it keeps.
 pub record Between (s : Setting) (l : Lists) (code : List Instr) (p : List Slot) (t : Turn) (cs : List Control) (vs os : List Slot) (d : Configuration) : Type 0 where
@@ -202,9 +228,21 @@ TellsDistinct l pool t distinct =
     → PartIs l pool (length pool) (kept_part t) es → list_all (is_element_in p k) es ≡ true → distinct ≡ not (repeats same_element es)
 
 -- what an iteration gives is what it keeps
+abbrev pub block_gives_part : Option BlockInstr → Slot → Bool
+block_gives_part None s = plain_mark s.mark
+block_gives_part (Some (blocks.Let n)) s = plain_mark s.mark
+block_gives_part (Some (blocks.If k n m)) s = plain_mark s.mark
+block_gives_part (Some (blocks.ForAll n)) s = plain_mark s.mark
+block_gives_part (Some (blocks.Exists n)) s = plain_mark s.mark
+block_gives_part (Some (blocks.One n)) s = plain_mark s.mark
+block_gives_part (Some (blocks.Select n)) s = plain_mark s.mark
+block_gives_part (Some (blocks.Reject n)) s = plain_mark s.mark
+block_gives_part (Some (blocks.Collect n)) s = plain_mark s.mark
+block_gives_part (Some (blocks.CollectFlat n)) s = plain_mark s.mark
+block_gives_part (Some (blocks.IsUnique k n)) s = false
+
 abbrev pub gives_part : Instr → Slot → Bool
-gives_part (instrs.IsUnique k n) s = false
-gives_part i s = plain_mark s.mark
+gives_part i s = block_gives_part (block_of i) s
 
 -- the pool at its end: cut back to where it was opened, unless it gives what it keeps
 abbrev pub given_pool : Turn → Slot → List Slot → List Slot
@@ -215,16 +253,21 @@ abbrev pub slot_if : Bool → Slot → Slot
 slot_if b s = if b then s else invalid_slot
 
 -- what an iteration gives at its end, by whether no element that it keeps stands there twice
+abbrev pub block_ending_slot : Option BlockInstr → Turn → Bool → Slot
+block_ending_slot None t distinct = invalid_slot
+block_ending_slot (Some (blocks.Let n)) t distinct = invalid_slot
+block_ending_slot (Some (blocks.If k n m)) t distinct = invalid_slot
+block_ending_slot (Some (blocks.ForAll n)) t distinct = known_slot (t.trues == t.next) (nat_lt 0 t.falses)
+block_ending_slot (Some (blocks.Exists n)) t distinct = known_slot (nat_lt 0 t.trues) (t.falses == t.next)
+block_ending_slot (Some (blocks.One n)) t distinct = slot_if (all_decided t) (truth_slot (t.trues == 1))
+block_ending_slot (Some (blocks.Select n)) t distinct = slot_if (all_decided t) (kept_part t)
+block_ending_slot (Some (blocks.Reject n)) t distinct = slot_if (all_decided t) (kept_part t)
+block_ending_slot (Some (blocks.Collect n)) t distinct = slot_if (t.invalids == 0) (kept_part t)
+block_ending_slot (Some (blocks.CollectFlat n)) t distinct = slot_if (t.invalids == 0) (kept_part t)
+block_ending_slot (Some (blocks.IsUnique k n)) t distinct = slot_if (t.invalids == 0) (truth_slot distinct)
+
 abbrev pub ending_slot : Instr → Turn → Bool → Slot
-ending_slot (instrs.ForAll n) t distinct = known_slot (t.trues == t.next) (nat_lt 0 t.falses)
-ending_slot (instrs.Exists n) t distinct = known_slot (nat_lt 0 t.trues) (t.falses == t.next)
-ending_slot (instrs.One n) t distinct = slot_if (all_decided t) (truth_slot (t.trues == 1))
-ending_slot (instrs.Select n) t distinct = slot_if (all_decided t) (kept_part t)
-ending_slot (instrs.Reject n) t distinct = slot_if (all_decided t) (kept_part t)
-ending_slot (instrs.Collect n) t distinct = slot_if (t.invalids == 0) (kept_part t)
-ending_slot (instrs.CollectFlat n) t distinct = slot_if (t.invalids == 0) (kept_part t)
-ending_slot (instrs.IsUnique k n) t distinct = slot_if (t.invalids == 0) (truth_slot distinct)
-ending_slot i t distinct = invalid_slot
+ending_slot i t distinct = block_ending_slot (block_of i) t distinct
 
 -- what a slot says of the object of a rule that ends with it
 abbrev pub verdict_slot : Slot → Verdict

@@ -13,54 +13,57 @@ use rule_slots::{
     occurrence_count, remainder, subtraction, summation, text_length, undefined_test,
 };
 
-/// What an instruction makes of two operands, the second of which is the topmost.
-pub(crate) fn apply_two(task: Task<'_>, pool: &[Slot], instr: Instr, v: Slot, w: Slot) -> Slot
+/// What an instruction makes of two operands, the second of which is the topmost. (Both are read where they stand: a copy
+/// would be made at each step, whichever words the instruction needs.)
+#[inline(always)]
+pub(crate) fn apply_two(task: Task<'_>, pool: &[Slot], instr: Instr, v: &Slot, w: &Slot) -> Slot
     requires takes { TakesTwo instr }
-    requires can { CanTakeTwo (setting_in task) (task_lists task) pool.now instr v w }
-    ensures { GivesOfTwo (setting_in task.entry) (task_lists task.entry) pool.now instr v w result }
+    requires can { CanTakeTwo (setting_in task) (task_lists task) pool.now instr v.now w.now }
+    ensures { GivesOfTwo (setting_in task.entry) (task_lists task.entry) pool.now instr v.now w.now result }
 {
     match instr {
-        Instr::Add => addition(v, w),
-        Instr::Sub => subtraction(v, w),
-        Instr::Mul => multiplication(v, w),
-        Instr::Div => division(v, w),
-        Instr::Mod => remainder(v, w),
-        Instr::Min => lesser(v, w),
-        Instr::Max => greater(v, w),
-        Instr::Lt => less_than(v, w),
-        Instr::Le => at_most(v, w),
-        Instr::Gt => less_than(w, v),
-        Instr::Ge => at_most(w, v),
-        Instr::And => conjunction(v, w),
-        Instr::Or => disjunction(v, w),
-        Instr::Xor => exclusive_disjunction(v, w),
-        Instr::Implies => implication(v, w),
-        Instr::Eqx => both_null(v, w),
-        Instr::Eq(kind) => equality(task.lists(), pool, kind, v, w),
-        Instr::Includes(kind) => membership(task.lists(), pool, kind, v, w),
-        Instr::Count(kind) => occurrence_count(task.lists(), pool, kind, v, w),
-        Instr::IncAll(kind) => inclusion(task.lists(), pool, kind, v, w),
-        Instr::ExcAll(kind) => exclusion(task.lists(), pool, kind, v, w),
+        Instr::Add => addition(*v, *w),
+        Instr::Sub => subtraction(*v, *w),
+        Instr::Mul => multiplication(*v, *w),
+        Instr::Div => division(*v, *w),
+        Instr::Mod => remainder(*v, *w),
+        Instr::Min => lesser(*v, *w),
+        Instr::Max => greater(*v, *w),
+        Instr::Lt => less_than(*v, *w),
+        Instr::Le => at_most(*v, *w),
+        Instr::Gt => less_than(*w, *v),
+        Instr::Ge => at_most(*w, *v),
+        Instr::And => conjunction(*v, *w),
+        Instr::Or => disjunction(*v, *w),
+        Instr::Xor => exclusive_disjunction(*v, *w),
+        Instr::Implies => implication(*v, *w),
+        Instr::Eqx => both_null(*v, *w),
+        Instr::Eq(kind) => equality(task.lists(), pool, kind, *v, *w),
+        Instr::Includes(kind) => membership(task.lists(), pool, kind, *v, *w),
+        Instr::Count(kind) => occurrence_count(task.lists(), pool, kind, *v, *w),
+        Instr::IncAll(kind) => inclusion(task.lists(), pool, kind, *v, *w),
+        Instr::ExcAll(kind) => exclusion(task.lists(), pool, kind, *v, *w),
         _ => unreachable!(),
     }
 }
 
 /// What an instruction makes of one operand.
-pub(crate) fn apply_one(task: Task<'_>, pool: &[Slot], instr: Instr, v: Slot) -> Slot
+#[inline(always)]
+pub(crate) fn apply_one(task: Task<'_>, pool: &[Slot], instr: Instr, v: &Slot) -> Slot
     requires takes { TakesOne instr }
-    requires can { CanTakeOne (setting_in task) (task_lists task) pool.now instr v }
-    ensures { GivesOfOne (setting_in task.entry) (task_lists task.entry) pool.now instr v result }
+    requires can { CanTakeOne (setting_in task) (task_lists task) pool.now instr v.now }
+    ensures { GivesOfOne (setting_in task.entry) (task_lists task.entry) pool.now instr v.now result }
 {
     match instr {
-        Instr::Neg => negative(v),
-        Instr::Abs => absolute(v),
-        Instr::Not => negation(v),
-        Instr::Undef => undefined_test(v),
-        Instr::IsInv => invalid_test(v),
-        Instr::TLen => text_length(task.lists(), v),
-        Instr::Size => collection_size(v),
-        Instr::IsEmpty => emptiness(v),
-        Instr::Sum => summation(task.lists(), pool, v),
+        Instr::Neg => negative(*v),
+        Instr::Abs => absolute(*v),
+        Instr::Not => negation(*v),
+        Instr::Undef => undefined_test(*v),
+        Instr::IsInv => invalid_test(*v),
+        Instr::TLen => text_length(task.lists(), *v),
+        Instr::Size => collection_size(*v),
+        Instr::IsEmpty => emptiness(*v),
+        Instr::Sum => summation(task.lists(), pool, *v),
         _ => unreachable!(),
     }
 }

@@ -12,6 +12,7 @@ use crate::state::State;
 use crate::task::Task;
 use rule_code::{Instr, WrittenKind};
 use rule_slots::Slot;
+use rule_verify::{BlockInstr, block_of};
 
 impl State {
     /// The charge of the next step.
@@ -43,6 +44,7 @@ pub(crate) fn with_charge(count: u64, charge: u128) -> u64
 }
 
 /// The charge of the step of a mark.
+#[inline(always)]
 fn mark_charge(mark: Control, operands: &ReservedStack<Slot>) -> u128
     ensures { result ≡ min (mark_charge_by mark (slot_lengths operands.now.0)) (2 ^ 128 - 1) }
 {
@@ -59,6 +61,7 @@ fn mark_charge(mark: Control, operands: &ReservedStack<Slot>) -> u128
 }
 
 /// The length of a slot's collection, 0 of null and invalid.
+#[inline(always)]
 fn length_of(value: Slot) -> u64
     ensures { result ≡ slot_length value }
 {
@@ -115,9 +118,12 @@ fn extra_charge(operands: &ReservedStack<Slot>, instr: Instr) -> u128
 fn taking_charge(instr: Instr, length: u64) -> u128
     ensures { result ≡ bound.taking_charge instr length }
 {
-    match instr {
-        Instr::CollectFlat(_) => u128::from(length),
-        _ => 0,
+    match block_of(instr) {
+        Some(BlockInstr::CollectFlat(_)) => u128::from(length),
+        Some(BlockInstr::ForAll(_) | BlockInstr::Exists(_) | BlockInstr::One(_)) => 0,
+        Some(BlockInstr::Select(_) | BlockInstr::Reject(_) | BlockInstr::Collect(_)) => 0,
+        Some(BlockInstr::IsUnique(_, _)) => 0,
+        Some(BlockInstr::Let(_) | BlockInstr::If(_, _, _)) | None => 0,
     }
 }
 
@@ -126,8 +132,14 @@ fn taking_charge(instr: Instr, length: u64) -> u128
 fn turn_charge(instr: Instr, length: usize, taken: usize) -> u128
     ensures { result ≡ min (turn_charge_by instr length taken) (2 ^ 128 - 1) }
 {
-    match instr {
-        Instr::IsUnique(_, _) if length <= taken => product(length as u64, length as u64),
-        _ => 0,
+    if taken < length {
+        return 0;
+    }
+    match block_of(instr) {
+        Some(BlockInstr::IsUnique(_, _)) => product(length as u64, length as u64),
+        Some(BlockInstr::ForAll(_) | BlockInstr::Exists(_) | BlockInstr::One(_)) => 0,
+        Some(BlockInstr::Select(_) | BlockInstr::Reject(_)) => 0,
+        Some(BlockInstr::Collect(_) | BlockInstr::CollectFlat(_)) => 0,
+        Some(BlockInstr::Let(_) | BlockInstr::If(_, _, _)) | None => 0,
     }
 }

@@ -7,20 +7,25 @@ ghost use Rattle.rule_machine.specs.StandFor.{gives_truths, all_decided, kept_pa
 use crate::control::Turn;
 use rule_code::Instr;
 use rule_slots::{Slot, invalid_slot, is_false, is_true, known_slot, part_slot, truth_slot};
+use rule_verify::{BlockInstr, block_of};
 
 /// What an iteration gives at its end, by whether no element that it keeps stands there twice.
 pub(crate) fn ending(turn: Turn, distinct: bool) -> Slot
     requires { gives_truths turn.instr ≡ true → turn.trues + turn.falses < 2 ^ 64 }
     ensures { result ≡ ending_slot turn.instr turn distinct }
 {
-    match turn.instr {
-        Instr::ForAll(_) => known_slot(turn.trues == turn.next, 0 < turn.falses),
-        Instr::Exists(_) => known_slot(0 < turn.trues, turn.falses == turn.next),
-        Instr::One(_) => slot_if(all_decided(turn), truth_slot(turn.trues == 1)),
-        Instr::Select(_) | Instr::Reject(_) => slot_if(all_decided(turn), kept_part(turn)),
-        Instr::Collect(_) | Instr::CollectFlat(_) => slot_if(turn.invalids == 0, kept_part(turn)),
-        Instr::IsUnique(_, _) => slot_if(turn.invalids == 0, truth_slot(distinct)),
-        _ => invalid_slot(),
+    match block_of(turn.instr) {
+        Some(BlockInstr::ForAll(_)) => known_slot(turn.trues == turn.next, 0 < turn.falses),
+        Some(BlockInstr::Exists(_)) => known_slot(0 < turn.trues, turn.falses == turn.next),
+        Some(BlockInstr::One(_)) => slot_if(all_decided(turn), truth_slot(turn.trues == 1)),
+        Some(BlockInstr::Select(_) | BlockInstr::Reject(_)) => {
+            slot_if(all_decided(turn), kept_part(turn))
+        }
+        Some(BlockInstr::Collect(_) | BlockInstr::CollectFlat(_)) => {
+            slot_if(turn.invalids == 0, kept_part(turn))
+        }
+        Some(BlockInstr::IsUnique(_, _)) => slot_if(turn.invalids == 0, truth_slot(distinct)),
+        Some(BlockInstr::Let(_) | BlockInstr::If(_, _, _)) | None => invalid_slot(),
     }
 }
 
@@ -50,10 +55,12 @@ fn slot_if(known: bool, slot: Slot) -> Slot
 fn gives_truths(instr: Instr) -> bool
     ensures { result ≡ gives_truths instr }
 {
-    match instr {
-        Instr::ForAll(_) | Instr::Exists(_) | Instr::One(_) => true,
-        Instr::Select(_) | Instr::Reject(_) => true,
-        _ => false,
+    match block_of(instr) {
+        Some(BlockInstr::ForAll(_) | BlockInstr::Exists(_) | BlockInstr::One(_)) => true,
+        Some(BlockInstr::Select(_) | BlockInstr::Reject(_)) => true,
+        Some(BlockInstr::Collect(_) | BlockInstr::CollectFlat(_)) => false,
+        Some(BlockInstr::IsUnique(_, _)) => false,
+        Some(BlockInstr::Let(_) | BlockInstr::If(_, _, _)) | None => false,
     }
 }
 

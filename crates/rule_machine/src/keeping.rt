@@ -8,10 +8,11 @@ ghost use Rattle.rule_machine.specs.StandFor.{kept_slots};
 
 use crate::control::Turn;
 use crate::memory::OutOfMemory;
-use rule_code::Instr;
 use rule_slots::{Home, Lists, Slot, home_named, index_slot, is_false, is_true, scalar_slot};
+use rule_verify::{BlockInstr, block_of};
 
 /// Cuts the pool, and puts a slot at its end, if it is to be kept. Tells how many are put.
+#[inline(always)]
 fn keep_if(pool: &mut Vec<Slot>, at: usize, keep: bool, slot: Slot) -> Result<usize, OutOfMemory>
     requires { at ≤ length pool.old.items }
     ensures kept { OnOk result (pool.new.items ≡ take at pool.old.items ++
@@ -42,6 +43,7 @@ fn move_down(pool: &mut Vec<Slot>, at: usize, start: usize, count: usize)
 }
 
 /// Cuts the pool back, and keeps a part of itself from there on.
+#[inline(never)]
 fn keep_own(pool: &mut Vec<Slot>, at: usize, start: usize, count: usize) -> Result<(), OutOfMemory>
     requires at { at ≤ length pool.old.items }
     requires there { start + count ≤ length pool.old.items }
@@ -60,6 +62,7 @@ fn keep_own(pool: &mut Vec<Slot>, at: usize, start: usize, count: usize) -> Resu
 }
 
 /// Keeps a part of a list from a place of the pool on. Tells how many elements it has.
+#[inline(always)]
 fn keep_part(
     lists: Lists<'_>,
     pool: &mut Vec<Slot>,
@@ -85,6 +88,7 @@ fn keep_part(
 }
 
 /// Keeps values of the population.
+#[inline(never)]
 fn keep_scalars(
     lists: Lists<'_>,
     pool: &mut Vec<Slot>,
@@ -109,6 +113,7 @@ fn keep_scalars(
 }
 
 /// Keeps instances.
+#[inline(never)]
 fn keep_instances(
     lists: Lists<'_>,
     pool: &mut Vec<Slot>,
@@ -134,6 +139,7 @@ fn keep_instances(
 
 /// Cuts the pool back to what an iteration keeps, with what a turn adds to it. Tells how many are added. An iteration
 /// that gathers nothing takes no memory.
+#[inline(always)]
 pub(crate) fn keep(
     lists: Lists<'_>,
     pool: &mut Vec<Slot>,
@@ -152,20 +158,24 @@ pub(crate) fn keep(
     ensures spare { gathers turn.instr ≡ false → IsOk result }
 {
     let at = turn.opened + turn.kept;
-    match turn.instr {
-        Instr::Select(_) => keep_if(pool, at, is_true(value), element),
-        Instr::Reject(_) => keep_if(pool, at, is_false(value), element),
-        Instr::Collect(_) | Instr::IsUnique(_, _) => {
+    match block_of(turn.instr) {
+        Some(BlockInstr::Select(_)) => keep_if(pool, at, is_true(value), element),
+        Some(BlockInstr::Reject(_)) => keep_if(pool, at, is_false(value), element),
+        Some(BlockInstr::Collect(_) | BlockInstr::IsUnique(_, _)) => {
             keep_if(pool, at, !value.is_invalid(), value)
         }
-        Instr::CollectFlat(_) => {
+        Some(BlockInstr::CollectFlat(_)) => {
             if value.is_invalid() {
                 pool.truncate(at);
                 return Ok(0);
             }
             keep_part(lists, pool, at, value)
         }
-        _ => {
+        Some(BlockInstr::ForAll(_) | BlockInstr::Exists(_) | BlockInstr::One(_)) => {
+            pool.truncate(at);
+            Ok(0)
+        }
+        Some(BlockInstr::Let(_) | BlockInstr::If(_, _, _)) | None => {
             pool.truncate(at);
             Ok(0)
         }

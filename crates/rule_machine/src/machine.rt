@@ -92,7 +92,7 @@ impl<'a> Machine<'a> {
         ensures task { SameTask self.old self.new }
         ensures ran { Ran self.old grant result self.new }
         ensures spare { OnErr result (0 < grant) }
-        ensures free { (r o : ℕ) (c : Configuration) (k : ℕ) → Represents self.old r o c k →
+        ensures succeeds { (r o : ℕ) (c : Configuration) (k : ℕ) → Represents self.old r o c k →
             takes_memory (unit_rule self.old.unit r) ≡ false → IsOk result }
         ensures started { IsStarted self.new }
     {
@@ -114,7 +114,7 @@ impl<'a> Machine<'a> {
         ensures judged { Judged self.old rule object result self.new }
         ensures verdict { IfOk result (λ v. verdict_at self.old.unit self.old.population rule object
             ≡ Some v) }
-        ensures free { takes_memory (unit_rule self.old.unit rule) ≡ false → IsOk result }
+        ensures succeeds { takes_memory (unit_rule self.old.unit rule) ≡ false → IsOk result }
     {
         let task = self.task(rule);
         self.state.judge(task, object)
@@ -149,6 +149,7 @@ impl<'a> Machine<'a> {
             accepted: self.accepted,
             population: self.population,
             rule,
+            code: self.accepted.unit().rule(rule).code.as_slice(),
         }
     }
 }

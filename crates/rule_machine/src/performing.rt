@@ -6,7 +6,8 @@ ghost use Rattle.rule_code.specs.SymbolTag.{is_symbol_of};
 ghost use Rattle.rule_code.specs.declared.symbol.SymbolTag.TheVariants as tags;
 ghost use Rattle.rule_code.specs.WellFormed.{InstrFits};
 ghost use Rattle.rule_verify.specs.CodeTree.{shape_of};
-ghost use Rattle.rule_verify.specs.InstrKinds.{Surroundings, gathers, operands_of, variable_at};
+ghost use Rattle.ocl_base.specs.Lists.{variable_at};
+ghost use Rattle.rule_verify.specs.InstrKinds.{gathers};
 ghost use Rattle.rule_verify.specs.Known.{IsKnownName};
 ghost use Rattle.rule_verify.specs.declared.shape.Shape.TheVariants.{Single};
 ghost use Rattle.rule_values.specs.Value.{Value};
@@ -29,31 +30,34 @@ use rule_slots::{
     Lists, Slot, all_instances, as_collection, as_set, cast, index_slot, invalid_slot, kind_test,
     null_slot, number_slot, substring, truth_slot, type_test, unit_text, value_read,
 };
-use rule_verify::Named;
+use rule_verify::{Named, operand_count};
 
 /// The topmost operand.
-fn topmost(operands: &ReservedStack<Slot>) -> Slot
+#[inline(always)]
+fn topmost(operands: &ReservedStack<Slot>) -> &Slot
     requires { 0 < length operands.now.0 }
-    ensures { (rest : List Held) × (operands.now.0 ≡ result ∷ rest) }
+    ensures { (rest : List Held) × (operands.now.0 ≡ result.now ∷ rest) }
 {
     let Some(operand) = operands.top() else {
         unreachable!()
     };
-    *operand
+    operand
 }
 
 /// The operand below the `number` topmost ones.
-fn below(operands: &ReservedStack<Slot>, number: usize) -> Slot
+#[inline(always)]
+fn below(operands: &ReservedStack<Slot>, number: usize) -> &Slot
     requires { number < length operands.now.0 }
-    ensures { slice_get operands.now.0 number ≡ Some result }
+    ensures { slice_get operands.now.0 number ≡ Some result.now }
 {
     let Some(operand) = operands.from_top(number) else {
         unreachable!()
     };
-    *operand
+    operand
 }
 
 /// A variable.
+#[inline(always)]
 fn variable(variables: &ReservedStack<Slot>, number: usize) -> Slot
     requires { IsSome (variable_at variables.now.0 number) }
     ensures { variable_at variables.now.0 number ≡ Some result }
@@ -107,6 +111,7 @@ fn feature_named(task: Task<'_>, symbol: SymbolNumber) -> FeatureNo
 }
 
 /// The literal that a symbol names.
+#[inline(always)]
 fn literal_slot(task: Task<'_>, symbol: SymbolNumber) -> Slot
     requires task { IsTask task }
     requires tag { is_symbol_of tags.Literal task.accepted.now.unit.symbols symbol.0 ≡ true }
@@ -122,6 +127,7 @@ fn literal_slot(task: Task<'_>, symbol: SymbolNumber) -> Slot
 }
 
 /// The instances of a class.
+#[inline(always)]
 fn class_instances(task: Task<'_>, class: ClassNo) -> Slot
     requires { class < length task.population.now.content.model.classes }
     ensures { (pool : List Held) → SlotIs (task_lists task.entry) pool (length pool) result
@@ -135,6 +141,7 @@ fn class_instances(task: Task<'_>, class: ClassNo) -> Slot
 }
 
 /// A feature of an object; of null and invalid it is invalid.
+#[inline(always)]
 fn feature_read(task: Task<'_>, feature: FeatureNo, v: Slot) -> Slot
     requires feature { feature < length task.population.now.content.model.features }
     requires has { HasFeature task.population.now.content feature v }
@@ -151,6 +158,7 @@ fn feature_read(task: Task<'_>, feature: FeatureNo, v: Slot) -> Slot
 }
 
 /// What an instruction makes of operands alone.
+#[inline(always)]
 fn on_operands(task: Task<'_>, operands: &ReservedStack<Slot>, pool: &[Slot], instr: Instr) -> Slot
     requires takes { TakesOne instr ⊎ TakesTwo instr }
     requires can { (vars : List Held) × CanPerform (setting_in task) (task_lists task) pool.now vars
@@ -166,6 +174,7 @@ fn on_operands(task: Task<'_>, operands: &ReservedStack<Slot>, pool: &[Slot], in
 }
 
 /// What an instruction gives that gathers nothing.
+#[inline(always)]
 fn plain_result(
     task: Task<'_>,
     variables: &ReservedStack<Slot>,
@@ -193,27 +202,40 @@ fn plain_result(
         Instr::Null => null_slot(),
         Instr::Invalid => invalid_slot(),
         Instr::Attr(feature) => {
-            feature_read(task, feature_named(task, feature), topmost(operands))
+            feature_read(task, feature_named(task, feature), *topmost(operands))
         }
         Instr::All(class) => class_instances(task, class_named(task, class)),
         Instr::KindOf(class) => {
-            kind_test(task.population, class_named(task, class), topmost(operands))
+            kind_test(
+                task.population,
+                class_named(task, class),
+                *topmost(operands),
+            )
         }
         Instr::TypeOf(class) => {
-            type_test(task.population, class_named(task, class), topmost(operands))
+            type_test(
+                task.population,
+                class_named(task, class),
+                *topmost(operands),
+            )
         }
-        Instr::AsType(class) => cast(task.population, class_named(task, class), topmost(operands)),
+        Instr::AsType(class) => cast(
+            task.population,
+            class_named(task, class),
+            *topmost(operands),
+        ),
         Instr::SubStr => substring(
             task.lists(),
-            below(operands, 2),
-            below(operands, 1),
-            topmost(operands),
+            *below(operands, 2),
+            *below(operands, 1),
+            *topmost(operands),
         ),
         _ => on_operands(task, operands, pool, instr),
     }
 }
 
 /// What an instruction gives. Only what gathers puts something into the pool.
+#[inline(always)]
 fn result_of(
     task: Task<'_>,
     variables: &ReservedStack<Slot>,
@@ -236,29 +258,14 @@ fn result_of(
 {
     match instr {
         Instr::AsColl(_, _) => {
-            let made = as_collection(pool, topmost(operands))?;
+            let made = as_collection(pool, *topmost(operands))?;
             Ok(made)
         }
         Instr::AsSet(kind) => {
-            let made = as_set(task.lists(), pool, kind, topmost(operands))?;
+            let made = as_set(task.lists(), pool, kind, *topmost(operands))?;
             Ok(made)
         }
         _ => Ok(plain_result(task, variables, operands, pool, instr)),
-    }
-}
-
-/// How many operands an instruction without a body takes.
-fn operand_count(instr: Instr) -> usize
-    requires { shape_of instr ≡ Single }
-    ensures { (s : Surroundings) → result ≡ length (operands_of s instr) }
-{
-    match instr {
-        Instr::SelfObject | Instr::Get(_) | Instr::Int(_) | Instr::Bool(_) | Instr::Text(_) => 0,
-        Instr::Enum(_) | Instr::Null | Instr::Invalid | Instr::All(_) => 0,
-        Instr::Attr(_) | Instr::AsColl(_, _) | Instr::AsSet(_) => 1,
-        Instr::KindOf(_) | Instr::TypeOf(_) | Instr::AsType(_) => 1,
-        Instr::SubStr => 3,
-        _ => { if takes_one(instr) { 1 } else { 2 } }
     }
 }
 

@@ -26,7 +26,7 @@ impl State {
         requires room { HasRoomFor (depths_in task) self.old }
         ensures ran { Ran (seen_in task.entry self.old) grant result (seen_in task.entry self.new) }
         ensures spare { OnErr result (0 < grant) }
-        ensures free { takes_memory (unit_rule task.entry.accepted.now.unit task.entry.rule) ≡ false
+        ensures succeeds { takes_memory (unit_rule task.entry.accepted.now.unit task.entry.rule) ≡ false
             → IsOk result }
         ensures rule { IsTaskOf task.entry self.new }
         ensures stands { IsStarted (seen_in task.entry self.new) }
@@ -57,7 +57,7 @@ impl State {
             (seen_in task.entry self.new) }
         ensures verdict { IfOk result (λ v. verdict_at task.entry.accepted.now.unit
             task.entry.population.now.content task.entry.rule object ≡ Some v) }
-        ensures free { takes_memory (unit_rule task.entry.accepted.now.unit task.entry.rule) ≡ false
+        ensures succeeds { takes_memory (unit_rule task.entry.accepted.now.unit task.entry.rule) ≡ false
             → IsOk result }
         ensures room { SameRoom self.old self.new }
     {
@@ -82,7 +82,7 @@ impl State {
             (seen_in task.entry self.new) }
         ensures verdict { IfOk result (λ v. verdict_at task.entry.accepted.now.unit
             task.entry.population.now.content task.entry.rule object ≡ Some v) }
-        ensures free { takes_memory (unit_rule task.entry.accepted.now.unit task.entry.rule) ≡ false
+        ensures succeeds { takes_memory (unit_rule task.entry.accepted.now.unit task.entry.rule) ≡ false
             → IsOk result }
         ensures room { SameRoom self.old self.new }
     {

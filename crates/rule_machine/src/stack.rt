@@ -1,7 +1,7 @@
 //! Stacks that have their room before items are put on them.
 
 ghost use Rattle.std.specs.Prelude.{◌≡◌, ℕ, ◌+◌, ◌<◌, ◌≤◌, List, [], ◌∷◌, length, drop, reverse, slice_get, vec_capacity, OnOk, OnErr, MatchOption, None, Some};
-ghost use Rattle.rule_verify.specs.InstrKinds.{variable_at};
+ghost use Rattle.ocl_base.specs.Lists.{variable_at};
 
 use crate::memory::OutOfMemory;
 use std::alloc::Global;
@@ -41,6 +41,7 @@ impl<T: Drop> ReservedStack<T> {
     }
 
     /// Puts an item on top.
+    #[inline(always)]
     pub(crate) fn push(&mut self, item: T)
         requires { length self.old.0 < self.old.1 }
         ensures items { self.new.0 ≡ item ∷ self.old.0 }
@@ -50,6 +51,7 @@ impl<T: Drop> ReservedStack<T> {
     }
 
     /// Takes the topmost item.
+    #[inline(always)]
     pub(crate) fn pop(&mut self) -> Option<T>
         ensures items { MatchOption result ((self.old.0 ≡ []) × (self.new.0 ≡ []))
             (λ x. self.old.0 ≡ x ∷ self.new.0) }
@@ -59,6 +61,7 @@ impl<T: Drop> ReservedStack<T> {
     }
 
     /// Takes the `count` topmost items.
+    #[inline(always)]
     pub(crate) fn drop_top(&mut self, count: usize)
         ensures items { self.new.0 ≡ drop count self.old.0 }
         ensures room { self.new.1 ≡ self.old.1 }
@@ -77,6 +80,7 @@ impl<T: Drop> ReservedStack<T> {
     }
 
     /// The item of this number, where the lowest has number 0, if it is there.
+    #[inline(always)]
     pub(crate) fn from_bottom(&self, number: usize) -> Option<&T>
         ensures { MatchOption result (None ≡ variable_at self.now.0 number)
             (λ x. Some x.now ≡ variable_at self.now.0 number) }
@@ -89,6 +93,7 @@ impl<T: Drop> ReservedStack<T> {
     }
 
     /// The topmost item, if there is one.
+    #[inline(always)]
     pub(crate) fn top(&self) -> Option<&T>
         ensures { MatchOption result (self.now.0 ≡ [])
             (λ x. (below : List T) × (self.now.0 ≡ x.now ∷ below)) }
@@ -97,6 +102,7 @@ impl<T: Drop> ReservedStack<T> {
     }
 
     /// The item below the `number` topmost ones, if it is there.
+    #[inline(always)]
     pub(crate) fn from_top(&self, number: usize) -> Option<&T>
         ensures { MatchOption result (None ≡ slice_get self.now.0 number)
             (λ x. Some x.now ≡ slice_get self.now.0 number) }

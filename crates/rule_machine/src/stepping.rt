@@ -5,6 +5,7 @@ ghost use Rattle.rule_code.specs.WellFormed.{InstrFits};
 ghost use Rattle.rule_verify.specs.CodeTree.{shape_of};
 ghost use Rattle.rule_verify.specs.UnitRules.{unit_rule, takes_memory};
 ghost use Rattle.rule_verify.specs.declared.shape.Shape.TheVariants.{Single, OneBody, TwoBodies};
+ghost use Rattle.rule_machine.specs.Live.{is_iteration};
 ghost use Rattle.rule_machine.specs.StandFor.{choice_slot, opening_mark};
 ghost use Rattle.rule_machine.specs.Shown.{code_in, IsTask, LiesIn, HasStep, Room, Same, Stepped, IsAtFront};
 
@@ -15,7 +16,7 @@ use crate::state::State;
 use crate::task::Task;
 use rule_code::Instr;
 use rule_slots::{Slot, invalid_slot};
-use rule_verify::{Shape, shape_of};
+use rule_verify::{BlockInstr, Shape, block_of, shape_of};
 
 impl State {
     /// One step. Where memory runs out, the machine stands before it; a rule that gathers nothing takes none.
@@ -82,19 +83,16 @@ impl State {
             unreachable!()
         };
         self.controls.push(Control::Rest(after, self.end));
-        match instr {
-            Instr::Let(_) => {
-                self.variables.push(value);
-                self.controls.push(Control::LetEnd);
-                self.at = from;
-                self.end = after;
-            }
-            _ => {
-                let mark = opened(instr, from, after, value, self.pool.len());
-                self.controls.push(mark);
-                self.at = after;
-                self.end = after;
-            }
+        if is_iteration(instr) {
+            let mark = opened(instr, from, after, value, self.pool.len());
+            self.controls.push(mark);
+            self.at = after;
+            self.end = after;
+        } else {
+            self.variables.push(value);
+            self.controls.push(Control::LetEnd);
+            self.at = from;
+            self.end = after;
         }
     }
 
@@ -160,6 +158,19 @@ impl State {
         )?;
         self.at += 1;
         Ok(())
+    }
+}
+
+/// Whether a block with one body is an iteration; else it is a LET.
+fn is_iteration(instr: Instr) -> bool
+    ensures { result ≡ is_iteration instr }
+{
+    match block_of(instr) {
+        Some(BlockInstr::ForAll(_) | BlockInstr::Exists(_) | BlockInstr::One(_)) => true,
+        Some(BlockInstr::Select(_) | BlockInstr::Reject(_)) => true,
+        Some(BlockInstr::Collect(_) | BlockInstr::CollectFlat(_)) => true,
+        Some(BlockInstr::IsUnique(_, _)) => true,
+        Some(BlockInstr::Let(_) | BlockInstr::If(_, _, _)) | None => false,
     }
 }
 

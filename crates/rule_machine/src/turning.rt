@@ -16,6 +16,7 @@ use crate::state::State;
 use crate::task::Task;
 use rule_code::Instr;
 use rule_slots::{Slot, are_distinct, element, invalid_slot};
+use rule_verify::{BlockInstr, block_of};
 
 impl State {
     /// The step of the mark that comes after a sequence that is through. Where memory runs out, the machine stands
@@ -162,6 +163,7 @@ impl State {
     }
 
     /// From between two turns to the next turn, or to the end of the iteration.
+    #[inline(always)]
     fn go_on(&mut self, task: Task<'_>, turn: Turn)
         requires place { LiesIn task self.old }
         requires at_end { self.old.at ≡ self.old.end }
@@ -214,13 +216,19 @@ impl State {
 }
 
 /// Whether ISUNIQUE keeps no element twice; no other iteration asks for it.
+#[inline(always)]
 fn keeps_distinct(task: Task<'_>, pool: &[Slot], turn: Turn) -> bool
     requires { turn.opened + turn.kept ≤ length pool.now }
     ensures { TellsDistinct (task_lists task.entry) pool.now turn result }
 {
-    match turn.instr {
-        Instr::IsUnique(kind, _) => are_distinct(task.lists(), pool, kind, kept_part(turn)),
-        _ => false,
+    match block_of(turn.instr) {
+        Some(BlockInstr::IsUnique(kind, _)) => {
+            are_distinct(task.lists(), pool, kind, kept_part(turn))
+        }
+        Some(BlockInstr::ForAll(_) | BlockInstr::Exists(_) | BlockInstr::One(_)) => false,
+        Some(BlockInstr::Select(_) | BlockInstr::Reject(_)) => false,
+        Some(BlockInstr::Collect(_) | BlockInstr::CollectFlat(_)) => false,
+        Some(BlockInstr::Let(_) | BlockInstr::If(_, _, _)) | None => false,
     }
 }
 
@@ -237,8 +245,13 @@ fn cut_to_given(pool: &mut Vec<Slot>, turn: Turn, gives: Slot)
 fn gives_part(instr: Instr, gives: Slot) -> bool
     ensures { result ≡ gives_part instr gives }
 {
-    match instr {
-        Instr::IsUnique(_, _) => false,
-        _ => gives.is_plain(),
+    match block_of(instr) {
+        Some(BlockInstr::IsUnique(_, _)) => false,
+        Some(BlockInstr::ForAll(_) | BlockInstr::Exists(_) | BlockInstr::One(_)) => {
+            gives.is_plain()
+        }
+        Some(BlockInstr::Select(_) | BlockInstr::Reject(_)) => gives.is_plain(),
+        Some(BlockInstr::Collect(_) | BlockInstr::CollectFlat(_)) => gives.is_plain(),
+        Some(BlockInstr::Let(_) | BlockInstr::If(_, _, _)) | None => gives.is_plain(),
     }
 }

@@ -122,10 +122,6 @@ module _ (l : Lists) (p : Population) (w : WrittenScalar) (k : ScalarKind) (c : 
   slots_same a b (Some v) (Some u) h g i j =
       ap (λ m. same_marked m b.mark (same_words l w a b)) h.0 ∙ ap (λ m. same_marked mark.Plain m (same_words l w a b)) g.0 ∙ words_same l p w k c a b v u h.1 g.1 i j
 
-  -- slots stand for elements of the kind
-  abbrev pub Hold : List Slot → List Element → Type 0
-  Hold ss es = ElementsAre l ss es × (list_all (is_element_in p k) es ≡ true)
-
   -- a test of all slots is one of all elements
   pub all_same : (P : Slot → Bool) (Q : Element → Bool) → ((s : Slot) (e : Element) → ElementIs l s e → is_element_in p k e ≡ true → P s ≡ Q e) → (ss : List Slot) (es : List Element) → ElementsAre l ss es → list_all (is_element_in p k) es ≡ true → list_all P ss ≡ list_all Q es
   all_same P Q agree [] [] h i = refl

@@ -6,9 +6,9 @@ use Rattle.imkl_population.specs.declared.scalar.Scalar.TheVariants as scalar
 use Rattle.imkl_population.specs.Values.{is_integer}
 use Rattle.rule_values.specs.Value as value
 use Rattle.rule_values.specs.Value.{Value, truth_value}
-use Rattle.rule_values.specs.Operations.{on_integers, on_integer, integer_value, collection_size, emptiness, is_true, is_false, is_invalid, is_null, truth_known}
+use Rattle.rule_values.specs.Operations.{on_integers, on_integer, integer_value, collection_size, emptiness, is_true, is_false, is_invalid, truth_known}
 use Rattle.rule_slots.specs.declared.slot.Slot.{Slot}
-use Rattle.rule_slots.specs.Slots.{Lists, SlotIs, plain_mark, null_mark, invalid_mark, number_slot, truth_slot, invalid_slot}
+use Rattle.rule_slots.specs.Slots.{Lists, SlotIs, plain_mark, invalid_mark, number_slot, truth_slot, invalid_slot}
 use Rattle.rule_slots.specs.Operands.{MakesOfOne, MakesOfTwo, is_number_operand, is_truth_operand, is_many_operand, if_plain, if_both_plain, integer_slot, is_number, known_slot}
 use Rattle.rule_slots.proofs.Stood.{as_many}
 
@@ -104,16 +104,6 @@ known_is l p hi false true false true e f = (refl, refl)
 known_is l p hi false false false false e f = refl
 known_is l p hi a b a' b' e f = cc
 
--- what a known test makes of two truth values
-pub truths_made : (f g : Bool → Bool → Bool → Bool → Bool) (x y r : Slot)
-    → r ≡ known_slot (f (is_number x (pos 1)) (is_number x (pos 0)) (is_number y (pos 1)) (is_number y (pos 0))) (g (is_number x (pos 1)) (is_number x (pos 0)) (is_number y (pos 1)) (is_number y (pos 0))) → (l : Lists) (p : List Slot)
-    → MakesOfTwo l p is_truth_operand is_truth_operand (λ v w. truth_known (f (is_true v) (is_false v) (is_true w) (is_false w)) (g (is_true v) (is_false v) (is_true w) (is_false w))) x y r
-truths_made f g x y r e l p v w h k i j =
-    let a = truth_by l p (length p) x v h i in
-    let b = truth_by l p (length p) y w k j in
-    let same = λ (t : Bool → Bool → Bool → Bool → Bool). ap (λ z. t z (is_number x (pos 0)) (is_number y (pos 1)) (is_number y (pos 0))) a.0 ∙ ap (λ z. t (is_true v) z (is_number y (pos 1)) (is_number y (pos 0))) a.1 ∙ ap (λ z. t (is_true v) (is_false v) z (is_number y (pos 0))) b.0 ∙ ap (t (is_true v) (is_false v) (is_true w)) b.1 in
-    subst (λ z. SlotIs l p (length p) z (truth_known (f (is_true v) (is_false v) (is_true w) (is_false w)) (g (is_true v) (is_false v) (is_true w) (is_false w)))) (sym e) (known_is l p (length p) _ _ _ _ (same f) (same g))
-
 -- ---- marks
 
 -- a slot's mark tells whether its value is invalid
@@ -122,13 +112,6 @@ invalid_by l p hi y value.Invalid h = ap invalid_mark h
 invalid_by l p hi y value.Null h = ap invalid_mark h
 invalid_by l p hi y (value.Single v) h = ap invalid_mark h.0
 invalid_by l p hi y (value.Collection c es) h = ap invalid_mark h.0
-
--- and whether it is null
-pub null_by : (l : Lists) (p : List Slot) (hi : ℕ) (y : Slot) (b : Value) → SlotIs l p hi y b → null_mark y.mark ≡ is_null b
-null_by l p hi y value.Invalid h = ap null_mark h
-null_by l p hi y value.Null h = ap null_mark h
-null_by l p hi y (value.Single v) h = ap null_mark h.0
-null_by l p hi y (value.Collection c es) h = ap null_mark h.0
 
 -- a truth value is the one that is meant
 pub truth_is : (l : Lists) (p : List Slot) (hi : ℕ) (a b : Bool) → a ≡ b → SlotIs l p hi (truth_slot a) (truth_value b)

@@ -1,7 +1,6 @@
 -- What operands are, by the kinds that they are in, and what that says of their slots.
-use Rattle.std.proofs.Common.{◌≡◌, ℕ, ◌<◌, Bool, true, false, List, length, Some, None, refl, sym, ap, ◌∙◌, subst}
+use Rattle.std.proofs.Common.{◌≡◌, ℕ, Bool, true, false, List, Some, None, refl, sym, ap, ◌∙◌, subst}
 use Rattle.std.specs.Prelude.{if◌then◌else◌}
-use Rattle.std.proofs.lemmas.Bool.{and_parts, ltb-true}
 use Rattle.std.proofs.lemmas.Option.{same_Some}
 use Rattle.imkl_model.specs.ClassModel.{belongs, feature_at}
 use Rattle.imkl_population.specs.Population.{Population, class_of, values_of}
@@ -19,7 +18,7 @@ use Rattle.rule_slots.specs.declared.slot.Mark.{Mark}
 use Rattle.rule_slots.specs.declared.slot.Mark.TheVariants as mark
 use Rattle.rule_slots.specs.declared.slot.Slot.{Slot}
 use Rattle.rule_slots.specs.Slots.{Lists, SlotIs, LiesInHome, plain_mark}
-use Rattle.rule_slots.specs.Operands.{is_truth_operand, is_number_operand, is_text_operand, is_object_operand, is_single_operand, is_many_operand, is_elements_operand, IsObjectOf, HasFeature}
+use Rattle.rule_slots.specs.Operands.{is_truth_operand, is_number_operand, is_text_operand, is_many_operand, is_elements_operand}
 use Rattle.rule_slots.specs.Compared.{covers_kind, ComparesWithin}
 
 -- ---- operands in kinds
@@ -44,20 +43,6 @@ text_operand p (value.Single (scalar.Text t)) e = refl
 text_operand p value.Null e = refl
 text_operand p value.Invalid e = refl
 text_operand p v e = cc
-
--- an object
-pub object_operand : (p : Population) (v : Value) → is_in p v (kind.Scalar element.AnyObject) ≡ true → is_object_operand v ≡ true
-object_operand p (value.Single (scalar.Object o)) e = refl
-object_operand p value.Null e = refl
-object_operand p value.Invalid e = refl
-object_operand p v e = cc
-
--- a single value
-pub single_operand : (p : Population) (k : ScalarKind) (v : Value) → is_in p v (kind.Scalar k) ≡ true → is_single_operand v ≡ true
-single_operand p k (value.Single v) e = refl
-single_operand p k value.Null e = refl
-single_operand p k value.Invalid e = refl
-single_operand p k (value.Collection c es) e = cc
 
 -- a collection
 pub many_operand : (p : Population) (k : ScalarKind) (v : Value) → is_elements_operand p k v ≡ true → is_many_operand v ≡ true
@@ -97,26 +82,6 @@ compares_within l p pool hi (kinds.Scalar w) k c x v h i = tt
 compares_within l p pool hi (kinds.Collection d w) (kind.Collection e k) c x (value.Collection f es) h i = λ plain. h.1.within
 compares_within l p pool hi (kinds.Collection d w) (kind.Collection e k) c x value.Invalid h i = λ plain. undefined x.mark mark.Invalid h refl plain
 compares_within l p pool hi (kinds.Collection d w) k c x v h i = cc
-
--- an object is of the population
-pub object_there : (l : Lists) (p : Population) (pool : List Slot) (hi : ℕ) (x : Slot) (v : Value) → SlotIs l pool hi x v → is_in p v (kind.Scalar element.AnyObject) ≡ true → IsObjectOf p x
-object_there l p pool hi x (value.Single (scalar.Object o)) h e plain = subst (λ n. n < length p.objects) (sym h.1) (ltb-true o (length p.objects) e)
-object_there l p pool hi x value.Null h e plain = undefined x.mark mark.Null h refl plain
-object_there l p pool hi x value.Invalid h e plain = undefined x.mark mark.Invalid h refl plain
-object_there l p pool hi x v h e plain = cc
-
--- an object that a feature is read of has it
-pub has_feature : (l : Lists) (p : Population) (pool : List Slot) (hi : ℕ) (c f : ℕ) (x : Slot) (v r : Value) → SlotIs l pool hi x v → is_in p v (kind.Scalar (element.Class c)) ≡ true → value_read p f v ≡ Some r → HasFeature p f x
-has_feature l p pool hi c f x (value.Single (scalar.Object o)) r h e g plain =
-    let there = ltb-true o (length p.objects) (and_parts _ _ e).0 in
-    subst (λ n. (n < length p.objects) × (belongs p.model (class_of p n) f ≡ true)) (sym h.1) (there, by_test (belongs p.model (class_of p o) f) g)
-  where
-    by_test : (b : Bool) → (if b then Some (feature_value (feature_at p.model f) (values_of p o f)) else None) ≡ Some r → b ≡ true
-    by_test true q = refl
-    by_test false q = cc
-has_feature l p pool hi c f x value.Null r h e g plain = undefined x.mark mark.Null h refl plain
-has_feature l p pool hi c f x value.Invalid r h e g plain = undefined x.mark mark.Invalid h refl plain
-has_feature l p pool hi c f x v r h e g plain = cc
 
 -- what is read of a feature of an object
 pub read_is : (l : Lists) (p : Population) (pool : List Slot) (hi f : ℕ) (s made : Slot) → plain_mark s.mark ≡ true → SlotIs l pool hi made (feature_value (feature_at p.model f) (values_of p s.index f))

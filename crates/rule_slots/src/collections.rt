@@ -44,6 +44,7 @@ pub fn emptiness(v: Slot) -> Slot
 }
 
 /// Whether an element is in a collection.
+#[inline(always)]
 pub fn membership(lists: Lists<'_>, pool: &[Slot], kind: WrittenScalar, v: Slot, w: Slot) -> Slot
     requires { LiesInHome (lists_in lists) (length pool.now) v }
     ensures { (p : Population) (k : ScalarKind) → covers kind k ≡ true →
@@ -58,6 +59,7 @@ pub fn membership(lists: Lists<'_>, pool: &[Slot], kind: WrittenScalar, v: Slot,
 }
 
 /// How often an element is in a collection.
+#[inline(always)]
 pub fn occurrence_count(
     lists: Lists<'_>,
     pool: &[Slot],
@@ -78,6 +80,7 @@ pub fn occurrence_count(
 }
 
 /// Whether each element of the second collection is in the first.
+#[inline(always)]
 pub fn inclusion(lists: Lists<'_>, pool: &[Slot], kind: WrittenScalar, v: Slot, w: Slot) -> Slot
     requires source { LiesInHome (lists_in lists) (length pool.now) v }
     requires others { LiesInHome (lists_in lists) (length pool.now) w }
@@ -93,6 +96,7 @@ pub fn inclusion(lists: Lists<'_>, pool: &[Slot], kind: WrittenScalar, v: Slot, 
 }
 
 /// Whether no element of the second collection is in the first.
+#[inline(always)]
 pub fn exclusion(lists: Lists<'_>, pool: &[Slot], kind: WrittenScalar, v: Slot, w: Slot) -> Slot
     requires source { LiesInHome (lists_in lists) (length pool.now) v }
     requires others { LiesInHome (lists_in lists) (length pool.now) w }

@@ -17,6 +17,7 @@ use ocl_base::CollectionKind;
 use rule_code::{WrittenKind, WrittenScalar};
 
 /// Whether each element of the first collection stands as often in the second.
+#[inline(never)]
 fn stand_as_often(
     lists: Lists<'_>,
     pool: &[Slot],
@@ -42,6 +43,7 @@ fn stand_as_often(
 }
 
 /// Whether two collections are the same, one by one.
+#[inline(never)]
 fn pairwise_same(
     lists: Lists<'_>,
     pool: &[Slot],
@@ -70,6 +72,7 @@ fn pairwise_same(
 
 /// Whether the elements of two collections of one kind are the same: Sets by members, Bags by counts, the ordered ones
 /// by list.
+#[inline(always)]
 fn same_collections(
     lists: Lists<'_>,
     pool: &[Slot],
@@ -99,6 +102,7 @@ fn same_collections(
 }
 
 /// Whether two values of one kind, of which none is invalid, are the same.
+#[inline(always)]
 fn same_values(lists: Lists<'_>, pool: &[Slot], kind: WrittenKind, v: Slot, w: Slot) -> bool
     requires left { ComparesWithin (lists_in lists) (length pool.now) kind v }
     requires right { ComparesWithin (lists_in lists) (length pool.now) kind w }
@@ -113,6 +117,7 @@ fn same_values(lists: Lists<'_>, pool: &[Slot], kind: WrittenKind, v: Slot, w: S
 }
 
 /// Whether two values of one kind are equal; invalid where one is invalid.
+#[inline(always)]
 pub fn equality(lists: Lists<'_>, pool: &[Slot], kind: WrittenKind, v: Slot, w: Slot) -> Slot
     requires left { ComparesWithin (lists_in lists) (length pool.now) kind v }
     requires right { ComparesWithin (lists_in lists) (length pool.now) kind w }

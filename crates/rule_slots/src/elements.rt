@@ -13,6 +13,7 @@ use crate::texts::slot_bytes;
 use rule_code::WrittenScalar;
 
 /// Whether the texts of two slots are the same.
+#[inline(always)]
 fn same_text(lists: Lists<'_>, a: Slot, b: Slot) -> bool
     ensures { result ≡ bytes_eq (slot_bytes (lists_in lists.entry) a)
         (slot_bytes (lists_in lists.entry) b) }
@@ -21,6 +22,7 @@ fn same_text(lists: Lists<'_>, a: Slot, b: Slot) -> bool
 }
 
 /// Whether two slots that have values of a kind are the same.
+#[inline(always)]
 fn same_words(lists: Lists<'_>, kind: WrittenScalar, a: Slot, b: Slot) -> bool
     ensures { result ≡ same_words (lists_in lists.entry) kind a b }
 {
@@ -36,6 +38,7 @@ fn same_words(lists: Lists<'_>, kind: WrittenScalar, a: Slot, b: Slot) -> bool
 }
 
 /// Whether two elements of a kind are the same.
+#[inline(always)]
 pub(crate) fn same_slots(lists: Lists<'_>, kind: WrittenScalar, a: Slot, b: Slot) -> bool
     ensures { result ≡ same_slots (lists_in lists.entry) kind a b }
 {
@@ -47,6 +50,7 @@ pub(crate) fn same_slots(lists: Lists<'_>, kind: WrittenScalar, a: Slot, b: Slot
 }
 
 /// Whether an element is one of a collection from an index on.
+#[inline(never)]
 pub(crate) fn is_among_from(
     lists: Lists<'_>,
     pool: &[Slot],
@@ -83,6 +87,7 @@ pub(crate) fn is_slot_among(
 }
 
 /// How often an element stands in a collection.
+#[inline(never)]
 pub(crate) fn times_among(
     lists: Lists<'_>,
     pool: &[Slot],
@@ -104,6 +109,7 @@ pub(crate) fn times_among(
 }
 
 /// Whether each element of the second collection is one of the first.
+#[inline(never)]
 pub(crate) fn are_all_among(
     lists: Lists<'_>,
     pool: &[Slot],
@@ -132,6 +138,7 @@ pub(crate) fn are_all_among(
 }
 
 /// Whether an element of the second collection is one of the first.
+#[inline(never)]
 pub(crate) fn is_any_among(
     lists: Lists<'_>,
     pool: &[Slot],
@@ -160,6 +167,7 @@ pub(crate) fn is_any_among(
 }
 
 /// Whether an element stands twice in a collection.
+#[inline(never)]
 pub(crate) fn repeats_slot(
     lists: Lists<'_>,
     pool: &[Slot],

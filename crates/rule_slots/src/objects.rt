@@ -26,6 +26,7 @@ fn object(population: &Population<'_>, v: Slot) -> ObjectNo
 }
 
 /// Whether an object's class is a class or a subclass of it.
+#[inline(always)]
 pub fn kind_test(population: &Population<'_>, class: ClassNo, v: Slot) -> Slot
     requires class { class < length population.now.content.model.classes }
     requires object { IsObjectOf population.now.content v }
@@ -41,6 +42,7 @@ pub fn kind_test(population: &Population<'_>, class: ClassNo, v: Slot) -> Slot
 }
 
 /// Whether an object's class is a class itself.
+#[inline(always)]
 pub fn type_test(population: &Population<'_>, class: ClassNo, v: Slot) -> Slot
     requires object { IsObjectOf population.now.content v }
     ensures { (l : Indexed) (pool : List Held) →
@@ -55,6 +57,7 @@ pub fn type_test(population: &Population<'_>, class: ClassNo, v: Slot) -> Slot
 }
 
 /// The object, invalid where it isn't of a class.
+#[inline(always)]
 pub fn cast(population: &Population<'_>, class: ClassNo, v: Slot) -> Slot
     requires class { class < length population.now.content.model.classes }
     requires object { IsObjectOf population.now.content v }
@@ -74,6 +77,7 @@ pub fn cast(population: &Population<'_>, class: ClassNo, v: Slot) -> Slot
 }
 
 /// The value of a feature: the value itself where its upper bound is 1, null where there is none; else a collection.
+#[inline(always)]
 fn feature_value(lists: Lists<'_>, object: ObjectNo, feature: FeatureNo) -> Slot
     requires object { object < length lists.population.now.content.objects }
     requires feature { feature < length lists.population.now.content.model.features }
@@ -95,6 +99,7 @@ fn feature_value(lists: Lists<'_>, object: ObjectNo, feature: FeatureNo) -> Slot
 }
 
 /// A feature of an object; of null and invalid it is invalid.
+#[inline(always)]
 pub fn value_read(lists: Lists<'_>, feature: FeatureNo, v: Slot) -> Slot
     requires feature { feature < length lists.population.now.content.model.features }
     requires has { HasFeature lists.population.now.content feature v }
@@ -110,6 +115,7 @@ pub fn value_read(lists: Lists<'_>, feature: FeatureNo, v: Slot) -> Slot
 }
 
 /// The Set of a class's instances.
+#[inline(always)]
 pub fn all_instances(lists: Lists<'_>, class: ClassNo) -> Slot
     requires { class < length lists.population.now.content.model.classes }
     ensures { (pool : List Held) → SlotIs (lists_in lists.entry) pool (length pool) result

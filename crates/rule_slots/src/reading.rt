@@ -16,6 +16,7 @@ fn whole_text(index: usize, text: &ScalarText) -> Slot
 }
 
 /// A value of the population, which has this index.
+#[inline(always)]
 pub fn scalar_slot(index: usize, scalar: &Scalar) -> Slot
     ensures { result ≡ scalar_slot index scalar.now }
 {
@@ -29,6 +30,7 @@ pub fn scalar_slot(index: usize, scalar: &Scalar) -> Slot
 }
 
 /// An element of a collection.
+#[inline(always)]
 pub fn element(lists: Lists<'_>, pool: &[Slot], source: Slot, index: usize) -> Slot
     requires index { index < source.count }
     requires within { IsInHome (lists_in lists) (length pool.now) source }

@@ -21,6 +21,7 @@ use rule_code::WrittenScalar;
 use std::alloc::AllocError;
 
 /// A collection of the one value; of null it is empty.
+#[inline(always)]
 pub fn as_collection(pool: &mut Vec<Slot>, v: Slot) -> Result<Slot, AllocError>
     ensures made { IfOk result (λ r. (l : Indexed) (c : CollectionKind) →
         MadeInPool l pool.old.items pool.new.items is_single_operand (as_collection c) v r) }
@@ -41,6 +42,7 @@ pub fn as_collection(pool: &mut Vec<Slot>, v: Slot) -> Result<Slot, AllocError>
 }
 
 /// Puts each element of a collection at the pool's end, where it first stands.
+#[inline(never)]
 fn push_first_ones(lists: Lists<'_>, pool: &mut Vec<Slot>, kind: WrittenScalar, source: Slot)
     requires within { IsInHome (lists_in lists) (length pool.old.items) source }
     requires room { length pool.old.items + source.count ≤ vec_capacity pool.old }
@@ -58,6 +60,7 @@ fn push_first_ones(lists: Lists<'_>, pool: &mut Vec<Slot>, kind: WrittenScalar, 
 }
 
 /// The Set of a collection's elements.
+#[inline(always)]
 pub fn as_set(
     lists: Lists<'_>,
     pool: &mut Vec<Slot>,
@@ -82,6 +85,7 @@ pub fn as_set(
 }
 
 /// Whether no two elements of a collection are the same.
+#[inline(always)]
 pub fn are_distinct(lists: Lists<'_>, pool: &[Slot], kind: WrittenScalar, part: Slot) -> bool
     requires { IsInHome (lists_in lists) (length pool.now) part }
     ensures { (p : Population) (k : ScalarKind) (es : List Element) → covers kind k ≡ true →

@@ -22,6 +22,7 @@ fn plus(total: i128, slot: Slot) -> i128
 }
 
 /// The sum of whole numbers; there is none where an element is null. No list's sum leaves 128 bits.
+#[inline(never)]
 fn sum_of(lists: Lists<'_>, pool: &[Slot], source: Slot) -> Option<i128>
     requires { IsInHome (lists_in lists) (length pool.now) source }
     ensures { result ≡ sum_of_slots (held_slots (lists_in lists.entry) pool.now source) }
@@ -38,6 +39,7 @@ fn sum_of(lists: Lists<'_>, pool: &[Slot], source: Slot) -> Option<i128>
 }
 
 /// The sum of a collection's elements; invalid where an element is null or the sum is out of range.
+#[inline(always)]
 fn summed(lists: Lists<'_>, pool: &[Slot], source: Slot) -> Slot
     requires { IsInHome (lists_in lists) (length pool.now) source }
     ensures { result ≡ summed_slot
@@ -53,6 +55,7 @@ fn summed(lists: Lists<'_>, pool: &[Slot], source: Slot) -> Slot
 }
 
 /// The sum of a collection of whole numbers; invalid where an element is null or the sum is out of range.
+#[inline(always)]
 pub fn summation(lists: Lists<'_>, pool: &[Slot], v: Slot) -> Slot
     requires { LiesInHome (lists_in lists) (length pool.now) v }
     ensures { (p : Population) → MakesOfOne (lists_in lists.entry) pool.now

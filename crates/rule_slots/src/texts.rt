@@ -20,6 +20,7 @@ use imkl_population::Scalar;
 use rule_code::TextNumber;
 
 /// A text of the unit.
+#[inline(always)]
 pub fn unit_text(lists: Lists<'_>, number: TextNumber) -> Slot
     requires { number.0 < length (lists_in lists).texts }
     ensures { (pool : List Held) (hi : ℕ) → SlotIs (lists_in lists.entry) pool hi result
@@ -68,6 +69,7 @@ fn bytes_within(bytes: &[u8], start: usize, count: usize) -> &[u8]
 }
 
 /// The bytes of the text that a slot stands for.
+#[inline(never)]
 pub(crate) fn slot_bytes<'a>(lists: Lists<'a>, slot: Slot) -> &'a [u8]
     ensures { result.now ≡ slot_bytes (lists_in lists.entry) slot }
 {
@@ -75,6 +77,7 @@ pub(crate) fn slot_bytes<'a>(lists: Lists<'a>, slot: Slot) -> &'a [u8]
 }
 
 /// The text that a slot stands for; the empty text where it stands for none.
+#[inline(never)]
 fn text_of<'a>(lists: Lists<'a>, slot: Slot) -> &'a str
     ensures text { (t : List ℕ) → TextIs (lists_in lists.entry) slot t → chars result.now ≡ t }
     ensures within { slot.start + length result.now < 2 ^ 64 }
@@ -97,6 +100,7 @@ fn character_count(text: &str) -> usize
 }
 
 /// How many characters a text has; invalid of null and invalid.
+#[inline(always)]
 pub fn text_length(lists: Lists<'_>, v: Slot) -> Slot
     ensures { (pool : List Held) →
         MakesOfOne (lists_in lists.entry) pool is_text_operand text_length v result }
@@ -163,6 +167,7 @@ fn slot_bounds(text: &str, lower: Slot, upper: Slot) -> Option<(usize, usize)>
 }
 
 /// The characters of a slot's text between two bounds.
+#[inline(never)]
 fn characters(lists: Lists<'_>, v: Slot, lower: Slot, upper: Slot) -> Slot
     ensures { (pool : List Held) (t : List ℕ) → TextIs (lists_in lists.entry) v t → SlotIs
         (lists_in lists.entry) pool (length pool) result (characters t lower.number upper.number) }
@@ -175,6 +180,7 @@ fn characters(lists: Lists<'_>, v: Slot, lower: Slot, upper: Slot) -> Slot
 }
 
 /// The characters from `lower` to `upper`, counted from 1, both included; invalid unless 1 <= lower <= upper <= size.
+#[inline(always)]
 pub fn substring(lists: Lists<'_>, v: Slot, lower: Slot, upper: Slot) -> Slot
     ensures { (pool : List Held) (t x y : Value) →
         SlotIs (lists_in lists.entry) pool (length pool) v t →

@@ -6,7 +6,7 @@ use Rattle.imkl_population.specs.declared.scalar.Scalar.TheVariants as scalar
 use Rattle.rule_code.specs.Content.{text_at}
 use Rattle.rule_code.specs.declared.instruction.Instr.TheVariants as instrs
 use Rattle.rule_verify.specs.Patterns.{an_integer, a_string}
-use Rattle.rule_verify.specs.InstrKinds.{variable_at}
+use Rattle.ocl_base.specs.Lists.{variable_at}
 use Rattle.rule_values.specs.Value as value
 use Rattle.rule_values.specs.Operations.{substring}
 use Rattle.rule_slots.specs.Slots.{SlotIs}
@@ -85,8 +85,8 @@ returns-in-SubStr c =
     let n = s.population in
     let os = c.args.operands.now.0 in
     let o = c.substring.result in
-    let three = three_are os c.topmost-in-SubStr.result c.below-in-SubStr.result c.below.result c.topmost-in-SubStr.ensures.0 c.topmost-in-SubStr.ensures.1 c.below-in-SubStr.ensures c.below.ensures in
-    rw c.in-SubStr.is (of_three s l p c.args.variables.now.0 os instrs.SubStr c.below.result c.below-in-SubStr.result c.topmost-in-SubStr.result o three.0 three.1
+    let three = three_are os c.topmost-in-SubStr.result.now c.below-in-SubStr.result.now c.below.result.now c.topmost-in-SubStr.ensures.0 c.topmost-in-SubStr.ensures.1 c.below-in-SubStr.ensures c.below.ensures in
+    rw c.in-SubStr.is (of_three s l p c.args.variables.now.0 os instrs.SubStr c.below.result.now c.below-in-SubStr.result.now c.topmost-in-SubStr.result.now o three.0 three.1
     (λ vars v w u more hv hw hu a r e. subst (SlotIs l p (length p) o) (same_Some (substring v w u) r e)
-    (subst (λ q. SlotIs q p (length p) c.below.result v → SlotIs q p (length p) c.below-in-SubStr.result w → SlotIs q p (length p) c.topmost-in-SubStr.result u → SlotIs q p (length p) o (substring v w u)) c.lists-in-SubStr.ensures
+    (subst (λ q. SlotIs q p (length p) c.below.result.now v → SlotIs q p (length p) c.below-in-SubStr.result.now w → SlotIs q p (length p) c.topmost-in-SubStr.result.now u → SlotIs q p (length p) o (substring v w u)) c.lists-in-SubStr.ensures
     (λ a0 a1 a2. c.substring.ensures p v w u a0 a1 a2 (text_operand n v (third_what n an_integer an_integer a_string [] u w v more a)) (number_operand n w (second_what n an_integer an_integer (a_string ∷ []) u w (v ∷ more) a)) (number_operand n u (first_what n an_integer (an_integer ∷ a_string ∷ []) u (w ∷ v ∷ more) a))) hv hw hu)))

@@ -1,5 +1,5 @@
 use Rattle.std.proofs.Common.{ap, ◌∙◌}
-use Rattle.rule_verify.proofs.ForAbove.{at_bottom, past_bottom}
+use Rattle.ocl_base.proofs.ForAbove.{at_bottom, past_bottom}
 use Rattle.rule_machine.proofs.stack.ReservedStack.from_bottom.Goals as goal
 
 pub returns-then-number-len : goal.returns-then-number-len
