@@ -1,18 +1,22 @@
 -- A grant as far as one pair goes: what the job's fields are after the pair was begun and the machine ran.
-use Rattle.std.proofs.Common.{◌≡◌, ℕ, ◌+◌, ◌-◌, ◌^◌, ◌<◌, ◌≤◌, Bool, true, false, List, length, sum, ap, ◌∙◌, subst, arith, Option, Some, None, Result, Ok, Err}
+use Rattle.std.proofs.Common.{◌≡◌, ℕ, ◌+◌, ◌-◌, ◌^◌, ◌<◌, ◌≤◌, Bool, true, false, List, length, sum, sym, ap, ◌∙◌, subst, arith, Option, Some, None, Result, Ok, Err}
 use Rattle.std.specs.Prelude.{IsErr, IsOk, is_err, OnOk}
 use Rattle.imkl_population.specs.Population.{Population}
 use Rattle.rule_code.specs.Content.{Content}
+use Rattle.rule_verify.specs.UnitRules.{unit_rule, takes_memory}
 use Rattle.rule_cost.specs.Admission.{Admission}
 use Rattle.rule_machine.specs.declared.memory.OutOfMemory.{OutOfMemory}
 use Rattle.rule_machine.specs.declared.verdict.Verdict.{Verdict}
 use Rattle.rule_machine.specs.declared.progress.Progress.{Progress}
 use Rattle.rule_machine.specs.declared.progress.Progress.TheVariants.{Paused, Done}
+use Rattle.rule_machine.specs.Machine.{Configuration}
 use Rattle.rule_machine.specs.Verdict.{outcome}
-use Rattle.rule_machine.specs.Seen.{Seen}
+use Rattle.rule_machine.specs.Laws.{verdict_at}
+use Rattle.rule_machine.specs.Seen.{Seen, Represents}
 use Rattle.rule_machine.specs.Contract.{SameTask, Ran, IsCount}
 use Rattle.rule_machine.proofs.ForAbove.{charged}
-use Rattle.rule_report.specs.Cursor.{CursorSeen, told_pairs, IsToldMore}
+use Rattle.rule_report.specs.Report.{Verdicts, longest_report}
+use Rattle.rule_report.specs.Cursor.{CursorSeen, told_pairs, report_until, IsToldBy, IsToldMore}
 use Rattle.rule_desk.specs.Seen.{JobSeen, job_seen}
 use Rattle.rule_desk.specs.Job.{IsWhole, charges_of, costs_of, greatest_total, total_cost, spent_after}
 use Rattle.rule_desk.specs.Calls.{SameJob}
@@ -57,6 +61,22 @@ is_told (Err x) X e h = let bad = e in cc
 pub not_refused : {A E : Type 0} (r : Result A E) → IsOk r → is_err r ≡ true → ⊥
 not_refused (Ok x) h e = let bad = e in cc
 not_refused (Err x) h e = let bad = h in cc
+
+pub not_ok : {A E : Type 0} (r : Result A E) (x : E) → r ≡ Err x → IsOk r → ⊥
+not_ok (Ok y) x e h = let bad = e in cc
+not_ok (Err y) x e h = let bad = h in cc
+
+-- where there is room for the longest report, the pair that is due can be begun
+pub begins : {A E : Type 0} (a : Admission) (p : Population) (c : CursorSeen) (m : Seen) (begun : Bool) (lines : List ℕ) (capacity spent : ℕ) (result : Result A E)
+    → Stands a p c m begun lines capacity spent
+    → ((v : Verdicts) → IsToldBy c v → lines ≡ report_until c.unit c.population v (told_pairs c) → longest_report c.unit c.population ≤ capacity → IsOk result)
+    → longest_report a.linked.unit p ≤ capacity → IsOk result
+begins a p c m begun lines capacity spent result s succeeds room =
+    let v = verdict_at a.linked.unit p in
+    let text : report_until a.linked.unit p v (told_pairs c) ≡ report_until c.unit c.population v (told_pairs c) =
+    ap (λ x. report_until x p v (told_pairs c)) (sym s.code) ∙ ap (λ q. report_until c.unit q v (told_pairs c)) (sym s.over) in
+    let longest : longest_report a.linked.unit p ≡ longest_report c.unit c.population = ap (λ x. longest_report x p) (sym s.code) ∙ ap (longest_report c.unit) (sym s.over) in
+    succeeds v s.told (s.text ∙ text) (omega (arith, room, longest))
 
 module _
     (a : Admission) (p : Population) (c : CursorSeen) (m mid new : Seen) (begun : Bool) (lines after : List ℕ) (capacity room spent g : ℕ) (result : Result Progress OutOfMemory)
@@ -133,3 +153,10 @@ module _
   next_stands v d told rest r more =
       let came = subst (λ x. Came g went.used went.run.at x) r went.came in
       (came.0, stands_done a p c m begun lines capacity spent s new went.used went.run v d after told rest new_unit new_population came.2 kept more)
+
+  -- where no rule takes memory, the run goes on
+  pub goes_on : ((r : ℕ) → r < length a.linked.unit.rules → takes_memory (unit_rule a.linked.unit r) ≡ false)
+      → ((r o : ℕ) (d : Configuration) (k : ℕ) → Represents mid r o d k → takes_memory (unit_rule mid.unit r) ≡ false → IsOk result) → IsOk result
+  goes_on none succeeds =
+      let within : ready.rule < length a.linked.unit.rules = subst (λ u. ready.rule < length u.rules) mid_unit ready.stands.accepted.rule in
+      succeeds ready.rule ready.object ready.at s.work ready.stands (subst (λ u. takes_memory (unit_rule u ready.rule) ≡ false) (sym mid_unit) (none ready.rule within))

@@ -1,14 +1,15 @@
 //! One job: a report that is made step by step.
 
-ghost use Rattle.std.specs.Prelude.{◌≡◌, ◌+◌, ◌*◌, ◌^◌, ◌<◌, ◌≤◌, ◌↔◌, ℕ, true, false, IsTrue, IsSome, length, vec_capacity, IfOk, OnOk, OnErr, Some};
+ghost use Rattle.std.specs.Prelude.{◌≡◌, ◌+◌, ◌*◌, ◌^◌, ◌<◌, ◌≤◌, ◌↔◌, ℕ, true, false, IsTrue, IsSome, IsOk, length, vec_capacity, IfOk, OnOk, OnErr, Some};
 ghost use Rattle.rule_cost.specs.Admission.{Fits};
 ghost use Rattle.rule_machine.specs.Contract.{SameTask};
 ghost use Rattle.rule_machine.specs.Laws.{rule_bound};
-ghost use Rattle.rule_report.specs.Report.{context_objects};
-ghost use Rattle.rule_report.specs.Cursor.{due};
+ghost use Rattle.rule_report.specs.Report.{Verdicts, context_objects, longest_report};
+ghost use Rattle.rule_report.specs.Cursor.{due, told_pairs, report_until, IsToldBy};
 ghost use Rattle.rule_desk.specs.Seen.{job_seen};
 ghost use Rattle.rule_desk.specs.Job.{IsWhole, total_cost, lines_now, job_bound};
 ghost use Rattle.rule_desk.specs.Calls.{SameJob, Granted};
+ghost use Rattle.rule_desk.specs.Rooms.{longest_lines, NeedsNoMemory};
 ghost use Rattle.rule_desk.specs.Stands.{IsReady, IsAtPair, Advanced};
 
 use imkl_population::Population;
@@ -42,12 +43,14 @@ pub(crate) struct Job<'a> {
 
 impl<'a> Model for Job<'a> {
     ghost use Rattle.std.specs.Prelude.{vec_capacity};
-    ghost use Rattle.rule_desk.specs.Seen.{JobSeen, job_seen};
+    ghost use Rattle.rule_desk.specs.Seen.{job_seen};
+    ghost use Rattle.rule_desk.specs.Held.{JobHeld, job_held};
     ghost use Rattle.rule_desk.specs.Stands.{Stands};
 
-    ghost Value = { JobSeen };
+    ghost Value = { JobHeld };
 
-    ghost view = { λ j. job_seen j.admitted.now j.population.now.content j.spent };
+    ghost view = { λ j. job_held (job_seen j.admitted.now j.population.now.content j.spent)
+        (vec_capacity j.lines) };
 
     ghost invariant = { λ j. Stands j.admitted.now j.population.now.content j.cursor j.machine
         j.begun j.lines.items (vec_capacity j.lines) j.spent };
@@ -70,6 +73,11 @@ fn begin(
         IsAtPair begun machine.old cursor.now work (length lines.old.items) (vec_capacity lines.old)
         → IsReady machine.new cursor.now work (length lines.new.items) (vec_capacity lines.new)) }
     ensures refused { OnErr result (begun ≡ false) }
+    ensures room { vec_capacity lines.old ≤ vec_capacity lines.new }
+    ensures succeeds { (v : Verdicts) → IsToldBy cursor.now v → lines.old.items
+        ≡ report_until cursor.now.unit cursor.now.population v (told_pairs cursor.now)
+        → longest_report cursor.now.unit cursor.now.population ≤ vec_capacity lines.old
+        → IsOk result }
 {
     if begun {
         return Ok(());
@@ -89,7 +97,7 @@ impl<'a> Job<'a> {
         population: &'a Population<'a>,
     ) -> Result<Job<'a>, OutOfMemory>
         requires { Fits admitted.now population.now.content }
-        ensures { IfOk result (λ j. j ≡
+        ensures { IfOk result (λ j. j.job ≡
             job_seen admitted.entry.now population.entry.now.content 0) }
     {
         let accepted = admitted.accepted();
@@ -114,31 +122,31 @@ impl<'a> Job<'a> {
 
     /// Whether every pair is told.
     pub(crate) fn is_over(&self) -> bool
-        ensures over { IsTrue result ↔ (total_cost self.now ≤ self.now.spent) }
-        ensures within { self.now.spent ≤ total_cost self.now }
-        ensures whole { IsWhole self.now }
+        ensures over { IsTrue result ↔ (total_cost self.now.job ≤ self.now.job.spent) }
+        ensures within { self.now.job.spent ≤ total_cost self.now.job }
+        ensures whole { IsWhole self.now.job }
     {
         self.cursor.next().is_none()
     }
 
     /// What the steps made were charged.
     pub(crate) fn spent(&self) -> u128
-        ensures { result ≡ self.now.spent }
+        ensures { result ≡ self.now.job.spent }
     {
         self.spent
     }
 
     /// The lines told so far.
     pub(crate) fn lines(&self) -> &[u8]
-        ensures { result.now ≡ lines_now self.now }
+        ensures { result.now ≡ lines_now self.now.job }
     {
         &self.lines
     }
 
     /// The most that it can cost: the bounds of its rules, each taken for all objects of its context class.
     pub(crate) fn bound(&self) -> u128
-        ensures bound { result ≡ job_bound self.now }
-        ensures within { self.now.spent ≤ result }
+        ensures bound { result ≡ job_bound self.now.job }
+        ensures within { self.now.job.spent ≤ result }
     {
         let accepted = self.admitted.accepted();
         accepted.unit().well_formed();
@@ -151,9 +159,10 @@ impl<'a> Job<'a> {
 
     /// The bound of a rule, taken for all objects of its context class.
     fn rule_bound(&self, rule: usize) -> u128
-        requires { rule < length self.now.admission.linked.unit.rules }
-        ensures bound { result ≡ rule_bound self.now.admission.linked.unit self.now.population rule
-            * length (context_objects self.now.admission.linked.unit self.now.population rule) }
+        requires { rule < length self.now.job.admission.linked.unit.rules }
+        ensures bound { result
+            ≡ rule_bound self.now.job.admission.linked.unit self.now.job.population rule * length
+            (context_objects self.now.job.admission.linked.unit self.now.job.population rule) }
         ensures small { result ≤ 2 ^ 63 * 1000000 }
     {
         let admitted = self.admitted;
@@ -164,13 +173,27 @@ impl<'a> Job<'a> {
         u128::from(admitted.bound(rule)) * objects as u128
     }
 
+    /// Has the room for its report, however long it gets.
+    pub(crate) fn reserve_lines(&mut self) -> Result<(), OutOfMemory>
+        ensures same { self.new.job ≡ self.old.job }
+        ensures room { self.old.room ≤ self.new.room }
+        ensures reserved { OnOk result (longest_lines self.new.job ≤ self.new.room) }
+    {
+        let longest = self.cursor.longest();
+        self.lines
+            .reserve(longest.saturating_sub(self.lines.len()))?;
+        Ok(())
+    }
+
     /// Makes steps of the pair that is due while the grant pays for them, and tells its verdict at its end. Answers what is
     /// left then; None where what is left before doesn't pay for the next step.
     fn advance(&mut self, grant: u64) -> Result<Option<u64>, OutOfMemory>
         requires some { 0 < grant }
-        requires left { self.old.spent < total_cost self.old }
-        ensures same { SameJob self.old self.new }
-        ensures moved { Advanced self.old grant result self.new }
+        requires left { self.old.job.spent < total_cost self.old.job }
+        ensures same { SameJob self.old.job self.new.job }
+        ensures moved { Advanced self.old.job grant result self.new.job }
+        ensures room { self.old.room ≤ self.new.room }
+        ensures succeeds { NeedsNoMemory self.old.job self.old.room → IsOk result }
     {
         begin(self.begun, &mut self.machine, &self.cursor, &mut self.lines)?;
         self.begun = true;
@@ -192,10 +215,12 @@ impl<'a> Job<'a> {
 
     /// Makes steps while what is left of the grant pays for the next one.
     pub(crate) fn grant(&mut self, grant: u64) -> Result<JobReply, OutOfMemory>
-        requires left { self.old.spent < total_cost self.old }
-        requires whole { IsWhole self.old }
-        ensures same { SameJob self.old self.new }
-        ensures granted { Granted self.old grant result self.new }
+        requires left { self.old.job.spent < total_cost self.old.job }
+        requires whole { IsWhole self.old.job }
+        ensures same { SameJob self.old.job self.new.job }
+        ensures granted { Granted self.old.job grant result self.new.job }
+        ensures room { self.old.room ≤ self.new.room }
+        ensures succeeds { NeedsNoMemory self.old.job self.old.room → IsOk result }
     {
         let mut left = grant;
         while left > 0 {

@@ -4,6 +4,8 @@
 #[cfg(test)]
 mod random;
 #[cfg(test)]
+mod room;
+#[cfg(test)]
 mod scripts;
 #[cfg(test)]
 mod worked;

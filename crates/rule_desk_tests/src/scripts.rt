@@ -5,6 +5,7 @@ ghost use Rattle.imkl_population.specs.Sizes.{sizes_of};
 ghost use Rattle.rule_cost.specs.Admission.{Fits};
 
 use crate::random::are_as_if_alone;
+use crate::room::granted_with_room;
 use imkl_delivery::load;
 use imkl_model::ClassModel;
 use imkl_population::{Population, Sizes};
@@ -73,6 +74,13 @@ fn put_lines(desk: &Desk<'_>, job: usize, out: &mut String) -> Result<(), AllocE
     }
 }
 
+fn put_reserved(desk: &mut Desk<'_>, job: usize, out: &mut String) -> Result<(), AllocError> {
+    match desk.reserve_lines(JobNo::new(job)) {
+        Ok(()) => writeln!(out, "reserved {job}"),
+        Err(fault) => put_refusal(out, fault),
+    }
+}
+
 fn put_bound(desk: &Desk<'_>, job: usize, out: &mut String) -> Result<(), AllocError> {
     match desk.bound_of(JobNo::new(job)) {
         Ok(bound) => writeln!(out, "bound {job} {bound}"),
@@ -97,6 +105,8 @@ pub(crate) enum Asked<'s> {
     Script(&'s str),
     /// Random calls for many jobs, and whether each of these is answered as if alone.
     Random,
+    /// A grant of so much to a new job that has room for its lines.
+    Granted(u64),
 }
 
 /// Makes the call of one line.
@@ -117,6 +127,7 @@ fn perform<'a>(
             put_grant(desk, job(word), number(grant), out)
         }
         "withdraw" => put_withdraw(desk, job(rest), out),
+        "reserve" => put_reserved(desk, job(rest), out),
         "lines" => put_lines(desk, job(rest), out),
         "bound" => put_bound(desk, job(rest), out),
         _ => writeln!(out, "no call"),
@@ -153,6 +164,7 @@ fn answer_to<'a>(
             let alone = are_as_if_alone(alloc, admitted, population)?;
             format!(in alloc; "{alone}").ok()
         }
+        Asked::Granted(grant) => granted_with_room(alloc, admitted, population, grant),
     }
 }
 

@@ -46,6 +46,52 @@ bound 0";
 }
 
 #[test]
+fn room_for_lines_changes_no_reply(rt: HostRuntime) -> Result<(), Fail> {
+    let script = "\
+enter
+reserve 0
+reserve 1
+grant 0 3
+reserve 0
+grant 0 100
+reserve 0
+lines 0
+withdraw 0
+reserve 0";
+    let expected = "\
+job 0
+reserved 0
+refused desk 1
+paused 0 3
+reserved 0
+over 0 14
+reserved 0
+undecided d M1
+rule d checked 1 holds 0 fails 0 undecided 1
+total fails 0 undecided 1
+withdrawn 0
+refused desk 1
+";
+    assert!(rt;
+        answers(
+            rt.alloc(),
+            DUCT,
+            HOLDS_DEEP_ENOUGH,
+            Asked::Script(script),
+            expected
+        )?
+    );
+    Ok(())
+}
+
+#[test]
+fn a_grant_with_room_needs_no_memory(rt: HostRuntime) -> Result<(), Fail> {
+    let asked = Asked::Granted(100);
+    assert!(rt; answers(rt.alloc(), DUCT, HOLDS_DEEP_ENOUGH, asked, "over")?);
+    Ok(())
+}
+
+#[test]
 fn a_step_is_made_where_its_whole_charge_is_left(rt: HostRuntime) -> Result<(), Fail> {
     let script = "enter\ngrant 0 10\ngrant 0 2\nlines 0\ngrant 0 3\ngrant 0 100\nlines 0";
     let expected = "\

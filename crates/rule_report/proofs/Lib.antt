@@ -4,5 +4,6 @@ pub mod Reports
 pub mod Parts
 pub mod Told
 pub mod Pairs
+pub mod Lengths
 pub mod Written
 pub mod ForAbove

@@ -201,7 +201,7 @@ part_from : (u : Content) (p : Population) (v : Verdicts) (n : ℕ) (before text
 part_from u p v n before text there now after =
     append_cancel_left before text (part_of u p v (suc n)) (sym after ∙ until_next u p v n there ∙ ap (λ (x : List ℕ). x ++ part_of u p v (suc n)) now)
 
-due_within : (c : CursorSeen) → StandsWithin c → c.rule < length c.unit.rules → told_pairs c < length (all_pairs c.unit c.population)
+pub due_within : (c : CursorSeen) → StandsWithin c → c.rule < length c.unit.rules → told_pairs c < length (all_pairs c.unit c.population)
 due_within c placed within =
     let d : ℕ × ℕ = (0, 0) in
     (pair_stays c.unit c.population (suc c.rule) (length c.unit.rules) (told_pairs c) d (omega (arith, within)) (omega (arith, placed.some within, pairs_of_rule c.unit c.population c.rule))).1
@@ -219,7 +219,7 @@ line_more c v w placed within is =
     text_more (object_line c.unit c.population v c.rule) (objects_due c) c.at 0 (reports_below c.unit c.population v c.rule) (reported c.unit c.population v c.rule c.at) _ (placed.some within) refl
     (ap (λ (x : List ℕ). reported c.unit c.population v c.rule c.at ++ x) (line_told c v w is))
 
-told_now : (c : CursorSeen) (v : Verdicts) → StandsWithin c → c.rule < length c.unit.rules → report_until c.unit c.population v (told_pairs c) ≡ reported c.unit c.population v c.rule c.at
+pub told_now : (c : CursorSeen) (v : Verdicts) → StandsWithin c → c.rule < length c.unit.rules → report_until c.unit c.population v (told_pairs c) ≡ reported c.unit c.population v c.rule c.at
 told_now c v placed within = until_pair c.unit c.population v c.rule c.at within (placed.some within)
 
 counted_now : (c : CursorSeen) (v : Verdicts) (w : Verdict) → StandsWithin c → c.rule < length c.unit.rules → IsToldBy c v → v c.rule (get_or (objects_due c) c.at 0) ≡ Some w
@@ -488,6 +488,14 @@ room_enough c w within =
       | inl t ↦ absurd (omega (arith, t.1, within))
       | inr t ↦ subst (λ b. length (told_text c w) ≤ (if b then 0 else greatest_told c)) (sym t.0) (greatest c w)
     ]
+
+-- the text begins with the line of the object
+pub line_in_text : (c : CursorSeen) (w : Verdict) → length (line_of (Some w) (name_of c.unit c.rule) (object_at c.population (get_or (objects_due c) c.at 0)).id) ≤ length (told_text c w)
+line_in_text c w =
+    omega (
+      arith,
+      length-append (line_of (Some w) (name_of c.unit c.rule) (object_at c.population (get_or (objects_due c) c.at 0)).id) (if nat_lt (suc c.at) (length (objects_due c)) then [] else ending_of_rule c w),
+    )
 
 -- the steps by which a rule's last object is told, each with its bytes
 pub record LastTold (c : CursorSeen) (w : Verdict) (old line : List ℕ) (here before : Summary) (next : ℕ) : Type 0 where

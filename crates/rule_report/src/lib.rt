@@ -6,6 +6,7 @@ mod cursor;
 mod fault;
 pub mod laws;
 mod lines;
+mod longest;
 mod put;
 mod sink;
 mod summary;

@@ -1,13 +1,91 @@
-use Rattle.std.proofs.Common.{◌≡◌, ◌<◌, ◌≤◌, ◌+◌, ◌++◌, ◌∙◌, ℕ, Some, List, get_or, length, sym, ap, subst, refl, arith, length-append, vec_capacity}
-use Rattle.std.specs.Prelude.{IsSome}
+use Rattle.std.proofs.Common.{◌≡◌, ◌<◌, ◌≤◌, ◌+◌, ◌++◌, ◌∙◌, ℕ, Some, Result, Ok, Err, List, get_or, length, sym, ap, subst, refl, arith, length-append, vec_capacity, rules}
+use Rattle.std.specs.Prelude.{IsSome, IsOk, vec_len}
 use Rattle.std.proofs.lemmas.List.{get_or_default}
-use Rattle.imkl_population.specs.Population.{object_at}
+use Rattle.std.proofs.lemmas.List.Elements.{All-get_or}
+use Rattle.imkl_population.specs.Population.{object_at, IsInstance}
 use Rattle.rule_verify.specs.UnitRules.{context_class, unit_rule}
 use Rattle.rule_report.specs.Report.{instances_of, context_objects, name_of, line_of, rule_line_of}
 use Rattle.rule_report.specs.Counting.{counts_joined}
 use Rattle.rule_report.specs.Cursor.{CursorSeen, cursor_seen, due, told_text, lines_between, next_rule, room_of, IsToldMore}
-use Rattle.rule_report.proofs.Pairs.{is_due, here_text, told_here_is, placed_here_is, placed_last_is, room_enough, LastTold, last_text, told_last_is, next_is}
+use Rattle.rule_report.proofs.Pairs.{is_due, here_text, told_here_is, placed_here_is, placed_last_is, room_enough, line_in_text, LastTold, last_text, told_last_is, next_is}
 use Rattle.rule_report.proofs.cursor.ReportCursor.tell.Goals as goal
+
+pub told_length-requires : goal.told_length-requires
+told_length-requires c =
+    let i = c.self.inside in
+    let s : CursorSeen = cursor_seen i.accepted.now.unit i.population.now.content i.rule i.at i.here i.before in
+    let within : i.rule < length i.accepted.now.unit.rules = is_due s c.self.invariant.1 (subst (λ (x : CursorSeen). IsSome (due x)) (sym c.self.view_is) c.requires) in
+    subst (λ (x : CursorSeen). x.rule < length x.unit.rules) c.self.view_is within
+
+not_err : {A E : Type 0} (r : Result A E) (e : E) → r ≡ Err e → IsOk r → ⊥
+not_err (Ok x) e is ok = let bad = is in cc
+not_err (Err x) e is ok = let bad = ok in cc
+
+-- there is a pair whose verdict is due
+pub rule_name-name-requires : goal.rule_name-name-requires
+rule_name-name-requires c =
+    let i = c.self.inside in
+    let s : CursorSeen = cursor_seen i.accepted.now.unit i.population.now.content i.rule i.at i.here i.before in
+    is_due s c.self.invariant.1 (subst (λ (x : CursorSeen). IsSome (due x)) (sym c.self.view_is) c.requires)
+
+pub context-requires : goal.context-requires
+context-requires c =
+    let i = c.self.inside in
+    let s : CursorSeen = cursor_seen i.accepted.now.unit i.population.now.content i.rule i.at i.here i.before in
+    is_due s c.self.invariant.1 (subst (λ (x : CursorSeen). IsSome (due x)) (sym c.self.view_is) c.requires)
+
+pub bounds-objects-self-inside : goal.bounds-objects-self-inside
+bounds-objects-self-inside c =
+    let i = c.self.inside in
+    let u = i.accepted.now.unit in
+    let p = i.population.now.content in
+    let s : CursorSeen = cursor_seen u p i.rule i.at i.here i.before in
+    let within : i.rule < length u.rules = is_due s c.self.invariant.1 (subst (λ (x : CursorSeen). IsSome (due x)) (sym c.self.view_is) c.requires) in
+    let context = ap (λ m. context_class m u (unit_rule u i.rule)) c.self.invariant.0 ∙ c.context.ensures.class in
+    let objects : context_objects u p i.rule ≡ c.instances-objects.result.now = ap (instances_of p) context ∙ sym c.instances-objects.ensures.objects in
+    omega (arith, c.self.invariant.1.some within, ap length objects)
+
+pub id-requires : goal.id-requires
+id-requires c =
+    let i = c.self.inside in
+    let u = i.accepted.now.unit in
+    let p = i.population.now.content in
+    let s : CursorSeen = cursor_seen u p i.rule i.at i.here i.before in
+    let within : i.rule < length u.rules = is_due s c.self.invariant.1 (subst (λ (x : CursorSeen). IsSome (due x)) (sym c.self.view_is) c.requires) in
+    let context = ap (λ m. context_class m u (unit_rule u i.rule)) c.self.invariant.0 ∙ c.context.ensures.class in
+    let objects : context_objects u p i.rule ≡ c.instances-objects.result.now = ap (instances_of p) context ∙ sym c.instances-objects.ensures.objects in
+    let there : i.at < length c.instances-objects.result.now = omega (arith, c.self.invariant.1.some within, ap length objects) in
+    let instance = All-get_or (IsInstance p c.context.result) c.instances-objects.result.now i.at c.index-objects-self.result there c.instances-objects.ensures.each in
+    subst (λ o. o < length p.objects) (sym c.index-objects-self.is) instance.0
+
+-- there is room for the text
+pub returns-in_err-reserve-clause-succeeds : goal.returns-in_err-reserve-clause-succeeds
+returns-in_err-reserve-clause-succeeds c = λ room.
+    let i = c.self.inside in
+    let w = c.args.verdict in
+    let s : CursorSeen = cursor_seen i.accepted.now.unit i.population.now.content i.rule i.at i.here i.before in
+    let within : i.rule < length i.accepted.now.unit.rules = is_due s c.self.invariant.1 (subst (λ (x : CursorSeen). IsSome (due x)) (sym c.self.view_is) c.requires) in
+    let len : vec_len c.args.out.now ≡ length c.args.out.now.items = search rules in
+    let enough : vec_len c.args.out.now + c.told_length.result ≤ vec_capacity c.args.out.now =
+    omega (arith, len, room, c.told_length.ensures, ap (λ (x : CursorSeen). length (told_text x w)) c.self.view_is, room_enough s w within, ap room_of c.self.view_is) in
+    absurd (not_err c.reserve.result _ c.in_err-reserve.was (c.reserve.ensures.succeeds enough))
+
+pub put_object_line-requires : goal.put_object_line-requires
+put_object_line-requires c =
+    let i = c.self.inside in
+    let u = i.accepted.now.unit in
+    let p = i.population.now.content in
+    let w = c.args.verdict in
+    let s : CursorSeen = cursor_seen u p i.rule i.at i.here i.before in
+    let within : i.rule < length u.rules = is_due s c.self.invariant.1 (subst (λ (x : CursorSeen). IsSome (due x)) (sym c.self.view_is) c.requires) in
+    let context = ap (λ m. context_class m u (unit_rule u i.rule)) c.self.invariant.0 ∙ c.context.ensures.class in
+    let objects : context_objects u p i.rule ≡ c.instances-objects.result.now = ap (instances_of p) context ∙ sym c.instances-objects.ensures.objects in
+    let there : i.at < length (context_objects u p i.rule) = c.self.invariant.1.some within in
+    let object : c.index-objects-self.result ≡ get_or (context_objects u p i.rule) i.at 0 =
+    c.index-objects-self.is ∙ ap (λ (os : List ℕ). get_or os i.at c.index-objects-self.result) (sym objects) ∙ get_or_default (context_objects u p i.rule) i.at c.index-objects-self.result 0 there in
+    let line : line_of (Some w) c.rule_name-name.result.now c.id.result.now ≡ line_of (Some w) (name_of u i.rule) (object_at p (get_or (context_objects u p i.rule) i.at 0)).id =
+    ap (λ n. line_of (Some w) n c.id.result.now) c.rule_name-name.ensures ∙ ap (λ d. line_of (Some w) (name_of u i.rule) d) (c.id.ensures ∙ ap (λ o. (object_at p o).id) object) in
+    omega (arith, ap length line, line_in_text s w, c.told_length.ensures, ap (λ (x : CursorSeen). length (told_text x w)) c.self.view_is, ap length c.reserve.ensures.items, c.in_ok-reserve.ensures.ok, c.in_ok-reserve.ensures.capacity)
 
 pub returns-else-self-objects-clause-bytes : goal.returns-else-self-objects-clause-bytes
 returns-else-self-objects-clause-bytes c =
@@ -139,7 +217,7 @@ put_rule_line-requires c =
     let whole = last_text s w old put c.count.new.self (counts_joined i.before c.count.new.self) (next_rule u p (i.rule + 1)) t in
     let rule_text = rule_line_of (name_of u i.rule) (length (context_objects u p i.rule)) c.count.new.self in
     let between = lines_between u (i.rule + 1) (next_rule u p (i.rule + 1)) (counts_joined i.before c.count.new.self) in
-    let enough : length (told_text s w) ≤ c.room.result = omega (arith, room_enough s w within, c.room.ensures, ap room_of c.self.view_is) in
+    let enough : length (told_text s w) ≤ c.told_length.result = omega (arith, c.told_length.ensures, ap (λ (x : CursorSeen). length (told_text x w)) c.self.view_is) in
     let lengths : length old + length put + length rule_text + length between ≡ length old + length (told_text s w) =
     omega (arith, ap length whole, length-append ((old ++ put) ++ rule_text) between, length-append (old ++ put) rule_text, length-append old put, length-append old (told_text s w)) in
     let size : length c.put_object_line.new.out.items ≡ length old + length put = ap length first ∙ length-append old put in
@@ -175,7 +253,7 @@ put_between-requires-clause-room c =
     let whole = last_text s w old put c.count.new.self c.add.new.self c.next_rule-next.result t in
     let rule_text = rule_line_of (name_of u i.rule) (length (context_objects u p i.rule)) c.count.new.self in
     let between = lines_between u (i.rule + 1) c.next_rule-next.result c.add.new.self in
-    let enough : length (told_text s w) ≤ c.room.result = omega (arith, room_enough s w within, c.room.ensures, ap room_of c.self.view_is) in
+    let enough : length (told_text s w) ≤ c.told_length.result = omega (arith, c.told_length.ensures, ap (λ (x : CursorSeen). length (told_text x w)) c.self.view_is) in
     let lengths : length old + length put + length rule_text + length between ≡ length old + length (told_text s w) =
     omega (arith, ap length whole, length-append ((old ++ put) ++ rule_text) between, length-append (old ++ put) rule_text, length-append old put, length-append old (told_text s w)) in
     let size : length c.put_object_line.new.out.items ≡ length old + length put = ap length first ∙ length-append old put in
