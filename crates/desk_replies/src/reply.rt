@@ -45,7 +45,7 @@ fn enter<'a>(
 ) -> Result<(), OutOfMemory>
     requires { Fits admitted.now population.now.content }
     ensures { OnOk result (IsReplied admitted.entry.now population.entry.now.content Call.Enter
-        desk.old desk.new text.old.items text.new.items) }
+        desk.old.jobs desk.new.jobs text.old.items text.new.items) }
 {
     let Ok(job) = desk.enter(admitted, population) else {
         return Err(OutOfMemory);
@@ -57,7 +57,7 @@ fn enter<'a>(
 
 /// What is spent of a job, 0 where there is none.
 fn spent(desk: &Desk<'_>, job: usize) -> u128
-    ensures { result ≡ spent_of (job_at desk.now job) }
+    ensures { result ≡ spent_of (job_at desk.now.jobs job) }
 {
     match desk.spent(JobNo::new(job)) {
         Ok(spent) => spent,
@@ -92,7 +92,7 @@ fn grant(
     text: &mut Vec<u8>,
 ) -> Result<(), OutOfMemory>
     ensures { OnOk result (IsRepliedAnyway (Call.Grant job charges)
-        desk.old desk.new text.old.items text.new.items) }
+        desk.old.jobs desk.new.jobs text.old.items text.new.items) }
 {
     grants_are_events();
     let granted = desk.grant(JobNo::new(job), charges);
@@ -123,7 +123,7 @@ fn withdraw(
     text: &mut Vec<u8>,
 ) -> Result<(), OutOfMemory>
     ensures { OnOk result (IsRepliedAnyway (Call.Withdraw job)
-        desk.old desk.new text.old.items text.new.items) }
+        desk.old.jobs desk.new.jobs text.old.items text.new.items) }
 {
     withdrawals_are_events();
     let withdrawn = desk.withdraw(JobNo::new(job));
@@ -134,7 +134,7 @@ fn withdraw(
 /// The lines of a job's report so far.
 fn lines(alloc: Global, desk: &Desk<'_>, job: usize, text: &mut Vec<u8>) -> Result<(), OutOfMemory>
     ensures { OnOk result (IsRepliedAnyway (Call.Lines job)
-        desk.now desk.now text.old.items text.new.items) }
+        desk.now.jobs desk.now.jobs text.old.items text.new.items) }
 {
     match desk.lines(JobNo::new(job)) {
         Ok(lines) => text.extend_from_slice(lines)?,
@@ -158,7 +158,7 @@ pub(crate) fn reply<'a>(
 ) -> Result<(), OutOfMemory>
     requires { Fits admitted.now population.now.content }
     ensures { OnOk result (IsReplied admitted.entry.now population.entry.now.content call
-        desk.old desk.new text.old.items text.new.items) }
+        desk.old.jobs desk.new.jobs text.old.items text.new.items) }
 {
     match call {
         Call::Enter => enter(alloc, desk, admitted, population, text),

@@ -1,6 +1,6 @@
 //! A script, read line by line.
 
-ghost use Rattle.std.specs.Prelude.{◌≡◌, ◌<◌, ◌∷◌, length};
+ghost use Rattle.std.specs.Prelude.{◌≡◌, ◌<◌, ◌∷◌, [], length, Ok, Err, IsOk};
 ghost use Rattle.ocl_base.specs.Steps.{Gives};
 ghost use Rattle.desk_script.specs.Script.{lines_of, script_of, script_fault};
 
@@ -22,9 +22,12 @@ fn first_line(text: &[u8]) -> (&[u8], &[u8])
     }
 }
 
-/// The calls of a script, one in each line; the last newline may be missing. Or the first line that is no call.
+/// The calls of a script, one in each line; the last newline may be missing. Or the first line that is no call. It takes no
+/// memory for a script without lines, nor to refuse the first line.
 pub fn read_script(alloc: Global, text: &[u8]) -> Result<Vec<Call>, ScriptFault>
-    ensures { Gives script_fault (λ v. v.items) result (script_of text.now) }
+    ensures gives { Gives script_fault (λ v. v.items) result (script_of text.now) }
+    ensures empty { script_of text.now ≡ Ok [] → IsOk result }
+    ensures first { script_of text.now ≡ Err 1 → result ≡ Err (ScriptFault.At 1) }
 {
     let mut calls = Vec::new(alloc);
     let mut rest = text;

@@ -11,7 +11,7 @@ pub returns-in-Ok : goal.returns-in-Ok
 returns-in-Ok g c =
     let a = c.args.admitted.now in
     let p = c.args.population.now.content in
-    ending_as (ap (λ (calls : List Call). script_answer a p (Ok calls)) c.deref.ensures.value ∙ sym (ap (script_answer a p) c.in-Ok.ensures))
+    ending_as (ap (λ (calls : List Call). script_answer a p (Ok calls)) c.deref.ensures.value ∙ sym (ap (script_answer a p) c.in-Ok.ensures.gives))
     c.reply_calls.ensures
 
 pub returns-in-Err-At : goal.returns-in-Err-At
