@@ -1,6 +1,6 @@
 -- Links, one kind after another: what a link makes of what stands on its left.
 use Rattle.std.proofs.lemmas.List.{drop_more}
-use Rattle.std.proofs.Common.{◌≡◌, ◌<◌, ◌+◌, get_or, drop, ℕ, Bool, true, false, List, [], ◌∷◌, map, length, Option, Some, None, Result, Ok, Err, refl, sym, ap, subst, ◌∙◌, Vec, Global, rules, if◌then◌else◌}
+use Rattle.std.proofs.Common.{◌≡◌, ◌<◌, ◌+◌, get_or, drop, ℕ, Bool, true, false, List, [], ◌∷◌, map, length, Option, Some, None, Result, Ok, Err, refl, sym, ap, subst, ◌∙◌, Box, Vec, Global, rules, if◌then◌else◌}
 use Rattle.imkl_model.specs.ClassModel.{Model, class_number}
 use Rattle.ocl_base.specs.Steps.{◌>>=◌, found, Gives, Fails}
 use Rattle.ocl_text.specs.declared.tree.BinaryOperator.{BinaryOperator}
@@ -21,7 +21,7 @@ use Rattle.ocl_types.specs.declared.core_tree.Typed.{Typed}
 use Rattle.ocl_types.specs.declared.fault.TypeFault.{TypeFault}
 use Rattle.ocl_types.specs.declared.fault.TypeFault.TheVariants.{At, OutOfMemory}
 use Rattle.ocl_types.specs.declared.fault.TypeFlaw.TheVariants.{UnknownName}
-use Rattle.ocl_types.specs.CoreView.{typed_of}
+use Rattle.ocl_types.specs.CoreView.{typed_in}
 use Rattle.ocl_types.specs.Faults.{TypeFaultAt, type_fault, type_fault_at}
 use Rattle.ocl_types.specs.Scope.{VariableScope}
 use Rattle.ocl_types.specs.Elaboration.{Elaborated, as_name, class_before, OfInstances, OfValue, property_of, call_of, elaborate}
@@ -267,5 +267,5 @@ pub more_links : (links : List Link) (i : ℕ) (link : Link) → link ≡ get_or
 more_links links i link is within = drop_more links i link within ∙ ap (λ (l : Link). l ∷ drop (i + 1) links) (sym is)
 
 -- what a function returned, at an equal answer
-pub carried : (r : Result Typed TypeFault) (a b : Elaborated) → b ≡ a → Gives type_fault typed_of r a → Gives type_fault typed_of r b
-carried r a b e h = let P : Elaborated → Type 0 = λ q. Gives type_fault typed_of r q in subst P (sym e) h
+pub carried : (r : Result (Box Typed Global) TypeFault) (a b : Elaborated) → b ≡ a → Gives type_fault typed_in r a → Gives type_fault typed_in r b
+carried r a b e h = let P : Elaborated → Type 0 = λ q. Gives type_fault typed_in r q in subst P (sym e) h

@@ -1,5 +1,6 @@
 -- What the values of the code are, as core trees and rules.
-use Rattle.std.specs.Prelude.{List, fold, string_bytes}
+use Rattle.std.specs.Prelude.{List, fold, string_bytes, Box}
+use Rattle.std.specs.Global.{Global}
 use Rattle.ocl_types.specs.declared.core_tree.ConstantValue.{ConstantValue}
 use Rattle.ocl_types.specs.declared.core_tree.ConstantValue.TheVariants as cv
 use Rattle.ocl_types.specs.declared.core_tree.Core.{Core, fold-Core}
@@ -47,6 +48,10 @@ core_link_of = fold-CoreLink CoreTree CoreOnward core_step core_link_step
 
 abbrev pub typed_of : Typed → TypedTree
 typed_of t = typed (core_view t.core) t.kind
+
+-- the same in a box
+abbrev pub typed_in : Box Typed Global → TypedTree
+typed_in b = typed_of b.value
 
 abbrev pub checked_rule_of : CoreRule → CheckedRule
 checked_rule_of r = record { name = r.name; context = r.context; tree = core_view r.tree }

@@ -1,10 +1,14 @@
 -- The walk in the steps that the code makes.
-use Rattle.std.specs.Prelude.{◌≡◌, ℕ, List, [], ◌∷◌, map, length, Option, None, Result, Ok}
+use Rattle.std.specs.Prelude.{◌≡◌, ℕ, List, [], ◌∷◌, map, length, Option, None, Result, Ok, Box, Vec}
+use Rattle.std.specs.Global.{Global}
 use Rattle.imkl_model.specs.ClassModel.{Model}
 use Rattle.ocl_base.specs.Steps.{◌>>=◌}
 use Rattle.ocl_text.specs.declared.tree.BinaryOperator.{BinaryOperator}
 use Rattle.ocl_text.specs.declared.tree.IteratorKind.{IteratorKind}
 use Rattle.ocl_text.specs.declared.tree.Navigation.{Navigation}
+use Rattle.ocl_text.specs.declared.tree.Binding.{Binding}
+use Rattle.ocl_text.specs.declared.tree.Expression.{Expression}
+use Rattle.ocl_text.specs.declared.tree.Expression.TheVariants as e
 use Rattle.ocl_text.specs.declared.tree.Link.{Link}
 use Rattle.ocl_text.specs.Tree as t
 use Rattle.ocl_text.specs.Tree.{Variables, SurfaceTree, Trees, Bound, offset_of, type_offset}
@@ -14,6 +18,13 @@ use Rattle.ocl_types.specs.Faults.{TypeFaultAt}
 use Rattle.ocl_types.specs.Operators.{class_operator}
 use Rattle.ocl_types.specs.Scope.{VariableScope, Named, scope_variable, inside}
 use Rattle.ocl_types.specs.Elaboration.{Elaborated, Receiver, class_before, left_of, binary_of, arguments_of, classes_of_arguments, seen_by_arguments, instances_call, call_of, source_of_arrow, inner_scope, iterate_of, declared_kind, bound_value, elaborate, elaborates}
+
+-- an expression that is a `let`, and one that is an `if`
+abbrev pub IsLet : Expression → Type 0
+IsLet x = (first : Box Binding Global) × (others : Vec Binding Global) × (body : Box Expression Global) × (offset : ℕ) × (x ≡ e.Let first others body offset)
+
+abbrev pub IsIf : Expression → Type 0
+IsIf x = (condition then_branch else_branch : Box Expression Global) × (offset : ℕ) × (x ≡ e.If condition then_branch else_branch offset)
 
 -- the name of the class in `C.allInstances(..)`, with its offset
 abbrev pub class_of_call : SurfaceTree → Option (List ℕ × ℕ)

@@ -5,7 +5,7 @@ ghost use Rattle.imkl_model.specs.ClassModel.{Model};
 ghost use Rattle.ocl_base.specs.Steps.{Gives};
 ghost use Rattle.ocl_kinds.specs.Kinds.{IsScalarKindOf, IsKindOf};
 ghost use Rattle.ocl_types.specs.CallView.{values_view, arguments_view, AreKnownClasses, AreKnownArguments};
-ghost use Rattle.ocl_types.specs.CoreView.{typed_of};
+ghost use Rattle.ocl_types.specs.CoreView.{typed_in, typed_of};
 ghost use Rattle.ocl_types.specs.Elaboration as spec;
 ghost use Rattle.ocl_types.specs.Faults.{type_fault};
 ghost use Rattle.ocl_types.specs.GatheredView.{gathered_view};
@@ -336,14 +336,15 @@ pub(crate) fn arrow_call(
 /// All objects of a class.
 #[inline(never)]
 pub(crate) fn instances_call(
+    alloc: Global,
     class: ClassNo,
     arguments: &Arguments,
     offset: usize,
-) -> Result<Typed, TypeFault>
-    ensures gives { Gives type_fault typed_of result
+) -> Result<Box<Typed>, TypeFault>
+    ensures gives { Gives type_fault typed_in result
         (spec.instances_call class (arguments_view arguments.now) offset) }
     ensures known { (m : Model) → class < length m.classes
-        → IfOk result (λ t. IsKindOf m t.kind) }
+        → IfOk result (λ b. IsKindOf m b.value.kind) }
 {
     let count = match arguments {
         Arguments::Classes(_, classes) => classes.len(),
@@ -352,8 +353,7 @@ pub(crate) fn instances_call(
     if count != 0 {
         return Err(refusal(TypeFlaw::WrongArgumentCount, offset));
     }
-    Ok(Typed {
-        core: nodes::all_instances(class),
-        kind: Kind::Collection(CollectionKind::Set, ScalarKind::Class(class)),
-    })
+    let core = nodes::all_instances(class);
+    let kind = Kind::Collection(CollectionKind::Set, ScalarKind::Class(class));
+    Ok(Box::new(alloc, Typed { core, kind })?)
 }

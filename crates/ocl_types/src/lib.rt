@@ -3,6 +3,7 @@
 
 mod all_rules;
 mod arguments;
+mod boxed;
 mod branches;
 mod calls;
 mod collecting;

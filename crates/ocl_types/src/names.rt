@@ -1,13 +1,15 @@
 //! Names, words and features.
 
-ghost use Rattle.std.specs.Prelude.{◌≡◌, ◌<◌, length, IfOk};
+ghost use Rattle.std.specs.Prelude.{◌≡◌, ◌<◌, length, IfOk, Ok};
 ghost use Rattle.imkl_model.specs.ClassModel.{Model, feature_at};
 ghost use Rattle.ocl_base.specs.Steps.{Gives};
 ghost use Rattle.ocl_kinds.specs.Kinds.{IsKindOf, feature_kind};
 ghost use Rattle.ocl_types.specs.Core as tree;
-ghost use Rattle.ocl_types.specs.CoreView.{core_view, typed_of};
+ghost use Rattle.ocl_types.specs.CoreView.{core_view, typed_in, typed_of};
 ghost use Rattle.ocl_types.specs.Elaboration as spec;
 ghost use Rattle.ocl_types.specs.Faults.{type_fault};
+ghost use Rattle.ocl_types.specs.declared.operator.BasicType.TheVariants as type;
+ghost use Rattle.ocl_types.specs.Operators.{basic};
 ghost use Rattle.ocl_types.specs.ScopeView.{AreKnownVariables};
 
 use crate::core_tree::{ConstantValue, Core, Typed};
@@ -16,15 +18,45 @@ use crate::nodes;
 use crate::scope::Scope;
 use imkl_model::{ClassModel, ClassNo, FeatureNo};
 use ocl_kinds::{Kind, ScalarKind, feature_kind};
-use ocl_text::Keyword;
+use ocl_text::{Keyword, WholeNumber};
 use std::alloc::{AllocError, Global};
+
+/// A whole number.
+#[inline(never)]
+pub(crate) fn number_value(alloc: Global, number: &WholeNumber) -> Result<Box<Typed>, TypeFault>
+    ensures gives { Gives type_fault typed_in result
+        (Ok (tree.typed (tree.Value (tree.Integer number.now)) (basic type.Integer))) }
+    ensures known { (m : Model) → IfOk result (λ b. IsKindOf m b.value.kind) }
+{
+    let core = nodes::constant(ConstantValue::Integer(number.copy()));
+    let kind = Kind::Scalar(ScalarKind::Integer);
+    Ok(Box::new(alloc, Typed { core, kind })?)
+}
+
+/// A text.
+#[inline(never)]
+pub(crate) fn text_value(alloc: Global, text: &str) -> Result<Box<Typed>, TypeFault>
+    ensures gives { Gives type_fault typed_in result
+        (Ok (tree.typed (tree.Value (tree.Text text.now)) (basic type.String))) }
+    ensures known { (m : Model) → IfOk result (λ b. IsKindOf m b.value.kind) }
+{
+    let text = String::from_str(alloc, text)?;
+    let core = nodes::constant(ConstantValue::Text(text));
+    let kind = Kind::Scalar(ScalarKind::String);
+    Ok(Box::new(alloc, Typed { core, kind })?)
+}
 
 /// What a word stands for in a rule of this context class.
 #[tactic(auto, unfolding(crate::specs::Elaboration::keyword_value))]
 #[inline(never)]
-pub(crate) fn keyword_value(context: ClassNo, keyword: Keyword) -> Typed
-    ensures value { typed_of result ≡ spec.keyword_value context keyword }
-    ensures known { (m : Model) → context < length m.classes → IsKindOf m result.kind }
+pub(crate) fn keyword_value(
+    alloc: Global,
+    context: ClassNo,
+    keyword: Keyword,
+) -> Result<Box<Typed>, TypeFault>
+    ensures gives { Gives type_fault typed_in result (Ok (spec.keyword_value context keyword)) }
+    ensures known { (m : Model) → context < length m.classes
+        → IfOk result (λ b. IsKindOf m b.value.kind) }
 {
     let (core, kind) = match keyword {
         Keyword::True => (
@@ -39,10 +71,8 @@ pub(crate) fn keyword_value(context: ClassNo, keyword: Keyword) -> Typed
         Keyword::Invalid => (nodes::constant(ConstantValue::Invalid), ScalarKind::Void),
         Keyword::SelfObject => (nodes::variable(0), ScalarKind::Class(context)),
     };
-    Typed {
-        core,
-        kind: Kind::Scalar(kind),
-    }
+    let kind = Kind::Scalar(kind);
+    Ok(Box::new(alloc, Typed { core, kind })?)
 }
 
 /// A feature of an object.
@@ -74,20 +104,21 @@ pub(crate) fn name_value(
     scope: &Scope<'_>,
     name: &str,
     offset: usize,
-) -> Result<Typed, TypeFault>
+) -> Result<Box<Typed>, TypeFault>
     requires { AreKnownVariables model.now scope.now }
-    ensures gives { Gives type_fault typed_of result
+    ensures gives { Gives type_fault typed_in result
         (spec.name_value model.now scope.now name.now offset) }
-    ensures known { IfOk result (λ t. IsKindOf model.now t.kind) }
+    ensures known { IfOk result (λ b. IsKindOf model.now b.value.kind) }
 {
     if let Some((number, kind)) = scope.variable_named(name) {
         let core = nodes::variable(number);
-        return Ok(Typed { core, kind });
+        return Ok(Box::new(alloc, Typed { core, kind })?);
     }
     match scope.feature_named(model, name) {
         Some((number, feature)) => {
             let source = nodes::variable(number);
-            Ok(feature_value(alloc, model, source, feature)?)
+            let value = feature_value(alloc, model, source, feature)?;
+            Ok(Box::new(alloc, value)?)
         }
         None => Err(TypeFault::At {
             flaw: TypeFlaw::UnknownName,
@@ -100,14 +131,15 @@ pub(crate) fn name_value(
 #[tactic(auto, unfolding(crate::specs::Elaboration::literal_value))]
 #[inline(never)]
 pub(crate) fn literal_value(
+    alloc: Global,
     model: &ClassModel,
     enumeration: &str,
     literal: &str,
     offset: usize,
-) -> Result<Typed, TypeFault>
-    ensures gives { Gives type_fault typed_of result
+) -> Result<Box<Typed>, TypeFault>
+    ensures gives { Gives type_fault typed_in result
         (spec.literal_value model.now enumeration.now literal.now offset) }
-    ensures known { IfOk result (λ t. IsKindOf model.now t.kind) }
+    ensures known { IfOk result (λ b. IsKindOf model.now b.value.kind) }
 {
     let unknown = TypeFault::At {
         flaw: TypeFlaw::UnknownName,
@@ -121,5 +153,5 @@ pub(crate) fn literal_value(
     };
     let core = nodes::constant(ConstantValue::Literal(number, literal));
     let kind = Kind::Scalar(ScalarKind::Enumeration(number));
-    Ok(Typed { core, kind })
+    Ok(Box::new(alloc, Typed { core, kind })?)
 }

@@ -38,7 +38,7 @@ fn core_rule(alloc: Global, model: &ClassModel, rule: &SurfaceRule) -> Result<Co
     Ok(CoreRule {
         name: rule.name.copy()?,
         context,
-        tree: value.core,
+        tree: Box::into_inner(value).core,
     })
 }
 

@@ -1,4 +1,7 @@
 //! The walk over a rule's expression: children before their node, left before right.
+//!
+//! Hundreds of its calls can wait for one another, so their frames are small: values stand in boxes, and what makes nodes
+//! of them, or goes through a `let` or an `if`, is not inlined.
 
 ghost use Rattle.std.specs.Prelude.{◌≡◌, map, drop, All, Some, None, Ok, IfOk, OnOk};
 ghost use Rattle.ocl_base.specs.Steps.{Gives};
@@ -7,32 +10,29 @@ ghost use Rattle.ocl_text.specs.Tree as tree;
 ghost use Rattle.ocl_text.specs.Tree.{SurfaceTree, trees_of, offset_of};
 ghost use Rattle.ocl_text.specs.View.{view, bound_of, link_of, view_variables};
 ghost use Rattle.ocl_types.specs.CallView.{values_view, arguments_view, AreKnownArguments};
-ghost use Rattle.ocl_types.specs.CoreView.{core_view, typed_of};
+ghost use Rattle.ocl_types.specs.CoreView.{core_view, typed_in};
 ghost use Rattle.ocl_types.specs.Elaboration as spec;
 ghost use Rattle.ocl_types.specs.EnvironmentView.{IsEnvironment, within};
 ghost use Rattle.ocl_types.specs.Faults.{type_fault};
 ghost use Rattle.ocl_types.specs.Operators.{class_operator};
 ghost use Rattle.ocl_types.specs.ScopeView.{AreKnownVariables, Extends};
 ghost use Rattle.ocl_types.specs.Walk as walk;
-ghost use Rattle.ocl_types.specs.Walk.{IsLeft, class_of_call, binary_after, call_after, iterate_after};
+ghost use Rattle.ocl_types.specs.Walk.{IsLet, IsIf, IsLeft, class_of_call, binary_after, call_after, iterate_after};
 
 use crate::arguments::{class_before_links, classes_of_arguments, known_class};
-use crate::branches::if_of;
-use crate::calls::{Arguments, Values, arrow_call, dot_call, instances_call};
-use crate::collecting::property_of;
-use crate::core_tree::{ConstantValue, Core, Typed};
+use crate::boxed;
+use crate::calls::{Arguments, Values, instances_call};
+use crate::core_tree::{Core, Typed};
 use crate::declared::declared_kind;
 use crate::environment::Environment;
 use crate::fault::TypeFault;
-use crate::iterations::{iterate_of, push_after_dot, push_variables};
+use crate::iterations::{push_after_dot, push_variables};
 use crate::lets::let_of;
-use crate::names::{keyword_value, literal_value, name_value};
-use crate::nodes;
-use crate::operators::{binary_of, left_of, prefix_of};
+use crate::names::{keyword_value, literal_value, name_value, number_value, text_value};
+use crate::operators::left_of;
 use crate::scope::Scope;
 use crate::table::class_operator;
 use crate::wanted::{asks_truth, bound_value, source_of_arrow};
-use ocl_kinds::{Kind, ScalarKind};
 use ocl_text::{
     BinaryOperator, Binding, Expression, IteratorKind, Link, Name, Navigation, Variables,
 };
@@ -46,27 +46,20 @@ pub(crate) fn elaborate<'t>(
     environment: &Environment<'_>,
     scope: &mut Scope<'t>,
     expression: &'t Expression,
-) -> Result<Typed, TypeFault>
+) -> Result<Box<Typed>, TypeFault>
     requires { IsEnvironment environment.now scope.old }
-    ensures gives { Gives type_fault typed_of result
+    ensures gives { Gives type_fault typed_in result
         (within environment.now spec.elaborate scope.old (view expression.now)) }
-    ensures known { IfOk result (λ t. IsKindOf environment.now.model.now t.kind) }
+    ensures known { IfOk result (λ b. IsKindOf environment.now.model.now b.value.kind) }
     ensures kept { OnOk result (scope.new ≡ scope.old) }
 {
     let model = environment.model;
     match expression {
-        Expression::Number { value, .. } => Ok(Typed {
-            core: nodes::constant(ConstantValue::Integer(value.copy())),
-            kind: Kind::Scalar(ScalarKind::Integer),
-        }),
-        Expression::String { value, .. } => {
-            let text = String::from_str(alloc, value.as_str())?;
-            Ok(Typed {
-                core: nodes::constant(ConstantValue::Text(text)),
-                kind: Kind::Scalar(ScalarKind::String),
-            })
+        Expression::Number { value, .. } => number_value(alloc, value),
+        Expression::String { value, .. } => text_value(alloc, value.as_str()),
+        Expression::Keyword { keyword, .. } => {
+            keyword_value(alloc, environment.context, *keyword)
         }
-        Expression::Keyword { keyword, .. } => Ok(keyword_value(environment.context, *keyword)),
         Expression::Name { name, offset } => {
             name_value(alloc, model, scope, name.as_str(), *offset)
         }
@@ -74,7 +67,13 @@ pub(crate) fn elaborate<'t>(
             enumeration,
             literal,
             offset,
-        } => literal_value(model, enumeration.as_str(), literal.as_str(), *offset),
+        } => literal_value(
+            alloc,
+            model,
+            enumeration.as_str(),
+            literal.as_str(),
+            *offset,
+        ),
         Expression::Prefix {
             operator,
             operand,
@@ -82,7 +81,7 @@ pub(crate) fn elaborate<'t>(
         } => {
             let operand_offset = operand.offset();
             let value = elaborate(alloc, environment, scope, operand)?;
-            prefix_of(alloc, model, *operator, value, operand_offset, *offset)
+            boxed::prefix_of(alloc, model, *operator, value, operand_offset, *offset)
         }
         Expression::Spine { first, links } => match class_before_links(first, links) {
             Some((class, at)) => {
@@ -95,32 +94,77 @@ pub(crate) fn elaborate<'t>(
                 links_after(alloc, environment, scope, links, 0, left, first.offset())
             }
         },
-        Expression::Let {
-            first,
-            others,
-            body,
-            ..
-        } => {
-            let outside = scope.len();
-            let outer = bind_one(alloc, environment, scope, first)?;
-            let values = bind_others(alloc, environment, scope, others, outer)?;
-            let value = elaborate(alloc, environment, scope, body)?;
-            scope.cut(outside);
-            Ok(let_of(alloc, values, value)?)
-        }
-        Expression::If {
-            condition,
-            then_branch,
-            else_branch,
-            offset,
-        } => {
-            let truth = elaborate(alloc, environment, scope, condition)?;
-            asks_truth(model, &truth.kind, condition.offset())?;
-            let one = elaborate(alloc, environment, scope, then_branch)?;
-            let other = elaborate(alloc, environment, scope, else_branch)?;
-            if_of(alloc, model, truth.core, one, other, *offset)
-        }
+        Expression::Let { .. } => let_value(alloc, environment, scope, expression),
+        Expression::If { .. } => if_value(alloc, environment, scope, expression),
     }
+}
+
+/// What a `let` is elaborated to.
+#[cycle(walk)]
+#[tactic(auto, unfolding(crate::specs::Elaboration::elaborate), using(ocl_text::proofs::ForAbove::views))]
+#[inline(never)]
+fn let_value<'t>(
+    alloc: Global,
+    environment: &Environment<'_>,
+    scope: &mut Scope<'t>,
+    expression: &'t Expression,
+) -> Result<Box<Typed>, TypeFault>
+    requires environment { IsEnvironment environment.now scope.old }
+    requires expression { IsLet expression.now }
+    ensures gives { Gives type_fault typed_in result
+        (within environment.now spec.elaborate scope.old (view expression.now)) }
+    ensures known { IfOk result (λ b. IsKindOf environment.now.model.now b.value.kind) }
+    ensures kept { OnOk result (scope.new ≡ scope.old) }
+{
+    let Expression::Let {
+        first,
+        others,
+        body,
+        ..
+    } = expression
+    else {
+        unreachable!()
+    };
+    let outside = scope.len();
+    let outer = bind_one(alloc, environment, scope, first)?;
+    let values = bind_others(alloc, environment, scope, others, outer)?;
+    let value = elaborate(alloc, environment, scope, body)?;
+    scope.cut(outside);
+    Ok(let_of(alloc, values, value)?)
+}
+
+/// What an `if` is elaborated to.
+#[cycle(walk)]
+#[tactic(auto, unfolding(crate::specs::Elaboration::elaborate), using(ocl_text::proofs::ForAbove::views))]
+#[inline(never)]
+fn if_value<'t>(
+    alloc: Global,
+    environment: &Environment<'_>,
+    scope: &mut Scope<'t>,
+    expression: &'t Expression,
+) -> Result<Box<Typed>, TypeFault>
+    requires environment { IsEnvironment environment.now scope.old }
+    requires expression { IsIf expression.now }
+    ensures gives { Gives type_fault typed_in result
+        (within environment.now spec.elaborate scope.old (view expression.now)) }
+    ensures known { IfOk result (λ b. IsKindOf environment.now.model.now b.value.kind) }
+    ensures kept { OnOk result (scope.new ≡ scope.old) }
+{
+    let Expression::If {
+        condition,
+        then_branch,
+        else_branch,
+        offset,
+    } = expression
+    else {
+        unreachable!()
+    };
+    let model = environment.model;
+    let truth = elaborate(alloc, environment, scope, condition)?;
+    asks_truth(model, &truth.kind, condition.offset())?;
+    let one = elaborate(alloc, environment, scope, then_branch)?;
+    let other = elaborate(alloc, environment, scope, else_branch)?;
+    boxed::if_of(alloc, model, truth, one, other, *offset)
 }
 
 /// The values of several arguments.
@@ -143,8 +187,9 @@ fn elaborate_all<'t>(
     let mut kinds = Vec::new(alloc);
     'arguments: for argument in arguments {
         let value = elaborate(alloc, environment, scope, argument)?;
-        cores.push(value.core)?;
-        kinds.push(value.kind)?;
+        let Typed { core, kind } = Box::into_inner(value);
+        cores.push(core)?;
+        kinds.push(kind)?;
     }
     Ok(Values { cores, kinds })
 }
@@ -190,19 +235,19 @@ fn binary_link<'t>(
     operator: BinaryOperator,
     right: &'t Expression,
     offset: usize,
-    left: Typed,
+    left: Box<Typed>,
     left_offset: usize,
-) -> Result<Typed, TypeFault>
+) -> Result<Box<Typed>, TypeFault>
     requires environment { IsEnvironment environment.now scope.old }
-    requires left { IsKindOf environment.now.model.now left.kind }
-    ensures gives { Gives type_fault typed_of result (within environment.now binary_after
-        scope.old operator (typed_of left) left_offset (view right.now) offset) }
-    ensures known { IfOk result (λ t. IsKindOf environment.now.model.now t.kind) }
+    requires left { IsKindOf environment.now.model.now left.value.kind }
+    ensures gives { Gives type_fault typed_in result (within environment.now binary_after
+        scope.old operator (typed_in left) left_offset (view right.now) offset) }
+    ensures known { IfOk result (λ b. IsKindOf environment.now.model.now b.value.kind) }
     ensures kept { OnOk result (scope.new ≡ scope.old) }
 {
     left_of(environment.model, operator, &left.kind, left_offset)?;
     let other = elaborate(alloc, environment, scope, right)?;
-    binary_of(
+    boxed::binary_of(
         alloc,
         environment.model,
         operator,
@@ -225,14 +270,14 @@ fn call_link<'t>(
     name: &str,
     arguments: &'t [Expression],
     offset: usize,
-    left: Typed,
-) -> Result<Typed, TypeFault>
+    left: Box<Typed>,
+) -> Result<Box<Typed>, TypeFault>
     requires environment { IsEnvironment environment.now scope.old }
-    requires left { IsKindOf environment.now.model.now left.kind }
-    ensures gives { Gives type_fault typed_of result (within environment.now call_after
-        scope.old (spec.OfValue (typed_of left)) navigation name.now
+    requires left { IsKindOf environment.now.model.now left.value.kind }
+    ensures gives { Gives type_fault typed_in result (within environment.now call_after
+        scope.old (spec.OfValue (typed_in left)) navigation name.now
         (trees_of (map view arguments.now)) offset) }
-    ensures known { IfOk result (λ t. IsKindOf environment.now.model.now t.kind) }
+    ensures known { IfOk result (λ b. IsKindOf environment.now.model.now b.value.kind) }
     ensures kept { OnOk result (scope.new ≡ scope.old) }
 {
     let model = environment.model;
@@ -242,12 +287,11 @@ fn call_link<'t>(
             push_after_dot(model, scope, &left.kind)?;
             let values = arguments_of(alloc, environment, scope, name, arguments)?;
             scope.cut(outside);
-            dot_call(alloc, model, outside, left, name, values, offset)
+            boxed::dot_call(alloc, model, outside, left, name, values, offset)
         }
         Navigation::Arrow => {
             let values = arguments_of(alloc, environment, scope, name, arguments)?;
-            let source = source_of_arrow(alloc, left)?;
-            arrow_call(alloc, model, source, name, values, offset)
+            boxed::arrow_call(alloc, model, left, name, values, offset)
         }
     }
 }
@@ -262,23 +306,23 @@ fn iterate_link<'t>(
     iterator: IteratorKind,
     variables: &'t Variables,
     body: &'t Expression,
-    left: Typed,
+    left: Box<Typed>,
     offset: usize,
-) -> Result<Typed, TypeFault>
+) -> Result<Box<Typed>, TypeFault>
     requires environment { IsEnvironment environment.now scope.old }
-    requires left { IsKindOf environment.now.model.now left.kind }
-    ensures gives { Gives type_fault typed_of result (within environment.now iterate_after
-        scope.old iterator (typed_of left) (view_variables variables.now) (view body.now) offset) }
-    ensures known { IfOk result (λ t. IsKindOf environment.now.model.now t.kind) }
+    requires left { IsKindOf environment.now.model.now left.value.kind }
+    ensures gives { Gives type_fault typed_in result (within environment.now iterate_after
+        scope.old iterator (typed_in left) (view_variables variables.now) (view body.now) offset) }
+    ensures known { IfOk result (λ b. IsKindOf environment.now.model.now b.value.kind) }
     ensures kept { OnOk result (scope.new ≡ scope.old) }
 {
     let model = environment.model;
-    let source = source_of_arrow(alloc, left)?;
+    let source = source_of_arrow(alloc, Box::into_inner(left))?;
     let outside = scope.len();
     push_variables(model, scope, &source, variables)?;
     let value = elaborate(alloc, environment, scope, body)?;
     scope.cut(outside);
-    iterate_of(
+    boxed::iterate_of(
         alloc,
         model,
         outside,
@@ -297,17 +341,17 @@ fn link_after<'t>(
     environment: &Environment<'_>,
     scope: &mut Scope<'t>,
     link: &'t Link,
-    left: Typed,
+    left: Box<Typed>,
     left_offset: usize,
-) -> Result<Typed, TypeFault>
+) -> Result<Box<Typed>, TypeFault>
     requires environment { IsEnvironment environment.now scope.old }
-    requires left { IsKindOf environment.now.model.now left.kind }
+    requires left { IsKindOf environment.now.model.now left.value.kind }
     ensures gives { (tree : SurfaceTree)
-        → within environment.now spec.elaborate scope.old tree ≡ Ok (typed_of left)
+        → within environment.now spec.elaborate scope.old tree ≡ Ok (typed_in left)
         → offset_of tree ≡ left_offset → class_of_call (link_of link.now tree) ≡ None
-        → Gives type_fault typed_of result
+        → Gives type_fault typed_in result
         (within environment.now spec.elaborate scope.old (link_of link.now tree)) }
-    ensures known { IfOk result (λ t. IsKindOf environment.now.model.now t.kind) }
+    ensures known { IfOk result (λ b. IsKindOf environment.now.model.now b.value.kind) }
     ensures kept { OnOk result (scope.new ≡ scope.old) }
 {
     let model = environment.model;
@@ -327,7 +371,7 @@ fn link_after<'t>(
             left_offset,
         ),
         Link::Property { name, offset } => {
-            property_of(alloc, model, scope.len(), left, name.as_str(), *offset)
+            boxed::property_of(alloc, model, scope.len(), left, name.as_str(), *offset)
         }
         Link::Call {
             navigation,
@@ -375,13 +419,13 @@ fn instances_link<'t>(
     link: &'t Link,
     class: &Name,
     class_offset: usize,
-) -> Result<Typed, TypeFault>
+) -> Result<Box<Typed>, TypeFault>
     requires environment { IsEnvironment environment.now scope.old }
     requires call { class_of_call (link_of link.now (tree.Name class.now class_offset))
         ≡ Some (class.now, class_offset) }
-    ensures gives { Gives type_fault typed_of result (within environment.now spec.elaborate
+    ensures gives { Gives type_fault typed_in result (within environment.now spec.elaborate
         scope.old (link_of link.now (tree.Name class.now class_offset))) }
-    ensures known { IfOk result (λ t. IsKindOf environment.now.model.now t.kind) }
+    ensures known { IfOk result (λ b. IsKindOf environment.now.model.now b.value.kind) }
     ensures kept { OnOk result (scope.new ≡ scope.old) }
 {
     let Link::Call {
@@ -395,7 +439,7 @@ fn instances_link<'t>(
     };
     let class = known_class(environment.model, class.as_str(), class_offset)?;
     let values = arguments_of(alloc, environment, scope, name.as_str(), arguments)?;
-    instances_call(class, &values, *offset)
+    instances_call(alloc, class, &values, *offset)
 }
 
 /// The links from an index on, one after another, where this stands on their left.
@@ -406,17 +450,17 @@ fn links_after<'t>(
     scope: &mut Scope<'t>,
     links: &'t [Link],
     from: usize,
-    left: Typed,
+    left: Box<Typed>,
     left_offset: usize,
-) -> Result<Typed, TypeFault>
+) -> Result<Box<Typed>, TypeFault>
     requires environment { IsEnvironment environment.now scope.old }
-    requires left { IsKindOf environment.now.model.now left.kind }
+    requires left { IsKindOf environment.now.model.now left.value.kind }
     ensures gives { (tree : SurfaceTree)
         → IsLeft environment.now.model.now environment.now.context scope.old tree
-        (drop from links.now) (typed_of left) left_offset
-        → Gives type_fault typed_of result
+        (drop from links.now) (typed_in left) left_offset
+        → Gives type_fault typed_in result
         (within environment.now spec.elaborate scope.old tree) }
-    ensures known { IfOk result (λ t. IsKindOf environment.now.model.now t.kind) }
+    ensures known { IfOk result (λ b. IsKindOf environment.now.model.now b.value.kind) }
     ensures kept { OnOk result (scope.new ≡ scope.old) }
 {
     let mut value = left;
@@ -447,6 +491,7 @@ fn bind_one<'t>(
     let model = environment.model;
     let kind = declared_kind(model, &binding.declared)?;
     let value = elaborate(alloc, environment, scope, &binding.value)?;
+    let value = Box::into_inner(value);
     let value = bound_value(alloc, model, &kind, value, binding.declared.offset())?;
     scope.push_named(&binding.name, kind)?;
     Ok(value)

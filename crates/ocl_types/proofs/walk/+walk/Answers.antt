@@ -12,28 +12,28 @@ use Rattle.ocl_types.specs.Elaboration.{elaborate}
 use Rattle.ocl_types.specs.Faults.{type_fault}
 use Rattle.ocl_types.proofs.Bindings.{let_steps}
 use Rattle.ocl_types.specs.Core.{TypedTree}
-use Rattle.ocl_types.specs.CoreView.{typed_of}
+use Rattle.ocl_types.specs.CoreView.{typed_in}
 use Rattle.ocl_types.proofs.Links.{binary_link, property_link, call_link, iterate_link, instances_link, first_plain, more_links, first_fails, after_instances, instances_fail, next_left, last_left, left_fails, went_on, carried}
 use Rattle.ocl_types.proofs.walk.+walk.Goals as goal
 
 pub link_after-returns-in-Binary-clause-gives : goal.link_after-returns-in-Binary-clause-gives
 link_after-returns-in-Binary-clause-gives t c = λ tree value stands plain.
-    carried _ _ _ (binary_link c.args.environment.now.model.now c.args.environment.now.context c.args.scope.now c.args.link.now c.in-Binary.operator c.in-Binary.right c.in-Binary.offset tree (typed_of c.args.left) c.in-Binary.is value)
+    carried _ _ _ (binary_link c.args.environment.now.model.now c.args.environment.now.context c.args.scope.now c.args.link.now c.in-Binary.operator c.in-Binary.right c.in-Binary.offset tree (typed_in c.args.left) c.in-Binary.is value)
     (rw stands c.binary_link.ensures.gives)
 
 pub link_after-returns-in-Property-clause-gives : goal.link_after-returns-in-Property-clause-gives
 link_after-returns-in-Property-clause-gives t c = λ tree value stands plain.
-    carried _ _ _ (property_link c.args.environment.now.model.now c.args.environment.now.context c.args.scope.now c.args.link.now c.in-Property.name c.in-Property.offset tree (typed_of c.args.left) c.in-Property.is value)
+    carried _ _ _ (property_link c.args.environment.now.model.now c.args.environment.now.context c.args.scope.now c.args.link.now c.in-Property.name c.in-Property.offset tree (typed_in c.args.left) c.in-Property.is value)
     (rw (c.len.ensures, c.as_str.ensures.text) at c.property_of.ensures.gives)
 
 pub link_after-returns-in-Call-clause-gives : goal.link_after-returns-in-Call-clause-gives
 link_after-returns-in-Call-clause-gives t c = λ tree value stands plain.
-    carried _ _ _ (call_link c.args.environment.now.model.now c.args.environment.now.context c.args.scope.now c.args.link.now c.in-Call.navigation c.in-Call.name c.in-Call.arguments c.in-Call.offset tree (typed_of c.args.left) c.in-Call.is value plain)
+    carried _ _ _ (call_link c.args.environment.now.model.now c.args.environment.now.context c.args.scope.now c.args.link.now c.in-Call.navigation c.in-Call.name c.in-Call.arguments c.in-Call.offset tree (typed_in c.args.left) c.in-Call.is value plain)
     (rw (c.as_str-name.ensures.text, c.deref.ensures.value) at c.call_link.ensures.gives)
 
 pub link_after-returns-in-Iterate-clause-gives : goal.link_after-returns-in-Iterate-clause-gives
 link_after-returns-in-Iterate-clause-gives t c = λ tree value stands plain.
-    carried _ _ _ (iterate_link c.args.environment.now.model.now c.args.environment.now.context c.args.scope.now c.args.link.now c.in-Iterate.iterator c.in-Iterate.variables c.in-Iterate.body c.in-Iterate.offset tree (typed_of c.args.left) c.in-Iterate.is value)
+    carried _ _ _ (iterate_link c.args.environment.now.model.now c.args.environment.now.context c.args.scope.now c.args.link.now c.in-Iterate.iterator c.in-Iterate.variables c.in-Iterate.body c.in-Iterate.offset tree (typed_in c.args.left) c.in-Iterate.is value)
     c.iterate_link.ensures.gives
 
 pub link_after-call_link-requires : goal.link_after-call_link-requires
@@ -46,7 +46,7 @@ links_after-links-preserved t c = (
       let more = drop (c.links.i + 1) c.args.links.now in
       let l = c.links.invariant.0 tree left in
       let is = more_links c.args.links.now c.links.i link c.index-links-i.is c.links-test.true in
-      next_left c.args.environment.now.model.now c.args.environment.now.context c.args.scope.now tree link more (drop c.links.i c.args.links.now) (typed_of c.links.value) (typed_of c.in_ok-value.value) c.links.offset c.offset-offset.result l is
+      next_left c.args.environment.now.model.now c.args.environment.now.context c.args.scope.now tree link more (drop c.links.i c.args.links.now) (typed_in c.links.value) (typed_in c.in_ok-value.value) c.links.offset c.offset-offset.result l is
       ((rw c.links.invariant.2 at c.in_ok-value.ensures.gives) l.left l.value l.stands (first_plain (drop c.links.i c.args.links.now) more link l.left is l.plain)) (c.offset-offset.ensures l.left),
   c.in_ok-value.ensures.known,
   c.in_ok-value.ensures.kept ∙ c.links.invariant.2,
@@ -59,12 +59,12 @@ links_after-returns-in_err-value-clause-gives t c = λ tree left.
     let l = c.links.invariant.0 tree left in
     let is = more_links c.args.links.now c.links.i link c.index-links-i.is c.links-test.true in
     let p = err_from_is_err_and c.from_residual.result c.from_residual.ensures.1 in
-    rw (p.1, p.2) (left_fails c.args.environment.now.model.now c.args.environment.now.context c.args.scope.now tree link more (drop c.links.i c.args.links.now) (typed_of c.links.value) c.links.offset c.in_err-value.field-0.0 l is
+    rw (p.1, p.2) (left_fails c.args.environment.now.model.now c.args.environment.now.context c.args.scope.now tree link more (drop c.links.i c.args.links.now) (typed_in c.links.value) c.links.offset c.in_err-value.field-0.0 l is
     ((rw c.links.invariant.2 at c.in_err-value.ensures.gives) l.left l.value l.stands (first_plain (drop c.links.i c.args.links.now) more link l.left is l.plain)))
 
 pub links_after-returns-clause-gives : goal.links_after-returns-clause-gives
 links_after-returns-clause-gives t c = λ tree left.
-    last_left c.args.environment.now.model.now c.args.environment.now.context c.args.scope.now tree (drop c.links.i c.args.links.now) (typed_of c.links.value) c.links.offset (c.links.invariant.0 tree left)
+    last_left c.args.environment.now.model.now c.args.environment.now.context c.args.scope.now tree (drop c.links.i c.args.links.now) (typed_in c.links.value) c.links.offset (c.links.invariant.0 tree left)
     (drop_of_length-le c.args.links.now c.links-test.false)
 
 pub elaborate-returns-in_err-value-in-Some-clause-gives : goal.elaborate-returns-in_err-value-in-Some-clause-gives
@@ -86,52 +86,52 @@ elaborate-returns-in_err-left-in-None-clause-gives t c =
     rw (p.1, p.2) (fails_along type_fault c.in_err-left-in-None.field-0.0 _ _ (sym seen)
     (first_fails c.args.environment.now.model.now c.args.environment.now.context s c.in_err-left-in-None.field-0.0 (view c.in-Spine.first.value) c.in-Spine.links.items plain (rw c.deref-in-None.ensures at c.in_err-left-in-None.ensures.gives)))
 
-pub elaborate-bind_others-requires : goal.elaborate-bind_others-requires
-elaborate-bind_others-requires t c = (search (rules, the_lemmas), (c.requires.0, c.in_ok-outer-in-Let.ensures.known))
-
-pub elaborate-returns-in_err-values-in-Let-clause-gives : goal.elaborate-returns-in_err-values-in-Let-clause-gives
-elaborate-returns-in_err-values-in-Let-clause-gives t c =
-    let s = c.args.scope.now in
-    let body = view c.in-Let.body.value in
-    let seen = ap view c.in-Let.is ∙ view-Let c.in-Let.first c.in-Let.others c.in-Let.body c.in-Let.offset in
-    let whole = ap (elaborate c.args.environment.now.model.now c.args.environment.now.context s) seen
-    ∙ let_steps c.args.environment.now.model.now c.args.environment.now.context s (bound_of c.in-Let.first.value) (map bound_of c.in-Let.others.items) body c.in-Let.offset
-    ∙ went_on _ _ _ (rw c.deref-in-Let.ensures at c.in_ok-outer-in-Let.ensures.gives) in
-    let p = err_from_is_err_and c.from_residual-in_err-values-in-Let.result c.from_residual-in_err-values-in-Let.ensures.1 in
-    rw (p.1, p.2) (fails_whole type_fault c.in_err-values-in-Let.field-0.0 _ _ _ (sym whole) (rw c.deref-in-Let-2.ensures.value at c.in_err-values-in-Let.ensures.gives))
-
-pub elaborate-returns-in_err-value-in-Let-clause-gives : goal.elaborate-returns-in_err-value-in-Let-clause-gives
-elaborate-returns-in_err-value-in-Let-clause-gives t c =
-    let s = c.args.scope.now in
-    let body = view c.in-Let.body.value in
-    let seen = ap view c.in-Let.is ∙ view-Let c.in-Let.first c.in-Let.others c.in-Let.body c.in-Let.offset in
-    let whole = ap (elaborate c.args.environment.now.model.now c.args.environment.now.context s) seen
-    ∙ let_steps c.args.environment.now.model.now c.args.environment.now.context s (bound_of c.in-Let.first.value) (map bound_of c.in-Let.others.items) body c.in-Let.offset
-    ∙ went_on _ _ _ (rw c.deref-in-Let.ensures at c.in_ok-outer-in-Let.ensures.gives)
-    ∙ went_on _ _ _ (rw c.deref-in-Let-2.ensures.value at c.in_ok-values-in-Let.ensures.gives) in
-    let p = err_from_is_err_and c.from_residual-in_err-value-in-Let.result c.from_residual-in_err-value-in-Let.ensures.1 in
-    rw (p.1, p.2) (fails_whole type_fault c.in_err-value-in-Let.field-0.0 _ _ _ (sym whole) (rw c.deref-in-Let-3.ensures at c.in_err-value-in-Let.ensures.gives))
-
 pub elaborate-returns-in_ok-value-in-Some-clause-gives : goal.elaborate-returns-in_ok-value-in-Some-clause-gives
 elaborate-returns-in_ok-value-in-Some-clause-gives t c =
     let s = c.args.scope.now in
     let first = view c.in-Spine.first.value in
     let seen = ap (elaborate c.args.environment.now.model.now c.args.environment.now.context s) (ap view c.in-Spine.is ∙ view-Spine c.in-Spine.first c.in-Spine.links) in
     let asked = sym (rw (c.deref-in-Spine.ensures, c.deref-in-Spine-2.ensures.value) at c.in-Some.ensures) in
-    let left = after_instances c.args.environment.now.model.now c.args.environment.now.context s first c.in-Spine.links.items c.index-link.result.now (c.in-Some.class.now, c.in-Some.at) (typed_of c.in_ok-value-in-Some.value) c.offset.result asked c.index-link.ensures c.in_ok-value-in-Some.ensures.gives (c.offset.ensures (surface.Name c.in-Some.class.now c.in-Some.at)) in
+    let left = after_instances c.args.environment.now.model.now c.args.environment.now.context s first c.in-Spine.links.items c.index-link.result.now (c.in-Some.class.now, c.in-Some.at) (typed_in c.in_ok-value-in-Some.value) c.offset.result asked c.index-link.ensures c.in_ok-value-in-Some.ensures.gives (c.offset.ensures (surface.Name c.in-Some.class.now c.in-Some.at)) in
     carried _ _ _ seen ((rw c.in_ok-value-in-Some.ensures.kept at c.links_after.ensures.gives) (spine_of first (map link_of c.in-Spine.links.items)) (rw c.deref-in-Some.ensures.value left))
 
-pub elaborate-returns-in_ok-let_of-in-Let-clause-gives : goal.elaborate-returns-in_ok-let_of-in-Let-clause-gives
-elaborate-returns-in_ok-let_of-in-Let-clause-gives t c =
+pub let_value-bind_others-requires : goal.let_value-bind_others-requires
+let_value-bind_others-requires t c = (search (rules, the_lemmas), (c.requires.environment.0, c.in_ok-outer.ensures.known))
+
+pub let_value-returns-in_err-values-clause-gives : goal.let_value-returns-in_err-values-clause-gives
+let_value-returns-in_err-values-clause-gives t c =
     let s = c.args.scope.now in
     let body = view c.in-Let.body.value in
     let seen = ap view c.in-Let.is ∙ view-Let c.in-Let.first c.in-Let.others c.in-Let.body c.in-Let.offset in
     let whole = ap (elaborate c.args.environment.now.model.now c.args.environment.now.context s) seen
     ∙ let_steps c.args.environment.now.model.now c.args.environment.now.context s (bound_of c.in-Let.first.value) (map bound_of c.in-Let.others.items) body c.in-Let.offset
-    ∙ went_on _ _ _ (rw c.deref-in-Let.ensures at c.in_ok-outer-in-Let.ensures.gives)
-    ∙ went_on _ _ _ (rw c.deref-in-Let-2.ensures.value at c.in_ok-values-in-Let.ensures.gives)
-    ∙ went_on _ _ _ (rw c.deref-in-Let-3.ensures at c.in_ok-value-in-Let.ensures.gives) in
-    whole ∙ ap (λ (x : TypedTree). Ok x) (sym c.in_ok-let_of-in-Let.ensures.value)
+    ∙ went_on _ _ _ (rw c.deref.ensures at c.in_ok-outer.ensures.gives) in
+    let p = err_from_is_err_and c.from_residual-in_err-values.result c.from_residual-in_err-values.ensures.1 in
+    rw (p.1, p.2) (fails_whole type_fault c.in_err-values.field-0.0 _ _ _ (sym whole) (rw c.deref-2.ensures.value at c.in_err-values.ensures.gives))
+
+pub let_value-returns-in_err-value-clause-gives : goal.let_value-returns-in_err-value-clause-gives
+let_value-returns-in_err-value-clause-gives t c =
+    let s = c.args.scope.now in
+    let body = view c.in-Let.body.value in
+    let seen = ap view c.in-Let.is ∙ view-Let c.in-Let.first c.in-Let.others c.in-Let.body c.in-Let.offset in
+    let whole = ap (elaborate c.args.environment.now.model.now c.args.environment.now.context s) seen
+    ∙ let_steps c.args.environment.now.model.now c.args.environment.now.context s (bound_of c.in-Let.first.value) (map bound_of c.in-Let.others.items) body c.in-Let.offset
+    ∙ went_on _ _ _ (rw c.deref.ensures at c.in_ok-outer.ensures.gives)
+    ∙ went_on _ _ _ (rw c.deref-2.ensures.value at c.in_ok-values.ensures.gives) in
+    let p = err_from_is_err_and c.from_residual-in_err-value.result c.from_residual-in_err-value.ensures.1 in
+    rw (p.1, p.2) (fails_whole type_fault c.in_err-value.field-0.0 _ _ _ (sym whole) (rw c.deref-3.ensures at c.in_err-value.ensures.gives))
+
+pub let_value-returns-clause-gives : goal.let_value-returns-clause-gives
+let_value-returns-clause-gives t c =
+    let s = c.args.scope.now in
+    let body = view c.in-Let.body.value in
+    let seen = ap view c.in-Let.is ∙ view-Let c.in-Let.first c.in-Let.others c.in-Let.body c.in-Let.offset in
+    let whole = ap (elaborate c.args.environment.now.model.now c.args.environment.now.context s) seen
+    ∙ let_steps c.args.environment.now.model.now c.args.environment.now.context s (bound_of c.in-Let.first.value) (map bound_of c.in-Let.others.items) body c.in-Let.offset
+    ∙ went_on _ _ _ (rw c.deref.ensures at c.in_ok-outer.ensures.gives)
+    ∙ went_on _ _ _ (rw c.deref-2.ensures.value at c.in_ok-values.ensures.gives)
+    ∙ went_on _ _ _ (rw c.deref-3.ensures at c.in_ok-value.ensures.gives) in
+    whole ∙ ap (λ (x : TypedTree). Ok x) (sym c.in_ok-let_of.ensures.value)
 
 pub instances_link-returns-in_err-class-clause-gives : goal.instances_link-returns-in_err-class-clause-gives
 instances_link-returns-in_err-class-clause-gives t c =

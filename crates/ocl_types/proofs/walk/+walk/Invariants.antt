@@ -3,7 +3,7 @@ use Rattle.ocl_kinds.specs.Kinds.{IsKindOf}
 use Rattle.ocl_text.specs.Tree.{SurfaceTree, trees_of}
 use Rattle.ocl_text.specs.View.{view, bound_of}
 use Rattle.ocl_types.specs.Core.{typed_trees}
-use Rattle.ocl_types.specs.CoreView.{core_view, typed_of}
+use Rattle.ocl_types.specs.CoreView.{core_view, typed_in}
 use Rattle.ocl_types.specs.Walk as walk
 use Rattle.ocl_types.specs.Walk.{IsLeft}
 use Rattle.ocl_types.specs.ScopeView.{AreKnownVariables, Extends}
@@ -22,9 +22,9 @@ invariant-elaborate_all-arguments l =
 
 abbrev pub invariant-links_after-links : goal.invariant-links_after-links
 invariant-links_after-links l =
-    ((tree : SurfaceTree) → IsLeft l.environment.model.now l.environment.context l.fn.scope tree (drop l.from l.links) (typed_of l.fn.left) l.fn.left_offset
-    → IsLeft l.environment.model.now l.environment.context l.fn.scope tree (drop l.i l.links) (typed_of l.value) l.offset)
-    × IsKindOf l.environment.model.now l.value.kind
+    ((tree : SurfaceTree) → IsLeft l.environment.model.now l.environment.context l.fn.scope tree (drop l.from l.links) (typed_in l.fn.left) l.fn.left_offset
+    → IsLeft l.environment.model.now l.environment.context l.fn.scope tree (drop l.i l.links) (typed_in l.value) l.offset)
+    × IsKindOf l.environment.model.now l.value.value.kind
     × (l.scope ≡ l.fn.scope)
 
 abbrev pub invariant-bind_others-bindings : goal.invariant-bind_others-bindings
