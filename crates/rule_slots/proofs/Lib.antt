@@ -6,5 +6,7 @@ pub mod Alike
 pub mod Equal
 pub mod Characters
 pub mod Loops
+pub mod InOrder
+pub mod SlotOrder
 pub mod Taken
 pub mod ForAbove

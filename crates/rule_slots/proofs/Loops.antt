@@ -9,6 +9,7 @@ use Rattle.ocl_base.specs.Lists.{is_among, repeats}
 use Rattle.rule_slots.specs.declared.slot.Slot.{Slot}
 use Rattle.rule_slots.specs.Slots.{Lists, plain_mark, held_slots, home_named, IsInHome}
 use Rattle.rule_slots.specs.Compared.{times_among, pairwise_same, first_ones}
+use Rattle.rule_slots.specs.Ordered.{begins_after, rises}
 use Rattle.rule_slots.specs.Summed.{sum_of_slots}
 use Rattle.rule_slots.proofs.Parts.{part_long}
 
@@ -27,6 +28,22 @@ module _ {A : Type 0} where
   -- what is left begins with the item that is read
   pub next_at : (xs : List A) (k : ℕ) (x : A) → slice_get xs k ≡ Some x → drop k xs ≡ x ∷ drop (k + 1) xs
   next_at xs k x e = let n : suc k ≡ k + 1 = omega arith in drop_next xs k x e ∙ ap (λ m. x ∷ drop m xs) n
+
+  take_suc : (xs : List A) (k : ℕ) (x : A) → slice_get xs k ≡ Some x → take (suc k) xs ≡ take k xs ++ x ∷ []
+  take_suc [] k x e = cc
+  take_suc (y ∷ xs) zero x e = let q : y ≡ x = cc in ap (λ z. z ∷ []) q
+  take_suc (y ∷ xs) (suc k) x e = ap (λ z. y ∷ z) (take_suc xs k x e)
+
+  -- what was taken so far, with the item that is read
+  pub take_next : (xs : List A) (k : ℕ) (x : A) → slice_get xs k ≡ Some x → take (k + 1) xs ≡ take k xs ++ x ∷ []
+  take_next xs k x e = let n : k + 1 ≡ suc k = omega arith in ap (λ m. take m xs) n ∙ take_suc xs k x e
+
+  -- all were taken
+  pub all_taken : (xs : List A) (k : ℕ) → length xs ≤ k → take k xs ≡ xs
+  all_taken [] zero le = refl
+  all_taken [] (suc k) le = refl
+  all_taken (x ∷ xs) zero le = absurd (omega (arith, le))
+  all_taken (x ∷ xs) (suc k) le = ap (λ z. x ∷ z) (all_taken xs k (omega (arith, le)))
 
   -- ---- tests of all, and of any
 
@@ -144,8 +161,36 @@ sum_done t left all e g = ap Some (sym (+ℤ_idr t)) ∙ sym (ap (option_map (λ
 pub taken_are : (l : Lists) (old taken : List Slot) (s : Slot) → s.list ≡ 2 → s.start ≡ length old → s.count ≡ length taken → held_slots l (old ++ taken) s ≡ taken
 taken_are l old taken s el es ec =
     let n : length old + length taken - length old ≡ length taken = omega arith in
-    rw (el, es, ec) (ap (λ z. take z (drop (length old) (old ++ taken))) n ∙ ap (take (length taken)) (drop_at old taken (length old) refl) ∙ all_taken taken)
-  where
-    all_taken : (xs : List Slot) → take (length xs) xs ≡ xs
-    all_taken [] = refl
-    all_taken (x ∷ xs) = ap (λ z. x ∷ z) (all_taken xs)
+    rw (el, es, ec) (ap (λ z. take z (drop (length old) (old ++ taken))) n ∙ ap (take (length taken)) (drop_at old taken (length old) refl) ∙ all_taken taken (length taken) (omega arith))
+
+-- ---- lists in order
+
+module _ {A : Type 0} (valid : A → Bool) (before : A → A → Bool) where
+  -- an item that may not stand in the list
+  pub rises_invalid : (xs : List A) (k : ℕ) (x : A) → slice_get xs k ≡ Some x → valid x ≡ false → rises valid before (drop k xs) ≡ false
+  rises_invalid xs k x e v = ap (rises valid before) (next_at xs k x e) ∙ ap (λ z. (z && begins_after before x (drop (k + 1) xs)) && rises valid before (drop (k + 1) xs)) v
+
+  -- one that may not stand before the one behind it
+  pub rises_falls : (xs : List A) (k : ℕ) (x y : A) → slice_get xs k ≡ Some x → slice_get xs (k + 1) ≡ Some y → before x y ≡ false → rises valid before (drop k xs) ≡ false
+  rises_falls xs k x y e f b =
+      ap (rises valid before) (next_at xs k x e) ∙ ap (λ z. (valid x && begins_after before x z) && rises valid before (drop (k + 1) xs)) (next_at xs (k + 1) y f) ∙ ap (λ z. (valid x && z) && rises valid before (drop (k + 1) xs)) b
+      ∙ failed (valid x)
+    where
+      failed : (b : Bool) → ((b && false) && rises valid before (drop (k + 1) xs)) ≡ false
+      failed true = refl
+      failed false = refl
+
+  -- one that may
+  pub rises_on : (xs : List A) (k : ℕ) (x y : A) → slice_get xs k ≡ Some x → slice_get xs (k + 1) ≡ Some y → valid x ≡ true → before x y ≡ true → rises valid before (drop k xs) ≡ rises valid before (drop (k + 1) xs)
+  rises_on xs k x y e f v b =
+      ap (rises valid before) (next_at xs k x e) ∙ ap (λ z. (valid x && begins_after before x z) && rises valid before (drop (k + 1) xs)) (next_at xs (k + 1) y f) ∙ ap (λ z. (valid x && z) && rises valid before (drop (k + 1) xs)) b
+      ∙ ap (λ z. (z && true) && rises valid before (drop (k + 1) xs)) v
+
+  -- the last one
+  pub rises_last : (xs : List A) (k : ℕ) (x : A) → slice_get xs k ≡ Some x → length xs ≤ k + 1 → valid x ≡ true → rises valid before (drop k xs) ≡ rises valid before (drop (k + 1) xs)
+  rises_last xs k x e le v =
+      ap (rises valid before) (next_at xs k x e) ∙ ap (λ z. (valid x && begins_after before x z) && rises valid before (drop (k + 1) xs)) (drop_all (k + 1) xs le) ∙ ap (λ z. (z && true) && rises valid before (drop (k + 1) xs)) v
+
+  -- none is left
+  pub rises_end : (xs : List A) (k : ℕ) → length xs ≤ k → rises valid before (drop k xs) ≡ true
+  rises_end xs k le = ap (rises valid before) (drop_all k xs le)

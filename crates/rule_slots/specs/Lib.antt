@@ -3,5 +3,6 @@
 pub mod Slots
 pub mod Operands
 pub mod Compared
+pub mod Ordered
 pub mod Cut
 pub mod Summed

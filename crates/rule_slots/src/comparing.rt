@@ -2,6 +2,7 @@
 
 ghost use Rattle.std.specs.Prelude.{◌≡◌, length, true};
 ghost use Rattle.ocl_kinds.specs.declared.kind.Kind.{Kind};
+ghost use Rattle.ocl_base.specs.declared.collection_kind.CollectionKind.TheVariants.{Set, Bag};
 ghost use Rattle.rule_values.specs.Value.{is_in};
 ghost use Rattle.rule_values.specs.Operations.{equality};
 ghost use Rattle.imkl_population.specs.Population.{Population};
@@ -11,6 +12,7 @@ ghost use Rattle.rule_slots.specs.Compared.{same_slots, stand_as_often, pairwise
 
 use crate::elements::{are_all_among, same_slots, times_among};
 use crate::lists::Lists;
+use crate::ordering::is_in_order;
 use crate::reading::element;
 use crate::slot::{Slot, invalid_slot, truth_slot};
 use ocl_base::CollectionKind;
@@ -70,6 +72,58 @@ fn pairwise_same(
     true
 }
 
+/// Whether two collections have the same members. In lists that stand strictly in order the members differ where the
+/// lists do.
+#[inline(never)]
+fn same_members(
+    lists: Lists<'_>,
+    pool: &[Slot],
+    kind: WrittenScalar,
+    left: Slot,
+    right: Slot,
+) -> bool
+    requires left { IsInHome (lists_in lists) (length pool.now) left }
+    requires right { IsInHome (lists_in lists) (length pool.now) right }
+    ensures { result ≡ same_collections (same_slots (lists_in lists.entry) kind) Set
+        (held_slots (lists_in lists.entry) pool.now left)
+        (held_slots (lists_in lists.entry) pool.now right) }
+{
+    if pairwise_same(lists, pool, kind, left, right) {
+        return true;
+    }
+    if is_in_order(lists, pool, kind, left, true) && is_in_order(lists, pool, kind, right, true) {
+        return false;
+    }
+    let all = are_all_among(lists, pool, kind, right, left);
+    all && are_all_among(lists, pool, kind, left, right)
+}
+
+/// Whether each element stands as often in one collection as in the other. In lists that stand in order the counts differ
+/// where the lists do.
+#[inline(never)]
+fn same_counts(
+    lists: Lists<'_>,
+    pool: &[Slot],
+    kind: WrittenScalar,
+    left: Slot,
+    right: Slot,
+) -> bool
+    requires left { IsInHome (lists_in lists) (length pool.now) left }
+    requires right { IsInHome (lists_in lists) (length pool.now) right }
+    ensures { result ≡ same_collections (same_slots (lists_in lists.entry) kind) Bag
+        (held_slots (lists_in lists.entry) pool.now left)
+        (held_slots (lists_in lists.entry) pool.now right) }
+{
+    if pairwise_same(lists, pool, kind, left, right) {
+        return true;
+    }
+    if is_in_order(lists, pool, kind, left, false) && is_in_order(lists, pool, kind, right, false) {
+        return false;
+    }
+    let all = stand_as_often(lists, pool, kind, left, right);
+    all && stand_as_often(lists, pool, kind, right, left)
+}
+
 /// Whether the elements of two collections of one kind are the same: Sets by members, Bags by counts, the ordered ones
 /// by list.
 #[inline(always)]
@@ -88,15 +142,9 @@ fn same_collections(
         (held_slots (lists_in lists.entry) pool.now right) }
 {
     match collection {
-        CollectionKind::Set => {
-            let all = are_all_among(lists, pool, kind, right, left);
-            all && are_all_among(lists, pool, kind, left, right)
-        }
+        CollectionKind::Set => same_members(lists, pool, kind, left, right),
         CollectionKind::OrderedSet => pairwise_same(lists, pool, kind, left, right),
-        CollectionKind::Bag => {
-            let all = stand_as_often(lists, pool, kind, left, right);
-            all && stand_as_often(lists, pool, kind, right, left)
-        }
+        CollectionKind::Bag => same_counts(lists, pool, kind, left, right),
         CollectionKind::Sequence => pairwise_same(lists, pool, kind, left, right),
     }
 }

@@ -3,14 +3,18 @@
 ghost use Rattle.std.specs.Prelude.{◌≡◌, length, drop, bytes_eq};
 ghost use Rattle.std.specs.List.{list_all, list_any};
 ghost use Rattle.ocl_base.specs.Lists.{is_among, repeats};
-ghost use Rattle.rule_slots.specs.Slots.{lists_in, held_slots, IsInHome};
+ghost use Rattle.rule_slots.specs.Slots.{lists_in, home_named, held_slots, IsInHome};
 ghost use Rattle.rule_slots.specs.Compared.{slot_bytes, same_words, same_slots, times_among};
 
 use crate::lists::Lists;
-use crate::reading::element;
-use crate::slot::{Mark, Slot};
+use crate::ordering::{is_among_known, is_in_order};
+use crate::reading::{element, element_in};
+use crate::slot::{Home, Mark, Slot, home_named};
 use crate::texts::slot_bytes;
 use rule_code::WrittenScalar;
+
+/// In a collection of at most so many elements, one is looked for among all; in a longer one by its order, if it has one.
+const SHORT: usize = 16;
 
 /// Whether the texts of two slots are the same.
 #[inline(always)]
@@ -49,7 +53,32 @@ pub(crate) fn same_slots(lists: Lists<'_>, kind: WrittenScalar, a: Slot, b: Slot
     }
 }
 
-/// Whether an element is one of a collection from an index on.
+/// Whether an element is one of a collection, which is a part of this list, from an index on.
+#[inline(always)]
+fn is_among_in(
+    home: Home,
+    lists: Lists<'_>,
+    pool: &[Slot],
+    kind: WrittenScalar,
+    source: Slot,
+    first: usize,
+    slot: Slot,
+) -> bool
+    requires home { home_named source.list ≡ home }
+    requires within { IsInHome (lists_in lists) (length pool.now) source }
+    ensures { result ≡ is_among (same_slots (lists_in lists.entry) kind)
+        (drop first (held_slots (lists_in lists.entry) pool.now source)) slot }
+{
+    for index in first..source.count {
+        let found = element_in(home, lists, pool, source, index);
+        if same_slots(lists, kind, slot, found) {
+            return true;
+        }
+    }
+    false
+}
+
+/// Whether an element is one of a collection from an index on. (Each list has a loop of its own.)
 #[inline(never)]
 pub(crate) fn is_among_from(
     lists: Lists<'_>,
@@ -63,12 +92,11 @@ pub(crate) fn is_among_from(
     ensures { result ≡ is_among (same_slots (lists_in lists.entry) kind)
         (drop first (held_slots (lists_in lists.entry) pool.now source)) slot }
 {
-    for index in first..source.count {
-        if same_slots(lists, kind, slot, element(lists, pool, source, index)) {
-            return true;
-        }
+    match home_named(source.list) {
+        Home::Scalars => is_among_in(Home::Scalars, lists, pool, kind, source, first, slot),
+        Home::Instances => is_among_in(Home::Instances, lists, pool, kind, source, first, slot),
+        Home::Pool => is_among_in(Home::Pool, lists, pool, kind, source, first, slot),
     }
-    false
 }
 
 /// Whether an element is one of a collection.
@@ -86,7 +114,32 @@ pub(crate) fn is_slot_among(
     is_among_from(lists, pool, kind, source, 0, slot)
 }
 
-/// How often an element stands in a collection.
+/// How often an element stands in a collection that is a part of this list.
+#[inline(always)]
+fn times_in(
+    home: Home,
+    lists: Lists<'_>,
+    pool: &[Slot],
+    kind: WrittenScalar,
+    source: Slot,
+    slot: Slot,
+) -> usize
+    requires home { home_named source.list ≡ home }
+    requires within { IsInHome (lists_in lists) (length pool.now) source }
+    ensures { result ≡ times_among (same_slots (lists_in lists.entry) kind)
+        (held_slots (lists_in lists.entry) pool.now source) slot }
+{
+    let mut count = 0;
+    for index in 0..source.count {
+        let found = element_in(home, lists, pool, source, index);
+        if same_slots(lists, kind, found, slot) {
+            count += 1;
+        }
+    }
+    count
+}
+
+/// How often an element stands in a collection. (Each list has a loop of its own.)
 #[inline(never)]
 pub(crate) fn times_among(
     lists: Lists<'_>,
@@ -99,13 +152,11 @@ pub(crate) fn times_among(
     ensures { result ≡ times_among (same_slots (lists_in lists.entry) kind)
         (held_slots (lists_in lists.entry) pool.now source) slot }
 {
-    let mut count = 0;
-    for index in 0..source.count {
-        if same_slots(lists, kind, element(lists, pool, source, index), slot) {
-            count += 1;
-        }
+    match home_named(source.list) {
+        Home::Scalars => times_in(Home::Scalars, lists, pool, kind, source, slot),
+        Home::Instances => times_in(Home::Instances, lists, pool, kind, source, slot),
+        Home::Pool => times_in(Home::Pool, lists, pool, kind, source, slot),
     }
-    count
 }
 
 /// Whether each element of the second collection is one of the first.
@@ -123,14 +174,10 @@ pub(crate) fn are_all_among(
         (held_slots (lists_in lists.entry) pool.now source))
         (held_slots (lists_in lists.entry) pool.now others) }
 {
+    let ordered = source.count > SHORT && is_in_order(lists, pool, kind, source, false);
     for index in 0..others.count {
-        if !is_slot_among(
-            lists,
-            pool,
-            kind,
-            source,
-            element(lists, pool, others, index),
-        ) {
+        let slot = element(lists, pool, others, index);
+        if !is_among_known(lists, pool, kind, source, ordered, slot) {
             return false;
         }
     }
@@ -152,14 +199,10 @@ pub(crate) fn is_any_among(
         (held_slots (lists_in lists.entry) pool.now source))
         (held_slots (lists_in lists.entry) pool.now others) }
 {
+    let ordered = source.count > SHORT && is_in_order(lists, pool, kind, source, false);
     for index in 0..others.count {
-        if is_slot_among(
-            lists,
-            pool,
-            kind,
-            source,
-            element(lists, pool, others, index),
-        ) {
+        let slot = element(lists, pool, others, index);
+        if is_among_known(lists, pool, kind, source, ordered, slot) {
             return true;
         }
     }
@@ -178,6 +221,9 @@ pub(crate) fn repeats_slot(
     ensures { result ≡ repeats (same_slots (lists_in lists.entry) kind)
         (held_slots (lists_in lists.entry) pool.now source) }
 {
+    if is_in_order(lists, pool, kind, source, true) {
+        return false;
+    }
     for index in 0..source.count {
         let slot = element(lists, pool, source, index);
         if is_among_from(lists, pool, kind, source, index + 1, slot) {

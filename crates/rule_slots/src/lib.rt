@@ -8,6 +8,7 @@ mod elements;
 mod integers;
 mod lists;
 mod objects;
+mod ordering;
 mod reading;
 mod sets;
 mod slot;

@@ -1,7 +1,7 @@
 //! Elements of collections, as slots.
 
 ghost use Rattle.std.specs.Prelude.{◌≡◌, ◌<◌, length, slice_get, Some};
-ghost use Rattle.rule_slots.specs.Slots.{lists_in, scalar_slot, held_slots, IsInHome};
+ghost use Rattle.rule_slots.specs.Slots.{lists_in, home_named, scalar_slot, held_slots, IsInHome};
 
 use crate::lists::Lists;
 use crate::slot::{Home, Slot, home_named, index_slot, number_slot, text_slot, truth_slot};
@@ -29,14 +29,21 @@ pub fn scalar_slot(index: usize, scalar: &Scalar) -> Slot
     }
 }
 
-/// An element of a collection.
+/// An element of a collection that is a part of this list.
 #[inline(always)]
-pub fn element(lists: Lists<'_>, pool: &[Slot], source: Slot, index: usize) -> Slot
+pub(crate) fn element_in(
+    home: Home,
+    lists: Lists<'_>,
+    pool: &[Slot],
+    source: Slot,
+    index: usize,
+) -> Slot
+    requires home { home_named source.list ≡ home }
     requires index { index < source.count }
     requires within { IsInHome (lists_in lists) (length pool.now) source }
     ensures { slice_get (held_slots (lists_in lists.entry) pool.now source) index ≡ Some result }
 {
-    match home_named(source.list) {
+    match home {
         Home::Scalars => {
             let scalars = lists.scalars();
             let place = source.start + index;
@@ -52,4 +59,14 @@ pub fn element(lists: Lists<'_>, pool: &[Slot], source: Slot, index: usize) -> S
             pool[place]
         }
     }
+}
+
+/// An element of a collection.
+#[inline(always)]
+pub fn element(lists: Lists<'_>, pool: &[Slot], source: Slot, index: usize) -> Slot
+    requires index { index < source.count }
+    requires within { IsInHome (lists_in lists) (length pool.now) source }
+    ensures { slice_get (held_slots (lists_in lists.entry) pool.now source) index ≡ Some result }
+{
+    element_in(home_named(source.list), lists, pool, source, index)
 }

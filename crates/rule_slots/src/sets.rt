@@ -15,6 +15,7 @@ ghost use Rattle.rule_slots.specs.Compared.{covers, same_slots, first_ones};
 
 use crate::elements::{is_slot_among, repeats_slot};
 use crate::lists::Lists;
+use crate::ordering::is_in_order;
 use crate::reading::element;
 use crate::slot::{Slot, invalid_slot, part_slot};
 use rule_code::WrittenScalar;
@@ -59,6 +60,35 @@ fn push_first_ones(lists: Lists<'_>, pool: &mut Vec<Slot>, kind: WrittenScalar, 
     }
 }
 
+/// Puts all elements of a collection at the pool's end.
+#[inline(never)]
+fn push_all(lists: Lists<'_>, pool: &mut Vec<Slot>, source: Slot)
+    requires within { IsInHome (lists_in lists) (length pool.old.items) source }
+    requires room { length pool.old.items + source.count ≤ vec_capacity pool.old }
+    ensures { pool.new.items ≡ pool.old.items ++
+        held_slots (lists_in lists.entry) pool.old.items source }
+{
+    for index in 0..source.count {
+        let slot = element(lists, pool, source, index);
+        pool.push_reserved(slot);
+    }
+}
+
+/// Puts the elements of a collection at the pool's end, each once. Where they stand strictly in order, these are all.
+#[inline(never)]
+fn push_set(lists: Lists<'_>, pool: &mut Vec<Slot>, kind: WrittenScalar, source: Slot)
+    requires within { IsInHome (lists_in lists) (length pool.old.items) source }
+    requires room { length pool.old.items + source.count ≤ vec_capacity pool.old }
+    ensures { pool.new.items ≡ pool.old.items ++ first_ones (same_slots (lists_in lists.entry) kind)
+        [] (held_slots (lists_in lists.entry) pool.old.items source) }
+{
+    if is_in_order(lists, pool, kind, source, true) {
+        push_all(lists, pool, source);
+    } else {
+        push_first_ones(lists, pool, kind, source);
+    }
+}
+
 /// The Set of a collection's elements.
 #[inline(always)]
 pub fn as_set(
@@ -80,7 +110,7 @@ pub fn as_set(
     }
     let start = pool.len();
     pool.reserve(v.count)?;
-    push_first_ones(lists, pool, kind, v);
+    push_set(lists, pool, kind, v);
     Ok(part_slot(2, start, pool.len() - start))
 }
 

@@ -5,15 +5,15 @@ use Rattle.rule_slots.specs.Compared.{same_slots}
 use Rattle.rule_slots.proofs.Loops.{held_long, all_next, all_failed, all_end}
 use Rattle.rule_slots.proofs.elements.are_all_among.Goals as goal
 
-pub returns-then-not-is_slot_among : goal.returns-then-not-is_slot_among
-returns-then-not-is_slot_among c =
+pub returns-then-not-is_among_known : goal.returns-then-not-is_among_known
+returns-then-not-is_among_known c =
     let l = lists_in c.args.lists in
-    sym (c.loop-index.invariant ∙ all_failed (is_among (same_slots l c.args.kind) (held_slots l c.args.pool.now c.args.source)) (held_slots l c.args.pool.now c.args.others) c.loop-index.index c.element.result c.element.ensures (sym c.is_slot_among.ensures ∙ c.if-not-is_slot_among.true))
+    sym (c.loop-index.invariant ∙ all_failed (is_among (same_slots l c.args.kind) (held_slots l c.args.pool.now c.args.source)) (held_slots l c.args.pool.now c.args.others) c.loop-index.index c.element-slot.result c.element-slot.ensures (sym c.is_among_known.ensures ∙ c.if-not-is_among_known.true))
 
 pub loop-index-preserved : goal.loop-index-preserved
 loop-index-preserved c =
     let l = lists_in c.args.lists in
-    c.loop-index.invariant ∙ all_next (is_among (same_slots l c.args.kind) (held_slots l c.args.pool.now c.args.source)) (held_slots l c.args.pool.now c.args.others) c.loop-index.index c.element.result c.element.ensures (sym c.is_slot_among.ensures ∙ c.if-not-is_slot_among.false)
+    c.loop-index.invariant ∙ all_next (is_among (same_slots l c.args.kind) (held_slots l c.args.pool.now c.args.source)) (held_slots l c.args.pool.now c.args.others) c.loop-index.index c.element-slot.result c.element-slot.ensures (sym c.is_among_known.ensures ∙ c.if-not-is_among_known.false)
 
 pub returns : goal.returns
 returns c =

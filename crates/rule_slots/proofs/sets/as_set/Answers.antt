@@ -8,7 +8,7 @@ pub returns-clause-made : goal.returns-clause-made
 returns-clause-made c = λ p k cov v h i.
     let l = lists_in c.args.lists in
     let old = c.args.pool.now.items in
-    let new = c.push_first_ones.new.pool in
+    let new = c.push_set.new.pool in
     let kept = c.in_ok-reserve.ensures.items in
-    let grown = c.push_first_ones.ensures ∙ ap (λ z. z ++ first_ones (same_slots l c.args.kind) [] (held_slots l z c.args.v)) kept in
+    let grown = c.push_set.ensures ∙ ap (λ z. z ++ first_ones (same_slots l c.args.kind) [] (held_slots l z c.args.v)) kept in
     set_is l p c.args.kind k cov old new.items c.args.v c.part_slot.result c.len-start.result c.len.result grown (c.len-start.ensures ∙ c.args.pool.now.ok.0) (c.len.ensures ∙ new.ok.0) c.part_slot.ensures (sym c.is_plain.ensures ∙ c.if-not-is_plain.false) v h i

@@ -2,7 +2,7 @@ use Rattle.std.proofs.Common.{◌≡◌, drop}
 use Rattle.ocl_base.specs.Lists.{is_among}
 use Rattle.rule_slots.specs.Slots.{lists_in, held_slots}
 use Rattle.rule_slots.specs.Compared.{same_slots}
-use Rattle.rule_slots.proofs.elements.is_among_from.Given as goal
+use Rattle.rule_slots.proofs.elements.is_among_in.Given as goal
 
 -- what is among those from the first on is among those that are left
 abbrev pub invariant-loop-index : goal.invariant-loop-index

@@ -1,7 +1,7 @@
 use Rattle.std.proofs.Common.{◌≡◌, ◌+◌, ◌≤◌, drop}
 use Rattle.rule_slots.specs.Slots.{lists_in, held_slots}
 use Rattle.rule_slots.specs.Compared.{same_slots, times_among}
-use Rattle.rule_slots.proofs.elements.times_among.Given as goal
+use Rattle.rule_slots.proofs.elements.times_in.Given as goal
 
 -- those that were counted, and those that are left
 abbrev pub invariant-loop-index : goal.invariant-loop-index

@@ -3,7 +3,7 @@ use Rattle.std.specs.Prelude.{slice_get, slice_range}
 use Rattle.rule_slots.specs.declared.slot.Home.TheVariants as home
 use Rattle.rule_slots.specs.Slots.{home_length, home_named, part_slots, index_slot, scalar_slot, lists_in}
 use Rattle.rule_slots.proofs.Parts.{range_read, scalar_at, map_at}
-use Rattle.rule_slots.proofs.reading.element.Goals as goal
+use Rattle.rule_slots.proofs.reading.element_in.Goals as goal
 
 pub returns-in-Scalars : goal.returns-in-Scalars
 returns-in-Scalars c =
@@ -12,7 +12,7 @@ returns-in-Scalars c =
     let l = lists_in a.lists in
     let xs = a.lists.population.now.scalars in
     let d = c.index-scalars-place.result in
-    let at : home_named s.list ≡ home.Scalars = sym c.home_named.ensures ∙ c.in-Scalars.is in
+    let at : home_named s.list ≡ home.Scalars = c.requires.home ∙ c.in-Scalars.is in
     let le = subst (λ h. s.start + s.count ≤ home_length h l (length a.pool.now)) at c.requires.within in
     ap (λ h. slice_get (part_slots h l a.pool.now s.start s.count) a.index) at
     ∙ scalar_at s.start (slice_range xs s.start (s.start + s.count)) a.index (get_or xs (s.start + a.index) d) (range_read xs s.start s.count a.index d le c.requires.index)
@@ -25,7 +25,7 @@ returns-in-Instances c =
     let l = lists_in a.lists in
     let xs = a.lists.population.now.instance_list in
     let d = c.index-instances-place.result in
-    let at : home_named s.list ≡ home.Instances = sym c.home_named.ensures ∙ c.in-Instances.is in
+    let at : home_named s.list ≡ home.Instances = c.requires.home ∙ c.in-Instances.is in
     let le = subst (λ h. s.start + s.count ≤ home_length h l (length a.pool.now)) at c.requires.within in
     ap (λ h. slice_get (part_slots h l a.pool.now s.start s.count) a.index) at
     ∙ map_at index_slot (slice_range xs s.start (s.start + s.count)) a.index (get_or xs (s.start + a.index) d) (range_read xs s.start s.count a.index d le c.requires.index)
@@ -36,6 +36,6 @@ returns-in-Pool c =
     let a = c.args in
     let s = a.source in
     let l = lists_in a.lists in
-    let at : home_named s.list ≡ home.Pool = sym c.home_named.ensures ∙ c.in-Pool.is in
+    let at : home_named s.list ≡ home.Pool = c.requires.home ∙ c.in-Pool.is in
     let le = subst (λ h. s.start + s.count ≤ home_length h l (length a.pool.now)) at c.requires.within in
     ap (λ h. slice_get (part_slots h l a.pool.now s.start s.count) a.index) at ∙ range_read a.pool.now s.start s.count a.index _ le c.requires.index
