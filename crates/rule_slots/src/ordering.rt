@@ -3,14 +3,14 @@
 
 ghost use Rattle.std.specs.Prelude.{◌≡◌, length, true, false};
 ghost use Rattle.ocl_base.specs.Lists.{is_among};
-ghost use Rattle.rule_slots.specs.Slots.{lists_in, held_slots, IsInHome};
+ghost use Rattle.rule_slots.specs.Slots.{lists_in, home_named, held_slots, IsInHome};
 ghost use Rattle.rule_slots.specs.Compared.{same_slots};
 ghost use Rattle.rule_slots.specs.Ordered.{compare_words, compare_slots, is_defined, may_precede, rises};
 
 use crate::elements::{is_slot_among, same_slots};
 use crate::lists::Lists;
-use crate::reading::element;
-use crate::slot::{Mark, Slot};
+use crate::reading::{element, element_in};
+use crate::slot::{Home, Mark, Slot, home_named};
 use crate::texts::slot_bytes;
 use rule_code::WrittenScalar;
 use std::cmp::Ordering;
@@ -85,7 +85,47 @@ pub(crate) fn is_in_order(
     true
 }
 
-/// Whether an element is one of a collection that stands in order.
+/// Whether an element is one of a collection that is a part of this list and stands in order.
+#[inline(always)]
+fn is_among_ordered_in(
+    home: Home,
+    lists: Lists<'_>,
+    pool: &[Slot],
+    kind: WrittenScalar,
+    source: Slot,
+    slot: Slot,
+) -> bool
+    requires list { home_named source.list ≡ home }
+    requires home { IsInHome (lists_in lists) (length pool.now) source }
+    requires order { rises is_defined (λ a b.
+        may_precede false (compare_slots (lists_in lists) kind a b))
+        (held_slots (lists_in lists) pool.now source) ≡ true }
+    ensures { result ≡ is_among (same_slots (lists_in lists.entry) kind)
+        (held_slots (lists_in lists.entry) pool.now source) slot }
+{
+    let mut low = 0;
+    let mut high = source.count;
+    while low < high {
+        let middle = low + (high - low) / 2;
+        let found = element_in(home, lists, pool, source, middle);
+        if compare_slots(lists, kind, found, slot).is_lt() {
+            low = middle + 1;
+        } else {
+            high = middle;
+        }
+    }
+    if low == source.count {
+        return false;
+    }
+    same_slots(
+        lists,
+        kind,
+        slot,
+        element_in(home, lists, pool, source, low),
+    )
+}
+
+/// Whether an element is one of a collection that stands in order. (Each list has a loop of its own.)
 #[inline(never)]
 pub(crate) fn is_among_ordered(
     lists: Lists<'_>,
@@ -101,21 +141,11 @@ pub(crate) fn is_among_ordered(
     ensures { result ≡ is_among (same_slots (lists_in lists.entry) kind)
         (held_slots (lists_in lists.entry) pool.now source) slot }
 {
-    let mut low = 0;
-    let mut high = source.count;
-    while low < high {
-        let middle = low + (high - low) / 2;
-        let found = element(lists, pool, source, middle);
-        if compare_slots(lists, kind, found, slot).is_lt() {
-            low = middle + 1;
-        } else {
-            high = middle;
-        }
+    match home_named(source.list) {
+        Home::Scalars => is_among_ordered_in(Home::Scalars, lists, pool, kind, source, slot),
+        Home::Instances => is_among_ordered_in(Home::Instances, lists, pool, kind, source, slot),
+        Home::Pool => is_among_ordered_in(Home::Pool, lists, pool, kind, source, slot),
     }
-    if low == source.count {
-        return false;
-    }
-    same_slots(lists, kind, slot, element(lists, pool, source, low))
 }
 
 /// Whether an element is one of a collection, which stands in order if `ordered` says so.

@@ -2,7 +2,7 @@ use Rattle.std.proofs.Common.{◌-◌}
 use Rattle.rule_slots.specs.Slots.{lists_in, held_slots}
 use Rattle.rule_slots.specs.Ordered.{compare_slots}
 use Rattle.rule_slots.proofs.InOrder.{IsNarrowed}
-use Rattle.rule_slots.proofs.ordering.is_among_ordered.Given as goal
+use Rattle.rule_slots.proofs.ordering.is_among_ordered_in.Given as goal
 
 -- the first that isn't before the element stands from low to high
 abbrev pub invariant-loop-low : goal.invariant-loop-low

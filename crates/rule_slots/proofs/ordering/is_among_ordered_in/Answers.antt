@@ -5,7 +5,7 @@ use Rattle.rule_slots.specs.Ordered.{compare_slots, is_defined}
 use Rattle.rule_slots.proofs.Loops.{held_long}
 use Rattle.rule_slots.proofs.InOrder.{get_within, raised, lowered, past_all, stands_at}
 use Rattle.rule_slots.proofs.SlotOrder.{slots_total, slots_tie, slots_like}
-use Rattle.rule_slots.proofs.ordering.is_among_ordered.Goals as goal
+use Rattle.rule_slots.proofs.ordering.is_among_ordered_in.Goals as goal
 
 pub loop-low-init : goal.loop-low-init
 loop-low-init c =
@@ -17,8 +17,8 @@ loop-low-init c =
       after = λ k y le at. absurd (omega (arith, long, le, get_within (held_slots (lists_in c.args.lists) c.args.pool.now c.args.source) k y at));
     }
 
-pub element-found-requires-clause-index : goal.element-found-requires-clause-index
-element-found-requires-clause-index c =
+pub element_in-found-requires-clause-index : goal.element_in-found-requires-clause-index
+element_in-found-requires-clause-index c =
     omega (arith, c.loop-low-test.true, c.loop-low.invariant.within, held_long (lists_in c.args.lists) c.args.pool.now c.args.source c.requires.home)
 
 pub loop-low-preserved-then-is_lt : goal.loop-low-preserved-then-is_lt
@@ -26,16 +26,16 @@ loop-low-preserved-then-is_lt c =
     let l = lists_in c.args.lists in
     let w = c.args.kind in
     let held = held_slots l c.args.pool.now c.args.source in
-    raised (compare_slots l w) (slots_total l w) (same_slots l w) is_defined (slots_tie l w) (slots_like l w) held c.requires.order c.args.slot c.loop-low.low c.loop-low.high (c.loop-low.low + (c.loop-low.high - c.loop-low.low) / 2) c.element-found.result c.loop-low.invariant
-    (omega (arith, c.loop-low-test.true)) c.element-found.ensures (ap is_lt (sym c.compare_slots.ensures) ∙ sym c.is_lt.ensures ∙ c.if-is_lt.true)
+    raised (compare_slots l w) (slots_total l w) (same_slots l w) is_defined (slots_tie l w) (slots_like l w) held c.requires.order c.args.slot c.loop-low.low c.loop-low.high (c.loop-low.low + (c.loop-low.high - c.loop-low.low) / 2) c.element_in-found.result c.loop-low.invariant
+    (omega (arith, c.loop-low-test.true)) c.element_in-found.ensures (ap is_lt (sym c.compare_slots.ensures) ∙ sym c.is_lt.ensures ∙ c.if-is_lt.true)
 
 pub loop-low-preserved : goal.loop-low-preserved
 loop-low-preserved c =
     let l = lists_in c.args.lists in
     let w = c.args.kind in
     let held = held_slots l c.args.pool.now c.args.source in
-    lowered (compare_slots l w) (slots_total l w) (same_slots l w) is_defined (slots_tie l w) (slots_like l w) held c.requires.order c.args.slot c.loop-low.low c.loop-low.high (c.loop-low.low + (c.loop-low.high - c.loop-low.low) / 2) c.element-found.result c.loop-low.invariant
-    (omega arith) (omega (arith, c.loop-low-test.true)) c.element-found.ensures (ap is_lt (sym c.compare_slots.ensures) ∙ sym c.is_lt.ensures ∙ c.if-is_lt.false)
+    lowered (compare_slots l w) (slots_total l w) (same_slots l w) is_defined (slots_tie l w) (slots_like l w) held c.requires.order c.args.slot c.loop-low.low c.loop-low.high (c.loop-low.low + (c.loop-low.high - c.loop-low.low) / 2) c.element_in-found.result c.loop-low.invariant
+    (omega arith) (omega (arith, c.loop-low-test.true)) c.element_in-found.ensures (ap is_lt (sym c.compare_slots.ensures) ∙ sym c.is_lt.ensures ∙ c.if-is_lt.false)
 
 pub returns-then-low-source : goal.returns-then-low-source
 returns-then-low-source c =
@@ -44,8 +44,8 @@ returns-then-low-source c =
     let held = held_slots l c.args.pool.now c.args.source in
     sym (past_all (compare_slots l w) (slots_total l w) (same_slots l w) is_defined (slots_tie l w) (slots_like l w) held c.requires.order c.args.slot c.loop-low.low c.loop-low.high c.loop-low.invariant (c.if-low-source.true ∙ sym (held_long l c.args.pool.now c.args.source c.requires.home)))
 
-pub element-requires-clause-index : goal.element-requires-clause-index
-element-requires-clause-index c =
+pub element_in-requires-clause-index : goal.element_in-requires-clause-index
+element_in-requires-clause-index c =
     omega (arith, c.if-low-source.false, c.loop-low.invariant.ordered, c.loop-low.invariant.within, held_long (lists_in c.args.lists) c.args.pool.now c.args.source c.requires.home)
 
 pub returns : goal.returns
@@ -53,4 +53,4 @@ returns c =
     let l = lists_in c.args.lists in
     let w = c.args.kind in
     let held = held_slots l c.args.pool.now c.args.source in
-    c.same_slots.ensures ∙ stands_at (compare_slots l w) (slots_total l w) (same_slots l w) is_defined (slots_tie l w) (slots_like l w) held c.requires.order c.args.slot c.loop-low.low c.loop-low.high c.element.result c.loop-low.invariant (omega (arith, c.loop-low-test.false)) c.element.ensures
+    c.same_slots.ensures ∙ stands_at (compare_slots l w) (slots_total l w) (same_slots l w) is_defined (slots_tie l w) (slots_like l w) held c.requires.order c.args.slot c.loop-low.low c.loop-low.high c.element_in.result c.loop-low.invariant (omega (arith, c.loop-low-test.false)) c.element_in.ensures
