@@ -78,9 +78,9 @@ fn is_among_in(
     false
 }
 
-/// Whether an element is one of a collection from an index on. (Each list has a loop of its own.)
-#[inline(never)]
-pub(crate) fn is_among_from(
+/// Whether an element is one of a collection from an index on, with a loop for each list.
+#[inline(always)]
+fn is_among_list(
     lists: Lists<'_>,
     pool: &[Slot],
     kind: WrittenScalar,
@@ -96,6 +96,34 @@ pub(crate) fn is_among_from(
         Home::Scalars => is_among_in(Home::Scalars, lists, pool, kind, source, first, slot),
         Home::Instances => is_among_in(Home::Instances, lists, pool, kind, source, first, slot),
         Home::Pool => is_among_in(Home::Pool, lists, pool, kind, source, first, slot),
+    }
+}
+
+/// Whether an element is one of a collection from an index on. (Kinds that are compared by the same word have loops of
+/// their own for it.)
+#[inline(never)]
+pub(crate) fn is_among_from(
+    lists: Lists<'_>,
+    pool: &[Slot],
+    kind: WrittenScalar,
+    source: Slot,
+    first: usize,
+    slot: Slot,
+) -> bool
+    requires { IsInHome (lists_in lists) (length pool.now) source }
+    ensures { result ≡ is_among (same_slots (lists_in lists.entry) kind)
+        (drop first (held_slots (lists_in lists.entry) pool.now source)) slot }
+{
+    match kind {
+        WrittenScalar::Void | WrittenScalar::Boolean | WrittenScalar::Integer => {
+            is_among_list(lists, pool, WrittenScalar::Integer, source, first, slot)
+        }
+        WrittenScalar::String => {
+            is_among_list(lists, pool, WrittenScalar::String, source, first, slot)
+        }
+        WrittenScalar::Enumeration(_) | WrittenScalar::Class(_) | WrittenScalar::AnyObject => {
+            is_among_list(lists, pool, WrittenScalar::AnyObject, source, first, slot)
+        }
     }
 }
 
@@ -139,9 +167,9 @@ fn times_in(
     count
 }
 
-/// How often an element stands in a collection. (Each list has a loop of its own.)
-#[inline(never)]
-pub(crate) fn times_among(
+/// How often an element stands in a collection, with a loop for each list.
+#[inline(always)]
+fn times_in_list(
     lists: Lists<'_>,
     pool: &[Slot],
     kind: WrittenScalar,
@@ -156,6 +184,30 @@ pub(crate) fn times_among(
         Home::Scalars => times_in(Home::Scalars, lists, pool, kind, source, slot),
         Home::Instances => times_in(Home::Instances, lists, pool, kind, source, slot),
         Home::Pool => times_in(Home::Pool, lists, pool, kind, source, slot),
+    }
+}
+
+/// How often an element stands in a collection. (Kinds that are compared by the same word have loops of their own for it.)
+#[inline(never)]
+pub(crate) fn times_among(
+    lists: Lists<'_>,
+    pool: &[Slot],
+    kind: WrittenScalar,
+    source: Slot,
+    slot: Slot,
+) -> usize
+    requires { IsInHome (lists_in lists) (length pool.now) source }
+    ensures { result ≡ times_among (same_slots (lists_in lists.entry) kind)
+        (held_slots (lists_in lists.entry) pool.now source) slot }
+{
+    match kind {
+        WrittenScalar::Void | WrittenScalar::Boolean | WrittenScalar::Integer => {
+            times_in_list(lists, pool, WrittenScalar::Integer, source, slot)
+        }
+        WrittenScalar::String => times_in_list(lists, pool, WrittenScalar::String, source, slot),
+        WrittenScalar::Enumeration(_) | WrittenScalar::Class(_) | WrittenScalar::AnyObject => {
+            times_in_list(lists, pool, WrittenScalar::AnyObject, source, slot)
+        }
     }
 }
 
