@@ -72,7 +72,7 @@ refused compile 2 0: context Mantelbuis inv: «22 Mantelbuis.allInstances()->for
 refused compile 3 1: context Mantelbuis inv: true inv: '«4097 a»' = 'a'
 # other bytes than the magic's; another version; a count that is cut; no opcode
 refused code 1 0: 4f434c58
-refused code 2 4: 4f434c42 0002
+refused code 2 4: 4f434c42 0003
 refused code 3 6: 4f434c42 0001 00
 refused code 4 24: 4f434c42 0001 0001 0001 61 0001 01 0000 0001 0000 0000 0001 ff
 # a text that isn't UTF-8; a symbol's tag that isn't one; 4,097 rules; a byte after the last rule

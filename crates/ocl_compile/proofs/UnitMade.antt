@@ -8,6 +8,7 @@ use Rattle.ocl_types.specs.Core.{CheckedRule}
 use Rattle.ocl_types.specs.Typing.{IsTypedRule}
 use Rattle.rule_code.specs.declared.symbol.Symbol.{Symbol}
 use Rattle.rule_code.specs.declared.unit.Rule.{Rule}
+use Rattle.rule_code.specs.declared.version.Version.TheVariants as versions
 use Rattle.rule_code.specs.Content.{RuleContent, rule_content, content_of}
 use Rattle.ocl_compile.specs.Numbering.{Numbering, no_numbers, same_named, Use, UsedText, UsedSymbol, with_use, with_uses, rules_uses, numbering_of}
 use Rattle.ocl_compile.specs.Translation.{translate_rule, translate_symbol, translate_rules}
@@ -54,9 +55,9 @@ strings_are_utf8 (t ∷ ts) = (is_utf8-from_IsUtf8 (string_bytes t) (IsUtf8-stri
 
 -- texts, symbols and rules that were translated make up the unit of the rules
 pub unit_is : (m : Model) (rs : List CheckedRule) (n : Numbering) (texts : List (String Global)) (symbols : List Symbol) (rules : List Rule) → n ≡ numbering_of m rs → map string_bytes texts ≡ n.texts → symbols ≡ map (translate_symbol m n) n.symbols
-    → map rule_content rules ≡ map (translate_rule m n) rs → content_of texts symbols rules ≡ translate_rules m rs
+    → map rule_content rules ≡ map (translate_rule m n) rs → content_of versions.One texts symbols rules ≡ translate_rules m rs
 unit_is m rs n texts symbols rules e t s r =
-    ap (λ (x : List (List ℕ)). record { texts = x; symbols = symbols; rules = map rule_content rules }) t
-    ∙ ap (λ (x : List Symbol). record { texts = n.texts; symbols = x; rules = map rule_content rules }) s
-    ∙ ap (λ (x : List RuleContent). record { texts = n.texts; symbols = map (translate_symbol m n) n.symbols; rules = x }) r
-    ∙ ap (λ (o : Numbering). record { texts = o.texts; symbols = map (translate_symbol m o) o.symbols; rules = map (translate_rule m o) rs }) e
+    ap (λ (x : List (List ℕ)). record { version = versions.One; texts = x; symbols = symbols; rules = map rule_content rules }) t
+    ∙ ap (λ (x : List Symbol). record { version = versions.One; texts = n.texts; symbols = x; rules = map rule_content rules }) s
+    ∙ ap (λ (x : List RuleContent). record { version = versions.One; texts = n.texts; symbols = map (translate_symbol m n) n.symbols; rules = x }) r
+    ∙ ap (λ (o : Numbering). record { version = versions.One; texts = o.texts; symbols = map (translate_symbol m o) o.symbols; rules = map (translate_rule m o) rs }) e

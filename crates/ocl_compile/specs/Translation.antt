@@ -27,6 +27,7 @@ use Rattle.rule_code.specs.declared.symbol.Symbol.{Symbol}
 use Rattle.rule_code.specs.declared.symbol.Symbol.TheVariants as symbols
 use Rattle.rule_code.specs.declared.symbol.SymbolNumber.{SymbolNumber}
 use Rattle.rule_code.specs.declared.symbol.TextNumber.{TextNumber}
+use Rattle.rule_code.specs.declared.version.Version.TheVariants as versions
 use Rattle.rule_code.specs.Content.{Content, RuleContent}
 use Rattle.rule_verify.specs.declared.named.Named.{Named}
 use Rattle.rule_verify.specs.declared.named.Named.TheVariants as named
@@ -186,9 +187,10 @@ translate_symbol m n (named.Feature c f) =
 translate_symbol m n (named.Literal e l) =
     symbols.Literal (text_of_unit n (enumeration_at m e).name) (text_of_unit n (literal_name m e l))
 
+-- in the first version of the code file
 abbrev pub unit_with : Model → Numbering → List CheckedRule → Content
 unit_with m n rs =
-    record { texts = n.texts; symbols = map (translate_symbol m n) n.symbols; rules = map (translate_rule m n) rs }
+    record { version = versions.One; texts = n.texts; symbols = map (translate_symbol m n) n.symbols; rules = map (translate_rule m n) rs }
 
 -- the unit of rules
 abbrev pub translate_rules : Model → List CheckedRule → Content

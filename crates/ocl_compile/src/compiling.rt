@@ -25,7 +25,7 @@ use crate::numbering::number_tree;
 use crate::numbers::{NumberFault, Numbers};
 use imkl_model::ClassModel;
 use ocl_types::CoreRule;
-use rule_code::{Rule, Symbol, Unit};
+use rule_code::{Rule, Symbol, Unit, Version};
 use rule_verify::Named;
 use std::alloc::{AllocError, Global};
 
@@ -141,6 +141,7 @@ pub fn compile(alloc: Global, model: &ClassModel, rules: &[CoreRule]) -> Result<
     let coded = code_rules(alloc, model, &numbers, rules)?;
     let symbols = unit_symbols(alloc, model, &numbers)?;
     Ok(Unit {
+        version: Version::One,
         texts: numbers.into_texts(),
         symbols,
         rules: coded,

@@ -3,6 +3,7 @@ use Rattle.std.proofs.Common.{◌≡◌, ℕ, zero, suc, List, [], ◌∷◌, �
 use Rattle.std.specs.Int.{w16}
 use Rattle.ocl_base.specs.Steps.{◌>>=◌}
 use Rattle.ocl_base.proofs.ForAbove.{both_steps, ok_is, not_okay}
+use Rattle.rule_code.specs.declared.version.Version.{Version}
 use Rattle.rule_code.specs.Content.{Content}
 use Rattle.rule_code.specs.Reading.{Fault, FieldRead, number_from, many_from}
 use Rattle.rule_code.specs.Parts.{text_from}
@@ -19,9 +20,9 @@ first_failed (Ok x) f h = cc
 first_failed (Err z) f h = refl
 
 -- behind the head, the count or the first text is at fault
-pub behind_head : (bytes rest : List ℕ) → head_from bytes ≡ Ok rest → IsErr (decided_from bytes) → IsErr (first_text_from rest)
+pub behind_head : (bytes : List ℕ) (x : Version × List ℕ) → head_from bytes ≡ Ok x → IsErr (decided_from bytes) → IsErr (first_text_from x.1)
 unfolding decided_from
-behind_head bytes rest head h = rw head at h
+behind_head bytes x head h = rw head at h
 
 -- the first text is read: it isn't at fault
 pub first_is_read : (n : ℕ) (bytes : List ℕ) (x : List ℕ × List ℕ) → text_from bytes ≡ Ok x → IsErr (first_of n bytes) → ⊥
@@ -51,16 +52,15 @@ none_read_by after x r none e =
     let both : read ≡ Ok x = rw none at e in
     sym (ap (λ (y : List (List ℕ) × List ℕ). length y.0) (ok_is ([], after) x both))
 
--- no texts are read where there are none
-pub none_read : (bytes rest : List ℕ) (x : List (List ℕ) × List ℕ) → HasNoTexts bytes → head_from bytes ≡ Ok rest → texts_from rest ≡ Ok x → length x.0 ≡ 0
-unfolding texts_from
-none_read bytes rest x none head texts =
-    let same : none.rest ≡ rest = ok_is none.rest rest (sym none.head ∙ head) in
-    none_read_by none.after x (number_from w16 rest) (ap (number_from w16) (sym same) ∙ none.count) texts
-
 -- where there are no texts, the count of texts is read, and it is zero
-pub none_counted : (bytes rest : List ℕ) → (none : HasNoTexts bytes) → head_from bytes ≡ Ok rest → number_from w16 rest ≡ Ok (0, none.after)
-none_counted bytes rest none head = ap (number_from w16) (ok_is rest none.rest (sym head ∙ none.head)) ∙ none.count
+pub none_counted : (bytes : List ℕ) (v : Version × List ℕ) → (none : HasNoTexts bytes) → head_from bytes ≡ Ok v → number_from w16 v.1 ≡ Ok (0, none.after)
+none_counted bytes v none head =
+    ap (λ (w : Version × List ℕ). number_from w16 w.1) (ok_is v (none.version, none.rest) (sym head ∙ none.head)) ∙ none.count
+
+-- no texts are read where there are none
+pub none_read : (bytes : List ℕ) (v : Version × List ℕ) (x : List (List ℕ) × List ℕ) → HasNoTexts bytes → head_from bytes ≡ Ok v → texts_from v.1 ≡ Ok x → length x.0 ≡ 0
+unfolding texts_from
+none_read bytes v x none head texts = none_read_by none.after x (number_from w16 v.1) (none_counted bytes v none head) texts
 
 -- ---- what is decided is the first fault
 
@@ -88,8 +88,8 @@ texts_failed bytes f h =
 pub decided_is_first : (bytes : List ℕ) (f : Fault) → decided_from bytes ≡ Err f → whole_from bytes ≡ Err f
 unfolding decided_from whole_from
 decided_is_first bytes f h =
-    let body : List ℕ → Result Content Fault = λ rest. texts_from rest >>= λ texts. symbols_from (length texts.0) texts.1 >>= λ symbols. rules_from texts.0 symbols.0 symbols.1 >>= λ rules. ended (record { texts = texts.0; symbols = symbols.0; rules = rules.0 }) rules.1 in
-    failed_whole (head_from bytes) first_text_from body f (λ rest failed. rw (texts_failed rest f failed) refl) h
+    let body : Version × List ℕ → Result Content Fault = λ version. texts_from version.1 >>= λ texts. symbols_from (length texts.0) texts.1 >>= λ symbols. rules_from (record { version = version.0; texts = texts.0; symbols = symbols.0 }) symbols.1 >>= λ rules. ended (record { version = version.0; texts = texts.0; symbols = symbols.0; rules = rules.0 }) rules.1 in
+    failed_whole (head_from bytes) (λ version. first_text_from version.1) body f (λ version failed. rw (texts_failed version.1 f failed) refl) h
 
 -- what is read has no fault that is found before anything is allocated
 pub never_decided : (bytes : List ℕ) (u : Content) (f : Fault) → whole_from bytes ≡ Ok u → decided_from bytes ≡ Err f → ⊥

@@ -17,14 +17,17 @@ use Rattle.rule_code.specs.declared.symbol.Symbol.{Symbol}
 use Rattle.rule_code.specs.declared.symbol.Symbol.TheVariants as symbols
 use Rattle.rule_code.specs.declared.symbol.SymbolTag.{SymbolTag}
 use Rattle.rule_code.specs.declared.symbol.SymbolTag.TheVariants as tags
+use Rattle.rule_code.specs.declared.version.Version.{Version}
+use Rattle.rule_code.specs.declared.version.Version.TheVariants as versions
 use Rattle.rule_code.specs.SymbolTag.{is_symbol_of}
 use Rattle.rule_code.specs.Content.{RuleContent, Content, text_at}
+use Rattle.rule_code.specs.Preamble.{Preamble}
 use Rattle.rule_code.specs.Spelling.{magic}
 use Rattle.rule_code.specs.Reading.{Fault, FieldRead, wrong, number_from, count_from, text_number_from, symbol_number_from, text_bytes_from, many_from}
 use Rattle.rule_code.specs.KindReading.{row_numbered, ScalarSort, itself, of_symbol, scalar_sorts, collection_sorts, sort_from, element_from, single_kind_from, elements_from, collection_kind_from, kind_from}
 use Rattle.rule_code.specs.Opcodes.{Fields, made, integer, boolean, number, text, symbol, scalar, collection, kind, opcodes, integer_from, boolean_from, fields_from, behind, instr_from}
 use Rattle.rule_code.specs.Parts.{text_from, named_once_from, named_twice_from, symbol_from, rule_name_from, code_from, rule_from, next_rule_from}
-use Rattle.rule_code.specs.CodeFile.{head_from, texts_from, symbols_from, rules_from, ended, whole_from, code_fault_at, with_offset, fault_part, CodeFaultAt}
+use Rattle.rule_code.specs.CodeFile.{version_from, head_from, texts_from, symbols_from, rules_from, ended, whole_from, code_fault_at, with_offset, fault_part, CodeFaultAt}
 use Rattle.rule_code.specs.Laws.{most_field_bytes, may_be_cut, cut_flaw, FaultsAreOfFields}
 use Rattle.std.specs.Option.{option_map}
 use Rattle.std.proofs.Math.Seq.{take-append-add}
@@ -200,27 +203,27 @@ kind_reader symbols = reader_byte (kind_from symbols) refl (λ b. record { leads
     leads b true = goes_map (λ rest. single_kind_from symbols (b ∷ rest)) (λ k. kinds.Scalar k) b (sort_goes symbols (row_numbered scalar_sorts b) b)
     leads b false = goes_map (λ rest. collection_kind_from symbols (b ∷ rest)) (λ k. kinds.Collection k.0 k.1) b (elements_goes symbols (row_numbered collection_sorts (b / 16)) (b % 16) b)
 
-fields_reader : (texts : ℕ) (symbols : List Symbol) (row : Fields) → IsReader (fields_from texts symbols row)
-fields_reader texts symbols (made i) = reader_of i
-fields_reader texts symbols (integer next) = reader_then integer_from (λ n bytes. fields_from texts symbols (next n) bytes) integer_reader (λ n. fields_reader texts symbols (next n))
-fields_reader texts symbols (boolean next) = reader_then boolean_from (λ b bytes. fields_from texts symbols (next b) bytes) boolean_reader (λ b. fields_reader texts symbols (next b))
-fields_reader texts symbols (number next) = reader_then (number_from w16) (λ n bytes. fields_from texts symbols (next n) bytes) number_reader (λ n. fields_reader texts symbols (next n))
-fields_reader texts symbols (text next) =
-    reader_then (text_number_from texts) (λ t bytes. fields_from texts symbols (next (record { 0 = t })) bytes) (text_number_reader texts) (λ t. fields_reader texts symbols (next (record { 0 = t })))
-fields_reader texts symbols (symbol tag next) =
-    reader_then (symbol_number_from tag symbols) (λ s bytes. fields_from texts symbols (next (record { 0 = s })) bytes) (symbol_number_reader tag symbols) (λ s. fields_reader texts symbols (next (record { 0 = s })))
-fields_reader texts symbols (scalar next) = reader_then (single_kind_from symbols) (λ k bytes. fields_from texts symbols (next k) bytes) (scalar_reader symbols) (λ k. fields_reader texts symbols (next k))
-fields_reader texts symbols (collection next) =
-    reader_then (collection_kind_from symbols) (λ p bytes. fields_from texts symbols (next p.0 p.1) bytes) (collection_reader symbols) (λ p. fields_reader texts symbols (next p.0 p.1))
-fields_reader texts symbols (kind next) = reader_then (kind_from symbols) (λ k bytes. fields_from texts symbols (next k) bytes) (kind_reader symbols) (λ k. fields_reader texts symbols (next k))
+fields_reader : (p : Preamble) (row : Fields) → IsReader (fields_from p row)
+fields_reader p (made i) = reader_of i
+fields_reader p (integer next) = reader_then integer_from (λ n bytes. fields_from p (next n) bytes) integer_reader (λ n. fields_reader p (next n))
+fields_reader p (boolean next) = reader_then boolean_from (λ b bytes. fields_from p (next b) bytes) boolean_reader (λ b. fields_reader p (next b))
+fields_reader p (number next) = reader_then (number_from w16) (λ n bytes. fields_from p (next n) bytes) number_reader (λ n. fields_reader p (next n))
+fields_reader p (text next) =
+    reader_then (text_number_from (length p.texts)) (λ t bytes. fields_from p (next (record { 0 = t })) bytes) (text_number_reader (length p.texts)) (λ t. fields_reader p (next (record { 0 = t })))
+fields_reader p (symbol tag next) =
+    reader_then (symbol_number_from tag p.symbols) (λ s bytes. fields_from p (next (record { 0 = s })) bytes) (symbol_number_reader tag p.symbols) (λ s. fields_reader p (next (record { 0 = s })))
+fields_reader p (scalar next) = reader_then (single_kind_from p.symbols) (λ k bytes. fields_from p (next k) bytes) (scalar_reader p.symbols) (λ k. fields_reader p (next k))
+fields_reader p (collection next) =
+    reader_then (collection_kind_from p.symbols) (λ k bytes. fields_from p (next k.0 k.1) bytes) (collection_reader p.symbols) (λ k. fields_reader p (next k.0 k.1))
+fields_reader p (kind next) = reader_then (kind_from p.symbols) (λ k bytes. fields_from p (next k) bytes) (kind_reader p.symbols) (λ k. fields_reader p (next k))
 
-opcode_goes : (texts : ℕ) (symbols : List Symbol) (row : Option Fields) (opcode : ℕ) → Goes (λ rest. behind texts symbols row (opcode ∷ rest) rest) opcode
-opcode_goes texts symbols None opcode = inr (flaws.BadOpcode, (λ rest. refl), refl)
-opcode_goes texts symbols (Some row) opcode = inl (fields_from texts symbols row, fields_reader texts symbols row, λ rest. refl)
+opcode_goes : (p : Preamble) (row : Option Fields) (opcode : ℕ) → Goes (λ rest. behind p row (opcode ∷ rest) rest) opcode
+opcode_goes p None opcode = inr (flaws.BadOpcode, (λ rest. refl), refl)
+opcode_goes p (Some row) opcode = inl (fields_from p row, fields_reader p row, λ rest. refl)
 
-instr_reader : (texts : ℕ) (symbols : List Symbol) → IsReader (instr_from texts symbols)
+instr_reader : (p : Preamble) → IsReader (instr_from p)
 unfolding instr_from
-instr_reader texts symbols = reader_byte (instr_from texts symbols) refl (λ opcode. record { leads = opcode_goes texts symbols (row_numbered opcodes opcode) opcode })
+instr_reader p = reader_byte (instr_from p) refl (λ opcode. record { leads = opcode_goes p (row_numbered opcodes opcode) opcode })
 
 -- ---- rules
 
@@ -229,19 +232,19 @@ unfolding rule_name_from
 rule_name_reader texts is_name_taken =
     reader_tested (text_number_from (length texts)) (λ n. is_name (text_at texts n) && not (is_name_taken (text_at texts n))) flaws.BadText refl (text_number_reader (length texts)) (text_number_field (length texts))
 
-code_reader : (texts : ℕ) (symbols : List Symbol) → IsReader (code_from texts symbols)
+code_reader : (p : Preamble) → IsReader (code_from p)
 unfolding code_from
-code_reader texts symbols =
-    reader_then (number_from w16) (λ n bytes. many_from (λ before. instr_from texts symbols) [] n bytes) number_reader (λ n. reader_many (λ before. instr_from texts symbols) (λ before. instr_reader texts symbols) [] n)
+code_reader p =
+    reader_then (number_from w16) (λ n bytes. many_from (λ before. instr_from p) [] n bytes) number_reader (λ n. reader_many (λ before. instr_from p) (λ before. instr_reader p) [] n)
 
-rule_reader : (texts : List (List ℕ)) (symbols : List Symbol) (is_name_taken : List ℕ → Bool) → IsReader (rule_from texts symbols is_name_taken)
+rule_reader : (p : Preamble) (is_name_taken : List ℕ → Bool) → IsReader (rule_from p is_name_taken)
 unfolding rule_from
-rule_reader texts symbols is_name_taken =
-    let behind_context : ℕ → ℕ → List ℕ → FieldRead RuleContent = λ name context bytes. code_from (length texts) symbols bytes >>= λ code. Ok (record { name = name; context = context; code = code.0 }, code.1) in
-    let behind_name : ℕ → List ℕ → FieldRead RuleContent = λ name bytes. symbol_number_from tags.Class symbols bytes >>= λ context. behind_context name context.0 context.1 in
-    reader_then (rule_name_from texts is_name_taken) behind_name (rule_name_reader texts is_name_taken)
-    (λ name. reader_then (symbol_number_from tags.Class symbols) (behind_context name) (symbol_number_reader tags.Class symbols)
-    (λ context. reader_map (code_from (length texts) symbols) (λ code. record { name = name; context = context; code = code }) (code_reader (length texts) symbols)))
+rule_reader p is_name_taken =
+    let behind_context : ℕ → ℕ → List ℕ → FieldRead RuleContent = λ name context bytes. code_from p bytes >>= λ code. Ok (record { name = name; context = context; code = code.0 }, code.1) in
+    let behind_name : ℕ → List ℕ → FieldRead RuleContent = λ name bytes. symbol_number_from tags.Class p.symbols bytes >>= λ context. behind_context name context.0 context.1 in
+    reader_then (rule_name_from p.texts is_name_taken) behind_name (rule_name_reader p.texts is_name_taken)
+    (λ name. reader_then (symbol_number_from tags.Class p.symbols) (behind_context name) (symbol_number_reader tags.Class p.symbols)
+    (λ context. reader_map (code_from p) (λ code. record { name = name; context = context; code = code }) (code_reader p)))
 
 -- ---- the file
 
@@ -253,63 +256,93 @@ symbols_reader : (texts : ℕ) → IsReader (symbols_from texts)
 unfolding symbols_from
 symbols_reader texts = reader_then (number_from w16) (λ n bytes. many_from (λ before. symbol_from texts) [] n bytes) number_reader (λ n. reader_many (λ before. symbol_from texts) (λ before. symbol_reader texts) [] n)
 
-rules_reader : (texts : List (List ℕ)) (symbols : List Symbol) → IsReader (rules_from texts symbols)
+rules_reader : (p : Preamble) → IsReader (rules_from p)
 unfolding rules_from
-rules_reader texts symbols =
-    reader_then (count_from 4096) (λ n bytes. many_from (next_rule_from texts symbols) [] n bytes) (count_reader 4096)
-    (λ n. reader_many (next_rule_from texts symbols) (λ before. rule_reader texts symbols _) [] n)
+rules_reader p =
+    reader_then (count_from 4096) (λ n bytes. many_from (next_rule_from p) [] n bytes) (count_reader 4096)
+    (λ n. reader_many (next_rule_from p) (λ before. rule_reader p _) [] n)
 
 -- the texts, the symbols and the rules, as one reader
-abbrev pub parts_from : List ℕ → FieldRead Content
-parts_from bytes = do
+abbrev pub parts_from : Version → List ℕ → FieldRead Content
+parts_from version bytes = do
   texts ← texts_from bytes
   symbols ← symbols_from (length texts.0) texts.1
-  rules ← rules_from texts.0 symbols.0 symbols.1
-  Ok (record { texts = texts.0; symbols = symbols.0; rules = rules.0 }, rules.1)
+  rules ← rules_from (record { version = version; texts = texts.0; symbols = symbols.0 }) symbols.1
+  Ok (record { version = version; texts = texts.0; symbols = symbols.0; rules = rules.0 }, rules.1)
 
-parts_reader : IsReader parts_from
-parts_reader =
-    let behind_symbols : List (List ℕ) → List Symbol → List ℕ → FieldRead Content = λ texts symbols bytes. rules_from texts symbols bytes >>= λ rules. Ok (record { texts = texts; symbols = symbols; rules = rules.0 }, rules.1) in
+parts_reader : (version : Version) → IsReader (parts_from version)
+parts_reader version =
+    let preamble : List (List ℕ) → List Symbol → Preamble = λ texts symbols. record { version = version; texts = texts; symbols = symbols } in
+    let behind_symbols : List (List ℕ) → List Symbol → List ℕ → FieldRead Content = λ texts symbols bytes. rules_from (preamble texts symbols) bytes >>= λ rules. Ok (record { version = version; texts = texts; symbols = symbols; rules = rules.0 }, rules.1) in
     let behind_texts : List (List ℕ) → List ℕ → FieldRead Content = λ texts bytes. symbols_from (length texts) bytes >>= λ symbols. behind_symbols texts symbols.0 symbols.1 in
     reader_then texts_from behind_texts texts_reader
     (λ texts. reader_then (symbols_from (length texts)) (behind_symbols texts) (symbols_reader (length texts))
-    (λ symbols. reader_map (rules_from texts symbols) (λ rules. record { texts = texts; symbols = symbols; rules = rules }) (rules_reader texts symbols)))
+    (λ symbols. reader_map (rules_from (preamble texts symbols)) (λ rules. record { version = version; texts = texts; symbols = symbols; rules = rules }) (rules_reader (preamble texts symbols))))
 
--- the version
-version_reader : IsReader (tested (number_from w16) (λ n. eqb n 1) flaws.Version)
-version_reader = reader_tested (number_from w16) (λ n. eqb n 1) flaws.Version refl number_reader number_field
+-- the number of a version
+abbrev is_version : ℕ → Bool
+is_version n = cond (eqb n 1) true (eqb n 2)
+
+-- the version of a number
+abbrev version_of : ℕ → Version
+version_of n = cond (eqb n 1) versions.One versions.Two
+
+-- a version's number is tested, and then it is a version
+version_is : (bytes : List ℕ) → version_from bytes ≡ then (tested (number_from w16) is_version flaws.Version) (λ n rest. Ok (version_of n, rest)) bytes
+unfolding version_from
+version_is bytes = by_read (number_from w16 bytes)
+  where
+    by_number : (n : ℕ × List ℕ) (one two : Bool) → eqb n.0 1 ≡ one → cond {A = FieldRead Version} one (Ok (versions.One, n.1)) (cond two (Ok (versions.Two, n.1)) (wrong flaws.Version bytes)) ≡ (cond (cond one true two) (Ok n) (wrong flaws.Version bytes) >>= λ x. Ok (version_of x.0, x.1))
+    by_number n true two is = rw is refl
+    by_number n false true is = rw is refl
+    by_number n false false is = refl
+
+    by_read : (r : FieldRead ℕ) → (r >>= λ n. cond {A = FieldRead Version} (eqb n.0 1) (Ok (versions.One, n.1)) (cond (eqb n.0 2) (Ok (versions.Two, n.1)) (wrong flaws.Version bytes))) ≡ ((r >>= λ n. cond (is_version n.0) (Ok n) (wrong flaws.Version bytes)) >>= λ n. Ok (version_of n.0, n.1))
+    by_read (Ok n) = by_number n (eqb n.0 1) (eqb n.0 2) refl
+    by_read (Err e) = refl
+
+version_reader : IsReader version_from
+version_reader =
+    reader_same (then (tested (number_from w16) is_version flaws.Version) (λ n rest. Ok (version_of n, rest))) version_from version_is
+    (reader_map (tested (number_from w16) is_version flaws.Version) version_of (reader_tested (number_from w16) is_version flaws.Version refl number_reader number_field))
 
 -- what follows the magic
 abbrev pub after_magic : List ℕ → FieldRead Content
-after_magic = then (tested (number_from w16) (λ n. eqb n 1) flaws.Version) (λ n. parts_from)
+after_magic = then version_from parts_from
 
 after_magic_reader : IsReader after_magic
-after_magic_reader = reader_then (tested (number_from w16) (λ n. eqb n 1) flaws.Version) (λ n. parts_from) version_reader (λ n. parts_reader)
+after_magic_reader = reader_then version_from parts_from version_reader parts_reader
 
 -- what is read, and nothing after it
 abbrev pub whole_of : FieldRead Content → Result Content Fault
 whole_of read = read >>= λ u. ended u.0 u.1
 
 -- the texts, the symbols and the rules, and nothing after them
-abbrev body_from : List ℕ → Result Content Fault
-body_from bytes = do
+abbrev body_from : Version → List ℕ → Result Content Fault
+body_from version bytes = do
   texts ← texts_from bytes
   symbols ← symbols_from (length texts.0) texts.1
-  rules ← rules_from texts.0 symbols.0 symbols.1
-  ended (record { texts = texts.0; symbols = symbols.0; rules = rules.0 }) rules.1
+  rules ← rules_from (record { version = version; texts = texts.0; symbols = symbols.0 }) symbols.1
+  ended (record { version = version; texts = texts.0; symbols = symbols.0; rules = rules.0 }) rules.1
 
-body_is : (bytes : List ℕ) → body_from bytes ≡ whole_of (parts_from bytes)
-body_is bytes = by_texts (texts_from bytes)
+abbrev preamble : Version → List (List ℕ) → List Symbol → Preamble
+preamble version texts symbols = record { version = version; texts = texts; symbols = symbols }
+
+abbrev made_of : Version → List (List ℕ) → List Symbol → List RuleContent → Content
+made_of version texts symbols rules = record { version = version; texts = texts; symbols = symbols; rules = rules }
+
+body_is : (version : Version) (bytes : List ℕ) → body_from version bytes ≡ whole_of (parts_from version bytes)
+body_is version bytes = by_texts (texts_from bytes)
   where
-    by_rules : (t : List (List ℕ) × List ℕ) (s : List Symbol × List ℕ) (r : FieldRead (List RuleContent)) → (r >>= λ rules. ended (record { texts = t.0; symbols = s.0; rules = rules.0 }) rules.1) ≡ whole_of (r >>= λ rules. Ok (record { texts = t.0; symbols = s.0; rules = rules.0 }, rules.1))
+    by_rules : (t : List (List ℕ) × List ℕ) (s : List Symbol × List ℕ) (r : FieldRead (List RuleContent)) → (r >>= λ rules. ended (made_of version t.0 s.0 rules.0) rules.1) ≡ whole_of (r >>= λ rules. Ok (made_of version t.0 s.0 rules.0, rules.1))
     by_rules t s (Ok r) = refl
     by_rules t s (Err e) = refl
 
-    by_symbols : (t : List (List ℕ) × List ℕ) (s : FieldRead (List Symbol)) → (s >>= λ symbols. rules_from t.0 symbols.0 symbols.1 >>= λ rules. ended (record { texts = t.0; symbols = symbols.0; rules = rules.0 }) rules.1) ≡ whole_of (s >>= λ symbols. rules_from t.0 symbols.0 symbols.1 >>= λ rules. Ok (record { texts = t.0; symbols = symbols.0; rules = rules.0 }, rules.1))
-    by_symbols t (Ok s) = by_rules t s (rules_from t.0 s.0 s.1)
+    by_symbols : (t : List (List ℕ) × List ℕ) (s : FieldRead (List Symbol)) → (s >>= λ symbols. rules_from (preamble version t.0 symbols.0) symbols.1 >>= λ rules. ended (made_of version t.0 symbols.0 rules.0) rules.1) ≡ whole_of (s >>= λ symbols. rules_from (preamble version t.0 symbols.0) symbols.1 >>= λ rules. Ok (made_of version t.0 symbols.0 rules.0, rules.1))
+    by_symbols t (Ok s) = by_rules t s (rules_from (preamble version t.0 s.0) s.1)
     by_symbols t (Err e) = refl
 
-    by_texts : (t : FieldRead (List (List ℕ))) → (t >>= λ texts. symbols_from (length texts.0) texts.1 >>= λ symbols. rules_from texts.0 symbols.0 symbols.1 >>= λ rules. ended (record { texts = texts.0; symbols = symbols.0; rules = rules.0 }) rules.1) ≡ whole_of (t >>= λ texts. symbols_from (length texts.0) texts.1 >>= λ symbols. rules_from texts.0 symbols.0 symbols.1 >>= λ rules. Ok (record { texts = texts.0; symbols = symbols.0; rules = rules.0 }, rules.1))
+    by_texts : (t : FieldRead (List (List ℕ))) → (t >>= λ texts. symbols_from (length texts.0) texts.1 >>= λ symbols. rules_from (preamble version texts.0 symbols.0) symbols.1 >>= λ rules. ended (made_of version texts.0 symbols.0 rules.0) rules.1) ≡ whole_of (t >>= λ texts. symbols_from (length texts.0) texts.1 >>= λ symbols. rules_from (preamble version texts.0 symbols.0) symbols.1 >>= λ rules. Ok (made_of version texts.0 symbols.0 rules.0, rules.1))
     by_texts (Ok t) = by_symbols t (symbols_from (length t.0) t.1)
     by_texts (Err e) = refl
 
@@ -318,16 +351,12 @@ whole_is : (bytes : List ℕ) → whole_from bytes ≡ cond (bytes_eq (take 4 by
 unfolding whole_from head_from
 whole_is bytes = by_test (bytes_eq (take 4 bytes) magic)
   where
-    by_number : (v : ℕ × List ℕ) (b : Bool) → (cond b (Ok v.1) (wrong flaws.Version (drop 4 bytes)) >>= body_from) ≡ whole_of (cond b (Ok v) (wrong flaws.Version (drop 4 bytes)) >>= λ w. parts_from w.1)
-    by_number v true = body_is v.1
-    by_number v false = refl
-
-    by_version : (r : FieldRead ℕ) → ((r >>= λ v. cond (eqb v.0 1) (Ok v.1) (wrong flaws.Version (drop 4 bytes))) >>= body_from) ≡ whole_of ((r >>= λ v. cond (eqb v.0 1) (Ok v) (wrong flaws.Version (drop 4 bytes))) >>= λ v. parts_from v.1)
-    by_version (Ok v) = by_number v (eqb v.0 1)
+    by_version : (r : FieldRead Version) → (r >>= λ v. body_from v.0 v.1) ≡ whole_of (r >>= λ v. parts_from v.0 v.1)
+    by_version (Ok v) = body_is v.0 v.1
     by_version (Err e) = refl
 
-    by_test : (b : Bool) → (cond b (number_from w16 (drop 4 bytes) >>= λ v. cond (eqb v.0 1) (Ok v.1) (wrong flaws.Version (drop 4 bytes))) (wrong flaws.Magic bytes) >>= body_from) ≡ cond b (whole_of (after_magic (drop 4 bytes))) (wrong flaws.Magic bytes)
-    by_test true = by_version (number_from w16 (drop 4 bytes))
+    by_test : (b : Bool) → (cond b (version_from (drop 4 bytes)) (wrong flaws.Magic bytes) >>= λ v. body_from v.0 v.1) ≡ cond b (whole_of (after_magic (drop 4 bytes))) (wrong flaws.Magic bytes)
+    by_test true = by_version (version_from (drop 4 bytes))
     by_test false = refl
 
 -- ---- the first fault of the file

@@ -16,6 +16,7 @@ use Rattle.rule_code.specs.declared.kind.WrittenScalar.{WrittenScalar}
 use Rattle.rule_code.specs.declared.kind.WrittenScalar.TheVariants as scalars
 use Rattle.rule_code.specs.declared.kind.WrittenKind.TheVariants as kinds
 use Rattle.rule_code.specs.declared.unit.Rule.{Rule}
+use Rattle.rule_code.specs.declared.version.Version.{Version}
 use Rattle.rule_code.specs.SymbolTag.{is_symbol_of}
 use Rattle.rule_code.specs.Content.{RuleContent, Content, content_of, rule_content}
 use Rattle.rule_code.specs.InstrRows.{FieldValue, integer_field, boolean_field, number_field, text_field, symbol_field, scalar_field, collection_field, kind_field, row_of}
@@ -31,7 +32,7 @@ rules_small : (texts : List (List ℕ)) (symbols : List Symbol) (before : List R
 rules_small texts symbols before [] h = tt
 rules_small texts symbols before (r ∷ rs) h = (h.0.len, rules_small texts symbols (before ++ rule_content r ∷ []) rs h.1)
 
-module _ (ts : List (String Global)) (ss : List Symbol) (rs : List Rule) (held : ∥ IsUnit (content_of ts ss rs) ∥₁) where
+module _ (v : Version) (ts : List (String Global)) (ss : List Symbol) (rs : List Rule) (held : ∥ IsUnit (content_of v ts ss rs) ∥₁) where
   -- each text of a unit has fewer than 2^16 bytes
   pub text_small : (i : ℕ) (d : String Global) → i < length ts → length (string_bytes (get_or ts i d)) < 2 ^ 16
   text_small i d lt = ∥∥₁_elim held (hlevel props) (λ h. All-from_recursion (λ t. length (string_bytes t) < 2 ^ 16) ts (texts_small ts h.texts) i d lt)

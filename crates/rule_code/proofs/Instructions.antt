@@ -11,9 +11,9 @@ use Rattle.rule_code.specs.declared.instruction.Instr.{Instr}
 use Rattle.rule_code.specs.declared.instruction.Instr.TheVariants as instrs
 use Rattle.rule_code.specs.declared.kind.WrittenScalar.{WrittenScalar}
 use Rattle.rule_code.specs.declared.kind.WrittenKind.{WrittenKind}
-use Rattle.rule_code.specs.declared.symbol.Symbol.{Symbol}
 use Rattle.rule_code.specs.declared.symbol.SymbolNumber.{SymbolNumber}
 use Rattle.rule_code.specs.declared.symbol.TextNumber.{TextNumber}
+use Rattle.rule_code.specs.Preamble.{Preamble}
 use Rattle.rule_code.specs.InstrRows.{FieldValue, integer_field, boolean_field, number_field, text_field, symbol_field, scalar_field, collection_field, kind_field, instr_row, row_of}
 use Rattle.rule_code.specs.Spelling.{field_bytes, fields_bytes, instr}
 use Rattle.rule_code.specs.WellFormed.{FieldFits, InstrFits}
@@ -67,16 +67,16 @@ opcodes_right =
     right_with plain_opcodes (value_opcodes ++ operation_opcodes ++ block_opcodes) plain_right
     (right_with value_opcodes (operation_opcodes ++ block_opcodes) value_right (right_with operation_opcodes block_opcodes operation_right block_right))
 
-module _ (texts : ℕ) (symbols : List Symbol) (few_texts : texts < 2 ^ 16) (few : length symbols < 2 ^ 16) where
+module _ (p : Preamble) (few_texts : length p.texts < 2 ^ 16) (few : length p.symbols < 2 ^ 16) where
   -- an instruction that was read behind its opcode and some of its fields
   record Found (opcode : ℕ) (before : List FieldValue) (rest : List ℕ) (x : Instr × List ℕ) : Type 0 where
     pub fields : List FieldValue
     pub row : row_of x.0 ≡ instr_row opcode (before ++ fields)
     pub taken : Takes rest (fields_bytes fields) x.1
-    pub fit : AllByRecursion (FieldFits texts symbols) fields
+    pub fit : AllByRecursion (FieldFits (length p.texts) p.symbols) fields
 
   -- one field more
-  field_then : (opcode : ℕ) (before : List FieldValue) (f : FieldValue) (rest after : List ℕ) (x : Instr × List ℕ) → Takes rest (field_bytes f) after → FieldFits texts symbols f → Found opcode (before ++ f ∷ []) after x → Found opcode before rest x
+  field_then : (opcode : ℕ) (before : List FieldValue) (f : FieldValue) (rest after : List ℕ) (x : Instr × List ℕ) → Takes rest (field_bytes f) after → FieldFits (length p.texts) p.symbols f → Found opcode (before ++ f ∷ []) after x → Found opcode before rest x
   field_then opcode before f rest after x first fits others = record {
     fields = f ∷ others.fields;
     row = others.row ∙ ap (instr_row opcode) (append_assoc before (f ∷ []) others.fields);
@@ -84,48 +84,48 @@ module _ (texts : ℕ) (symbols : List Symbol) (few_texts : texts < 2 ^ 16) (few
     fit = (fits, others.fit);
   }
 
-  fields_takes : (opcode : ℕ) (before : List FieldValue) (row : Fields) → IsRight opcode before row → (rest : List ℕ) (x : Instr × List ℕ) → IsBytes rest → fields_from texts symbols row rest ≡ Ok x → Found opcode before rest x
+  fields_takes : (opcode : ℕ) (before : List FieldValue) (row : Fields) → IsRight opcode before row → (rest : List ℕ) (x : Instr × List ℕ) → IsBytes rest → fields_from p row rest ≡ Ok x → Found opcode before rest x
   fields_takes opcode before (made i) right rest x fits e =
       subst (λ (y : Instr × List ℕ). Found opcode before rest y) (ok_is (i, rest) x e)
       (record { fields = []; row = right ∙ ap (instr_row opcode) (sym (append-nil before)); taken = record { parts = refl; rest_fits = fits }; fit = tt })
   fields_takes opcode before (integer next) right rest x fits e =
-      let a = both_steps (integer_from rest) (λ n. fields_from texts symbols (next n.0) n.1) x e in
+      let a = both_steps (integer_from rest) (λ n. fields_from p (next n.0) n.1) x e in
       let t = integer_codec.takes rest a.0 fits a.1 in
       field_then opcode before (integer_field a.0.0) rest a.0.1 x t.0 t.1 (fields_takes opcode (before ++ integer_field a.0.0 ∷ []) (next a.0.0) (right a.0.0) a.0.1 x t.0.rest_fits a.2)
   fields_takes opcode before (boolean next) right rest x fits e =
-      let a = both_steps (boolean_from rest) (λ n. fields_from texts symbols (next n.0) n.1) x e in
+      let a = both_steps (boolean_from rest) (λ n. fields_from p (next n.0) n.1) x e in
       let t = boolean_codec.takes rest a.0 fits a.1 in
       field_then opcode before (boolean_field a.0.0) rest a.0.1 x t.0 t.1 (fields_takes opcode (before ++ boolean_field a.0.0 ∷ []) (next a.0.0) (right a.0.0) a.0.1 x t.0.rest_fits a.2)
   fields_takes opcode before (number next) right rest x fits e =
-      let a = both_steps (number_from w16 rest) (λ n. fields_from texts symbols (next n.0) n.1) x e in
+      let a = both_steps (number_from w16 rest) (λ n. fields_from p (next n.0) n.1) x e in
       let t = number_codec.takes rest a.0 fits a.1 in
       field_then opcode before (number_field a.0.0) rest a.0.1 x t.0 t.1 (fields_takes opcode (before ++ number_field a.0.0 ∷ []) (next a.0.0) (right a.0.0) a.0.1 x t.0.rest_fits a.2)
   fields_takes opcode before (text next) right rest x fits e =
-      let a = both_steps (text_number_from texts rest) (λ n. fields_from texts symbols (next (record { 0 = n.0 })) n.1) x e in
-      let t = (text_number_codec texts few_texts).takes rest a.0 fits a.1 in
+      let a = both_steps (text_number_from (length p.texts) rest) (λ n. fields_from p (next (record { 0 = n.0 })) n.1) x e in
+      let t = (text_number_codec (length p.texts) few_texts).takes rest a.0 fits a.1 in
       field_then opcode before (text_field a.0.0) rest a.0.1 x t.0 t.1 (fields_takes opcode (before ++ text_field a.0.0 ∷ []) (next (record { 0 = a.0.0 })) (right (record { 0 = a.0.0 })) a.0.1 x t.0.rest_fits a.2)
   fields_takes opcode before (symbol tag next) right rest x fits e =
-      let a = both_steps (symbol_number_from tag symbols rest) (λ n. fields_from texts symbols (next (record { 0 = n.0 })) n.1) x e in
-      let t = (symbol_number_codec tag symbols few).takes rest a.0 fits a.1 in
+      let a = both_steps (symbol_number_from tag p.symbols rest) (λ n. fields_from p (next (record { 0 = n.0 })) n.1) x e in
+      let t = (symbol_number_codec tag p.symbols few).takes rest a.0 fits a.1 in
       field_then opcode before (symbol_field tag a.0.0) rest a.0.1 x t.0 t.1 (fields_takes opcode (before ++ symbol_field tag a.0.0 ∷ []) (next (record { 0 = a.0.0 })) (right (record { 0 = a.0.0 })) a.0.1 x t.0.rest_fits a.2)
   fields_takes opcode before (scalar next) right rest x fits e =
-      let a = both_steps (single_kind_from symbols rest) (λ n. fields_from texts symbols (next n.0) n.1) x e in
-      let t = (scalar_codec symbols few).takes rest a.0 fits a.1 in
+      let a = both_steps (single_kind_from p.symbols rest) (λ n. fields_from p (next n.0) n.1) x e in
+      let t = (scalar_codec p.symbols few).takes rest a.0 fits a.1 in
       field_then opcode before (scalar_field a.0.0) rest a.0.1 x t.0 t.1 (fields_takes opcode (before ++ scalar_field a.0.0 ∷ []) (next a.0.0) (right a.0.0) a.0.1 x t.0.rest_fits a.2)
   fields_takes opcode before (collection next) right rest x fits e =
-      let a = both_steps (collection_kind_from symbols rest) (λ n. fields_from texts symbols (next n.0.0 n.0.1) n.1) x e in
-      let t = (collection_codec symbols few).takes rest a.0 fits a.1 in
+      let a = both_steps (collection_kind_from p.symbols rest) (λ n. fields_from p (next n.0.0 n.0.1) n.1) x e in
+      let t = (collection_codec p.symbols few).takes rest a.0 fits a.1 in
       field_then opcode before (collection_field a.0.0.0 a.0.0.1) rest a.0.1 x t.0 t.1 (fields_takes opcode (before ++ collection_field a.0.0.0 a.0.0.1 ∷ []) (next a.0.0.0 a.0.0.1) (right a.0.0.0 a.0.0.1) a.0.1 x t.0.rest_fits a.2)
   fields_takes opcode before (kind next) right rest x fits e =
-      let a = both_steps (kind_from symbols rest) (λ n. fields_from texts symbols (next n.0) n.1) x e in
-      let t = (kind_codec symbols few).takes rest a.0 fits a.1 in
+      let a = both_steps (kind_from p.symbols rest) (λ n. fields_from p (next n.0) n.1) x e in
+      let t = (kind_codec p.symbols few).takes rest a.0 fits a.1 in
       field_then opcode before (kind_field a.0.0) rest a.0.1 x t.0 t.1 (fields_takes opcode (before ++ kind_field a.0.0 ∷ []) (next a.0.0) (right a.0.0) a.0.1 x t.0.rest_fits a.2)
 
-  behind_takes : (opcode : ℕ) (row : Option Fields) → ((r : Fields) → row ≡ Some r → IsRight opcode [] r) → (here rest : List ℕ) (x : Instr × List ℕ) → IsBytes rest → behind texts symbols row here rest ≡ Ok x → Found opcode [] rest x
+  behind_takes : (opcode : ℕ) (row : Option Fields) → ((r : Fields) → row ≡ Some r → IsRight opcode [] r) → (here rest : List ℕ) (x : Instr × List ℕ) → IsBytes rest → behind p row here rest ≡ Ok x → Found opcode [] rest x
   behind_takes opcode None right here rest x fits e = absurd (let bad : wrong flaws.BadOpcode here ≡ Ok x = e in cc)
   behind_takes opcode (Some row) right here rest x fits e = fields_takes opcode [] row (right row refl) rest x fits e
 
-  instr_takes : (bytes : List ℕ) (x : Instr × List ℕ) → IsBytes bytes → instr_from texts symbols bytes ≡ Ok x → Takes bytes (instr x.0) x.1 × InstrFits texts symbols x.0
+  instr_takes : (bytes : List ℕ) (x : Instr × List ℕ) → IsBytes bytes → instr_from p bytes ≡ Ok x → Takes bytes (instr x.0) x.1 × InstrFits (length p.texts) p.symbols x.0
   unfolding instr_from
   instr_takes [] x fits e = absurd cc
   instr_takes (opcode ∷ rest) x fits e =
@@ -152,26 +152,26 @@ module _ (texts : ℕ) (symbols : List Symbol) (few_texts : texts < 2 ^ 16) (few
   then_again {A} f go bytes others rest a x first second =
       ap (λ (all : List ℕ). f all >>= go) (append_assoc bytes others rest) ∙ ap (λ (r : FieldRead A). r >>= go) first ∙ second
 
-  fields_again : (row : Fields) (fs : List FieldValue) (x : Instr) → Makes row fs x → AllByRecursion (FieldFits texts symbols) fs → (rest : List ℕ) → fields_from texts symbols row (fields_bytes fs ++ rest) ≡ Ok (x, rest)
+  fields_again : (row : Fields) (fs : List FieldValue) (x : Instr) → Makes row fs x → AllByRecursion (FieldFits (length p.texts) p.symbols) fs → (rest : List ℕ) → fields_from p row (fields_bytes fs ++ rest) ≡ Ok (x, rest)
   fields_again (made i) [] x makes fits rest = ap (λ (j : Instr). Ok (j, rest)) makes
   fields_again (integer next) (integer_field n ∷ fs) x makes fits rest =
-      then_again integer_from (λ n. fields_from texts symbols (next n.0) n.1) (field_bytes (integer_field n)) (fields_bytes fs) rest n x (integer_codec.again n (fields_bytes fs ++ rest) fits.0) (fields_again (next n) fs x makes fits.1 rest)
+      then_again integer_from (λ n. fields_from p (next n.0) n.1) (field_bytes (integer_field n)) (fields_bytes fs) rest n x (integer_codec.again n (fields_bytes fs ++ rest) fits.0) (fields_again (next n) fs x makes fits.1 rest)
   fields_again (boolean next) (boolean_field n ∷ fs) x makes fits rest =
-      then_again boolean_from (λ n. fields_from texts symbols (next n.0) n.1) (field_bytes (boolean_field n)) (fields_bytes fs) rest n x (boolean_codec.again n (fields_bytes fs ++ rest) fits.0) (fields_again (next n) fs x makes fits.1 rest)
+      then_again boolean_from (λ n. fields_from p (next n.0) n.1) (field_bytes (boolean_field n)) (fields_bytes fs) rest n x (boolean_codec.again n (fields_bytes fs ++ rest) fits.0) (fields_again (next n) fs x makes fits.1 rest)
   fields_again (number next) (number_field n ∷ fs) x makes fits rest =
-      then_again (number_from w16) (λ n. fields_from texts symbols (next n.0) n.1) (field_bytes (number_field n)) (fields_bytes fs) rest n x (number_codec.again n (fields_bytes fs ++ rest) fits.0) (fields_again (next n) fs x makes fits.1 rest)
+      then_again (number_from w16) (λ n. fields_from p (next n.0) n.1) (field_bytes (number_field n)) (fields_bytes fs) rest n x (number_codec.again n (fields_bytes fs ++ rest) fits.0) (fields_again (next n) fs x makes fits.1 rest)
   fields_again (text next) (text_field n ∷ fs) x makes fits rest =
-      then_again (text_number_from texts) (λ n. fields_from texts symbols (next (record { 0 = n.0 })) n.1) (field_bytes (text_field n)) (fields_bytes fs) rest n x ((text_number_codec texts few_texts).again n (fields_bytes fs ++ rest) fits.0) (fields_again (next (record { 0 = n })) fs x makes fits.1 rest)
+      then_again (text_number_from (length p.texts)) (λ n. fields_from p (next (record { 0 = n.0 })) n.1) (field_bytes (text_field n)) (fields_bytes fs) rest n x ((text_number_codec (length p.texts) few_texts).again n (fields_bytes fs ++ rest) fits.0) (fields_again (next (record { 0 = n })) fs x makes fits.1 rest)
   fields_again (scalar next) (scalar_field n ∷ fs) x makes fits rest =
-      then_again (single_kind_from symbols) (λ n. fields_from texts symbols (next n.0) n.1) (field_bytes (scalar_field n)) (fields_bytes fs) rest n x ((scalar_codec symbols few).again n (fields_bytes fs ++ rest) fits.0) (fields_again (next n) fs x makes fits.1 rest)
+      then_again (single_kind_from p.symbols) (λ n. fields_from p (next n.0) n.1) (field_bytes (scalar_field n)) (fields_bytes fs) rest n x ((scalar_codec p.symbols few).again n (fields_bytes fs ++ rest) fits.0) (fields_again (next n) fs x makes fits.1 rest)
   fields_again (kind next) (kind_field n ∷ fs) x makes fits rest =
-      then_again (kind_from symbols) (λ n. fields_from texts symbols (next n.0) n.1) (field_bytes (kind_field n)) (fields_bytes fs) rest n x ((kind_codec symbols few).again n (fields_bytes fs ++ rest) fits.0) (fields_again (next n) fs x makes fits.1 rest)
+      then_again (kind_from p.symbols) (λ n. fields_from p (next n.0) n.1) (field_bytes (kind_field n)) (fields_bytes fs) rest n x ((kind_codec p.symbols few).again n (fields_bytes fs ++ rest) fits.0) (fields_again (next n) fs x makes fits.1 rest)
   fields_again (symbol tag next) (symbol_field other n ∷ fs) x makes fits rest =
       let there = rw makes.0 at fits.0 in
-      then_again (symbol_number_from tag symbols) (λ n. fields_from texts symbols (next (record { 0 = n.0 })) n.1) (field_bytes (symbol_field other n)) (fields_bytes fs) rest n x ((symbol_number_codec tag symbols few).again n (fields_bytes fs ++ rest) there)
+      then_again (symbol_number_from tag p.symbols) (λ n. fields_from p (next (record { 0 = n.0 })) n.1) (field_bytes (symbol_field other n)) (fields_bytes fs) rest n x ((symbol_number_codec tag p.symbols few).again n (fields_bytes fs ++ rest) there)
       (fields_again (next (record { 0 = n })) fs x makes.1 fits.1 rest)
   fields_again (collection next) (collection_field c k ∷ fs) x makes fits rest =
-      then_again (collection_kind_from symbols) (λ n. fields_from texts symbols (next n.0.0 n.0.1) n.1) (field_bytes (collection_field c k)) (fields_bytes fs) rest (c, k) x ((collection_codec symbols few).again (c, k) (fields_bytes fs ++ rest) fits.0)
+      then_again (collection_kind_from p.symbols) (λ n. fields_from p (next n.0.0 n.0.1) n.1) (field_bytes (collection_field c k)) (fields_bytes fs) rest (c, k) x ((collection_codec p.symbols few).again (c, k) (fields_bytes fs ++ rest) fits.0)
       (fields_again (next c k) fs x makes fits.1 rest)
   fields_again row fs x makes fits rest = absurd makes
 
@@ -189,14 +189,14 @@ module _ (texts : ℕ) (symbols : List Symbol) (few_texts : texts < 2 ^ 16) (few
   row_makes (instrs.AsType s) = (refl, refl)
   row_makes x = refl
 
-  behind_again : (row : Option Fields) (x : Instr) → RowMakes row x → InstrFits texts symbols x → (here rest : List ℕ) → behind texts symbols row here (fields_bytes (row_of x).fields ++ rest) ≡ Ok (x, rest)
+  behind_again : (row : Option Fields) (x : Instr) → RowMakes row x → InstrFits (length p.texts) p.symbols x → (here rest : List ℕ) → behind p row here (fields_bytes (row_of x).fields ++ rest) ≡ Ok (x, rest)
   behind_again None x makes fits here rest = absurd makes
   behind_again (Some row) x makes fits here rest = fields_again row (row_of x).fields x makes fits rest
 
-  instr_again : (x : Instr) (rest : List ℕ) → InstrFits texts symbols x → instr_from texts symbols (instr x ++ rest) ≡ Ok (x, rest)
+  instr_again : (x : Instr) (rest : List ℕ) → InstrFits (length p.texts) p.symbols x → instr_from p (instr x ++ rest) ≡ Ok (x, rest)
   unfolding instr_from
   instr_again x rest fits = behind_again (row_numbered opcodes (row_of x).opcode) x (row_makes x) fits (instr x ++ rest) rest
 
   -- an instruction that fits: what is read was spelled so, and what is spelled so is read
-  pub instr_codec : IsCodec instr (InstrFits texts symbols) (instr_from texts symbols)
+  pub instr_codec : IsCodec instr (InstrFits (length p.texts) p.symbols) (instr_from p)
   instr_codec = record { takes = instr_takes; again = instr_again }

@@ -1,26 +1,29 @@
 -- The laws of whole files: what is read is spelled so, and what is spelled so is read.
-use Rattle.std.proofs.Common.{◌≡◌, ℕ, ◌^◌, ◌<◌, ◌≤◌, Bool, true, false, cond, eqb, ◌&&◌, not, List, [], ◌∷◌, ◌++◌, length, get_or, take, drop, Result, Ok, Err, refl, sym, ap, subst, ◌∙◌, append_assoc, arith}
+use Rattle.std.proofs.Common.{◌≡◌, ℕ, ◌^◌, ◌<◌, ◌≤◌, Bool, true, false, cond, eqb, ◌&&◌, not, List, [], ◌∷◌, ◌++◌, length, get_or, take, drop, Result, Ok, Err, refl, sym, ap, subst, ◌∙◌, append_assoc, inl, inr, arith}
 use Rattle.std.specs.Prelude.{bytes_eq, ◌↔◌}
 use Rattle.std.specs.Int.{w16}
 use Rattle.std.proofs.lemmas.Bool.{eqb-true}
 use Rattle.std.proofs.lemmas.List.{append-nil, take-append-drop}
 use Rattle.std.proofs.lemmas.Slice.Eq.{bytes_eq-Decides}
 use Rattle.rule_code.specs.declared.fault.CodeFlaw.TheVariants as flaws
-use Rattle.rule_code.specs.declared.symbol.Symbol.{Symbol}
 use Rattle.rule_code.specs.declared.symbol.SymbolTag.TheVariants as tags
+use Rattle.rule_code.specs.declared.version.Version.{Version}
+use Rattle.rule_code.specs.declared.version.Version.TheVariants as versions
 use Rattle.ocl_base.specs.Lists.{is_among}
 use Rattle.ocl_base.specs.Words.{is_name}
 use Rattle.rule_code.specs.Content.{RuleContent, Content, text_at, names_of}
+use Rattle.rule_code.specs.FileVersion.{version_number}
+use Rattle.rule_code.specs.Preamble.{Preamble}
 use Rattle.rule_code.specs.NumberBytes.{number_bytes}
 use Rattle.rule_code.specs.Spelling.{counted_bytes, text, symbol, instr, rule, magic, spelling}
 use Rattle.rule_code.specs.WellFormed.{EachFits, IsTextOfUnit, SymbolFits, InstrFits, RuleFits, IsUnit}
 use Rattle.ocl_base.specs.Steps.{◌>>=◌}
-use Rattle.rule_code.specs.Reading.{Fault, FieldRead, wrong, number_from, count_from, text_number_from, symbol_number_from}
+use Rattle.rule_code.specs.Reading.{Fault, wrong, number_from, count_from, text_number_from, symbol_number_from}
 use Rattle.rule_code.specs.Opcodes.{instr_from}
 use Rattle.rule_code.specs.Parts.{text_from, symbol_from, rule_name_from, code_from, rule_from, next_rule_from}
-use Rattle.rule_code.specs.CodeFile.{head_from, texts_from, symbols_from, rules_from, ended, whole_from, with_offset, unit_of}
+use Rattle.rule_code.specs.CodeFile.{version_from, head_from, texts_from, symbols_from, rules_from, ended, whole_from, with_offset, unit_of}
 use Rattle.ocl_base.proofs.ForAbove.{both_steps, okay, ok_is}
-use Rattle.rule_code.proofs.Bytes.{IsBytes, IsBytes-drop, pass_ok, pass_on, Takes, Takes-then}
+use Rattle.rule_code.proofs.Bytes.{IsBytes, IsBytes-drop, chosen, pass_ok, pass_on, Takes, Takes-then}
 use Rattle.rule_code.proofs.Codec.{IsCodec, counted_codec, AllByRecursion-from_each, EachFits-from_all}
 use Rattle.rule_code.proofs.Fields.{number_codec, count_codec, text_number_codec, symbol_number_codec, text_codec}
 use Rattle.rule_code.proofs.Symbols.{symbol_codec}
@@ -51,10 +54,10 @@ name_codec texts is_name_taken few = record {
 
 -- ---- lists behind their counts
 
-code_codec : (texts : ℕ) (symbols : List Symbol) → texts < 2 ^ 16 → length symbols < 2 ^ 16 → IsCodec (counted_bytes instr) (λ code. (length code < 2 ^ 16) × EachFits (λ before. InstrFits texts symbols) [] code) (code_from texts symbols)
+code_codec : (p : Preamble) → length p.texts < 2 ^ 16 → length p.symbols < 2 ^ 16 → IsCodec (counted_bytes instr) (λ code. (length code < 2 ^ 16) × EachFits (λ before. InstrFits (length p.texts) p.symbols) [] code) (code_from p)
 unfolding code_from
-code_codec texts symbols few_texts few =
-    counted_codec instr (λ before. InstrFits texts symbols) (λ before. instr_from texts symbols) (λ before. instr_codec texts symbols few_texts few) (λ n. n < 2 ^ 16) (number_from w16) number_codec
+code_codec p few_texts few =
+    counted_codec instr (λ before. InstrFits (length p.texts) p.symbols) (λ before. instr_from p) (λ before. instr_codec p few_texts few) (λ n. n < 2 ^ 16) (number_from w16) number_codec
 
 texts_codec : IsCodec (counted_bytes text) (λ texts. (length texts < 2 ^ 16) × EachFits (λ before. IsTextOfUnit) [] texts) texts_from
 unfolding texts_from
@@ -66,66 +69,90 @@ symbols_codec texts few = counted_codec symbol (λ before. SymbolFits texts) (λ
 
 -- ---- rules
 
-rule_codec : (texts : List (List ℕ)) (symbols : List Symbol) → length texts < 2 ^ 16 → length symbols < 2 ^ 16 → (before : List RuleContent)
-    → IsCodec rule (RuleFits texts symbols before) (next_rule_from texts symbols before)
+rule_codec : (p : Preamble) → length p.texts < 2 ^ 16 → length p.symbols < 2 ^ 16 → (before : List RuleContent)
+    → IsCodec rule (RuleFits p.texts p.symbols before) (next_rule_from p before)
 unfolding rule_from
-rule_codec texts symbols few_texts few_symbols before =
-    let is_name_taken = is_among bytes_eq (names_of texts before) in
+rule_codec p few_texts few_symbols before =
+    let is_name_taken = is_among bytes_eq (names_of p.texts before) in
     record {
       takes = λ bytes x fits e.
-          let a = both_steps (rule_name_from texts is_name_taken bytes) (λ name. symbol_number_from tags.Class symbols name.1 >>= λ context. code_from (length texts) symbols context.1 >>= λ code. Ok (record { name = name.0; context = context.0; code = code.0 }, code.1)) x e in
-          let b = both_steps (symbol_number_from tags.Class symbols a.0.1) (λ context. code_from (length texts) symbols context.1 >>= λ code. Ok (record { name = a.0.0; context = context.0; code = code.0 }, code.1)) x a.2 in
-          let d = both_steps (code_from (length texts) symbols b.0.1) (λ code. Ok (record { name = a.0.0; context = b.0.0; code = code.0 }, code.1)) x b.2 in
-          let t0 = (name_codec texts is_name_taken few_texts).takes bytes a.0 fits a.1 in
-          let t1 = (symbol_number_codec tags.Class symbols few_symbols).takes a.0.1 b.0 t0.0.rest_fits b.1 in
-          let t2 = (code_codec (length texts) symbols few_texts few_symbols).takes b.0.1 d.0 t1.0.rest_fits d.1 in
+          let a = both_steps (rule_name_from p.texts is_name_taken bytes) (λ name. symbol_number_from tags.Class p.symbols name.1 >>= λ context. code_from p context.1 >>= λ code. Ok (record { name = name.0; context = context.0; code = code.0 }, code.1)) x e in
+          let b = both_steps (symbol_number_from tags.Class p.symbols a.0.1) (λ context. code_from p context.1 >>= λ code. Ok (record { name = a.0.0; context = context.0; code = code.0 }, code.1)) x a.2 in
+          let d = both_steps (code_from p b.0.1) (λ code. Ok (record { name = a.0.0; context = b.0.0; code = code.0 }, code.1)) x b.2 in
+          let t0 = (name_codec p.texts is_name_taken few_texts).takes bytes a.0 fits a.1 in
+          let t1 = (symbol_number_codec tags.Class p.symbols few_symbols).takes a.0.1 b.0 t0.0.rest_fits b.1 in
+          let t2 = (code_codec p few_texts few_symbols).takes b.0.1 d.0 t1.0.rest_fits d.1 in
           let first = Takes-then bytes (number_bytes a.0.0) a.0.1 (number_bytes b.0.0) b.0.1 t0.0 t1.0 in
           let all = Takes-then bytes (number_bytes a.0.0 ++ number_bytes b.0.0) b.0.1 (counted_bytes instr d.0.0) d.0.1 first t2.0 in
           let made : RuleContent × List ℕ = (record { name = a.0.0; context = b.0.0; code = d.0.0 }, d.0.1) in
-          subst (λ (y : RuleContent × List ℕ). Takes bytes (rule y.0) y.1 × RuleFits texts symbols before y.0) (ok_is made x d.2)
-          (all, record { name = t0.1.0; is_name = t0.1.1; is_new = t0.1.2; context = t1.1; len = t2.1.0; code = AllByRecursion-from_each (InstrFits (length texts) symbols) [] d.0.0 t2.1.1 });
+          subst (λ (y : RuleContent × List ℕ). Takes bytes (rule y.0) y.1 × RuleFits p.texts p.symbols before y.0) (ok_is made x d.2)
+          (all, record { name = t0.1.0; is_name = t0.1.1; is_new = t0.1.2; context = t1.1; len = t2.1.0; code = AllByRecursion-from_each (InstrFits (length p.texts) p.symbols) [] d.0.0 t2.1.1 });
       again = λ r rest fits.
           let regrouped : rule r ++ rest ≡ number_bytes r.name ++ (number_bytes r.context ++ (counted_bytes instr r.code ++ rest)) = append_assoc (number_bytes r.name ++ number_bytes r.context) (counted_bytes instr r.code) rest ∙ append_assoc (number_bytes r.name) (number_bytes r.context) (counted_bytes instr r.code ++ rest) in
-          ap (rule_from texts symbols is_name_taken) regrouped
-          ∙ rw ((name_codec texts is_name_taken few_texts).again r.name (number_bytes r.context ++ (counted_bytes instr r.code ++ rest)) (fits.name, fits.is_name, fits.is_new), (symbol_number_codec tags.Class symbols few_symbols).again r.context (counted_bytes instr r.code ++ rest) fits.context, (code_codec (length texts) symbols few_texts few_symbols).again r.code rest (fits.len, EachFits-from_all (InstrFits (length texts) symbols) [] r.code fits.code)) refl;
+          ap (rule_from p is_name_taken) regrouped
+          ∙ rw ((name_codec p.texts is_name_taken few_texts).again r.name (number_bytes r.context ++ (counted_bytes instr r.code ++ rest)) (fits.name, fits.is_name, fits.is_new), (symbol_number_codec tags.Class p.symbols few_symbols).again r.context (counted_bytes instr r.code ++ rest) fits.context, (code_codec p few_texts few_symbols).again r.code rest (fits.len, EachFits-from_all (InstrFits (length p.texts) p.symbols) [] r.code fits.code)) refl;
     }
 
-rules_codec : (texts : List (List ℕ)) (symbols : List Symbol) → length texts < 2 ^ 16 → length symbols < 2 ^ 16
-    → IsCodec (counted_bytes rule) (λ rules. (length rules ≤ 4096) × EachFits (RuleFits texts symbols) [] rules) (rules_from texts symbols)
+rules_codec : (p : Preamble) → length p.texts < 2 ^ 16 → length p.symbols < 2 ^ 16
+    → IsCodec (counted_bytes rule) (λ rules. (length rules ≤ 4096) × EachFits (RuleFits p.texts p.symbols) [] rules) (rules_from p)
 unfolding rules_from
-rules_codec texts symbols few_texts few_symbols =
-    counted_codec rule (RuleFits texts symbols) (next_rule_from texts symbols) (rule_codec texts symbols few_texts few_symbols) (λ n. n ≤ 4096) (count_from 4096) (count_codec 4096 (omega arith))
+rules_codec p few_texts few_symbols =
+    counted_codec rule (RuleFits p.texts p.symbols) (next_rule_from p) (rule_codec p few_texts few_symbols) (λ n. n ≤ 4096) (count_from 4096) (count_codec 4096 (omega arith))
 
 -- ---- the whole file
 
--- what stands before the texts
-abbrev head : List ℕ
-head = magic ++ number_bytes 1
+-- a version, as a file has it
+abbrev version_bytes : Version → List ℕ
+version_bytes v = number_bytes (version_number v)
 
-head_takes : (bytes rest : List ℕ) → IsBytes bytes → head_from bytes ≡ Ok rest → Takes bytes head rest
+-- the version that a number is read as has that number
+version_is : (n : ℕ) (rest bytes : List ℕ) (x : Version × List ℕ) → cond (eqb n 1) (Ok (versions.One, rest)) (cond (eqb n 2) (Ok (versions.Two, rest)) (wrong flaws.Version bytes)) ≡ Ok x → (n ≡ version_number x.0) × (rest ≡ x.1)
+version_is n rest bytes x e =
+    elim (chosen (eqb n 1) (Ok (versions.One, rest)) (cond (eqb n 2) (Ok (versions.Two, rest)) (wrong flaws.Version bytes)) (Ok x) e) [
+      | inl one ↦ subst (λ (y : Version × List ℕ). (n ≡ version_number y.0) × (rest ≡ y.1)) (ok_is (versions.One, rest) x one.1) (eqb-true n 1 one.0, refl)
+      | inr other ↦
+          let two = pass_ok (eqb n 2) (record { flaw = flaws.Version; left = length bytes }) (versions.Two, rest) x other.1 in
+          subst (λ (y : Version × List ℕ). (n ≡ version_number y.0) × (rest ≡ y.1)) two.1 (eqb-true n 2 two.0, refl)
+    ]
+
+version_again : (v : Version) (rest : List ℕ) → version_from (version_bytes v ++ rest) ≡ Ok (v, rest)
+unfolding version_from
+version_again versions.One rest = rw (number_codec.again 1 rest (omega arith)) refl
+version_again versions.Two rest = rw (number_codec.again 2 rest (omega arith)) refl
+
+version_codec : IsCodec version_bytes (λ v. Unit {0}) version_from
+unfolding version_from
+version_codec = record {
+  takes = λ bytes x fits e.
+      let a = both_steps (number_from w16 bytes) (λ n. cond (eqb n.0 1) (Ok (versions.One, n.1)) (cond (eqb n.0 2) (Ok (versions.Two, n.1)) (wrong flaws.Version bytes))) x e in
+      let is = version_is a.0.0 a.0.1 bytes x a.2 in
+      let t = number_codec.takes bytes a.0 fits a.1 in
+      (subst (λ (r : List ℕ). Takes bytes (version_bytes x.0) r) is.1 (subst (λ (n : ℕ). Takes bytes (number_bytes n) a.0.1) is.0 t.0), tt);
+  again = λ v rest fits. version_again v rest;
+}
+
+-- what stands before the texts
+abbrev head : Version → List ℕ
+head v = magic ++ version_bytes v
+
+head_takes : (bytes : List ℕ) (x : Version × List ℕ) → IsBytes bytes → head_from bytes ≡ Ok x → Takes bytes (head x.0) x.1
 unfolding head_from
-head_takes bytes rest fits e =
-    let versioned = number_from w16 (drop 4 bytes) >>= λ v. cond (eqb v.0 1) (Ok v.1) (wrong flaws.Version (drop 4 bytes)) in
-    let h = pass_on (bytes_eq (take 4 bytes) magic) versioned (record { flaw = flaws.Magic; left = length bytes }) rest e in
+head_takes bytes x fits e =
+    let h = pass_on (bytes_eq (take 4 bytes) magic) (version_from (drop 4 bytes)) (record { flaw = flaws.Magic; left = length bytes }) x e in
     let here : take 4 bytes ≡ magic = (bytes_eq-Decides (take 4 bytes) magic).0 h.0 in
     let first : Takes bytes magic (drop 4 bytes) = record { parts = sym (take-append-drop 4 bytes) ∙ ap (λ (t : List ℕ). t ++ drop 4 bytes) here; rest_fits = IsBytes-drop 4 bytes fits } in
-    let a = both_steps (number_from w16 (drop 4 bytes)) (λ v. cond (eqb v.0 1) (Ok v.1) (wrong flaws.Version (drop 4 bytes))) rest h.1 in
-    let g = pass_ok (eqb a.0.0 1) (record { flaw = flaws.Version; left = length (drop 4 bytes) }) a.0.1 rest a.2 in
-    let t = number_codec.takes (drop 4 bytes) a.0 first.rest_fits a.1 in
-    let one : Takes (drop 4 bytes) (number_bytes 1) a.0.1 = subst (λ (v : ℕ). Takes (drop 4 bytes) (number_bytes v) a.0.1) (eqb-true a.0.0 1 g.0) t.0 in
-    subst (λ (r : List ℕ). Takes bytes head r) g.1 (Takes-then bytes magic (drop 4 bytes) (number_bytes 1) a.0.1 first one)
+    let second = version_codec.takes (drop 4 bytes) x first.rest_fits h.1 in
+    Takes-then bytes magic (drop 4 bytes) (version_bytes x.0) x.1 first second.0
 
-head_again : (rest : List ℕ) → head_from (head ++ rest) ≡ Ok rest
+head_again : (v : Version) (rest : List ℕ) → head_from (head v ++ rest) ≡ Ok (v, rest)
 unfolding head_from
-head_again rest =
-    let one = number_codec.again 1 rest (omega arith) in
-    ap (λ (r : FieldRead ℕ). r >>= λ v. cond (eqb v.0 1) (Ok v.1) (wrong flaws.Version (number_bytes 1 ++ rest))) one
+head_again v rest = version_codec.again v rest tt
 
-regrouped : (u : Content) (rest : List ℕ) → spelling u ++ rest ≡ head ++ (counted_bytes text u.texts ++ (counted_bytes symbol u.symbols ++ (counted_bytes rule u.rules ++ rest)))
+regrouped : (u : Content) (rest : List ℕ) → spelling u ++ rest ≡ head u.version ++ (counted_bytes text u.texts ++ (counted_bytes symbol u.symbols ++ (counted_bytes rule u.rules ++ rest)))
 regrouped u rest =
-    append_assoc (head ++ counted_bytes text u.texts ++ counted_bytes symbol u.symbols) (counted_bytes rule u.rules) rest
-    ∙ append_assoc (head ++ counted_bytes text u.texts) (counted_bytes symbol u.symbols) (counted_bytes rule u.rules ++ rest)
-    ∙ append_assoc head (counted_bytes text u.texts) (counted_bytes symbol u.symbols ++ (counted_bytes rule u.rules ++ rest))
+    append_assoc (head u.version ++ counted_bytes text u.texts ++ counted_bytes symbol u.symbols) (counted_bytes rule u.rules) rest
+    ∙ append_assoc (head u.version ++ counted_bytes text u.texts) (counted_bytes symbol u.symbols) (counted_bytes rule u.rules ++ rest)
+    ∙ append_assoc (head u.version) (counted_bytes text u.texts) (counted_bytes symbol u.symbols ++ (counted_bytes rule u.rules ++ rest))
 
 ended_ok : (u v : Content) (rest : List ℕ) → ended u rest ≡ Ok v → (rest ≡ []) × (u ≡ v)
 ended_ok u v [] e = (refl, cc)
@@ -135,19 +162,20 @@ ended_ok u v (b ∷ rest) e = absurd (let bad : wrong flaws.Trailing (b ∷ rest
 pub whole_takes : (bytes : List ℕ) (u : Content) → IsBytes bytes → whole_from bytes ≡ Ok u → IsUnit u × (bytes ≡ spelling u)
 unfolding whole_from
 whole_takes bytes u fits e =
-    let a = both_steps (head_from bytes) (λ rest. texts_from rest >>= λ texts. symbols_from (length texts.0) texts.1 >>= λ symbols. rules_from texts.0 symbols.0 symbols.1 >>= λ rules. ended (record { texts = texts.0; symbols = symbols.0; rules = rules.0 }) rules.1) u e in
-    let b = both_steps (texts_from a.0) (λ texts. symbols_from (length texts.0) texts.1 >>= λ symbols. rules_from texts.0 symbols.0 symbols.1 >>= λ rules. ended (record { texts = texts.0; symbols = symbols.0; rules = rules.0 }) rules.1) u a.2 in
-    let d = both_steps (symbols_from (length b.0.0) b.0.1) (λ symbols. rules_from b.0.0 symbols.0 symbols.1 >>= λ rules. ended (record { texts = b.0.0; symbols = symbols.0; rules = rules.0 }) rules.1) u b.2 in
-    let f = both_steps (rules_from b.0.0 d.0.0 d.0.1) (λ rules. ended (record { texts = b.0.0; symbols = d.0.0; rules = rules.0 }) rules.1) u d.2 in
-    let made : Content = record { texts = b.0.0; symbols = d.0.0; rules = f.0.0 } in
+    let a = both_steps (head_from bytes) (λ version. texts_from version.1 >>= λ texts. symbols_from (length texts.0) texts.1 >>= λ symbols. rules_from (record { version = version.0; texts = texts.0; symbols = symbols.0 }) symbols.1 >>= λ rules. ended (record { version = version.0; texts = texts.0; symbols = symbols.0; rules = rules.0 }) rules.1) u e in
+    let b = both_steps (texts_from a.0.1) (λ texts. symbols_from (length texts.0) texts.1 >>= λ symbols. rules_from (record { version = a.0.0; texts = texts.0; symbols = symbols.0 }) symbols.1 >>= λ rules. ended (record { version = a.0.0; texts = texts.0; symbols = symbols.0; rules = rules.0 }) rules.1) u a.2 in
+    let d = both_steps (symbols_from (length b.0.0) b.0.1) (λ symbols. rules_from (record { version = a.0.0; texts = b.0.0; symbols = symbols.0 }) symbols.1 >>= λ rules. ended (record { version = a.0.0; texts = b.0.0; symbols = symbols.0; rules = rules.0 }) rules.1) u b.2 in
+    let p : Preamble = record { version = a.0.0; texts = b.0.0; symbols = d.0.0 } in
+    let f = both_steps (rules_from p d.0.1) (λ rules. ended (record { version = a.0.0; texts = b.0.0; symbols = d.0.0; rules = rules.0 }) rules.1) u d.2 in
+    let made : Content = record { version = a.0.0; texts = b.0.0; symbols = d.0.0; rules = f.0.0 } in
     let g = ended_ok made u f.0.1 f.2 in
     let t0 = head_takes bytes a.0 fits a.1 in
-    let t1 = texts_codec.takes a.0 b.0 t0.rest_fits b.1 in
+    let t1 = texts_codec.takes a.0.1 b.0 t0.rest_fits b.1 in
     let t2 = (symbols_codec (length b.0.0) t1.1.0).takes b.0.1 d.0 t1.0.rest_fits d.1 in
-    let t3 = (rules_codec b.0.0 d.0.0 t1.1.0 t2.1.0).takes d.0.1 f.0 t2.0.rest_fits f.1 in
-    let two = Takes-then bytes head a.0 (counted_bytes text b.0.0) b.0.1 t0 t1.0 in
-    let three = Takes-then bytes (head ++ counted_bytes text b.0.0) b.0.1 (counted_bytes symbol d.0.0) d.0.1 two t2.0 in
-    let four = Takes-then bytes (head ++ counted_bytes text b.0.0 ++ counted_bytes symbol d.0.0) d.0.1 (counted_bytes rule f.0.0) f.0.1 three t3.0 in
+    let t3 = (rules_codec p t1.1.0 t2.1.0).takes d.0.1 f.0 t2.0.rest_fits f.1 in
+    let two = Takes-then bytes (head a.0.0) a.0.1 (counted_bytes text b.0.0) b.0.1 t0 t1.0 in
+    let three = Takes-then bytes (head a.0.0 ++ counted_bytes text b.0.0) b.0.1 (counted_bytes symbol d.0.0) d.0.1 two t2.0 in
+    let four = Takes-then bytes (head a.0.0 ++ counted_bytes text b.0.0 ++ counted_bytes symbol d.0.0) d.0.1 (counted_bytes rule f.0.0) f.0.1 three t3.0 in
     let whole : bytes ≡ spelling made = four.parts ∙ ap (λ (r : List ℕ). spelling made ++ r) g.0 ∙ append-nil (spelling made) in
     subst (λ (v : Content). IsUnit v × (bytes ≡ spelling v)) g.1
     (record { text_count = t1.1.0; texts = AllByRecursion-from_each IsTextOfUnit [] b.0.0 t1.1.1; symbol_count = t2.1.0; symbols = AllByRecursion-from_each (SymbolFits (length b.0.0)) [] d.0.0 t2.1.1; rule_count = t3.1.0; rules = t3.1.1 }, whole)
@@ -160,7 +188,7 @@ whole_again_then u rest fits =
     let two : List ℕ = counted_bytes symbol u.symbols ++ three in
     let one : List ℕ = counted_bytes text u.texts ++ two in
     ap whole_from (regrouped u rest)
-    ∙ rw (head_again one, texts_codec.again u.texts two (fits.text_count, EachFits-from_all IsTextOfUnit [] u.texts fits.texts), (symbols_codec (length u.texts) fits.text_count).again u.symbols three (fits.symbol_count, EachFits-from_all (SymbolFits (length u.texts)) [] u.symbols fits.symbols), (rules_codec u.texts u.symbols fits.text_count fits.symbol_count).again u.rules rest (fits.rule_count, fits.rules)) refl
+    ∙ rw (head_again u.version one, texts_codec.again u.texts two (fits.text_count, EachFits-from_all IsTextOfUnit [] u.texts fits.texts), (symbols_codec (length u.texts) fits.text_count).again u.symbols three (fits.symbol_count, EachFits-from_all (SymbolFits (length u.texts)) [] u.symbols fits.symbols), (rules_codec (record { version = u.version; texts = u.texts; symbols = u.symbols }) fits.text_count fits.symbol_count).again u.rules rest (fits.rule_count, fits.rules)) refl
 
 -- the spelling of a unit is read as the unit
 pub whole_again : (u : Content) → IsUnit u → whole_from (spelling u) ≡ Ok u

@@ -7,7 +7,10 @@ use Rattle.rule_code.specs.declared.fault.CodeFault.{CodeFault}
 use Rattle.rule_code.specs.declared.fault.CodeFault.TheVariants as faults
 use Rattle.rule_code.specs.declared.symbol.Symbol.{Symbol}
 use Rattle.rule_code.specs.declared.unit.Unit as unit
+use Rattle.rule_code.specs.declared.version.Version.{Version}
+use Rattle.rule_code.specs.declared.version.Version.TheVariants as versions
 use Rattle.rule_code.specs.Content.{RuleContent, Content}
+use Rattle.rule_code.specs.Preamble.{Preamble}
 use Rattle.rule_code.specs.WellFormed.{most_rules}
 use Rattle.rule_code.specs.View.{content}
 use Rattle.rule_code.specs.Spelling.{magic}
@@ -15,11 +18,15 @@ use Rattle.ocl_base.specs.Steps.{◌>>=◌}
 use Rattle.rule_code.specs.Reading.{Fault, FieldRead, wrong, number_from, count_from, many_from}
 use Rattle.rule_code.specs.Parts.{text_from, symbol_from, next_rule_from}
 
--- the magic, then the version: what stands behind them
-unfoldable pub head_from : List ℕ → Result (List ℕ) Fault
-head_from bytes = if bytes_eq (take 4 bytes) magic then (do
-  version ← number_from w16 (drop 4 bytes)
-  if version.0 == 1 then Ok version.1 else wrong flaws.Version (drop 4 bytes)) else wrong flaws.Magic bytes
+-- the version, by its number
+unfoldable pub version_from : List ℕ → FieldRead Version
+version_from bytes = do
+  n ← number_from w16 bytes
+  if n.0 == 1 then Ok (versions.One, n.1) else (if n.0 == 2 then Ok (versions.Two, n.1) else wrong flaws.Version bytes)
+
+-- the magic, then the version
+unfoldable pub head_from : List ℕ → FieldRead Version
+head_from bytes = if bytes_eq (take 4 bytes) magic then version_from (drop 4 bytes) else wrong flaws.Magic bytes
 
 -- how many texts, then the texts
 unfoldable pub texts_from : List ℕ → FieldRead (List (List ℕ))
@@ -47,10 +54,10 @@ symbols_from texts bytes = do
   many_from (λ before. symbol_from texts) [] n.0 n.1
 
 -- how many rules, within the limit, then the rules
-unfoldable pub rules_from : List (List ℕ) → List Symbol → List ℕ → FieldRead (List RuleContent)
-rules_from texts symbols bytes = do
+unfoldable pub rules_from : Preamble → List ℕ → FieldRead (List RuleContent)
+rules_from p bytes = do
   n ← count_from most_rules bytes
-  many_from (next_rule_from texts symbols) [] n.0 n.1
+  many_from (next_rule_from p) [] n.0 n.1
 
 -- nothing after the last rule
 abbrev pub ended : Content → List ℕ → Result Content Fault
@@ -60,23 +67,24 @@ ended u (b ∷ rest) = wrong flaws.Trailing (b ∷ rest)
 -- all of the bytes
 unfoldable pub whole_from : List ℕ → Result Content Fault
 whole_from bytes = do
-  rest ← head_from bytes
-  texts ← texts_from rest
+  version ← head_from bytes
+  texts ← texts_from version.1
   symbols ← symbols_from (length texts.0) texts.1
-  rules ← rules_from texts.0 symbols.0 symbols.1
-  ended (record { texts = texts.0; symbols = symbols.0; rules = rules.0 }) rules.1
+  rules ← rules_from (record { version = version.0; texts = texts.0; symbols = symbols.0 }) symbols.1
+  ended (record { version = version.0; texts = texts.0; symbols = symbols.0; rules = rules.0 }) rules.1
 
 -- what is read before anything is allocated: magic, version, how many texts, and the first of them
 unfoldable pub decided_from : List ℕ → Result (Unit {0}) Fault
 decided_from bytes = do
-  rest ← head_from bytes
-  first_text_from rest
+  version ← head_from bytes
+  first_text_from version.1
 
 -- Behind magic and version there are no texts. Then nothing is allocated at all, since a symbol and a rule name texts.
 pub record HasNoTexts (bytes : List ℕ) : Type 0 where
+  pub version : Version
   pub rest : List ℕ
   pub after : List ℕ
-  pub head : head_from bytes ≡ Ok rest
+  pub head : head_from bytes ≡ Ok (version, rest)
   pub count : number_from w16 rest ≡ Ok (0, after)
 
 -- what is wrong, and the byte where the wrong field begins

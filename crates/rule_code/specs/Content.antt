@@ -4,6 +4,7 @@ use Rattle.std.specs.declared.alloc.Global.{Global}
 use Rattle.rule_code.specs.declared.instruction.Instr.{Instr}
 use Rattle.rule_code.specs.declared.symbol.Symbol.{Symbol}
 use Rattle.rule_code.specs.declared.unit.Rule.{Rule}
+use Rattle.rule_code.specs.declared.version.Version.{Version}
 
 -- a rule: the number of its name's text, the number of its context class's symbol, its instructions
 pub record RuleContent : Type 0 where
@@ -12,6 +13,7 @@ pub record RuleContent : Type 0 where
   pub code : List Instr
 
 pub record Content : Type 0 where
+  pub version : Version
   pub texts : List (List ℕ)
   pub symbols : List Symbol
   pub rules : List RuleContent
@@ -19,8 +21,8 @@ pub record Content : Type 0 where
 abbrev pub rule_content : Rule → RuleContent
 rule_content r = record { name = r.name.0; context = r.context.0; code = r.code.items }
 
-abbrev pub content_of : List (String Global) → List Symbol → List Rule → Content
-content_of texts symbols rules = record { texts = map string_bytes texts; symbols = symbols; rules = map rule_content rules }
+abbrev pub content_of : Version → List (String Global) → List Symbol → List Rule → Content
+content_of version texts symbols rules = record { version = version; texts = map string_bytes texts; symbols = symbols; rules = map rule_content rules }
 
 -- the text of a number
 abbrev pub text_at : List (List ℕ) → ℕ → List ℕ

@@ -1,7 +1,9 @@
 -- Definitions: what contracts mean.
 pub mod FaultNumber
 pub mod SymbolTag
+pub mod FileVersion
 pub mod Content
+pub mod Preamble
 pub mod NumberBytes
 pub mod InstrRows
 pub mod WrittenKinds

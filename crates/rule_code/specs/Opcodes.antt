@@ -1,5 +1,5 @@
 -- The table of opcodes, and how an instruction is read by it.
-use Rattle.std.specs.Prelude.{ℕ, zero, suc, ℤ, Bool, true, false, List, [], ◌∷◌, ◌++◌, Option, Some, None, Ok}
+use Rattle.std.specs.Prelude.{ℕ, zero, suc, ℤ, Bool, true, false, List, [], ◌∷◌, ◌++◌, length, Option, Some, None, Ok}
 use Rattle.std.specs.Int.{w16, w64, cast_signed}
 use Rattle.ocl_base.specs.declared.collection_kind.CollectionKind.{CollectionKind}
 use Rattle.rule_code.specs.declared.fault.CodeFlaw.TheVariants as flaws
@@ -7,11 +7,11 @@ use Rattle.rule_code.specs.declared.instruction.Instr.{Instr}
 use Rattle.rule_code.specs.declared.instruction.Instr.TheVariants as instrs
 use Rattle.rule_code.specs.declared.kind.WrittenScalar.{WrittenScalar}
 use Rattle.rule_code.specs.declared.kind.WrittenKind.{WrittenKind}
-use Rattle.rule_code.specs.declared.symbol.Symbol.{Symbol}
 use Rattle.rule_code.specs.declared.symbol.SymbolNumber.{SymbolNumber}
 use Rattle.rule_code.specs.declared.symbol.SymbolTag.{SymbolTag}
 use Rattle.rule_code.specs.declared.symbol.SymbolTag.TheVariants as tags
 use Rattle.rule_code.specs.declared.symbol.TextNumber.{TextNumber}
+use Rattle.rule_code.specs.Preamble.{Preamble}
 use Rattle.ocl_base.specs.Steps.{◌>>=◌}
 use Rattle.rule_code.specs.Reading.{FieldRead, wrong, number_from, text_number_from, symbol_number_from}
 use Rattle.rule_code.specs.KindReading.{row_numbered, single_kind_from, collection_kind_from, kind_from}
@@ -117,38 +117,39 @@ boolean_from (zero ∷ rest) = Ok (false, rest)
 boolean_from (suc zero ∷ rest) = Ok (true, rest)
 boolean_from (suc (suc b) ∷ rest) = wrong flaws.BadNumber (suc (suc b) ∷ rest)
 
-abbrev pub fields_from : ℕ → List Symbol → Fields → List ℕ → FieldRead Instr
-fields_from texts symbols (made i) rest = Ok (i, rest)
-fields_from texts symbols (integer next) rest = do
+-- the fields of a row, read by what stands before the rules
+abbrev pub fields_from : Preamble → Fields → List ℕ → FieldRead Instr
+fields_from p (made i) rest = Ok (i, rest)
+fields_from p (integer next) rest = do
   n ← integer_from rest
-  fields_from texts symbols (next n.0) n.1
-fields_from texts symbols (boolean next) rest = do
+  fields_from p (next n.0) n.1
+fields_from p (boolean next) rest = do
   b ← boolean_from rest
-  fields_from texts symbols (next b.0) b.1
-fields_from texts symbols (number next) rest = do
+  fields_from p (next b.0) b.1
+fields_from p (number next) rest = do
   n ← number_from w16 rest
-  fields_from texts symbols (next n.0) n.1
-fields_from texts symbols (text next) rest = do
-  t ← text_number_from texts rest
-  fields_from texts symbols (next (record { 0 = t.0 })) t.1
-fields_from texts symbols (symbol tag next) rest = do
-  s ← symbol_number_from tag symbols rest
-  fields_from texts symbols (next (record { 0 = s.0 })) s.1
-fields_from texts symbols (scalar next) rest = do
-  k ← single_kind_from symbols rest
-  fields_from texts symbols (next k.0) k.1
-fields_from texts symbols (collection next) rest = do
-  k ← collection_kind_from symbols rest
-  fields_from texts symbols (next k.0.0 k.0.1) k.1
-fields_from texts symbols (kind next) rest = do
-  k ← kind_from symbols rest
-  fields_from texts symbols (next k.0) k.1
+  fields_from p (next n.0) n.1
+fields_from p (text next) rest = do
+  t ← text_number_from (length p.texts) rest
+  fields_from p (next (record { 0 = t.0 })) t.1
+fields_from p (symbol tag next) rest = do
+  s ← symbol_number_from tag p.symbols rest
+  fields_from p (next (record { 0 = s.0 })) s.1
+fields_from p (scalar next) rest = do
+  k ← single_kind_from p.symbols rest
+  fields_from p (next k.0) k.1
+fields_from p (collection next) rest = do
+  k ← collection_kind_from p.symbols rest
+  fields_from p (next k.0.0 k.0.1) k.1
+fields_from p (kind next) rest = do
+  k ← kind_from p.symbols rest
+  fields_from p (next k.0) k.1
 
 -- what stands behind an opcode, by its row of the table
-abbrev pub behind : ℕ → List Symbol → Option Fields → List ℕ → List ℕ → FieldRead Instr
-behind texts symbols None here rest = wrong flaws.BadOpcode here
-behind texts symbols (Some row) here rest = fields_from texts symbols row rest
+abbrev pub behind : Preamble → Option Fields → List ℕ → List ℕ → FieldRead Instr
+behind p None here rest = wrong flaws.BadOpcode here
+behind p (Some row) here rest = fields_from p row rest
 
-unfoldable pub instr_from : ℕ → List Symbol → List ℕ → FieldRead Instr
-instr_from texts symbols [] = wrong flaws.Truncated []
-instr_from texts symbols (opcode ∷ rest) = behind texts symbols (row_numbered opcodes opcode) (opcode ∷ rest) rest
+unfoldable pub instr_from : Preamble → List ℕ → FieldRead Instr
+instr_from p [] = wrong flaws.Truncated []
+instr_from p (opcode ∷ rest) = behind p (row_numbered opcodes opcode) (opcode ∷ rest) rest

@@ -9,6 +9,7 @@ use Rattle.rule_code.specs.declared.symbol.SymbolTag.TheVariants as tags
 use Rattle.ocl_base.specs.Lists.{is_among}
 use Rattle.ocl_base.specs.Words.{is_name}
 use Rattle.rule_code.specs.Content.{RuleContent, text_at, names_of}
+use Rattle.rule_code.specs.Preamble.{Preamble}
 use Rattle.rule_code.specs.WellFormed.{most_text_bytes}
 use Rattle.rule_code.specs.Opcodes.{instr_from}
 use Rattle.ocl_base.specs.Steps.{◌>>=◌}
@@ -50,19 +51,19 @@ rule_name_from texts is_name_taken bytes = do
   if is_name (text_at texts n.0) && not (is_name_taken (text_at texts n.0)) then Ok n else wrong flaws.BadText bytes
 
 -- how many instructions, then the instructions
-unfoldable pub code_from : ℕ → List Symbol → List ℕ → FieldRead (List Instr)
-code_from texts symbols bytes = do
+unfoldable pub code_from : Preamble → List ℕ → FieldRead (List Instr)
+code_from p bytes = do
   n ← number_from w16 bytes
-  many_from (λ before. instr_from texts symbols) [] n.0 n.1
+  many_from (λ before. instr_from p) [] n.0 n.1
 
 -- a name, a context class, the instructions
-unfoldable pub rule_from : List (List ℕ) → List Symbol → (List ℕ → Bool) → List ℕ → FieldRead RuleContent
-rule_from texts symbols is_name_taken bytes = do
-  name ← rule_name_from texts is_name_taken bytes
-  context ← symbol_number_from tags.Class symbols name.1
-  code ← code_from (length texts) symbols context.1
+unfoldable pub rule_from : Preamble → (List ℕ → Bool) → List ℕ → FieldRead RuleContent
+rule_from p is_name_taken bytes = do
+  name ← rule_name_from p.texts is_name_taken bytes
+  context ← symbol_number_from tags.Class p.symbols name.1
+  code ← code_from p context.1
   Ok (record { name = name.0; context = context.0; code = code.0 }, code.1)
 
 -- a rule whose name none of those before it has
-abbrev pub next_rule_from : List (List ℕ) → List Symbol → List RuleContent → List ℕ → FieldRead RuleContent
-next_rule_from texts symbols before = rule_from texts symbols (is_among bytes_eq (names_of texts before))
+abbrev pub next_rule_from : Preamble → List RuleContent → List ℕ → FieldRead RuleContent
+next_rule_from p before = rule_from p (is_among bytes_eq (names_of p.texts before))

@@ -6,6 +6,7 @@ use Rattle.rule_code.specs.declared.instruction.Instr.{Instr}
 use Rattle.rule_code.specs.declared.symbol.Symbol.{Symbol}
 use Rattle.rule_code.specs.declared.symbol.Symbol.TheVariants as symbols
 use Rattle.rule_code.specs.Content.{RuleContent, Content}
+use Rattle.rule_code.specs.FileVersion.{version_number}
 use Rattle.rule_code.specs.InstrRows.{FieldValue, integer_field, boolean_field, number_field, text_field, symbol_field, scalar_field, collection_field, kind_field, row_of}
 use Rattle.rule_code.specs.NumberBytes.{number_bytes}
 use Rattle.rule_code.specs.WrittenKinds.{scalar_bytes, collection_bytes, kind_bytes}
@@ -52,6 +53,6 @@ rule r = number_bytes r.name ++ number_bytes r.context ++ counted_bytes instr r.
 abbrev pub magic : List ℕ
 magic = 0x4f ∷ 0x43 ∷ 0x4c ∷ 0x42 ∷ []
 
--- magic, version 1, texts, symbols, rules
+-- magic, version, texts, symbols, rules
 abbrev pub spelling : Content → List ℕ
-spelling u = magic ++ number_bytes 1 ++ counted_bytes text u.texts ++ counted_bytes symbol u.symbols ++ counted_bytes rule u.rules
+spelling u = magic ++ number_bytes (version_number u.version) ++ counted_bytes text u.texts ++ counted_bytes symbol u.symbols ++ counted_bytes rule u.rules

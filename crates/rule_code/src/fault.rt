@@ -12,7 +12,7 @@ use thiserror::Error;
 pub enum CodeFlaw {
     /// The bytes do not begin with `OCLB`.
     Magic = 1,
-    /// The version is not 1.
+    /// The version is neither 1 nor 2.
     Version = 2,
     /// The bytes end before the field does.
     Truncated = 3,

@@ -8,6 +8,7 @@ pub mod laws;
 mod reading;
 mod symbol;
 mod unit;
+mod version;
 mod writing;
 
 pub use fault::{CodeFault, CodeFlaw};
@@ -16,4 +17,5 @@ pub use kind::{WrittenKind, WrittenScalar};
 pub use reading::read_unit;
 pub use symbol::{Symbol, SymbolNumber, SymbolTag, TextNumber};
 pub use unit::{Rule, Unit};
+pub use version::Version;
 pub use writing::write_unit;

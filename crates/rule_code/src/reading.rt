@@ -3,7 +3,7 @@
 ghost use Rattle.std.specs.Prelude.{◌≡◌, ◌≢◌, List, Err, IfOk, IfErr, IsErr};
 ghost use Rattle.rule_code.specs.Content.{Content, content_of};
 ghost use Rattle.rule_code.specs.Reading.{Reads};
-ghost use Rattle.rule_code.specs.CodeFile.{head_from, whole_from, AnswersDecided, HasNoTexts, decided_from, CodeAnswers, IsReadAs, IsFirstCodeFault};
+ghost use Rattle.rule_code.specs.CodeFile.{version_from, head_from, whole_from, AnswersDecided, HasNoTexts, decided_from, CodeAnswers, IsReadAs, IsFirstCodeFault};
 ghost use Rattle.rule_code.specs.Spelling.{spelling};
 ghost use Rattle.rule_code.specs.View.{content};
 ghost use Rattle.rule_code.specs.WellFormed.{IsUnit};
@@ -11,6 +11,7 @@ ghost use Rattle.rule_code.specs.WellFormed.{IsUnit};
 mod code;
 mod field;
 mod kinds;
+mod preamble;
 mod rules;
 mod symbols;
 mod texts;
@@ -18,47 +19,64 @@ mod texts;
 use crate::fault::{CodeFault, CodeFlaw, FieldFault};
 use crate::symbol::Symbol;
 use crate::unit::{Rule, Unit};
+use crate::version::Version;
 use field::{u16_from, wrong};
+use preamble::Preamble;
 use rules::rules_from;
 use std::alloc::Global;
 use symbols::symbols_from;
 use texts::texts_from;
 
-/// The bytes behind the magic and the version.
+/// The version.
+#[tactic(auto, unfolding(crate::specs::CodeFile::version_from))]
+fn version_from(bytes: &[u8]) -> Result<(Version, &[u8]), FieldFault>
+    ensures gives { Reads (λ x. (x.0, x.1.now)) result (version_from bytes.now) }
+    ensures decided { IfErr result (λ e. e ≢ FieldFault.OutOfMemory) }
+{
+    let (number, rest) = u16_from(bytes)?;
+    match number {
+        1 => Ok((Version::One, rest)),
+        2 => Ok((Version::Two, rest)),
+        _ => Err(wrong(CodeFlaw::Version, bytes)),
+    }
+}
+
+/// The magic, then the version.
 #[tactic(auto, unfolding(crate::specs::CodeFile::head_from))]
-fn after_head(bytes: &[u8]) -> Result<&[u8], FieldFault>
-    ensures gives { Reads (λ x. x.now) result (head_from bytes.now) }
+fn head_from(bytes: &[u8]) -> Result<(Version, &[u8]), FieldFault>
+    ensures gives { Reads (λ x. (x.0, x.1.now)) result (head_from bytes.now) }
     ensures decided { IfErr result (λ e. e ≢ FieldFault.OutOfMemory) }
 {
     let [b'O', b'C', b'L', b'B', rest @ ..] = bytes else {
         return Err(wrong(CodeFlaw::Magic, bytes));
     };
-    let (version, after) = u16_from(rest)?;
-    if version != 1 {
-        return Err(wrong(CodeFlaw::Version, rest));
-    }
-    Ok(after)
+    version_from(rest)
 }
 
-type Parts = (Vec<String>, Vec<Symbol>, Vec<Rule>);
+type Parts = (Version, Vec<String>, Vec<Symbol>, Vec<Rule>);
 
 #[tactic(auto, unfolding(crate::specs::CodeFile::whole_from))]
 fn whole(alloc: Global, bytes: &[u8]) -> Result<Parts, FieldFault>
-    ensures gives { Reads (λ x. content_of x.0.items x.1.items x.2.items) result
+    ensures gives { Reads (λ x. content_of x.0 x.1.items x.2.items x.3.items) result
         (whole_from bytes.now) }
     ensures decided { IsErr (decided_from bytes.now)
         → IfErr result (λ e. e ≢ FieldFault.OutOfMemory) }
     ensures without_texts { HasNoTexts bytes.now
         → IfErr result (λ e. e ≢ FieldFault.OutOfMemory) }
 {
-    let rest = after_head(bytes)?;
+    let (version, rest) = head_from(bytes)?;
     let (texts, rest) = texts_from(alloc, rest)?;
     let (symbols, rest) = symbols_from(alloc, texts.len(), rest)?;
-    let (rules, rest) = rules_from(alloc, &texts, &symbols, rest)?;
+    let preamble = Preamble {
+        version,
+        texts: &texts,
+        symbols: &symbols,
+    };
+    let (rules, rest) = rules_from(alloc, preamble, rest)?;
     if !rest.is_empty() {
         return Err(wrong(CodeFlaw::Trailing, rest));
     }
-    Ok((texts, symbols, rules))
+    Ok((version, texts, symbols, rules))
 }
 
 /// The unit that the bytes spell, all of the bytes.
@@ -83,7 +101,8 @@ pub fn read_unit(alloc: Global, bytes: &[u8]) -> Result<Unit, CodeFault>
     ensures without_texts { HasNoTexts bytes.now → result ≢ Err CodeFault.OutOfMemory }
 {
     match whole(alloc, bytes) {
-        Ok((texts, symbols, rules)) => Ok(Unit {
+        Ok((version, texts, symbols, rules)) => Ok(Unit {
+            version,
             texts,
             symbols,
             rules,

@@ -6,6 +6,7 @@ ghost use Rattle.rule_code.specs.WellFormed.{IsUnit};
 
 use crate::instruction::Instr;
 use crate::symbol::{Symbol, SymbolNumber, SymbolTag, TextNumber};
+use crate::version::Version;
 
 /// A rule: its name, its context (the class whose objects it judges), and its instructions.
 #[derive(Drop)]
@@ -22,6 +23,8 @@ pub struct Rule {
 /// spelling.
 #[derive(Drop)]
 pub struct Unit {
+    /// The version of the file that holds it.
+    pub version: Version,
     /// At most 65,535 texts, each of at most 4,096 bytes of UTF-8.
     pub texts: Vec<String>,
     /// At most 65,535 symbols.
@@ -29,7 +32,7 @@ pub struct Unit {
     /// At most 4,096 rules.
     pub rules: Vec<Rule>,
     /// It satisfies the format's conditions.
-    pub ghost is_unit: { ∥ IsUnit (content_of texts.items symbols.items rules.items) ∥₁ },
+    pub ghost is_unit: { ∥ IsUnit (content_of version texts.items symbols.items rules.items) ∥₁ },
 }
 
 /// The text of a number.

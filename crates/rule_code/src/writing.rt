@@ -287,7 +287,7 @@ pub fn write_unit(alloc: Global, unit: &Unit) -> Result<Vec<u8>, CodeFault>
 {
     let mut out = Vec::new(alloc);
     out.extend_from_slice(b"OCLB")?;
-    put_number(&mut out, 1)?;
+    put_number(&mut out, unit.version as u16)?;
     put_texts(&mut out, &unit.texts)?;
     put_symbols(&mut out, &unit.symbols)?;
     put_rules(&mut out, &unit.rules)?;

@@ -12,8 +12,12 @@ const FAULTS: &str = "\
 4f434c58 0001 0000 0000 0000: Magic at 0
 4f434c: Magic at 0
 : Magic at 0
-# version 2
-4f434c42 0002 0000 0000 0000: Version at 4
+# versions 0, 3 and 65,535, also with nothing behind them, and half of a version
+4f434c42 0000 0000 0000 0000: Version at 4
+4f434c42 0003 0000 0000 0000: Version at 4
+4f434c42 ffff 0000 0000 0000: Version at 4
+4f434c42 0003: Version at 4
+4f434c42 00: Truncated at 4
 # a text of five bytes with one left
 4f434c42 0001 0001 0005 61: Truncated at 10
 # half of an integer
@@ -86,6 +90,10 @@ const FAULTS: &str = "\
 4f434c42 0001 0000 0000 0001 0000 0000 0000: BadNumber at 12
 # a byte after the last rule
 4f434c42 0001 0000 0000 0000 00: Trailing at 12
+# version 2: no count of texts, an opcode of no instruction, a byte after the last rule
+4f434c42 0002: Truncated at 6
+4f434c42 0002 0001 0001 61 0001 01 0000 0001 0000 0000 0001 ff: BadOpcode at 24
+4f434c42 0002 0000 0000 0000 00: Trailing at 12
 ";
 
 /// What reading answers, in words.

@@ -1,7 +1,8 @@
 //! Units that are read, and written again.
 
 use rule_code::{
-    CodeFault, Instr, Symbol, SymbolNumber, SymbolTag, TextNumber, Unit, read_unit, write_unit,
+    CodeFault, Instr, Symbol, SymbolNumber, SymbolTag, TextNumber, Unit, Version, read_unit,
+    write_unit,
 };
 use std::alloc::{AllocError, Global};
 use std::test::*;
@@ -23,6 +24,13 @@ const EVERY: &str =
 30 31 3200 3301 3402 3503 36 3706 400001 4104000100010002 420001 430002 440003 450004 460005 \
 470006 480007 4905000000ff";
 
+/// The same empty file and the same rule in version 2.
+const EMPTY_OF_TWO: &str = "4f434c42 0002 0000 0000 0000";
+
+const DEPTH_OF_TWO: &str =
+    "4f434c42 0002 0003 0009 6469657074654d696e 000e 4b6162656c4f664c656964696e67 0006 646965707465 \
+0002 01 0001 03 0001 0002 0001 0000 0000 0004 01 09 0001 03 0000000000000258 1c";
+
 /// Whether a file is read, and written again as it was.
 fn is_written_as_read(alloc: Global, digits: &str) -> Result<bool, CodeFault> {
     let bytes = bytes_of(alloc, digits)?;
@@ -37,9 +45,23 @@ fn is_written_as(alloc: Global, unit: &Unit, bytes: &[u8]) -> Result<bool, CodeF
 
 #[test]
 fn writes_what_it_read(rt: HostRuntime) -> Result<(), Fail> {
-    for digits in [EMPTY, DEPTH, EVERY] {
+    for digits in [EMPTY, DEPTH, EVERY, EMPTY_OF_TWO, DEPTH_OF_TWO] {
         assert!(rt; is_written_as_read(rt.alloc(), digits)?, "{digits}");
     }
+    Ok(())
+}
+
+/// Whether a file is read as one of this version.
+fn is_of_version(alloc: Global, digits: &str, version: Version) -> Result<bool, CodeFault> {
+    let bytes = bytes_of(alloc, digits)?;
+    let unit = read_unit(alloc, &bytes)?;
+    Ok(unit.version == version)
+}
+
+#[test]
+fn reads_both_versions(rt: HostRuntime) -> Result<(), Fail> {
+    assert!(rt; is_of_version(rt.alloc(), DEPTH, Version::One)?);
+    assert!(rt; is_of_version(rt.alloc(), DEPTH_OF_TWO, Version::Two)?);
     Ok(())
 }
 
@@ -72,15 +94,16 @@ fn is_depth_rule(unit: &Unit) -> bool {
         )
 }
 
-fn reads_the_depth_rule(alloc: Global) -> Result<bool, CodeFault> {
-    let bytes = bytes_of(alloc, DEPTH)?;
+fn reads_the_depth_rule(alloc: Global, digits: &str) -> Result<bool, CodeFault> {
+    let bytes = bytes_of(alloc, digits)?;
     let unit = read_unit(alloc, &bytes)?;
     Ok(is_depth_rule(&unit))
 }
 
 #[test]
 fn reads_a_rule(rt: HostRuntime) -> Result<(), Fail> {
-    assert!(rt; reads_the_depth_rule(rt.alloc())?);
+    assert!(rt; reads_the_depth_rule(rt.alloc(), DEPTH)?);
+    assert!(rt; reads_the_depth_rule(rt.alloc(), DEPTH_OF_TWO)?);
     Ok(())
 }
 

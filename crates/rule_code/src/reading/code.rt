@@ -6,12 +6,14 @@ ghost use Rattle.rule_code.specs.Reading.{Reads, many_from};
 ghost use Rattle.rule_code.specs.KindReading.{row_numbered};
 ghost use Rattle.rule_code.specs.Opcodes.{made, plain_opcodes, value_opcodes, operation_opcodes, block_opcodes, behind, instr_from};
 ghost use Rattle.rule_code.specs.Parts.{code_from};
+ghost use Rattle.rule_code.specs.Preamble.{preamble_of};
 
 use super::field::{bool_from, i64_from, symbol_number_from, text_number_from, u16_from, wrong};
 use super::kinds::{collection_kind_from, kind_from, single_kind_from};
+use super::preamble::Preamble;
 use crate::fault::{CodeFlaw, FieldFault};
 use crate::instruction::Instr;
-use crate::symbol::{Symbol, SymbolTag};
+use crate::symbol::SymbolTag;
 use std::alloc::Global;
 
 /// The instruction without fields that has an opcode.
@@ -55,13 +57,12 @@ fn plain(opcode: u8) -> Option<Instr>
 /// A block, with the lengths of its bodies.
 fn block_from<'b>(
     opcode: u8,
-    texts: usize,
-    symbols: &[Symbol],
+    preamble: Preamble,
     here: &'b [u8],
     rest: &'b [u8],
 ) -> Result<(Instr, &'b [u8]), FieldFault>
     ensures { Reads (λ x. (x.0, x.1.now)) result
-        (behind texts symbols.now (row_numbered block_opcodes opcode) here.now rest.now) }
+        (behind (preamble_of preamble.entry) (row_numbered block_opcodes opcode) here.now rest.now) }
 {
     match opcode {
         0x40 => {
@@ -69,7 +70,7 @@ fn block_from<'b>(
             Ok((Instr::Let(body), rest))
         }
         0x41 => {
-            let (kind, rest) = kind_from(symbols, rest)?;
+            let (kind, rest) = kind_from(preamble.symbols, rest)?;
             let (first, rest) = u16_from(rest)?;
             let (second, rest) = u16_from(rest)?;
             Ok((Instr::If(kind, first, second), rest))
@@ -103,7 +104,7 @@ fn block_from<'b>(
             Ok((Instr::CollectFlat(body), rest))
         }
         0x49 => {
-            let (kind, rest) = single_kind_from(symbols, rest)?;
+            let (kind, rest) = single_kind_from(preamble.symbols, rest)?;
             let (body, rest) = u16_from(rest)?;
             Ok((Instr::IsUnique(kind, body), rest))
         }
@@ -114,54 +115,52 @@ fn block_from<'b>(
 /// An operation on values of a written kind, or a block.
 fn operation_from<'b>(
     opcode: u8,
-    texts: usize,
-    symbols: &[Symbol],
+    preamble: Preamble,
     here: &'b [u8],
     rest: &'b [u8],
 ) -> Result<(Instr, &'b [u8]), FieldFault>
     ensures { Reads (λ x. (x.0, x.1.now)) result
-        (behind texts symbols.now (row_numbered (operation_opcodes ++ block_opcodes) opcode)
+        (behind (preamble_of preamble.entry) (row_numbered (operation_opcodes ++ block_opcodes) opcode)
         here.now rest.now) }
 {
     match opcode {
         0x28 => {
-            let (kind, rest) = kind_from(symbols, rest)?;
+            let (kind, rest) = kind_from(preamble.symbols, rest)?;
             Ok((Instr::Eq(kind), rest))
         }
         0x32 => {
-            let (kind, rest) = single_kind_from(symbols, rest)?;
+            let (kind, rest) = single_kind_from(preamble.symbols, rest)?;
             Ok((Instr::Includes(kind), rest))
         }
         0x33 => {
-            let (kind, rest) = single_kind_from(symbols, rest)?;
+            let (kind, rest) = single_kind_from(preamble.symbols, rest)?;
             Ok((Instr::Count(kind), rest))
         }
         0x34 => {
-            let (kind, rest) = single_kind_from(symbols, rest)?;
+            let (kind, rest) = single_kind_from(preamble.symbols, rest)?;
             Ok((Instr::IncAll(kind), rest))
         }
         0x35 => {
-            let (kind, rest) = single_kind_from(symbols, rest)?;
+            let (kind, rest) = single_kind_from(preamble.symbols, rest)?;
             Ok((Instr::ExcAll(kind), rest))
         }
         0x37 => {
-            let (kind, rest) = single_kind_from(symbols, rest)?;
+            let (kind, rest) = single_kind_from(preamble.symbols, rest)?;
             Ok((Instr::AsSet(kind), rest))
         }
-        _ => block_from(opcode, texts, symbols, here, rest),
+        _ => block_from(opcode, preamble, here, rest),
     }
 }
 
 /// An instruction with fields.
 fn fields_from<'b>(
     opcode: u8,
-    texts: usize,
-    symbols: &[Symbol],
+    preamble: Preamble,
     here: &'b [u8],
     rest: &'b [u8],
 ) -> Result<(Instr, &'b [u8]), FieldFault>
     ensures { Reads (λ x. (x.0, x.1.now)) result
-        (behind texts symbols.now
+        (behind (preamble_of preamble.entry)
         (row_numbered (value_opcodes ++ operation_opcodes ++ block_opcodes) opcode)
         here.now rest.now) }
 {
@@ -179,73 +178,68 @@ fn fields_from<'b>(
             Ok((Instr::Bool(value), rest))
         }
         0x05 => {
-            let (text, rest) = text_number_from(texts, rest)?;
+            let (text, rest) = text_number_from(preamble.texts.len(), rest)?;
             Ok((Instr::Text(text), rest))
         }
         0x06 => {
-            let (literal, rest) = symbol_number_from(SymbolTag::Literal, symbols, rest)?;
+            let (literal, rest) = symbol_number_from(SymbolTag::Literal, preamble.symbols, rest)?;
             Ok((Instr::Enum(literal), rest))
         }
         0x09 => {
-            let (feature, rest) = symbol_number_from(SymbolTag::Feature, symbols, rest)?;
+            let (feature, rest) = symbol_number_from(SymbolTag::Feature, preamble.symbols, rest)?;
             Ok((Instr::Attr(feature), rest))
         }
         0x0a => {
-            let (class, rest) = symbol_number_from(SymbolTag::Class, symbols, rest)?;
+            let (class, rest) = symbol_number_from(SymbolTag::Class, preamble.symbols, rest)?;
             Ok((Instr::All(class), rest))
         }
         0x0b => {
-            let ((collection, element), rest) = collection_kind_from(symbols, rest)?;
+            let ((collection, element), rest) = collection_kind_from(preamble.symbols, rest)?;
             Ok((Instr::AsColl(collection, element), rest))
         }
         0x0c => {
-            let (class, rest) = symbol_number_from(SymbolTag::Class, symbols, rest)?;
+            let (class, rest) = symbol_number_from(SymbolTag::Class, preamble.symbols, rest)?;
             Ok((Instr::KindOf(class), rest))
         }
         0x0d => {
-            let (class, rest) = symbol_number_from(SymbolTag::Class, symbols, rest)?;
+            let (class, rest) = symbol_number_from(SymbolTag::Class, preamble.symbols, rest)?;
             Ok((Instr::TypeOf(class), rest))
         }
         0x0e => {
-            let (class, rest) = symbol_number_from(SymbolTag::Class, symbols, rest)?;
+            let (class, rest) = symbol_number_from(SymbolTag::Class, preamble.symbols, rest)?;
             Ok((Instr::AsType(class), rest))
         }
-        _ => operation_from(opcode, texts, symbols, here, rest),
+        _ => operation_from(opcode, preamble, here, rest),
     }
 }
 
 #[tactic(auto, unfolding(crate::specs::Opcodes::instr_from))]
-fn instr_from<'b>(
-    texts: usize,
-    symbols: &[Symbol],
-    bytes: &'b [u8],
-) -> Result<(Instr, &'b [u8]), FieldFault>
-    ensures { Reads (λ x. (x.0, x.1.now)) result (instr_from texts symbols.now bytes.now) }
+fn instr_from<'b>(preamble: Preamble, bytes: &'b [u8]) -> Result<(Instr, &'b [u8]), FieldFault>
+    ensures { Reads (λ x. (x.0, x.1.now)) result (instr_from (preamble_of preamble.entry) bytes.now) }
 {
     let [opcode, rest @ ..] = bytes else {
         return Err(wrong(CodeFlaw::Truncated, bytes));
     };
     match plain(*opcode) {
         Some(instr) => Ok((instr, rest)),
-        None => fields_from(*opcode, texts, symbols, bytes, rest),
+        None => fields_from(*opcode, preamble, bytes, rest),
     }
 }
 
 #[tactic(auto, using(crate::proofs::Loop::begins))]
 fn many_instrs<'b>(
     alloc: Global,
-    texts: usize,
-    symbols: &[Symbol],
+    preamble: Preamble,
     count: u16,
     bytes: &'b [u8],
 ) -> Result<(Vec<Instr>, &'b [u8]), FieldFault>
     ensures { Reads (λ x. (x.0.items, x.1.now)) result
-        (many_from (λ before. instr_from texts symbols.now) [] count bytes.now) }
+        (many_from (λ before. instr_from (preamble_of preamble.entry)) [] count bytes.now) }
 {
     let mut code = Vec::new(alloc);
     let mut rest = bytes;
     for _ in 0..count {
-        let (instr, after) = instr_from(texts, symbols, rest)?;
+        let (instr, after) = instr_from(preamble, rest)?;
         code.push(instr)?;
         rest = after;
     }
@@ -255,12 +249,11 @@ fn many_instrs<'b>(
 #[tactic(auto, unfolding(crate::specs::Parts::code_from))]
 pub(super) fn code_from<'b>(
     alloc: Global,
-    texts: usize,
-    symbols: &[Symbol],
+    preamble: Preamble,
     bytes: &'b [u8],
 ) -> Result<(Vec<Instr>, &'b [u8]), FieldFault>
-    ensures { Reads (λ x. (x.0.items, x.1.now)) result (code_from texts symbols.now bytes.now) }
+    ensures { Reads (λ x. (x.0.items, x.1.now)) result (code_from (preamble_of preamble.entry) bytes.now) }
 {
     let (count, rest) = u16_from(bytes)?;
-    many_instrs(alloc, texts, symbols, count, rest)
+    many_instrs(alloc, preamble, count, rest)
 }

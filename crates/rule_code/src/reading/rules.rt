@@ -5,12 +5,14 @@ ghost use Rattle.rule_code.specs.Content.{rule_content, text_at};
 ghost use Rattle.rule_code.specs.Taken.{is_name_taken};
 ghost use Rattle.rule_code.specs.Reading.{Reads, many_from};
 ghost use Rattle.rule_code.specs.Parts.{rule_name_from, rule_from, next_rule_from};
+ghost use Rattle.rule_code.specs.Preamble.{preamble_of};
 ghost use Rattle.rule_code.specs.CodeFile.{rules_from};
 
 use super::code::code_from;
 use super::field::{count_from, symbol_number_from, text_number_from, wrong};
+use super::preamble::Preamble;
 use crate::fault::{CodeFlaw, FieldFault};
-use crate::symbol::{Symbol, SymbolTag, TextNumber};
+use crate::symbol::{SymbolTag, TextNumber};
 use crate::unit::{Rule, text_named};
 use ocl_base::is_name;
 use std::alloc::{AllocError, Global};
@@ -55,23 +57,22 @@ fn rule_name_from<'t, 'b>(
 #[tactic(auto, unfolding(crate::specs::Parts::rule_from))]
 fn rule_from<'t, 'b>(
     alloc: Global,
-    texts: &'t [String],
-    symbols: &[Symbol],
+    preamble: Preamble<'t>,
     taken: &mut BTreeSet<&'t str>,
     bytes: &'b [u8],
 ) -> Result<(Rule, &'b [u8]), FieldFault>
     ensures gives { Reads (λ x. (rule_content x.0, x.1.now)) result
-        (rule_from (map string_bytes texts.now) symbols.now (is_name_taken taken.old) bytes.now) }
+        (rule_from (preamble_of preamble.entry) (is_name_taken taken.old) bytes.now) }
     ensures taken { IfOk result (λ x. (s : List ℕ) → is_name_taken taken.new s ≡
-        (bytes_eq (text_at (map string_bytes texts.now) x.0.name.0) s ||
+        (bytes_eq (text_at (map string_bytes preamble.entry.texts.now) x.0.name.0) s ||
         is_name_taken taken.old s)) }
-    ensures named { IfOk result (λ x. 0 < length texts.now) }
-    ensures without_texts { length texts.now ≡ 0
+    ensures named { IfOk result (λ x. 0 < length preamble.entry.texts.now) }
+    ensures without_texts { length preamble.entry.texts.now ≡ 0
         → IfErr result (λ e. e ≢ FieldFault.OutOfMemory) }
 {
-    let (name, rest) = rule_name_from(texts, taken, bytes)?;
-    let (context, rest) = symbol_number_from(SymbolTag::Class, symbols, rest)?;
-    let (code, rest) = code_from(alloc, texts.len(), symbols, rest)?;
+    let (name, rest) = rule_name_from(preamble.texts, taken, bytes)?;
+    let (context, rest) = symbol_number_from(SymbolTag::Class, preamble.symbols, rest)?;
+    let (code, rest) = code_from(alloc, preamble, rest)?;
     Ok((
         Rule {
             name,
@@ -84,21 +85,20 @@ fn rule_from<'t, 'b>(
 
 fn many_rules<'b>(
     alloc: Global,
-    texts: &[String],
-    symbols: &[Symbol],
+    preamble: Preamble,
     count: u16,
     bytes: &'b [u8],
 ) -> Result<(Vec<Rule>, &'b [u8]), FieldFault>
     ensures gives { Reads (λ x. (map rule_content x.0.items, x.1.now)) result
-        (many_from (next_rule_from (map string_bytes texts.now) symbols.now) [] count bytes.now) }
-    ensures without_texts { length texts.now ≡ 0
+        (many_from (next_rule_from (preamble_of preamble.entry)) [] count bytes.now) }
+    ensures without_texts { length preamble.entry.texts.now ≡ 0
         → IfErr result (λ e. e ≢ FieldFault.OutOfMemory) }
 {
     let mut taken = BTreeSet::new(alloc);
     let mut rules = Vec::new(alloc);
     let mut rest = bytes;
     for _ in 0..count {
-        let (rule, after) = rule_from(alloc, texts, symbols, &mut taken, rest)?;
+        let (rule, after) = rule_from(alloc, preamble, &mut taken, rest)?;
         rules.push(rule)?;
         rest = after;
     }
@@ -108,16 +108,15 @@ fn many_rules<'b>(
 #[tactic(auto, unfolding(crate::specs::CodeFile::rules_from))]
 pub(super) fn rules_from<'b>(
     alloc: Global,
-    texts: &[String],
-    symbols: &[Symbol],
+    preamble: Preamble,
     bytes: &'b [u8],
 ) -> Result<(Vec<Rule>, &'b [u8]), FieldFault>
     ensures gives { Reads (λ x. (map rule_content x.0.items, x.1.now)) result
-        (rules_from (map string_bytes texts.now) symbols.now bytes.now) }
+        (rules_from (preamble_of preamble.entry) bytes.now) }
     // Without texts no rule can be named, and nothing is allocated.
-    ensures without_texts { length texts.now ≡ 0
+    ensures without_texts { length preamble.entry.texts.now ≡ 0
         → IfErr result (λ e. e ≢ FieldFault.OutOfMemory) }
 {
     let (count, rest) = count_from(MOST_RULES, bytes)?;
-    many_rules(alloc, texts, symbols, count, rest)
+    many_rules(alloc, preamble, count, rest)
 }
