@@ -6,7 +6,7 @@ use Rattle.imkl_population.specs.declared.scalar.Scalar.TheVariants as scalar
 use Rattle.rule_code.specs.declared.instruction.Instr.{Instr}
 use Rattle.rule_code.specs.declared.instruction.Instr.TheVariants as instrs
 use Rattle.rule_verify.specs.CodeTree.{CodeTree, Plain, Block, Branch}
-use Rattle.rule_verify.specs.InstrKinds.{operands_of, bound_count, ends_with}
+use Rattle.rule_verify.specs.InstrKinds.{operands_of, bound_count, ends_with, operands_above}
 use Rattle.ocl_types.specs.declared.core_tree.Iteration.{Iteration}
 use Rattle.ocl_types.specs.declared.core_tree.Iteration.TheVariants as iteration
 use Rattle.rule_values.specs.Value as value
@@ -103,38 +103,39 @@ module _ (s : Setting) (first : Configuration) (goes_on : (k : ℕ) (c : Configu
 
   -- ---- iterations
 
-  -- all turns that are left
-  turns_reached : (i : Instr) (body : CodeTree) (source : Source) (ps : List Piece) (vars os : List Value) (f : Element → Value)
+  -- all turns that are left, of an iteration that works on its topmost operand
+  turns_reached : (i : Instr) → operands_above i ≡ 0 → (body : CodeTree) (source : Source) (ps : List Piece) (vars os : List Value) (f : Element → Value)
       → ((e : Element) (q : List Piece) → Reached (configuration (Sequence body ∷ q) (element_value e ∷ vars) os) → Reached (configuration q (element_value e ∷ vars) (f e ∷ os)))
       → (left : List Element) (kept : List Value)
       → Reached (turned i body source left kept ps vars os)
       → Reached (configuration ps vars (ending i source (kept ++ map f left) ∷ os))
-  turns_reached i body source ps vars os f go [] kept r = subst (λ l. Reached (configuration ps vars (ending i source l ∷ os))) (sym (append-nil kept)) r
-  turns_reached i body source ps vars os f go (e ∷ left) kept r =
+  turns_reached i one body source ps vars os f go [] kept r = subst (λ l. Reached (configuration ps vars (ending i source l ∷ os))) (sym (append-nil kept)) r
+  turns_reached i one body source ps vars os f go (e ∷ left) kept r =
       let c = configuration (Turning i body source left kept ∷ ps) (element_value e ∷ vars) (f e ∷ os) in
-      let given = go e (Turning i body source left kept ∷ ps) (subst (λ vs. Reached (configuration (Sequence body ∷ Turning i body source left kept ∷ ps) (vs ++ vars) os)) (element_bound i e kept) r) in
+      let given = go e (Turning i body source left kept ∷ ps) (subst (λ vs. Reached (configuration (Sequence body ∷ Turning i body source left kept ∷ ps) (vs ++ vars) os)) (element_bound i e kept one) r) in
       let m = goes_on given.0 c given.1 refl in
       let after : List Value → ℕ → Configuration = λ l n. turned i body source left l ps (drop n (element_value e ∷ vars)) os in
       let same = test_passed (nat_le (bound_count i) (length (element_value e ∷ vars)) && is_what s.population (ends_with (judged_by s) i) (f e)) (after (keeping i kept (f e)) (bound_count i)) m.0 m.1 in
-      let next = subst Reached (sym same ∙ ap (λ l. after l (bound_count i)) (one_kept i kept (f e)) ∙ ap (after (kept ++ f e ∷ [])) (one_bound i)) (on_to c m.0 given m.1) in
+      let next = subst Reached (sym same ∙ ap (λ l. after l (bound_count i)) (one_kept i kept (f e) one) ∙ ap (after (kept ++ f e ∷ [])) (one_bound i one)) (on_to c m.0 given m.1) in
       subst (λ l. Reached (configuration ps vars (ending i source l ∷ os))) (append_assoc kept (f e ∷ []) (map f left))
-      (turns_reached i body source ps vars os f go left (kept ++ f e ∷ []) next)
+      (turns_reached i one body source ps vars os f go left (kept ++ f e ∷ []) next)
 
   -- an iteration takes one operand, is opened over it, and ends as its value is defined
   record IsIterating (n : Numbering) (it : Iteration) (len : ℕ) : Type 0 where
+    topmost : operands_above (iteration_instr n it len) ≡ 0
     one : length (operands_of (judged_by s) (iteration_instr n it len)) ≡ 1
     opens : (body : CodeTree) (v : Value) (os : List Value) (ps : List Piece) (vars left : List Value) → block_opened (iteration_instr n it len) body (v ∷ os) ps vars left ≡ opened_over (iteration_instr n it len) body v [] ps vars left
     ends : (source : Source) (bs : List Value) → ending (iteration_instr n it len) source bs ≡ iteration_value it source bs
 
   is_iterating : (n : Numbering) (it : Iteration) (len : ℕ) → IsIterating n it len
-  is_iterating n iteration.ForAll len = record { one = refl; opens = λ body v os ps vars left. refl; ends = λ source bs. refl }
-  is_iterating n iteration.Exists len = record { one = refl; opens = λ body v os ps vars left. refl; ends = λ source bs. refl }
-  is_iterating n iteration.One len = record { one = refl; opens = λ body v os ps vars left. refl; ends = λ source bs. refl }
-  is_iterating n iteration.Select len = record { one = refl; opens = λ body v os ps vars left. refl; ends = λ source bs. refl }
-  is_iterating n iteration.Reject len = record { one = refl; opens = λ body v os ps vars left. refl; ends = λ source bs. refl }
-  is_iterating n iteration.Collect len = record { one = refl; opens = λ body v os ps vars left. refl; ends = λ source bs. refl }
-  is_iterating n iteration.CollectFlat len = record { one = refl; opens = λ body v os ps vars left. refl; ends = λ source bs. refl }
-  is_iterating n (iteration.IsUnique k) len = record { one = refl; opens = λ body v os ps vars left. refl; ends = λ source bs. refl }
+  is_iterating n iteration.ForAll len = record { topmost = refl; one = refl; opens = λ body v os ps vars left. refl; ends = λ source bs. refl }
+  is_iterating n iteration.Exists len = record { topmost = refl; one = refl; opens = λ body v os ps vars left. refl; ends = λ source bs. refl }
+  is_iterating n iteration.One len = record { topmost = refl; one = refl; opens = λ body v os ps vars left. refl; ends = λ source bs. refl }
+  is_iterating n iteration.Select len = record { topmost = refl; one = refl; opens = λ body v os ps vars left. refl; ends = λ source bs. refl }
+  is_iterating n iteration.Reject len = record { topmost = refl; one = refl; opens = λ body v os ps vars left. refl; ends = λ source bs. refl }
+  is_iterating n iteration.Collect len = record { topmost = refl; one = refl; opens = λ body v os ps vars left. refl; ends = λ source bs. refl }
+  is_iterating n iteration.CollectFlat len = record { topmost = refl; one = refl; opens = λ body v os ps vars left. refl; ends = λ source bs. refl }
+  is_iterating n (iteration.IsUnique k) len = record { topmost = refl; one = refl; opens = λ body v os ps vars left. refl; ends = λ source bs. refl }
 
   -- and one that comes to an iteration comes past it, with the value over all turns
   pub iteration_reached : (n : Numbering) (it : Iteration) (len : ℕ) (body rest : CodeTree) (ps : List Piece) (vars os : List Value) (v : Value) (f : Element → Value)
@@ -156,7 +157,7 @@ module _ (s : Setting) (first : Configuration) (goes_on : (k : ℕ) (c : Configu
           let c = configuration (Opened i body source [] ∷ Sequence rest ∷ ps) vars os in
           let same : d ≡ c = cc in
           let begun = on_to c (turned i body source es [] (Sequence rest ∷ ps) vars os) (subst Reached same r) refl in
-          subst (λ x. Reached (configuration (Sequence rest ∷ ps) vars (x ∷ os))) ((is_iterating n it len).ends source (map f es)) (turns_reached i body source (Sequence rest ∷ ps) vars os f go es [] begun)
+          subst (λ x. Reached (configuration (Sequence rest ∷ ps) vars (x ∷ os))) ((is_iterating n it len).ends source (map f es)) (turns_reached i (is_iterating n it len).topmost body source (Sequence rest ∷ ps) vars os f go es [] begun)
       by_value value.Invalid d e r =
           let c = configuration (Skipped ∷ Sequence rest ∷ ps) vars os in
           let same : d ≡ c = cc in

@@ -11,6 +11,7 @@ use Rattle.ocl_base.specs.Words.{is_name}
 use Rattle.imkl_model.specs.ClassModel.{Model, class_at, enumeration_at, feature_at}
 use Rattle.ocl_types.specs.Core.{CheckedRule}
 use Rattle.ocl_types.specs.Typing.{IsTypedRule}
+use Rattle.rule_code.specs.declared.version.Version.TheVariants as versions
 use Rattle.rule_code.specs.Content.{Content, RuleContent, text_at, names_of}
 use Rattle.rule_code.specs.WellFormed.{most_text_bytes, most_rules, IsTextOfUnit, SymbolFits, EachFits, RuleFits, IsUnit}
 use Rattle.rule_verify.specs.declared.named.Named.{Named}
@@ -25,6 +26,7 @@ use Rattle.ocl_compile.proofs.Added.{or_parts}
 use Rattle.ocl_compile.proofs.Flat.{flat_count, translated_cut}
 use Rattle.ocl_compile.proofs.Resolving.{HasText, Has, Grows, all_texts, has_uses, texts_added, grows_by_use, text_stands}
 use Rattle.ocl_compile.proofs.CodeFits.{first_all, rest_all, both_all, text_within, symbol_within, tree_fits}
+use Rattle.ocl_compile.proofs.FirstVersion.{tree_known}
 use Rattle.ocl_compile.proofs.CompiledUnits.{none_later}
 
 -- ---- what no limit says
@@ -198,7 +200,7 @@ module _ (m : Model) (all : List CheckedRule) where
       ap (λ t. t ∷ names_of n.texts (map to rs)) (text_stands n r.name h.0) ∙ ap (λ l. r.name ∷ l) (names_are rs (rest_all (Has m n) (rule_uses m r) (rules_uses m rs) h))
 
   rule_fits : (before : List CheckedRule) (r : CheckedRule) (rs : List CheckedRule) → IsTypedRule m r → IsWrittenRule r → AllByRecursion (Has m n) (rule_uses m r) → limit_passed m all before r ≡ None → repeats bytes_eq (map rule_name before ++ r.name ∷ map rule_name rs) ≡ false → names_of n.texts (map to before) ≡ map rule_name before
-      → RuleFits n.texts u.symbols (map to before) (to r)
+      → RuleFits versions.One n.texts u.symbols (map to before) (to r)
   rule_fits before r rs typed written h none apart named_before =
       let q = is_roomy m all before r none in
       let name_is = text_stands n r.name h.0 in
@@ -210,10 +212,11 @@ module _ (m : Model) (all : List CheckedRule) where
         context = symbol_within m n (named.Class r.context) h.1.0;
         len = omega (arith, q.code, flat_count t (translated_cut m n r.tree End tt));
         code = tree_fits m n r.tree _ typed.1.0 typed.1.1 h.1.1 written.1 End (omega (arith, q.code)) (λ _. tt);
+        instrs = tree_known m n r.tree End tt;
       }
 
   rules_fit : (before rs : List CheckedRule) → AllByRecursion (IsTypedRule m) rs → AllByRecursion IsWrittenRule rs → AllByRecursion (Has m n) (rules_uses m rs) → first_passed m all before rs ≡ None → repeats bytes_eq (map rule_name before ++ map rule_name rs) ≡ false → names_of n.texts (map to before) ≡ map rule_name before
-      → EachFits (RuleFits n.texts u.symbols) (map to before) (map to rs)
+      → EachFits (RuleFits versions.One n.texts u.symbols) (map to before) (map to rs)
   rules_fit before [] typed written h none apart named_before = tt
   rules_fit before (r ∷ rs) typed written h none apart named_before =
       let p = none_later (length before) (limit_passed m all before r) (first_passed m all (before ++ r ∷ []) rs) none in
@@ -229,7 +232,7 @@ module _ (m : Model) (all : List CheckedRule) where
       ap (λ (l : List (List ℕ)). repeats bytes_eq (l ++ map rule_name rs)) (map-append rule_name before (r ∷ []))
       ∙ ap (repeats bytes_eq) (append_assoc (map rule_name before) (r.name ∷ []) (map rule_name rs)) ∙ apart in (
         rule_fits before r rs typed.0 written.0 here p.0 apart named_before,
-        subst (λ (l : List RuleContent). EachFits (RuleFits n.texts u.symbols) l (map to rs)) (map-append to before (r ∷ []))
+        subst (λ (l : List RuleContent). EachFits (RuleFits versions.One n.texts u.symbols) l (map to rs)) (map-append to before (r ∷ []))
             (rules_fit (before ++ r ∷ []) rs typed.1 written.1 later p.1 apart_later names),
       )
 

@@ -223,7 +223,7 @@ opcode_goes p (Some row) opcode = inl (fields_from p row, fields_reader p row, �
 
 instr_reader : (p : Preamble) → IsReader (instr_from p)
 unfolding instr_from
-instr_reader p = reader_byte (instr_from p) refl (λ opcode. record { leads = opcode_goes p (row_numbered opcodes opcode) opcode })
+instr_reader p = reader_byte (instr_from p) refl (λ opcode. record { leads = opcode_goes p (row_numbered (opcodes p.version) opcode) opcode })
 
 -- ---- rules
 

@@ -17,6 +17,7 @@ use Rattle.rule_code.specs.declared.kind.WrittenScalar.TheVariants as scalars
 use Rattle.rule_code.specs.declared.kind.WrittenKind.TheVariants as kinds
 use Rattle.rule_code.specs.declared.unit.Rule.{Rule}
 use Rattle.rule_code.specs.declared.version.Version.{Version}
+use Rattle.rule_code.specs.FileVersion.{has_instr}
 use Rattle.rule_code.specs.SymbolTag.{is_symbol_of}
 use Rattle.rule_code.specs.Content.{RuleContent, Content, content_of, rule_content}
 use Rattle.rule_code.specs.InstrRows.{FieldValue, integer_field, boolean_field, number_field, text_field, symbol_field, scalar_field, collection_field, kind_field, row_of}
@@ -28,9 +29,9 @@ texts_small : (ts : List (String Global)) → AllByRecursion IsTextOfUnit (map s
 texts_small [] h = tt
 texts_small (t ∷ ts) h = (omega (arith, h.0.0), texts_small ts h.1)
 
-rules_small : (texts : List (List ℕ)) (symbols : List Symbol) (before : List RuleContent) (rs : List Rule) → EachFits (RuleFits texts symbols) before (map rule_content rs) → AllByRecursion (λ r. length r.code.items < 2 ^ 16) rs
-rules_small texts symbols before [] h = tt
-rules_small texts symbols before (r ∷ rs) h = (h.0.len, rules_small texts symbols (before ++ rule_content r ∷ []) rs h.1)
+rules_small : (version : Version) (texts : List (List ℕ)) (symbols : List Symbol) (before : List RuleContent) (rs : List Rule) → EachFits (RuleFits version texts symbols) before (map rule_content rs) → AllByRecursion (λ r. length r.code.items < 2 ^ 16) rs
+rules_small version texts symbols before [] h = tt
+rules_small version texts symbols before (r ∷ rs) h = (h.0.len, rules_small version texts symbols (before ++ rule_content r ∷ []) rs h.1)
 
 module _ (v : Version) (ts : List (String Global)) (ss : List Symbol) (rs : List Rule) (held : ∥ IsUnit (content_of v ts ss rs) ∥₁) where
   -- each text of a unit has fewer than 2^16 bytes
@@ -39,7 +40,7 @@ module _ (v : Version) (ts : List (String Global)) (ss : List Symbol) (rs : List
 
   -- the code of each rule has fewer than 2^16 instructions
   pub rule_small : (i : ℕ) (d : Rule) → i < length rs → length (get_or rs i d).code.items < 2 ^ 16
-  rule_small i d lt = ∥∥₁_elim held (hlevel props) (λ h. All-from_recursion (λ r. length r.code.items < 2 ^ 16) rs (rules_small _ _ [] rs h.rules) i d lt)
+  rule_small i d lt = ∥∥₁_elim held (hlevel props) (λ h. All-from_recursion (λ r. length r.code.items < 2 ^ 16) rs (rules_small _ _ _ [] rs h.rules) i d lt)
 
   -- a unit has fewer than 2^16 texts, symbols and rules
   pub texts_few : length ts < 2 ^ 16
@@ -98,15 +99,16 @@ EachFits-is_prop : {A : Type 0} (Fits : List A → A → Type 0) → ((before : 
 EachFits-is_prop Fits each before [] = hlevel props
 EachFits-is_prop Fits each before (x ∷ xs) = hlevel (props, each before x, EachFits-is_prop Fits each (before ++ x ∷ []) xs)
 
-RuleFits-is_prop : (texts : List (List ℕ)) (symbols : List Symbol) (before : List RuleContent) (r : RuleContent) → IsProp (RuleFits texts symbols before r)
-RuleFits-is_prop texts symbols before r = hlevel (props, AllByRecursion-is_prop (InstrFits (length texts) symbols) (InstrFits-is_prop (length texts) symbols) r.code)
+RuleFits-is_prop : (version : Version) (texts : List (List ℕ)) (symbols : List Symbol) (before : List RuleContent) (r : RuleContent) → IsProp (RuleFits version texts symbols before r)
+RuleFits-is_prop version texts symbols before r =
+    hlevel (props, AllByRecursion-is_prop (InstrFits (length texts) symbols) (InstrFits-is_prop (length texts) symbols) r.code, AllByRecursion-is_prop (λ i. has_instr version i ≡ true) (λ i. hlevel props) r.code)
 
 IsTextOfUnit-is_prop : (bytes : List ℕ) → IsProp (IsTextOfUnit bytes)
 IsTextOfUnit-is_prop bytes = hlevel props
 
 IsUnit-is_prop : (u : Content) → IsProp (IsUnit u)
 IsUnit-is_prop u =
-    hlevel (props, AllByRecursion-is_prop IsTextOfUnit IsTextOfUnit-is_prop u.texts, AllByRecursion-is_prop (SymbolFits (length u.texts)) (SymbolFits-is_prop (length u.texts)) u.symbols, EachFits-is_prop (RuleFits u.texts u.symbols) (RuleFits-is_prop u.texts u.symbols) [] u.rules)
+    hlevel (props, AllByRecursion-is_prop IsTextOfUnit IsTextOfUnit-is_prop u.texts, AllByRecursion-is_prop (SymbolFits (length u.texts)) (SymbolFits-is_prop (length u.texts)) u.symbols, EachFits-is_prop (RuleFits u.version u.texts u.symbols) (RuleFits-is_prop u.version u.texts u.symbols) [] u.rules)
 
 -- what a unit's type keeps holds of it
 pub unit_holds : (u : Content) → ∥ IsUnit u ∥₁ → IsUnit u
@@ -118,8 +120,8 @@ module _ (u : Content) (held : ∥ IsUnit u ∥₁) where
   symbol_fits n s e = ∥∥₁_elim held (SymbolFits-is_prop (length u.texts) s) (λ h. AllByRecursion-at (SymbolFits (length u.texts)) u.symbols n s e h.symbols)
 
   module _ (i : ℕ) (r : RuleContent) (is : slice_get u.rules i ≡ Some r) where
-    rule_fits : IsUnit u → (before : List RuleContent) × RuleFits u.texts u.symbols before r
-    rule_fits h = EachFits-at (RuleFits u.texts u.symbols) [] u.rules i r is h.rules
+    rule_fits : IsUnit u → (before : List RuleContent) × RuleFits u.version u.texts u.symbols before r
+    rule_fits h = EachFits-at (RuleFits u.version u.texts u.symbols) [] u.rules i r is h.rules
 
     -- the text of a rule's name is there
     pub name_in_range : r.name < length u.texts

@@ -1,5 +1,5 @@
 -- Instructions: an opcode, then the fields of its row in the table.
-use Rattle.std.proofs.Common.{◌≡◌, ℕ, ℤ, ◌^◌, ◌<◌, Bool, List, [], ◌∷◌, ◌++◌, length, Option, Some, None, Ok, refl, sym, ap, subst, ◌∙◌, append_assoc}
+use Rattle.std.proofs.Common.{◌≡◌, ℕ, ℤ, ◌^◌, ◌<◌, Bool, true, List, [], ◌∷◌, ◌++◌, length, Option, Some, None, Ok, refl, sym, ap, subst, ◌∙◌, append_assoc}
 use Rattle.std.specs.Int.{w16}
 use Rattle.std.specs.List.{AllByRecursion}
 use Rattle.std.proofs.lemmas.List.{append-nil}
@@ -13,13 +13,16 @@ use Rattle.rule_code.specs.declared.kind.WrittenScalar.{WrittenScalar}
 use Rattle.rule_code.specs.declared.kind.WrittenKind.{WrittenKind}
 use Rattle.rule_code.specs.declared.symbol.SymbolNumber.{SymbolNumber}
 use Rattle.rule_code.specs.declared.symbol.TextNumber.{TextNumber}
+use Rattle.rule_code.specs.declared.version.Version.{Version}
+use Rattle.rule_code.specs.declared.version.Version.TheVariants as versions
+use Rattle.rule_code.specs.FileVersion.{has_instr}
 use Rattle.rule_code.specs.Preamble.{Preamble}
 use Rattle.rule_code.specs.InstrRows.{FieldValue, integer_field, boolean_field, number_field, text_field, symbol_field, scalar_field, collection_field, kind_field, instr_row, row_of}
 use Rattle.rule_code.specs.Spelling.{field_bytes, fields_bytes, instr}
 use Rattle.rule_code.specs.WellFormed.{FieldFits, InstrFits}
 use Rattle.rule_code.specs.Reading.{FieldRead, wrong, number_from, text_number_from, symbol_number_from}
 use Rattle.rule_code.specs.KindReading.{row_numbered, single_kind_from, collection_kind_from, kind_from}
-use Rattle.rule_code.specs.Opcodes.{Fields, made, integer, boolean, number, text, symbol, scalar, collection, kind, plain_opcodes, value_opcodes, operation_opcodes, block_opcodes, opcodes, integer_from, boolean_from, fields_from, behind, instr_from}
+use Rattle.rule_code.specs.Opcodes.{Fields, made, integer, boolean, number, text, symbol, scalar, collection, kind, plain_opcodes, value_opcodes, operation_opcodes, block_opcodes, fold_opcodes, opcodes, integer_from, boolean_from, fields_from, behind, instr_from}
 use Rattle.rule_code.proofs.Bytes.{IsBytes, IsBytes-rest, Takes, Takes-then, Takes-behind}
 use Rattle.rule_code.proofs.Codec.{IsCodec}
 use Rattle.rule_code.proofs.Fields.{number_codec, integer_codec, boolean_codec, text_number_codec, symbol_number_codec}
@@ -27,45 +30,54 @@ use Rattle.rule_code.proofs.KindFields.{numbered_right, scalar_codec, collection
 
 -- ---- what is read is spelled so
 
--- the instructions that a row makes have this opcode and, behind these fields, the row's own
-abbrev IsRight : ℕ → List FieldValue → Fields → Type 0
-IsRight opcode before (made i) = row_of i ≡ instr_row opcode before
-IsRight opcode before (integer next) = (n : ℤ) → IsRight opcode (before ++ integer_field n ∷ []) (next n)
-IsRight opcode before (boolean next) = (b : Bool) → IsRight opcode (before ++ boolean_field b ∷ []) (next b)
-IsRight opcode before (number next) = (n : ℕ) → IsRight opcode (before ++ number_field n ∷ []) (next n)
-IsRight opcode before (text next) = (t : TextNumber) → IsRight opcode (before ++ text_field t.0 ∷ []) (next t)
-IsRight opcode before (symbol tag next) = (s : SymbolNumber) → IsRight opcode (before ++ symbol_field tag s.0 ∷ []) (next s)
-IsRight opcode before (scalar next) = (k : WrittenScalar) → IsRight opcode (before ++ scalar_field k ∷ []) (next k)
-IsRight opcode before (collection next) = (c : CollectionKind) (k : WrittenScalar) → IsRight opcode (before ++ collection_field c k ∷ []) (next c k)
-IsRight opcode before (kind next) = (k : WrittenKind) → IsRight opcode (before ++ kind_field k ∷ []) (next k)
+-- the instructions that a row makes are of the version, have this opcode and, behind these fields, the row's own
+abbrev IsRight : Version → ℕ → List FieldValue → Fields → Type 0
+IsRight v opcode before (made i) = (row_of i ≡ instr_row opcode before) × (has_instr v i ≡ true)
+IsRight v opcode before (integer next) = (n : ℤ) → IsRight v opcode (before ++ integer_field n ∷ []) (next n)
+IsRight v opcode before (boolean next) = (b : Bool) → IsRight v opcode (before ++ boolean_field b ∷ []) (next b)
+IsRight v opcode before (number next) = (n : ℕ) → IsRight v opcode (before ++ number_field n ∷ []) (next n)
+IsRight v opcode before (text next) = (t : TextNumber) → IsRight v opcode (before ++ text_field t.0 ∷ []) (next t)
+IsRight v opcode before (symbol tag next) = (s : SymbolNumber) → IsRight v opcode (before ++ symbol_field tag s.0 ∷ []) (next s)
+IsRight v opcode before (scalar next) = (k : WrittenScalar) → IsRight v opcode (before ++ scalar_field k ∷ []) (next k)
+IsRight v opcode before (collection next) = (c : CollectionKind) (k : WrittenScalar) → IsRight v opcode (before ++ collection_field c k ∷ []) (next c k)
+IsRight v opcode before (kind next) = (k : WrittenKind) → IsRight v opcode (before ++ kind_field k ∷ []) (next k)
 
-abbrev AreRight : List (ℕ × Fields) → Type 0
-AreRight rows = AllByRecursion (λ row. IsRight row.0 [] row.1) rows
+abbrev AreRight : Version → List (ℕ × Fields) → Type 0
+AreRight v rows = AllByRecursion (λ row. IsRight v row.0 [] row.1) rows
 
-right_with : (rows more : List (ℕ × Fields)) → AreRight rows → AreRight more → AreRight (rows ++ more)
-right_with [] more right others = others
-right_with (row ∷ rows) more right others = (right.0, right_with rows more right.1 others)
+right_with : (v : Version) (rows more : List (ℕ × Fields)) → AreRight v rows → AreRight v more → AreRight v (rows ++ more)
+right_with v [] more right others = others
+right_with v (row ∷ rows) more right others = (right.0, right_with v rows more right.1 others)
 
-plain_right : AreRight plain_opcodes
-plain_right =
-    (refl, (refl, (refl, (refl, (refl, (refl, (refl, (refl, (refl, (refl, (refl, (refl, (refl, (refl, (refl, (refl, (refl, (refl, (refl, (refl, (refl, (refl, (refl, (refl, (refl, (refl, (refl, (refl, (refl, tt)))))))))))))))))))))))))))))
+plain_right : (v : Version) → AreRight v plain_opcodes
+plain_right v =
+    ((refl, refl), ((refl, refl), ((refl, refl), ((refl, refl), ((refl, refl), ((refl, refl), ((refl, refl), ((refl, refl), ((refl, refl), ((refl, refl), ((refl, refl), ((refl, refl), ((refl, refl), ((refl, refl), ((refl, refl), ((refl, refl), ((refl, refl), ((refl, refl), ((refl, refl), ((refl, refl), ((refl, refl), ((refl, refl), ((refl, refl), ((refl, refl), ((refl, refl), ((refl, refl), ((refl, refl), ((refl, refl), ((refl, refl), tt)))))))))))))))))))))))))))))
 
-value_right : AreRight value_opcodes
-value_right =
-    ((λ n. refl), ((λ n. refl), ((λ b. refl), ((λ t. refl), ((λ s. refl), ((λ s. refl), ((λ s. refl), ((λ c k. refl), ((λ s. refl), ((λ s. refl), ((λ s. refl), tt)))))))))))
+value_right : (v : Version) → AreRight v value_opcodes
+value_right v =
+    ((λ n. (refl, refl)), ((λ n. (refl, refl)), ((λ b. (refl, refl)), ((λ t. (refl, refl)), ((λ s. (refl, refl)), ((λ s. (refl, refl)), ((λ s. (refl, refl)), ((λ c k. (refl, refl)), ((λ s. (refl, refl)), ((λ s. (refl, refl)), ((λ s. (refl, refl)), tt)))))))))))
 
-operation_right : AreRight operation_opcodes
-operation_right =
-    ((λ k. refl), ((λ k. refl), ((λ k. refl), ((λ k. refl), ((λ k. refl), ((λ k. refl), tt))))))
+operation_right : (v : Version) → AreRight v operation_opcodes
+operation_right v =
+    ((λ k. (refl, refl)), ((λ k. (refl, refl)), ((λ k. (refl, refl)), ((λ k. (refl, refl)), ((λ k. (refl, refl)), ((λ k. (refl, refl)), tt))))))
 
-block_right : AreRight block_opcodes
-block_right =
-    ((λ n. refl), ((λ k n m. refl), ((λ n. refl), ((λ n. refl), ((λ n. refl), ((λ n. refl), ((λ n. refl), ((λ n. refl), ((λ n. refl), ((λ k n. refl), tt))))))))))
+block_right : (v : Version) → AreRight v block_opcodes
+block_right v =
+    ((λ n. (refl, refl)), ((λ k n m. (refl, refl)), ((λ n. (refl, refl)), ((λ n. (refl, refl)), ((λ n. (refl, refl)), ((λ n. (refl, refl)), ((λ n. (refl, refl)), ((λ n. (refl, refl)), ((λ n. (refl, refl)), ((λ k n. (refl, refl)), tt))))))))))
 
-opcodes_right : AreRight opcodes
-opcodes_right =
-    right_with plain_opcodes (value_opcodes ++ operation_opcodes ++ block_opcodes) plain_right
-    (right_with value_opcodes (operation_opcodes ++ block_opcodes) value_right (right_with operation_opcodes block_opcodes operation_right block_right))
+fold_right : (v : Version) → AreRight v (fold_opcodes v)
+fold_right versions.One = tt
+fold_right versions.Two = ((λ k n. (refl, refl)), tt)
+
+opcodes_right : (v : Version) → AreRight v (opcodes v)
+opcodes_right v =
+    right_with v plain_opcodes (value_opcodes ++ operation_opcodes ++ block_opcodes ++ fold_opcodes v) (plain_right v)
+    (right_with v value_opcodes (operation_opcodes ++ block_opcodes ++ fold_opcodes v) (value_right v)
+    (right_with v operation_opcodes (block_opcodes ++ fold_opcodes v) (operation_right v) (right_with v block_opcodes (fold_opcodes v) (block_right v) (fold_right v))))
+
+-- an instruction fits, and is one of the version
+abbrev pub StandsIn : Preamble → Instr → Type 0
+StandsIn p i = InstrFits (length p.texts) p.symbols i × (has_instr p.version i ≡ true)
 
 module _ (p : Preamble) (few_texts : length p.texts < 2 ^ 16) (few : length p.symbols < 2 ^ 16) where
   -- an instruction that was read behind its opcode and some of its fields
@@ -74,6 +86,7 @@ module _ (p : Preamble) (few_texts : length p.texts < 2 ^ 16) (few : length p.sy
     pub row : row_of x.0 ≡ instr_row opcode (before ++ fields)
     pub taken : Takes rest (fields_bytes fields) x.1
     pub fit : AllByRecursion (FieldFits (length p.texts) p.symbols) fields
+    pub known : has_instr p.version x.0 ≡ true
 
   -- one field more
   field_then : (opcode : ℕ) (before : List FieldValue) (f : FieldValue) (rest after : List ℕ) (x : Instr × List ℕ) → Takes rest (field_bytes f) after → FieldFits (length p.texts) p.symbols f → Found opcode (before ++ f ∷ []) after x → Found opcode before rest x
@@ -82,12 +95,13 @@ module _ (p : Preamble) (few_texts : length p.texts < 2 ^ 16) (few : length p.sy
     row = others.row ∙ ap (instr_row opcode) (append_assoc before (f ∷ []) others.fields);
     taken = Takes-then rest (field_bytes f) after (fields_bytes others.fields) x.1 first others.taken;
     fit = (fits, others.fit);
+    known = others.known;
   }
 
-  fields_takes : (opcode : ℕ) (before : List FieldValue) (row : Fields) → IsRight opcode before row → (rest : List ℕ) (x : Instr × List ℕ) → IsBytes rest → fields_from p row rest ≡ Ok x → Found opcode before rest x
+  fields_takes : (opcode : ℕ) (before : List FieldValue) (row : Fields) → IsRight p.version opcode before row → (rest : List ℕ) (x : Instr × List ℕ) → IsBytes rest → fields_from p row rest ≡ Ok x → Found opcode before rest x
   fields_takes opcode before (made i) right rest x fits e =
       subst (λ (y : Instr × List ℕ). Found opcode before rest y) (ok_is (i, rest) x e)
-      (record { fields = []; row = right ∙ ap (instr_row opcode) (sym (append-nil before)); taken = record { parts = refl; rest_fits = fits }; fit = tt })
+      (record { fields = []; row = right.0 ∙ ap (instr_row opcode) (sym (append-nil before)); taken = record { parts = refl; rest_fits = fits }; fit = tt; known = right.1 })
   fields_takes opcode before (integer next) right rest x fits e =
       let a = both_steps (integer_from rest) (λ n. fields_from p (next n.0) n.1) x e in
       let t = integer_codec.takes rest a.0 fits a.1 in
@@ -121,16 +135,16 @@ module _ (p : Preamble) (few_texts : length p.texts < 2 ^ 16) (few : length p.sy
       let t = (kind_codec p.symbols few).takes rest a.0 fits a.1 in
       field_then opcode before (kind_field a.0.0) rest a.0.1 x t.0 t.1 (fields_takes opcode (before ++ kind_field a.0.0 ∷ []) (next a.0.0) (right a.0.0) a.0.1 x t.0.rest_fits a.2)
 
-  behind_takes : (opcode : ℕ) (row : Option Fields) → ((r : Fields) → row ≡ Some r → IsRight opcode [] r) → (here rest : List ℕ) (x : Instr × List ℕ) → IsBytes rest → behind p row here rest ≡ Ok x → Found opcode [] rest x
+  behind_takes : (opcode : ℕ) (row : Option Fields) → ((r : Fields) → row ≡ Some r → IsRight p.version opcode [] r) → (here rest : List ℕ) (x : Instr × List ℕ) → IsBytes rest → behind p row here rest ≡ Ok x → Found opcode [] rest x
   behind_takes opcode None right here rest x fits e = absurd (let bad : wrong flaws.BadOpcode here ≡ Ok x = e in cc)
   behind_takes opcode (Some row) right here rest x fits e = fields_takes opcode [] row (right row refl) rest x fits e
 
-  instr_takes : (bytes : List ℕ) (x : Instr × List ℕ) → IsBytes bytes → instr_from p bytes ≡ Ok x → Takes bytes (instr x.0) x.1 × InstrFits (length p.texts) p.symbols x.0
+  instr_takes : (bytes : List ℕ) (x : Instr × List ℕ) → IsBytes bytes → instr_from p bytes ≡ Ok x → Takes bytes (instr x.0) x.1 × StandsIn p x.0
   unfolding instr_from
   instr_takes [] x fits e = absurd cc
   instr_takes (opcode ∷ rest) x fits e =
-      let f = behind_takes opcode (row_numbered opcodes opcode) (λ r found. numbered_right (λ n row. IsRight n [] row) opcodes opcodes_right opcode r found) (opcode ∷ rest) rest x (IsBytes-rest opcode rest fits) e in
-      (rw f.row (Takes-behind opcode rest (fields_bytes f.fields) x.1 f.taken), rw f.row f.fit)
+      let f = behind_takes opcode (row_numbered (opcodes p.version) opcode) (λ r found. numbered_right (λ n row. IsRight p.version n [] row) (opcodes p.version) (opcodes_right p.version) opcode r found) (opcode ∷ rest) rest x (IsBytes-rest opcode rest fits) e in
+      (rw f.row (Takes-behind opcode rest (fields_bytes f.fields) x.1 f.taken), (rw f.row f.fit, f.known))
 
   -- ---- what is spelled so is read
 
@@ -180,23 +194,24 @@ module _ (p : Preamble) (few_texts : length p.texts < 2 ^ 16) (few : length p.sy
   RowMakes None x = ⊥
   RowMakes (Some row) x = Makes row (row_of x).fields x
 
-  row_makes : (x : Instr) → RowMakes (row_numbered opcodes (row_of x).opcode) x
-  row_makes (instrs.Enum s) = (refl, refl)
-  row_makes (instrs.Attr s) = (refl, refl)
-  row_makes (instrs.All s) = (refl, refl)
-  row_makes (instrs.KindOf s) = (refl, refl)
-  row_makes (instrs.TypeOf s) = (refl, refl)
-  row_makes (instrs.AsType s) = (refl, refl)
-  row_makes x = refl
+  row_makes : (x : Instr) → has_instr p.version x ≡ true → RowMakes (row_numbered (opcodes p.version) (row_of x).opcode) x
+  row_makes (instrs.Enum s) known = (refl, refl)
+  row_makes (instrs.Attr s) known = (refl, refl)
+  row_makes (instrs.All s) known = (refl, refl)
+  row_makes (instrs.KindOf s) known = (refl, refl)
+  row_makes (instrs.TypeOf s) known = (refl, refl)
+  row_makes (instrs.AsType s) known = (refl, refl)
+  row_makes (instrs.Fold k n) known = rw known refl
+  row_makes x known = refl
 
   behind_again : (row : Option Fields) (x : Instr) → RowMakes row x → InstrFits (length p.texts) p.symbols x → (here rest : List ℕ) → behind p row here (fields_bytes (row_of x).fields ++ rest) ≡ Ok (x, rest)
   behind_again None x makes fits here rest = absurd makes
   behind_again (Some row) x makes fits here rest = fields_again row (row_of x).fields x makes fits rest
 
-  instr_again : (x : Instr) (rest : List ℕ) → InstrFits (length p.texts) p.symbols x → instr_from p (instr x ++ rest) ≡ Ok (x, rest)
+  instr_again : (x : Instr) (rest : List ℕ) → StandsIn p x → instr_from p (instr x ++ rest) ≡ Ok (x, rest)
   unfolding instr_from
-  instr_again x rest fits = behind_again (row_numbered opcodes (row_of x).opcode) x (row_makes x) fits (instr x ++ rest) rest
+  instr_again x rest stands = behind_again (row_numbered (opcodes p.version) (row_of x).opcode) x (row_makes x stands.1) stands.0 (instr x ++ rest) rest
 
-  -- an instruction that fits: what is read was spelled so, and what is spelled so is read
-  pub instr_codec : IsCodec instr (InstrFits (length p.texts) p.symbols) (instr_from p)
+  -- an instruction that fits and is of the version: what is read was spelled so, and what is spelled so is read
+  pub instr_codec : IsCodec instr (StandsIn p) (instr_from p)
   instr_codec = record { takes = instr_takes; again = instr_again }

@@ -2,17 +2,19 @@
 use Rattle.std.proofs.Common.{◌≡◌, ℕ, ◌^◌, ◌<◌, ◌≤◌, Bool, true, false, cond, eqb, ◌&&◌, not, List, [], ◌∷◌, ◌++◌, length, get_or, take, drop, Result, Ok, Err, refl, sym, ap, subst, ◌∙◌, append_assoc, inl, inr, arith}
 use Rattle.std.specs.Prelude.{bytes_eq, ◌↔◌}
 use Rattle.std.specs.Int.{w16}
+use Rattle.std.specs.List.{AllByRecursion}
 use Rattle.std.proofs.lemmas.Bool.{eqb-true}
 use Rattle.std.proofs.lemmas.List.{append-nil, take-append-drop}
 use Rattle.std.proofs.lemmas.Slice.Eq.{bytes_eq-Decides}
 use Rattle.rule_code.specs.declared.fault.CodeFlaw.TheVariants as flaws
+use Rattle.rule_code.specs.declared.instruction.Instr.{Instr}
 use Rattle.rule_code.specs.declared.symbol.SymbolTag.TheVariants as tags
 use Rattle.rule_code.specs.declared.version.Version.{Version}
 use Rattle.rule_code.specs.declared.version.Version.TheVariants as versions
 use Rattle.ocl_base.specs.Lists.{is_among}
 use Rattle.ocl_base.specs.Words.{is_name}
 use Rattle.rule_code.specs.Content.{RuleContent, Content, text_at, names_of}
-use Rattle.rule_code.specs.FileVersion.{version_number}
+use Rattle.rule_code.specs.FileVersion.{version_number, has_instr}
 use Rattle.rule_code.specs.Preamble.{Preamble}
 use Rattle.rule_code.specs.NumberBytes.{number_bytes}
 use Rattle.rule_code.specs.Spelling.{counted_bytes, text, symbol, instr, rule, magic, spelling}
@@ -27,7 +29,7 @@ use Rattle.rule_code.proofs.Bytes.{IsBytes, IsBytes-drop, chosen, pass_ok, pass_
 use Rattle.rule_code.proofs.Codec.{IsCodec, counted_codec, AllByRecursion-from_each, EachFits-from_all}
 use Rattle.rule_code.proofs.Fields.{number_codec, count_codec, text_number_codec, symbol_number_codec, text_codec}
 use Rattle.rule_code.proofs.Symbols.{symbol_codec}
-use Rattle.rule_code.proofs.Instructions.{instr_codec}
+use Rattle.rule_code.proofs.Instructions.{StandsIn, instr_codec}
 
 -- ---- names
 
@@ -54,10 +56,10 @@ name_codec texts is_name_taken few = record {
 
 -- ---- lists behind their counts
 
-code_codec : (p : Preamble) → length p.texts < 2 ^ 16 → length p.symbols < 2 ^ 16 → IsCodec (counted_bytes instr) (λ code. (length code < 2 ^ 16) × EachFits (λ before. InstrFits (length p.texts) p.symbols) [] code) (code_from p)
+code_codec : (p : Preamble) → length p.texts < 2 ^ 16 → length p.symbols < 2 ^ 16 → IsCodec (counted_bytes instr) (λ code. (length code < 2 ^ 16) × EachFits (λ before. StandsIn p) [] code) (code_from p)
 unfolding code_from
 code_codec p few_texts few =
-    counted_codec instr (λ before. InstrFits (length p.texts) p.symbols) (λ before. instr_from p) (λ before. instr_codec p few_texts few) (λ n. n < 2 ^ 16) (number_from w16) number_codec
+    counted_codec instr (λ before. StandsIn p) (λ before. instr_from p) (λ before. instr_codec p few_texts few) (λ n. n < 2 ^ 16) (number_from w16) number_codec
 
 texts_codec : IsCodec (counted_bytes text) (λ texts. (length texts < 2 ^ 16) × EachFits (λ before. IsTextOfUnit) [] texts) texts_from
 unfolding texts_from
@@ -69,8 +71,21 @@ symbols_codec texts few = counted_codec symbol (λ before. SymbolFits texts) (λ
 
 -- ---- rules
 
+-- instructions that fit and are of the version, in one and apart
+all_fit : (p : Preamble) (code : List Instr) → AllByRecursion (StandsIn p) code → AllByRecursion (InstrFits (length p.texts) p.symbols) code
+all_fit p [] h = tt
+all_fit p (i ∷ is) h = (h.0.0, all_fit p is h.1)
+
+all_known : (p : Preamble) (code : List Instr) → AllByRecursion (StandsIn p) code → AllByRecursion (λ i. has_instr p.version i ≡ true) code
+all_known p [] h = tt
+all_known p (i ∷ is) h = (h.0.1, all_known p is h.1)
+
+all_stand : (p : Preamble) (code : List Instr) → AllByRecursion (InstrFits (length p.texts) p.symbols) code → AllByRecursion (λ i. has_instr p.version i ≡ true) code → AllByRecursion (StandsIn p) code
+all_stand p [] h k = tt
+all_stand p (i ∷ is) h k = ((h.0, k.0), all_stand p is h.1 k.1)
+
 rule_codec : (p : Preamble) → length p.texts < 2 ^ 16 → length p.symbols < 2 ^ 16 → (before : List RuleContent)
-    → IsCodec rule (RuleFits p.texts p.symbols before) (next_rule_from p before)
+    → IsCodec rule (RuleFits p.version p.texts p.symbols before) (next_rule_from p before)
 unfolding rule_from
 rule_codec p few_texts few_symbols before =
     let is_name_taken = is_among bytes_eq (names_of p.texts before) in
@@ -84,20 +99,21 @@ rule_codec p few_texts few_symbols before =
           let t2 = (code_codec p few_texts few_symbols).takes b.0.1 d.0 t1.0.rest_fits d.1 in
           let first = Takes-then bytes (number_bytes a.0.0) a.0.1 (number_bytes b.0.0) b.0.1 t0.0 t1.0 in
           let all = Takes-then bytes (number_bytes a.0.0 ++ number_bytes b.0.0) b.0.1 (counted_bytes instr d.0.0) d.0.1 first t2.0 in
+          let stand = AllByRecursion-from_each (StandsIn p) [] d.0.0 t2.1.1 in
           let made : RuleContent × List ℕ = (record { name = a.0.0; context = b.0.0; code = d.0.0 }, d.0.1) in
-          subst (λ (y : RuleContent × List ℕ). Takes bytes (rule y.0) y.1 × RuleFits p.texts p.symbols before y.0) (ok_is made x d.2)
-          (all, record { name = t0.1.0; is_name = t0.1.1; is_new = t0.1.2; context = t1.1; len = t2.1.0; code = AllByRecursion-from_each (InstrFits (length p.texts) p.symbols) [] d.0.0 t2.1.1 });
+          subst (λ (y : RuleContent × List ℕ). Takes bytes (rule y.0) y.1 × RuleFits p.version p.texts p.symbols before y.0) (ok_is made x d.2)
+          (all, record { name = t0.1.0; is_name = t0.1.1; is_new = t0.1.2; context = t1.1; len = t2.1.0; code = all_fit p d.0.0 stand; instrs = all_known p d.0.0 stand });
       again = λ r rest fits.
           let regrouped : rule r ++ rest ≡ number_bytes r.name ++ (number_bytes r.context ++ (counted_bytes instr r.code ++ rest)) = append_assoc (number_bytes r.name ++ number_bytes r.context) (counted_bytes instr r.code) rest ∙ append_assoc (number_bytes r.name) (number_bytes r.context) (counted_bytes instr r.code ++ rest) in
           ap (rule_from p is_name_taken) regrouped
-          ∙ rw ((name_codec p.texts is_name_taken few_texts).again r.name (number_bytes r.context ++ (counted_bytes instr r.code ++ rest)) (fits.name, fits.is_name, fits.is_new), (symbol_number_codec tags.Class p.symbols few_symbols).again r.context (counted_bytes instr r.code ++ rest) fits.context, (code_codec p few_texts few_symbols).again r.code rest (fits.len, EachFits-from_all (InstrFits (length p.texts) p.symbols) [] r.code fits.code)) refl;
+          ∙ rw ((name_codec p.texts is_name_taken few_texts).again r.name (number_bytes r.context ++ (counted_bytes instr r.code ++ rest)) (fits.name, fits.is_name, fits.is_new), (symbol_number_codec tags.Class p.symbols few_symbols).again r.context (counted_bytes instr r.code ++ rest) fits.context, (code_codec p few_texts few_symbols).again r.code rest (fits.len, EachFits-from_all (StandsIn p) [] r.code (all_stand p r.code fits.code fits.instrs))) refl;
     }
 
 rules_codec : (p : Preamble) → length p.texts < 2 ^ 16 → length p.symbols < 2 ^ 16
-    → IsCodec (counted_bytes rule) (λ rules. (length rules ≤ 4096) × EachFits (RuleFits p.texts p.symbols) [] rules) (rules_from p)
+    → IsCodec (counted_bytes rule) (λ rules. (length rules ≤ 4096) × EachFits (RuleFits p.version p.texts p.symbols) [] rules) (rules_from p)
 unfolding rules_from
 rules_codec p few_texts few_symbols =
-    counted_codec rule (RuleFits p.texts p.symbols) (next_rule_from p) (rule_codec p few_texts few_symbols) (λ n. n ≤ 4096) (count_from 4096) (count_codec 4096 (omega arith))
+    counted_codec rule (RuleFits p.version p.texts p.symbols) (next_rule_from p) (rule_codec p few_texts few_symbols) (λ n. n ≤ 4096) (count_from 4096) (count_codec 4096 (omega arith))
 
 -- ---- the whole file
 

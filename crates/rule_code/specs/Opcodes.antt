@@ -1,5 +1,5 @@
 -- The table of opcodes, and how an instruction is read by it.
-use Rattle.std.specs.Prelude.{ℕ, zero, suc, ℤ, Bool, true, false, List, [], ◌∷◌, ◌++◌, length, Option, Some, None, Ok}
+use Rattle.std.specs.Prelude.{ℕ, zero, suc, ℤ, Bool, true, false, List, [], ◌∷◌, ◌++◌, length, Option, Some, None, Ok, if◌then◌else◌}
 use Rattle.std.specs.Int.{w16, w64, cast_signed}
 use Rattle.ocl_base.specs.declared.collection_kind.CollectionKind.{CollectionKind}
 use Rattle.rule_code.specs.declared.fault.CodeFlaw.TheVariants as flaws
@@ -11,6 +11,8 @@ use Rattle.rule_code.specs.declared.symbol.SymbolNumber.{SymbolNumber}
 use Rattle.rule_code.specs.declared.symbol.SymbolTag.{SymbolTag}
 use Rattle.rule_code.specs.declared.symbol.SymbolTag.TheVariants as tags
 use Rattle.rule_code.specs.declared.symbol.TextNumber.{TextNumber}
+use Rattle.rule_code.specs.declared.version.Version.{Version}
+use Rattle.rule_code.specs.FileVersion.{has_fold}
 use Rattle.rule_code.specs.Preamble.{Preamble}
 use Rattle.ocl_base.specs.Steps.{◌>>=◌}
 use Rattle.rule_code.specs.Reading.{FieldRead, wrong, number_from, text_number_from, symbol_number_from}
@@ -100,9 +102,13 @@ block_opcodes = (0x40, number (λ n. made (instrs.Let n)))
     ∷ (0x49, scalar (λ k. number (λ n. made (instrs.IsUnique k n))))
     ∷ []
 
--- The opcodes. Every other byte is no opcode.
-abbrev pub opcodes : List (ℕ × Fields)
-opcodes = plain_opcodes ++ value_opcodes ++ operation_opcodes ++ block_opcodes
+-- those that the second version alone has
+abbrev pub fold_opcodes : Version → List (ℕ × Fields)
+fold_opcodes v = if has_fold v then (0x4a, scalar (λ k. number (λ n. made (instrs.Fold k n)))) ∷ [] else []
+
+-- The opcodes of a version. Every other byte is no opcode.
+abbrev pub opcodes : Version → List (ℕ × Fields)
+opcodes v = plain_opcodes ++ value_opcodes ++ operation_opcodes ++ block_opcodes ++ fold_opcodes v
 
 -- eight bytes, two's complement
 unfoldable pub integer_from : List ℕ → FieldRead ℤ
@@ -152,4 +158,4 @@ behind p (Some row) here rest = fields_from p row rest
 
 unfoldable pub instr_from : Preamble → List ℕ → FieldRead Instr
 instr_from p [] = wrong flaws.Truncated []
-instr_from p (opcode ∷ rest) = behind p (row_numbered opcodes opcode) (opcode ∷ rest) rest
+instr_from p (opcode ∷ rest) = behind p (row_numbered (opcodes p.version) opcode) (opcode ∷ rest) rest

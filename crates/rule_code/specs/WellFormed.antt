@@ -12,6 +12,8 @@ use Rattle.rule_code.specs.declared.kind.WrittenKind.TheVariants as kinds
 use Rattle.rule_code.specs.declared.symbol.Symbol.{Symbol}
 use Rattle.rule_code.specs.declared.symbol.Symbol.TheVariants as symbols
 use Rattle.rule_code.specs.declared.symbol.SymbolTag.TheVariants as tags
+use Rattle.rule_code.specs.declared.version.Version.{Version}
+use Rattle.rule_code.specs.FileVersion.{has_instr}
 use Rattle.rule_code.specs.SymbolTag.{is_symbol_of}
 use Rattle.ocl_base.specs.Lists.{is_among}
 use Rattle.ocl_base.specs.Words.{is_name}
@@ -71,14 +73,15 @@ FieldFits texts symbols (kind_field k) = KindFits symbols k
 abbrev pub InstrFits : ℕ → List Symbol → Instr → Type 0
 InstrFits texts symbols i = AllByRecursion (FieldFits texts symbols) (row_of i).fields
 
--- a rule, given the rules before it
-pub record RuleFits (texts : List (List ℕ)) (symbols : List Symbol) (before : List RuleContent) (r : RuleContent) : Type 0 where
+-- a rule of a version, given the rules before it
+pub record RuleFits (version : Version) (texts : List (List ℕ)) (symbols : List Symbol) (before : List RuleContent) (r : RuleContent) : Type 0 where
   pub name : r.name < length texts
   pub is_name : is_name (text_at texts r.name) ≡ true
   pub is_new : is_among bytes_eq (names_of texts before) (text_at texts r.name) ≡ false
   pub context : is_symbol_of tags.Class symbols r.context ≡ true
   pub len : length r.code < 2 ^ 16
   pub code : AllByRecursion (InstrFits (length texts) symbols) r.code
+  pub instrs : AllByRecursion (λ i. has_instr version i ≡ true) r.code
 
 pub record IsUnit (u : Content) : Type 0 where
   pub text_count : length u.texts < 2 ^ 16
@@ -86,4 +89,4 @@ pub record IsUnit (u : Content) : Type 0 where
   pub symbol_count : length u.symbols < 2 ^ 16
   pub symbols : AllByRecursion (SymbolFits (length u.texts)) u.symbols
   pub rule_count : length u.rules ≤ most_rules
-  pub rules : EachFits (RuleFits u.texts u.symbols) [] u.rules
+  pub rules : EachFits (RuleFits u.version u.texts u.symbols) [] u.rules

@@ -122,4 +122,6 @@ pub enum Instr {
     CollectFlat(u16),
     /// Whether no two values of the body, of one kind, are equal.
     IsUnique(WrittenScalar, u16),
+    /// The value of a kind that the body made last, each of the value made before it. Only version 2 has it.
+    Fold(WrittenScalar, u16),
 }

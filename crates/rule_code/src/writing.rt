@@ -114,6 +114,7 @@ fn opcode_of(i: Instr) -> u8
         Instr::Collect(_) => 0x47,
         Instr::CollectFlat(_) => 0x48,
         Instr::IsUnique(_, _) => 0x49,
+        Instr::Fold(_, _) => 0x4a,
     }
 }
 
@@ -206,7 +207,7 @@ fn put_fields(out: &mut Vec<u8>, i: Instr) -> Result<(), AllocError>
             put_number(out, first)?;
             put_number(out, second)
         }
-        Instr::IsUnique(kind, body) => {
+        Instr::IsUnique(kind, body) | Instr::Fold(kind, body) => {
             put_scalar(out, kind)?;
             put_number(out, body)
         }

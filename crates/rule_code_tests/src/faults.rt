@@ -90,7 +90,20 @@ const FAULTS: &str = "\
 4f434c42 0001 0000 0000 0001 0000 0000 0000: BadNumber at 12
 # a byte after the last rule
 4f434c42 0001 0000 0000 0000 00: Trailing at 12
-# version 2: no count of texts, an opcode of no instruction, a byte after the last rule
+# FOLD in version 1, whatever follows
+4f434c42 0001 0001 0001 61 0001 01 0000 0001 0000 0000 0001 4a 02 0001: BadOpcode at 24
+4f434c42 0001 0001 0001 61 0001 01 0000 0001 0000 0000 0001 4a 12: BadOpcode at 24
+# version 2: FOLD cut in its kind, in its kind's symbol and in its length; of a collection, of no kind, of no symbol of
+# a class and of one of another sort
+4f434c42 0002 0001 0001 61 0001 01 0000 0001 0000 0000 0001 4a: Truncated at 25
+4f434c42 0002 0001 0001 61 0001 01 0000 0001 0000 0000 0001 4a 05 00: Truncated at 26
+4f434c42 0002 0001 0001 61 0001 01 0000 0001 0000 0000 0001 4a 02 00: Truncated at 26
+4f434c42 0002 0001 0001 61 0001 01 0000 0001 0000 0000 0001 4a 12 0000: BadNumber at 25
+4f434c42 0002 0001 0001 61 0001 01 0000 0001 0000 0000 0001 4a 07 0000: BadNumber at 25
+4f434c42 0002 0001 0001 61 0001 01 0000 0001 0000 0000 0001 4a 05 0001 0000: BadNumber at 26
+4f434c42 0002 0001 0001 61 0001 01 0000 0001 0000 0000 0001 4a 04 0000 0000: BadNumber at 26
+# the opcode after it is none; no count of texts, an opcode of no instruction, a byte after the last rule
+4f434c42 0002 0001 0001 61 0001 01 0000 0001 0000 0000 0001 4b: BadOpcode at 24
 4f434c42 0002: Truncated at 6
 4f434c42 0002 0001 0001 61 0001 01 0000 0001 0000 0000 0001 ff: BadOpcode at 24
 4f434c42 0002 0000 0000 0000 00: Trailing at 12

@@ -69,6 +69,21 @@ CollectFlat: 480007
 IsUnique: 4905000000ff
 ";
 
+/// What stands before the one instruction of a rule in a file of version 2, which is otherwise the same.
+const BEFORE_OF_TWO: &str =
+    "4f434c42 0002 0002 0001 41 0002 5f62 0004 01 0001 02 0000 03 0000 0001 04 0000 0001 0001 0000 0000 0001";
+
+/// The instruction that version 2 alone has, of each kind of a single value.
+const FOLDS: &str = "\
+4a000000
+4a010001
+4a020002
+4a030003
+4a040001ffff
+4a0500000001
+4a060006
+";
+
 /// The kinds, as EQ has them. The enumeration is symbol 1, the class symbol 0.
 const KINDS: &str = "\
 2800
@@ -148,12 +163,13 @@ fn name_of(instr: Instr) -> &'static str {
         Instr::Collect(_) => "Collect",
         Instr::CollectFlat(_) => "CollectFlat",
         Instr::IsUnique(_, _) => "IsUnique",
+        Instr::Fold(_, _) => "Fold",
     }
 }
 
-/// The file of one instruction.
-fn file_of(alloc: Global, digits: &str) -> Result<Vec<u8>, AllocError> {
-    let mut bytes = bytes_of(alloc, BEFORE)?;
+/// The file of one instruction, by what stands before it.
+fn file_of(alloc: Global, before: &str, digits: &str) -> Result<Vec<u8>, AllocError> {
+    let mut bytes = bytes_of(alloc, before)?;
     let instr = bytes_of(alloc, digits)?;
     bytes.extend_from_slice(&instr)?;
     Ok(bytes)
@@ -170,16 +186,16 @@ fn is_written_as(alloc: Global, unit: &Unit, bytes: &[u8]) -> Result<bool, CodeF
 }
 
 /// Whether the file of an instruction is read as it, and written again as it was.
-fn is_read_as(alloc: Global, digits: &str, name: &str) -> Result<bool, CodeFault> {
-    let bytes = file_of(alloc, digits)?;
+fn is_read_as(alloc: Global, before: &str, digits: &str, name: &str) -> Result<bool, CodeFault> {
+    let bytes = file_of(alloc, before, digits)?;
     let unit = read_unit(alloc, &bytes)?;
     Ok(is_of(&unit, name) && is_written_as(alloc, &unit, &bytes)?)
 }
 
-/// Whether a line's instruction is the one that it names.
-fn is_line(alloc: Global, line: &str) -> Result<bool, CodeFault> {
+/// Whether a line's instruction is the one that it names, behind what stands before it.
+fn is_line(alloc: Global, before: &str, line: &str) -> Result<bool, CodeFault> {
     match line.split_once(": ") {
-        Some((name, digits)) => is_read_as(alloc, digits, name),
+        Some((name, digits)) => is_read_as(alloc, before, digits, name),
         None => Ok(false),
     }
 }
@@ -187,16 +203,28 @@ fn is_line(alloc: Global, line: &str) -> Result<bool, CodeFault> {
 #[test]
 fn reads_each_instruction(rt: HostRuntime) -> Result<(), Fail> {
     for line in INSTRUCTIONS.lines() {
-        assert!(rt; is_line(rt.alloc(), line)?, "{line}");
+        assert!(rt; is_line(rt.alloc(), BEFORE, line)?, "{line}");
+        assert!(rt; is_line(rt.alloc(), BEFORE_OF_TWO, line)?, "{line}");
     }
     assert!(rt; INSTRUCTIONS.lines().count() == 56);
     Ok(())
 }
 
 #[test]
+fn reads_fold_in_version_two(rt: HostRuntime) -> Result<(), Fail> {
+    for digits in FOLDS.lines() {
+        assert!(rt;
+            is_read_as(rt.alloc(), BEFORE_OF_TWO, digits, "Fold")?,
+            "{digits}"
+        );
+    }
+    Ok(())
+}
+
+#[test]
 fn reads_each_kind(rt: HostRuntime) -> Result<(), Fail> {
     for digits in KINDS.lines() {
-        assert!(rt; is_read_as(rt.alloc(), digits, "Eq")?, "{digits}");
+        assert!(rt; is_read_as(rt.alloc(), BEFORE, digits, "Eq")?, "{digits}");
     }
     Ok(())
 }

@@ -1,5 +1,5 @@
 -- The walk over code, by what the calls for its parts returned.
-use Rattle.std.proofs.Common.{◌≡◌, ℕ, zero, suc, ◌+◌, ◌*◌, ◌<◌, ◌≤◌, List, [], ◌∷◌, ◌++◌, length, Some, refl, sym, ap, subst, ◌∙◌, arith}
+use Rattle.std.proofs.Common.{◌≡◌, ℕ, ◌+◌, ◌<◌, ◌≤◌, List, [], ◌∷◌, ◌++◌, length, Some, refl, sym, ap, subst, ◌∙◌, arith}
 use Rattle.std.specs.Prelude.{max, slice_get, slice_range}
 use Rattle.rule_code.specs.declared.instruction.Instr.{Instr}
 use Rattle.rule_verify.specs.declared.shape.Shape.TheVariants.{Single, OneBody, TwoBodies}
@@ -11,8 +11,8 @@ use Rattle.rule_cost.specs.declared.place.Advance.{Advance}
 use Rattle.rule_cost.specs.declared.place.Total.{Total}
 use Rattle.rule_cost.specs.Bounds.{Cost, more_charges, top_length, length_given, block_length, lengths_bound_by, length_yielded, extra_charge, block_charges, branch_charges, lengths_below, cost_of}
 use Rattle.rule_cost.specs.Limits.{capped, SameCut}
-use Rattle.rule_cost.specs.CostWalk.{surroundings_of_code, IsRange, cost_between, SameLengths, SameCost, Advances, Totals}
-use Rattle.rule_cost.proofs.Cuts.{plus_cut, plus_same, max_same, cut_again}
+use Rattle.rule_cost.specs.CostWalk.{surroundings_of_code, cost_between, SameLengths, SameCost, Advances, Totals}
+use Rattle.rule_cost.proofs.Cuts.{plus_same, max_same, cut_again}
 use Rattle.rule_cost.proofs.Costs.{same_lengths, lengths_back, top_same, yields_same, branch_same, block_same, more_same, cost_along, cost_same}
 
 -- ---- one instruction

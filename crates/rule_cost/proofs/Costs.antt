@@ -1,5 +1,5 @@
 -- Costs of code where lengths are one when they are cut.
-use Rattle.std.proofs.Common.{◌≡◌, ℕ, zero, suc, ◌+◌, ◌*◌, Bool, true, false, List, [], ◌∷◌, ◌++◌, length, drop, Some, refl, sym, ap, ◌∙◌}
+use Rattle.std.proofs.Common.{◌≡◌, ℕ, zero, suc, ◌+◌, ◌-◌, ◌*◌, Bool, true, false, List, [], ◌∷◌, ◌++◌, length, drop, Some, refl, sym, ap, ◌∙◌}
 use Rattle.std.specs.Prelude.{◌==◌, max, if◌then◌else◌}
 use Rattle.imkl_population.specs.Sizes.{Sizes}
 use Rattle.rule_code.specs.declared.instruction.Instr.{Instr}
@@ -7,7 +7,7 @@ use Rattle.rule_code.specs.declared.instruction.Instr.TheVariants as instrs
 use Rattle.rule_verify.specs.CodeTree.{CodeTree, End, Plain, Block, Branch, Torn}
 use Rattle.rule_code.specs.declared.kind.WrittenKind.TheVariants as kinds
 use Rattle.ocl_base.specs.Lists.{variable_at}
-use Rattle.rule_verify.specs.InstrKinds.{Surroundings, operands_of, operands_above}
+use Rattle.rule_verify.specs.InstrKinds.{Surroundings, operands_of, operands_above, bound_count}
 use Rattle.rule_cost.specs.Bounds.{Cost, more_charges, top_length, second_length, or_zero, length_given, block_length, lengths_bound_by, length_yielded, extra_charge, taking_charge, ending_charge, block_charges, branch_charges, lengths_below, cost_of}
 use Rattle.rule_cost.specs.Limits.{SameCut}
 use Rattle.rule_cost.specs.CostWalk.{SameLengths, SameCost}
@@ -80,13 +80,19 @@ given_same s z i vars vars' ls ls' h g = refl
 -- numbers that are one when they are cut give such ones: lengths bound and yielded, charges of an IF and of a block
 pub binds_same : (i : Instr) (l m : ℕ) (vars vars' : List ℕ) → SameCut l m → SameLengths vars vars' → SameLengths (lengths_bound_by i l ++ vars) (lengths_bound_by i m ++ vars')
 binds_same (instrs.Let n) l m vars vars' h g = (h, g)
+binds_same (instrs.Fold k n) l m vars vars' h g = (refl, (refl, g))
 binds_same i l m vars vars' h g = (refl, g)
 
--- the one length that a block binds, put on others
-pub bound_same : (ls : List ℕ) (x : ℕ) (new old : List ℕ) → SameLengths (x ∷ []) ls → new ≡ x ∷ old → SameLengths new (ls ++ old)
-bound_same [] x new old h e = absurd h
-bound_same (l ∷ []) x new old h e = rw e (h.0, same_lengths old)
-bound_same (l ∷ m ∷ ls) x new old h e = absurd h.1
+-- the lengths of the variables that a block binds, put on others: of one, and of two of which the newer is a single value
+pub one_bound : (i : Instr) (l x : ℕ) (new old : List ℕ) → (bound_count i ≡ 2 → ⊥) → SameLengths (x ∷ []) (drop (bound_count i - 1) (lengths_bound_by i l)) → new ≡ x ∷ old → SameLengths new (lengths_bound_by i l ++ old)
+one_bound (instrs.Let n) l x new old one h e = rw e (h.0, same_lengths old)
+one_bound (instrs.Fold k n) l x new old one h e = absurd (one refl)
+one_bound i l x new old one h e = rw e (h.0, same_lengths old)
+
+pub two_bound : (i : Instr) (l x y : ℕ) (new old : List ℕ) → bound_count i ≡ 2 → SameLengths (x ∷ []) (drop (bound_count i - 1) (lengths_bound_by i l)) → SameCut y 0 → new ≡ y ∷ x ∷ old → SameLengths new (lengths_bound_by i l ++ old)
+two_bound (instrs.Let n) l x y new old two h g e = cc
+two_bound (instrs.Fold k n) l x y new old two h g e = rw e (g, (h.0, same_lengths old))
+two_bound i l x y new old two h g e = cc
 
 pub yields_same : (i : Instr) (l m r q : ℕ) → SameCut l m → SameCut r q → SameCut (length_yielded i l r) (length_yielded i m q)
 yields_same (instrs.Let n) l m r q h g = g

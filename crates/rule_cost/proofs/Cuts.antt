@@ -1,11 +1,9 @@
 -- Cut numbers: cutting early or late is the same.
 use Rattle.std.proofs.Common.{◌≡◌, ℕ, zero, suc, ◌+◌, ◌*◌, ◌<◌, ◌≤◌, inl, inr, refl, sym, ap, ◌∙◌, arith}
-use Rattle.std.specs.Prelude.{min, max, true, false, Bool, nat_lt, if◌then◌else◌}
+use Rattle.std.specs.Prelude.{max, false, nat_lt}
 use Rattle.std.proofs.lemmas.Bool.{lt-leb}
 use Rattle.std.proofs.lemmas.Bool.Decides.{leb_tells}
 use Rattle.std.proofs.Math.Nat.{min-eq_left, min-eq_right, le-mul_of_pos_right, mul_comm, mul-zero}
-use Rattle.rule_cost.specs.declared.cut.Bound.{Bound}
-use Rattle.rule_cost.specs.declared.cut.Bound.TheVariants.{Steps, Over}
 use Rattle.rule_cost.specs.Limits.{step_limit, limited_bound, capped, SameCut}
 
 -- ---- sums, products, maxima

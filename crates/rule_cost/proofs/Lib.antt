@@ -1,5 +1,4 @@
 pub mod Cuts
 pub mod Costs
 pub mod CodeWalk
-pub mod Taken
 pub mod Affordable

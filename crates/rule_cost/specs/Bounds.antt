@@ -82,6 +82,7 @@ block_binds_lengths (Some (blocks.Reject n)) l = 0 ∷ []
 block_binds_lengths (Some (blocks.Collect n)) l = 0 ∷ []
 block_binds_lengths (Some (blocks.CollectFlat n)) l = 0 ∷ []
 block_binds_lengths (Some (blocks.IsUnique k n)) l = 0 ∷ []
+block_binds_lengths (Some (blocks.Fold k n)) l = 0 ∷ 0 ∷ []
 
 abbrev pub lengths_bound_by : Instr → ℕ → List ℕ
 lengths_bound_by i l = block_binds_lengths (block_of i) l
@@ -99,6 +100,7 @@ block_yields_length (Some (blocks.Reject n)) l r = l
 block_yields_length (Some (blocks.Collect n)) l r = l
 block_yields_length (Some (blocks.CollectFlat n)) l r = l * r
 block_yields_length (Some (blocks.IsUnique k n)) l r = 0
+block_yields_length (Some (blocks.Fold k n)) l r = 0
 
 abbrev pub length_yielded : Instr → ℕ → ℕ → ℕ
 length_yielded i l r = block_yields_length (block_of i) l r
@@ -133,6 +135,7 @@ block_taking_charge (Some (blocks.Reject n)) m = 0
 block_taking_charge (Some (blocks.Collect n)) m = 0
 block_taking_charge (Some (blocks.CollectFlat n)) m = m
 block_taking_charge (Some (blocks.IsUnique k n)) m = 0
+block_taking_charge (Some (blocks.Fold k n)) m = 0
 
 abbrev pub taking_charge : Instr → ℕ → ℕ
 taking_charge i m = block_taking_charge (block_of i) m
@@ -150,6 +153,7 @@ block_ending_charge (Some (blocks.Reject n)) l = 0
 block_ending_charge (Some (blocks.Collect n)) l = 0
 block_ending_charge (Some (blocks.CollectFlat n)) l = 0
 block_ending_charge (Some (blocks.IsUnique k n)) l = l * l
+block_ending_charge (Some (blocks.Fold k n)) l = 0
 
 abbrev pub ending_charge : Instr → ℕ → ℕ
 ending_charge i l = block_ending_charge (block_of i) l
@@ -173,6 +177,7 @@ block_body_charges (Some (blocks.Reject n)) l b t e = turns_charges l b t e
 block_body_charges (Some (blocks.Collect n)) l b t e = turns_charges l b t e
 block_body_charges (Some (blocks.CollectFlat n)) l b t e = turns_charges l b t e
 block_body_charges (Some (blocks.IsUnique k n)) l b t e = turns_charges l b t e
+block_body_charges (Some (blocks.Fold k n)) l b t e = turns_charges l b t e
 
 -- the same, by the length of what its body ends with
 abbrev pub block_charges : Instr → ℕ → ℕ → ℕ → ℕ

@@ -1,6 +1,5 @@
 -- The walk over code: how it stands to the bounds of code trees.
 use Rattle.std.specs.Prelude.{◌≡◌, ◌<◌, ◌≤◌, ℕ, List, [], ◌∷◌, length, All, slice_range}
-use Rattle.imkl_model.specs.WellFormed.{IsClassModel}
 use Rattle.imkl_population.specs.Sizes.{Sizes, list_below}
 use Rattle.rule_code.specs.Content.{Content}
 use Rattle.rule_code.specs.WellFormed.{InstrFits}

@@ -1,8 +1,8 @@
 //! What instructions make of lengths, and what they are charged.
 
-ghost use Rattle.std.specs.Prelude.{◌≡◌, ◌+◌, ◌++◌, ◌∷◌, [], drop, length, OnOk};
+ghost use Rattle.std.specs.Prelude.{◌≡◌, ◌+◌, ◌-◌, ◌++◌, ◌∷◌, [], drop, length, OnOk};
 ghost use Rattle.rule_code.specs.WellFormed.{InstrFits};
-ghost use Rattle.rule_verify.specs.InstrKinds.{bound_count};
+ghost use Rattle.rule_verify.specs.InstrKinds.{block_bound_count, bound_count};
 ghost use Rattle.rule_cost.specs.Bounds as spec;
 ghost use Rattle.rule_cost.specs.Limits.{SameCut};
 ghost use Rattle.rule_cost.specs.CostWalk.{IsSizedCode, SameLengths, surroundings_of_code};
@@ -13,7 +13,7 @@ use crate::operands::{second_length, top_length};
 use crate::sized::SizedCode;
 use ocl_base::Stack;
 use rule_code::{Instr, WrittenKind};
-use rule_verify::{BlockInstr, block_of};
+use rule_verify::{BlockInstr, block_of, bound_count};
 use std::alloc::AllocError;
 
 /// The length of what an instruction without a body gives.
@@ -41,26 +41,33 @@ pub(crate) fn length_given(
     }
 }
 
-/// The length of the variable that a block with one body binds, by that of the operand that it works on.
+/// The length of the variable that a block with one body binds first, by that of the operand that it works on.
 fn bound_length(block: Option<BlockInstr>, source: Cut) -> Cut
-    ensures { SameLengths (result ∷ []) (spec.block_binds_lengths block source) }
+    ensures { SameLengths (result ∷ []) (drop (block_bound_count block - 1)
+        (spec.block_binds_lengths block source)) }
 {
     match block {
         Some(BlockInstr::Let(_)) => source,
         Some(BlockInstr::ForAll(_) | BlockInstr::Exists(_) | BlockInstr::One(_)) => Cut::new(0),
         Some(BlockInstr::Select(_) | BlockInstr::Reject(_)) => Cut::new(0),
         Some(BlockInstr::Collect(_) | BlockInstr::CollectFlat(_)) => Cut::new(0),
-        Some(BlockInstr::IsUnique(_, _) | BlockInstr::If(_, _, _)) | None => Cut::new(0),
+        Some(BlockInstr::IsUnique(_, _) | BlockInstr::Fold(_, _)) => Cut::new(0),
+        Some(BlockInstr::If(_, _, _)) | None => Cut::new(0),
     }
 }
 
-/// Binds the variables of a block with one body, by the length of the operand that it works on.
+/// Binds the variables of a block with one body, by the length of the operand that it works on. A second one is a single
+/// value.
 pub(crate) fn bind(variables: &mut Stack<Cut>, instr: Instr, source: Cut) -> Result<(), AllocError>
     ensures bound { OnOk result (SameLengths variables.new
         (spec.lengths_bound_by instr source ++ variables.old)) }
     ensures kept { OnOk result (variables.old ≡ drop (bound_count instr) variables.new) }
 {
-    variables.push(bound_length(block_of(instr), source))
+    variables.push(bound_length(block_of(instr), source))?;
+    if bound_count(instr) == 2 {
+        variables.push(Cut::new(0))?;
+    }
+    Ok(())
 }
 
 /// The length of what a block with one body gives, by those of its operand and of what the body
@@ -73,7 +80,8 @@ pub(crate) fn length_yielded(block: Option<BlockInstr>, source: Cut, ended: Cut)
         Some(BlockInstr::ForAll(_) | BlockInstr::Exists(_) | BlockInstr::One(_)) => Cut::new(0),
         Some(BlockInstr::Select(_) | BlockInstr::Reject(_) | BlockInstr::Collect(_)) => source,
         Some(BlockInstr::CollectFlat(_)) => source.times(ended),
-        Some(BlockInstr::If(_, _, _) | BlockInstr::IsUnique(_, _)) | None => Cut::new(0),
+        Some(BlockInstr::IsUnique(_, _) | BlockInstr::Fold(_, _)) => Cut::new(0),
+        Some(BlockInstr::If(_, _, _)) | None => Cut::new(0),
     }
 }
 
@@ -107,8 +115,8 @@ fn taking_charge(block: Option<BlockInstr>, ended: Cut) -> Cut
         Some(BlockInstr::CollectFlat(_)) => ended,
         Some(BlockInstr::ForAll(_) | BlockInstr::Exists(_) | BlockInstr::One(_)) => Cut::new(0),
         Some(BlockInstr::Select(_) | BlockInstr::Reject(_) | BlockInstr::Collect(_)) => Cut::new(0),
-        Some(BlockInstr::IsUnique(_, _) | BlockInstr::Let(_)) => Cut::new(0),
-        Some(BlockInstr::If(_, _, _)) | None => Cut::new(0),
+        Some(BlockInstr::IsUnique(_, _) | BlockInstr::Fold(_, _)) => Cut::new(0),
+        Some(BlockInstr::Let(_) | BlockInstr::If(_, _, _)) | None => Cut::new(0),
     }
 }
 
@@ -120,8 +128,8 @@ fn ending_charge(block: Option<BlockInstr>, source: Cut) -> Cut
         Some(BlockInstr::IsUnique(_, _)) => source.times(source),
         Some(BlockInstr::ForAll(_) | BlockInstr::Exists(_) | BlockInstr::One(_)) => Cut::new(0),
         Some(BlockInstr::Select(_) | BlockInstr::Reject(_) | BlockInstr::Collect(_)) => Cut::new(0),
-        Some(BlockInstr::CollectFlat(_) | BlockInstr::Let(_)) => Cut::new(0),
-        Some(BlockInstr::If(_, _, _)) | None => Cut::new(0),
+        Some(BlockInstr::CollectFlat(_) | BlockInstr::Fold(_, _)) => Cut::new(0),
+        Some(BlockInstr::Let(_) | BlockInstr::If(_, _, _)) | None => Cut::new(0),
     }
 }
 
@@ -149,6 +157,7 @@ pub(crate) fn block_charges(block: Option<BlockInstr>, source: Cut, body: Cut, e
         Some(BlockInstr::ForAll(_) | BlockInstr::Exists(_) | BlockInstr::One(_)) => turns,
         Some(BlockInstr::Select(_) | BlockInstr::Reject(_) | BlockInstr::Collect(_)) => turns,
         Some(BlockInstr::CollectFlat(_) | BlockInstr::IsUnique(_, _)) => turns,
+        Some(BlockInstr::Fold(_, _)) => turns,
         Some(BlockInstr::If(_, _, _)) | None => turns,
     }
 }

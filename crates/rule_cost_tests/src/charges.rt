@@ -66,6 +66,14 @@ self; attr Box.none; isunique Integer 1; get 1 -> 4
 self; attr Box.three; collectflat 2; self; attr Box.many; isempty -> 26
 self; attr Box.many; collectflat 2; self; attr Box.three; isempty -> 29
 self; attr Box.three; collectflat 2; self; attr Box.none; isempty -> 14
+# FOLD is charged like other iterations, by the length of its source: 3 + 2 + 3 * (1 + 3) + 2
+self; attr Box.three; int 0; fold Integer 3; get 1; get 2; add; int 5; gt -> 19
+self; attr Box.three; true; fold Boolean 5; get 2; get 1; int 9; lt; and -> 23
+self; attr Box.none; int 0; fold Integer 1; get 2; int 5; gt -> 7
+# one in the body of another, in its start value, and behind a source that is selected
+self; attr Box.three; int 0; fold Integer 5; self; attr Box.many; get 2; fold Integer 1; get 4; int 5; gt -> 49
+self; attr Box.many; self; attr Box.three; int 0; fold Integer 1; get 1; fold Integer 1; get 1; int 5; gt -> 25
+self; attr Box.three; select 1; true; int 0; fold Integer 1; get 2; int 5; gt -> 21
 # one in the body of another: 2 + 2 + 3 * (1 + 2 + (2 + 4 * 2 + 4 * 4))
 self; attr Box.three; forall 4; self; attr Box.many; isunique Integer 1; get 1 -> 91
 ";

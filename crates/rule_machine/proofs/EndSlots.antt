@@ -14,11 +14,11 @@ use Rattle.std.proofs.lemmas.Bool.{and_from, ne_eqb, lt-ltb}
 use Rattle.rule_code.specs.declared.instruction.Instr.{Instr}
 use Rattle.rule_code.specs.declared.instruction.Instr.TheVariants as instrs
 use Rattle.rule_verify.specs.CodeTree.{CodeTree}
-use Rattle.rule_verify.specs.InstrKinds.{scalar_meant, ends_with}
+use Rattle.rule_verify.specs.InstrKinds.{scalar_meant, operands_above, ends_with}
 use Rattle.rule_values.specs.Value as value
 use Rattle.rule_values.specs.Value.{Element, Value, as_element, same_element, truth_value, is_in, is_scalar_in, is_element_in}
 use Rattle.rule_values.specs.Operations.{is_true, is_false, is_invalid}
-use Rattle.rule_values.specs.Endings.{Source, kept_by, joined, collection_elements, is_undecided, count_true, ending}
+use Rattle.rule_values.specs.Endings.{Source, kept_by, joined, collection_elements, is_undecided, count_true, accumulator, ending}
 use Rattle.rule_machine.specs.Machine.{Setting, judged_by, is_what}
 use Rattle.rule_slots.specs.declared.slot.Slot.{Slot}
 use Rattle.rule_slots.specs.declared.slot.Mark.{Mark}
@@ -27,7 +27,8 @@ use Rattle.rule_machine.specs.declared.control.Turn.{Turn}
 use Rattle.rule_slots.specs.Slots.{Lists, ElementIs, ElementsAre, PartIs, SlotIs, plain_mark, invalid_mark, held_slots, truth_slot, invalid_slot, truth_number}
 use Rattle.rule_slots.specs.Operands.{is_number}
 use Rattle.rule_slots.proofs.ForAbove.{truth_by, known_is, truth_operand}
-use Rattle.rule_machine.specs.StandFor.{TurnIs, kept_elements, kept_slots, kept_part, gives_part, gives_truths, count_passing, all_decided, ending_slot}
+use Rattle.rule_machine.specs.StandFor.{IsNoCollection, KeepsLast, TurnIs, kept_elements, kept_slots, kept_part, gives_part, gives_truths, count_passing, all_decided, ending_slot}
+use Rattle.rule_machine.proofs.KeptValues.{no_collection}
 use Rattle.rule_machine.proofs.Keeps.{kept_one, element_list, kept_by_more, elements_more, joined_more, all_is_count, any_is_count, undecided_is_count}
 
 -- ---- what a turn adds
@@ -58,17 +59,13 @@ by_invalid l mark.Invalid ss e = tt
 by_invalid l mark.Plain ss e = cc
 by_invalid l mark.Null ss e = cc
 
-abbrev IsSingle : Value → Type 0
-IsSingle (value.Collection c es) = ⊥
-IsSingle b = Unit {0}
-
 -- a collection, or invalid
 abbrev pub IsMany : Value → Type 0
 IsMany (value.Collection c es) = Unit {0}
 IsMany value.Invalid = Unit {0}
 IsMany b = ⊥
 
-adds_single : (l : Lists) (p : List Slot) (hi : ℕ) (y : Slot) (b : Value) → IsSingle b → SlotIs l p hi y b → ElementsAre l (if invalid_mark y.mark then [] else y ∷ []) (element_list (as_element b))
+adds_single : (l : Lists) (p : List Slot) (hi : ℕ) (y : Slot) (b : Value) → IsNoCollection b → SlotIs l p hi y b → ElementsAre l (if invalid_mark y.mark then [] else y ∷ []) (element_list (as_element b))
 adds_single l p hi y value.Invalid k h = by_invalid l y.mark (y ∷ []) h
 adds_single l p hi y value.Null k h = by_null l y.mark (y ∷ []) (None ∷ []) h (h, tt)
 adds_single l p hi y (value.Single v) k h = by_mark l y.mark (y ∷ []) (Some v ∷ []) h.0 (h, tt)
@@ -79,13 +76,9 @@ adds_many l p hi y value.Invalid k h = by_invalid l y.mark (held_slots l p y) h
 adds_many l p hi y (value.Collection c es) k h = by_mark l y.mark (held_slots l p y) es h.0 h.1.elements
 adds_many l p hi y b k h = absurd k
 
-single_what : (pop : Population) (b : Value) → is_what pop AnySingle b ≡ true → IsSingle b
+single_what : (pop : Population) (b : Value) → is_what pop AnySingle b ≡ true → IsNoCollection b
 single_what pop (value.Collection c es) k = cc
 single_what pop b k = tt
-
-single_in : (pop : Population) (b : Value) (k : ScalarKind) → is_in pop b (kind.Scalar k) ≡ true → IsSingle b
-single_in pop (value.Collection c es) k h = cc
-single_in pop b k h = tt
 
 -- what fits a collection of any kind is one, or invalid
 pub many_what : (pop : Population) (b : Value) → is_what pop AnyCollection b ≡ true → IsMany b
@@ -102,7 +95,7 @@ adds s l p hi (instrs.Select n) e y es bs b x rest d h k w =
 adds s l p hi (instrs.Reject n) e y es bs b x rest d h k w =
     (kept_one (is_false b) x, kept_if l e x (is_number y (pos 0)) (is_false b) (truth_by l p hi y b k (truth_operand s.population b w)).1 h, kept_by_more is_false es bs b x rest d)
 adds s l p hi (instrs.Collect n) e y es bs b x rest d h k w = (element_list (as_element b), adds_single l p hi y b (single_what s.population b w) k, elements_more bs b)
-adds s l p hi (instrs.IsUnique q n) e y es bs b x rest d h k w = (element_list (as_element b), adds_single l p hi y b (single_in s.population b _ w) k, elements_more bs b)
+adds s l p hi (instrs.IsUnique q n) e y es bs b x rest d h k w = (element_list (as_element b), adds_single l p hi y b (no_collection s.population _ b w) k, elements_more bs b)
 adds s l p hi (instrs.CollectFlat n) e y es bs b x rest d h k w = (collection_elements b, adds_many l p hi y b (many_what s.population b w) k, joined_more bs b)
 adds s l p hi j e y es bs b x rest d h k w = ([], tt, refl)
 
@@ -155,54 +148,56 @@ module _ (s : Setting) (l : Lists) (code : List Instr) (p : List Slot) (t : Turn
   unique_in q n e =
       elements_in s.population (scalar_meant (judged_by s) q) bodies (subst (λ j. AllByRecursion (λ b. is_what s.population (ends_with (judged_by s) j) b ≡ true) bodies) e h.fitting)
 
-  by_instr : (j : Instr) (distinct : Bool) → t.instr ≡ j → ((q : WrittenScalar) (n : ℕ) → j ≡ instrs.IsUnique q n → distinct ≡ not (repeats same_element (filter_map as_element bodies))) → SlotIs l p (length p) (ending_slot j t distinct) (ending j source bodies)
-  by_instr (instrs.ForAll n) x e k =
+  -- an iteration that keeps its bodies gives what its elements and bodies give
+  by_bodies : (j : Instr) (distinct : Bool) (last : Slot) → t.instr ≡ j → operands_above j ≡ 0 → ((q : WrittenScalar) (n : ℕ) → j ≡ instrs.IsUnique q n → distinct ≡ not (repeats same_element (filter_map as_element bodies))) → SlotIs l p (length p) (ending_slot j t distinct last) (ending j source bodies)
+  by_bodies (instrs.ForAll n) x last e one k =
       known_is l p (length p) (t.trues == t.next) (nat_lt 0 t.falses) (list_all is_true bodies) (list_any is_false bodies)
       (rw (h.trues (ap gives_truths e), sym turns) (sym (all_is_count is_true bodies))) (rw (h.falses (ap gives_truths e)) (sym (any_is_count is_false bodies)))
-  by_instr (instrs.Exists n) x e k =
+  by_bodies (instrs.Exists n) x last e one k =
       known_is l p (length p) (nat_lt 0 t.trues) (t.falses == t.next) (list_any is_true bodies) (list_all is_false bodies)
       (rw (h.trues (ap gives_truths e)) (sym (any_is_count is_true bodies))) (rw (h.falses (ap gives_truths e), sym turns) (sym (all_is_count is_false bodies)))
-  by_instr (instrs.One n) x e k =
+  by_bodies (instrs.One n) x last e one k =
       given_if l p (length p) (truth_slot (t.trues == 1)) (truth_value (count_true bodies == 1)) (all_decided t) (list_any is_undecided bodies) (undecided_is (ap gives_truths e))
       (refl, ap (λ m. truth_number (m == 1)) (h.trues (ap gives_truths e) ∙ sym (counts_true bodies)))
-  by_instr (instrs.Select n) x e k =
+  by_bodies (instrs.Select n) x last e one k =
       given_if l p (length p) (kept_part t) (value.Collection source.kind (kept_by is_true source.elements bodies)) (all_decided t) (list_any is_undecided bodies) (undecided_is (ap gives_truths e))
       (part_kept source.kind (kept_by is_true source.elements bodies) (ap (λ j. kept_elements j source.elements bodies) e))
-  by_instr (instrs.Reject n) x e k =
+  by_bodies (instrs.Reject n) x last e one k =
       given_if l p (length p) (kept_part t) (value.Collection source.kind (kept_by is_false source.elements bodies)) (all_decided t) (list_any is_undecided bodies) (undecided_is (ap gives_truths e))
       (part_kept source.kind (kept_by is_false source.elements bodies) (ap (λ j. kept_elements j source.elements bodies) e))
-  by_instr (instrs.Collect n) x e k =
+  by_bodies (instrs.Collect n) x last e one k =
       given_if l p (length p) (kept_part t) (value.Collection (collected_kind source.kind) (filter_map as_element bodies)) (t.invalids == 0) (list_any is_invalid bodies) invalids_are
       (part_kept (collected_kind source.kind) (filter_map as_element bodies) (ap (λ j. kept_elements j source.elements bodies) e))
-  by_instr (instrs.CollectFlat n) x e k =
+  by_bodies (instrs.CollectFlat n) x last e one k =
       given_if l p (length p) (kept_part t) (value.Collection (collected_kind source.kind) (joined bodies)) (t.invalids == 0) (list_any is_invalid bodies) invalids_are
       (part_kept (collected_kind source.kind) (joined bodies) (ap (λ j. kept_elements j source.elements bodies) e))
-  by_instr (instrs.IsUnique q n) x e k =
+  by_bodies (instrs.IsUnique q n) x last e one k =
       given_if l p (length p) (truth_slot x) (truth_value (not (repeats same_element (filter_map as_element bodies)))) (t.invalids == 0) (list_any is_invalid bodies) invalids_are
       (refl, ap truth_number (k q n refl))
-  by_instr j x e k = refl
+  by_bodies (instrs.Fold q n) x last e one k = cc
+  by_bodies j x last e one k = refl
 
-  -- at its end an iteration gives what its elements and bodies give
-  pub ending_is : (distinct : Bool) → ((q : WrittenScalar) (n : ℕ) → t.instr ≡ instrs.IsUnique q n → distinct ≡ not (repeats same_element (filter_map as_element bodies))) → SlotIs l p (length p) (ending_slot t.instr t distinct) (ending i source bodies)
-  ending_is x k = subst (λ j. SlotIs l p (length p) (ending_slot t.instr t x) (ending j source bodies)) (sym h.same_instr) (by_instr t.instr x refl k)
+  by_kept : (j : Instr) (distinct : Bool) (last : Slot) (kept : List Value) → t.instr ≡ j → KeepsLast l p j bodies last kept → ((q : WrittenScalar) (n : ℕ) → j ≡ instrs.IsUnique q n → distinct ≡ not (repeats same_element (filter_map as_element bodies))) → SlotIs l p (length p) (ending_slot j t distinct last) (ending j source kept)
+  by_kept (instrs.Fold q n) x last kept e w k = subst (λ bs. SlotIs l p (length p) last (accumulator bs)) (sym w.1) w.2
+  by_kept j x last kept e w k = subst (λ bs. SlotIs l p (length p) (ending_slot j t x last) (ending j source bs)) (sym w) (by_bodies j x last e refl k)
+
+  -- at its end an iteration gives what its elements and what it kept give
+  pub ending_is : (distinct : Bool) (last : Slot) (kept : List Value) → ((q : WrittenScalar) (n : ℕ) → t.instr ≡ instrs.IsUnique q n → distinct ≡ not (repeats same_element (filter_map as_element bodies))) → KeepsLast l p i bodies last kept → SlotIs l p (length p) (ending_slot t.instr t distinct last) (ending i source kept)
+  ending_is x last kept k w =
+      subst (λ j. SlotIs l p (length p) (ending_slot t.instr t x last) (ending j source kept)) (sym h.same_instr) (by_kept t.instr x last kept refl (subst (λ j. KeepsLast l p j bodies last kept) h.same_instr w) k)
 
 -- ---- what is given, and the pool
 
--- a value that is no collection has its slot under any pool
-pub outside : (l : Lists) (p q : List Slot) (hi hi' : ℕ) (s : Slot) (v : Value) → ((c : CollectionKind) (es : List Element) → v ≡ value.Collection c es → ⊥) → SlotIs l p hi s v → SlotIs l q hi' s v
-outside l p q hi hi' s value.Invalid none h = h
-outside l p q hi hi' s value.Null none h = h
-outside l p q hi hi' s (value.Single v) none h = h
-outside l p q hi hi' s (value.Collection c es) none h = absurd (none c es refl)
-
 -- an iteration that doesn't give what it keeps gives no collection
-pub gives_none : (l : Lists) (p : List Slot) (hi : ℕ) (i : Instr) (source : Source) (bodies : List Value) (gives : Slot) → gives_part i gives ≡ false → SlotIs l p hi gives (ending i source bodies) → (c : CollectionKind) (es : List Element) → ending i source bodies ≡ value.Collection c es → ⊥
-gives_none l p hi (instrs.IsUnique k n) source bodies gives e h c es q = by_test (list_any is_invalid bodies) q
+pub gives_none : (l : Lists) (p : List Slot) (hi : ℕ) (i : Instr) (source : Source) (bodies kept : List Value) (last gives : Slot) → KeepsLast l p i bodies last kept → gives_part i gives ≡ false → SlotIs l p hi gives (ending i source kept) → IsNoCollection (ending i source kept)
+gives_none l p hi (instrs.IsUnique k n) source bodies kept last gives w e h = by_test (list_any is_invalid kept)
   where
-    by_test : (b : Bool) → (if b then value.Invalid else truth_value (not (repeats same_element (filter_map as_element bodies)))) ≡ value.Collection c es → ⊥
-    by_test true q = cc
-    by_test false q = cc
-gives_none l p hi i source bodies gives e h c es q =
-    let k : SlotIs l p hi gives (value.Collection c es) = subst (SlotIs l p hi gives) q h in
-    let f : plain_mark gives.mark ≡ true = ap plain_mark k.0 in
-    cc
+    by_test : (b : Bool) → IsNoCollection (if b then value.Invalid else truth_value (not (repeats same_element (filter_map as_element kept))))
+    by_test true = tt
+    by_test false = tt
+gives_none l p hi (instrs.Fold k n) source bodies kept last gives w e h = subst (λ bs. IsNoCollection (accumulator bs)) (sym w.1) w.3
+gives_none l p hi i source bodies kept last gives w e h = by_value (ending i source kept) h
+  where
+    by_value : (v : Value) → SlotIs l p hi gives v → IsNoCollection v
+    by_value (value.Collection c es) k = let f : plain_mark gives.mark ≡ true = ap plain_mark k.0 in cc
+    by_value v k = tt

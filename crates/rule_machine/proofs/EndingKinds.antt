@@ -24,7 +24,7 @@ use Rattle.rule_verify.specs.InstrKinds.{ends_with, collected}
 use Rattle.rule_values.specs.Value as value
 use Rattle.rule_values.specs.Value.{Element, Value, truth_value, as_element, same_element, is_element_in, are_elements, is_collection_in, is_in}
 use Rattle.rule_values.specs.Operations.{is_true, is_false, is_invalid}
-use Rattle.rule_values.specs.Endings.{Source, is_undecided, kept_by, collection_elements, joined, count_true, ending, for_all, exists, collect, collect_flat}
+use Rattle.rule_values.specs.Endings.{Source, is_undecided, kept_by, collection_elements, joined, count_true, accumulator, ending, for_all, exists, collect, collect_flat}
 use Rattle.rule_machine.specs.Machine.{Setting, judged_by}
 use Rattle.rule_machine.specs.Places.{Place, place, long, At, EachAt, kept_place, yielded}
 use Rattle.rule_machine.specs.Live.{is_iteration, HasKept, turns_kept}
@@ -182,7 +182,12 @@ module _ (s : Setting) where
       } in
       invalid_or (list_any is_invalid bs) _ _ at
 
-  -- what an iteration gives, by its source and by what its body gave for each element
+  -- the accumulator stands at the place of what is kept
+  accumulator_at : (bs : List Value) (t : Place) (v : Value) → bs ≡ v ∷ [] → EachAt s t bs → At s (accumulator bs) t
+  accumulator_at [] t v e each = cc
+  accumulator_at (b ∷ bs) t v e each = each.0
+
+  -- what an iteration gives, by its source and by what it kept
   pub ending_at : (i : Instr) (source : Source) (bs : List Value) (p r : Place) → is_iteration i ≡ true → At s (value.Collection source.kind source.elements) p → matches s.population.model (ends_with (judged_by s) i) r.kind ≡ true → EachAt s (kept_place s i r) bs → HasKept i bs → turns_kept i bs ≤ length source.elements → At s (ending i source bs) (yielded s i p r)
   ending_at (instrs.ForAll n) source bs p r it a m each has le = single_at s (for_all bs) element.Boolean 0 (truth_single s.population _ _)
   ending_at (instrs.Exists n) source bs p r it a m each has le = single_at s (exists bs) element.Boolean 0 (truth_single s.population _ _)
@@ -192,4 +197,5 @@ module _ (s : Setting) where
   ending_at (instrs.Collect n) source bs p r it a m each has le = collect_at source bs p r r.kind refl m a each le
   ending_at (instrs.CollectFlat n) source bs p r it a m each has le = collect_flat_at source bs p r r.kind refl m a each le
   ending_at (instrs.IsUnique k n) source bs p r it a m each has le = invalid_or (list_any is_invalid bs) _ _ (truth_at (not (repeats same_element (filter_map as_element bs))))
+  ending_at (instrs.Fold k n) source bs p r it a m each has le = accumulator_at bs _ has.0 has.1 each
   ending_at i source bs p r it a m each has le = cc

@@ -3,28 +3,33 @@ use Rattle.std.proofs.Common.{◌≡◌, ℕ, suc, ◌+◌, ◌-◌, ◌<◌, �
 use Rattle.std.specs.Prelude.{◌&&◌, IsSome, slice_get, slice_range, option_and_then, pos, if◌then◌else◌}
 use Rattle.std.specs.Option.{option_map}
 use Rattle.std.proofs.lemmas.Option.{slice_get-get_or}
+use Rattle.ocl_base.specs.declared.collection_kind.CollectionKind.{CollectionKind}
+use Rattle.ocl_kinds.specs.declared.kind.Kind.TheVariants as kind
 use Rattle.rule_code.specs.declared.instruction.Instr.{Instr}
 use Rattle.rule_code.specs.declared.instruction.Instr.TheVariants as instrs
 use Rattle.rule_verify.specs.CodeTree.{CodeTree, End, Plain, Block, Branch, code_tree, shape_of}
 use Rattle.rule_verify.specs.declared.shape.Shape.TheVariants.{Single, OneBody, TwoBodies}
-use Rattle.rule_verify.specs.InstrKinds.{has_names, operands_of, operands_above}
+use Rattle.rule_verify.specs.declared.pattern.Pattern.TheVariants.{Fitting, AnyCollection}
+use Rattle.rule_verify.specs.InstrKinds.{has_names, scalar_meant, operands_of, operands_above}
 use Rattle.rule_verify.proofs.ForAbove.{stretch_none, tree_plain, tree_block, tree_branch, tree_torn, tree_torn_branch}
 use Rattle.rule_values.specs.Value as value
 use Rattle.rule_values.specs.Value.{Element, Value}
 use Rattle.rule_values.specs.Endings.{Source}
-use Rattle.rule_machine.specs.Machine.{Setting, judged_by, are_what, operands_below, result_of, performed, Piece, Sequence, LetEnd, Opened, Skipped, Configuration, configuration, branched, opened_over, block_opened, on_operand, step}
-use Rattle.rule_machine.specs.Live.{is_iteration}
+use Rattle.rule_machine.specs.Machine.{Setting, judged_by, is_what, are_what, operands_below, result_of, performed, Piece, Sequence, LetEnd, Opened, Skipped, Configuration, configuration, branched, opened_over, block_opened, on_operand, step}
+use Rattle.rule_machine.specs.Live.{HasBody, is_iteration}
 use Rattle.rule_machine.specs.declared.task.Task.{Task}
 use Rattle.rule_machine.specs.Shown.{code_in, HasNext}
 use Rattle.imkl_population.specs.declared.scalar.Scalar.TheVariants as scalar
 use Rattle.std.specs.Ordering.{int_eq}
-use Rattle.rule_machine.proofs.Blocks.{none_above, block_takes_one, branch_takes, none_opened, iteration_opens}
+use Rattle.rule_machine.proofs.Blocks.{block_takes_one, branch_takes, none_opened, iteration_opens}
 use Rattle.rule_slots.specs.declared.slot.Slot.{Slot}
+use Rattle.rule_slots.specs.declared.slot.Mark.TheVariants as mark
 use Rattle.rule_machine.specs.declared.control.Control.{Control}
 use Rattle.rule_machine.specs.declared.control.Control.TheVariants as control
-use Rattle.rule_slots.specs.Slots.{Lists, ElementsAre, SlotIs, SlotsAre, plain_mark, invalid_slot}
+use Rattle.rule_slots.specs.Slots.{Lists, ElementsAre, PartIs, SlotIs, SlotsAre, plain_mark, invalid_slot}
 use Rattle.rule_machine.specs.Counts.{Balanced, LeavesOne}
-use Rattle.rule_machine.specs.StandFor.{TurnIs, StandsFor, TopStandsFor, IsAt, GivesSlot, CanPerform, StepsTo, kept_elements, opening_turn, opening_mark, choice_slot}
+use Rattle.rule_machine.specs.StandFor.{IsNoCollection, KeepsStart, TurnIs, StandsFor, TopStandsFor, IsAt, GivesSlot, CanPerform, StepsTo, kept_elements, opening_turn, opening_mark, choice_slot}
+use Rattle.rule_machine.proofs.KeptValues.{no_collection}
 use Rattle.rule_machine.proofs.Segments.{stand_same}
 use Rattle.rule_machine.proofs.Stacks.{ops_pop, ops_push, vars_push, ops_drop, all_vars, all_ops}
 use Rattle.rule_machine.proofs.Counted.{body_above}
@@ -255,19 +260,19 @@ module _ (s : Setting) (l : Lists) (code : List Instr) where
         rest_ends : Balanced s rest (suc k) m
         later : LeavesOne s h.pieces h.v m
 
-      below : at + 1 + n ≤ end → (o : Slot) (os1 : List Slot) (x : Value) (ops1 : List Value) → os ≡ o ∷ os1 → h.ops ≡ x ∷ ops1 → Below o os1 x ops1
-      below nests o os1 x ops1 e f =
+      below : operands_above i ≡ 0 → at + 1 + n ≤ end → (o : Slot) (os1 : List Slot) (x : Value) (ops1 : List Value) → os ≡ o ∷ os1 → h.ops ≡ x ∷ ops1 → Below o os1 x ops1
+      below above nests o os1 x ops1 e f =
           let b = ends_at (Block i body rest) (tree_block code at end i lt le here n shape nests) in
-          let one : h.n ≡ suc b.1.0 = omega (arith, b.1.1, block_takes_one (judged_by s) i (n, shape) (none_above i)) in
+          let one : h.n ≡ suc b.1.0 = omega (arith, b.1.1, block_takes_one (judged_by s) i (n, shape) above) in
           let st = subst (λ m. StandsFor s l code p (length p) h.v m cs vs (o ∷ os1) h.pieces h.vars (x ∷ ops1)) one (subst (λ y. StandsFor s l code p (length p) h.v h.n cs vs y h.pieces h.vars (x ∷ ops1)) e (subst (λ y. StandsFor s l code p (length p) h.v h.n cs vs os h.pieces h.vars y) f (h.stand lt))) in
           let r = ops_pop s l code p (length p) h.v b.1.0 cs vs o os1 h.pieces h.vars x ops1 st in
           record { k = b.1.0; m = b.0; operand = r.0; left = r.1; body_ends = b.1.2; rest_ends = b.1.3; later = b.2 }
 
       -- a LET binds its operand and enters its body
-      pub let_steps : (y : ℕ) → i ≡ instrs.Let y → at + 1 + n ≤ end → (o : Slot) (os1 : List Slot) → os ≡ o ∷ os1 → StepsTo s l code p (at + 1) (at + 1 + n) (control.LetEnd ∷ control.Rest (at + 1 + n) end ∷ cs) (o ∷ vs) os1 c
-      let_steps y is nests o os1 e =
-          let t = block_taken (none_above i) nests o os1 e in
-          let b = below nests o os1 t.value t.rest_values e t.are in
+      pub let_steps : operands_above i ≡ 0 → (y : ℕ) → i ≡ instrs.Let y → at + 1 + n ≤ end → (o : Slot) (os1 : List Slot) → os ≡ o ∷ os1 → StepsTo s l code p (at + 1) (at + 1 + n) (control.LetEnd ∷ control.Rest (at + 1 + n) end ∷ cs) (o ∷ vs) os1 c
+      let_steps above y is nests o os1 e =
+          let t = block_taken above nests o os1 e in
+          let b = below above nests o os1 t.value t.rest_values e t.are in
           let pushed = vars_push s l code p (length p) h.v b.k cs o vs os1 h.pieces t.value h.vars t.rest_values b.operand b.left in
           record {
             next = configuration (Sequence body ∷ LetEnd ∷ after) (t.value ∷ h.vars) t.rest_values;
@@ -287,43 +292,179 @@ module _ (s : Setting) (l : Lists) (code : List Instr) where
       kept_none (instrs.CollectFlat x) es = refl
       kept_none j es = refl
 
+      -- before its first turn an iteration over a collection stands at its first element
+      opened_turn : (o : Slot) (k : CollectionKind) (es : List Element) → PartIs l p (length p) o es → TurnIs s l code p (length p) (opening_turn i (at + 1) (at + 1 + n) o (length p)) i body (record { kind = k; elements = es }) es []
+      opened_turn o k es part =
+          let none : slice_range p (length p) (length p + 0) ≡ [] = let e : length p + 0 - length p ≡ 0 = omega arith in ap (λ x. take x (drop (length p) p)) e in
+          let keeps : ElementsAre l (slice_range p (length p) (length p + 0)) (kept_elements i es []) = rw (none, kept_none i es) tt in
+          record { same_instr = refl; same_body = refl; part = part; rest = refl; above = omega arith; keeps = keeps; trues = λ q. refl; falses = λ q. refl; invalids = refl; fitting = tt }
+
+      -- its mark says that it is opened, and over invalid that it is skipped
+      opened_mark : (o : Slot) → o.mark ≡ mark.Plain → opening_mark i (at + 1) (at + 1 + n) o (length p) ≡ control.Opened (opening_turn i (at + 1) (at + 1 + n) o (length p))
+      opened_mark o e = ap (λ m. if plain_mark m then control.Opened (opening_turn i (at + 1) (at + 1 + n) o (length p)) else control.Skipped) e
+
+      skipped_mark : (o : Slot) → o.mark ≡ mark.Invalid → opening_mark i (at + 1) (at + 1 + n) o (length p) ≡ control.Skipped
+      skipped_mark o e = ap (λ m. if plain_mark m then control.Opened (opening_turn i (at + 1) (at + 1 + n) o (length p)) else control.Skipped) e
+
+      -- an iteration that keeps no start value leaves none
+      nothing_started : (j : Instr) (os1 : List Slot) → operands_above j ≡ 0 → KeepsStart l p j os1 []
+      nothing_started (instrs.Fold k x) os1 one = cc
+      nothing_started j os1 one = refl
+
       -- an iteration puts a mark that it is opened, or skipped over invalid
-      pub iteration_steps : is_iteration i ≡ true → at + 1 + n ≤ end → (o : Slot) (os1 : List Slot) → os ≡ o ∷ os1
+      pub iteration_steps : operands_above i ≡ 0 → is_iteration i ≡ true → at + 1 + n ≤ end → (o : Slot) (os1 : List Slot) → os ≡ o ∷ os1
           → StepsTo s l code p (at + 1 + n) (at + 1 + n) (opening_mark i (at + 1) (at + 1 + n) o (length p) ∷ control.Rest (at + 1 + n) end ∷ cs) vs os1 c
-      iteration_steps it nests o os1 e =
-          let t = block_taken (none_above i) nests o os1 e in
-          let b = below nests o os1 t.value t.rest_values e t.are in
-          let first = t.made ∙ iteration_opens i body t.value t.rest_values after h.vars t.rest_values it (none_above i) in
+      iteration_steps above it nests o os1 e =
+          let t = block_taken above nests o os1 e in
+          let b = below above nests o os1 t.value t.rest_values e t.are in
+          let first = t.made ∙ iteration_opens i body t.value t.rest_values after h.vars t.rest_values it above in
           by_value t.value t.rest_values b first (subst HasNext first goes)
         where
-          z : ℕ
-          z = at + 1 + n
-
           by_value : (x : Value) (ops1 : List Value) → Below o os1 x ops1 → step s c ≡ opened_over i body x [] after h.vars ops1 → HasNext (opened_over i body x [] after h.vars ops1)
               → StepsTo s l code p (at + 1 + n) (at + 1 + n) (opening_mark i (at + 1) (at + 1 + n) o (length p) ∷ control.Rest (at + 1 + n) end ∷ cs) vs os1 c
           by_value (value.Collection k es) ops1 b first g =
               let source : Source = record { kind = k; elements = es } in
               let t = opening_turn i (at + 1) (at + 1 + n) o (length p) in
-              let mark : opening_mark i (at + 1) (at + 1 + n) o (length p) ≡ control.Opened t = ap (λ m. if plain_mark m then control.Opened t else control.Skipped) b.operand.0 in
-              let none : slice_range p (length p) (length p + 0) ≡ [] = let e : length p + 0 - length p ≡ 0 = omega arith in ap (λ x. take x (drop (length p) p)) e in
-              let keeps : ElementsAre l (slice_range p (length p) (length p + 0)) (kept_elements i es []) = rw (none, kept_none i es) tt in
-              let turn : TurnIs s l code p (length p) t i body source es [] =
-              record { same_instr = refl; same_body = refl; part = b.operand.1; rest = refl; above = omega arith; keeps = keeps; trues = λ q. refl; falses = λ q. refl; invalids = refl; fitting = tt } in
+              let start = nothing_started i os1 above in
+              let left = subst (λ k. StandsFor s l code p (length p) h.v b.k cs vs (drop k os1) h.pieces h.vars ops1) (sym above) b.left in
               record {
                 next = configuration (Opened i body source [] ∷ after) h.vars ops1;
                 made = first;
-                stands = subst (λ m. IsAt s l code p (at + 1 + n) (at + 1 + n) (m ∷ control.Rest (at + 1 + n) end ∷ cs) vs os1 (configuration (Opened i body source [] ∷ after) h.vars ops1)) (sym mark)
-                    (is_past p (at + 1 + n) (at + 1 + n) (control.Opened t ∷ control.Rest (at + 1 + n) end ∷ cs) vs os1 (Opened i body source [] ∷ after) h.vars ops1 h.v b.k refl (b.body_ends, (b.m, b.rest_ends, b.later)) (refl, refl, turn, (refl, b.left), refl, b.body_ends));
+                stands = subst (λ m. IsAt s l code p (at + 1 + n) (at + 1 + n) (m ∷ control.Rest (at + 1 + n) end ∷ cs) vs os1 (configuration (Opened i body source [] ∷ after) h.vars ops1)) (sym (opened_mark o b.operand.0))
+                    (is_past p (at + 1 + n) (at + 1 + n) (control.Opened t ∷ control.Rest (at + 1 + n) end ∷ cs) vs os1 (Opened i body source [] ∷ after) h.vars ops1 h.v b.k refl (b.body_ends, (b.m, b.rest_ends, b.later)) (refl, start, opened_turn o k es b.operand.1, (refl, left), refl, b.body_ends));
               }
           by_value value.Invalid ops1 b first g =
-              let mark : opening_mark i (at + 1) (at + 1 + n) o (length p) ≡ control.Skipped = ap (λ m. if plain_mark m then control.Opened (opening_turn i (at + 1) (at + 1 + n) o (length p)) else control.Skipped) b.operand in
               record {
                 next = configuration (Skipped ∷ after) h.vars ops1;
                 made = first;
-                stands = subst (λ m. IsAt s l code p (at + 1 + n) (at + 1 + n) (m ∷ control.Rest (at + 1 + n) end ∷ cs) vs os1 (configuration (Skipped ∷ after) h.vars ops1)) (sym mark)
+                stands = subst (λ m. IsAt s l code p (at + 1 + n) (at + 1 + n) (m ∷ control.Rest (at + 1 + n) end ∷ cs) vs os1 (configuration (Skipped ∷ after) h.vars ops1)) (sym (skipped_mark o b.operand))
                     (is_past p (at + 1 + n) (at + 1 + n) (control.Skipped ∷ control.Rest (at + 1 + n) end ∷ cs) vs os1 (Skipped ∷ after) h.vars ops1 h.v b.k refl (b.m, b.rest_ends, b.later) (refl, b.left));
               }
           by_value x ops1 b first g = absurd g
+
+      -- FOLD takes its start value and its source
+      record FoldTaken (a o : Slot) (os1 : List Slot) : Type 0 where
+        start : Value
+        source : Value
+        rest_values : List Value
+        k : ℕ
+        m : ℕ
+        start_is : SlotIs l p (length p) a start
+        single : IsNoCollection start
+        source_is : SlotIs l p (length p) o source
+        left : StandsFor s l code p (length p) h.v k cs vs os1 h.pieces h.vars rest_values
+        body_ends : Balanced s body 0 1
+        rest_ends : Balanced s rest (suc k) m
+        later : LeavesOne s h.pieces h.v m
+        made : step s c ≡ opened_over i body source (start ∷ []) after h.vars rest_values
+        goes_on : HasNext (opened_over i body source (start ∷ []) after h.vars rest_values)
+
+      -- the two operands of FOLD
+      fold_operands : (j : Instr) → (operands_above j ≡ 0 → ⊥) → (a o : Value) (left : List Value) → HasNext (option_and_then (λ x. block_opened j body (a ∷ o ∷ left) after h.vars x) (operands_below s j (a ∷ o ∷ left)))
+          → (option_and_then (λ x. block_opened j body (a ∷ o ∷ left) after h.vars x) (operands_below s j (a ∷ o ∷ left)) ≡ opened_over j body o (a ∷ []) after h.vars left) × IsNoCollection a
+      fold_operands (instrs.Fold w x) above a o left g = by_names (has_names (judged_by s) (instrs.Fold w x)) (is_what s.population (Fitting (kind.Scalar (scalar_meant (judged_by s) w))) a) (is_what s.population AnyCollection o && true) refl g
+        where
+          go : List Value → Option Configuration
+          go y = opened_over (instrs.Fold w x) body o (a ∷ []) after h.vars y
+
+          by_names : (b d e : Bool) → is_what s.population (Fitting (kind.Scalar (scalar_meant (judged_by s) w))) a ≡ d → HasNext (option_and_then go (if b && (d && e) then Some left else None)) → (option_and_then go (if b && (d && e) then Some left else None) ≡ go left) × IsNoCollection a
+          by_names true true true is g = (refl, no_collection s.population (scalar_meant (judged_by s) w) a is)
+          by_names true true false is g = absurd g
+          by_names true false e is g = absurd g
+          by_names false d e is g = absurd g
+      fold_operands j above a o left g = absurd (above refl)
+
+      fold_count : (j : Instr) → HasBody j → (operands_above j ≡ 0 → ⊥) → length (operands_of (judged_by s) j) ≡ 2
+      fold_count (instrs.Fold w x) b above = refl
+      fold_count j b above = absurd (above refl)
+
+      fold_taken : (operands_above i ≡ 0 → ⊥) → at + 1 + n ≤ end → (a o : Slot) (os1 : List Slot) → os ≡ a ∷ o ∷ os1 → FoldTaken a o os1
+      fold_taken above nests a o os1 e = by_ops h.ops refl (subst (λ l'. SlotsAre l p (length p) l' h.ops) e ops_are)
+        where
+          by_ops : (ops : List Value) → h.ops ≡ ops → SlotsAre l p (length p) (a ∷ o ∷ os1) ops → FoldTaken a o os1
+          by_ops [] f q = absurd q
+          by_ops (x ∷ []) f q = absurd q.1
+          by_ops (x ∷ y ∷ ops) f q =
+              let first : step s c ≡ option_and_then (opens (x ∷ y ∷ ops)) (operands_below s i (x ∷ y ∷ ops)) = block_is nests ∙ ap (λ z. option_and_then (opens z) (operands_below s i z)) f in
+              let two = fold_operands i above x y ops (subst HasNext first goes) in
+              let b = ends_at (Block i body rest) (tree_block code at end i lt le here n shape nests) in
+              let count : h.n ≡ suc (suc b.1.0) = omega (arith, b.1.1, fold_count i (n, shape) above) in
+              let st = subst (λ m. StandsFor s l code p (length p) h.v m cs vs (a ∷ o ∷ os1) h.pieces h.vars (x ∷ y ∷ ops)) count (subst (λ z. StandsFor s l code p (length p) h.v h.n cs vs z h.pieces h.vars (x ∷ y ∷ ops)) e (subst (λ z. StandsFor s l code p (length p) h.v h.n cs vs os h.pieces h.vars z) f (h.stand lt))) in
+              let r = ops_pop s l code p (length p) h.v (suc b.1.0) cs vs a (o ∷ os1) h.pieces h.vars x (y ∷ ops) st in
+              let r' = ops_pop s l code p (length p) h.v b.1.0 cs vs o os1 h.pieces h.vars y ops r.1 in
+              record {
+                start = x;
+                source = y;
+                rest_values = ops;
+                k = b.1.0;
+                m = b.0;
+                start_is = r.0;
+                single = two.1;
+                source_is = r'.0;
+                left = r'.1;
+                body_ends = b.1.2;
+                rest_ends = b.1.3;
+                later = b.2;
+                made = first ∙ two.0;
+                goes_on = subst HasNext (first ∙ two.0) goes;
+              }
+
+      -- its source is there too
+      pub fold_has_source : (operands_above i ≡ 0 → ⊥) → at + 1 + n ≤ end → (a : Slot) → os ≡ a ∷ [] → ⊥
+      fold_has_source above nests a e = by_ops h.ops refl (subst (λ l'. SlotsAre l p (length p) l' h.ops) e ops_are)
+        where
+          one_short : (x : Value) (j : Instr) → (operands_above j ≡ 0 → ⊥) → (go : List Value → Option Configuration) → HasNext (option_and_then go (operands_below s j (x ∷ []))) → ⊥
+          one_short x (instrs.Fold w y) above go g = by_names (has_names (judged_by s) (instrs.Fold w y)) (is_what s.population (Fitting (kind.Scalar (scalar_meant (judged_by s) w))) x) g
+            where
+              by_names : (b d : Bool) → HasNext (option_and_then go (if b && (d && false) then Some [] else None)) → ⊥
+              by_names true true g = g
+              by_names true false g = g
+              by_names false d g = g
+          one_short x j above go g = above refl
+
+          by_ops : (ops : List Value) → h.ops ≡ ops → SlotsAre l p (length p) (a ∷ []) ops → ⊥
+          by_ops [] f q = q
+          by_ops (x ∷ []) f q = one_short x i above (opens (x ∷ [])) (subst HasNext (block_is nests ∙ ap (λ z. option_and_then (opens z) (operands_below s i z)) f) goes)
+          by_ops (x ∷ y ∷ ops) f q = q.1
+
+      -- FOLD puts a mark that it is opened, and leaves its start value; or that it is skipped over invalid
+      pub fold_steps : (operands_above i ≡ 0 → ⊥) → at + 1 + n ≤ end → (a o : Slot) (os1 : List Slot) → os ≡ a ∷ o ∷ os1
+          → StepsTo s l code p (at + 1 + n) (at + 1 + n) (opening_mark i (at + 1) (at + 1 + n) o (length p) ∷ control.Rest (at + 1 + n) end ∷ cs) vs (if plain_mark o.mark then a ∷ os1 else os1) c
+      fold_steps above nests a o os1 e =
+          let t = fold_taken above nests a o os1 e in
+          by_value t.source t t.source_is t.made t.goes_on
+        where
+          start_left : (j : Instr) → (operands_above j ≡ 0 → ⊥) → (x : Value) → SlotIs l p (length p) a x → IsNoCollection x → KeepsStart l p j (a ∷ os1) (x ∷ []) × (drop (operands_above j) (a ∷ os1) ≡ os1)
+          start_left (instrs.Fold w y) above x is none = ((a, os1, x, refl, refl, is, none), refl)
+          start_left j above x is none = absurd (above refl)
+
+          by_value : (x : Value) → (t : FoldTaken a o os1) → SlotIs l p (length p) o x → step s c ≡ opened_over i body x (t.start ∷ []) after h.vars t.rest_values → HasNext (opened_over i body x (t.start ∷ []) after h.vars t.rest_values)
+              → StepsTo s l code p (at + 1 + n) (at + 1 + n) (opening_mark i (at + 1) (at + 1 + n) o (length p) ∷ control.Rest (at + 1 + n) end ∷ cs) vs (if plain_mark o.mark then a ∷ os1 else os1) c
+          by_value (value.Collection k es) b is first g =
+              let source : Source = record { kind = k; elements = es } in
+              let t = opening_turn i (at + 1) (at + 1 + n) o (length p) in
+              let start = start_left i above b.start b.start_is b.single in
+              let left = subst (λ z. StandsFor s l code p (length p) h.v b.k cs vs z h.pieces h.vars b.rest_values) (sym start.1) b.left in
+              let d = configuration (Opened i body source (b.start ∷ []) ∷ after) h.vars b.rest_values in
+              let slots : (if plain_mark o.mark then a ∷ os1 else os1) ≡ a ∷ os1 = ap (λ z. if plain_mark z then a ∷ os1 else os1) is.0 in
+              record {
+                next = d;
+                made = first;
+                stands = subst (λ z. IsAt s l code p (at + 1 + n) (at + 1 + n) (opening_mark i (at + 1) (at + 1 + n) o (length p) ∷ control.Rest (at + 1 + n) end ∷ cs) vs z d) (sym slots) (
+                    subst (λ z. IsAt s l code p (at + 1 + n) (at + 1 + n) (z ∷ control.Rest (at + 1 + n) end ∷ cs) vs (a ∷ os1) d) (sym (opened_mark o is.0))
+                    (is_past p (at + 1 + n) (at + 1 + n) (control.Opened t ∷ control.Rest (at + 1 + n) end ∷ cs) vs (a ∷ os1) (Opened i body source (b.start ∷ []) ∷ after) h.vars b.rest_values h.v b.k refl (b.body_ends, (b.m, b.rest_ends, b.later)) (refl, start.0, opened_turn o k es is.1, (refl, left), refl, b.body_ends)));
+              }
+          by_value value.Invalid b is first g =
+              let d = configuration (Skipped ∷ after) h.vars b.rest_values in
+              let slots : (if plain_mark o.mark then a ∷ os1 else os1) ≡ os1 = ap (λ z. if plain_mark z then a ∷ os1 else os1) is in
+              record {
+                next = d;
+                made = first;
+                stands = subst (λ z. IsAt s l code p (at + 1 + n) (at + 1 + n) (opening_mark i (at + 1) (at + 1 + n) o (length p) ∷ control.Rest (at + 1 + n) end ∷ cs) vs z d) (sym slots) (
+                    subst (λ z. IsAt s l code p (at + 1 + n) (at + 1 + n) (z ∷ control.Rest (at + 1 + n) end ∷ cs) vs os1 d) (sym (skipped_mark o is))
+                    (is_past p (at + 1 + n) (at + 1 + n) (control.Skipped ∷ control.Rest (at + 1 + n) end ∷ cs) vs os1 (Skipped ∷ after) h.vars b.rest_values h.v b.k refl (b.m, b.rest_ends, b.later) (refl, b.left)));
+              }
+          by_value x b is first g = absurd g
 
     -- ---- with two bodies
 

@@ -15,7 +15,7 @@ use Rattle.rule_verify.specs.KindRules.{instr_fault, Enclosing, operand_limit, b
 use Rattle.rule_verify.proofs.ForAbove.{Takes, takes_from}
 use Rattle.rule_cost.specs.Bounds.{Cost, cost_of, top_length, length_given, length_yielded, lengths_below, block_length, lengths_bound_by}
 use Rattle.rule_machine.specs.Machine.{Setting, judged_by}
-use Rattle.rule_machine.specs.Places.{Place, kinds_of, lengths_of, sizes_in, given, places_left, places_of, bound_by, yielded, branch_place, top_place, operand_place, places_after, end_place}
+use Rattle.rule_machine.specs.Places.{Place, kinds_of, lengths_of, sizes_in, given, places_left, bound_by, yielded, branch_place, top_place, operand_place, places_after, end_place}
 
 -- ---- what the rules of kinds say of their parts
 
@@ -142,14 +142,17 @@ operand_kind i ps = top_kind (drop (operands_above i) ps) ∙ ap topmost (kinds_
 -- and so are the variables that it binds
 pub bound_kinds : (s : Setting) (i : Instr) (p : Place) (vps : List Place) → kinds_of (bound_by s i p ++ vps) ≡ binds (judged_by s) i p.kind ++ kinds_of vps
 bound_kinds s (instrs.Let n) p vps = refl
+bound_kinds s (instrs.Fold k n) p vps = refl
 bound_kinds s i p vps = refl
 
 pub bound_lengths : (s : Setting) (i : Instr) (p : Place) (vps : List Place) → lengths_of (bound_by s i p ++ vps) ≡ lengths_bound_by i p.longest ++ lengths_of vps
 bound_lengths s (instrs.Let n) p vps = refl
+bound_lengths s (instrs.Fold k n) p vps = refl
 bound_lengths s i p vps = refl
 
 pub bound_many : (s : Setting) (i : Instr) (p : Place) (vps : List Place) → length (bound_by s i p ++ vps) ≡ bound_count i + length vps
 bound_many s (instrs.Let n) p vps = omega arith
+bound_many s (instrs.Fold k n) p vps = omega arith
 bound_many s i p vps = omega arith
 
 -- one place is the topmost

@@ -16,6 +16,7 @@ pub mod Counted
 pub mod Segments
 pub mod Stacks
 pub mod InstrSteps
+pub mod KeptValues
 pub mod MarkSteps
 pub mod Keeps
 pub mod EndSlots

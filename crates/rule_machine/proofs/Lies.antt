@@ -1,7 +1,6 @@
 -- Where marks lie, places whose stacks are equal to others, and states that are the same.
-use Rattle.std.proofs.Common.{◌≡◌, ℕ, zero, suc, ◌+◌, ◌≤◌, Bool, true, false, List, [], ◌∷◌, ◌||◌, length, drop, Option, Some, None, Result, Ok, Err, refl, sym, ap, ◌∙◌, subst, arith}
+use Rattle.std.proofs.Common.{◌≡◌, ℕ, zero, suc, ◌≤◌, Bool, true, false, List, [], ◌∷◌, ◌||◌, length, Option, Some, None, Result, Ok, Err, refl, sym, ap, ◌∙◌, subst, arith}
 use Rattle.std.specs.Prelude.{slice_get, MatchOption, IsOk, if◌then◌else◌}
-use Rattle.std.proofs.lemmas.List.{drop-drop}
 use Rattle.std.specs.List.{list_any}
 use Rattle.rule_code.specs.declared.instruction.Instr.{Instr}
 use Rattle.rule_verify.specs.InstrKinds.{gathers}
@@ -32,8 +31,8 @@ kept_joined m m' m'' h k =
     record { started = k.started ∙ h.started; count = k.count ∙ h.count; room = record { operands = k.room.operands ∙ h.room.operands; variables = k.room.variables ∙ h.room.variables; controls = k.room.controls ∙ h.room.controls } }
 
 -- a machine whose turn ended, and which then went on, has made a step
-pub turn_made : (t : Task) (u : Turn) (m m' m'' : State) → TurnEnded t u m m' → WentOn t u m' m'' → Stepped t m m''
-turn_made t u m m' m'' ended went =
+pub turn_made : (t : Task) (u : Turn) (last : Slot) (m m' m'' : State) → TurnEnded t u last m m' → WentOn t u last m' m'' → Stepped t m m''
+turn_made t u last m m' m'' ended went =
     record {
       made = λ c i n. let over = ended.made c i n in (over.0, over.1, went.made over.0 over.2);
       place = went.place;
@@ -41,8 +40,8 @@ turn_made t u m m' m'' ended went =
     }
 
 -- it stands between two turns then
-pub is_between : (t : Task) (u : Turn) (m m' : State) → HasStep t m → TurnEnded t u m m' → (d : Configuration) × BetweenIn t u m' d
-is_between t u m m' goes ended = let over = ended.made goes.0 goes.1 goes.2 in (over.0, over.2)
+pub is_between : (t : Task) (u : Turn) (last : Slot) (m m' : State) → HasStep t m → TurnEnded t u last m m' → (d : Configuration) × BetweenIn t u last m' d
+is_between t u last m m' goes ended = let over = ended.made goes.0 goes.1 goes.2 in (over.0, over.2)
 
 -- a call that succeeds is no error
 pub not_refused : {A E : Type 0} (r : Result A E) (e : E) → r ≡ Err e → IsOk r → ⊥
@@ -53,11 +52,6 @@ not_refused (Err x) e is h = let bad = h in cc
 pub tail_taken : {A : Type 0} (r : Option A) (old new : List A) (y : A) (ys : List A) → MatchOption r ((old ≡ []) × (new ≡ [])) (λ x. old ≡ x ∷ new) → old ≡ y ∷ ys → new ≡ ys
 tail_taken None old new y ys h e = let bad = sym h.0 ∙ e in cc
 tail_taken (Some x) old new y ys h e = let both = sym h ∙ e in cc
-
--- one more item is taken, if one is there
-pub one_more_taken : {A : Type 0} (r : Option A) (old new xs : List A) (i : ℕ) → MatchOption r ((old ≡ []) × (new ≡ [])) (λ x. old ≡ x ∷ new) → old ≡ drop i xs → new ≡ drop (i + 1) xs
-one_more_taken None old new xs i h e = h.1 ∙ sym (ap (drop 1) h.0) ∙ ap (drop 1) e ∙ drop-drop 1 i xs
-one_more_taken (Some x) old new xs i h e = sym (ap (drop 1) h) ∙ ap (drop 1) e ∙ drop-drop 1 i xs
 
 or_first : (a b : Bool) → a ≡ true → (a || b) ≡ true
 or_first true b h = refl

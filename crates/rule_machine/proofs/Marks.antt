@@ -1,5 +1,5 @@
 -- Marks of pending pieces: what ends takes its mark with it.
-use Rattle.std.proofs.Common.{◌≡◌, ℕ, suc, ◌+◌, ◌-◌, ◌≤◌, List, [], ◌∷◌, ◌++◌, length, drop, refl, ap, ◌∙◌, arith}
+use Rattle.std.proofs.Common.{◌≡◌, ℕ, suc, ◌-◌, ◌≤◌, List, [], ◌∷◌, ◌++◌, length, drop, refl, ap, ◌∙◌, arith}
 use Rattle.rule_verify.specs.declared.depths.Depths.{Depths}
 use Rattle.rule_verify.specs.CodeTree.{End}
 use Rattle.rule_values.specs.Value.{Value}

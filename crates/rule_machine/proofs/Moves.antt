@@ -18,8 +18,9 @@ use Rattle.ocl_kinds.specs.declared.kind.ScalarKind.TheVariants as element
 use Rattle.ocl_kinds.specs.Kinds.{is_same_collection, elements_kind}
 use Rattle.rule_code.specs.declared.instruction.Instr.{Instr}
 use Rattle.rule_code.specs.declared.instruction.Instr.TheVariants as instrs
+use Rattle.rule_code.specs.declared.kind.WrittenScalar.{WrittenScalar}
 use Rattle.rule_verify.specs.declared.pattern.Pattern.{Pattern}
-use Rattle.rule_verify.specs.declared.pattern.Pattern.TheVariants.{AnyCollection}
+use Rattle.rule_verify.specs.declared.pattern.Pattern.TheVariants.{Fitting, AnyCollection}
 use Rattle.rule_verify.specs.declared.depths.Depths.{Depths}
 use Rattle.rule_verify.specs.CodeTree.{CodeTree, End, Plain, Block, Branch, Torn}
 use Rattle.rule_verify.specs.Patterns.{matches, all_match, a_boolean}
@@ -33,7 +34,7 @@ use Rattle.rule_machine.specs.Verdict.{outcome}
 use Rattle.rule_machine.specs.Places.{Place, place, kinds_of, long, At, AllAt, EachAt, given, places_left, bound_by, top_place, operand_place, kept_place, block_marked, yielded, end_place, Stand, stand, Mark, Here, Iterating, now_at, sequence_marked, marked, marks_for, AllHeldAt}
 use Rattle.rule_machine.specs.Charges.{turn_charge, charge_of}
 use Rattle.rule_machine.specs.Live.{AllBelow, IsTaken, is_iteration, block_gives, branch_gives, Kinded, HasKept, turns_kept, IsOpenIteration, IsOneBoolean, GoesNoDeeper, HasRoom, Going, IsThere, IsSettled, Live}
-use Rattle.rule_machine.proofs.Blocks.{BlockSort, is_let, iterates, block_sort, one_kept, iteration_takes, branch_takes, iteration_charges, iteration_opens, iteration_marked, nothing_kept, keeping_turns, keeping_has}
+use Rattle.rule_machine.proofs.Blocks.{BlockSort, is_let, iterates, folds, block_sort, iteration_takes, branch_takes, iteration_charges, iteration_opens, iteration_marked, nothing_kept, keeping_turns, keeping_has}
 use Rattle.rule_machine.proofs.InKinds.{matches_in, match_all, left_at, left_above, invalid_at, single_at, all_below, each_joined}
 use Rattle.rule_machine.proofs.Results.{results, given_above}
 use Rattle.rule_machine.proofs.EndingKinds.{ending_at}
@@ -92,10 +93,18 @@ module _ (s : Setting) (deep : Depths) (model : IsClassModel s.population.model)
   by_element k None h = record { in_kind = refl; within = omega arith }
   by_element k (Some v) h = record { in_kind = h; within = omega arith }
 
+  -- a turn of FOLD binds its accumulator and its element
+  fold_bound : (k j : ScalarKind) (x : Element) (kept : List Value) (v : Value) (vars : List Value) (vps : List Place) → kept ≡ v ∷ [] → EachAt s (place (kind.Scalar k) 0) kept → is_element_in s.population j x ≡ true → AllAt s vars vps
+      → AllAt s ((kept ++ element_value x ∷ []) ++ vars) (place (kind.Scalar k) 0 ∷ place (kind.Scalar j) 0 ∷ vps)
+  fold_bound k j x [] v vars vps e each h va = cc
+  fold_bound k j x (a ∷ []) v vars vps e each h va = (each.0, (by_element j x h, va))
+  fold_bound k j x (a ∷ b ∷ kept) v vars vps e each h va = cc
+
   -- what a turn binds
   bound_at : (i : Instr) (p r : Place) (x : Element) (kept vars : List Value) (vps : List Place) → is_iteration i ≡ true → is_element_in s.population (elements_kind p.kind) x ≡ true → EachAt s (kept_place s i r) kept → HasKept i kept → AllAt s vars vps
       → AllAt s (bound_values i x kept ++ vars) (bound_by s i p ++ vps)
   bound_at (instrs.Let n) p r x kept vars vps it h each has va = cc
+  bound_at (instrs.Fold k n) p r x kept vars vps it h each has va = fold_bound (scalar_meant (judged_by s) k) (elements_kind p.kind) x kept has.0 vars vps has.1 each h va
   bound_at i p r x kept vars vps it h each has va = (by_element (elements_kind p.kind) x h, va)
 
   unbound_at : (bs : List Place) (vars : List Value) (vps : List Place) → AllAt s vars (bs ++ vps) → AllAt s (drop (length bs) vars) vps
@@ -105,7 +114,8 @@ module _ (s : Setting) (deep : Depths) (model : IsClassModel s.population.model)
 
   -- what is kept stands at its place
   keeping_at : (i : Instr) (r : Place) (kept : List Value) (o : Value) → is_what s.population (ends_with (judged_by s) i) o ≡ true → At s o r → EachAt s (kept_place s i r) kept → EachAt s (kept_place s i r) (keeping i kept o)
-  keeping_at i r kept o w a each = subst (EachAt s (kept_place s i r)) (sym (one_kept i kept o)) (each_joined s r kept (o ∷ []) each (a, tt))
+  keeping_at (instrs.Fold k n) r kept o w a each = (single_at s o (scalar_meant (judged_by s) k) 0 w, tt)
+  keeping_at i r kept o w a each = each_joined s r kept (o ∷ []) each (a, tt)
 
   -- a turn, or the end
   turning : (c : Configuration) (ms : List Mark) (n : ℕ) (i : Instr) (body : CodeTree) (source : Source) (left : List Element) (kept : List Value) (q : List Piece) (vars os : List Value) (p r : Place) (below : Stand) (later : List Mark) (m k b : ℕ)
@@ -284,6 +294,25 @@ module _ (s : Setting) (deep : Depths) (model : IsClassModel s.population.model)
       )
   from_let i x body rest q ms vars os n vps ps below is b = cc
 
+  -- FOLD: its start value lies above its source
+  from_fold : (i : Instr) (k : WrittenScalar) (x : ℕ) (body rest : CodeTree) (q : List Piece) (ms : List Mark) (vars os : List Value) (n : ℕ) (vps ps below : List Place) → i ≡ instrs.Fold k x → at_tree (Block i body rest) q ms vars os n vps ps below
+  from_fold (instrs.Fold j y) k x body rest q ms vars os n vps [] below is b = let t = b.kinded.3.match in cc
+  from_fold (instrs.Fold j y) k x body rest q ms vars os n vps (pa ∷ []) below is b =
+      let t = (and_parts (matches s.population.model (Fitting (kind.Scalar (scalar_meant (judged_by s) j))) pa.kind) false b.kinded.3.match).1 in cc
+  from_fold (instrs.Fold j y) k x body rest q ms vars [] n vps (pa ∷ p ∷ ps) below is b = absurd b.operands_at
+  from_fold (instrs.Fold j y) k x body rest q ms vars (a ∷ []) n vps (pa ∷ p ∷ ps) below is b = absurd b.operands_at.1
+  from_fold (instrs.Fold j y) k x body rest q ms vars (a ∷ o ∷ os) n vps (pa ∷ p ∷ ps) below is b =
+      let fold = instrs.Fold j y in
+      let its = scalar_meant (judged_by s) j in
+      let first = and_parts (matches s.population.model (Fitting (kind.Scalar its)) pa.kind) (matches s.population.model AnyCollection p.kind && true) b.kinded.3.match in
+      let second = and_parts (matches s.population.model AnyCollection p.kind) true first.1 in
+      let start = matches_in s.population (Fitting (kind.Scalar its)) pa.kind a first.0 b.operands_at.0.in_kind in
+      let what = matches_in s.population AnyCollection p.kind o second.0 b.operands_at.1.0.in_kind in
+      from_iteration (raw (Sequence (Block fold body rest) ∷ q) vars (a ∷ o ∷ os)) (Here (stand vps (pa ∷ p ∷ (ps ++ below))) ∷ ms) fold body rest q ms vars o (a ∷ []) os n vps p ps below refl refl
+      (block_step fold body rest q vars (a ∷ o ∷ os) vps (pa ∷ p ∷ ps) below b.kinded.3 b.operands_at) refl what b.operands_at.1.0 (single_at s a its 0 start, tt) (a, refl) refl b.variables_at b.operands_at.1.1
+      (block_after fold body rest q ms vars (a ∷ o ∷ os) n vps (pa ∷ p ∷ ps) below b)
+  from_fold i k x body rest q ms vars os n vps ps below is b = cc
+
   from_turns : (i : Instr) (body rest : CodeTree) (q : List Piece) (ms : List Mark) (vars os : List Value) (n : ℕ) (vps ps below : List Place) → is_iteration i ≡ true → operands_above i ≡ 0 → at_tree (Block i body rest) q ms vars os n vps ps below
   from_turns i body rest q ms vars os n vps [] below it one b =
       let bad : all_match s.population.model (AnyCollection ∷ []) [] ≡ true = subst (λ ws. all_match s.population.model ws [] ≡ true) (iteration_takes (judged_by s) i it one) b.kinded.3.match in cc
@@ -313,6 +342,7 @@ module _ (s : Setting) (deep : Depths) (model : IsClassModel s.population.model)
       by_sort : BlockSort i → Moves s deep (raw (Sequence (Block i body rest) ∷ q) vars os) (Here (stand vps (ps ++ below)) ∷ ms) n
       by_sort (is_let x is) = from_let i x body rest q ms vars os n vps ps below is b
       by_sort (iterates it one) = from_turns i body rest q ms vars os n vps ps below it one b
+      by_sort (folds k x is) = from_fold i k x body rest q ms vars os n vps ps below is b
 
   -- no branch is chosen: the IF is invalid
   from_no_branch : (i : Instr) (first second rest : CodeTree) (q : List Piece) (ms : List Mark) (vars : List Value) (o : Value) (os : List Value) (n : ℕ) (vps : List Place) (p : Place) (ps below : List Place)

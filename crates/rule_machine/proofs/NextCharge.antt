@@ -224,7 +224,7 @@ module _ (s : Setting) (l : Lists) (code : List Instr) (p : List Slot) where
   mark_charged at end (control.Turning t) cs vs os c e mark h goes =
       let e0 = end_of s l code p at end t cs vs os c e h goes in
       let r = e0.leaving in
-      let same : c ≡ configuration (Turning r.i r.body r.source r.left r.bodies ∷ r.q) r.vars_before (r.value ∷ r.ops) = r.before in
+      let same : c ≡ configuration (Turning r.i r.body r.source r.left r.kept ∷ r.q) r.vars_before (r.value ∷ r.ops) = r.before in
       let many : length r.source.elements ≡ t.source.count = as_many l p t.opened t.source r.source.elements (omega (arith, r.turn.above)) r.turn.part in
       let next : turn_charge r.i r.source r.left ≡ turn_charge_by t.instr t.source.count t.next =
       ap (turn_charge r.i r.source) r.turn.rest ∙ turn_by r.i r.source t.next ∙ ap (λ k. turn_charge_by r.i k t.next) many ∙ ap (λ j. turn_charge_by j t.source.count t.next) r.turn.same_instr in

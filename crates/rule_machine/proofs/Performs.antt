@@ -1,30 +1,21 @@
 -- The variables and the operands of an instruction without a body, and its result.
-use Rattle.std.proofs.Common.{◌≡◌, ◌⊎◌, inl, inr, ⊎_elim, ℕ, ◌<◌, ◌≤◌, Bool, true, false, ◌&&◌, List, [], ◌∷◌, length, drop, Option, Some, None, refl, sym, ap, ◌∙◌, subst, arith}
-use Rattle.std.specs.Prelude.{◌==◌, ℤ, slice_get, option_and_then, is_some, IsSome, if◌then◌else◌}
+use Rattle.std.proofs.Common.{◌≡◌, ◌⊎◌, ⊎_elim, ℕ, ◌<◌, ◌≤◌, Bool, true, false, ◌&&◌, List, [], ◌∷◌, length, drop, Option, Some, None, refl, sym, ◌∙◌, subst, arith}
+use Rattle.std.specs.Prelude.{◌==◌, slice_get, option_and_then, IsSome, if◌then◌else◌}
 use Rattle.std.specs.Option.{option_map}
 use Rattle.std.proofs.lemmas.Bool.{and_parts}
 use Rattle.std.proofs.lemmas.Option.{same_Some}
-use Rattle.ocl_base.specs.declared.collection_kind.CollectionKind.{CollectionKind}
 use Rattle.imkl_population.specs.Population.{Population}
-use Rattle.rule_code.specs.declared.symbol.SymbolNumber.{SymbolNumber}
-use Rattle.rule_code.specs.declared.symbol.TextNumber.{TextNumber}
-use Rattle.rule_code.specs.declared.kind.WrittenScalar.{WrittenScalar}
 use Rattle.rule_code.specs.declared.instruction.Instr.{Instr}
 use Rattle.rule_code.specs.declared.instruction.Instr.TheVariants as instrs
 use Rattle.rule_verify.specs.declared.pattern.Pattern.{Pattern}
-use Rattle.rule_verify.specs.declared.shape.Shape.TheVariants.{Single}
-use Rattle.rule_verify.specs.CodeTree.{shape_of}
-use Rattle.rule_verify.specs.declared.named.Named.{Named}
-use Rattle.rule_verify.specs.Symbols.{named_at}
-use Rattle.std.specs.List.{list_all}
 use Rattle.ocl_base.specs.Lists.{variable_at}
-use Rattle.rule_verify.specs.InstrKinds.{Surroundings, symbols_used, has_names, operands_of}
+use Rattle.rule_verify.specs.InstrKinds.{Surroundings, has_names, operands_of}
 use Rattle.rule_values.specs.Value.{Value}
 use Rattle.rule_slots.specs.declared.slot.Slot.{Slot}
 use Rattle.rule_slots.specs.Slots.{Lists, SlotIs, SlotsAre}
 use Rattle.rule_slots.specs.Operands.{MadeInPool}
 use Rattle.rule_slots.proofs.ForAbove.{slots_long}
-use Rattle.rule_machine.specs.Machine.{Setting, judged_by, symbol_named, is_what, are_what, result_of, performed}
+use Rattle.rule_machine.specs.Machine.{Setting, judged_by, is_what, are_what, result_of, performed}
 use Rattle.rule_machine.specs.StandFor.{GivesSlot, CanPerform}
 use Rattle.rule_machine.specs.Applied.{TakesOne, TakesTwo, CanTakeOne, CanTakeTwo, GivesOfOne, GivesOfTwo}
 

@@ -1,8 +1,10 @@
 -- Room for a step, from the depths of the configuration before it.
-use Rattle.std.proofs.Common.{◌≡◌, ◌⊎◌, ℕ, suc, ◌+◌, ◌*◌, ◌<◌, ◌≤◌, List, [], ◌∷◌, length, inl, inr, refl, ap, ◌∙◌, subst, arith}
+use Rattle.std.proofs.Common.{◌≡◌, ◌⊎◌, ℕ, suc, ◌+◌, ◌*◌, ◌<◌, ◌≤◌, List, [], ◌∷◌, length, drop, inl, inr, refl, ap, ◌∙◌, subst, arith}
 use Rattle.std.specs.Prelude.{Bool, true, false, None, nat_lt, slice_range}
 use Rattle.std.proofs.lemmas.Bool.{ltb-true, ltb-false}
 use Rattle.rule_code.specs.declared.instruction.Instr.{Instr}
+use Rattle.rule_code.specs.declared.instruction.Instr.TheVariants as instrs
+use Rattle.rule_verify.specs.InstrKinds.{operands_above}
 use Rattle.rule_verify.specs.declared.depths.Depths.{Depths}
 use Rattle.rule_verify.specs.CodeTree.{CodeTree, End, Plain, Block, Branch, Torn, code_tree, instr_count}
 use Rattle.rule_verify.proofs.ForAbove.{code_tree_count, stretch_length}
@@ -51,9 +53,9 @@ module _ (s : Setting) (l : Lists) (code : List Instr) (p : List Slot) where
   some_count : (at end : ℕ) → at < end → end ≤ length code → 0 < instr_count (code_tree (slice_range code at end))
   some_count at end lt le = omega (arith, code_tree_count (slice_range code at end), stretch_length code at end le)
 
-  -- how much a configuration has: no more operands and variables than so many, and controls
+  -- how much a configuration has: no more operands and variables than so many, with a start value that is left, and controls
   abbrev Within : Depths → List Control → List Slot → List Slot → Type 0
-  Within d cs vs os = (length os ≤ d.operands) × (length vs ≤ d.variables) × (length cs ≤ 2 * d.blocks + 1)
+  Within d cs vs os = (length os ≤ d.operands + 1) × (length vs ≤ d.variables) × (length cs ≤ 2 * d.blocks + 1)
 
   within_before : (d : Depths) (at end : ℕ) (cs : List Control) (vs os : List Slot) (c : Configuration) → at < end → end ≤ length code → IsAt s l code p at end cs vs os c → StaysWithin d c → Within d cs vs os
   within_before d at end cs vs os c lt le h w =
@@ -74,6 +76,12 @@ module _ (s : Setting) (l : Lists) (code : List Instr) (p : List Slot) where
     omega (arith, w.pieces, stand_long (length p) v n cs vs os ps vars ops h),
   )
 
+  -- one operand is left above the others at most
+  left_long : (i : Instr) (os : List Slot) → length os ≤ length (drop (operands_above i) os) + 1
+  left_long (instrs.Fold k n) [] = omega arith
+  left_long (instrs.Fold k n) (o ∷ os) = omega arith
+  left_long i os = omega arith
+
   by_mark : (d : Depths) (v n : ℕ) (cs : List Control) (vs os : List Slot) (ps : List Piece) (vars ops : List Value) → IsFirstMark cs → TopStandsFor s l code p v n cs vs os ps vars ops → StaysWithin d (configuration ps vars ops) → Within d cs vs os
   by_mark d v n [] vs os ps vars ops m h w = absurd m
   by_mark d v n (control.Rest a b ∷ cs) vs os ps vars ops m h w = absurd m
@@ -82,9 +90,9 @@ module _ (s : Setting) (l : Lists) (code : List Instr) (p : List Slot) where
   by_mark d v n (control.Turning t ∷ cs) vs os (Turning i body source left kept ∷ ps) vars ops m h w =
       by_stand d v n (control.Turning t ∷ cs) vs os (Turning i body source left kept ∷ ps) vars ops h w
   by_mark d v n (control.Opened t ∷ cs) vs os (Opened i body source kept ∷ ps) vars ops m h w = (
-    omega (arith, w.operands, slots_long l p (length p) os ops (all_ops s l code p (length p) v n cs vs os ps vars ops h.3)),
-    omega (arith, w.variables, slots_long l p (length p) vs vars (all_vars s l code p (length p) v n cs vs os ps vars ops h.3)),
-    omega (arith, w.pieces, stand_long (length p) v n cs vs os ps vars ops h.3),
+    omega (arith, w.operands, left_long i os, slots_long l p (length p) (drop (operands_above i) os) ops (all_ops s l code p (length p) v n cs vs (drop (operands_above i) os) ps vars ops h.3)),
+    omega (arith, w.variables, slots_long l p (length p) vs vars (all_vars s l code p (length p) v n cs vs (drop (operands_above i) os) ps vars ops h.3)),
+    omega (arith, w.pieces, stand_long (length p) v n cs vs (drop (operands_above i) os) ps vars ops h.3),
   )
   by_mark d v n cs vs os ps vars ops m h w = absurd h
 

@@ -11,7 +11,7 @@ use Rattle.rule_machine.specs.Machine.{Setting, Piece, Sequence, LetEnd, Turning
 use Rattle.rule_machine.specs.declared.control.Turn.{Turn}
 use Rattle.rule_machine.specs.declared.control.Control.{Control}
 use Rattle.rule_machine.specs.declared.control.Control.TheVariants as control
-use Rattle.rule_machine.specs.StandFor.{TurnIs, Cut, StandsFor, kept_elements}
+use Rattle.rule_machine.specs.StandFor.{TurnIs, TurnKeeps, Cut, StandsFor, kept_elements}
 
 -- a cut stack stands for the same values
 abbrev pub cut_same : (l : Lists) (p q : List Slot) (hi hi' : ℕ) (le : hi ≤ hi') (same : take hi p ≡ take hi q) (n : ℕ) (ss : List Slot) (vs : List Value) → Cut l p hi n ss vs → Cut l q hi' n ss vs
@@ -35,6 +35,11 @@ turn_same s l code p q hi hi' t i body source left kept le same h =
       fitting = h.fitting;
     }
 
+-- and keeps the same
+pub turn_keeps_same : (s : Setting) (l : Lists) (code : List Instr) (p q : List Slot) (hi hi' : ℕ) (t : Turn) (i : Instr) (body : CodeTree) (source : Source) (left : List Element) (kept : List Value) → hi ≤ hi' → take hi p ≡ take hi q → TurnKeeps s l code p hi t i body source left kept → TurnKeeps s l code q hi' t i body source left kept
+turn_keeps_same s l code p q hi hi' t i body source left kept le same h =
+    record { bodies = h.bodies; keeps = h.keeps; turn = turn_same s l code p q hi hi' t i body source left h.bodies le same h.turn; turns = h.turns }
+
 -- what is pending, variables and operands stand for the same
 pub stand_same : (s : Setting) (l : Lists) (code : List Instr) (p q : List Slot) (hi hi' v n : ℕ) (cs : List Control) (vs os : List Slot) (ps : List Piece) (vars ops : List Value) → hi ≤ hi' → take hi p ≡ take hi q → StandsFor s l code p hi v n cs vs os ps vars ops → StandsFor s l code q hi' v n cs vs os ps vars ops
 stand_same s l code p q hi hi' v n [] vs os [] vars ops le same h = (h.0, h.1, slots_same l p q hi hi' le same vs vars h.2, slots_same l p q hi hi' le same os ops h.3)
@@ -44,12 +49,11 @@ stand_same s l code p q hi hi' v n (control.Skipped ∷ cs) vs os (Skipped ∷ p
 stand_same s l code p q hi hi' v n (control.Turning t ∷ cs) vs os (Turning i body source left kept ∷ ps) vars ops le same h = (
   cut_same l p q hi hi' le same v vs vars h.0,
   cut_same l p q hi hi' le same n os ops h.1,
-  turn_same s l code p q hi hi' t i body source left kept le same h.2,
+  turn_keeps_same s l code p q hi hi' t i body source left kept le same h.2,
   h.3,
   h.4,
   h.5,
   h.6,
-  stand_same s l code p q t.opened t.opened h.4 h.5 cs h.0.below h.1.below ps h.0.below_values h.1.below_values (omega arith) (less p q hi t.opened (omega (arith, h.2.above)) same) h.7,
-  h.8,
+  stand_same s l code p q t.opened t.opened h.4 h.5 cs h.0.below h.1.below ps h.0.below_values h.1.below_values (omega arith) (less p q hi t.opened (omega (arith, h.2.turn.above)) same) h.7,
 )
 stand_same s l code p q hi hi' v n cs vs os ps vars ops le same h = absurd h

@@ -1,5 +1,6 @@
 -- The topmost variable and the topmost operands of the innermost segment.
-use Rattle.std.proofs.Common.{◌≡◌, ℕ, zero, suc, ◌+◌, ◌≤◌, List, [], ◌∷◌, ◌++◌, length, drop, refl, sym, ap, subst, arith, length-append}
+use Rattle.std.proofs.Common.{◌≡◌, ℕ, zero, suc, ◌+◌, ◌≤◌, List, [], ◌∷◌, ◌++◌, length, drop, refl, sym, ap, ◌∙◌, subst, arith, length-append}
+use Rattle.std.proofs.lemmas.List.{drop_at}
 use Rattle.rule_code.specs.declared.instruction.Instr.{Instr}
 use Rattle.rule_values.specs.Value.{Value}
 use Rattle.rule_machine.specs.Machine.{Setting, Piece, Sequence, LetEnd, Turning, Skipped}
@@ -47,6 +48,14 @@ module _ (l : Lists) (p : List Slot) (hi : ℕ) where
       by_here (u ∷ here) [] e f h k = absurd h
       by_here (u ∷ here) (x ∷ hv) e f h k = absurd (omega arith)
 
+  -- with its n items dropped, what lies below a cut is left
+  pub cut_dropped : (n : ℕ) (ss : List Slot) (vs : List Value) (c : Cut l p hi n ss vs) → (drop n ss ≡ c.below) × (drop n vs ≡ c.below_values) × (n ≤ length vs)
+  cut_dropped n ss vs c = (
+    ap (drop n) c.slots ∙ drop_at c.here c.below n (slots_long l p hi c.here c.here_values c.are ∙ c.long),
+    ap (drop n) c.values ∙ drop_at c.here_values c.below_values n c.long,
+    omega (arith, ap length c.values, length-append c.here_values c.below_values, c.long),
+  )
+
   -- one more on top of it
   abbrev pub cut_push : (n : ℕ) (s : Slot) (ss : List Slot) (v : Value) (vs : List Value) → SlotIs l p hi s v → Cut l p hi n ss vs → Cut l p hi (suc n) (s ∷ ss) (v ∷ vs)
   cut_push n s ss v vs h c =
@@ -79,7 +88,7 @@ module _ (s : Setting) (l : Lists) (code : List Instr) (p : List Slot) where
   ops_pop hi v n (control.Skipped ∷ cs) vs o os (Skipped ∷ ps) vars x ops h = ops_pop hi v n cs vs o os ps vars x ops h
   ops_pop hi v n (control.Turning t ∷ cs) vs o os (Turning i body source left kept ∷ ps) vars x ops h =
       let c = cut_pop l p hi (suc n) n refl o os x ops h.1 in
-      (c.0, (h.0, c.1, h.2, h.3, h.4, h.5, h.6, subst (λ y. StandsFor s l code p t.opened h.4 h.5 cs h.0.below y ps h.0.below_values c.1.below_values) (sym c.2) (subst (λ y. StandsFor s l code p t.opened h.4 h.5 cs h.0.below h.1.below ps h.0.below_values y) (sym c.3) h.7), h.8))
+      (c.0, (h.0, c.1, h.2, h.3, h.4, h.5, h.6, subst (λ y. StandsFor s l code p t.opened h.4 h.5 cs h.0.below y ps h.0.below_values c.1.below_values) (sym c.2) (subst (λ y. StandsFor s l code p t.opened h.4 h.5 cs h.0.below h.1.below ps h.0.below_values y) (sym c.3) h.7)))
   ops_pop hi v n cs vs o os ps vars x ops h = absurd h
 
   -- an operand is put on top
@@ -89,7 +98,7 @@ module _ (s : Setting) (l : Lists) (code : List Instr) (p : List Slot) where
   ops_push hi v n (control.LetEnd ∷ cs) vs o os (LetEnd ∷ ps) vars x ops k h = ops_push hi v n cs vs o os ps vars x ops k h
   ops_push hi v n (control.Skipped ∷ cs) vs o os (Skipped ∷ ps) vars x ops k h = ops_push hi v n cs vs o os ps vars x ops k h
   ops_push hi v n (control.Turning t ∷ cs) vs o os (Turning i body source left kept ∷ ps) vars x ops k h =
-      (h.0, cut_push l p hi n o os x ops k h.1, h.2, h.3, h.4, h.5, h.6, h.7, h.8)
+      (h.0, cut_push l p hi n o os x ops k h.1, h.2, h.3, h.4, h.5, h.6, h.7)
   ops_push hi v n cs vs o os ps vars x ops k h = absurd h
 
   -- a variable is bound
@@ -99,7 +108,7 @@ module _ (s : Setting) (l : Lists) (code : List Instr) (p : List Slot) where
   vars_push hi v n (control.LetEnd ∷ cs) o vs os (LetEnd ∷ ps) x vars ops k h = vars_push hi v n cs o vs os ps x vars ops k h
   vars_push hi v n (control.Skipped ∷ cs) o vs os (Skipped ∷ ps) x vars ops k h = vars_push hi v n cs o vs os ps x vars ops k h
   vars_push hi v n (control.Turning t ∷ cs) o vs os (Turning i body source left kept ∷ ps) x vars ops k h =
-      (cut_push l p hi v o vs x vars k h.0, h.1, h.2, h.3, h.4, h.5, h.6, h.7, h.8)
+      (cut_push l p hi v o vs x vars k h.0, h.1, h.2, h.3, h.4, h.5, h.6, h.7)
   vars_push hi v n cs o vs os ps x vars ops k h = absurd h
 
   -- the newest variable is dropped
@@ -112,7 +121,7 @@ module _ (s : Setting) (l : Lists) (code : List Instr) (p : List Slot) where
   vars_pop hi v n (control.Skipped ∷ cs) o vs os (Skipped ∷ ps) x vars ops h = vars_pop hi v n cs o vs os ps x vars ops h
   vars_pop hi v n (control.Turning t ∷ cs) o vs os (Turning i body source left kept ∷ ps) x vars ops h =
       let c = cut_pop l p hi (suc v) v refl o vs x vars h.0 in
-      (c.0, (c.1, h.1, h.2, h.3, h.4, h.5, h.6, subst (λ y. StandsFor s l code p t.opened h.4 h.5 cs y h.1.below ps c.1.below_values h.1.below_values) (sym c.2) (subst (λ y. StandsFor s l code p t.opened h.4 h.5 cs h.0.below h.1.below ps y h.1.below_values) (sym c.3) h.7), h.8))
+      (c.0, (c.1, h.1, h.2, h.3, h.4, h.5, h.6, subst (λ y. StandsFor s l code p t.opened h.4 h.5 cs y h.1.below ps c.1.below_values h.1.below_values) (sym c.2) (subst (λ y. StandsFor s l code p t.opened h.4 h.5 cs h.0.below h.1.below ps y h.1.below_values) (sym c.3) h.7)))
   vars_pop hi v n cs o vs os ps x vars ops h = absurd h
 
   -- ---- all of both stacks
@@ -125,7 +134,7 @@ module _ (s : Setting) (l : Lists) (code : List Instr) (p : List Slot) where
   all_vars hi v n (control.Skipped ∷ cs) vs os (Skipped ∷ ps) vars ops h = all_vars hi v n cs vs os ps vars ops h
   all_vars hi v n (control.Turning t ∷ cs) vs os (Turning i body source left kept ∷ ps) vars ops h =
       let below = all_vars t.opened h.4 h.5 cs h.0.below h.1.below ps h.0.below_values h.1.below_values h.7 in
-      cut_joined l p hi v vs vars h.0 (slots_same l p p t.opened hi (omega (arith, h.2.above)) refl h.0.below h.0.below_values below)
+      cut_joined l p hi v vs vars h.0 (slots_same l p p t.opened hi (omega (arith, h.2.turn.above)) refl h.0.below h.0.below_values below)
   all_vars hi v n cs vs os ps vars ops h = absurd h
 
   -- and every operand
@@ -136,7 +145,7 @@ module _ (s : Setting) (l : Lists) (code : List Instr) (p : List Slot) where
   all_ops hi v n (control.Skipped ∷ cs) vs os (Skipped ∷ ps) vars ops h = all_ops hi v n cs vs os ps vars ops h
   all_ops hi v n (control.Turning t ∷ cs) vs os (Turning i body source left kept ∷ ps) vars ops h =
       let below = all_ops t.opened h.4 h.5 cs h.0.below h.1.below ps h.0.below_values h.1.below_values h.7 in
-      cut_joined l p hi n os ops h.1 (slots_same l p p t.opened hi (omega (arith, h.2.above)) refl h.1.below h.1.below_values below)
+      cut_joined l p hi n os ops h.1 (slots_same l p p t.opened hi (omega (arith, h.2.turn.above)) refl h.1.below h.1.below_values below)
   all_ops hi v n cs vs os ps vars ops h = absurd h
 
   -- as many operands as the innermost segment has are there

@@ -47,7 +47,7 @@ code_has_kinds u p n o a =
 -- its instructions fit the unit
 rule_fits : (u : Content) (p : Population) (n o : ℕ) → IsAcceptedRun u p n o → AllFit (setting_of u p n) (unit_rule u n).code
 rule_fits u p n o a =
-    (EachFits-at (RuleFits u.texts u.symbols) [] u.rules n (unit_rule u n) (slice_get-get_or u.rules n empty_rule a.rule) a.unit.rules).1.code
+    (EachFits-at (RuleFits u.version u.texts u.symbols) [] u.rules n (unit_rule u n) (slice_get-get_or u.rules n empty_rule a.rule) a.unit.rules).1.code
 
 -- the code of a rule has kinds, is charged at most its bound, and leaves one operand, which fits Boolean
 code_kinded : (u : Content) (p : Population) (n o : ℕ) → IsAcceptedRun u p n o

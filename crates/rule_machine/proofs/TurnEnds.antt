@@ -6,7 +6,7 @@ use Rattle.ocl_kinds.specs.declared.kind.Kind.TheVariants as kind
 use Rattle.ocl_kinds.specs.declared.kind.ScalarKind.TheVariants as element
 use Rattle.rule_code.specs.declared.instruction.Instr.{Instr}
 use Rattle.rule_code.specs.declared.instruction.Instr.TheVariants as instrs
-use Rattle.rule_verify.specs.InstrKinds.{Surroundings, scalar_meant, ends_with}
+use Rattle.rule_verify.specs.InstrKinds.{Surroundings, scalar_meant, bound_count, ends_with}
 use Rattle.rule_values.specs.Value as value
 use Rattle.std.specs.List.{filter_map}
 use Rattle.std.proofs.lemmas.List.{length-take-le}
@@ -25,46 +25,34 @@ use Rattle.rule_slots.specs.Slots.{Lists, SlotIs, invalid_mark, held_slots, IsIn
 use Rattle.rule_machine.specs.Counts.{LeavesOne}
 use Rattle.rule_slots.specs.Operands.{is_number}
 use Rattle.rule_machine.specs.StandFor.{TopStandsFor, IsAt, Between, kept_slots, gives_truths, count_passing, one_more_if, turn_after, TellsDistinct, ending_slot, gives_part, given_pool}
-use Rattle.rule_machine.proofs.Stacks.{all_vars, all_ops, ops_there, vars_there}
-use Rattle.rule_machine.proofs.Blocks.{one_bound}
+use Rattle.rule_machine.proofs.Stacks.{all_ops, ops_there}
 use Rattle.rule_machine.proofs.InstrSteps.{past}
 use Rattle.rule_slots.proofs.ForAbove.{element_next, is_cut, truth_by, invalid_by, truth_operand}
 use Rattle.rule_machine.proofs.MarkSteps.{Leaving, leaves, left_behind, turn_keeping, turns_end}
 use Rattle.rule_machine.proofs.Keeps.{count_more}
-use Rattle.rule_machine.proofs.EndSlots.{IsMany, adds, many_what, unique_part, unique_in, ending_is, outside, gives_none}
+use Rattle.rule_machine.proofs.EndSlots.{IsMany, adds, many_what, unique_part, unique_in, ending_is, gives_none}
+use Rattle.rule_machine.proofs.KeptValues.{anywhere}
 use Rattle.rule_machine.proofs.Operands.{covers_meant}
 
 module _ (s : Setting) (l : Lists) (code : List Instr) (p : List Slot) where
-  -- a turn that ends has its variable, and its body's value
+  -- a turn that ends has its body's value on top of the operands
   pub record EndOf (t : Turn) (cs : List Control) (vs os : List Slot) (c : Configuration) : Type 0 where
-    pub o : Slot
-    pub vs1 : List Slot
     pub y : Slot
     pub os1 : List Slot
-    pub vars_are : vs ≡ o ∷ vs1
     pub ops_are : os ≡ y ∷ os1
-    pub leaving : Leaving s l code p t cs vs1 y os1 c
+    pub leaving : Leaving s l code p t cs (drop (bound_count t.instr) vs) y os1 c
 
-  -- and its step takes them
+  -- and its step takes it, with the variables that the turn bound
   pub end_of : (at end : ℕ) (t : Turn) (cs : List Control) (vs os : List Slot) (c : Configuration) → at ≡ end → IsAt s l code p at end (control.Turning t ∷ cs) vs os c → HasNext (step s c) → EndOf t cs vs os c
-  end_of at end t cs (o ∷ vs) (y ∷ os) c e h g = record { o = o; vs1 = vs; y = y; os1 = os; vars_are = refl; ops_are = refl; leaving = leaves s l code p at end t cs o vs y os c e h g }
-  end_of at end t cs [] os c e h g =
-      let f = past s l code p at end (control.Turning t ∷ cs) [] os c e h in
+  end_of at end t cs vs (y ∷ os) c e h g = record { y = y; os1 = os; ops_are = refl; leaving = leaves s l code p at end t cs vs y os c e h g }
+  end_of at end t cs vs [] c e h g =
+      let f = past s l code p at end (control.Turning t ∷ cs) vs [] c e h in
       absurd (by_pieces f.0 f.1 f.2 f.3 f.4 f.6 f.7)
     where
-      by_pieces : (ps : List Piece) (vars ops : List Value) (v n : ℕ) → LeavesOne s ps v n → TopStandsFor s l code p v n (control.Turning t ∷ cs) [] os ps vars ops → ⊥
-      by_pieces (Turning i body source left kept ∷ q) [] ops v n ends h =
-          omega (arith, ends.0, one_bound i, vars_there s l code p (length p) v n (control.Turning t ∷ cs) [] os (Turning i body source left kept ∷ q) [] ops h)
-      by_pieces (Turning i body source left kept ∷ q) (x ∷ vars) ops v n ends h = all_vars s l code p (length p) v n (control.Turning t ∷ cs) [] os (Turning i body source left kept ∷ q) (x ∷ vars) ops h
-      by_pieces ps vars ops v n ends h = absurd h
-  end_of at end t cs (o ∷ vs) [] c e h g =
-      let f = past s l code p at end (control.Turning t ∷ cs) (o ∷ vs) [] c e h in
-      absurd (by_pieces f.0 f.1 f.2 f.3 f.4 f.6 f.7)
-    where
-      by_pieces : (ps : List Piece) (vars ops : List Value) (v n : ℕ) → LeavesOne s ps v n → TopStandsFor s l code p v n (control.Turning t ∷ cs) (o ∷ vs) [] ps vars ops → ⊥
+      by_pieces : (ps : List Piece) (vars ops : List Value) (v n : ℕ) → LeavesOne s ps v n → TopStandsFor s l code p v n (control.Turning t ∷ cs) vs [] ps vars ops → ⊥
       by_pieces (Turning i body source left kept ∷ q) vars [] v n ends h =
-          omega (arith, ends.1, ops_there s l code p (length p) v n (control.Turning t ∷ cs) (o ∷ vs) [] (Turning i body source left kept ∷ q) vars [] h)
-      by_pieces (Turning i body source left kept ∷ q) vars (z ∷ ops) v n ends h = all_ops s l code p (length p) v n (control.Turning t ∷ cs) (o ∷ vs) [] (Turning i body source left kept ∷ q) vars (z ∷ ops) h
+          omega (arith, ends.1, ops_there s l code p (length p) v n (control.Turning t ∷ cs) vs [] (Turning i body source left kept ∷ q) vars [] h)
+      by_pieces (Turning i body source left kept ∷ q) vars (z ∷ ops) v n ends h = all_ops s l code p (length p) v n (control.Turning t ∷ cs) vs [] (Turning i body source left kept ∷ q) vars (z ∷ ops) h
       by_pieces ps vars ops v n ends h = absurd h
 
 -- a body that gives truth values gives one
@@ -84,7 +72,7 @@ module _ (s : Setting) (l : Lists) (code : List Instr) (p p2 : List Slot) where
   -- with what the body gave kept behind what was kept before, the iteration stands between two turns
   pub turn_over : (t : Turn) (cs : List Control) (vs : List Slot) (y : Slot) (os : List Slot) (c : Configuration) (e : Slot) (more : ℕ) → (h : Leaving s l code p t cs vs y os c) → slice_get (held_slots l p t.source) (t.next - 1) ≡ Some e
       → p2 ≡ take (t.opened + t.kept) p ++ kept_slots l p t.instr e y → more ≡ length (kept_slots l p t.instr e y)
-      → (d : Configuration) × (step s c ≡ Some d) × Between s l code p2 (turn_after t more y) cs vs os d
+      → (d : Configuration) × (step s c ≡ Some d) × Between s l code p2 (turn_after t more y) y cs vs os d
   turn_over t cs vs y os c e more h g pe em =
       let n : t.next - 1 ≡ length h.bodies = omega (arith, h.turns) in
       let x = element_next l (held_slots l p t.source) h.source.elements (length h.bodies) e h.turn.part.elements (subst (λ k. slice_get (held_slots l p t.source) k ≡ Some e) n g) in
@@ -99,7 +87,7 @@ module _ (s : Setting) (l : Lists) (code : List Instr) (p p2 : List Slot) where
       let r = left_behind s l code p p2 t cs vs y os c (kept_slots l p t.instr e y) a.0 (one_more_if (gives_truths t.instr && is_number y (pos 1)) t.trues) (one_more_if (gives_truths t.instr && is_number y (pos 0)) t.falses) (one_more_if (invalid_mark y.mark) t.invalids) h pe a.1 a.2 trues falses invalids in (
         r.0,
         r.1,
-        subst (λ k. Between s l code p2 (turn_keeping t k (one_more_if (gives_truths t.instr && is_number y (pos 1)) t.trues) (one_more_if (gives_truths t.instr && is_number y (pos 0)) t.falses) (one_more_if (invalid_mark y.mark) t.invalids)) cs vs os r.0) (sym em) r.2,
+        subst (λ k. Between s l code p2 (turn_keeping t k (one_more_if (gives_truths t.instr && is_number y (pos 1)) t.trues) (one_more_if (gives_truths t.instr && is_number y (pos 0)) t.falses) (one_more_if (invalid_mark y.mark) t.invalids)) y cs vs os r.0) (sym em) r.2,
       )
 
   -- a body that gives a collection gives one that lies in its list
@@ -118,21 +106,21 @@ same_front all x y xs ys e f = let q : xs ≡ ys = cc in e ∙ ap (λ l. x ∷ l
 -- at its end an iteration gives what its slot stands for, and the pool is cut back to that
 module _ (s : Setting) (l : Lists) (code : List Instr) (p : List Slot) where
   -- the machine stands after the step that ends an iteration
-  pub end_gives : (at end : ℕ) (t : Turn) (cs : List Control) (vs os : List Slot) (d : Configuration) (distinct : Bool) (gives : Slot) → at ≡ end → Between s l code p t cs vs os d → t.next ≡ t.source.count → TellsDistinct l p t distinct → gives ≡ ending_slot t.instr t distinct
+  pub end_gives : (at end : ℕ) (t : Turn) (last : Slot) (cs : List Control) (vs os : List Slot) (d : Configuration) (distinct : Bool) (gives : Slot) → at ≡ end → Between s l code p t last cs vs os d → t.next ≡ t.source.count → TellsDistinct l p t distinct → gives ≡ ending_slot t.instr t distinct last
       → IsAt s l code (given_pool t gives p) at end cs vs (gives ∷ os) d
-  end_gives at end t cs vs os d distinct gives e b all tells is = by_given (gives_part t.instr gives) refl
+  end_gives at end t last cs vs os d distinct gives e b all tells is = by_given (gives_part t.instr gives) refl
     where
       distinct_is : (q : WrittenScalar) (n : ℕ) → t.instr ≡ instrs.IsUnique q n → distinct ≡ not (repeats same_element (filter_map as_element b.bodies))
       distinct_is q n i =
           tells q n i s.population (scalar_meant (judged_by s) q) (filter_map as_element b.bodies) (covers_meant (judged_by s) q) (unique_part s l code p t b.i b.body b.source b.left b.bodies b.turn b.turns q n i) (unique_in s l code p t b.i b.body b.source b.left b.bodies b.turn b.turns q n i)
 
-      result : SlotIs l p (length p) gives (ending b.i b.source b.bodies)
-      result = subst (λ x. SlotIs l p (length p) x (ending b.i b.source b.bodies)) (sym is) (ending_is s l code p t b.i b.body b.source b.left b.bodies b.turn b.turns distinct distinct_is)
+      result : SlotIs l p (length p) gives (ending b.i b.source b.kept)
+      result = subst (λ x. SlotIs l p (length p) x (ending b.i b.source b.kept)) (sym is) (ending_is s l code p t b.i b.body b.source b.left b.bodies b.turn b.turns distinct last b.kept distinct_is b.keeps)
 
       by_given : (g : Bool) → gives_part t.instr gives ≡ g → IsAt s l code (if g then p else take t.opened p) at end cs vs (gives ∷ os) d
-      by_given true k = turns_end s l code p p at end t cs vs os gives d e b all refl (omega (arith, b.turn.above)) result
+      by_given true k = turns_end s l code p p at end t last cs vs os gives d e b all refl (omega (arith, b.turn.above)) result
       by_given false k =
           let low : t.opened ≤ length p = omega (arith, b.turn.above) in
           let same : take t.opened p ≡ take t.opened (take t.opened p) = is_cut p t.opened t.opened (omega arith) in
-          let none = gives_none l p (length p) b.i b.source b.bodies gives (ap (λ i. gives_part i gives) b.turn.same_instr ∙ k) result in
-          turns_end s l code p (take t.opened p) at end t cs vs os gives d e b all same (omega (arith, length-take-le t.opened p low)) (outside l p (take t.opened p) (length p) (length (take t.opened p)) gives (ending b.i b.source b.bodies) none result)
+          let none = gives_none l p (length p) b.i b.source b.bodies b.kept last gives b.keeps (ap (λ i. gives_part i gives) b.turn.same_instr ∙ k) result in
+          turns_end s l code p (take t.opened p) at end t last cs vs os gives d e b all same (omega (arith, length-take-le t.opened p low)) (anywhere l p (take t.opened p) (length p) (length (take t.opened p)) gives (ending b.i b.source b.kept) none result)

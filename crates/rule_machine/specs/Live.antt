@@ -58,6 +58,7 @@ block_is_iteration (Some (blocks.Reject n)) = true
 block_is_iteration (Some (blocks.Collect n)) = true
 block_is_iteration (Some (blocks.CollectFlat n)) = true
 block_is_iteration (Some (blocks.IsUnique k n)) = true
+block_is_iteration (Some (blocks.Fold k n)) = true
 
 abbrev pub is_iteration : Instr → Bool
 is_iteration i = block_is_iteration (block_of i)
@@ -109,13 +110,41 @@ pub record HasRoom (d : Depths) (n : ℕ) (at : Stand) : Type 0 where
 
 -- ---- pending code
 
--- what an iteration keeps
+-- what an iteration keeps: FOLD one value, of each other nothing is asked
+abbrev pub BlockHasKept : Option BlockInstr → List Value → Type 0
+BlockHasKept None kept = Unit {0}
+BlockHasKept (Some (blocks.Let n)) kept = Unit {0}
+BlockHasKept (Some (blocks.If k n m)) kept = Unit {0}
+BlockHasKept (Some (blocks.ForAll n)) kept = Unit {0}
+BlockHasKept (Some (blocks.Exists n)) kept = Unit {0}
+BlockHasKept (Some (blocks.One n)) kept = Unit {0}
+BlockHasKept (Some (blocks.Select n)) kept = Unit {0}
+BlockHasKept (Some (blocks.Reject n)) kept = Unit {0}
+BlockHasKept (Some (blocks.Collect n)) kept = Unit {0}
+BlockHasKept (Some (blocks.CollectFlat n)) kept = Unit {0}
+BlockHasKept (Some (blocks.IsUnique k n)) kept = Unit {0}
+BlockHasKept (Some (blocks.Fold k n)) kept = (v : Value) × (kept ≡ v ∷ [])
+
 abbrev pub HasKept : Instr → List Value → Type 0
-HasKept i kept = Unit {0}
+HasKept i kept = BlockHasKept (block_of i) kept
 
 -- how many values it keeps of turns that are over
+abbrev pub block_turns_kept : Option BlockInstr → List Value → ℕ
+block_turns_kept None kept = length kept
+block_turns_kept (Some (blocks.Let n)) kept = length kept
+block_turns_kept (Some (blocks.If k n m)) kept = length kept
+block_turns_kept (Some (blocks.ForAll n)) kept = length kept
+block_turns_kept (Some (blocks.Exists n)) kept = length kept
+block_turns_kept (Some (blocks.One n)) kept = length kept
+block_turns_kept (Some (blocks.Select n)) kept = length kept
+block_turns_kept (Some (blocks.Reject n)) kept = length kept
+block_turns_kept (Some (blocks.Collect n)) kept = length kept
+block_turns_kept (Some (blocks.CollectFlat n)) kept = length kept
+block_turns_kept (Some (blocks.IsUnique k n)) kept = length kept
+block_turns_kept (Some (blocks.Fold k n)) kept = 0
+
 abbrev pub turns_kept : Instr → List Value → ℕ
-turns_kept i kept = length kept
+turns_kept i kept = block_turns_kept (block_of i) kept
 
 -- An iteration in the middle of its run: its body has kinds and is charged at most m, its source stands at the place
 -- p, and what its body gave in the turns before, and will give, may stand at the place r.

@@ -143,7 +143,7 @@ performed s vars i os = option_and_then (λ left. option_map (λ v. v ∷ left) 
 -- ---- configurations
 
 -- What is pending: a sequence of instructions; the end of a LET; an iteration before its first turn, and one in a turn,
--- with the elements that are left and what is kept of the turns before; an iteration over invalid.
+-- with the elements that are left and what is kept of the turns before, of FOLD the accumulator; an iteration over invalid.
 pub data Piece : Type 0 where
   Sequence : CodeTree → Piece
   LetEnd : Piece
@@ -182,23 +182,30 @@ opened_over i body (value.Collection c es) kept ps vars os =
 opened_over i body value.Invalid kept ps vars os = Some (configuration (Skipped ∷ ps) vars os)
 opened_over i body v kept ps vars os = None
 
--- LET binds the value that it takes; every other block with one body is an iteration
-abbrev pub block_opened_by : Option BlockInstr → Instr → CodeTree → Value → List Piece → List Value → List Value → Option Configuration
-block_opened_by None i body v ps vars left = opened_over i body v [] ps vars left
-block_opened_by (Some (blocks.Let n)) i body v ps vars left = Some (configuration (Sequence body ∷ LetEnd ∷ ps) (v ∷ vars) left)
-block_opened_by (Some (blocks.If k n m)) i body v ps vars left = opened_over i body v [] ps vars left
-block_opened_by (Some (blocks.ForAll n)) i body v ps vars left = opened_over i body v [] ps vars left
-block_opened_by (Some (blocks.Exists n)) i body v ps vars left = opened_over i body v [] ps vars left
-block_opened_by (Some (blocks.One n)) i body v ps vars left = opened_over i body v [] ps vars left
-block_opened_by (Some (blocks.Select n)) i body v ps vars left = opened_over i body v [] ps vars left
-block_opened_by (Some (blocks.Reject n)) i body v ps vars left = opened_over i body v [] ps vars left
-block_opened_by (Some (blocks.Collect n)) i body v ps vars left = opened_over i body v [] ps vars left
-block_opened_by (Some (blocks.CollectFlat n)) i body v ps vars left = opened_over i body v [] ps vars left
-block_opened_by (Some (blocks.IsUnique k n)) i body v ps vars left = opened_over i body v [] ps vars left
+-- FOLD goes over the collection below its start value, which it keeps
+abbrev pub fold_opened : Instr → CodeTree → Value → List Value → List Piece → List Value → List Value → Option Configuration
+fold_opened i body start [] ps vars left = None
+fold_opened i body start (v ∷ os) ps vars left = opened_over i body v (start ∷ []) ps vars left
+
+-- LET binds the value that it takes; every other block with one body is an iteration. By the topmost operand and those
+-- below it.
+abbrev pub block_opened_by : Option BlockInstr → Instr → CodeTree → Value → List Value → List Piece → List Value → List Value → Option Configuration
+block_opened_by None i body v os ps vars left = opened_over i body v [] ps vars left
+block_opened_by (Some (blocks.Let n)) i body v os ps vars left = Some (configuration (Sequence body ∷ LetEnd ∷ ps) (v ∷ vars) left)
+block_opened_by (Some (blocks.If k n m)) i body v os ps vars left = opened_over i body v [] ps vars left
+block_opened_by (Some (blocks.ForAll n)) i body v os ps vars left = opened_over i body v [] ps vars left
+block_opened_by (Some (blocks.Exists n)) i body v os ps vars left = opened_over i body v [] ps vars left
+block_opened_by (Some (blocks.One n)) i body v os ps vars left = opened_over i body v [] ps vars left
+block_opened_by (Some (blocks.Select n)) i body v os ps vars left = opened_over i body v [] ps vars left
+block_opened_by (Some (blocks.Reject n)) i body v os ps vars left = opened_over i body v [] ps vars left
+block_opened_by (Some (blocks.Collect n)) i body v os ps vars left = opened_over i body v [] ps vars left
+block_opened_by (Some (blocks.CollectFlat n)) i body v os ps vars left = opened_over i body v [] ps vars left
+block_opened_by (Some (blocks.IsUnique k n)) i body v os ps vars left = opened_over i body v [] ps vars left
+block_opened_by (Some (blocks.Fold k n)) i body v os ps vars left = fold_opened i body v os ps vars left
 
 abbrev pub block_opened : Instr → CodeTree → List Value → List Piece → List Value → List Value → Option Configuration
 block_opened i body [] ps vars left = None
-block_opened i body (v ∷ os) ps vars left = block_opened_by (block_of i) i body v ps vars left
+block_opened i body (v ∷ os) ps vars left = block_opened_by (block_of i) i body v os ps vars left
 
 -- what a turn binds, the newest first
 abbrev pub block_bound_values : Option BlockInstr → Element → List Value → List Value
@@ -213,11 +220,12 @@ block_bound_values (Some (blocks.Reject n)) e kept = element_value e ∷ []
 block_bound_values (Some (blocks.Collect n)) e kept = element_value e ∷ []
 block_bound_values (Some (blocks.CollectFlat n)) e kept = element_value e ∷ []
 block_bound_values (Some (blocks.IsUnique k n)) e kept = element_value e ∷ []
+block_bound_values (Some (blocks.Fold k n)) e kept = kept ++ element_value e ∷ []
 
 abbrev pub bound_values : Instr → Element → List Value → List Value
 bound_values i e kept = block_bound_values (block_of i) e kept
 
--- what is kept with the value that a body gave
+-- what is kept with the value that a body gave: of FOLD that value alone, the accumulator of the next turn
 abbrev pub block_keeping : Option BlockInstr → List Value → Value → List Value
 block_keeping None kept v = kept ++ v ∷ []
 block_keeping (Some (blocks.Let n)) kept v = kept ++ v ∷ []
@@ -230,6 +238,7 @@ block_keeping (Some (blocks.Reject n)) kept v = kept ++ v ∷ []
 block_keeping (Some (blocks.Collect n)) kept v = kept ++ v ∷ []
 block_keeping (Some (blocks.CollectFlat n)) kept v = kept ++ v ∷ []
 block_keeping (Some (blocks.IsUnique k n)) kept v = kept ++ v ∷ []
+block_keeping (Some (blocks.Fold k n)) kept v = v ∷ []
 
 abbrev pub keeping : Instr → List Value → Value → List Value
 keeping i kept v = block_keeping (block_of i) kept v

@@ -75,9 +75,24 @@ yielded s i p r = place (yields (judged_by s) i p.kind r.kind) (length_yielded i
 abbrev pub branch_place : Setting → Instr → Place → Place → Place → Place
 branch_place s i p a b = place (yields (judged_by s) i p.kind a.kind) (max a.longest b.longest)
 
--- the place of what an iteration keeps, by that of what its body ends with
+-- the place of what an iteration keeps, by that of what its body ends with: of FOLD that of the kind that it writes, since
+-- its start value isn't what a body ended with
+abbrev pub block_kept_place : Setting → Option BlockInstr → Place → Place
+block_kept_place s None r = r
+block_kept_place s (Some (blocks.Let n)) r = r
+block_kept_place s (Some (blocks.If k n m)) r = r
+block_kept_place s (Some (blocks.ForAll n)) r = r
+block_kept_place s (Some (blocks.Exists n)) r = r
+block_kept_place s (Some (blocks.One n)) r = r
+block_kept_place s (Some (blocks.Select n)) r = r
+block_kept_place s (Some (blocks.Reject n)) r = r
+block_kept_place s (Some (blocks.Collect n)) r = r
+block_kept_place s (Some (blocks.CollectFlat n)) r = r
+block_kept_place s (Some (blocks.IsUnique k n)) r = r
+block_kept_place s (Some (blocks.Fold k n)) r = place (kind.Scalar (scalar_meant (judged_by s) k)) 0
+
 abbrev pub kept_place : Setting → Instr → Place → Place
-kept_place s i r = r
+kept_place s i r = block_kept_place s (block_of i) r
 
 -- the places of the operands after a tree, by those of the variables and of the operands before it
 abbrev pub places_after : Setting → CodeTree → List Place → List Place → List Place
@@ -137,6 +152,7 @@ block_marked_by s (Some (blocks.Reject n)) i body vars p ps = iteration_mark s i
 block_marked_by s (Some (blocks.Collect n)) i body vars p ps = iteration_mark s i body vars p ps
 block_marked_by s (Some (blocks.CollectFlat n)) i body vars p ps = iteration_mark s i body vars p ps
 block_marked_by s (Some (blocks.IsUnique k n)) i body vars p ps = iteration_mark s i body vars p ps
+block_marked_by s (Some (blocks.Fold k n)) i body vars p ps = iteration_mark s i body vars p ps
 
 abbrev pub block_marked : Setting → Instr → CodeTree → List Place → Place → List Place → List Mark
 block_marked s i body vars p ps = block_marked_by s (block_of i) i body vars p ps

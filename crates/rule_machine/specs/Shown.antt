@@ -80,10 +80,11 @@ LiesIn t m = LiesInAt (code_in t) m.at m.end m.controls.0
 
 -- ---- room
 
--- the stacks have room for what a rule that goes so deep puts on them, and for one step more
+-- the stacks have room for what a rule that goes so deep puts on them, for one step more, and for a start value that is
+-- left on the operands
 pub record HasRoomFor (d : Depths) (m : State) : Type 0 where
-  pub operands : d.operands < m.operands.1
-  pub variables : d.variables < m.variables.1
+  pub operands : d.operands + 2 ≤ m.operands.1
+  pub variables : d.variables + 2 ≤ m.variables.1
   pub controls : 2 * d.blocks + 3 ≤ m.controls.1
 
 -- they have room for each rule
@@ -96,7 +97,7 @@ depths_in t = depths_of t.population.now.content.model t.accepted.now.unit t.rul
 -- there is room for what a step puts on the stacks
 pub record Room (m : State) : Type 0 where
   pub operands : length m.operands.0 < m.operands.1
-  pub variables : length m.variables.0 < m.variables.1
+  pub variables : length m.variables.0 + 2 ≤ m.variables.1
   pub controls : length m.controls.0 + 2 ≤ m.controls.1
 
 -- as much room
@@ -196,19 +197,19 @@ mark_charge_by c ls = 1
 
 -- ---- iterations
 
--- an iteration stands between two turns
-abbrev pub BetweenIn : Task → Turn → State → Configuration → Type 0
-BetweenIn t turn m d = Between (setting_in t) (task_lists t) (code_in t) m.pool.items turn m.controls.0 m.variables.0 m.operands.0 d
+-- an iteration stands between two turns, by what its body gave last
+abbrev pub BetweenIn : Task → Turn → Slot → State → Configuration → Type 0
+BetweenIn t turn last m d = Between (setting_in t) (task_lists t) (code_in t) m.pool.items turn last m.controls.0 m.variables.0 m.operands.0 d
 
 -- it goes on to its next turn, or to its end
-pub record WentOn (t : Task) (turn : Turn) (old new : State) : Type 0 where
-  pub made : (d : Configuration) → BetweenIn t turn old d → Is t new d
+pub record WentOn (t : Task) (turn : Turn) (last : Slot) (old new : State) : Type 0 where
+  pub made : (d : Configuration) → BetweenIn t turn last old d → Is t new d
   pub place : LiesIn t new
   pub kept : Kept old new
 
 -- a turn is over: its step leads to where the iteration stands between two turns
-pub record TurnEnded (t : Task) (after : Turn) (old new : State) : Type 0 where
-  pub made : (c : Configuration) → Is t old c → HasNext (step (setting_in t) c) → (d : Configuration) × (step (setting_in t) c ≡ Some d) × BetweenIn t after new d
+pub record TurnEnded (t : Task) (after : Turn) (last : Slot) (old new : State) : Type 0 where
+  pub made : (c : Configuration) → Is t old c → HasNext (step (setting_in t) c) → (d : Configuration) × (step (setting_in t) c ≡ Some d) × BetweenIn t after last new d
   pub turn : IsTurnIn (code_in t) after
   pub place : LiesIn t new
   pub kept : Kept old new

@@ -11,7 +11,8 @@ use Rattle.rule_code.specs.declared.instruction.Instr.TheVariants as instrs
 use Rattle.rule_verify.specs.declared.block_instr.BlockInstr.{BlockInstr}
 use Rattle.rule_verify.specs.declared.block_instr.BlockInstr.TheVariants as blocks
 use Rattle.rule_verify.specs.CodeTree.{CodeTree, block_of, code_tree}
-use Rattle.rule_verify.specs.InstrKinds.{ends_with, operands_of}
+use Rattle.rule_verify.specs.InstrKinds.{ends_with, operands_of, operands_above}
+use Rattle.rule_values.specs.Value as value
 use Rattle.rule_values.specs.Value.{Element, Value, as_element, same_element, is_element_in}
 use Rattle.rule_values.specs.Operations.{is_true, is_false, is_invalid}
 use Rattle.rule_values.specs.Endings.{Source, kept_by, joined}
@@ -42,6 +43,7 @@ block_kept_elements (Some (blocks.Reject n)) es bs = kept_by is_false es bs
 block_kept_elements (Some (blocks.Collect n)) es bs = filter_map as_element bs
 block_kept_elements (Some (blocks.CollectFlat n)) es bs = joined bs
 block_kept_elements (Some (blocks.IsUnique k n)) es bs = filter_map as_element bs
+block_kept_elements (Some (blocks.Fold k n)) es bs = []
 
 abbrev pub kept_elements : Instr → List Element → List Value → List Element
 kept_elements i es bs = block_kept_elements (block_of i) es bs
@@ -64,9 +66,69 @@ block_gives_truths (Some (blocks.Reject n)) = true
 block_gives_truths (Some (blocks.Collect n)) = false
 block_gives_truths (Some (blocks.CollectFlat n)) = false
 block_gives_truths (Some (blocks.IsUnique k n)) = false
+block_gives_truths (Some (blocks.Fold k n)) = false
 
 abbrev pub gives_truths : Instr → Bool
 gives_truths i = block_gives_truths (block_of i)
+
+-- no collection
+abbrev pub IsNoCollection : Value → Type 0
+IsNoCollection (value.Collection c es) = ⊥
+IsNoCollection v = Unit {0}
+
+-- what an iteration keeps, by the values of its bodies: FOLD one value, every other all of them
+abbrev pub BlockKeeps : Option BlockInstr → List Value → List Value → Type 0
+BlockKeeps None bodies kept = kept ≡ bodies
+BlockKeeps (Some (blocks.Let n)) bodies kept = kept ≡ bodies
+BlockKeeps (Some (blocks.If k n m)) bodies kept = kept ≡ bodies
+BlockKeeps (Some (blocks.ForAll n)) bodies kept = kept ≡ bodies
+BlockKeeps (Some (blocks.Exists n)) bodies kept = kept ≡ bodies
+BlockKeeps (Some (blocks.One n)) bodies kept = kept ≡ bodies
+BlockKeeps (Some (blocks.Select n)) bodies kept = kept ≡ bodies
+BlockKeeps (Some (blocks.Reject n)) bodies kept = kept ≡ bodies
+BlockKeeps (Some (blocks.Collect n)) bodies kept = kept ≡ bodies
+BlockKeeps (Some (blocks.CollectFlat n)) bodies kept = kept ≡ bodies
+BlockKeeps (Some (blocks.IsUnique k n)) bodies kept = kept ≡ bodies
+BlockKeeps (Some (blocks.Fold k n)) bodies kept = (v : Value) × (kept ≡ v ∷ [])
+
+abbrev pub Keeps : Instr → List Value → List Value → Type 0
+Keeps i bodies kept = BlockKeeps (block_of i) bodies kept
+
+-- the same between two turns, by the slot of what its body gave last: the value that FOLD keeps is that slot's
+abbrev pub BlockKeepsLast : Lists → List Slot → Option BlockInstr → List Value → Slot → List Value → Type 0
+BlockKeepsLast l pool None bodies last kept = kept ≡ bodies
+BlockKeepsLast l pool (Some (blocks.Let n)) bodies last kept = kept ≡ bodies
+BlockKeepsLast l pool (Some (blocks.If k n m)) bodies last kept = kept ≡ bodies
+BlockKeepsLast l pool (Some (blocks.ForAll n)) bodies last kept = kept ≡ bodies
+BlockKeepsLast l pool (Some (blocks.Exists n)) bodies last kept = kept ≡ bodies
+BlockKeepsLast l pool (Some (blocks.One n)) bodies last kept = kept ≡ bodies
+BlockKeepsLast l pool (Some (blocks.Select n)) bodies last kept = kept ≡ bodies
+BlockKeepsLast l pool (Some (blocks.Reject n)) bodies last kept = kept ≡ bodies
+BlockKeepsLast l pool (Some (blocks.Collect n)) bodies last kept = kept ≡ bodies
+BlockKeepsLast l pool (Some (blocks.CollectFlat n)) bodies last kept = kept ≡ bodies
+BlockKeepsLast l pool (Some (blocks.IsUnique k n)) bodies last kept = kept ≡ bodies
+BlockKeepsLast l pool (Some (blocks.Fold k n)) bodies last kept = (v : Value) × (kept ≡ v ∷ []) × SlotIs l pool (length pool) last v × IsNoCollection v
+
+abbrev pub KeepsLast : Lists → List Slot → Instr → List Value → Slot → List Value → Type 0
+KeepsLast l pool i bodies last kept = BlockKeepsLast l pool (block_of i) bodies last kept
+
+-- the same before the first turn: FOLD's start value is left on the operands
+abbrev pub BlockKeepsStart : Lists → List Slot → Option BlockInstr → List Slot → List Value → Type 0
+BlockKeepsStart l pool None os kept = kept ≡ []
+BlockKeepsStart l pool (Some (blocks.Let n)) os kept = kept ≡ []
+BlockKeepsStart l pool (Some (blocks.If k n m)) os kept = kept ≡ []
+BlockKeepsStart l pool (Some (blocks.ForAll n)) os kept = kept ≡ []
+BlockKeepsStart l pool (Some (blocks.Exists n)) os kept = kept ≡ []
+BlockKeepsStart l pool (Some (blocks.One n)) os kept = kept ≡ []
+BlockKeepsStart l pool (Some (blocks.Select n)) os kept = kept ≡ []
+BlockKeepsStart l pool (Some (blocks.Reject n)) os kept = kept ≡ []
+BlockKeepsStart l pool (Some (blocks.Collect n)) os kept = kept ≡ []
+BlockKeepsStart l pool (Some (blocks.CollectFlat n)) os kept = kept ≡ []
+BlockKeepsStart l pool (Some (blocks.IsUnique k n)) os kept = kept ≡ []
+BlockKeepsStart l pool (Some (blocks.Fold k n)) os kept = (start : Slot) × (left : List Slot) × (v : Value) × (os ≡ start ∷ left) × (kept ≡ v ∷ []) × SlotIs l pool (length pool) start v × IsNoCollection v
+
+abbrev pub KeepsStart : Lists → List Slot → Instr → List Slot → List Value → Type 0
+KeepsStart l pool i os kept = BlockKeepsStart l pool (block_of i) os kept
 
 -- the iteration of a mark: its source lies below where the pool was opened, and what it keeps from there on
 pub record TurnIs (s : Setting) (l : Lists) (code : List Instr) (pool : List Slot) (hi : ℕ) (t : Turn) (i : Instr) (body : CodeTree) (source : Source) (left : List Element) (bodies : List Value) : Type 0 where
@@ -80,6 +142,13 @@ pub record TurnIs (s : Setting) (l : Lists) (code : List Instr) (pool : List Slo
   pub falses : gives_truths t.instr ≡ true → t.falses ≡ count_passing is_false bodies
   pub invalids : t.invalids ≡ count_passing is_invalid bodies
   pub fitting : AllByRecursion (λ b. is_what s.population (ends_with (judged_by s) t.instr) b ≡ true) bodies
+
+-- the iteration of a mark in a turn, by what it keeps: its bodies so far are those of the turns before this one
+pub record TurnKeeps (s : Setting) (l : Lists) (code : List Instr) (pool : List Slot) (hi : ℕ) (t : Turn) (i : Instr) (body : CodeTree) (source : Source) (left : List Element) (kept : List Value) : Type 0 where
+  pub bodies : List Value
+  pub keeps : Keeps i bodies kept
+  pub turn : TurnIs s l code pool hi t i body source left bodies
+  pub turns : length bodies + 1 ≡ t.next
 
 -- ---- segments
 
@@ -104,15 +173,16 @@ StandsFor s l code pool hi v n (control.Rest a b ∷ cs) vs os (Sequence t ∷ q
 StandsFor s l code pool hi v n (control.LetEnd ∷ cs) vs os (LetEnd ∷ q) vars ops = StandsFor s l code pool hi v n cs vs os q vars ops
 StandsFor s l code pool hi v n (control.Skipped ∷ cs) vs os (Skipped ∷ q) vars ops = StandsFor s l code pool hi v n cs vs os q vars ops
 StandsFor s l code pool hi v n (control.Turning t ∷ cs) vs os (Turning i body source left kept ∷ q) vars ops =
-    (a : Cut l pool hi v vs vars) × (b : Cut l pool hi n os ops) × TurnIs s l code pool hi t i body source left kept × Balanced s body 0 1
+    (a : Cut l pool hi v vs vars) × (b : Cut l pool hi n os ops) × TurnKeeps s l code pool hi t i body source left kept × Balanced s body 0 1
     × (w : ℕ) × (m : ℕ) × LeavesOne s q w (suc m) × StandsFor s l code pool t.opened w m cs a.below b.below q a.below_values b.below_values
-    × (length kept + 1 ≡ t.next)
 StandsFor s l code pool hi v n cs vs os q vars ops = ⊥
 
--- An iteration before its first turn stands on top alone; the pool is as long as when it was opened.
+-- An iteration before its first turn stands on top alone; the pool is as long as when it was opened. What stands for the
+-- operands lies below the start value of FOLD.
 abbrev pub TopStandsFor : Setting → Lists → List Instr → List Slot → ℕ → ℕ → List Control → List Slot → List Slot → List Piece → List Value → List Value → Type 0
 TopStandsFor s l code pool v n (control.Opened t ∷ cs) vs os (Opened i body source kept ∷ q) vars ops =
-    (t.opened ≡ length pool) × (kept ≡ []) × TurnIs s l code pool (length pool) t i body source source.elements [] × StandsFor s l code pool (length pool) v n cs vs os q vars ops
+    (t.opened ≡ length pool) × KeepsStart l pool i os kept × TurnIs s l code pool (length pool) t i body source source.elements []
+    × StandsFor s l code pool (length pool) v n cs vs (drop (operands_above i) os) q vars ops
     × (t.next ≡ 0) × Balanced s body 0 1
 TopStandsFor s l code pool v n cs vs os q vars ops = StandsFor s l code pool (length pool) v n cs vs os q vars ops
 
@@ -190,23 +260,45 @@ block_kept_slots l pool (Some (blocks.Reject n)) e y = if is_number y (pos 0) th
 block_kept_slots l pool (Some (blocks.Collect n)) e y = if invalid_mark y.mark then [] else y ∷ []
 block_kept_slots l pool (Some (blocks.CollectFlat n)) e y = if invalid_mark y.mark then [] else held_slots l pool y
 block_kept_slots l pool (Some (blocks.IsUnique k n)) e y = if invalid_mark y.mark then [] else y ∷ []
+block_kept_slots l pool (Some (blocks.Fold k n)) e y = []
 
 abbrev pub kept_slots : Lists → List Slot → Instr → Slot → Slot → List Slot
 kept_slots l pool i e y = block_kept_slots l pool (block_of i) e y
 
--- An iteration between two turns: the pool is cut to what it keeps.
-pub record Between (s : Setting) (l : Lists) (code : List Instr) (p : List Slot) (t : Turn) (cs : List Control) (vs os : List Slot) (d : Configuration) : Type 0 where
+-- the slots that a turn binds, the newest first, by its element and by what the body gave last
+abbrev pub block_bound_slots : Option BlockInstr → Slot → Slot → List Slot
+block_bound_slots None e last = e ∷ []
+block_bound_slots (Some (blocks.Let n)) e last = e ∷ []
+block_bound_slots (Some (blocks.If k n m)) e last = e ∷ []
+block_bound_slots (Some (blocks.ForAll n)) e last = e ∷ []
+block_bound_slots (Some (blocks.Exists n)) e last = e ∷ []
+block_bound_slots (Some (blocks.One n)) e last = e ∷ []
+block_bound_slots (Some (blocks.Select n)) e last = e ∷ []
+block_bound_slots (Some (blocks.Reject n)) e last = e ∷ []
+block_bound_slots (Some (blocks.Collect n)) e last = e ∷ []
+block_bound_slots (Some (blocks.CollectFlat n)) e last = e ∷ []
+block_bound_slots (Some (blocks.IsUnique k n)) e last = e ∷ []
+block_bound_slots (Some (blocks.Fold k n)) e last = last ∷ e ∷ []
+
+abbrev pub bound_slots : Instr → Slot → Slot → List Slot
+bound_slots i e last = block_bound_slots (block_of i) e last
+
+-- An iteration between two turns: the pool is cut to what it keeps. What its body gave last, or before the first turn the
+-- start value of FOLD, is in no stack.
+pub record Between (s : Setting) (l : Lists) (code : List Instr) (p : List Slot) (t : Turn) (last : Slot) (cs : List Control) (vs os : List Slot) (d : Configuration) : Type 0 where
   pub i : Instr
   pub body : CodeTree
   pub source : Source
   pub left : List Element
   pub bodies : List Value
+  pub kept : List Value
   pub q : List Piece
   pub vars : List Value
   pub ops : List Value
   pub w : ℕ
   pub m : ℕ
-  pub same : d ≡ turned i body source left bodies q vars ops
+  pub same : d ≡ turned i body source left kept q vars ops
+  pub keeps : KeepsLast l p i bodies last kept
   pub turn : TurnIs s l code p (length p) t i body source left bodies
   pub body_ends : Balanced s body 0 1
   pub later : LeavesOne s q w (suc m)
@@ -240,6 +332,7 @@ block_gives_part (Some (blocks.Reject n)) s = plain_mark s.mark
 block_gives_part (Some (blocks.Collect n)) s = plain_mark s.mark
 block_gives_part (Some (blocks.CollectFlat n)) s = plain_mark s.mark
 block_gives_part (Some (blocks.IsUnique k n)) s = false
+block_gives_part (Some (blocks.Fold k n)) s = false
 
 abbrev pub gives_part : Instr → Slot → Bool
 gives_part i s = block_gives_part (block_of i) s
@@ -252,22 +345,24 @@ given_pool t gives pool = if gives_part t.instr gives then pool else take t.open
 abbrev pub slot_if : Bool → Slot → Slot
 slot_if b s = if b then s else invalid_slot
 
--- what an iteration gives at its end, by whether no element that it keeps stands there twice
-abbrev pub block_ending_slot : Option BlockInstr → Turn → Bool → Slot
-block_ending_slot None t distinct = invalid_slot
-block_ending_slot (Some (blocks.Let n)) t distinct = invalid_slot
-block_ending_slot (Some (blocks.If k n m)) t distinct = invalid_slot
-block_ending_slot (Some (blocks.ForAll n)) t distinct = known_slot (t.trues == t.next) (nat_lt 0 t.falses)
-block_ending_slot (Some (blocks.Exists n)) t distinct = known_slot (nat_lt 0 t.trues) (t.falses == t.next)
-block_ending_slot (Some (blocks.One n)) t distinct = slot_if (all_decided t) (truth_slot (t.trues == 1))
-block_ending_slot (Some (blocks.Select n)) t distinct = slot_if (all_decided t) (kept_part t)
-block_ending_slot (Some (blocks.Reject n)) t distinct = slot_if (all_decided t) (kept_part t)
-block_ending_slot (Some (blocks.Collect n)) t distinct = slot_if (t.invalids == 0) (kept_part t)
-block_ending_slot (Some (blocks.CollectFlat n)) t distinct = slot_if (t.invalids == 0) (kept_part t)
-block_ending_slot (Some (blocks.IsUnique k n)) t distinct = slot_if (t.invalids == 0) (truth_slot distinct)
+-- what an iteration gives at its end, by whether no element that it keeps stands there twice, and by what its
+-- body gave last
+abbrev pub block_ending_slot : Option BlockInstr → Turn → Bool → Slot → Slot
+block_ending_slot None t distinct last = invalid_slot
+block_ending_slot (Some (blocks.Let n)) t distinct last = invalid_slot
+block_ending_slot (Some (blocks.If k n m)) t distinct last = invalid_slot
+block_ending_slot (Some (blocks.ForAll n)) t distinct last = known_slot (t.trues == t.next) (nat_lt 0 t.falses)
+block_ending_slot (Some (blocks.Exists n)) t distinct last = known_slot (nat_lt 0 t.trues) (t.falses == t.next)
+block_ending_slot (Some (blocks.One n)) t distinct last = slot_if (all_decided t) (truth_slot (t.trues == 1))
+block_ending_slot (Some (blocks.Select n)) t distinct last = slot_if (all_decided t) (kept_part t)
+block_ending_slot (Some (blocks.Reject n)) t distinct last = slot_if (all_decided t) (kept_part t)
+block_ending_slot (Some (blocks.Collect n)) t distinct last = slot_if (t.invalids == 0) (kept_part t)
+block_ending_slot (Some (blocks.CollectFlat n)) t distinct last = slot_if (t.invalids == 0) (kept_part t)
+block_ending_slot (Some (blocks.IsUnique k n)) t distinct last = slot_if (t.invalids == 0) (truth_slot distinct)
+block_ending_slot (Some (blocks.Fold k n)) t distinct last = last
 
-abbrev pub ending_slot : Instr → Turn → Bool → Slot
-ending_slot i t distinct = block_ending_slot (block_of i) t distinct
+abbrev pub ending_slot : Instr → Turn → Bool → Slot → Slot
+ending_slot i t distinct last = block_ending_slot (block_of i) t distinct last
 
 -- what a slot says of the object of a rule that ends with it
 abbrev pub verdict_slot : Slot → Verdict

@@ -122,7 +122,7 @@ fn taking_charge(instr: Instr, length: u64) -> u128
         Some(BlockInstr::CollectFlat(_)) => u128::from(length),
         Some(BlockInstr::ForAll(_) | BlockInstr::Exists(_) | BlockInstr::One(_)) => 0,
         Some(BlockInstr::Select(_) | BlockInstr::Reject(_) | BlockInstr::Collect(_)) => 0,
-        Some(BlockInstr::IsUnique(_, _)) => 0,
+        Some(BlockInstr::IsUnique(_, _) | BlockInstr::Fold(_, _)) => 0,
         Some(BlockInstr::Let(_) | BlockInstr::If(_, _, _)) | None => 0,
     }
 }
@@ -140,6 +140,7 @@ fn turn_charge(instr: Instr, length: usize, taken: usize) -> u128
         Some(BlockInstr::ForAll(_) | BlockInstr::Exists(_) | BlockInstr::One(_)) => 0,
         Some(BlockInstr::Select(_) | BlockInstr::Reject(_)) => 0,
         Some(BlockInstr::Collect(_) | BlockInstr::CollectFlat(_)) => 0,
+        Some(BlockInstr::Fold(_, _)) => 0,
         Some(BlockInstr::Let(_) | BlockInstr::If(_, _, _)) | None => 0,
     }
 }

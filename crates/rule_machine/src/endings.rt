@@ -9,10 +9,11 @@ use rule_code::Instr;
 use rule_slots::{Slot, invalid_slot, is_false, is_true, known_slot, part_slot, truth_slot};
 use rule_verify::{BlockInstr, block_of};
 
-/// What an iteration gives at its end, by whether no element that it keeps stands there twice.
-pub(crate) fn ending(turn: Turn, distinct: bool) -> Slot
+/// What an iteration gives at its end, by whether no element that it keeps stands there twice, and by what its body gave
+/// last.
+pub(crate) fn ending(turn: Turn, distinct: bool, last: Slot) -> Slot
     requires { gives_truths turn.instr ≡ true → turn.trues + turn.falses < 2 ^ 64 }
-    ensures { result ≡ ending_slot turn.instr turn distinct }
+    ensures { result ≡ ending_slot turn.instr turn distinct last }
 {
     match block_of(turn.instr) {
         Some(BlockInstr::ForAll(_)) => known_slot(turn.trues == turn.next, 0 < turn.falses),
@@ -25,6 +26,7 @@ pub(crate) fn ending(turn: Turn, distinct: bool) -> Slot
             slot_if(turn.invalids == 0, kept_part(turn))
         }
         Some(BlockInstr::IsUnique(_, _)) => slot_if(turn.invalids == 0, truth_slot(distinct)),
+        Some(BlockInstr::Fold(_, _)) => last,
         Some(BlockInstr::Let(_) | BlockInstr::If(_, _, _)) | None => invalid_slot(),
     }
 }
@@ -59,7 +61,7 @@ fn gives_truths(instr: Instr) -> bool
         Some(BlockInstr::ForAll(_) | BlockInstr::Exists(_) | BlockInstr::One(_)) => true,
         Some(BlockInstr::Select(_) | BlockInstr::Reject(_)) => true,
         Some(BlockInstr::Collect(_) | BlockInstr::CollectFlat(_)) => false,
-        Some(BlockInstr::IsUnique(_, _)) => false,
+        Some(BlockInstr::IsUnique(_, _) | BlockInstr::Fold(_, _)) => false,
         Some(BlockInstr::Let(_) | BlockInstr::If(_, _, _)) | None => false,
     }
 }

@@ -175,6 +175,10 @@ pub(crate) fn keep(
             pool.truncate(at);
             Ok(0)
         }
+        Some(BlockInstr::Fold(_, _)) => {
+            pool.truncate(at);
+            Ok(0)
+        }
         Some(BlockInstr::Let(_) | BlockInstr::If(_, _, _)) | None => {
             pool.truncate(at);
             Ok(0)

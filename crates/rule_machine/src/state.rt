@@ -56,7 +56,8 @@ impl State {
         }
     }
 
-    /// Has room for code that goes so deep, and for one step more: a block has two pending pieces at most.
+    /// Has room for code that goes so deep, and for one step more: a block has two pending pieces at most, a turn binds
+    /// two variables at most, and a start value may be left on the operands.
     pub(crate) fn reserve(&mut self, depths: Depths) -> Result<(), OutOfMemory>
         ensures room { OnOk result (HasRoomFor depths self.new) }
         ensures operands { self.old.operands.1 ≤ self.new.operands.1 }
@@ -65,8 +66,8 @@ impl State {
         ensures started { self.new.started ≡ self.old.started }
         ensures count { self.new.count ≡ self.old.count }
     {
-        let operands = sum(depths.operands, 1)?;
-        let variables = sum(depths.variables, 1)?;
+        let operands = sum(depths.operands, 2)?;
+        let variables = sum(depths.variables, 2)?;
         let controls = sum(sum(depths.blocks, depths.blocks)?, 3)?;
         self.operands.reserve(operands)?;
         self.variables.reserve(variables)?;

@@ -1,10 +1,12 @@
 //! The steps of a machine.
 
-ghost use Rattle.std.specs.Prelude.{◌≡◌, ◌<◌, length, slice_get, false, Some, OnOk, OnErr, IsOk};
+ghost use Rattle.std.specs.Prelude.{◌≡◌, ◌≢◌, ◌<◌, ◌∷◌, length, slice_get, false, Some, OnOk, OnErr, IsOk, if◌then◌else◌};
 ghost use Rattle.rule_code.specs.WellFormed.{InstrFits};
 ghost use Rattle.rule_verify.specs.CodeTree.{shape_of};
+ghost use Rattle.rule_verify.specs.InstrKinds.{operands_above};
 ghost use Rattle.rule_verify.specs.UnitRules.{unit_rule, takes_memory};
 ghost use Rattle.rule_verify.specs.declared.shape.Shape.TheVariants.{Single, OneBody, TwoBodies};
+ghost use Rattle.rule_slots.specs.Slots.{plain_mark};
 ghost use Rattle.rule_machine.specs.Live.{is_iteration};
 ghost use Rattle.rule_machine.specs.StandFor.{choice_slot, opening_mark};
 ghost use Rattle.rule_machine.specs.Shown.{code_in, IsTask, LiesIn, HasStep, Room, Same, Stepped, IsAtFront};
@@ -12,11 +14,12 @@ ghost use Rattle.rule_machine.specs.Shown.{code_in, IsTask, LiesIn, HasStep, Roo
 use crate::control::{Control, Turn};
 use crate::memory::OutOfMemory;
 use crate::performing::perform;
+use crate::stack::ReservedStack;
 use crate::state::State;
 use crate::task::Task;
 use rule_code::Instr;
 use rule_slots::{Slot, invalid_slot};
-use rule_verify::{BlockInstr, Shape, block_of, shape_of};
+use rule_verify::{BlockInstr, Shape, block_of, operands_above, shape_of};
 
 impl State {
     /// One step. Where memory runs out, the machine stands before it; a rule that gathers nothing takes none.
@@ -54,7 +57,11 @@ impl State {
         match shape_of(instr) {
             Shape::Single => self.carry_out(task, instr),
             Shape::OneBody(body) => {
-                self.open_block(task, instr, body);
+                if operands_above(instr) == 0 {
+                    self.open_block(task, instr, body);
+                } else {
+                    self.open_fold(task, instr, body);
+                }
                 Ok(())
             }
             Shape::TwoBodies(first, second) => {
@@ -64,12 +71,43 @@ impl State {
         }
     }
 
-    /// The step of a block with one body: a LET binds its operand, an iteration goes over it.
+    /// The step of FOLD: it goes over the operand below its start value, which is left there until its first turn.
+    fn open_fold(&mut self, task: Task<'_>, instr: Instr, body: usize)
+        requires place { LiesIn task self.old }
+        requires before_end { self.old.at < self.old.end }
+        requires here { slice_get (code_in task) self.old.at ≡ Some instr }
+        requires shape { shape_of instr ≡ OneBody body }
+        requires above { operands_above instr ≢ 0 }
+        requires goes { HasStep task self.old }
+        requires room { Room self.old }
+        ensures { Stepped task.entry self.old self.new }
+    {
+        if body > self.end - self.at - 1 {
+            unreachable!()
+        }
+        let from = self.at + 1;
+        let after = from + body;
+        let Some(start) = self.operands.pop() else {
+            unreachable!()
+        };
+        let Some(source) = self.operands.pop() else {
+            unreachable!()
+        };
+        self.controls.push(Control::Rest(after, self.end));
+        self.controls
+            .push(opened(instr, from, after, source, self.pool.len()));
+        leave_start(&mut self.operands, source, start);
+        self.at = after;
+        self.end = after;
+    }
+
+    /// The step of a block with one body that works on its topmost operand: a LET binds it, an iteration goes over it.
     fn open_block(&mut self, task: Task<'_>, instr: Instr, body: usize)
         requires place { LiesIn task self.old }
         requires before_end { self.old.at < self.old.end }
         requires here { slice_get (code_in task) self.old.at ≡ Some instr }
         requires shape { shape_of instr ≡ OneBody body }
+        requires topmost { operands_above instr ≡ 0 }
         requires goes { HasStep task self.old }
         requires room { Room self.old }
         ensures { Stepped task.entry self.old self.new }
@@ -161,6 +199,19 @@ impl State {
     }
 }
 
+/// Leaves the start value of FOLD on the operands; over invalid it is dropped.
+#[inline(always)]
+fn leave_start(operands: &mut ReservedStack<Slot>, source: Slot, start: Slot)
+    requires { length operands.old.0 < operands.old.1 }
+    ensures items { operands.new.0 ≡
+        (if plain_mark source.mark then start ∷ operands.old.0 else operands.old.0) }
+    ensures room { operands.new.1 ≡ operands.old.1 }
+{
+    if source.is_plain() {
+        operands.push(start);
+    }
+}
+
 /// Whether a block with one body is an iteration; else it is a LET.
 fn is_iteration(instr: Instr) -> bool
     ensures { result ≡ is_iteration instr }
@@ -169,7 +220,7 @@ fn is_iteration(instr: Instr) -> bool
         Some(BlockInstr::ForAll(_) | BlockInstr::Exists(_) | BlockInstr::One(_)) => true,
         Some(BlockInstr::Select(_) | BlockInstr::Reject(_)) => true,
         Some(BlockInstr::Collect(_) | BlockInstr::CollectFlat(_)) => true,
-        Some(BlockInstr::IsUnique(_, _)) => true,
+        Some(BlockInstr::IsUnique(_, _) | BlockInstr::Fold(_, _)) => true,
         Some(BlockInstr::Let(_) | BlockInstr::If(_, _, _)) | None => false,
     }
 }

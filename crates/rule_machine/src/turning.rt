@@ -1,22 +1,23 @@
 //! The steps at the end of a body, and those of iterations.
 
-ghost use Rattle.std.specs.Prelude.{◌≡◌, ◌+◌, ◌<◌, ◌≤◌, ◌∷◌, List, length, false, IfOk, OnOk, OnErr, IsOk};
+ghost use Rattle.std.specs.Prelude.{◌≡◌, ◌+◌, ◌<◌, ◌≤◌, ◌∷◌, ◌++◌, List, length, false, IfOk, OnOk, OnErr, IsOk};
 ghost use Rattle.rule_verify.specs.UnitRules.{unit_rule, takes_memory};
 ghost use Rattle.rule_machine.specs.Machine.{Configuration};
 ghost use Rattle.rule_machine.specs.declared.control.Control.TheVariants.{LetEnd, Opened, Turning, Skipped};
 ghost use Rattle.rule_machine.specs.declared.control.Control.{Control as Pending};
-ghost use Rattle.rule_machine.specs.StandFor.{TellsDistinct, gives_part, given_pool};
+ghost use Rattle.rule_machine.specs.StandFor.{TellsDistinct, bound_slots, gives_part, given_pool};
 ghost use Rattle.rule_machine.specs.Shown.{code_in, task_lists, IsTurnIn, LiesIn, BetweenIn, WentOn, TurnEnded, HasStep, IsFirstMark, Same, Stepped, Room};
 
 use crate::control::{Control, Turn};
 use crate::endings::{ending, kept_part, turn_after};
 use crate::keeping::keep;
 use crate::memory::OutOfMemory;
+use crate::stack::ReservedStack;
 use crate::state::State;
 use crate::task::Task;
 use rule_code::Instr;
 use rule_slots::{Slot, are_distinct, element, invalid_slot};
-use rule_verify::{BlockInstr, block_of};
+use rule_verify::{BlockInstr, block_of, bound_count, operands_above};
 
 impl State {
     /// The step of the mark that comes after a sequence that is through. Where memory runs out, the machine stands
@@ -92,8 +93,8 @@ impl State {
         requires room { Room self.old }
         ensures { Stepped task.entry self.old self.new }
     {
-        self.leave_opening(task, turn);
-        self.go_on(task, turn);
+        let start = self.leave_opening(task, turn);
+        self.go_on(task, turn, start);
     }
 
     /// The next turn of an iteration, or its end: what its body gave is kept.
@@ -108,35 +109,44 @@ impl State {
         ensures spare { takes_memory (unit_rule task.entry.accepted.now.unit task.entry.rule) ≡ false
             → IsOk result }
     {
-        let turn = self.end_turn(task, turn)?;
-        self.go_on(task, turn);
+        let (turn, last) = self.end_turn(task, turn)?;
+        self.go_on(task, turn, last);
         Ok(())
     }
 
-    /// An iteration that was opened stands before its first turn, or its end.
-    fn leave_opening(&mut self, task: Task<'_>, turn: Turn)
+    /// An iteration that was opened stands before its first turn, or its end. Tells the start value of FOLD, which was
+    /// left on the operands.
+    fn leave_opening(&mut self, task: Task<'_>, turn: Turn) -> Slot
         requires place { LiesIn task self.old }
         requires at_end { self.old.at ≡ self.old.end }
         requires top { (cs : List Pending) × (self.old.controls.0 ≡ Opened turn ∷ cs) }
+        requires goes { HasStep task self.old }
         requires room { Room self.old }
-        ensures over { TurnEnded task.entry turn self.old self.new }
+        ensures over { TurnEnded task.entry turn result self.old self.new }
         ensures at_end { self.new.at ≡ self.new.end }
         ensures room { Room self.new }
     {
         let Some(_) = self.controls.pop() else {
             unreachable!()
         };
+        if operands_above(turn.instr) == 0 {
+            return invalid_slot();
+        }
+        let Some(start) = self.operands.pop() else {
+            unreachable!()
+        };
+        start
     }
 
     /// Ends a turn: what its body gave is kept, and the pool is cut back to that. Where memory runs out, the machine
-    /// stands as before. Tells the mark to go on with.
-    fn end_turn(&mut self, task: Task<'_>, turn: Turn) -> Result<Turn, OutOfMemory>
+    /// stands as before. Tells the mark to go on with, and what the body gave.
+    fn end_turn(&mut self, task: Task<'_>, turn: Turn) -> Result<(Turn, Slot), OutOfMemory>
         requires place { LiesIn task self.old }
         requires at_end { self.old.at ≡ self.old.end }
         requires top { (cs : List Pending) × (self.old.controls.0 ≡ Turning turn ∷ cs) }
         requires goes { HasStep task self.old }
         requires room { Room self.old }
-        ensures over { IfOk result (λ next. TurnEnded task.entry next self.old self.new) }
+        ensures over { IfOk result (λ next. TurnEnded task.entry next.0 next.1 self.old self.new) }
         ensures at_end { OnOk result (self.new.at ≡ self.new.end) }
         ensures room { OnOk result (Room self.new) }
         ensures refused { OnErr result (Same task.entry self.old self.new) }
@@ -153,43 +163,41 @@ impl State {
         let Some(_) = self.operands.pop() else {
             unreachable!()
         };
-        let Some(_) = self.variables.pop() else {
-            unreachable!()
-        };
+        self.variables.drop_top(bound_count(turn.instr));
         let Some(_) = self.controls.pop() else {
             unreachable!()
         };
-        Ok(turn_after(turn, more, value))
+        Ok((turn_after(turn, more, value), value))
     }
 
     /// From between two turns to the next turn, or to the end of the iteration.
     #[inline(always)]
-    fn go_on(&mut self, task: Task<'_>, turn: Turn)
+    fn go_on(&mut self, task: Task<'_>, turn: Turn, last: Slot)
         requires place { LiesIn task self.old }
         requires at_end { self.old.at ≡ self.old.end }
         requires turn { IsTurnIn (code_in task) turn }
-        requires between { (d : Configuration) × BetweenIn task turn self.old d }
+        requires between { (d : Configuration) × BetweenIn task turn last self.old d }
         requires room { Room self.old }
-        ensures { WentOn task.entry turn self.old self.new }
+        ensures { WentOn task.entry turn last self.old self.new }
     {
         if turn.next < turn.source.count {
-            self.begin_turn(task, turn);
+            self.begin_turn(task, turn, last);
         } else {
-            self.end_turns(task, turn);
+            self.end_turns(task, turn, last);
         }
     }
 
     /// Begins the turn of the next element.
-    fn begin_turn(&mut self, task: Task<'_>, turn: Turn)
+    fn begin_turn(&mut self, task: Task<'_>, turn: Turn, last: Slot)
         requires place { LiesIn task self.old }
         requires turn { IsTurnIn (code_in task) turn }
         requires left { turn.next < turn.source.count }
-        requires between { (d : Configuration) × BetweenIn task turn self.old d }
+        requires between { (d : Configuration) × BetweenIn task turn last self.old d }
         requires room { Room self.old }
-        ensures { WentOn task.entry turn self.old self.new }
+        ensures { WentOn task.entry turn last self.old self.new }
     {
         let next = element(task.lists(), &self.pool, turn.source, turn.next);
-        self.variables.push(next);
+        bind_turn(&mut self.variables, turn.instr, next, last);
         self.at = turn.from;
         self.end = turn.end;
         let following = Turn {
@@ -200,18 +208,36 @@ impl State {
     }
 
     /// Ends an iteration with no element left: what it gives is an operand.
-    fn end_turns(&mut self, task: Task<'_>, turn: Turn)
+    fn end_turns(&mut self, task: Task<'_>, turn: Turn, last: Slot)
         requires place { LiesIn task self.old }
         requires at_end { self.old.at ≡ self.old.end }
         requires all { turn.next ≡ turn.source.count }
-        requires between { (d : Configuration) × BetweenIn task turn self.old d }
+        requires between { (d : Configuration) × BetweenIn task turn last self.old d }
         requires room { Room self.old }
-        ensures { WentOn task.entry turn self.old self.new }
+        ensures { WentOn task.entry turn last self.old self.new }
     {
         let distinct = keeps_distinct(task, &self.pool, turn);
-        let gives = ending(turn, distinct);
+        let gives = ending(turn, distinct, last);
         cut_to_given(&mut self.pool, turn, gives);
         self.operands.push(gives);
+    }
+}
+
+/// Binds the variables of a turn: its element, and then what the body of FOLD gave last.
+#[inline(always)]
+fn bind_turn(variables: &mut ReservedStack<Slot>, instr: Instr, element: Slot, last: Slot)
+    requires { length variables.old.0 + 2 ≤ variables.old.1 }
+    ensures items { variables.new.0 ≡ bound_slots instr element last ++ variables.old.0 }
+    ensures room { variables.new.1 ≡ variables.old.1 }
+{
+    variables.push(element);
+    match block_of(instr) {
+        Some(BlockInstr::Fold(_, _)) => variables.push(last),
+        Some(BlockInstr::ForAll(_) | BlockInstr::Exists(_) | BlockInstr::One(_)) => (),
+        Some(BlockInstr::Select(_) | BlockInstr::Reject(_)) => (),
+        Some(BlockInstr::Collect(_) | BlockInstr::CollectFlat(_)) => (),
+        Some(BlockInstr::IsUnique(_, _)) => (),
+        Some(BlockInstr::Let(_) | BlockInstr::If(_, _, _)) | None => (),
     }
 }
 
@@ -228,6 +254,7 @@ fn keeps_distinct(task: Task<'_>, pool: &[Slot], turn: Turn) -> bool
         Some(BlockInstr::ForAll(_) | BlockInstr::Exists(_) | BlockInstr::One(_)) => false,
         Some(BlockInstr::Select(_) | BlockInstr::Reject(_)) => false,
         Some(BlockInstr::Collect(_) | BlockInstr::CollectFlat(_)) => false,
+        Some(BlockInstr::Fold(_, _)) => false,
         Some(BlockInstr::Let(_) | BlockInstr::If(_, _, _)) | None => false,
     }
 }
@@ -246,7 +273,7 @@ fn gives_part(instr: Instr, gives: Slot) -> bool
     ensures { result ≡ gives_part instr gives }
 {
     match block_of(instr) {
-        Some(BlockInstr::IsUnique(_, _)) => false,
+        Some(BlockInstr::IsUnique(_, _) | BlockInstr::Fold(_, _)) => false,
         Some(BlockInstr::ForAll(_) | BlockInstr::Exists(_) | BlockInstr::One(_)) => {
             gives.is_plain()
         }

@@ -8,6 +8,8 @@ mod collections;
 #[cfg(test)]
 mod equality;
 #[cfg(test)]
+mod folding;
+#[cfg(test)]
 mod grants;
 #[cfg(test)]
 mod integers;

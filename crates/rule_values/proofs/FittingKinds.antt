@@ -1,5 +1,5 @@
 -- A value in a kind is in each kind that it fits.
-use Rattle.std.proofs.Common.{◌≡◌, ℕ, true, List, [], length, Some, None, refl, subst}
+use Rattle.std.proofs.Common.{◌≡◌, true, List, length, Some, None, refl, subst}
 use Rattle.std.specs.Prelude.{nat_lt}
 use Rattle.std.specs.List.{list_all}
 use Rattle.std.proofs.lemmas.Bool.{and_parts, and_from, eqb-true}
@@ -15,7 +15,7 @@ use Rattle.ocl_kinds.specs.declared.kind.ScalarKind.TheVariants as element
 use Rattle.ocl_kinds.specs.declared.kind.Kind.{Kind}
 use Rattle.ocl_kinds.specs.declared.kind.Kind.TheVariants as kind
 use Rattle.ocl_kinds.specs.Kinds.{is_same_collection, scalar_fits, fits}
-use Rattle.ocl_kinds.proofs.ForAbove.{same_collection_is, fits_itself}
+use Rattle.ocl_kinds.proofs.ForAbove.{same_collection_is}
 use Rattle.rule_values.specs.Value as value
 use Rattle.rule_values.specs.Value.{Element, Value, is_scalar_in, is_element_in, are_elements, is_collection_in, is_in}
 

@@ -97,6 +97,7 @@ module _ (s : Surroundings) where
   operands_known (instrs.IncAll k) = (scalar_known k, (scalar_known k, tt))
   operands_known (instrs.ExcAll k) = (scalar_known k, (scalar_known k, tt))
   operands_known (instrs.AsSet k) = (scalar_known k, tt)
+  operands_known (instrs.Fold k n) = (scalar_known k, (tt, tt))
   operands_known i = search
 
   -- the same, where the class model and the list are known by equations alone
@@ -118,12 +119,14 @@ module _ (s : Surroundings) where
   -- what blocks bind, ask of their bodies and give
   pub binds_known : (i : Instr) (k : Kind) (vars : List Kind) → IsKindOf s.model k → AreKnownKinds s.model vars → AreKnownKinds s.model (binds s i k ++ vars)
   binds_known (instrs.Let n) k vars h v = (h, v)
+  binds_known (instrs.Fold w n) k vars h v = (scalar_known w, (element_known s.model k h, v))
   binds_known i k vars h v = (element_known s.model k h, v)
 
   -- what a block asks of the end of its body names known kinds alone
   pub ends_known : (i : Instr) → IsPatternOf s.model (ends_with s i)
   ends_known (instrs.If k n m) = kind_known k
   ends_known (instrs.IsUnique k n) = scalar_known k
+  ends_known (instrs.Fold k n) = scalar_known k
   ends_known i = tt
 
   -- what a block gives is of a known kind, where its operand and its body are
@@ -134,4 +137,5 @@ module _ (s : Surroundings) where
   yields_known (instrs.Reject n) k r h g = h
   yields_known (instrs.Collect n) k r h g = element_known s.model r g
   yields_known (instrs.CollectFlat n) k r h g = element_known s.model r g
+  yields_known (instrs.Fold w n) k r h g = scalar_known w
   yields_known i k r h g = tt

@@ -1,3 +1,4 @@
+pub mod Popped
 pub mod Stretches
 pub mod SymbolLaws
 pub mod Taken

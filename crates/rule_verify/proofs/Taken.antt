@@ -13,11 +13,12 @@ use Rattle.rule_code.specs.declared.kind.WrittenKind.{WrittenKind}
 use Rattle.rule_code.specs.declared.symbol.SymbolNumber.{SymbolNumber}
 use Rattle.rule_code.specs.declared.instruction.Instr.{Instr}
 use Rattle.rule_code.specs.declared.instruction.Instr.TheVariants.{Attr, AsColl, Eq, Includes, Count, IncAll, ExcAll, AsSet}
-use Rattle.rule_verify.specs.InstrKinds.{Surroundings, operands_of, fixed_operands}
+use Rattle.rule_verify.specs.CodeTree.{block_of}
+use Rattle.rule_verify.specs.InstrKinds.{Surroundings, operands_of, fixed_operands, block_takes}
 
--- an instruction whose operands depend on none of its fields
+-- a block, or an instruction whose operands depend on none of its fields
 pub others_take : (s : Surroundings) (i : Instr) → ((a : SymbolNumber) → i ≡ Attr a → ⊥) → ((c : CollectionKind) (k : WrittenScalar) → i ≡ AsColl c k → ⊥) → ((k : WrittenKind) → i ≡ Eq k → ⊥) → ((k : WrittenScalar) → i ≡ Includes k → ⊥) → ((k : WrittenScalar) → i ≡ Count k → ⊥)
-    → ((k : WrittenScalar) → i ≡ IncAll k → ⊥) → ((k : WrittenScalar) → i ≡ ExcAll k → ⊥) → ((k : WrittenScalar) → i ≡ AsSet k → ⊥) → fixed_operands i ≡ operands_of s i
+    → ((k : WrittenScalar) → i ≡ IncAll k → ⊥) → ((k : WrittenScalar) → i ≡ ExcAll k → ⊥) → ((k : WrittenScalar) → i ≡ AsSet k → ⊥) → block_takes s (block_of i) (fixed_operands i) ≡ operands_of s i
 others_take s (Attr a) h1 h2 h3 h4 h5 h6 h7 h8 = absurd (h1 a refl)
 others_take s (AsColl c k) h1 h2 h3 h4 h5 h6 h7 h8 = absurd (h2 c k refl)
 others_take s (Eq k) h1 h2 h3 h4 h5 h6 h7 h8 = absurd (h3 k refl)

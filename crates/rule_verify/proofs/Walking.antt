@@ -102,11 +102,13 @@ one_operand s (instrs.Reject m) n h = omega arith
 one_operand s (instrs.Collect m) n h = omega arith
 one_operand s (instrs.CollectFlat m) n h = omega arith
 one_operand s (instrs.IsUnique k m) n h = omega arith
+one_operand s (instrs.Fold k m) n h = omega arith
 one_operand s i n h = absurd h
 
 -- a block binds as many variables as are counted
 pub bound_many : (s : Surroundings) (i : Instr) (k : Kind) → length (binds s i k) ≡ bound_count i
 bound_many s (instrs.Let n) k = refl
+bound_many s (instrs.Fold w n) k = refl
 bound_many s i k = refl
 
 -- ---- a stretch has as many instructions as its tree

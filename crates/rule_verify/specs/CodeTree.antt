@@ -66,6 +66,7 @@ block_of (instrs.Reject n) = Some (blocks.Reject n)
 block_of (instrs.Collect n) = Some (blocks.Collect n)
 block_of (instrs.CollectFlat n) = Some (blocks.CollectFlat n)
 block_of (instrs.IsUnique k n) = Some (blocks.IsUnique k n)
+block_of (instrs.Fold k n) = Some (blocks.Fold k n)
 
 -- how many bodies an instruction has, and their lengths
 abbrev pub block_shape : Option BlockInstr → Shape
@@ -80,6 +81,7 @@ block_shape (Some (blocks.Reject n)) = OneBody n
 block_shape (Some (blocks.Collect n)) = OneBody n
 block_shape (Some (blocks.CollectFlat n)) = OneBody n
 block_shape (Some (blocks.IsUnique k n)) = OneBody n
+block_shape (Some (blocks.Fold k n)) = OneBody n
 
 abbrev pub shape_of : Instr → Shape
 shape_of i = block_shape (block_of i)

@@ -107,21 +107,7 @@ kind_meant s (kinds.Collection c k) = Collection c (scalar_meant s k)
 
 -- ---- operands
 
--- the operands that a block takes, the topmost first
-abbrev pub block_takes : Option BlockInstr → List Pattern
-block_takes None = []
-block_takes (Some (blocks.Let n)) = Anything ∷ []
-block_takes (Some (blocks.If k n m)) = a_boolean ∷ []
-block_takes (Some (blocks.ForAll n)) = AnyCollection ∷ []
-block_takes (Some (blocks.Exists n)) = AnyCollection ∷ []
-block_takes (Some (blocks.One n)) = AnyCollection ∷ []
-block_takes (Some (blocks.Select n)) = AnyCollection ∷ []
-block_takes (Some (blocks.Reject n)) = AnyCollection ∷ []
-block_takes (Some (blocks.Collect n)) = AnyCollection ∷ []
-block_takes (Some (blocks.CollectFlat n)) = AnyCollection ∷ []
-block_takes (Some (blocks.IsUnique k n)) = AnyCollection ∷ []
-
--- the operands that an instruction takes, the topmost first, where they depend on none of its fields
+-- the operands that an instruction without a body takes, the topmost first, where they depend on none of its fields
 abbrev pub fixed_operands : Instr → List Pattern
 fixed_operands (instrs.KindOf c) = an_object ∷ []
 fixed_operands (instrs.TypeOf c) = an_object ∷ []
@@ -152,7 +138,22 @@ fixed_operands instrs.SubStr = an_integer ∷ an_integer ∷ a_string ∷ []
 fixed_operands instrs.Size = AnyCollection ∷ []
 fixed_operands instrs.IsEmpty = AnyCollection ∷ []
 fixed_operands instrs.Sum = CollectionOf element.Integer ∷ []
-fixed_operands i = block_takes (block_of i)
+fixed_operands i = []
+
+-- the operands that a block takes, the topmost first; where the instruction is none, these others
+abbrev pub block_takes : Surroundings → Option BlockInstr → List Pattern → List Pattern
+block_takes s None others = others
+block_takes s (Some (blocks.Let n)) others = Anything ∷ []
+block_takes s (Some (blocks.If k n m)) others = a_boolean ∷ []
+block_takes s (Some (blocks.ForAll n)) others = AnyCollection ∷ []
+block_takes s (Some (blocks.Exists n)) others = AnyCollection ∷ []
+block_takes s (Some (blocks.One n)) others = AnyCollection ∷ []
+block_takes s (Some (blocks.Select n)) others = AnyCollection ∷ []
+block_takes s (Some (blocks.Reject n)) others = AnyCollection ∷ []
+block_takes s (Some (blocks.Collect n)) others = AnyCollection ∷ []
+block_takes s (Some (blocks.CollectFlat n)) others = AnyCollection ∷ []
+block_takes s (Some (blocks.IsUnique k n)) others = AnyCollection ∷ []
+block_takes s (Some (blocks.Fold k n)) others = Fitting (Scalar (scalar_meant s k)) ∷ AnyCollection ∷ []
 
 -- the operands that an instruction takes, the topmost first
 abbrev pub operands_of : Surroundings → Instr → List Pattern
@@ -164,7 +165,7 @@ operands_of s (instrs.Count k) = Fitting (Scalar (scalar_meant s k)) ∷ Collect
 operands_of s (instrs.IncAll k) = CollectionOf (scalar_meant s k) ∷ CollectionOf (scalar_meant s k) ∷ []
 operands_of s (instrs.ExcAll k) = CollectionOf (scalar_meant s k) ∷ CollectionOf (scalar_meant s k) ∷ []
 operands_of s (instrs.AsSet k) = CollectionOf (scalar_meant s k) ∷ []
-operands_of s i = fixed_operands i
+operands_of s i = block_takes s (block_of i) (fixed_operands i)
 
 -- ---- variables
 
@@ -250,6 +251,7 @@ block_operands_above (Some (blocks.Reject n)) = 0
 block_operands_above (Some (blocks.Collect n)) = 0
 block_operands_above (Some (blocks.CollectFlat n)) = 0
 block_operands_above (Some (blocks.IsUnique k n)) = 0
+block_operands_above (Some (blocks.Fold k n)) = 1
 
 abbrev pub operands_above : Instr → ℕ
 operands_above i = block_operands_above (block_of i)
@@ -276,6 +278,7 @@ block_binds s (Some (blocks.Reject n)) k = an_element k
 block_binds s (Some (blocks.Collect n)) k = an_element k
 block_binds s (Some (blocks.CollectFlat n)) k = an_element k
 block_binds s (Some (blocks.IsUnique w n)) k = an_element k
+block_binds s (Some (blocks.Fold w n)) k = Scalar (scalar_meant s w) ∷ an_element k
 
 abbrev pub binds : Surroundings → Instr → Kind → List Kind
 binds s i k = block_binds s (block_of i) k
@@ -293,6 +296,7 @@ block_bound_count (Some (blocks.Reject n)) = 1
 block_bound_count (Some (blocks.Collect n)) = 1
 block_bound_count (Some (blocks.CollectFlat n)) = 1
 block_bound_count (Some (blocks.IsUnique k n)) = 1
+block_bound_count (Some (blocks.Fold k n)) = 2
 
 abbrev pub bound_count : Instr → ℕ
 bound_count i = block_bound_count (block_of i)
@@ -310,6 +314,7 @@ block_ends_with s (Some (blocks.Reject n)) = a_boolean
 block_ends_with s (Some (blocks.Collect n)) = AnySingle
 block_ends_with s (Some (blocks.CollectFlat n)) = AnyCollection
 block_ends_with s (Some (blocks.IsUnique k n)) = Fitting (Scalar (scalar_meant s k))
+block_ends_with s (Some (blocks.Fold k n)) = Fitting (Scalar (scalar_meant s k))
 
 abbrev pub ends_with : Surroundings → Instr → Pattern
 ends_with s i = block_ends_with s (block_of i)
@@ -332,6 +337,7 @@ block_yields s (Some (blocks.Reject n)) k r = k
 block_yields s (Some (blocks.Collect n)) k r = Collection (collected k) (elements_kind r)
 block_yields s (Some (blocks.CollectFlat n)) k r = Collection (collected k) (elements_kind r)
 block_yields s (Some (blocks.IsUnique w n)) k r = Scalar element.Boolean
+block_yields s (Some (blocks.Fold w n)) k r = Scalar (scalar_meant s w)
 
 abbrev pub yields : Surroundings → Instr → Kind → Kind → Kind
 yields s i k r = block_yields s (block_of i) k r
@@ -351,6 +357,7 @@ block_gathers (Some (blocks.Reject n)) = true
 block_gathers (Some (blocks.Collect n)) = true
 block_gathers (Some (blocks.CollectFlat n)) = true
 block_gathers (Some (blocks.IsUnique k n)) = true
+block_gathers (Some (blocks.Fold k n)) = false
 
 -- an instruction that does
 abbrev pub gathers : Instr → Bool

@@ -25,4 +25,6 @@ pub enum BlockInstr {
     CollectFlat(u16),
     /// `Instr::IsUnique`.
     IsUnique(WrittenScalar, u16),
+    /// `Instr::Fold`.
+    Fold(WrittenScalar, u16),
 }

@@ -44,6 +44,7 @@ pub fn block_of(instr: Instr) -> Option<BlockInstr>
         Instr::Collect(body) => Some(BlockInstr::Collect(body)),
         Instr::CollectFlat(body) => Some(BlockInstr::CollectFlat(body)),
         Instr::IsUnique(kind, body) => Some(BlockInstr::IsUnique(kind, body)),
+        Instr::Fold(kind, body) => Some(BlockInstr::Fold(kind, body)),
     }
 }
 
@@ -63,7 +64,8 @@ pub fn shape_of(instr: Instr) -> Shape
             | BlockInstr::Reject(body)
             | BlockInstr::Collect(body)
             | BlockInstr::CollectFlat(body)
-            | BlockInstr::IsUnique(_, body),
+            | BlockInstr::IsUnique(_, body)
+            | BlockInstr::Fold(_, body),
         ) => Shape::OneBody(usize::from(body)),
         Some(BlockInstr::If(_, first, second)) => {
             Shape::TwoBodies(usize::from(first), usize::from(second))
@@ -92,6 +94,7 @@ pub fn operands_above(instr: Instr) -> usize
         Some(BlockInstr::Select(_) | BlockInstr::Reject(_)) => 0,
         Some(BlockInstr::Collect(_) | BlockInstr::CollectFlat(_)) => 0,
         Some(BlockInstr::IsUnique(_, _)) => 0,
+        Some(BlockInstr::Fold(_, _)) => 1,
     }
 }
 
@@ -125,6 +128,10 @@ pub(crate) fn bind(
         Some(BlockInstr::Select(_) | BlockInstr::Reject(_)) => put(variables, element),
         Some(BlockInstr::Collect(_) | BlockInstr::CollectFlat(_)) => put(variables, element),
         Some(BlockInstr::IsUnique(_, _)) => put(variables, element),
+        Some(BlockInstr::Fold(kind, _)) => {
+            put(variables, element)?;
+            put(variables, Kind::Scalar(scalar_meant(rule, kind)))
+        }
         Some(BlockInstr::If(_, _, _)) | None => put(variables, element),
     }
 }
@@ -140,6 +147,7 @@ pub fn bound_count(instr: Instr) -> usize
         Some(BlockInstr::Select(_) | BlockInstr::Reject(_)) => 1,
         Some(BlockInstr::Collect(_) | BlockInstr::CollectFlat(_)) => 1,
         Some(BlockInstr::IsUnique(_, _)) => 1,
+        Some(BlockInstr::Fold(_, _)) => 2,
     }
 }
 
@@ -147,7 +155,9 @@ pub fn bound_count(instr: Instr) -> usize
 pub(crate) fn unbind(variables: &mut Stack<Kind>, instr: Instr)
     ensures { variables.new ≡ drop (spec.bound_count instr) variables.old }
 {
-    let _newest = variables.pop();
+    for _ in 0..bound_count(instr) {
+        let _newest = variables.pop();
+    }
 }
 
 /// What the bodies of a block end with.
@@ -163,7 +173,7 @@ pub(crate) fn ends_with(rule: &RuleCode<'_, '_>, instr: Instr) -> Pattern
         Some(BlockInstr::Select(_) | BlockInstr::Reject(_)) | None => boolean,
         Some(BlockInstr::Collect(_)) => Pattern::AnySingle,
         Some(BlockInstr::CollectFlat(_)) => Pattern::AnyCollection,
-        Some(BlockInstr::IsUnique(kind, _)) => {
+        Some(BlockInstr::IsUnique(kind, _) | BlockInstr::Fold(kind, _)) => {
             Pattern::Fitting(Kind::Scalar(scalar_meant(rule, kind)))
         }
     }
@@ -184,5 +194,6 @@ pub(crate) fn yields(rule: &RuleCode<'_, '_>, instr: Instr, operand: &Kind, ende
             Kind::Collection(collected(operand), elements_kind(ended))
         }
         Some(BlockInstr::IsUnique(_, _)) | None => boolean,
+        Some(BlockInstr::Fold(kind, _)) => Kind::Scalar(scalar_meant(rule, kind)),
     }
 }

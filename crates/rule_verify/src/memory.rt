@@ -19,6 +19,7 @@ fn block_gathers(instr: Instr) -> bool
         Some(BlockInstr::Select(_) | BlockInstr::Reject(_)) => true,
         Some(BlockInstr::Collect(_) | BlockInstr::CollectFlat(_)) => true,
         Some(BlockInstr::IsUnique(_, _)) => true,
+        Some(BlockInstr::Fold(_, _)) => false,
     }
 }
 

@@ -1,10 +1,13 @@
 //! The operands that instructions take.
 
 ghost use Rattle.std.specs.Prelude.{◌≡◌, length};
+ghost use Rattle.rule_verify.specs.CodeTree.{block_of};
 ghost use Rattle.rule_verify.specs.InstrKinds as spec;
 ghost use Rattle.rule_verify.specs.InstrKinds.{Surroundings};
 ghost use Rattle.rule_verify.specs.Walk.{surroundings_of, operand_list, AreSymbols};
 
+use crate::block_instr::BlockInstr;
+use crate::blocks::block_of;
 use crate::judged::RuleCode;
 use crate::meant::{kind_meant, owner_kind, scalar_meant};
 use crate::pattern::{Operands, Pattern};
@@ -18,7 +21,7 @@ fn single(element: ScalarKind) -> Pattern
     Pattern::Fitting(Kind::Scalar(element))
 }
 
-/// What the operands of an instruction may be, where they depend on none of its fields.
+/// What the operands of an instruction without a body may be, where they depend on none of its fields.
 fn fixed_operands(instr: Instr) -> Operands
     ensures { operand_list result ≡ spec.fixed_operands instr }
 {
@@ -35,26 +38,47 @@ fn fixed_operands(instr: Instr) -> Operands
         Instr::Lt | Instr::Le | Instr::Gt | Instr::Ge => {
             Operands::Two(integer, single(ScalarKind::Integer))
         }
-        Instr::Not | Instr::If(_, _, _) => Operands::One(boolean),
+        Instr::Not => Operands::One(boolean),
         Instr::And | Instr::Or | Instr::Xor | Instr::Implies => {
             Operands::Two(boolean, single(ScalarKind::Boolean))
         }
         Instr::Eqx => Operands::Two(Pattern::Anything, Pattern::Anything),
-        Instr::Undef | Instr::IsInv | Instr::Let(_) => Operands::One(Pattern::Anything),
+        Instr::Undef | Instr::IsInv => Operands::One(Pattern::Anything),
         Instr::TLen => Operands::One(string),
         Instr::SubStr => Operands::Three(integer, single(ScalarKind::Integer), string),
         Instr::Size | Instr::IsEmpty => Operands::One(Pattern::AnyCollection),
         Instr::Sum => Operands::One(Pattern::CollectionOf(ScalarKind::Integer)),
-        Instr::ForAll(_) | Instr::Exists(_) | Instr::One(_) | Instr::Select(_) | Instr::Reject(_) =>
-            { Operands::One(Pattern::AnyCollection) }
-        Instr::Collect(_) | Instr::CollectFlat(_) | Instr::IsUnique(_, _) => {
-            Operands::One(Pattern::AnyCollection)
-        }
         Instr::SelfObject | Instr::Get(_) | Instr::Int(_) | Instr::Bool(_) => Operands::Nothing,
         Instr::Text(_) | Instr::Enum(_) | Instr::Null | Instr::Invalid => Operands::Nothing,
         Instr::Attr(_) | Instr::All(_) | Instr::AsColl(_, _) | Instr::Eq(_) => Operands::Nothing,
         Instr::Includes(_) | Instr::Count(_) | Instr::IncAll(_) => Operands::Nothing,
-        Instr::ExcAll(_) | Instr::AsSet(_) => Operands::Nothing,
+        Instr::ExcAll(_) | Instr::AsSet(_) | Instr::Let(_) | Instr::If(_, _, _) =>
+            Operands::Nothing,
+        Instr::ForAll(_) | Instr::Exists(_) | Instr::One(_) | Instr::Select(_) | Instr::Reject(_) =>
+            Operands::Nothing,
+        Instr::Collect(_) | Instr::CollectFlat(_) | Instr::IsUnique(_, _) | Instr::Fold(_, _) =>
+            Operands::Nothing,
+    }
+}
+
+/// What the operands of a block may be; where the instruction is none, they depend on none of its fields.
+fn block_operands(rule: &RuleCode<'_, '_>, instr: Instr) -> Operands
+    requires { AreSymbols rule.now.linked.now.unit (spec.symbols_used instr) }
+    ensures { operand_list result ≡ spec.block_takes (surroundings_of rule.now) (block_of instr)
+        (spec.fixed_operands instr) }
+{
+    let collection = Operands::One(Pattern::AnyCollection);
+    match block_of(instr) {
+        None => fixed_operands(instr),
+        Some(BlockInstr::Let(_)) => Operands::One(Pattern::Anything),
+        Some(BlockInstr::If(_, _, _)) => Operands::One(single(ScalarKind::Boolean)),
+        Some(BlockInstr::ForAll(_) | BlockInstr::Exists(_) | BlockInstr::One(_)) => collection,
+        Some(BlockInstr::Select(_) | BlockInstr::Reject(_)) => collection,
+        Some(BlockInstr::Collect(_) | BlockInstr::CollectFlat(_)) => collection,
+        Some(BlockInstr::IsUnique(_, _)) => collection,
+        Some(BlockInstr::Fold(kind, _)) => {
+            Operands::Two(single(scalar_meant(rule, kind)), Pattern::AnyCollection)
+        }
     }
 }
 
@@ -82,7 +106,7 @@ pub(crate) fn operands_of(rule: &RuleCode<'_, '_>, instr: Instr) -> Operands
             Operands::Two(Pattern::CollectionOf(element), Pattern::CollectionOf(same))
         }
         Instr::AsSet(kind) => Operands::One(Pattern::CollectionOf(scalar_meant(rule, kind))),
-        _ => fixed_operands(instr),
+        _ => block_operands(rule, instr),
     }
 }
 
@@ -108,5 +132,6 @@ pub fn operand_count(instr: Instr) -> usize
         Instr::Let(_) | Instr::If(_, _, _) => 1,
         Instr::ForAll(_) | Instr::Exists(_) | Instr::One(_) | Instr::Select(_) => 1,
         Instr::Reject(_) | Instr::Collect(_) | Instr::CollectFlat(_) | Instr::IsUnique(_, _) => 1,
+        Instr::Fold(_, _) => 2,
     }
 }

@@ -41,6 +41,7 @@ fn fixed_result(instr: Instr) -> Kind
         Instr::AsSet(_) | Instr::Let(_) | Instr::If(_, _, _) | Instr::ForAll(_) => nothing,
         Instr::Exists(_) | Instr::One(_) | Instr::Select(_) | Instr::Reject(_) => nothing,
         Instr::Collect(_) | Instr::CollectFlat(_) | Instr::IsUnique(_, _) => nothing,
+        Instr::Fold(_, _) => nothing,
     }
 }
 

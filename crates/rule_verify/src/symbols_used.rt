@@ -45,7 +45,8 @@ pub fn symbol_used(instr: Instr) -> Option<SymbolNumber>
         | Instr::IncAll(kind)
         | Instr::ExcAll(kind)
         | Instr::AsSet(kind)
-        | Instr::IsUnique(kind, _) => symbol_of_scalar(kind),
+        | Instr::IsUnique(kind, _)
+        | Instr::Fold(kind, _) => symbol_of_scalar(kind),
         Instr::Eq(kind) | Instr::If(kind, _, _) => symbol_of_kind(kind),
         Instr::SelfObject | Instr::Get(_) | Instr::Int(_) | Instr::Bool(_) | Instr::Text(_) => None,
         Instr::Null | Instr::Invalid | Instr::Add | Instr::Sub | Instr::Mul | Instr::Div => None,

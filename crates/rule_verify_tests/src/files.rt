@@ -22,6 +22,12 @@ pub const HEAD: &str = "\
 7065000e0100010100020300020003020004040004000503000100030100020300060003010006010008030001000803000200070200080400040008\
 000100000000";
 
+/// The same of version 2.
+pub const HEAD_OF_TWO: &str = "\
+4f434c420002000900017200054361626c6500055468696e670005646570746800044d6f6f64000463616c6d0004426f746800047461677300044e6f\
+7065000e0100010100020300020003020004040004000503000100030100020300060003010006010008030001000803000200070200080400040008\
+000100000000";
+
 /// What verifying a unit answers, in words.
 fn answer_of(alloc: Global, model: &ClassModel, unit: Unit) -> Result<String, AllocError> {
     match verify(alloc, model, unit) {
@@ -31,9 +37,14 @@ fn answer_of(alloc: Global, model: &ClassModel, unit: Unit) -> Result<String, Al
     }
 }
 
-/// What verifying the rule of these bytes, the count of its instructions first, answers.
-pub fn answer_to(alloc: Global, model: &ClassModel, rule: &[u8]) -> Result<String, AllocError> {
-    let mut bytes = bytes_of(alloc, HEAD)?;
+/// What verifying the rule of these bytes, the count of its instructions first, answers in a file with this head.
+pub fn answer_to(
+    alloc: Global,
+    model: &ClassModel,
+    head: &str,
+    rule: &[u8],
+) -> Result<String, AllocError> {
+    let mut bytes = bytes_of(alloc, head)?;
     bytes.extend_from_slice(rule)?;
     match read_unit(alloc, &bytes) {
         Ok(unit) => answer_of(alloc, model, unit),

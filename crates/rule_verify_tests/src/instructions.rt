@@ -1,6 +1,6 @@
 //! For each instruction the smallest rule that is accepted, and one for each fault that it can have.
 
-use crate::files::{MODEL, answer_to};
+use crate::files::{HEAD, HEAD_OF_TWO, MODEL, answer_to};
 use imkl_model::ClassModel;
 use std::alloc::{AllocError, Global};
 use std::test::*;
@@ -300,8 +300,55 @@ const RULES: &str = "\
 0004 0401 0a0000 420001 20: MissingOperand at 3
 ";
 
-/// Whether verifying a line's rule answers what the line says.
-fn is_answered(alloc: Global, model: &ClassModel, line: &str) -> Result<bool, AllocError> {
+/// Rules of files of version 2, in the same form: FOLD with its start value above its source; its body sees the element as
+/// the older variable and the accumulator as the newer.
+const FOLDS: &str = "\
+# accumulators of each kind of a single value
+0006 0a0000 03 0000000000000001 4a020001 020002 03 0000000000000005 1b: accepted
+0004 0a0000 0401 4a010001 020002: accepted
+0005 0a0000 060004 4a0400030001 020002 2a: accepted
+0005 0a0000 01 4a0500010001 020002 2a: accepted
+0005 0a0000 050000 4a030001 020002 2a: accepted
+0005 0a0000 07 4a000001 020002 2a: accepted
+0005 0a0000 01 4a060001 020001 2a: accepted
+0005 0a0000 07 4a020001 020002 2a: accepted
+# the element's feature with the accumulator; one in the body of another
+0008 0a0000 03 0000000000000001 4a020004 020001 090002 020002 10 2a: accepted
+0008 0a0000 03 0000000000000001 4a020004 0a0000 020002 4a020001 020004 2a: accepted
+# names that aren't there; no operand, and one
+0001 4a0500090000: NoSuchName at 0
+0001 4a04000c0000: NoSuchName at 0
+0002 4a020001 020002: MissingOperand at 0
+0003 0a0000 4a020001 020002: MissingOperand at 1
+0003 03 0000000000000001 4a020001 020002: MissingOperand at 1
+# a start value of another kind, a wider one and a collection; a source that is no collection; both the other way round
+0004 0a0000 0401 4a020001 020002: WrongKind at 2
+0005 0a0000 01 0e0001 4a0500000001 020002: WrongKind at 3
+0004 0a0000 0a0000 4a060001 020002: WrongKind at 2
+0004 01 03 0000000000000001 4a020001 020002: WrongKind at 2
+0004 03 0000000000000001 0a0000 4a020001 020002: WrongKind at 2
+# bodies that are empty, too long, of another kind, of the element's, and with two values
+0003 0a0000 03 0000000000000001 4a020000: LeftOver at 2
+0004 0a0000 03 0000000000000001 4a020002 020002: BadNesting at 2
+0004 0a0000 03 0000000000000001 4a020001 0401: LeftOver at 2
+0004 0a0000 03 0000000000000001 4a020001 020001: LeftOver at 2
+0005 0a0000 03 0000000000000001 4a020002 020002 020002: LeftOver at 2
+# no third variable, none after the body, and no operand from below it
+0004 0a0000 03 0000000000000001 4a020001 020003: BadVariable at 3
+0005 0a0000 03 0000000000000001 4a020001 020002 020001: BadVariable at 4
+0004 0a0000 03 0000000000000001 4a020001 20: MissingOperand at 3
+# it gives a value of its kind
+0005 0a0000 03 0000000000000001 4a020001 020002 20: WrongKind at 4
+0005 0a0000 0401 4a010001 020002 20: accepted
+";
+
+/// Whether verifying a line's rule, in a file with this head, answers what the line says.
+fn is_answered(
+    alloc: Global,
+    model: &ClassModel,
+    head: &str,
+    line: &str,
+) -> Result<bool, AllocError> {
     let Some((digits, answer)) = line.split_once(": ") else {
         return Ok(line.starts_with("#"));
     };
@@ -309,29 +356,45 @@ fn is_answered(alloc: Global, model: &ClassModel, line: &str) -> Result<bool, Al
         return Ok(true);
     }
     let rule = bytes_of(alloc, digits)?;
-    let found = answer_to(alloc, model, &rule)?;
+    let found = answer_to(alloc, model, head, &rule)?;
     Ok(found.as_str() == answer)
 }
 
 /// The first line that isn't answered as it says.
-fn first_wrong_in(alloc: Global, model: &ClassModel) -> Result<Option<&'static str>, AllocError> {
-    for line in RULES.lines() {
-        if !is_answered(alloc, model, line)? {
+fn first_wrong_in(
+    alloc: Global,
+    model: &ClassModel,
+    head: &str,
+    rules: &'static str,
+) -> Result<Option<&'static str>, AllocError> {
+    for line in rules.lines() {
+        if !is_answered(alloc, model, head, line)? {
             return Ok(Some(line));
         }
     }
     Ok(None)
 }
 
-fn first_wrong(alloc: Global) -> Result<Option<&'static str>, AllocError> {
+fn first_wrong(
+    alloc: Global,
+    head: &str,
+    rules: &'static str,
+) -> Result<Option<&'static str>, AllocError> {
     match ClassModel::read(alloc, MODEL.as_bytes()) {
-        Ok(model) => first_wrong_in(alloc, &model),
+        Ok(model) => first_wrong_in(alloc, &model, head, rules),
         Err(_fault) => Ok(Some("the class model")),
     }
 }
 
 #[test]
 fn verifies_each_instruction(rt: HostRuntime) -> Result<(), Fail> {
-    assert_eq!(rt; first_wrong(rt.alloc())?, None);
+    assert_eq!(rt; first_wrong(rt.alloc(), HEAD, RULES)?, None);
+    assert_eq!(rt; first_wrong(rt.alloc(), HEAD_OF_TWO, RULES)?, None);
+    Ok(())
+}
+
+#[test]
+fn verifies_fold(rt: HostRuntime) -> Result<(), Fail> {
+    assert_eq!(rt; first_wrong(rt.alloc(), HEAD_OF_TWO, FOLDS)?, None);
     Ok(())
 }

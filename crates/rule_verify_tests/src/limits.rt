@@ -1,6 +1,6 @@
 //! 1,024 operands and one more, 64 blocks and one more.
 
-use crate::files::{MODEL, answer_to};
+use crate::files::{HEAD, MODEL, answer_to};
 use imkl_model::ClassModel;
 use std::alloc::{AllocError, Global};
 use std::test::*;
@@ -50,7 +50,7 @@ fn operands_answer(
     answer: &str,
 ) -> Result<bool, AllocError> {
     let rule = after_operands(alloc, operands, count, code)?;
-    Ok(answer_to(alloc, model, &rule)?.as_str() == answer)
+    Ok(answer_to(alloc, model, HEAD, &rule)?.as_str() == answer)
 }
 
 fn blocks_answer(
@@ -60,7 +60,7 @@ fn blocks_answer(
     answer: &str,
 ) -> Result<bool, AllocError> {
     let rule = nested(alloc, blocks)?;
-    Ok(answer_to(alloc, model, &rule)?.as_str() == answer)
+    Ok(answer_to(alloc, model, HEAD, &rule)?.as_str() == answer)
 }
 
 /// The limit of operands, in one sequence and through a block: LET round BOOL 1, and round BOOL 1, BOOL 1, AND.

@@ -62,15 +62,17 @@ reject 46 number
 collect 47 number
 collectflat 48 number
 isunique 49 kind number
+fold 4a kind number
 ";
 
-/// A code file in the making. Texts and symbols are numbered by first use.
+/// A code file in the making. Texts and symbols are numbered by first use. With FOLD it is of version 2, else of version 1.
 #[derive(Drop)]
 struct Assembler<'t> {
     alloc: Global,
     texts: Vec<&'t str>,
     symbols: Vec<&'t str>,
     rules: Vec<u8>,
+    has_fold: bool,
 }
 
 /// A count as the code file has it; none of the tests comes near the end.
@@ -136,6 +138,7 @@ impl<'t> Assembler<'t> {
             texts: Vec::new(alloc),
             symbols: Vec::new(alloc),
             rules: Vec::new(alloc),
+            has_fold: false,
         }
     }
 
@@ -192,6 +195,7 @@ impl<'t> Assembler<'t> {
     /// Puts an instruction; a word that is none becomes a byte that is no opcode.
     fn put_instruction(&mut self, instruction: &'t str) -> Result<(), AllocError> {
         let (name, words) = instruction.split_once(' ').unwrap_or((instruction, ""));
+        self.has_fold = self.has_fold || name == "fold";
         for row in INSTRUCTIONS.lines() {
             if let Some((word, parts)) = row.split_once(' ') {
                 if word == name {
@@ -227,9 +231,11 @@ impl<'t> Assembler<'t> {
             mut texts,
             symbols,
             rules,
+            has_fold,
         } = self;
         let symbols = symbol_bytes(alloc, &mut texts, &symbols)?;
-        let mut bytes = text_bytes(alloc, &texts)?;
+        let version = if has_fold { 2 } else { 1 };
+        let mut bytes = text_bytes(alloc, version, &texts)?;
         bytes.extend_from_slice(&symbols)?;
         bytes.extend_from_slice(&short(count))?;
         bytes.extend_from_slice(&rules)?;
@@ -286,9 +292,10 @@ fn symbol_bytes<'t>(
 }
 
 /// Magic, version, and the texts' bytes, their count first.
-fn text_bytes(alloc: Global, texts: &[&str]) -> Result<Vec<u8>, AllocError> {
+fn text_bytes(alloc: Global, version: usize, texts: &[&str]) -> Result<Vec<u8>, AllocError> {
     let mut bytes = Vec::new(alloc);
-    bytes.extend_from_slice(b"OCLB\x00\x01")?;
+    bytes.extend_from_slice(b"OCLB")?;
+    bytes.extend_from_slice(&short(version))?;
     bytes.extend_from_slice(&short(texts.len()))?;
     for text in texts {
         bytes.extend_from_slice(&short(text.len()))?;

@@ -4,7 +4,7 @@ ghost use Rattle.std.specs.Prelude.{◌≡◌, ◌++◌, length, List, []};
 ghost use Rattle.std.specs.Option.{option_map};
 ghost use Rattle.rule_code.specs.Reading.{Reads, many_from};
 ghost use Rattle.rule_code.specs.KindReading.{row_numbered};
-ghost use Rattle.rule_code.specs.Opcodes.{made, plain_opcodes, value_opcodes, operation_opcodes, block_opcodes, behind, instr_from};
+ghost use Rattle.rule_code.specs.Opcodes.{made, plain_opcodes, value_opcodes, operation_opcodes, block_opcodes, fold_opcodes, behind, instr_from};
 ghost use Rattle.rule_code.specs.Parts.{code_from};
 ghost use Rattle.rule_code.specs.Preamble.{preamble_of};
 
@@ -14,6 +14,7 @@ use super::preamble::Preamble;
 use crate::fault::{CodeFlaw, FieldFault};
 use crate::instruction::Instr;
 use crate::symbol::SymbolTag;
+use crate::version::Version;
 use std::alloc::Global;
 
 /// The instruction without fields that has an opcode.
@@ -54,6 +55,25 @@ fn plain(opcode: u8) -> Option<Instr>
     }
 }
 
+/// FOLD, which version 2 alone has.
+fn fold_from<'b>(
+    opcode: u8,
+    preamble: Preamble,
+    here: &'b [u8],
+    rest: &'b [u8],
+) -> Result<(Instr, &'b [u8]), FieldFault>
+    ensures { Reads (λ x. (x.0, x.1.now)) result
+        (behind (preamble_of preamble.entry)
+        (row_numbered (fold_opcodes preamble.entry.version) opcode) here.now rest.now) }
+{
+    if preamble.version != Version::Two || opcode != 0x4a {
+        return Err(wrong(CodeFlaw::BadOpcode, here));
+    }
+    let (kind, rest) = single_kind_from(preamble.symbols, rest)?;
+    let (body, rest) = u16_from(rest)?;
+    Ok((Instr::Fold(kind, body), rest))
+}
+
 /// A block, with the lengths of its bodies.
 fn block_from<'b>(
     opcode: u8,
@@ -62,7 +82,7 @@ fn block_from<'b>(
     rest: &'b [u8],
 ) -> Result<(Instr, &'b [u8]), FieldFault>
     ensures { Reads (λ x. (x.0, x.1.now)) result
-        (behind (preamble_of preamble.entry) (row_numbered block_opcodes opcode) here.now rest.now) }
+        (behind (preamble_of preamble.entry) (row_numbered (block_opcodes ++ fold_opcodes preamble.entry.version) opcode) here.now rest.now) }
 {
     match opcode {
         0x40 => {
@@ -108,7 +128,7 @@ fn block_from<'b>(
             let (body, rest) = u16_from(rest)?;
             Ok((Instr::IsUnique(kind, body), rest))
         }
-        _ => Err(wrong(CodeFlaw::BadOpcode, here)),
+        _ => fold_from(opcode, preamble, here, rest),
     }
 }
 
@@ -120,7 +140,7 @@ fn operation_from<'b>(
     rest: &'b [u8],
 ) -> Result<(Instr, &'b [u8]), FieldFault>
     ensures { Reads (λ x. (x.0, x.1.now)) result
-        (behind (preamble_of preamble.entry) (row_numbered (operation_opcodes ++ block_opcodes) opcode)
+        (behind (preamble_of preamble.entry) (row_numbered (operation_opcodes ++ block_opcodes ++ fold_opcodes preamble.entry.version) opcode)
         here.now rest.now) }
 {
     match opcode {
@@ -161,7 +181,7 @@ fn fields_from<'b>(
 ) -> Result<(Instr, &'b [u8]), FieldFault>
     ensures { Reads (λ x. (x.0, x.1.now)) result
         (behind (preamble_of preamble.entry)
-        (row_numbered (value_opcodes ++ operation_opcodes ++ block_opcodes) opcode)
+        (row_numbered (value_opcodes ++ operation_opcodes ++ block_opcodes ++ fold_opcodes preamble.entry.version) opcode)
         here.now rest.now) }
 {
     match opcode {

@@ -1,6 +1,5 @@
 use Rattle.std.proofs.Common.{◌≡◌, ◌<◌, false, length, sym, ap, ◌∙◌, subst, arith}
-use Rattle.rule_cost.specs.Limits.{limited_bound}
-use Rattle.rule_cost.specs.Admission.{rule_step_bound, is_affordable}
+use Rattle.rule_cost.specs.Admission.{is_affordable}
 use Rattle.rule_cost.proofs.Affordable.{AllAffordable, all_admitted, first_refused, steps_above, no_steps}
 use Rattle.rule_cost.proofs.admission.admit.Goals.{in_default-via-in-Steps+else-charges-budget, in_default-via-in_default}
 use Rattle.rule_cost.proofs.admission.admit.Goals as goal

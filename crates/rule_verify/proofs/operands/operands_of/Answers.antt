@@ -6,4 +6,4 @@ use Rattle.rule_verify.proofs.operands.operands_of.Goals as goal
 pub returns-in_default : goal.returns-in_default
 returns-in_default c =
     let d = c.in_default in
-    c.fixed_operands.ensures ∙ others_take (surroundings_of c.args.rule.now) c.args.instr d.not-Attr d.not-AsColl d.not-Eq d.not-Includes d.not-Count d.not-IncAll d.not-ExcAll d.not-AsSet
+    c.block_operands.ensures ∙ others_take (surroundings_of c.args.rule.now) c.args.instr d.not-Attr d.not-AsColl d.not-Eq d.not-Includes d.not-Count d.not-IncAll d.not-ExcAll d.not-AsSet

@@ -1,5 +1,4 @@
 use Rattle.std.proofs.Common.{◌≡◌, ◌<◌, ◌∙◌, length, List, ℕ, sym, ap, subst, arith, get_or}
-use Rattle.imkl_population.specs.Sizes.{list_below}
 use Rattle.imkl_population.proofs.ForAbove.{length-list_below, get_or-list_below}
 use Rattle.rule_cost.specs.Admission.{Admission, rule_step_bound}
 use Rattle.rule_cost.proofs.admitted.Admitted.bound.Goals as goal

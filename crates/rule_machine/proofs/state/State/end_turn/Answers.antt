@@ -1,5 +1,6 @@
-use Rattle.std.proofs.Common.{◌≡◌, ◌+◌, ◌-◌, ◌∷◌, ◌++◌, Some, length, take, arith, refl, sym, subst, ap, ◌∙◌}
+use Rattle.std.proofs.Common.{◌≡◌, ◌+◌, ◌-◌, ◌∷◌, ◌++◌, Some, length, take, drop, arith, refl, sym, subst, ap, ◌∙◌}
 use Rattle.std.specs.Prelude.{slice_get}
+use Rattle.rule_verify.specs.InstrKinds.{bound_count}
 use Rattle.rule_values.specs.Operations.{is_true, is_false, is_invalid}
 use Rattle.rule_machine.specs.declared.control.Control.TheVariants as control
 use Rattle.rule_slots.specs.declared.slot.Slot.{Slot}
@@ -7,7 +8,7 @@ use Rattle.rule_slots.specs.Slots.{lists_in, held_slots, invalid_mark, IsInHome}
 use Rattle.rule_machine.specs.StandFor.{IsAt, Between, kept_slots, turn_after}
 use Rattle.rule_machine.specs.Shown.{code_in, setting_in, task_lists, IsTurnIn, AreControlsIn}
 use Rattle.rule_machine.proofs.Keeps.{count_low}
-use Rattle.rule_machine.proofs.MarkSteps.{leaves}
+use Rattle.rule_machine.proofs.MarkSteps.{Leaving, leaves}
 use Rattle.rule_machine.proofs.TurnEnds.{end_of, turn_over, flat_within, same_front}
 use Rattle.rule_machine.proofs.state.State.end_turn.Goals as goal
 
@@ -38,22 +39,7 @@ keep-requires-clause-there c =
     let p = m.pool.items in
     let e0 = end_of s l code p m.at m.end u r.top.0 m.variables.0 m.operands.0 r.goes.0 r.at_end (subst (λ x. IsAt s l code p m.at m.end x m.variables.0 m.operands.0 r.goes.0) r.top.1 r.goes.1) r.goes.2 in
     let y : e0.y ≡ c.in-Some.value.now = let a = e0.ops_are in let b = c.in-Some.ensures.1 in cc (a, b) in
-    λ n is no. subst (λ q. IsInHome q (length p) c.in-Some.value.now) (sym c.lists-lists.ensures) (subst (λ x. IsInHome l (length p) x) y (flat_within s l code p p u r.top.0 e0.vs1 e0.y e0.os1 r.goes.0 n e0.leaving is (ap (λ (x : Slot). invalid_mark x.mark) y ∙ no)))
-
-pub unreachable-requires-in_default-pop-2 : goal.unreachable-requires-in_default-pop-2
-unreachable-requires-in_default-pop-2 c =
-    let m = c.args.self.now in
-    let r = c.requires in
-    let t = c.args.task in
-    let u = c.args.turn in
-    let s = setting_in t in
-    let l = task_lists t in
-    let code = code_in t in
-    let p = m.pool.items in
-    let e0 = end_of s l code p m.at m.end u r.top.0 m.variables.0 m.operands.0 r.goes.0 r.at_end (subst (λ x. IsAt s l code p m.at m.end x m.variables.0 m.operands.0 r.goes.0) r.top.1 r.goes.1) r.goes.2 in
-    let none = c.in_default-pop-2.ensures.items.0 in
-    let there = e0.vars_are in
-    cc (none, there)
+    λ n is no. subst (λ q. IsInHome q (length p) c.in-Some.value.now) (sym c.lists-lists.ensures) (subst (λ x. IsInHome l (length p) x) y (flat_within s l code p p u r.top.0 (drop (bound_count u.instr) m.variables.0) e0.y e0.os1 r.goes.0 n e0.leaving is (ap (λ (x : Slot). invalid_mark x.mark) y ∙ no)))
 
 pub turn_after-requires-clause-trues : goal.turn_after-requires-clause-trues
 turn_after-requires-clause-trues c =
@@ -105,13 +91,12 @@ returns-clause-over c =
     let code = code_in t in
     let p = m.pool.items in
     let y = c.in-Some.value.now in
-    let o = c.in-Some-pop-2.field-0 in
-    let cs = c.pop-3.new.self.0 in
-    let vs = c.pop-2.new.self.0 in
+    let cs = c.pop-2.new.self.0 in
+    let vs = c.drop_top.new.self.0 in
     let os = c.pop.new.self.0 in
     let p2 = c.keep.new.pool.items in
     let eo = same_front m.operands.0 y _ _ os c.in-Some.ensures.1 c.in-Some-pop.ensures.items in
-    let ec = same_front m.controls.0 (control.Turning u) _ r.top.0 cs r.top.1 c.in-Some-pop-3.ensures.items in
+    let ec = same_front m.controls.0 (control.Turning u) _ r.top.0 cs r.top.1 c.in-Some-pop-2.ensures.items in
     let g : slice_get (held_slots l p u.source) (u.next - 1) ≡ Some c.element-last.result =
     subst (λ x. slice_get (held_slots x p u.source) (u.next - 1) ≡ Some c.element-last.result) c.lists-lists.ensures (subst (λ q. slice_get (held_slots (lists_in c.lists-lists.result) q u.source) (u.next - 1) ≡ Some c.element-last.result) c.deref.ensures.value c.element-last.ensures) in
     let kept = subst (λ x. p2 ≡ take (u.opened + u.kept) p ++ kept_slots x p u.instr c.element-last.result y) c.lists-lists.ensures c.in_ok-more.ensures.kept in
@@ -121,11 +106,11 @@ returns-clause-over c =
     record {
       made = λ x i n.
           let i1 = subst (λ k. IsAt s l code p m.at m.end k m.variables.0 m.operands.0 x) ec i in
-          let i2 = subst (λ k. IsAt s l code p m.at m.end (control.Turning u ∷ cs) k m.operands.0 x) c.in-Some-pop-2.ensures.items i1 in
-          let i3 = subst (λ k. IsAt s l code p m.at m.end (control.Turning u ∷ cs) (o ∷ vs) k x) eo i2 in
-          let st = turn_over s l code p p2 u cs vs y os x c.element-last.result c.in_ok-more.more (leaves s l code p m.at m.end u cs o vs y os x r.at_end i3 n) g kept count in
-          (st.0, st.1, subst (λ k. Between s l code p2 k cs vs os st.0) (sym c.turn_after.ensures) st.2);
+          let i2 = subst (λ k. IsAt s l code p m.at m.end (control.Turning u ∷ cs) m.variables.0 k x) eo i1 in
+          let count_is = c.drop_top.ensures.items ∙ ap (λ k. drop k m.variables.0) c.bound_count.ensures in
+          let st = turn_over s l code p p2 u cs vs y os x c.element-last.result c.in_ok-more.more (subst (λ k. Leaving s l code p u cs k y os x) (sym count_is) (leaves s l code p m.at m.end u cs m.variables.0 y os x r.at_end i2 n)) g kept count in
+          (st.0, st.1, subst (λ k. Between s l code p2 k y cs vs os st.0) (sym c.turn_after.ensures) st.2);
       turn = subst (IsTurnIn code) (sym c.turn_after.ensures) inside;
       place = record { order = r.place.order; within = r.place.within; pending = lies.1 };
-      kept = record { started = refl; count = refl; room = record { operands = c.in-Some-pop.ensures.room; variables = c.in-Some-pop-2.ensures.room; controls = c.in-Some-pop-3.ensures.room } };
+      kept = record { started = refl; count = refl; room = record { operands = c.in-Some-pop.ensures.room; variables = c.drop_top.ensures.room; controls = c.in-Some-pop-2.ensures.room } };
     }

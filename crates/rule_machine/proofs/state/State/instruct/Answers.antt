@@ -25,3 +25,9 @@ branch-self-requires-clause-here c =
     let m = c.args.self.now in
     let r = c.requires in
     instr_here c.args.task m.at m.end c.code.result.now r.before_end r.place.within c.code.ensures.code
+
+pub open_fold-requires-clause-here : goal.open_fold-requires-clause-here
+open_fold-requires-clause-here c =
+    let m = c.args.self.now in
+    let r = c.requires in
+    instr_here c.args.task m.at m.end c.code.result.now r.before_end r.place.within c.code.ensures.code

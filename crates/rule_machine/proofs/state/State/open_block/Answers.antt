@@ -31,7 +31,7 @@ returns-else-is_iteration c =
     let ec = c.push-else-is_iteration-2.ensures.items ∙ ap (λ l. control.LetEnd ∷ l) c.push.ensures.items in
     record {
       made = λ x i n.
-          let st = let_steps (setting_in t) (task_lists t) (code_in t) m.pool.items m.at m.end m.controls.0 m.variables.0 m.operands.0 c.args.instr x r.before_end r.place.within r.here i n c.args.body r.shape is.0 is.1 nests c.in-Some.value c.pop.new.self.0 c.in-Some.ensures.items in
+          let st = let_steps (setting_in t) (task_lists t) (code_in t) m.pool.items m.at m.end m.controls.0 m.variables.0 m.operands.0 c.args.instr x r.before_end r.place.within r.here i n c.args.body r.shape r.topmost is.0 is.1 nests c.in-Some.value c.pop.new.self.0 c.in-Some.ensures.items in
           (st.next, st.made, is_with (setting_in t) (task_lists t) (code_in t) m.pool.items _ _ _ _ _ _ _ _ st.next ec c.push-else-is_iteration.ensures.items refl st.stands);
       place = record { order = omega arith; within = omega (arith, nests, r.place.within); pending = subst (AreControlsIn (code_in t)) (sym ec) (tt, ((nests, r.place.within), r.place.pending)) };
       kept = record { started = refl; count = refl; room = record { operands = c.in-Some.ensures.room; variables = c.push-else-is_iteration.ensures.room; controls = c.push-else-is_iteration-2.ensures.room ∙ c.push.ensures.room } };
@@ -49,7 +49,7 @@ returns-then-is_iteration c =
     let ec = c.push-then-is_iteration.ensures.items ∙ ap (λ l. c.opened-mark.result ∷ l) c.push.ensures.items ∙ ap (λ k. k ∷ control.Rest (m.at + 1 + c.args.body) m.end ∷ m.controls.0) em in
     record {
       made = λ x i n.
-          let st = iteration_steps (setting_in t) (task_lists t) (code_in t) m.pool.items m.at m.end m.controls.0 m.variables.0 m.operands.0 c.args.instr x r.before_end r.place.within r.here i n c.args.body r.shape it nests c.in-Some.value c.pop.new.self.0 c.in-Some.ensures.items in
+          let st = iteration_steps (setting_in t) (task_lists t) (code_in t) m.pool.items m.at m.end m.controls.0 m.variables.0 m.operands.0 c.args.instr x r.before_end r.place.within r.here i n c.args.body r.shape r.topmost it nests c.in-Some.value c.pop.new.self.0 c.in-Some.ensures.items in
           (st.next, st.made, is_with (setting_in t) (task_lists t) (code_in t) m.pool.items _ _ _ _ _ _ _ _ st.next ec refl refl st.stands);
       place = record {
         order = omega arith;
