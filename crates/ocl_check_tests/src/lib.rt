@@ -20,6 +20,8 @@ mod links;
 #[cfg(test)]
 mod nested;
 #[cfg(test)]
+mod ordered;
+#[cfg(test)]
 mod outputs;
 #[cfg(test)]
 mod refusals;
