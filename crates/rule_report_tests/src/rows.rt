@@ -1,9 +1,10 @@
 //! Worked examples: what is reported and counted.
 
 use crate::files::reports;
-use crate::rules::{DEPTH, DUCT_DEPTH, IDENTIFIED_APART, NO_RULES, THREE_RULES, VOLTAGES};
+use crate::rules::{DEPTH, IDENTIFIED_APART, NO_RULES, THREE_RULES, VOLTAGES};
 use std::alloc::{AllocError, Global};
 use std::test::*;
+use test_support::DUCT_DEPTH;
 
 #[test]
 fn reports_on_no_rules(rt: HostRuntime) -> Result<(), Fail> {

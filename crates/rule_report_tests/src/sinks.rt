@@ -1,21 +1,12 @@
 //! Sinks that fail, and how often they are flushed.
 
 use crate::files::write;
-use crate::rules::DUCT_DEPTH;
 use rule_report::{ReportFault, Summary, Telling};
 use std::alloc::Global;
 use std::test::*;
-use test_support::{Narrow, WhenFull};
+use test_support::{DUCT, DUCT_DEPTH, Narrow, WhenFull};
 
-/// The duct M1 holds E1, 600 deep, and E2, without a depth.
-const DUCT: &str = r#"{"model":"imkl-profile","objects":[
-{"id":"M1","class":"Mantelbuis",
-"features":{"identificatie":"m","diameter":110,"omvat":["E1","E2"]}},
-{"id":"E1","class":"Elektriciteitskabel",
-"features":{"identificatie":"a","spanning":400,"diepte":600}},
-{"id":"E2","class":"Elektriciteitskabel","features":{"identificatie":"b","spanning":400}}]}"#;
-
-/// The report on it.
+/// The report on a duct that holds a cable 600 deep and one without a depth.
 const REPORT: &str =
     "undecided d M1\nrule d checked 1 holds 0 fails 0 undecided 1\ntotal fails 0 undecided 1\n";
 
@@ -34,23 +25,27 @@ fn written_into(alloc: Global, writer: Narrow) -> (Option<Result<Summary, Report
 }
 
 /// Whether a writer of so much room has taken just the beginning of the report, and neither a byte more nor a flush.
-fn fails_after(alloc: Global, left: usize, when_full: WhenFull) -> bool {
-    let (answer, writer) = written_into(alloc, Narrow::new(alloc, left, when_full));
+fn fails_after(alloc: Global, left: usize, writer: Narrow) -> bool {
+    let (answer, writer) = written_into(alloc, writer);
     answer == Some(Err(ReportFault::Write)) && writer.has_first(left, REPORT.as_bytes())
+}
+
+/// Whether writers of so much room, of each kind, are left alone once they have failed.
+fn are_left_alone_after(alloc: Global, left: usize) -> bool {
+    for when_full in WhenFull::EACH {
+        let writer = Narrow::new(alloc, left, when_full);
+        let slow = Narrow::new(alloc, left, when_full).byte_by_byte();
+        if !fails_after(alloc, left, writer) || !fails_after(alloc, left, slow) {
+            return false;
+        }
+    }
+    true
 }
 
 #[test]
 fn a_writer_that_failed_is_left_alone(rt: HostRuntime) {
     for left in 0..REPORT.len() {
-        assert!(rt; fails_after(rt.alloc(), left, WhenFull::Fails), "{left}");
-        assert!(rt;
-            fails_after(rt.alloc(), left, WhenFull::TakesNothing),
-            "{left}"
-        );
-        assert!(rt;
-            fails_after(rt.alloc(), left, WhenFull::FailsOnce),
-            "{left}"
-        );
+        assert!(rt; are_left_alone_after(rt.alloc(), left), "{left}");
     }
 }
 
@@ -64,6 +59,8 @@ fn takes_it_whole(alloc: Global, writer: Narrow, answer: Result<Summary, ReportF
 fn flushes_the_whole_report_once(rt: HostRuntime) {
     let writer = Narrow::new(rt.alloc(), REPORT.len(), WhenFull::Fails);
     assert!(rt; takes_it_whole(rt.alloc(), writer, Ok(SUMMARY)));
+    let slow = Narrow::new(rt.alloc(), REPORT.len(), WhenFull::Fails).byte_by_byte();
+    assert!(rt; takes_it_whole(rt.alloc(), slow, Ok(SUMMARY)));
 }
 
 #[test]

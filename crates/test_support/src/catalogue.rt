@@ -1,4 +1,4 @@
-//! The catalogue of cables, ducts and networks, and deliveries for it.
+//! The catalogue of cables, ducts and networks, deliveries for it, and a code file.
 
 /// The class model.
 pub const CATALOGUE: &str = r#"{"model":"imkl-profile",
@@ -95,3 +95,10 @@ pub const IDENTIFIED_CABLES: &str = r#"{"model":"imkl-profile","objects":[
 {"id":"E2","class":"Elektriciteitskabel","features":{"identificatie":"nl.1","spanning":400}},
 {"id":"E3","class":"Elektriciteitskabel","features":{"identificatie":"él","spanning":400}},
 {"id":"E4","class":"Elektriciteitskabel","features":{"identificatie":"é","spanning":400}}]}"#;
+
+/// The code file of the rule d of Mantelbuis, that what it holds is 600 deep: SELF, ATTR omvat, FORALL 4, GET 1, ATTR
+/// diepte, INT 600, GE.
+pub const DUCT_DEPTH: &[u8] =
+    b"OCLB\x00\x01\x00\x05\x00\x01d\x00\x0aMantelbuis\x00\x05omvat\x00\x0eKabelOfLeiding\x00\x06diepte\
+\x00\x03\x01\x00\x01\x03\x00\x01\x00\x02\x03\x00\x03\x00\x04\x00\x01\
+\x00\x00\x00\x00\x00\x07\x01\x09\x00\x01\x42\x00\x04\x02\x00\x01\x09\x00\x02\x03\x00\x00\x00\x00\x00\x00\x02\x58\x1c";

@@ -15,13 +15,26 @@ pub enum WhenFull {
     TakesNothing,
     /// It fails once, and would then take any number of bytes.
     FailsOnce,
+    /// It is interrupted once, and would then take any number of bytes.
+    IsInterrupted,
 }
 
-/// A writer that takes so many bytes, at most seven at a time, until it is full; its flush may fail. It notes how often
-/// it was flushed, and how much it had taken then.
+impl WhenFull {
+    /// Each of them.
+    pub const EACH: [WhenFull; 4] = [
+        WhenFull::Fails,
+        WhenFull::TakesNothing,
+        WhenFull::FailsOnce,
+        WhenFull::IsInterrupted,
+    ];
+}
+
+/// A writer that takes so many bytes, some at a time, until it is full; its flush may fail. It notes how often it was
+/// flushed, and how much it had taken then.
 #[derive(Drop)]
 pub struct Narrow {
     taken: Vec<u8>,
+    width: usize,
     left: usize,
     when_full: WhenFull,
     flush_fails: bool,
@@ -30,10 +43,11 @@ pub struct Narrow {
 }
 
 impl Narrow {
-    /// A writer that takes so many bytes until it is full; its flush doesn't fail.
+    /// A writer that takes so many bytes, at most seven at a time, until it is full; its flush doesn't fail.
     pub fn new(alloc: Global, left: usize, when_full: WhenFull) -> Narrow {
         Narrow {
             taken: Vec::new(alloc),
+            width: 7,
             left,
             when_full,
             flush_fails: false,
@@ -46,12 +60,20 @@ impl Narrow {
     pub fn without_flush(alloc: Global, left: usize) -> Narrow {
         Narrow {
             taken: Vec::new(alloc),
+            width: 7,
             left,
             when_full: WhenFull::Fails,
             flush_fails: true,
             flushed: 0,
             flushed_at: 0,
         }
+    }
+
+    /// The same writer, which takes a byte at a time.
+    pub fn byte_by_byte(self) -> Narrow {
+        let mut writer = self;
+        writer.width = 1;
+        writer
     }
 
     /// How many bytes it took.
@@ -80,13 +102,17 @@ impl Narrow {
                 self.left = usize::MAX;
                 Err(Error::from(ErrorKind::Other))
             }
+            WhenFull::IsInterrupted => {
+                self.left = usize::MAX;
+                Err(Error::from(ErrorKind::Interrupted))
+            }
         }
     }
 }
 
 impl Write for Narrow {
     fn write(&mut self, buf: &[u8]) -> io::Result<usize> {
-        let count = buf.len().min(self.left).min(7);
+        let count = buf.len().min(self.left).min(self.width);
         if count == 0 {
             return self.refuse();
         }
