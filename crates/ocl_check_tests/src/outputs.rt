@@ -1,13 +1,44 @@
 //! Writers that fail, how often they are flushed, and how an outcome is reported.
 
-use crate::files::{BY_CODE, DEPTH, MODEL, NO_OBJECTS, NO_RULES};
+use crate::files::{BY_CODE, MODEL};
 use ocl_check::{
     CommandFault, Counting, Outcome, Telling, run_bound, run_compile, run_desk, run_judge,
     run_verify,
 };
 use std::alloc::Global;
 use std::test::*;
-use test_support::{Narrow, WhenFull};
+use test_support::{CATALOGUE, DUCT, DUCT_DEPTH, Narrow, WhenFull};
+
+/// The rule of the code file.
+const DUCT_RULE: &str = "context Mantelbuis inv d: self.omvat->forAll(k | k.diepte >= 600)";
+
+/// Two jobs, of which the first is granted what it costs, 14, in three parts.
+const SCRIPT: &str = "\
+enter
+enter
+grant 0 0
+grant 0 3
+grant 1 100
+grant 0 3
+grant 0 100
+grant 0 1
+lines 0
+";
+
+/// What is replied to it.
+const REPLIES: &str = "\
+job 0
+job 1
+paused 0 0
+paused 0 3
+over 1 14
+paused 0 6
+over 0 14
+refused desk 2
+undecided d M1
+rule d checked 1 holds 0 fails 0 undecided 1
+total fails 0 undecided 1
+";
 
 /// A command that writes, and what it writes to.
 #[derive(Clone, Copy, Debug)]
@@ -27,31 +58,37 @@ enum Written {
 }
 
 impl Written {
-    /// What is written for a delivery of no objects and the rule of a depth; `compile` has an empty text.
+    /// What is written for a duct that holds a cable 600 deep and one without a depth, by the rule of ducts.
     fn bytes(self) -> &'static [u8] {
         match self {
             Written::Report => {
-                b"rule diepteMin checked 0 holds 0 fails 0 undecided 0\ntotal fails 0 undecided 0\n"
+                b"undecided d M1\nrule d checked 1 holds 0 fails 0 undecided 1\ntotal fails 0 undecided 1\n"
             }
-            Written::Bounds => b"bound diepteMin 4\n",
+            Written::Bounds => b"bound d 19\n",
             Written::Accepted => b"accepted 1\n",
-            Written::Code => &NO_RULES,
-            Written::Compiled => b"compiled 0\n",
-            Written::Replies => {
-                b"job 0\nrule diepteMin checked 0 holds 0 fails 0 undecided 0\ntotal fails 0 undecided 0\n"
-            }
+            Written::Code => DUCT_DEPTH,
+            Written::Compiled => b"compiled 1\n",
+            Written::Replies => REPLIES.as_bytes(),
+        }
+    }
+
+    /// How the command ends where all is written.
+    fn end(self) -> Outcome {
+        match self {
+            Written::Report => Outcome::Status(1),
+            _ => Outcome::Status(0),
         }
     }
 }
 
-/// How `compile` of the empty text ends over these sinks, and what both took.
+/// How `compile` of the rule ends over these sinks, and what both took.
 fn compiled_into(alloc: Global, code: Narrow, printed: Narrow) -> (Outcome, Narrow, Narrow) {
     let mut out = Telling::new(code);
     let mut sink = Telling::new(printed);
     let outcome = run_compile(
         alloc,
-        &mut Counting::new(MODEL.as_bytes()),
-        &mut Counting::new(b"".as_slice()),
+        &mut Counting::new(CATALOGUE.as_bytes()),
+        &mut Counting::new(DUCT_RULE.as_bytes()),
         &mut out,
         &mut sink,
     );
@@ -60,9 +97,9 @@ fn compiled_into(alloc: Global, code: Narrow, printed: Narrow) -> (Outcome, Narr
 
 /// How a command ends over a writer, and the writer afterwards.
 fn written_into(alloc: Global, written: Written, writer: Narrow) -> (Outcome, Narrow) {
-    let mut model = Counting::new(MODEL.as_bytes());
-    let mut delivery = Counting::new(NO_OBJECTS.as_bytes());
-    let mut code = Counting::new(DEPTH.as_slice());
+    let mut model = Counting::new(CATALOGUE.as_bytes());
+    let mut delivery = Counting::new(DUCT.as_bytes());
+    let mut code = Counting::new(DUCT_DEPTH);
     let wide = Narrow::new(alloc, 1_000, WhenFull::Fails);
     match written {
         Written::Code => {
@@ -94,7 +131,7 @@ fn written_into(alloc: Global, written: Written, writer: Narrow) -> (Outcome, Na
                 &mut model,
                 &mut delivery,
                 &mut code,
-                &mut Counting::new(b"enter\nlines 0".as_slice()),
+                &mut Counting::new(SCRIPT.as_bytes()),
                 &mut sink,
             )
         }
@@ -104,11 +141,24 @@ fn written_into(alloc: Global, written: Written, writer: Narrow) -> (Outcome, Na
 }
 
 /// Whether a writer of so much room has taken just the beginning, and neither a byte more nor a flush.
-fn fails_after(alloc: Global, written: Written, left: usize, when_full: WhenFull) -> bool {
-    let (outcome, writer) = written_into(alloc, written, Narrow::new(alloc, left, when_full));
+fn fails_after(alloc: Global, written: Written, left: usize, writer: Narrow) -> bool {
+    let (outcome, writer) = written_into(alloc, written, writer);
     outcome == Outcome::Failed(CommandFault::Write) && writer.has_first(left, written.bytes())
 }
 
+/// Whether writers of so much room, of each kind, are left alone once they have failed.
+fn are_left_alone_after(alloc: Global, written: Written, left: usize) -> bool {
+    for when_full in WhenFull::EACH {
+        let writer = Narrow::new(alloc, left, when_full);
+        let slow = Narrow::new(alloc, left, when_full).byte_by_byte();
+        if !fails_after(alloc, written, left, writer) || !fails_after(alloc, written, left, slow) {
+            return false;
+        }
+    }
+    true
+}
+
+/// Each of them.
 const EACH: [Written; 6] = [
     Written::Report,
     Written::Bounds,
@@ -118,15 +168,40 @@ const EACH: [Written; 6] = [
     Written::Replies,
 ];
 
-#[test]
-fn a_writer_that_failed_is_left_alone(rt: HostRuntime) {
-    for written in EACH {
-        for left in 0..written.bytes().len() {
-            assert!(rt; fails_after(rt.alloc(), written, left, WhenFull::Fails));
-            assert!(rt; fails_after(rt.alloc(), written, left, WhenFull::TakesNothing));
-            assert!(rt; fails_after(rt.alloc(), written, left, WhenFull::FailsOnce));
+/// How much room writers had that weren't left alone once they had failed, if any.
+fn written_to_again(alloc: Global, written: Written) -> Option<usize> {
+    for left in 0..written.bytes().len() {
+        if !are_left_alone_after(alloc, written, left) {
+            return Some(left);
         }
     }
+    None
+}
+
+#[test]
+fn judge_leaves_writers_alone_that_failed(rt: HostRuntime) {
+    assert!(rt; written_to_again(rt.alloc(), Written::Report) == None);
+}
+
+#[test]
+fn bound_leaves_writers_alone_that_failed(rt: HostRuntime) {
+    assert!(rt; written_to_again(rt.alloc(), Written::Bounds) == None);
+}
+
+#[test]
+fn verify_leaves_writers_alone_that_failed(rt: HostRuntime) {
+    assert!(rt; written_to_again(rt.alloc(), Written::Accepted) == None);
+}
+
+#[test]
+fn compile_leaves_writers_alone_that_failed(rt: HostRuntime) {
+    assert!(rt; written_to_again(rt.alloc(), Written::Code) == None);
+    assert!(rt; written_to_again(rt.alloc(), Written::Compiled) == None);
+}
+
+#[test]
+fn desk_leaves_writers_alone_that_failed(rt: HostRuntime) {
+    assert!(rt; written_to_again(rt.alloc(), Written::Replies) == None);
 }
 
 /// Whether a writer takes all and is then flushed once, and the command ends so.
@@ -138,9 +213,15 @@ fn takes_all(alloc: Global, written: Written, writer: Narrow, wanted: Outcome) -
 #[test]
 fn everything_is_flushed_once_at_its_end(rt: HostRuntime) {
     for written in EACH {
-        let writer = Narrow::new(rt.alloc(), written.bytes().len(), WhenFull::Fails);
+        let room = written.bytes().len();
+        let writer = Narrow::new(rt.alloc(), room, WhenFull::Fails);
         assert!(rt;
-            takes_all(rt.alloc(), written, writer, Outcome::Status(0)),
+            takes_all(rt.alloc(), written, writer, written.end()),
+            "{written:?}"
+        );
+        let slow = Narrow::new(rt.alloc(), room, WhenFull::Fails).byte_by_byte();
+        assert!(rt;
+            takes_all(rt.alloc(), written, slow, written.end()),
             "{written:?}"
         );
     }

@@ -16,13 +16,15 @@ use test_support::{CATALOGUE, bytes_of, file_of_rule};
 /// A line, and the input that it refuses. Class models and deliveries are JSON, deliveries and texts for the catalogue,
 /// code files hexadecimal digits, and accepted code a context class and instructions in words. `«3 x»` stands for `xxx`.
 /// A line that begins with `#` says what is wrong with those below it.
-const LINES: &str = r#"# no JSON; a member that is missing
+const LINES: &str = r#"# no JSON; more lists in one another than are read; a member that is missing
 refused model 1: {
+refused model 1: «200 [»«200 ]»
 refused model 2: {"model":"m","enums":[],"classes":[]}
-# two classes of one name; a superclass that isn't there; a class below itself
+# two classes of one name; a superclass that is named twice, and one that isn't there; two classes below each other
 refused model 3: {"model":"m","enums":[],"classes":[{"name":"A","abstract":false,"supers":[],"attributes":[]},{"name":"A","abstract":false,"supers":[],"attributes":[]}],"associations":[]}
+refused model 3: {"model":"m","enums":[],"classes":[{"name":"A","abstract":false,"supers":[],"attributes":[]},{"name":"B","abstract":false,"supers":["A","A"],"attributes":[]}],"associations":[]}
 refused model 4: {"model":"m","enums":[],"classes":[{"name":"A","abstract":false,"supers":["B"],"attributes":[]}],"associations":[]}
-refused model 5: {"model":"m","enums":[],"classes":[{"name":"A","abstract":false,"supers":["A"],"attributes":[]}],"associations":[]}
+refused model 5: {"model":"m","enums":[],"classes":[{"name":"A","abstract":false,"supers":["B"],"attributes":[]},{"name":"B","abstract":false,"supers":["A"],"attributes":[]}],"associations":[]}
 # a class and one below it with a feature of one name; more values wanted than there may be
 refused model 6: {"model":"m","enums":[],"classes":[{"name":"A","abstract":false,"supers":[],"attributes":[{"name":"f","type":"String","lower":0,"upper":1,"ordered":false,"unique":true}]},{"name":"B","abstract":false,"supers":["A"],"attributes":[{"name":"f","type":"String","lower":0,"upper":1,"ordered":false,"unique":true}]}],"associations":[]}
 refused model 7: {"model":"m","enums":[],"classes":[{"name":"A","abstract":false,"supers":[],"attributes":[{"name":"f","type":"String","lower":2,"upper":1,"ordered":false,"unique":true}]}],"associations":[]}
@@ -33,15 +35,17 @@ refused delivery 1: {
 refused delivery 2: {"model":"imkl-profile"}
 refused delivery 3: {"model":"other","objects":[]}
 # a class, a feature and a target that aren't there
-refused delivery 4 0: {"model":"imkl-profile","objects":[{"id":"E1","class":"Kabel","features":{}}]}
-refused delivery 5 0: {"model":"imkl-profile","objects":[{"id":"E1","class":"Elektriciteitskabel","features":{"breedte":1}}]}
+refused delivery 4 0: {"model":"imkl-profile","objects":[{"id":"E1","class":"Gasleiding","features":{}}]}
+refused delivery 5 0: {"model":"imkl-profile","objects":[{"id":"E1","class":"Elektriciteitskabel","features":{"druk":1}}]}
 refused delivery 6 0: {"model":"imkl-profile","objects":[{"id":"M1","class":"Mantelbuis","features":{"identificatie":"m","diameter":110,"omvat":["E9"]}}]}
-# an id that an earlier object has; an abstract class; an id without characters
+# an id that an earlier object has; an abstract class; an id without characters, and one with a space
 refused delivery 7 1 1: {"model":"imkl-profile","objects":[{"id":"E1","class":"Waterleiding","features":{}},{"id":"E1","class":"Waterleiding","features":{}}]}
 refused delivery 7 0 2: {"model":"imkl-profile","objects":[{"id":"E1","class":"KabelOfLeiding","features":{}}]}
 refused delivery 7 0 11: {"model":"imkl-profile","objects":[{"id":"","class":"Waterleiding","features":{}}]}
-# a value of another type; no value where one is wanted; two where there may be one
+refused delivery 7 0 11: {"model":"imkl-profile","objects":[{"id":"E 1","class":"Waterleiding","features":{}}]}
+# a value of another type; a number above the greatest Integer; no value where one is wanted; two where there may be one
 refused delivery 7 0 4: {"model":"imkl-profile","objects":[{"id":"E1","class":"Waterleiding","features":{"identificatie":1}}]}
+refused delivery 7 0 4: {"model":"imkl-profile","objects":[{"id":"E1","class":"Waterleiding","features":{"identificatie":"a","diameter":64,"diepte":9223372036854775808}}]}
 refused delivery 7 0 5: {"model":"imkl-profile","objects":[{"id":"E1","class":"Waterleiding","features":{}}]}
 refused delivery 7 0 6: {"model":"imkl-profile","objects":[{"id":"E1","class":"Waterleiding","features":{"identificatie":["a","b"]}}]}
 # a target of another class, and one twice; an end that isn't written
