@@ -8,7 +8,7 @@ ghost use Rattle.ocl_types.specs.AllRules.{HaveOwnNames};
 ghost use Rattle.ocl_types.specs.CoreView.{checked_rule_of};
 ghost use Rattle.ocl_types.specs.Typing.{IsTypedRule};
 
-use crate::met::Met;
+use crate::met::{Met, met_nothing};
 use imkl_model::{ClassModel, ModelFault};
 use ocl_compile::{CompileFault, compile};
 use ocl_text::{SurfaceRule, parse_rules};
@@ -95,7 +95,6 @@ fn read_and_parse_again(alloc: Global) -> Met {
 #[test]
 fn a_text_is_compiled_again(rt: HostRuntime) -> Result<(), Fail> {
     let met = read_and_parse_again(rt.alloc());
-    println!(rt; "met {met:?}")?;
-    assert!(rt; met == Met::Nothing);
+    assert!(rt; met_nothing(&rt, met)?);
     Ok(())
 }

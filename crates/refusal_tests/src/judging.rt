@@ -5,7 +5,7 @@ ghost use Rattle.imkl_population.specs.Population.{IsInstance};
 ghost use Rattle.rule_machine.specs.Machine.{setting_of};
 ghost use Rattle.rule_machine.specs.Contract.{IsStarted};
 
-use crate::met::Met;
+use crate::met::{Met, met_nothing};
 use crate::runs::{NETS_OF_PIPES, Tried, try_rules};
 use imkl_population::{ObjectNo, Population};
 use rule_machine::{Machine, OutOfMemory, Progress, Verdict};
@@ -151,8 +151,7 @@ pub(crate) fn run_all_again(
 fn a_run_by_one_grant_is_made_again(rt: HostRuntime) -> Result<(), Fail> {
     let tried = Tried::Machine(Runs::InOneGrant { charges: 26 });
     let met = try_rules(rt.alloc(), NETS, NETS_OF_PIPES, tried);
-    println!(rt; "met {met:?}")?;
-    assert!(rt; met == Met::Nothing);
+    assert!(rt; met_nothing(&rt, met)?);
     Ok(())
 }
 
@@ -160,8 +159,7 @@ fn a_run_by_one_grant_is_made_again(rt: HostRuntime) -> Result<(), Fail> {
 fn a_run_by_small_grants_is_made_again(rt: HostRuntime) -> Result<(), Fail> {
     let tried = Tried::Machine(Runs::InSmallGrants { charges: 26 });
     let met = try_rules(rt.alloc(), NETS, NETS_OF_PIPES, tried);
-    println!(rt; "met {met:?}")?;
-    assert!(rt; met == Met::Nothing);
+    assert!(rt; met_nothing(&rt, met)?);
     Ok(())
 }
 
@@ -169,7 +167,6 @@ fn a_run_by_small_grants_is_made_again(rt: HostRuntime) -> Result<(), Fail> {
 fn a_rule_is_judged_again(rt: HostRuntime) -> Result<(), Fail> {
     let tried = Tried::Machine(Runs::Judged { charges: 26 });
     let met = try_rules(rt.alloc(), NETS, NETS_OF_PIPES, tried);
-    println!(rt; "met {met:?}")?;
-    assert!(rt; met == Met::Nothing);
+    assert!(rt; met_nothing(&rt, met)?);
     Ok(())
 }

@@ -1,6 +1,6 @@
 //! A class model and deliveries that are read again.
 
-use crate::met::Met;
+use crate::met::{Met, met_nothing};
 use imkl_delivery::{DeliveryFault, load};
 use imkl_model::{ClassModel, ModelFault};
 use imkl_population::{ObjectNo, PopulationFault};
@@ -124,47 +124,41 @@ fn read_again(alloc: Global) -> Met {
 #[test]
 fn a_class_model_is_read_again(rt: HostRuntime) -> Result<(), Fail> {
     let met = read_again(rt.alloc());
-    println!(rt; "met {met:?}")?;
-    assert!(rt; met == Met::Nothing);
+    assert!(rt; met_nothing(&rt, met)?);
     Ok(())
 }
 
 #[test]
 fn a_cable_in_two_ducts_is_loaded_again(rt: HostRuntime) -> Result<(), Fail> {
     let met = read_and_load_again(rt.alloc(), Delivery::HeldTwice);
-    println!(rt; "met {met:?}")?;
-    assert!(rt; met == Met::Nothing);
+    assert!(rt; met_nothing(&rt, met)?);
     Ok(())
 }
 
 #[test]
 fn two_cables_of_one_id_are_loaded_again(rt: HostRuntime) -> Result<(), Fail> {
     let met = read_and_load_again(rt.alloc(), Delivery::SameId);
-    println!(rt; "met {met:?}")?;
-    assert!(rt; met == Met::Nothing);
+    assert!(rt; met_nothing(&rt, met)?);
     Ok(())
 }
 
 #[test]
 fn an_opposite_end_is_loaded_again(rt: HostRuntime) -> Result<(), Fail> {
     let met = read_and_load_again(rt.alloc(), Delivery::OppositeEnd);
-    println!(rt; "met {met:?}")?;
-    assert!(rt; met == Met::Nothing);
+    assert!(rt; met_nothing(&rt, met)?);
     Ok(())
 }
 
 #[test]
 fn a_missing_target_is_loaded_again(rt: HostRuntime) -> Result<(), Fail> {
     let met = read_and_load_again(rt.alloc(), Delivery::NoTarget);
-    println!(rt; "met {met:?}")?;
-    assert!(rt; met == Met::Nothing);
+    assert!(rt; met_nothing(&rt, met)?);
     Ok(())
 }
 
 #[test]
 fn a_duct_is_loaded_again(rt: HostRuntime) -> Result<(), Fail> {
     let met = read_and_load_again(rt.alloc(), Delivery::Duct);
-    println!(rt; "met {met:?}")?;
-    assert!(rt; met == Met::Nothing);
+    assert!(rt; met_nothing(&rt, met)?);
     Ok(())
 }

@@ -1,5 +1,7 @@
 //! What a test met whose calls may be refused memory, at most one of them.
 
+use std::test::*;
+
 /// What a test met.
 #[derive(Clone, Copy, Debug, PartialEq, Eq)]
 pub(crate) enum Met {
@@ -31,4 +33,10 @@ impl Met {
     pub(crate) fn fault_unless(holds: bool) -> Met {
         if holds { Met::Nothing } else { Met::Fault }
     }
+}
+
+/// Prints what a test met, and tells whether that is nothing, as it is where no request for memory is refused.
+pub(crate) fn met_nothing(rt: &HostRuntime, met: Met) -> Result<bool, Fail> {
+    println!(rt; "met {met:?}")?;
+    Ok(met == Met::Nothing)
 }
