@@ -25,10 +25,11 @@ const ROWS: &str = "\
 '\\'' => String 0-4;
 a<>b<=c<d => Identifier 0-1;NotEqual 1-3;Identifier 3-4;LessEqual 4-6;Identifier 6-7;Less 7-8;Identifier 8-9;
 a::b:c => Identifier 0-1;ColonColon 1-3;Identifier 3-4;Colon 4-5;Identifier 5-6;
-1 ; 2 => BadCharacter at 2
+1 ; 2 => Number(1) 0-1;Semicolon 2-3;Number(2) 4-5;
 1 / 2 => BadCharacter at 2
 and context div else endif false if implies in inv invalid let mod not null or self then true xor => And 0-3;Context 4-11;Div 12-15;Else 16-20;Endif 21-26;False 27-32;If 33-35;Implies 36-43;In 44-46;Inv 47-50;Invalid 51-58;Let 59-62;Mod 63-66;Not 67-70;Null 71-75;Or 76-78;SelfObject 79-83;Then 84-88;True 89-93;Xor 94-97;
-( ) , . : :: | -> + - * = <> < <= > >= => Open 0-1;Close 2-3;Comma 4-5;Dot 6-7;Colon 8-9;ColonColon 10-12;Bar 13-14;Arrow 15-17;Plus 18-19;Minus 20-21;Star 22-23;Equal 24-25;NotEqual 26-28;Less 29-30;LessEqual 31-33;Greater 34-35;GreaterEqual 36-38;
+( ) , . : :: ; | -> + - * = <> < <= > >= => Open 0-1;Close 2-3;Comma 4-5;Dot 6-7;Colon 8-9;ColonColon 10-12;Semicolon 13-14;Bar 15-16;Arrow 17-19;Plus 20-21;Minus 22-23;Star 24-25;Equal 26-27;NotEqual 28-30;Less 31-32;LessEqual 33-35;Greater 36-37;GreaterEqual 38-40;
+a;:::; => Identifier 0-1;Semicolon 1-2;ColonColon 2-4;Colon 4-5;Semicolon 5-6;
 AND Self xor_ implie => Identifier 0-3;Identifier 4-8;Identifier 9-13;Identifier 14-20;
 self implies implies1 _x => SelfObject 0-4;Implies 5-12;Identifier 13-21;Identifier 22-24;
 context KabelOfLeiding inv x: 'abc => OpenString at 30

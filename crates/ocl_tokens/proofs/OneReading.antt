@@ -18,8 +18,8 @@ use Rattle.ocl_tokens.proofs.Lexemes.{comment_is, comment_open, string_is, strin
 
 -- ---- bytes that begin no mark
 
-not_one : (b : ℕ) → (b ≢ 40) → (b ≢ 41) → (b ≢ 44) → (b ≢ 46) → (b ≢ 58) → (b ≢ 124) → (b ≢ 43) → (b ≢ 45) → (b ≢ 42) → (b ≢ 61) → (b ≢ 60) → (b ≢ 62) → mark_of_one b ≡ None
-not_one b n40 n41 n44 n46 n58 n124 n43 n45 n42 n61 n60 n62 = rw (ne_eqb b 40 n40, ne_eqb b 41 n41, ne_eqb b 44 n44, ne_eqb b 46 n46, ne_eqb b 58 n58, ne_eqb b 124 n124, ne_eqb b 43 n43, ne_eqb b 45 n45, ne_eqb b 42 n42, ne_eqb b 61 n61, ne_eqb b 60 n60, ne_eqb b 62 n62) refl
+not_one : (b : ℕ) → (b ≢ 40) → (b ≢ 41) → (b ≢ 44) → (b ≢ 46) → (b ≢ 58) → (b ≢ 59) → (b ≢ 124) → (b ≢ 43) → (b ≢ 45) → (b ≢ 42) → (b ≢ 61) → (b ≢ 60) → (b ≢ 62) → mark_of_one b ≡ None
+not_one b n40 n41 n44 n46 n58 n59 n124 n43 n45 n42 n61 n60 n62 = rw (ne_eqb b 40 n40, ne_eqb b 41 n41, ne_eqb b 44 n44, ne_eqb b 46 n46, ne_eqb b 58 n58, ne_eqb b 59 n59, ne_eqb b 124 n124, ne_eqb b 43 n43, ne_eqb b 45 n45, ne_eqb b 42 n42, ne_eqb b 61 n61, ne_eqb b 60 n60, ne_eqb b 62 n62) refl
 
 -- white space, digits and letters lie apart from marks, and from one another
 data Apart (b : ℕ) : Type 0 where
@@ -28,9 +28,9 @@ data Apart (b : ℕ) : Type 0 where
   letter : 64 < b → b < 123 → Apart b
 
 no_mark : (b : ℕ) → Apart b → mark_of_one b ≡ None
-no_mark b (low h) = not_one b (λ e. omega arith) (λ e. omega arith) (λ e. omega arith) (λ e. omega arith) (λ e. omega arith) (λ e. omega arith) (λ e. omega arith) (λ e. omega arith) (λ e. omega arith) (λ e. omega arith) (λ e. omega arith) (λ e. omega arith)
-no_mark b (digit g h) = not_one b (λ e. omega arith) (λ e. omega arith) (λ e. omega arith) (λ e. omega arith) (λ e. omega arith) (λ e. omega arith) (λ e. omega arith) (λ e. omega arith) (λ e. omega arith) (λ e. omega arith) (λ e. omega arith) (λ e. omega arith)
-no_mark b (letter g h) = not_one b (λ e. omega arith) (λ e. omega arith) (λ e. omega arith) (λ e. omega arith) (λ e. omega arith) (λ e. omega arith) (λ e. omega arith) (λ e. omega arith) (λ e. omega arith) (λ e. omega arith) (λ e. omega arith) (λ e. omega arith)
+no_mark b (low h) = not_one b (λ e. omega arith) (λ e. omega arith) (λ e. omega arith) (λ e. omega arith) (λ e. omega arith) (λ e. omega arith) (λ e. omega arith) (λ e. omega arith) (λ e. omega arith) (λ e. omega arith) (λ e. omega arith) (λ e. omega arith) (λ e. omega arith)
+no_mark b (digit g h) = not_one b (λ e. omega arith) (λ e. omega arith) (λ e. omega arith) (λ e. omega arith) (λ e. omega arith) (λ e. omega arith) (λ e. omega arith) (λ e. omega arith) (λ e. omega arith) (λ e. omega arith) (λ e. omega arith) (λ e. omega arith) (λ e. omega arith)
+no_mark b (letter g h) = not_one b (λ e. omega arith) (λ e. omega arith) (λ e. omega arith) (λ e. omega arith) (λ e. omega arith) (λ e. omega arith) (λ e. omega arith) (λ e. omega arith) (λ e. omega arith) (λ e. omega arith) (λ e. omega arith) (λ e. omega arith) (λ e. omega arith)
 
 white_apart : (b : ℕ) → is_white b ≡ true → Apart b
 white_apart b h = low (grind (arith, nat_tests))

@@ -143,8 +143,8 @@ ahead_mark a (b ∷ text) = two_bytes a b
 one_byte : (a : ℕ) → MarkOnly (mark_of_one a)
 one_byte a =
     either_mark (a == 40) _ _ (λ text. refl) (either_mark (a == 41) _ _ (λ text. refl) (either_mark (a == 44) _ _ (λ text. refl) (either_mark (a == 46) _ _ (λ text. refl)
-    (either_mark (a == 58) _ _ (λ text. refl) (either_mark (a == 124) _ _ (λ text. refl) (either_mark (a == 43) _ _ (λ text. refl) (either_mark (a == 45) _ _ (λ text. refl)
-    (either_mark (a == 42) _ _ (λ text. refl) (either_mark (a == 61) _ _ (λ text. refl) (either_mark (a == 60) _ _ (λ text. refl) (either_mark (a == 62) _ _ (λ text. refl) tt)))))))))))
+    (either_mark (a == 58) _ _ (λ text. refl) (either_mark (a == 59) _ _ (λ text. refl) (either_mark (a == 124) _ _ (λ text. refl) (either_mark (a == 43) _ _ (λ text. refl) (either_mark (a == 45) _ _ (λ text. refl)
+    (either_mark (a == 42) _ _ (λ text. refl) (either_mark (a == 61) _ _ (λ text. refl) (either_mark (a == 60) _ _ (λ text. refl) (either_mark (a == 62) _ _ (λ text. refl) tt))))))))))))
 
 -- each token is written as its kind asks
 pub token_written : {n : ℕ} {kind : TokenKind} {text : List ℕ} → IsToken text kind n → is_written kind (take n text) ≡ true

@@ -6,7 +6,7 @@ use Rattle.std.specs.Char.{is_ascii_digit}
 use Rattle.ocl_base.specs.Words.{is_letter, is_letter_or_digit}
 use Rattle.ocl_tokens.specs.declared.token.TheConstants.{MAX_NUMBER}
 use Rattle.ocl_tokens.specs.declared.token.TokenKind.{TokenKind}
-use Rattle.ocl_tokens.specs.declared.token.TokenKind.TheVariants.{Identifier, Number, String, And, Context, Div, Else, Endif, False, If, Implies, In, Inv, Invalid, Let, Mod, Not, Null, Or, SelfObject, Then, True, Xor, Open, Close, Comma, Dot, Colon, ColonColon, Bar, Arrow, Plus, Minus, Star, Equal, NotEqual, Less, LessEqual, Greater, GreaterEqual}
+use Rattle.ocl_tokens.specs.declared.token.TokenKind.TheVariants.{Identifier, Number, String, And, Context, Div, Else, Endif, False, If, Implies, In, Inv, Invalid, Let, Mod, Not, Null, Or, SelfObject, Then, True, Xor, Open, Close, Comma, Dot, Colon, ColonColon, Semicolon, Bar, Arrow, Plus, Minus, Star, Equal, NotEqual, Less, LessEqual, Greater, GreaterEqual}
 use Rattle.ocl_tokens.specs.declared.fault.TextFlaw.{TextFlaw}
 use Rattle.ocl_tokens.specs.declared.fault.TextFlaw.TheVariants.{BadCharacter, OpenString, BadEscape, NumberTooLarge, OpenComment}
 use Rattle.ocl_tokens.specs.declared.fault.TextFault.{TextFault}
@@ -85,7 +85,7 @@ mark_of_two first second =
     else (if first == 62 && second == 61 then Some GreaterEqual
     else None))))
 
--- the marks of one byte: ( ) , . : | + - * = < >
+-- the marks of one byte: ( ) , . : ; | + - * = < >
 abbrev pub mark_of_one : ℕ → Option TokenKind
 mark_of_one first =
     if first == 40 then Some Open
@@ -93,6 +93,7 @@ mark_of_one first =
     else (if first == 44 then Some Comma
     else (if first == 46 then Some Dot
     else (if first == 58 then Some Colon
+    else (if first == 59 then Some Semicolon
     else (if first == 124 then Some Bar
     else (if first == 43 then Some Plus
     else (if first == 45 then Some Minus
@@ -100,7 +101,7 @@ mark_of_one first =
     else (if first == 61 then Some Equal
     else (if first == 60 then Some Less
     else (if first == 62 then Some Greater
-    else None)))))))))))
+    else None))))))))))))
 
 -- the mark of two bytes that a text begins with
 abbrev pub mark_ahead : ℕ → List ℕ → Option TokenKind

@@ -67,6 +67,8 @@ pub enum TokenKind {
     Colon,
     /// `::`
     ColonColon,
+    /// `;`
+    Semicolon,
     /// `|`
     Bar,
     /// `->`

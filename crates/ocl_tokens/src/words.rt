@@ -58,6 +58,7 @@ pub(crate) fn mark_of_one(first: u8) -> Option<TokenKind>
         b',' => Some(TokenKind::Comma),
         b'.' => Some(TokenKind::Dot),
         b':' => Some(TokenKind::Colon),
+        b';' => Some(TokenKind::Semicolon),
         b'|' => Some(TokenKind::Bar),
         b'+' => Some(TokenKind::Plus),
         b'-' => Some(TokenKind::Minus),
