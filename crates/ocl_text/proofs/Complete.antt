@@ -1,6 +1,7 @@
 -- What the grammar says is read.
 use Rattle.std.proofs.Common.{◌≡◌, ℕ, zero, suc, ◌<◌, ◌≤◌, List, [], ◌∷◌, ◌++◌, length, drop, Some, None, Ok, refl, ap, ◌∙◌, Bool, true, false, arith}
-use Rattle.std.specs.Prelude.{if◌then◌else◌}
+use Rattle.std.specs.Prelude.{if◌then◌else◌, codes}
+use Rattle.std.proofs.lemmas.Slice.Eq.{bytes_eq-Decides}
 use Rattle.ocl_tokens.specs.declared.token.TokenKind.{TokenKind}
 use Rattle.ocl_tokens.specs.declared.token.TokenKind.TheVariants as k
 use Rattle.ocl_base.specs.Steps.{◌>>=◌}
@@ -12,11 +13,11 @@ use Rattle.ocl_text.specs.declared.tree.Navigation.TheVariants.{Dot, Arrow}
 use Rattle.ocl_text.specs.declared.tree.PrefixOperator.TheVariants as pre
 use Rattle.ocl_tokens.specs.Terminals.{Terminal}
 use Rattle.ocl_text.specs.Tree as t
-use Rattle.ocl_text.specs.Tree.{TypeTree, VariableTree, Variables, Unnamed, Single, Pair, Bound, Rule, SurfaceTree, Name, Keyword, EnumerationLiteral, Prefix, Binary, Property, Call, Iterate, lets_at, If, trees_of, binding}
+use Rattle.ocl_text.specs.Tree.{TypeTree, VariableTree, Variables, Unnamed, Single, Pair, Bound, Rule, SurfaceTree, Name, Keyword, EnumerationLiteral, Prefix, Binary, Property, Call, Iterate, lets_at, If, trees_of, binding, fold_with}
 use Rattle.ocl_text.specs.Grammar as g
-use Rattle.ocl_text.specs.Grammar.{top, token, Ends, next_is, Next, NotNext, steps_on, opens, closes, separates, keyword_of, begins_variable, iterator_of, takes_two, IsExpr, IsBinds, MoreBinds, IsUnary, IsPrim, IsLevel, GoesOn, IsSteps, IsArguments, IsItems, MoreItems, IsIteration, IsType, IsVariable, declares, begins_invariant, IsInvariant, IsInvariants, MoreInvariants, IsContexts}
+use Rattle.ocl_text.specs.Grammar.{top, token, Ends, next_is, Next, NotNext, steps_on, opens, closes, separates, keyword_of, begins_variable, iterator_of, is_fold_name, takes_two, IsExpr, IsBind, IsBinds, MoreBinds, IsUnary, IsPrim, IsLevel, GoesOn, IsSteps, IsArguments, IsItems, MoreItems, IsIteration, IsFold, IsType, IsVariable, declares, begins_invariant, IsInvariant, IsInvariants, MoreInvariants, IsContexts}
 use Rattle.ocl_text.specs.Parse as p
-use Rattle.ocl_text.specs.Parse.{TokensFault, syntax, too_deep, Reading, Reader, begins, expect, identifier, link, link_by, on_link, chain, levels, unary, unary_over, unary_by, prim_by, expr, expr_over, post, prim, if_expression, step_list, one_step, dotted, arrowed, calling, called, applied_step, applied_by, arguments, arguments_in, items, a_bind, let_expression, iteration, optional_variables, variables, variables_by, level_of, rule_name, invariant, invariant_at, invariants, context, placed_name, contexts}
+use Rattle.ocl_text.specs.Parse.{TokensFault, syntax, too_deep, Reading, Reader, begins, expect, identifier, link, link_by, on_link, chain, levels, unary, unary_over, unary_by, prim_by, expr, expr_over, post, prim, if_expression, step_list, one_step, dotted, arrowed, calling, called, applied_step, applied_by, a_fold, fold_in, fold_body, arguments, arguments_in, items, a_bind, let_expression, iteration, optional_variables, variables, variables_by, level_of, rule_name, invariant, invariant_at, invariants, context, placed_name, contexts}
 use Rattle.ocl_text.proofs.Turns.{expr_plain, steps_none, chain_none}
 
 -- ---- each part takes a token
@@ -34,8 +35,11 @@ mutual
   shorter_expr (g.let_expression d e) = let a = shorter_binds d in let b = shorter_expr e in omega arith
   shorter_expr (g.plain d) = shorter_level d
 
+  pub shorter_bind : {c n : ℕ} {bound : Bound} {ts rest : List Terminal} → IsBind c n ts bound rest → length rest < length ts
+  shorter_bind (g.a_bind y d) = let x = shorter_type y in let a = shorter_level d in omega arith
+
   pub shorter_binds : {c n : ℕ} {found all : List Bound} {ts rest : List Terminal} → IsBinds c n found ts all rest → length rest < length ts
-  shorter_binds (g.a_bind y d e) = let x = shorter_type y in let a = shorter_level d in let b = shorter_more_binds e in omega arith
+  shorter_binds (g.some_binds d e) = let a = shorter_bind d in let b = shorter_more_binds e in omega arith
 
   pub shorter_more_binds : {c n : ℕ} {found all : List Bound} {ts rest : List Terminal} → MoreBinds c n found ts all rest → length rest ≤ length ts
   shorter_more_binds (g.no_more_binds h) = omega arith
@@ -68,8 +72,9 @@ mutual
   shorter_steps (g.dot h e) = let b = shorter_steps e in omega arith
   shorter_steps (g.dot_call d e) = let a = shorter_arguments d in let b = shorter_steps e in omega arith
   shorter_steps (g.dot_word h d e) = let a = shorter_arguments d in let b = shorter_steps e in omega arith
-  shorter_steps (g.arrow_call h d e) = let a = shorter_arguments d in let b = shorter_steps e in omega arith
+  shorter_steps (g.arrow_call h f d e) = let a = shorter_arguments d in let b = shorter_steps e in omega arith
   shorter_steps (g.arrow_iterate h d e) = let a = shorter_iteration d in let b = shorter_steps e in omega arith
+  shorter_steps (g.arrow_fold h d e) = let a = shorter_fold d in let b = shorter_steps e in omega arith
 
   pub shorter_arguments : {c n : ℕ} {ts rest : List Terminal} {all : List SurfaceTree} → IsArguments c n ts all rest → length rest < length ts
   shorter_arguments g.no_argument = omega arith
@@ -86,6 +91,9 @@ mutual
   shorter_iteration (g.body_alone h d) = let a = shorter_expr d in omega arith
   shorter_iteration (g.one_variable b v d) = let x = shorter_variable v in let a = shorter_expr d in omega arith
   shorter_iteration (g.two_variables b v w d) = let x = shorter_variable v in let y = shorter_variable w in let a = shorter_expr d in omega arith
+
+  pub shorter_fold : {c n : ℕ} {v : VariableTree} {b : Bound} {body : SurfaceTree} {ts rest : List Terminal} → IsFold c n ts v b body rest → length rest < length ts
+  shorter_fold (g.a_fold x d e) = let y = shorter_variable x in let a = shorter_bind d in let b = shorter_expr e in omega arith
 
 -- ---- what an operand begins with, and that it takes a construct's turn
 
@@ -210,6 +218,14 @@ unfolding arguments_in
 arguments_is operand zero us h e = absurd (omega (arith, h))
 arguments_is operand (suc n) us h e = rw e refl
 
+-- the name of an iteration is not that of a fold
+no_fold : (text : List ℕ) (kind : IteratorKind) → iterator_of text ≡ Some kind → is_fold_name text ≡ false
+no_fold text kind h = by (is_fold_name text) (bytes_eq-Decides text (codes "iterate")).0
+  where
+    by : (b : Bool) → (b ≡ true → text ≡ codes "iterate") → b ≡ false
+    by true is = let none = rw (is refl) at h in absurd (cc (none))
+    by false is = refl
+
 module _ (n : ℕ) (operand whole : Reader SurfaceTree) where
   property_is : (source : SurfaceTree) (text : List ℕ) (at : ℕ) (ts : List Terminal) → NotNext opens ts → called n operand whole source text at ts ≡ Ok (Property source text at, ts)
   unfolding called
@@ -219,13 +235,17 @@ module _ (n : ℕ) (operand whole : Reader SurfaceTree) where
   unfolding called
   call_is source text at ts h = rw h refl
 
-  applied_call : (source : SurfaceTree) (text : List ℕ) (at : ℕ) (ts : List Terminal) → iterator_of text ≡ None → applied_step n operand whole source text at ts ≡ calling n operand whole source Arrow text at ts
+  applied_call : (source : SurfaceTree) (text : List ℕ) (at : ℕ) (ts : List Terminal) → iterator_of text ≡ None → is_fold_name text ≡ false → applied_step n operand whole source text at ts ≡ calling n operand whole source Arrow text at ts
   unfolding applied_step
-  applied_call source text at ts h = ap (λ o. applied_by n operand whole o source text at ts) h
+  applied_call source text at ts h f = rw f (ap (λ o. applied_by n operand whole o source text at ts) h)
 
   applied_iterate : (source : SurfaceTree) (text : List ℕ) (at : ℕ) (ts : List Terminal) (kind : IteratorKind) → iterator_of text ≡ Some kind → applied_step n operand whole source text at ts ≡ (iteration n whole (takes_two kind) ts >>= λ x. Ok (Iterate source kind x.0.0 x.0.1 at, x.1))
   unfolding applied_step
-  applied_iterate source text at ts kind h = ap (λ o. applied_by n operand whole o source text at ts) h
+  applied_iterate source text at ts kind h = rw (no_fold text kind h) (ap (λ o. applied_by n operand whole o source text at ts) h)
+
+  applied_fold : (source : SurfaceTree) (text : List ℕ) (at : ℕ) (ts : List Terminal) → is_fold_name text ≡ true → applied_step n operand whole source text at ts ≡ a_fold n operand whole source at ts
+  unfolding applied_step
+  applied_fold source text at ts f = rw f refl
 
 -- an iteration whose first tokens begin no variable has none
 pub no_variable_is : (n : ℕ) (two : Bool) (ts : List Terminal) → begins_variable ts ≡ false → optional_variables n two ts ≡ Ok (Unnamed, ts)
@@ -269,7 +289,7 @@ after_type operand name s = expect m.Equal s.1 >>= operand >>= named name s.0
 -- ---- what the grammar says is read
 
 mutual
-  unfolding p.name_or_literal unary levels calling unary_over expr expr_over chain link step_list one_step dotted arrowed arguments arguments_in items a_bind let_expression iteration optional_variables variables expect identifier placed_name post prim if_expression variables_by
+  unfolding p.name_or_literal unary levels calling unary_over expr expr_over chain link step_list one_step dotted arrowed arguments arguments_in items a_bind let_expression iteration a_fold fold_in fold_body optional_variables variables expect identifier placed_name post prim if_expression variables_by
 
   -- each part of an expression that the grammar allows is read, under the same limits
   pub complete_expr : {c n : ℕ} {ts rest : List Terminal} {tree : SurfaceTree} → IsExpr c n ts tree rest → expr c n ts ≡ Ok (tree, rest)
@@ -278,12 +298,16 @@ mutual
       ∙ ap (λ r. r >>= λ y. Ok (lets_at at bindings y.0, y.1)) (complete_expr e)
   complete_expr {c} (g.plain {n = n} {ts = ts} d) = plain_is c n ts (within_level d) (begins_level d) ∙ complete_level d
 
+  pub complete_bind : {c n : ℕ} {bound : Bound} {ts rest : List Terminal} → IsBind c n ts bound rest → a_bind n (level_of c n top) ts ≡ Ok (bound, rest)
+  complete_bind {c} (g.a_bind {n = n} {offset = at} {text = text} {declared = declared} y d) =
+      ap (λ r. r >>= after_type (level_of c n top) (text, at)) (complete_type y)
+      ∙ ap (λ r. r >>= named (text, at) declared) (complete_level d)
+
   pub complete_binds : {c n : ℕ} {found all : List Bound} {ts rest : List Terminal} → IsBinds c n found ts all rest → (f : ℕ) → length ts ≤ f → items (a_bind n (level_of c n top)) f found ts ≡ Ok (all, rest)
-  complete_binds (g.a_bind y d e) zero h = absurd (omega (arith, h))
-  complete_binds {c} (g.a_bind {n = n} {offset = at} {text = text} {declared = declared} {found = found} y d e) (suc f) h =
-      ap (λ r. r >>= after_type (level_of c n top) (text, at) >>= λ x. if next_is separates x.1 then items (a_bind n (level_of c n top)) f (found ++ x.0 ∷ []) (drop 1 x.1) else Ok (found ++ x.0 ∷ [], x.1)) (complete_type y)
-      ∙ ap (λ r. r >>= named (text, at) declared >>= λ x. if next_is separates x.1 then items (a_bind n (level_of c n top)) f (found ++ x.0 ∷ []) (drop 1 x.1) else Ok (found ++ x.0 ∷ [], x.1)) (complete_level d)
-      ∙ complete_more_binds e f (let x = shorter_type y in let a = shorter_level d in omega (arith, h))
+  complete_binds (g.some_binds d e) zero h = let a = shorter_bind d in absurd (omega (arith, h))
+  complete_binds {c} (g.some_binds {n = n} {found = found} d e) (suc f) h =
+      ap (λ r. r >>= λ x. if next_is separates x.1 then items (a_bind n (level_of c n top)) f (found ++ x.0 ∷ []) (drop 1 x.1) else Ok (found ++ x.0 ∷ [], x.1)) (complete_bind d)
+      ∙ complete_more_binds e f (let a = shorter_bind d in omega (arith, h))
 
   pub complete_more_binds : {c n : ℕ} {found all : List Bound} {ts rest : List Terminal} → MoreBinds c n found ts all rest → (f : ℕ) → length ts ≤ f
       → (if next_is separates ts then items (a_bind n (level_of c n top)) f found (drop 1 ts) else Ok (found, ts)) ≡ Ok (all, rest)
@@ -326,10 +350,12 @@ mutual
       ap (λ r. r >>= λ x. step_list n (level_of c n top) (expr c n) m x.0 x.1) (call_is n (level_of c n top) (expr c n) source text at ts (opens_arguments d) ∙ ap (λ r. r >>= λ x. Ok (Call source Dot text (trees_of x.0) at, x.1)) (complete_arguments d)) ∙ complete_steps e
   complete_steps {c} (g.dot_word {n = n} {c = m} {t = t} {ts = ts} {source = source} h d e) =
       ap (λ r. r >>= λ x. step_list n (level_of c n top) (expr c n) m x.0 x.1) (word_dot n (level_of c n top) (expr c n) source t ts h ∙ ap (λ r. r >>= λ x. Ok (Call source Dot t.text (trees_of x.0) t.offset, x.1)) (complete_arguments d)) ∙ complete_steps e
-  complete_steps {c} (g.arrow_call {n = n} {c = m} {offset = at} {text = text} {ts = ts} {source = source} h d e) =
-      ap (λ r. r >>= λ x. step_list n (level_of c n top) (expr c n) m x.0 x.1) (applied_call n (level_of c n top) (expr c n) source text at ts h ∙ ap (λ r. r >>= λ x. Ok (Call source Arrow text (trees_of x.0) at, x.1)) (complete_arguments d)) ∙ complete_steps e
+  complete_steps {c} (g.arrow_call {n = n} {c = m} {offset = at} {text = text} {ts = ts} {source = source} h f d e) =
+      ap (λ r. r >>= λ x. step_list n (level_of c n top) (expr c n) m x.0 x.1) (applied_call n (level_of c n top) (expr c n) source text at ts h f ∙ ap (λ r. r >>= λ x. Ok (Call source Arrow text (trees_of x.0) at, x.1)) (complete_arguments d)) ∙ complete_steps e
   complete_steps {c} (g.arrow_iterate {n = n} {c = m} {offset = at} {text = text} {ts = ts} {source = source} {kind = kind} h d e) =
       ap (λ r. r >>= λ x. step_list n (level_of c n top) (expr c n) m x.0 x.1) (applied_iterate n (level_of c n top) (expr c n) source text at ts kind h ∙ ap (λ r. r >>= λ x. Ok (Iterate source kind x.0.0 x.0.1 at, x.1)) (complete_iteration d)) ∙ complete_steps e
+  complete_steps {c} (g.arrow_fold {n = n} {c = m} {offset = at} {text = text} {ts = ts} {source = source} h d e) =
+      ap (λ r. r >>= λ x. step_list n (level_of c n top) (expr c n) m x.0 x.1) (applied_fold n (level_of c n top) (expr c n) source text at ts h ∙ complete_fold d source at) ∙ complete_steps e
 
   pub complete_arguments : {c n : ℕ} {ts rest : List Terminal} {all : List SurfaceTree} → IsArguments c n ts all rest → arguments (level_of c n top) n ts ≡ Ok (all, rest)
   complete_arguments g.no_argument = refl
@@ -356,6 +382,12 @@ mutual
   complete_iteration {c} (g.two_variables {m = n} {comma_offset = comma_at} {bar_offset = bar_at} {comma = comma} {bar = bar} {us = us} {vs = ws} {ts = ts} {v = v} {w = w} b x y d) =
       ap (λ r. r >>= λ vs. expr c (suc n) vs.1 >>= λ x. expect m.Close x.1 >>= λ rest. Ok ((vs.0, x.0), rest)) (two_is n us ws v w comma_at bar_at comma bar ts b (complete_variable x) (complete_variable y))
       ∙ ap (λ r. r >>= λ x. expect m.Close x.1 >>= λ rest. Ok ((Pair v w, x.0), rest)) (complete_expr d)
+
+  pub complete_fold : {c n : ℕ} {v : VariableTree} {b : Bound} {body : SurfaceTree} {ts rest : List Terminal} → IsFold c n ts v b body rest → (source : SurfaceTree) (at : ℕ) → a_fold n (level_of c n top) (expr c n) source at ts ≡ Ok (fold_with source v b body at, rest)
+  complete_fold {c} (g.a_fold {m = n} {variable = v} {accumulator = b} x d e) source at =
+      ap (λ r. r >>= λ v. expect m.Semicolon v.1 >>= a_bind (suc n) (level_of c (suc n) top) >>= λ b. fold_body (expr c (suc n)) source v.0 b.0 at b.1) (complete_variable x)
+      ∙ ap (λ r. r >>= λ b. fold_body (expr c (suc n)) source v b.0 at b.1) (complete_bind d)
+      ∙ ap (λ r. r >>= λ x. expect m.Close x.1 >>= λ rest. Ok (fold_with source v b x.0 at, rest)) (complete_expr e)
 
 -- ---- rules
 

@@ -19,7 +19,7 @@ use Rattle.ocl_text.proofs.Parts.{counts}
 use Rattle.ocl_text.proofs.Expressions.{sees_whole_expr}
 
 stop_begins_nothing : (kind : TokenKind) → stops kind ≡ true → begins_invariant kind ≡ false
-stop_begins_nothing = stop_is (λ kind. begins_invariant kind ≡ false) refl refl refl refl refl
+stop_begins_nothing = stop_is (λ kind. begins_invariant kind ≡ false) refl refl refl refl refl refl
 
 -- ---- one invariant
 

@@ -9,7 +9,7 @@ use Rattle.ocl_text.specs.declared.cursor.Mark.TheVariants as m
 use Rattle.ocl_text.specs.declared.tree.PrefixOperator.{PrefixOperator}
 use Rattle.ocl_text.specs.declared.tree.PrefixOperator.TheVariants.{Negate, Not}
 use Rattle.ocl_tokens.specs.Terminals.{Terminal}
-use Rattle.ocl_text.specs.Tree.{Bound, TypeTree, SurfaceTree, Number, Prefix, binding, lets_at}
+use Rattle.ocl_text.specs.Tree.{Bound, SurfaceTree, Number, Prefix, lets_at}
 use Rattle.ocl_text.specs.RuleText.{Agrees}
 use Rattle.ocl_text.specs.Grammar.{is_mark, token, top, next_is, Next, is_identifier_kind, IsLevel, IsType}
 use Rattle.ocl_text.specs.Parse as p
@@ -19,11 +19,11 @@ use Rattle.ocl_text.proofs.Sound.{bind_ok, weaker, sound_levels, sound_unary, so
 use Rattle.ocl_text.proofs.Turns.{expr_plain}
 use Rattle.ocl_text.proofs.Shut.{levels_shut, unary_shut, expr_shut, let_shut}
 use Rattle.ocl_text.proofs.Wider.{plus, deeper, longer}
-use Rattle.ocl_text.proofs.Prefixes.{Sees, Opens, Any, bind, sees_as, skip, pass, stuck, sees_expect, sees_placed_name}
-use Rattle.ocl_text.proofs.Stops.{May, stops, stops_type, mark_next, mark_may, sees_shut, sees_type}
+use Rattle.ocl_text.proofs.Prefixes.{Sees, Opens, bind, sees_as, skip, pass, stuck, sees_expect}
+use Rattle.ocl_text.proofs.Stops.{May, stops, mark_may, sees_shut}
 use Rattle.ocl_text.proofs.Spelled.{zero_token, name_word, after_let_name, levels_done, number_unary, number_expr, plain_expr, opened_unary, let_done}
 use Rattle.ocl_text.proofs.Lists.{Shortens, listed, sees_listed}
-use Rattle.ocl_text.proofs.Parts.{counts, sees_levels, sees_levels_after, sees_named, sees_prim}
+use Rattle.ocl_text.proofs.Parts.{counts, sees_bind, sees_levels, sees_levels_after, sees_named, sees_prim}
 use Rattle.ocl_text.proofs.Steps.{SeesName, sees_steps}
 
 -- ---- nothing is longer after it is read
@@ -109,23 +109,6 @@ module _ (a b c : ℕ) where
   abbrev SeesExpr : ℕ → Type 0
   SeesExpr n = (ts : List Terminal) → Sees (expr c n) (expr (longer b c) (deeper a n)) (May stops) (Next counts) ts
 
-  module _ (n : ℕ) (operand operand' : Reader SurfaceTree) (sees : (ts : List Terminal) → Sees operand operand' (May stops) (Next counts) ts) where
-    abbrev bind_value : List ℕ × ℕ → Reader SurfaceTree → TypeTree → Reader Bound
-    bind_value text operand s us = expect m.Equal us >>= operand >>= λ x. Ok (binding text s x.0, x.1)
-
-    abbrev bind_type : List ℕ × ℕ → ℕ → Reader SurfaceTree → Reader Bound
-    bind_type text n operand us = expect m.Colon us >>= p.a_type n >>= λ s. bind_value text operand s.0 s.1
-
-    sees_bind : (ts : List Terminal) → Sees (a_bind n operand) (a_bind (deeper a n) operand') (May stops) (Next is_identifier_kind) ts
-    unfolding a_bind
-    sees_bind ts =
-        bind placed_name placed_name (λ text. bind_type text n operand) (λ text. bind_type text (deeper a n) operand') Any (May stops) (Next (is_mark m.Colon)) (Next is_identifier_kind) ts (λ us g. tt) (sees_placed_name ts)
-        (λ text us. bind (λ vs. expect m.Colon vs >>= p.a_type n) (λ vs. expect m.Colon vs >>= p.a_type (deeper a n)) (bind_value text operand) (bind_value text operand') (Next stops_type) (May stops) (Next (is_mark m.Equal)) (Next (is_mark m.Colon)) us (mark_next m.Equal stops_type refl)
-        (sees_expect m.Colon (p.a_type n) (p.a_type (deeper a n)) (Next stops_type) (Next is_identifier_kind) (sees_type a n) us)
-        (λ s vs. bind (λ ws. expect m.Equal ws >>= operand) (λ ws. expect m.Equal ws >>= operand') (λ x ws. Ok (binding text s x, ws)) (λ x ws. Ok (binding text s x, ws)) (May stops) (May stops) (May stops) (Next (is_mark m.Equal)) vs (λ ws g. g)
-        (sees_expect m.Equal operand operand' (May stops) (Next counts) sees vs)
-        (λ x ws. pass (binding text s x) (May stops) ws)))
-
   abbrev in_let : Reader SurfaceTree → ℕ → List Bound → Reader SurfaceTree
   in_let whole at bindings us = expect m.In us >>= whole >>= λ y. Ok (lets_at at bindings y.0, y.1)
 
@@ -143,7 +126,7 @@ module _ (a b c : ℕ) where
   sees_let (suc n) sees sees_whole at ts =
       bind (listed (a_bind (suc n) (level_of c (suc n) top)) []) (listed (a_bind (suc (deeper a n)) (level_of (longer b c) (suc (deeper a n)) top)) []) (in_let (expr c (suc n)) at) (in_let (expr (longer b c) (suc (deeper a n))) at) (May stops) (May stops) (Next (is_mark m.In)) (Next is_identifier_kind) ts (mark_may m.In stops refl)
       (sees_listed (a_bind (suc n) (level_of c (suc n) top)) (a_bind (suc (deeper a n)) (level_of (longer b c) (suc (deeper a n)) top)) (short_bind (suc n) _ (short_level c (suc n))) (short_bind (suc (deeper a n)) _ (short_level (longer b c) (suc (deeper a n))))
-      (no_bind (suc n) _) (no_bind (suc (deeper a n)) _) (Next is_identifier_kind) (sees_bind (suc n) _ _ sees) [] ts)
+      (no_bind (suc n) _) (no_bind (suc (deeper a n)) _) (Next is_identifier_kind) (sees_bind a (suc n) _ _ sees) [] ts)
       (λ bindings us. bind (λ vs. expect m.In vs >>= expr c (suc n)) (λ vs. expect m.In vs >>= expr (longer b c) (suc (deeper a n))) (λ y vs. Ok (lets_at at bindings y, vs)) (λ y vs. Ok (lets_at at bindings y, vs)) (May stops) (May stops) (May stops) (Next (is_mark m.In)) us (λ vs g. g)
       (sees_expect m.In (expr c (suc n)) (expr (longer b c) (suc (deeper a n))) (May stops) (Next counts) sees_whole us)
       (λ y vs. pass (lets_at at bindings y) (May stops) vs))

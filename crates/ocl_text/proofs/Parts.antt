@@ -12,16 +12,16 @@ use Rattle.ocl_text.specs.declared.tree.Navigation.{Navigation}
 use Rattle.ocl_text.specs.declared.tree.Navigation.TheVariants.{Dot}
 use Rattle.ocl_tokens.specs.Terminals.{Terminal}
 use Rattle.ocl_text.specs.Strings.{string_value}
-use Rattle.ocl_text.specs.Tree.{SurfaceTree, Number, String, Keyword, Name, EnumerationLiteral, Property, Binary, Call, If, trees_of}
+use Rattle.ocl_text.specs.Tree.{TypeTree, Bound, SurfaceTree, Number, String, Keyword, Name, EnumerationLiteral, Property, Binary, Call, If, trees_of, binding}
 use Rattle.ocl_text.specs.RuleText.{Agrees}
 use Rattle.ocl_text.specs.Grammar.{is_mark, token, operator, next_is, Next, is_identifier_kind, opens, closes, separates, qualifies}
 use Rattle.ocl_text.specs.Parse as p
-use Rattle.ocl_text.specs.Parse.{TokensFault, syntax, too_deep, Reading, Reader, begins, begins_argument, expect, identifier, link, link_by, on_link, chain, levels, step_list, one_step, items, arguments_in, arguments, calling, called, a_bind, if_expression, prim}
+use Rattle.ocl_text.specs.Parse.{TokensFault, syntax, too_deep, Reading, Reader, begins, begins_argument, expect, identifier, link, link_by, on_link, chain, levels, step_list, one_step, items, arguments_in, arguments, calling, called, a_bind, if_expression, prim, placed_name}
 use Rattle.ocl_text.proofs.Turns.{chain_none, chain_deep}
 use Rattle.ocl_text.proofs.Wider.{deeper, longer}
 use Rattle.ocl_text.proofs.Shut.{argument_shut}
-use Rattle.ocl_text.proofs.Prefixes.{Sees, Opens, Any, bind, default_of, sees_as, skip, pass, stuck, blocked, adapt, sees_expect, sees_identifier, either}
-use Rattle.ocl_text.proofs.Stops.{May, stops, next_not, may_not, mark_may, sees_shut}
+use Rattle.ocl_text.proofs.Prefixes.{Sees, Opens, Any, bind, default_of, sees_as, skip, pass, stuck, blocked, adapt, sees_expect, sees_identifier, sees_placed_name, either}
+use Rattle.ocl_text.proofs.Stops.{May, stops, stops_type, next_not, may_not, mark_next, mark_may, sees_shut, sees_type}
 use Rattle.ocl_text.proofs.Spelled.{zero_token, mark_word, not_linked, stop_qualifies, stop_opens}
 use Rattle.ocl_text.proofs.Lists.{Shortens, listed, sees_listed}
 
@@ -163,6 +163,24 @@ module _ (operand operand' whole whole' : Reader SurfaceTree) (sees : (ts : List
           (bind whole whole' in_parentheses in_parentheses (May stops) (May stops) (Next (is_mark m.Close)) (Next counts) ts (mark_may m.Close stops refl) (sees_whole ts)
           (λ x us. sees_expect m.Close _ _ (May stops) (May stops) (λ rest. pass x (May stops) rest) us))
       by _ at text = stuck (prim operand whole) (prim operand' whole') (May stops) (Next counts) _ (λ us (more, is). rw is refl) (λ us (more, is). rw is refl) (Number 0 0, zero_token ∷ [], λ rest g. (refl, refl))
+
+module _ (a n : ℕ) (operand operand' : Reader SurfaceTree) (sees : (ts : List Terminal) → Sees operand operand' (May stops) (Next counts) ts) where
+  abbrev bind_value : List ℕ × ℕ → Reader SurfaceTree → TypeTree → Reader Bound
+  bind_value text operand s us = expect m.Equal us >>= operand >>= λ x. Ok (binding text s x.0, x.1)
+
+  abbrev bind_type : List ℕ × ℕ → ℕ → Reader SurfaceTree → Reader Bound
+  bind_type text n operand us = expect m.Colon us >>= p.a_type n >>= λ s. bind_value text operand s.0 s.1
+
+  -- where a name with its type and its value stops, it can be completed under wider limits
+  pub sees_bind : (ts : List Terminal) → Sees (a_bind n operand) (a_bind (deeper a n) operand') (May stops) (Next is_identifier_kind) ts
+  unfolding a_bind
+  sees_bind ts =
+      bind placed_name placed_name (λ text. bind_type text n operand) (λ text. bind_type text (deeper a n) operand') Any (May stops) (Next (is_mark m.Colon)) (Next is_identifier_kind) ts (λ us g. tt) (sees_placed_name ts)
+      (λ text us. bind (λ vs. expect m.Colon vs >>= p.a_type n) (λ vs. expect m.Colon vs >>= p.a_type (deeper a n)) (bind_value text operand) (bind_value text operand') (Next stops_type) (May stops) (Next (is_mark m.Equal)) (Next (is_mark m.Colon)) us (mark_next m.Equal stops_type refl)
+      (sees_expect m.Colon (p.a_type n) (p.a_type (deeper a n)) (Next stops_type) (Next is_identifier_kind) (sees_type a n) us)
+      (λ s vs. bind (λ ws. expect m.Equal ws >>= operand) (λ ws. expect m.Equal ws >>= operand') (λ x ws. Ok (binding text s x, ws)) (λ x ws. Ok (binding text s x, ws)) (May stops) (May stops) (May stops) (Next (is_mark m.Equal)) vs (λ ws g. g)
+      (sees_expect m.Equal operand operand' (May stops) (Next counts) sees vs)
+      (λ x ws. pass (binding text s x) (May stops) ws)))
 
 -- the operand of a list, which is no longer after it is read
 module _ (operand operand' : Reader SurfaceTree) (sees : (ts : List Terminal) → Sees operand operand' (May stops) (Next counts) ts)

@@ -251,6 +251,22 @@ blocked p p' F S t us e (x, more, h) = record {
   wide = (t, us, refl, (x, more, λ rest g. (tt, h rest g)));
 }
 
+agrees_itself : (ts : List Terminal) → Agrees ts ts
+agrees_itself [] = refl
+agrees_itself (t ∷ ts) = (ts, refl)
+
+-- where reading takes a token, a completion from nothing may be chosen, and with it what it begins with
+pub begun_as : {A : Type 0} (p p' : Reader A) (F S S' : List Terminal → Type 0) (ts : List Terminal) → ((x : A) → p ts ≡ Ok (x, ts) → ⊥) → Completes p' F S' [] → Sees p p' F S ts → Sees p p' F S' ts
+begun_as {A} p p' F S S' ts takes chosen s = record { outcome = s.outcome; before = s.before; rest = s.rest; split = s.split; same = s.same; wide = by s.outcome s.before s.rest s.split s.same s.wide }
+  where
+    by : (o : Outcome A) (before rest : List Terminal) → ts ≡ before ++ rest → ((other : List Terminal) → Agrees rest other → p (before ++ other) ≡ reported o other) → Wide p' F S before rest o → Wide p' F S' before rest o
+    by (read x) [] rest is same w = absurd (takes x (rw is (same rest (agrees_itself rest))))
+    by (read x) (t ∷ before) rest is same w = w
+    by wrong [] rest is same w = (w.0, chosen)
+    by wrong (t ∷ before) rest is same w = w
+    by deep [] rest is same w = w
+    by deep (t ∷ before) rest is same w = w
+
 -- fewer may follow, and more begin it
 pub adapt : {A : Type 0} (p p' : Reader A) (F F' S S' : List Terminal → Type 0) (ts : List Terminal) → ((us : List Terminal) → F' us → F us) → ((us : List Terminal) → S us → S' us) → Sees p p' F S ts → Sees p p' F' S' ts
 adapt {A} p p' F F' S S' ts f g s = record { outcome = s.outcome; before = s.before; rest = s.rest; split = s.split; same = s.same; wide = by s.outcome s.before s.rest s.wide }
@@ -272,6 +288,7 @@ mark_itself : (mark : Mark) → is_mark mark (mark_kind mark) ≡ true
 mark_itself m.Identifier = refl
 mark_itself m.Comma = refl
 mark_itself m.ColonColon = refl
+mark_itself m.Semicolon = refl
 mark_itself m.Inv = refl
 mark_itself m.Open = refl
 mark_itself m.Close = refl

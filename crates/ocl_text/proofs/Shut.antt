@@ -6,7 +6,7 @@ use Rattle.ocl_tokens.specs.Terminals.{Terminal}
 use Rattle.ocl_text.specs.Tree.{SurfaceTree}
 use Rattle.ocl_text.specs.Grammar.{token, top, next_is, closes, is_identifier_kind}
 use Rattle.ocl_text.specs.Parse as p
-use Rattle.ocl_text.specs.Parse.{syntax, Reader, begins, begins_expr, begins_argument, too_deep_at, identifier, levels, unary, unary_over, expr, expr_over, post, prim, arguments_in, items, a_bind, let_expression, placed_name}
+use Rattle.ocl_text.specs.Parse.{syntax, Reader, begins, begins_expr, begins_argument, too_deep_at, identifier, levels, unary, unary_over, expr, expr_over, post, prim, arguments_in, items, a_bind, let_expression, placed_name, fold_in}
 use Rattle.ocl_text.proofs.Turns.{expr_plain}
 
 -- where no name stands, a type is refused
@@ -93,6 +93,18 @@ let_shut operand whole at (suc i) [] e = refl
 let_shut operand whole at (suc i) (t ∷ ts) e = by t.kind e
   where
     by : (kind : TokenKind) → is_identifier_kind kind ≡ false → let_expression (suc i) operand whole at (token kind t.offset t.text ∷ ts) ≡ Err (syntax (token kind t.offset t.text ∷ ts))
+    by k.Identifier e = absurd (cc)
+    by (k.Number v) e = refl
+    by _ e = refl
+
+-- where no name stands after the parenthesis of a fold, it is refused
+pub fold_shut : (operand whole : Reader SurfaceTree) (source : SurfaceTree) (at i : ℕ) (ts : List Terminal) → next_is is_identifier_kind ts ≡ false → fold_in i operand whole source at ts ≡ Err (syntax ts)
+unfolding fold_in too_deep_at p.a_variable identifier
+fold_shut operand whole source at zero ts e = rw e refl
+fold_shut operand whole source at (suc i) [] e = refl
+fold_shut operand whole source at (suc i) (t ∷ ts) e = by t.kind e
+  where
+    by : (kind : TokenKind) → is_identifier_kind kind ≡ false → fold_in (suc i) operand whole source at (token kind t.offset t.text ∷ ts) ≡ Err (syntax (token kind t.offset t.text ∷ ts))
     by k.Identifier e = absurd (cc)
     by (k.Number v) e = refl
     by _ e = refl

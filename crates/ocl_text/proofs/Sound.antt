@@ -10,11 +10,11 @@ use Rattle.ocl_text.specs.declared.tree.BinaryOperator.{BinaryOperator}
 use Rattle.ocl_text.specs.declared.tree.IteratorKind.{IteratorKind}
 use Rattle.ocl_text.specs.declared.tree.Navigation.TheVariants.{Dot}
 use Rattle.ocl_tokens.specs.Terminals.{Terminal}
-use Rattle.ocl_text.specs.Tree.{TypeTree, VariableTree, Variables, Bound, Rule, SurfaceTree, Binary, lets_at, If, binding}
+use Rattle.ocl_text.specs.Tree.{TypeTree, VariableTree, Variables, Bound, Rule, SurfaceTree, Binary, lets_at, If, binding, fold_with}
 use Rattle.ocl_text.specs.Grammar as g
-use Rattle.ocl_text.specs.Grammar.{is_mark, operator, top, token, Ends, next_is, Next, NotNext, steps_on, opens, closes, separates, begins_variable, iterator_of, takes_two, begins_invariant, IsExpr, IsBinds, MoreBinds, IsUnary, IsPrim, IsLevel, GoesOn, IsSteps, IsArguments, IsItems, MoreItems, IsIteration, IsType, IsVariable, declares, IsInvariant, IsInvariants, MoreInvariants, IsContexts}
+use Rattle.ocl_text.specs.Grammar.{is_mark, operator, top, token, Ends, next_is, Next, NotNext, steps_on, opens, closes, separates, begins_variable, iterator_of, is_fold_name, takes_two, begins_invariant, IsExpr, IsBind, IsBinds, MoreBinds, IsUnary, IsPrim, IsLevel, GoesOn, IsSteps, IsArguments, IsItems, MoreItems, IsIteration, IsFold, IsType, IsVariable, declares, IsInvariant, IsInvariants, MoreInvariants, IsContexts}
 use Rattle.ocl_text.specs.Parse as p
-use Rattle.ocl_text.specs.Parse.{TokensFault, syntax, too_deep, Reading, Reader, too_deep_at, expect, identifier, identifier_by, Link, link, link_by, on_link, chain, levels, unary, unary_over, unary_by, expr, expr_over, expr_by, post, prim, prim_by, if_expression, step_list, one_step, step_by, dotted, dotted_by, arrowed, arrowed_by, called, calling, applied_step, applied_by, arguments, arguments_in, items, a_bind, let_expression, iteration, optional_variables, variables, variables_by, has_second, level_of, rule_name, invariant, invariant_at, invariant_by, invariants, context, placed_name, placed_by, contexts, is_done}
+use Rattle.ocl_text.specs.Parse.{TokensFault, syntax, too_deep, Reading, Reader, too_deep_at, expect, identifier, identifier_by, Link, link, link_by, on_link, chain, levels, unary, unary_over, unary_by, expr, expr_over, expr_by, post, prim, prim_by, if_expression, step_list, one_step, step_by, dotted, dotted_by, arrowed, arrowed_by, called, calling, applied_step, applied_by, a_fold, fold_in, fold_body, arguments, arguments_in, items, a_bind, let_expression, iteration, optional_variables, variables, variables_by, has_second, level_of, rule_name, invariant, invariant_at, invariant_by, invariants, context, placed_name, placed_by, contexts, is_done}
 
 -- ---- how parts are put together
 
@@ -36,6 +36,7 @@ abbrev pub mark_kind : Mark → TokenKind
 mark_kind m.Identifier = k.Identifier
 mark_kind m.Comma = k.Comma
 mark_kind m.ColonColon = k.ColonColon
+mark_kind m.Semicolon = k.Semicolon
 mark_kind m.Inv = k.Inv
 mark_kind m.Open = k.Open
 mark_kind m.Close = k.Close
@@ -59,6 +60,9 @@ mark_is m.Comma _ h = absurd (cc)
 mark_is m.ColonColon k.ColonColon h = refl
 mark_is m.ColonColon (k.Number v) h = absurd (cc)
 mark_is m.ColonColon _ h = absurd (cc)
+mark_is m.Semicolon k.Semicolon h = refl
+mark_is m.Semicolon (k.Number v) h = absurd (cc)
+mark_is m.Semicolon _ h = absurd (cc)
 mark_is m.Inv k.Inv h = refl
 mark_is m.Inv (k.Number v) h = absurd (cc)
 mark_is m.Inv _ h = absurd (cc)
@@ -232,28 +236,27 @@ module _ (c n : ℕ) (operand whole : Reader SurfaceTree) (sound : Sound (IsLeve
       (λ at text us give. weaker (λ x. IsArguments c n (token k.Open at text ∷ us) x.0 x.1) _ (arguments_in operand n us) (λ x d. give x.0 x.1 d) (sound_arguments_in ts at text us n refl))
       ts (λ all rest d. d)
 
-  sound_a_bind : (found : List Bound) (ts : List Terminal)
-      → IfOk (a_bind n operand ts) (λ x. (all : List Bound) (rest : List Terminal) → MoreBinds c n (found ++ x.0 ∷ []) x.1 all rest → IsBinds c n found ts all rest)
+  sound_bind : (ts : List Terminal) → IfOk (a_bind n operand ts) (λ x. IsBind c n ts x.0 x.1)
   unfolding a_bind
-  sound_a_bind found ts =
-      placed_ok (λ us. (all : List Bound) (rest : List Terminal) → IsBinds c n found us all rest → IsBinds c n found ts all rest) _ _
-      (λ at text us give. bind_ok (λ s. (equal_at : ℕ) (equal : List ℕ) (vs : List Terminal) → s.1 ≡ token k.Equal equal_at equal ∷ vs → (value : SurfaceTree) (mid : List Terminal) → IsLevel c n top vs value mid → (all : List Bound) (rest : List Terminal) → MoreBinds c n (found ++ binding (text, at) s.0 value ∷ []) mid all rest → IsBinds c n found ts all rest) _ (expect m.Colon us >>= p.a_type n) _
-      (expect_ok m.Colon (λ vs. (all : List Bound) (rest : List Terminal) → IsBinds c n found (token k.Identifier at text ∷ vs) all rest → IsBinds c n found ts all rest) _ (p.a_type n)
-      (λ colon_at colon_text vs give. weaker (λ s. IsType n vs s.0 s.1) _ (p.a_type n vs) (λ s d. λ equal_at equal us is value mid e. λ all rest more. give all rest (g.a_bind (subst (λ (l : List Terminal). IsType n vs s.0 l) is d) e more)) (sound_type n vs)) us give)
-      (λ s after. bind_ok (λ x. (all : List Bound) (rest : List Terminal) → MoreBinds c n (found ++ binding (text, at) s.0 x.0 ∷ []) x.1 all rest → IsBinds c n found ts all rest) _ (expect m.Equal s.1 >>= operand) _
+  sound_bind ts =
+      placed_ok (λ us. (bound : Bound) (rest : List Terminal) → IsBind c n us bound rest → IsBind c n ts bound rest) _ _
+      (λ at text us give. bind_ok (λ s. (equal_at : ℕ) (equal : List ℕ) (vs : List Terminal) → s.1 ≡ token k.Equal equal_at equal ∷ vs → (value : SurfaceTree) (rest : List Terminal) → IsLevel c n top vs value rest → IsBind c n ts (binding (text, at) s.0 value) rest) _ (expect m.Colon us >>= p.a_type n) _
+      (expect_ok m.Colon (λ vs. (bound : Bound) (rest : List Terminal) → IsBind c n (token k.Identifier at text ∷ vs) bound rest → IsBind c n ts bound rest) _ (p.a_type n)
+      (λ colon_at colon_text vs give. weaker (λ s. IsType n vs s.0 s.1) _ (p.a_type n vs) (λ s d. λ equal_at equal us is value rest e. give (binding (text, at) s.0 value) rest (g.a_bind (subst (λ (l : List Terminal). IsType n vs s.0 l) is d) e)) (sound_type n vs)) us give)
+      (λ s after. bind_ok (λ x. IsBind c n ts (binding (text, at) s.0 x.0) x.1) _ (expect m.Equal s.1 >>= operand) _
       (expect_ok m.Equal (λ us. s.1 ≡ us) _ operand (λ equal_at equal vs is. weaker (λ x. IsLevel c n top vs x.0 x.1) _ (operand vs) (λ x e. after equal_at equal vs is x.0 x.1 e) (sound vs)) s.1 refl)
       (λ x d. d)))
-      ts (λ all rest d. d)
+      ts (λ bound rest d. d)
 
   sound_bindings : (f : ℕ) (found : List Bound) (ts : List Terminal) → IfOk (items (a_bind n operand) f found ts) (λ x. IsBinds c n found ts x.0 x.1)
   unfolding items
   sound_bindings zero found ts = tt
   sound_bindings (suc f) found ts =
-      bind_ok _ (λ y. IsBinds c n found ts y.0 y.1) (a_bind n operand ts) _ (sound_a_bind found ts)
+      bind_ok (λ x. IsBind c n ts x.0 x.1) (λ y. IsBinds c n found ts y.0 y.1) (a_bind n operand ts) _ (sound_bind ts)
       (λ x d. if_ok (λ y. IsBinds c n found ts y.0 y.1) (next_is separates x.1) _ _
       (λ h. weaker (λ y. IsBinds c n (found ++ x.0 ∷ []) (drop 1 x.1) y.0 y.1) _ (items (a_bind n operand) f (found ++ x.0 ∷ []) (drop 1 x.1))
-      (λ y e. (comma (λ us. MoreBinds c n (found ++ x.0 ∷ []) us y.0 y.1 → IsBinds c n found ts y.0 y.1) x.1 h (λ more. d y.0 y.1 more)).2 (g.next_bind e)) (sound_bindings f (found ++ x.0 ∷ []) (drop 1 x.1)))
-      (λ h. d _ _ (g.no_more_binds h)))
+      (λ y e. (comma (λ us. MoreBinds c n (found ++ x.0 ∷ []) us y.0 y.1 → IsBinds c n found ts y.0 y.1) x.1 h (λ more. g.some_binds d more)).2 (g.next_bind e)) (sound_bindings f (found ++ x.0 ∷ []) (drop 1 x.1)))
+      (λ h. g.some_binds d (g.no_more_binds h)))
 
   sound_conditional : (at : ℕ) (text : List ℕ) (ts : List Terminal) → IfOk (if_expression operand whole at ts) (λ x. IsPrim c n (token k.If at text ∷ ts) x.0 x.1)
   unfolding if_expression
@@ -303,6 +306,34 @@ module _ (c n : ℕ) (operand whole : Reader SurfaceTree) (sound : Sound (IsLeve
       (λ at text us give. weaker (Opened two (token k.Open at text ∷ us)) (Opened two ts) (optional_variables n two us) (λ vs o. λ body end closed rest d. give vs.0 body rest (o body end closed rest d)) (sound_variables at text us)) ts (λ vs body rest d. d))
       (λ vs o. bind_ok (λ x. IsExpr c n vs.1 x.0 x.1) _ (whole vs.1) _ (sound_whole vs.1) (λ x d. expect_ok m.Close (λ us. IsExpr c n vs.1 x.0 us) _ _ (λ end closed rest e. o x.0 end closed rest e) x.1 d))
 
+-- what is read is a fold over this source
+abbrev IsFolded : ℕ → ℕ → SurfaceTree → ℕ → List Terminal → SurfaceTree × List Terminal → Type 0
+IsFolded c n source offset ts x = (variable : VariableTree) × (accumulator : Bound) × (body : SurfaceTree) × IsFold c n ts variable accumulator body x.1 × (x.0 ≡ fold_with source variable accumulator body offset)
+
+module _ (c n : ℕ) (operand whole : Reader SurfaceTree) (sound : Sound (IsLevel c n top) operand) (sound_whole : Sound (IsExpr c n) whole) where
+  sound_fold_in : (source : SurfaceTree) (offset at : ℕ) (text : List ℕ) (depth : ℕ) → depth ≡ n → (us : List Terminal) → IfOk (fold_in depth operand whole source offset us) (IsFolded c n source offset (token k.Open at text ∷ us))
+  unfolding fold_in fold_body
+  sound_fold_in source offset at text zero is us = no_deeper g.is_identifier_kind us _
+  sound_fold_in source offset at text (suc depth) is us =
+      bind_ok (λ v. IsVariable n us v.0 v.1) _ (p.a_variable (suc depth) us) _ (subst (λ (l : ℕ). IfOk (p.a_variable l us) (λ v. IsVariable n us v.0 v.1)) (sym is) (sound_variable n us))
+      (λ v d. bind_ok (λ b. (bar_at : ℕ) (bar : List ℕ) (ts : List Terminal) → b.1 ≡ token k.Bar bar_at bar ∷ ts → (body : SurfaceTree) (end : ℕ) (closed : List ℕ) (rest : List Terminal) → IsExpr c n ts body (token k.Close end closed ∷ rest) → IsFold c n (token k.Open at text ∷ us) v.0 b.0 body rest) _ (expect m.Semicolon v.1 >>= a_bind (suc depth) operand) _
+      (expect_ok m.Semicolon (λ vs. IsVariable n us v.0 vs) _ (a_bind (suc depth) operand)
+      (λ semicolon_at semicolon vs d. weaker (λ b. IsBind c n vs b.0 b.1) _ (a_bind (suc depth) operand vs) (λ b e. λ bar_at bar ts bar_is body end closed rest f. parts n is d (subst (λ (l : List Terminal). IsBind c n vs b.0 l) bar_is e) f) (subst (λ (l : ℕ). IfOk (a_bind l operand vs) (λ b. IsBind c n vs b.0 b.1)) (sym is) (sound_bind c n operand whole sound sound_whole vs))) v.1 d)
+      (λ b after. bind_ok (λ x. (end : ℕ) (closed : List ℕ) (rest : List Terminal) → x.1 ≡ token k.Close end closed ∷ rest → IsFold c n (token k.Open at text ∷ us) v.0 b.0 x.0 rest) _ (expect m.Bar b.1 >>= whole) _
+      (expect_ok m.Bar (λ ts. b.1 ≡ ts) _ whole (λ bar_at bar ts bar_is. weaker (λ x. IsExpr c n ts x.0 x.1) _ (whole ts) (λ x f. λ end closed rest close_is. after bar_at bar ts bar_is x.0 end closed rest (subst (λ (l : List Terminal). IsExpr c n ts x.0 l) close_is f)) (sound_whole ts)) b.1 refl)
+      (λ x done. expect_ok m.Close (λ ts. x.1 ≡ ts) (IsFolded c n source offset (token k.Open at text ∷ us)) _ (λ end closed rest close_is. (v.0, b.0, x.0, done end closed rest close_is, refl)) x.1 refl)))
+    where
+      parts : (l : ℕ) → suc depth ≡ l → {semicolon_at bar_at end : ℕ} {semicolon bar closed : List ℕ} {vs ts rest : List Terminal} {variable : VariableTree} {accumulator : Bound} {body : SurfaceTree}
+          → IsVariable l us variable (token k.Semicolon semicolon_at semicolon ∷ vs) → IsBind c l vs accumulator (token k.Bar bar_at bar ∷ ts) → IsExpr c l ts body (token k.Close end closed ∷ rest) → IsFold c l (token k.Open at text ∷ us) variable accumulator body rest
+      parts zero e x d f = absurd (cc)
+      parts (suc l) e x d f = g.a_fold x d f
+
+  sound_fold : (source : SurfaceTree) (offset : ℕ) (ts : List Terminal) → IfOk (a_fold n operand whole source offset ts) (IsFolded c n source offset ts)
+  unfolding a_fold
+  sound_fold source offset ts =
+      expect_ok m.Open (λ us. (x : SurfaceTree × List Terminal) → IsFolded c n source offset us x → IsFolded c n source offset ts x) (IsFolded c n source offset ts) (fold_in n operand whole source offset)
+      (λ at text us give. weaker (IsFolded c n source offset (token k.Open at text ∷ us)) _ (fold_in n operand whole source offset us) give (sound_fold_in source offset at text n refl us)) ts (λ x d. d)
+
 sound_variables_by : (c n at : ℕ) (text : List ℕ) (us : List Terminal) (v : VariableTree) (two : Bool) (ts : List Terminal) → begins_variable us ≡ true → IsVariable (suc n) us v ts → IfOk (variables_by (suc n) two v ts) (λ vs. (body : SurfaceTree) (end : ℕ) (closed : List ℕ) (rest : List Terminal) → IsExpr c (suc n) vs.1 body (token k.Close end closed ∷ rest) → IsIteration c (suc n) two (token k.Open at text ∷ us) vs.0 body rest)
 unfolding variables_by
 sound_variables_by c n at text us v false ts b d =
@@ -345,10 +376,10 @@ module _ (c n : ℕ) (operand whole : Reader SurfaceTree) (sound : Sound (IsLeve
       by (k.Number v) at text = tt
       by _ at text = tt
 
-  sound_applied : (source : SurfaceTree) (arrow_at : ℕ) (arrow_text : List ℕ) (at : ℕ) (text : List ℕ) (ts : List Terminal) (o : Option IteratorKind) → iterator_of text ≡ o → IfOk (applied_by n operand whole o source text at ts) (Extends source (token k.Arrow arrow_at arrow_text ∷ token k.Identifier at text ∷ ts))
+  sound_applied : (source : SurfaceTree) (arrow_at : ℕ) (arrow_text : List ℕ) (at : ℕ) (text : List ℕ) (ts : List Terminal) → is_fold_name text ≡ false → (o : Option IteratorKind) → iterator_of text ≡ o → IfOk (applied_by n operand whole o source text at ts) (Extends source (token k.Arrow arrow_at arrow_text ∷ token k.Identifier at text ∷ ts))
   unfolding calling
-  sound_applied source arrow_at arrow_text at text ts None h = bind_ok (λ x. IsArguments c n ts x.0 x.1) _ (arguments operand n ts) _ (sound_arguments c n operand whole sound sound_whole ts) (λ x d. λ l tree rest e. g.arrow_call h d e)
-  sound_applied source arrow_at arrow_text at text ts (Some kind) h = bind_ok (λ x. IsIteration c n (takes_two kind) ts x.0.0 x.0.1 x.1) _ (iteration n whole (takes_two kind) ts) _ (sound_iteration c n operand whole sound sound_whole (takes_two kind) ts (sound_variables c n (takes_two kind))) (λ x d. λ l tree rest e. g.arrow_iterate h d e)
+  sound_applied source arrow_at arrow_text at text ts f None h = bind_ok (λ x. IsArguments c n ts x.0 x.1) _ (arguments operand n ts) _ (sound_arguments c n operand whole sound sound_whole ts) (λ x d. λ l tree rest e. g.arrow_call h f d e)
+  sound_applied source arrow_at arrow_text at text ts f (Some kind) h = bind_ok (λ x. IsIteration c n (takes_two kind) ts x.0.0 x.0.1 x.1) _ (iteration n whole (takes_two kind) ts) _ (sound_iteration c n operand whole sound sound_whole (takes_two kind) ts (sound_variables c n (takes_two kind))) (λ x d. λ l tree rest e. g.arrow_iterate h d e)
 
   sound_arrowed : (source : SurfaceTree) (arrow_at : ℕ) (arrow_text : List ℕ) (ts : List Terminal) → IfOk (arrowed n operand whole source ts) (Extends source (token k.Arrow arrow_at arrow_text ∷ ts))
   unfolding arrowed applied_step
@@ -356,7 +387,9 @@ module _ (c n : ℕ) (operand whole : Reader SurfaceTree) (sound : Sound (IsLeve
   sound_arrowed source arrow_at arrow_text (t ∷ ts) = by t.kind t.offset t.text
     where
       by : (kind : TokenKind) (at : ℕ) (text : List ℕ) → IfOk (arrowed_by n operand whole source kind text at (t ∷ ts) ts) (Extends source (token k.Arrow arrow_at arrow_text ∷ token kind at text ∷ ts))
-      by k.Identifier at text = sound_applied source arrow_at arrow_text at text ts (iterator_of text) refl
+      by k.Identifier at text = if_ok (Extends source (token k.Arrow arrow_at arrow_text ∷ token k.Identifier at text ∷ ts)) (is_fold_name text) _ _
+          (λ h. weaker (IsFolded c n source at ts) _ (a_fold n operand whole source at ts) (λ x (variable, accumulator, body, d, is). λ l tree rest e. g.arrow_fold h d (rw is at e)) (sound_fold c n operand whole sound sound_whole source at ts))
+          (λ h. sound_applied source arrow_at arrow_text at text ts h (iterator_of text) refl)
       by (k.Number v) at text = tt
       by _ at text = tt
 

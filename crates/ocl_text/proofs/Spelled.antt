@@ -29,36 +29,36 @@ name_word = token k.Identifier 0 []
 abbrev pub mark_word : Mark → Terminal
 mark_word mark = token (mark_kind mark) 0 []
 
-no_operator : (level : ℕ) → (operator level k.Close ≡ None) × (operator level k.In ≡ None) × (operator level k.Then ≡ None) × (operator level k.Else ≡ None) × (operator level k.Endif ≡ None)
-no_operator zero = (refl, refl, refl, refl, refl)
-no_operator (suc zero) = (refl, refl, refl, refl, refl)
-no_operator (suc (suc zero)) = (refl, refl, refl, refl, refl)
-no_operator (suc (suc (suc zero))) = (refl, refl, refl, refl, refl)
-no_operator (suc (suc (suc (suc zero)))) = (refl, refl, refl, refl, refl)
-no_operator (suc (suc (suc (suc (suc zero))))) = (refl, refl, refl, refl, refl)
-no_operator (suc (suc (suc (suc (suc (suc zero)))))) = (refl, refl, refl, refl, refl)
-no_operator (suc (suc (suc (suc (suc (suc (suc zero))))))) = (refl, refl, refl, refl, refl)
-no_operator (suc (suc (suc (suc (suc (suc (suc (suc zero)))))))) = (refl, refl, refl, refl, refl)
-no_operator (suc (suc (suc (suc (suc (suc (suc (suc (suc n))))))))) = (refl, refl, refl, refl, refl)
+no_operator : (level : ℕ) → (operator level k.Close ≡ None) × (operator level k.Bar ≡ None) × (operator level k.In ≡ None) × (operator level k.Then ≡ None) × (operator level k.Else ≡ None) × (operator level k.Endif ≡ None)
+no_operator zero = (refl, refl, refl, refl, refl, refl)
+no_operator (suc zero) = (refl, refl, refl, refl, refl, refl)
+no_operator (suc (suc zero)) = (refl, refl, refl, refl, refl, refl)
+no_operator (suc (suc (suc zero))) = (refl, refl, refl, refl, refl, refl)
+no_operator (suc (suc (suc (suc zero)))) = (refl, refl, refl, refl, refl, refl)
+no_operator (suc (suc (suc (suc (suc zero))))) = (refl, refl, refl, refl, refl, refl)
+no_operator (suc (suc (suc (suc (suc (suc zero)))))) = (refl, refl, refl, refl, refl, refl)
+no_operator (suc (suc (suc (suc (suc (suc (suc zero))))))) = (refl, refl, refl, refl, refl, refl)
+no_operator (suc (suc (suc (suc (suc (suc (suc (suc zero)))))))) = (refl, refl, refl, refl, refl, refl)
+no_operator (suc (suc (suc (suc (suc (suc (suc (suc (suc n))))))))) = (refl, refl, refl, refl, refl, refl)
 
 -- no operator follows where an expression ends
 pub not_linked : (level : ℕ) (us : List Terminal) → May stops us → link level us ≡ None
 unfolding link
 not_linked level [] h = refl
-not_linked level (t ∷ us) h = let n = no_operator level in ap (λ o. link_by o t.offset us) (stop_is (λ kind. operator level kind ≡ None) n.0 n.1 n.2 n.3 n.4 t.kind h)
+not_linked level (t ∷ us) h = let n = no_operator level in ap (λ o. link_by o t.offset us) (stop_is (λ kind. operator level kind ≡ None) n.0 n.1 n.2 n.3 n.4 n.5 t.kind h)
 
 -- what ends an expression is no step, no `::`, no comma and no opening parenthesis
 pub stop_steps : (kind : TokenKind) → stops kind ≡ true → steps_on kind ≡ false
-stop_steps = stop_is (λ kind. steps_on kind ≡ false) refl refl refl refl refl
+stop_steps = stop_is (λ kind. steps_on kind ≡ false) refl refl refl refl refl refl
 
 pub stop_qualifies : (kind : TokenKind) → stops kind ≡ true → qualifies kind ≡ false
-stop_qualifies = stop_is (λ kind. qualifies kind ≡ false) refl refl refl refl refl
+stop_qualifies = stop_is (λ kind. qualifies kind ≡ false) refl refl refl refl refl refl
 
 pub stop_separates : (kind : TokenKind) → stops kind ≡ true → separates kind ≡ false
-stop_separates = stop_is (λ kind. separates kind ≡ false) refl refl refl refl refl
+stop_separates = stop_is (λ kind. separates kind ≡ false) refl refl refl refl refl refl
 
 pub stop_opens : (kind : TokenKind) → stops kind ≡ true → opens kind ≡ false
-stop_opens = stop_is (λ kind. opens kind ≡ false) refl refl refl refl refl
+stop_opens = stop_is (λ kind. opens kind ≡ false) refl refl refl refl refl refl
 
 -- nothing goes on where an expression ends
 pub levels_done : (c : ℕ) (p : Reader SurfaceTree) (level : ℕ) (us : List Terminal) (x : SurfaceTree) (rest : List Terminal) → p us ≡ Ok (x, rest) → May stops rest → levels c p level us ≡ Ok (x, rest)

@@ -1,27 +1,30 @@
 -- Where the steps after a source stop, they can be completed under wider limits.
-use Rattle.std.proofs.Common.{◌≡◌, ℕ, zero, suc, List, [], ◌∷◌, ◌++◌, Option, Some, None, Result, Ok, Err, refl, ap, ◌∙◌, Bool, true, false, inl, inr, ◌⊎◌}
+use Rattle.std.proofs.Common.{◌≡◌, ℕ, zero, suc, ◌<◌, List, [], ◌∷◌, ◌++◌, length, Option, Some, None, Result, Ok, Err, refl, ap, ◌∙◌, Bool, true, false, inl, inr, ◌⊎◌, arith, IfOk}
 use Rattle.std.specs.Prelude.{if◌then◌else◌}
 use Rattle.ocl_tokens.specs.declared.token.TokenKind.{TokenKind}
 use Rattle.ocl_tokens.specs.declared.token.TokenKind.TheVariants as k
 use Rattle.ocl_base.specs.Steps.{◌>>=◌}
+use Rattle.ocl_text.specs.declared.cursor.Mark.{Mark}
 use Rattle.ocl_text.specs.declared.cursor.Mark.TheVariants as m
 use Rattle.ocl_text.specs.declared.tree.IteratorKind.{IteratorKind}
 use Rattle.ocl_text.specs.declared.tree.Navigation.{Navigation}
 use Rattle.ocl_text.specs.declared.tree.Navigation.TheVariants.{Dot, Arrow}
 use Rattle.ocl_tokens.specs.Terminals.{Terminal}
-use Rattle.ocl_text.specs.Tree.{Variables, Unnamed, SurfaceTree, Name, Iterate}
+use Rattle.ocl_text.specs.Tree.{VariableTree, Variables, Unnamed, Bound, SurfaceTree, Name, Iterate, fold_with}
 use Rattle.ocl_text.specs.RuleText.{Agrees}
-use Rattle.ocl_text.specs.Grammar.{is_mark, token, next_is, Next, is_identifier_kind, ends_variable, begins_variable, steps_on, iterator_of, takes_two}
+use Rattle.ocl_text.specs.Grammar.{is_mark, token, next_is, Next, is_identifier_kind, ends_variable, begins_variable, steps_on, declares, iterator_of, is_fold_name, takes_two, IsExpr}
 use Rattle.ocl_text.specs.Parse as p
-use Rattle.ocl_text.specs.Parse.{TokensFault, syntax, too_deep, Reading, Reader, begins, expect, level_of, expr, step_list, one_step, dotted, called, calling, arrowed, applied_step, applied_by, iteration, optional_variables, variables, variables_by}
-use Rattle.ocl_text.proofs.Complete.{no_variable_is}
+use Rattle.ocl_text.specs.Parse.{TokensFault, syntax, too_deep, Reading, Reader, begins, expect, level_of, expr, step_list, one_step, dotted, called, calling, arrowed, applied_step, applied_by, a_bind, a_fold, fold_in, fold_body, iteration, optional_variables, variables, variables_by}
+use Rattle.ocl_text.proofs.Complete.{no_variable_is, shorter_expr}
+use Rattle.ocl_text.proofs.Sound.{bind_ok, sound_expr}
+use Rattle.ocl_text.proofs.Shut.{fold_shut}
 use Rattle.ocl_text.proofs.Turns.{steps_none, steps_deep, steps_more}
 use Rattle.ocl_text.proofs.Wider.{deeper, longer}
-use Rattle.ocl_text.proofs.Prefixes.{Completes, Sees, Opens, Any, bind, default_of, sees_as, skip, pass, stuck, blocked, sees_expect, assoc}
-use Rattle.ocl_text.proofs.Stops.{May, stops, stop_is, may_not, next_not, mark_next, mark_may, declared_after, sees_declared, sees_variables_by}
+use Rattle.ocl_text.proofs.Prefixes.{Completes, Sees, Opens, Any, bind, default_of, sees_as, skip, pass, stuck, blocked, begun_as, sees_expect, assoc}
+use Rattle.ocl_text.proofs.Stops.{May, stops, may_not, next_not, mark_next, mark_may, mark_not, declared_after, sees_shut, sees_declared, sees_variable, sees_variables_by}
 use Rattle.ocl_text.proofs.Spelled.{name_word, mark_word, stop_steps, steps_done, name_expr}
 use Rattle.ocl_text.proofs.Lists.{Shortens}
-use Rattle.ocl_text.proofs.Parts.{counts, sees_called, sees_calling}
+use Rattle.ocl_text.proofs.Parts.{counts, sees_bind, sees_called, sees_calling}
 
 -- ---- iterations
 
@@ -48,11 +51,17 @@ count_names k.Identifier h = absurd (cc)
 count_names (k.Number v) h = refl
 count_names _ h = refl
 
-stop_ends_no_variable : (kind : TokenKind) → stops kind ≡ true → ends_variable kind ≡ false
-stop_ends_no_variable = stop_is (λ kind. ends_variable kind ≡ false) refl refl refl refl refl
-
 no_name_no_variable : (us : List Terminal) → next_is is_identifier_kind us ≡ false → begins_variable us ≡ false
 no_name_no_variable us h = rw h refl
+
+expect_takes : (mark : Mark) (us : List Terminal) → IfOk (expect mark us) (λ vs. length vs < length us)
+unfolding expect
+expect_takes mark [] = tt
+expect_takes mark (u ∷ us) = by (is_mark mark u.kind)
+  where
+    by : (v : Bool) → IfOk (if v then Ok us else Err (syntax (u ∷ us))) (λ vs. length vs < length (u ∷ us))
+    by true = omega arith
+    by false = tt
 
 -- an expression whose first token is a name, which is too deep where none may stand
 abbrev pub SeesName : ℕ → ℕ → ℕ → ℕ → Type 0
@@ -102,7 +111,7 @@ module _ (a b c : ℕ) (two : Bool) where
       sees_variables_after : (us : List Terminal) → Sees (variables_after n (expr c (suc n))) (variables_after (deeper a n) (expr (longer b c) (suc (deeper a n)))) (May stops) (Next (is_mark m.Bar)) us
       sees_variables_after us =
           bind (declared_after text (p.a_type (suc n))) (declared_after text (p.a_type (suc (deeper a n)))) (λ v vs. variables_by (suc n) two v vs >>= λ ws. body_after (expr c (suc n)) ws.0 ws.1) (λ v vs. variables_by (suc (deeper a n)) two v vs >>= λ ws. body_after (expr (longer b c) (suc (deeper a n))) ws.0 ws.1)
-          (Next (is_mark m.Bar)) (May stops) (Next (is_mark m.Bar)) (Next (is_mark m.Bar)) us (λ vs g. g) (sees_declared a (suc n) text us)
+          (Next (is_mark m.Bar)) (May stops) (Next (is_mark m.Bar)) (Next (is_mark m.Bar)) us (λ vs g. g) (sees_declared a m.Bar refl refl (suc n) text us)
           (λ v vs. bind (variables_by (suc n) two v) (variables_by (suc (deeper a n)) two v) (body_after (expr c (suc n))) (body_after (expr (longer b c) (suc (deeper a n))))
           Any (May stops) (Next counts) (Next (is_mark m.Bar)) vs (λ ws g. tt) (sees_variables_by a (suc n) two v vs) (λ ws rest. sees_body (suc n) sees_whole ws rest))
 
@@ -112,12 +121,24 @@ module _ (a b c : ℕ) (two : Bool) where
           (May stops) (May stops) (Next (is_mark m.Close)) (May stops) us (mark_may m.Close stops refl) (sees_name at text us)
           (λ x vs. sees_expect m.Close _ _ (May stops) (May stops) (λ rest. pass (Unnamed, x) (May stops) rest) vs)
 
-      by_body : (us : List Terminal) → ((vs : List Terminal) → Agrees us vs → next_is ends_variable vs ≡ false) → Sees (name_after n (expr c (suc n))) (name_after (deeper a n) (expr (longer b c) (suc (deeper a n)))) (May stops) (May stops) us
-      by_body us h = sees_as _ _ _ _ (May stops) (May stops) us (λ vs w. rw (here vs w) refl) (λ vs w. rw (here vs w) refl) (sees_body_on us)
+      body_takes : (us : List Terminal) → IfOk (body_on (expr c (suc n)) us) (λ x. length x.1 < length us)
+      body_takes us =
+          bind_ok (λ x. IsExpr c (suc n) (token k.Identifier at text ∷ us) x.0 x.1) (λ x. length x.1 < length us) (expr c (suc n) (token k.Identifier at text ∷ us)) _ (sound_expr c (suc n) (token k.Identifier at text ∷ us))
+          (λ x d. let s = shorter_expr d in bind_ok (λ vs. length vs < length x.1) (λ x. length x.1 < length us) (expect m.Close x.1) _ (expect_takes m.Close x.1) (λ vs l. omega (arith, s, l)))
+
+      body_default : Completes (body_on (expr (longer b c) (suc (deeper a n)))) (May stops) (Next (is_mark m.Close)) []
+      unfolding expect
+      body_default = ((Unnamed, Name text at), mark_word m.Close ∷ [], λ rest g. (refl, ap (λ r. r >>= λ x. expect m.Close x.1 >>= λ rest. Ok ((Unnamed, x.0), rest)) (name_expr (longer b c) (deeper a n) at text (mark_word m.Close ∷ rest) refl)))
+
+      sees_body_closed : (us : List Terminal) → Sees (body_on (expr c (suc n))) (body_on (expr (longer b c) (suc (deeper a n)))) (May stops) (Next (is_mark m.Close)) us
+      sees_body_closed us = begun_as _ _ (May stops) (May stops) (Next (is_mark m.Close)) us (λ x e. let l = rw e at (body_takes us) in omega (arith, l)) body_default (sees_body_on us)
+
+      by_body : (us : List Terminal) → ((vs : List Terminal) → Agrees us vs → next_is ends_variable vs ≡ false) → Sees (name_after n (expr c (suc n))) (name_after (deeper a n) (expr (longer b c) (suc (deeper a n)))) (May stops) (Next (is_mark m.Close)) us
+      by_body us h = sees_as _ _ _ _ (May stops) (Next (is_mark m.Close)) us (λ vs w. rw (here vs w) refl) (λ vs w. rw (here vs w) refl) (sees_body_closed us)
         where
-          here : (vs : List Terminal) → Agrees us vs ⊎ May stops vs → next_is ends_variable vs ≡ false
+          here : (vs : List Terminal) → Agrees us vs ⊎ Next (is_mark m.Close) vs → next_is ends_variable vs ≡ false
           here vs (inl w) = h vs w
-          here vs (inr w) = may_not stops ends_variable stop_ends_no_variable vs w
+          here vs (inr w) = mark_not m.Close ends_variable refl vs w
 
       by_variables : (t : Terminal) (us : List Terminal) → ends_variable t.kind ≡ true → Sees (name_after n (expr c (suc n))) (name_after (deeper a n) (expr (longer b c) (suc (deeper a n)))) (May stops) (Next (is_mark m.Bar)) (t ∷ us)
       by_variables t us e = sees_as _ _ _ _ (May stops) (Next (is_mark m.Bar)) (t ∷ us) (λ vs w. rw (here vs w) refl) (λ vs w. rw (here vs w) refl) (sees_variables_after (t ∷ us))
@@ -127,12 +148,12 @@ module _ (a b c : ℕ) (two : Bool) where
           here vs (inr w) = mark_next m.Bar ends_variable refl vs w
 
       sees_name_first : (us : List Terminal) → Sees (iterated (suc n) (expr c (suc n)) two) (iterated (suc (deeper a n)) (expr (longer b c) (suc (deeper a n))) two) (May stops) (Next counts) (token k.Identifier at text ∷ us)
-      sees_name_first [] = skip (token k.Identifier at text) [] _ _ _ _ (May stops) (May stops) (Next counts) (name_is n (expr c (suc n))) (name_is (deeper a n) (expr (longer b c) (suc (deeper a n)))) (by_body [] (λ vs is. rw is refl))
+      sees_name_first [] = skip (token k.Identifier at text) [] _ _ _ _ (May stops) (Next (is_mark m.Close)) (Next counts) (name_is n (expr c (suc n))) (name_is (deeper a n) (expr (longer b c) (suc (deeper a n)))) (by_body [] (λ vs is. rw is refl))
       sees_name_first (t ∷ us) = by (ends_variable t.kind) refl
         where
           by : (v : Bool) → ends_variable t.kind ≡ v → Sees (iterated (suc n) (expr c (suc n)) two) (iterated (suc (deeper a n)) (expr (longer b c) (suc (deeper a n))) two) (May stops) (Next counts) (token k.Identifier at text ∷ t ∷ us)
           by true e = skip (token k.Identifier at text) (t ∷ us) _ _ _ _ (May stops) (Next (is_mark m.Bar)) (Next counts) (name_is n (expr c (suc n))) (name_is (deeper a n) (expr (longer b c) (suc (deeper a n)))) (by_variables t us e)
-          by false e = skip (token k.Identifier at text) (t ∷ us) _ _ _ _ (May stops) (May stops) (Next counts) (name_is n (expr c (suc n))) (name_is (deeper a n) (expr (longer b c) (suc (deeper a n)))) (by_body (t ∷ us) (λ vs (more, is). rw is e))
+          by false e = skip (token k.Identifier at text) (t ∷ us) _ _ _ _ (May stops) (Next (is_mark m.Close)) (Next counts) (name_is n (expr c (suc n))) (name_is (deeper a n) (expr (longer b c) (suc (deeper a n)))) (by_body (t ∷ us) (λ vs (more, is). rw is e))
 
   name_too_deep : (at : ℕ) (text : List ℕ) → SeesName a b c zero → (us : List Terminal) → iterated zero (expr c zero) two (token k.Identifier at text ∷ us) ≡ Err (too_deep (token k.Identifier at text ∷ us))
   unfolding optional_variables variables
@@ -167,6 +188,57 @@ module _ (a b c : ℕ) (two : Bool) where
   sees_iteration n sees_whole sees_name ts =
       sees_as _ _ _ _ (May stops) (Next (is_mark m.Open)) ts (λ us w. iteration_is n (expr c n) two us) (λ us w. iteration_is (deeper a n) (expr (longer b c) (deeper a n)) two us)
       (sees_expect m.Open (iterated n (expr c n) two) (iterated (deeper a n) (expr (longer b c) (deeper a n)) two) (May stops) (Next counts) (sees_iterated n sees_whole sees_name) ts)
+
+-- ---- folds
+
+module _ (a : ℕ) (operand operand' whole whole' : Reader SurfaceTree) (sees : (ts : List Terminal) → Sees operand operand' (May stops) (Next counts) ts) (sees_whole : (ts : List Terminal) → Sees whole whole' (May stops) (Next counts) ts)
+    (source : SurfaceTree) (at : ℕ) where
+  abbrev after_body : VariableTree → Bound → SurfaceTree → Reader SurfaceTree
+  after_body v b x us = expect m.Close us >>= λ rest. Ok (fold_with source v b x at, rest)
+
+  abbrev after_variable : ℕ → Reader SurfaceTree → Reader SurfaceTree → VariableTree → Reader SurfaceTree
+  after_variable n operand whole v us = expect m.Semicolon us >>= a_bind n operand >>= λ b. fold_body whole source v b.0 at b.1
+
+  sees_fold_body : (v : VariableTree) (b : Bound) (us : List Terminal) → Sees (fold_body whole source v b at) (fold_body whole' source v b at) (May stops) (Next (is_mark m.Bar)) us
+  unfolding fold_body
+  sees_fold_body v b us =
+      bind (λ vs. expect m.Bar vs >>= whole) (λ vs. expect m.Bar vs >>= whole') (after_body v b) (after_body v b) (May stops) (May stops) (Next (is_mark m.Close)) (Next (is_mark m.Bar)) us (mark_may m.Close stops refl)
+      (sees_expect m.Bar whole whole' (May stops) (Next counts) sees_whole us)
+      (λ x vs. sees_expect m.Close _ _ (May stops) (May stops) (λ rest. pass (fold_with source v b x at) (May stops) rest) vs)
+
+  sees_after_variable : (n : ℕ) (v : VariableTree) (us : List Terminal) → Sees (after_variable n operand whole v) (after_variable (deeper a n) operand' whole' v) (May stops) (Next (is_mark m.Semicolon)) us
+  sees_after_variable n v us =
+      bind (λ vs. expect m.Semicolon vs >>= a_bind n operand) (λ vs. expect m.Semicolon vs >>= a_bind (deeper a n) operand') (λ b. fold_body whole source v b at) (λ b. fold_body whole' source v b at) (May stops) (May stops) (Next (is_mark m.Bar)) (Next (is_mark m.Semicolon)) us (mark_may m.Bar stops refl)
+      (sees_expect m.Semicolon (a_bind n operand) (a_bind (deeper a n) operand') (May stops) (Next is_identifier_kind) (sees_bind a n operand operand' sees) us)
+      (λ b vs. sees_fold_body v b vs)
+
+  fold_opened : (place : ℕ) (text : List ℕ) → Opens (fold_in (deeper a zero) operand' whole' source at) (May stops) (token k.Identifier place text)
+  unfolding fold_in p.a_variable p.identifier
+  fold_opened place text =
+      let (x, more, h) = default_of (after_variable zero operand whole (text, None)) (after_variable (deeper a zero) operand' whole' (text, None)) (May stops) (Next (is_mark m.Semicolon)) (sees_after_variable zero (text, None) []) in
+      (x, more, λ rest g. rw (mark_not m.Semicolon declares refl (more ++ rest) (h rest g).0) (h rest g).1)
+
+  fold_begun : (t : Terminal) → is_identifier_kind t.kind ≡ true → Opens (fold_in (deeper a zero) operand' whole' source at) (May stops) t
+  fold_begun t h = by t.kind h
+    where
+      by : (kind : TokenKind) → is_identifier_kind kind ≡ true → Opens (fold_in (deeper a zero) operand' whole' source at) (May stops) (token kind t.offset t.text)
+      by k.Identifier h = fold_opened t.offset t.text
+      by (k.Number v) h = absurd (cc)
+      by _ h = absurd (cc)
+
+  fold_default : Completes (fold_in (deeper a zero) operand' whole' source at) (May stops) (Next is_identifier_kind) []
+  fold_default = let (x, more, h) = fold_opened 0 [] in (x, name_word ∷ more, λ rest g. (refl, h rest g))
+
+  sees_fold_in : (n : ℕ) (ts : List Terminal) → Sees (fold_in n operand whole source at) (fold_in (deeper a n) operand' whole' source at) (May stops) (Next is_identifier_kind) ts
+  unfolding fold_in
+  sees_fold_in zero ts = sees_shut is_identifier_kind (fold_in (deeper a zero) operand' whole' source at) (May stops) (Next is_identifier_kind) (fold_shut operand' whole' source at (deeper a zero)) fold_default fold_begun ts
+  sees_fold_in (suc n) ts =
+      bind (p.a_variable (suc n)) (p.a_variable (suc (deeper a n))) (after_variable (suc n) operand whole) (after_variable (suc (deeper a n)) operand' whole') (Next (is_mark m.Semicolon)) (May stops) (Next (is_mark m.Semicolon)) (Next is_identifier_kind) ts (λ us g. g)
+      (sees_variable a m.Semicolon refl refl (suc n) ts) (λ v us. sees_after_variable (suc n) v us)
+
+  sees_fold : (n : ℕ) (ts : List Terminal) → Sees (a_fold n operand whole source at) (a_fold (deeper a n) operand' whole' source at) (May stops) (Next (is_mark m.Open)) ts
+  unfolding a_fold
+  sees_fold n ts = sees_expect m.Open (fold_in n operand whole source at) (fold_in (deeper a n) operand' whole' source at) (May stops) (Next is_identifier_kind) (sees_fold_in n) ts
 
 -- ---- single steps
 
@@ -210,6 +282,11 @@ module _ (a b c n : ℕ) (operand operand' : Reader SurfaceTree) (sees : (ts : L
       bind (iteration n whole (takes_two kind)) (iteration (deeper a n) whole' (takes_two kind)) (λ x us. Ok (Iterate source kind x.0 x.1 at, us)) (λ x us. Ok (Iterate source kind x.0 x.1 at, us)) (May stops) (May stops) (May stops) (Next (is_mark m.Open)) ts (λ us g. g) (sees_iteration a b c (takes_two kind) n sees_whole sees_name ts)
       (λ x us. pass (Iterate source kind x.0 x.1 at) (May stops) us)
 
+  sees_by_name : (is_fold : Bool) (o : Option IteratorKind) (source : SurfaceTree) (text : List ℕ) (at : ℕ) (ts : List Terminal)
+      → Sees (λ us. if is_fold then a_fold n operand whole source at us else applied_by n operand whole o source text at us) (λ us. if is_fold then a_fold (deeper a n) operand' whole' source at us else applied_by (deeper a n) operand' whole' o source text at us) (May stops) (Next (is_mark m.Open)) ts
+  sees_by_name true o source text at ts = sees_fold a operand operand' whole whole' sees sees_whole source at n ts
+  sees_by_name false o source text at ts = sees_applied o source text at ts
+
   arrow_default : (source : SurfaceTree) → Completes (arrowed (deeper a n) operand' whole' source) (May stops) Any []
   unfolding arrowed applied_step
   arrow_default source =
@@ -222,7 +299,7 @@ module _ (a b c n : ℕ) (operand operand' : Reader SurfaceTree) (sees : (ts : L
   sees_arrowed source (t ∷ ts) = by t.kind
     where
       by : (kind : TokenKind) → Sees (arrowed n operand whole source) (arrowed (deeper a n) operand' whole' source) (May stops) Any (token kind t.offset t.text ∷ ts)
-      by k.Identifier = skip (token k.Identifier t.offset t.text) ts _ _ (applied_by n operand whole (iterator_of t.text) source t.text t.offset) (applied_by (deeper a n) operand' whole' (iterator_of t.text) source t.text t.offset) (May stops) (Next (is_mark m.Open)) Any (λ us. refl) (λ us. refl) (sees_applied (iterator_of t.text) source t.text t.offset ts)
+      by k.Identifier = skip (token k.Identifier t.offset t.text) ts _ _ (applied_step n operand whole source t.text t.offset) (applied_step (deeper a n) operand' whole' source t.text t.offset) (May stops) (Next (is_mark m.Open)) Any (λ us. refl) (λ us. refl) (sees_by_name (is_fold_name t.text) (iterator_of t.text) source t.text t.offset ts)
       by (k.Number v) = stuck _ _ (May stops) Any _ (λ us (more, is). rw is refl) (λ us (more, is). rw is refl) (arrow_default source)
       by _ = stuck _ _ (May stops) Any _ (λ us (more, is). rw is refl) (λ us (more, is). rw is refl) (arrow_default source)
 

@@ -27,6 +27,7 @@ May test (t ∷ ts) = test t.kind ≡ true
 -- what ends an expression
 abbrev pub stops : TokenKind → Bool
 stops k.Close = true
+stops k.Bar = true
 stops k.In = true
 stops k.Then = true
 stops k.Else = true
@@ -38,22 +39,25 @@ abbrev pub stops_type : TokenKind → Bool
 stops_type k.Close = true
 stops_type k.Equal = true
 stops_type k.Bar = true
+stops_type k.Semicolon = true
 stops_type _ = false
 
 -- what holds of each token that ends an expression holds of this one
-pub stop_is : (P : TokenKind → Type 0) → P k.Close → P k.In → P k.Then → P k.Else → P k.Endif → (kind : TokenKind) → stops kind ≡ true → P kind
-stop_is P a b c d e k.Close h = a
-stop_is P a b c d e k.In h = b
-stop_is P a b c d e k.Then h = c
-stop_is P a b c d e k.Else h = d
-stop_is P a b c d e k.Endif h = e
-stop_is P a b c d e (k.Number v) h = absurd (cc)
-stop_is P a b c d e _ h = absurd (cc)
+pub stop_is : (P : TokenKind → Type 0) → P k.Close → P k.Bar → P k.In → P k.Then → P k.Else → P k.Endif → (kind : TokenKind) → stops kind ≡ true → P kind
+stop_is P a b c d e f k.Close h = a
+stop_is P a b c d e f k.Bar h = b
+stop_is P a b c d e f k.In h = c
+stop_is P a b c d e f k.Then h = d
+stop_is P a b c d e f k.Else h = e
+stop_is P a b c d e f k.Endif h = f
+stop_is P a b c d e f (k.Number v) h = absurd (cc)
+stop_is P a b c d e f _ h = absurd (cc)
 
 type_stop_opens : (kind : TokenKind) → stops_type kind ≡ true → opens kind ≡ false
 type_stop_opens k.Close h = refl
 type_stop_opens k.Equal h = refl
 type_stop_opens k.Bar h = refl
+type_stop_opens k.Semicolon h = refl
 type_stop_opens (k.Number v) h = absurd (cc)
 type_stop_opens _ h = absurd (cc)
 
@@ -145,21 +149,23 @@ module _ (a : ℕ) where
       by (k.Number v) s = refused (k.Number v) (λ l vs. refl)
       by _ s = refused _ (λ l vs. refl)
 
-  -- where the type that a variable may have stops, it can be completed under wider limits
-  pub sees_declared : (n : ℕ) (text : List ℕ) (ts : List Terminal) → Sees (declared_after text (p.a_type n)) (declared_after text (p.a_type (deeper a n))) (Next (is_mark m.Bar)) (Next (is_mark m.Bar)) ts
-  sees_declared n text ts =
-      either declares _ _ _ _ (Next (is_mark m.Bar)) (Next is_identifier_kind) (Next (is_mark m.Bar)) ts
-      (λ u us is. bind (p.a_type n) (p.a_type (deeper a n)) (λ s vs. Ok ((text, Some s), vs)) (λ s vs. Ok ((text, Some s), vs)) (Next stops_type) (Next (is_mark m.Bar)) (Next (is_mark m.Bar)) (Next is_identifier_kind) us (mark_next m.Bar stops_type refl) (sees_type n us)
-      (λ s vs. pass (text, Some s) (Next (is_mark m.Bar)) vs))
-      (pass (text, None) (Next (is_mark m.Bar)) ts)
-      (mark_not m.Bar declares refl)
+  -- this mark follows the variable
+  module _ (mark : Mark) (ends : stops_type (mark_kind mark) ≡ true) (apart : declares (mark_kind mark) ≡ false) where
+    -- where the type that a variable may have stops, it can be completed under wider limits
+    pub sees_declared : (n : ℕ) (text : List ℕ) (ts : List Terminal) → Sees (declared_after text (p.a_type n)) (declared_after text (p.a_type (deeper a n))) (Next (is_mark mark)) (Next (is_mark mark)) ts
+    sees_declared n text ts =
+        either declares _ _ _ _ (Next (is_mark mark)) (Next is_identifier_kind) (Next (is_mark mark)) ts
+        (λ u us is. bind (p.a_type n) (p.a_type (deeper a n)) (λ s vs. Ok ((text, Some s), vs)) (λ s vs. Ok ((text, Some s), vs)) (Next stops_type) (Next (is_mark mark)) (Next (is_mark mark)) (Next is_identifier_kind) us (mark_next mark stops_type ends) (sees_type n us)
+        (λ s vs. pass (text, Some s) (Next (is_mark mark)) vs))
+        (pass (text, None) (Next (is_mark mark)) ts)
+        (mark_not mark declares apart)
 
-  -- where a variable stops, it can be completed under wider limits
-  pub sees_variable : (n : ℕ) (ts : List Terminal) → Sees (p.a_variable n) (p.a_variable (deeper a n)) (Next (is_mark m.Bar)) (Next is_identifier_kind) ts
-  unfolding p.a_variable
-  sees_variable n ts =
-      bind identifier identifier (λ text. declared_after text (p.a_type n)) (λ text. declared_after text (p.a_type (deeper a n))) Any (Next (is_mark m.Bar)) (Next (is_mark m.Bar)) (Next is_identifier_kind) ts (λ us h. tt) (sees_identifier ts)
-      (λ text rest. sees_declared n text rest)
+    -- where a variable stops, it can be completed under wider limits
+    pub sees_variable : (n : ℕ) (ts : List Terminal) → Sees (p.a_variable n) (p.a_variable (deeper a n)) (Next (is_mark mark)) (Next is_identifier_kind) ts
+    unfolding p.a_variable
+    sees_variable n ts =
+        bind identifier identifier (λ text. declared_after text (p.a_type n)) (λ text. declared_after text (p.a_type (deeper a n))) Any (Next (is_mark mark)) (Next (is_mark mark)) (Next is_identifier_kind) ts (λ us h. tt) (sees_identifier ts)
+        (λ text rest. sees_declared n text rest)
 
   -- where the second variable of an iteration stops, or is left out, it can be completed under wider limits
   pub sees_variables_by : (n : ℕ) (two : Bool) (v : VariableTree) (ts : List Terminal) → Sees (variables_by n two v) (variables_by (deeper a n) two v) Any (Next (is_mark m.Bar)) ts
@@ -167,7 +173,7 @@ module _ (a : ℕ) where
   sees_variables_by n false v ts = sees_expect m.Bar _ _ Any Any (λ vs. pass (Single v) Any vs) ts
   sees_variables_by n true v ts =
       either separates _ _ _ _ Any (Next is_identifier_kind) (Next (is_mark m.Bar)) ts
-      (λ u us is. bind (p.a_variable n) (p.a_variable (deeper a n)) (second_after v) (second_after v) (Next (is_mark m.Bar)) Any (Next (is_mark m.Bar)) (Next is_identifier_kind) us (λ vs h. h) (sees_variable n us)
+      (λ u us is. bind (p.a_variable n) (p.a_variable (deeper a n)) (second_after v) (second_after v) (Next (is_mark m.Bar)) Any (Next (is_mark m.Bar)) (Next is_identifier_kind) us (λ vs h. h) (sees_variable m.Bar refl refl n us)
       (λ w rest. sees_expect m.Bar _ _ Any Any (λ vs. pass (Pair v w) Any vs) rest))
       (sees_expect m.Bar _ _ Any Any (λ vs. pass (Single v) Any vs) ts)
       (mark_not m.Bar separates refl)

@@ -5,6 +5,7 @@ use Rattle.ocl_text.specs.declared.tree.PrefixOperator.{PrefixOperator}
 use Rattle.ocl_text.specs.declared.tree.IteratorKind.{IteratorKind}
 use Rattle.ocl_text.specs.declared.tree.Keyword.{Keyword}
 use Rattle.ocl_text.specs.declared.tree.Navigation.{Navigation}
+use Rattle.ocl_text.specs.declared.tree.Variable.{Variable}
 use Rattle.ocl_text.specs.declared.tree.Variables.{Variables}
 use Rattle.ocl_text.specs.declared.tree.DeclaredType.{DeclaredType}
 use Rattle.ocl_text.specs.declared.tree.DeclaredType as d
@@ -15,8 +16,8 @@ use Rattle.ocl_text.specs.declared.tree.Link.TheVariants as li
 use Rattle.ocl_text.specs.declared.tree.Expression.{Expression, the_lemmas}
 use Rattle.ocl_text.specs.declared.tree.Expression.TheVariants as e
 use Rattle.ocl_text.specs.Tree as t
-use Rattle.ocl_text.specs.Tree.{trees_of, lets_at}
-use Rattle.ocl_text.specs.View.{view, bound_of, link_of, spine_of, view_type, view_variables}
+use Rattle.ocl_text.specs.Tree.{trees_of, lets_at, fold_with}
+use Rattle.ocl_text.specs.View.{view, bound_of, link_of, spine_of, view_type, view_variable, view_variables}
 
 -- how each kind of expression is seen, one equation for each
 pub view-Number : (value offset : ℕ) → view (e.Number value offset) ≡ t.Number value offset
@@ -68,6 +69,10 @@ pub link_of-Iterate : (iterator : IteratorKind) (variables : Variables) (body : 
     → link_of (li.Iterate iterator variables body offset) ≡ λ source. t.Iterate source iterator (view_variables variables) (view body) offset
 link_of-Iterate iterator variables body offset = search (rules, the_lemmas)
 
+pub link_of-Fold : (variable : Variable) (accumulator : Box Binding Global) (body : Expression) (offset : ℕ)
+    → link_of (li.Fold variable accumulator body offset) ≡ λ source. fold_with source (view_variable variable) (bound_of accumulator.value) (view body) offset
+link_of-Fold variable accumulator body offset = search (rules, the_lemmas)
+
 -- how each kind of type is seen
 pub view_type-Named : (name : List ℕ) (offset : ℕ) → view_type (ty.Named name offset) ≡ t.Named name offset
 view_type-Named name offset = search (rules, d.the_lemmas)
@@ -77,4 +82,4 @@ view_type-Collection name element offset = search (rules, d.the_lemmas)
 
 pub ruleset type_views = (view_type-Named, view_type-Collection)
 
-pub ruleset views = (view-Number, view-String, view-Keyword, view-Name, view-EnumerationLiteral, view-Prefix, view-Spine, view-Let, view-If, bound_of-Binding, link_of-Binary, link_of-Property, link_of-Call, link_of-Iterate)
+pub ruleset views = (view-Number, view-String, view-Keyword, view-Name, view-EnumerationLiteral, view-Prefix, view-Spine, view-Let, view-If, bound_of-Binding, link_of-Binary, link_of-Property, link_of-Call, link_of-Iterate, link_of-Fold)

@@ -3,7 +3,7 @@ use Rattle.std.proofs.Common.{◌≡◌, ℕ, zero, suc, ◌+◌, List, [], leng
 use Rattle.ocl_tokens.specs.Terminals.{Terminal}
 use Rattle.ocl_text.specs.Tree.{TypeTree, VariableTree, Variables, Bound, Rule, SurfaceTree}
 use Rattle.ocl_text.specs.Grammar as g
-use Rattle.ocl_text.specs.Grammar.{IsExpr, IsBinds, MoreBinds, IsUnary, IsPrim, IsLevel, GoesOn, IsSteps, IsArguments, IsItems, MoreItems, IsIteration, IsType, IsVariable, IsInvariant, IsInvariants, MoreInvariants, IsContexts, SpellsExpr, Spells, SpellsWithin}
+use Rattle.ocl_text.specs.Grammar.{IsExpr, IsBind, IsBinds, MoreBinds, IsUnary, IsPrim, IsLevel, GoesOn, IsSteps, IsArguments, IsItems, MoreItems, IsIteration, IsFold, IsType, IsVariable, IsInvariant, IsInvariants, MoreInvariants, IsContexts, SpellsExpr, Spells, SpellsWithin}
 use Rattle.ocl_text.specs.Parse.{TokensFault, all_rules}
 use Rattle.ocl_text.proofs.Complete.{complete_expr, complete_contexts}
 use Rattle.ocl_text.proofs.Sound.{sound_contexts}
@@ -37,8 +37,11 @@ mutual
   wider_expr a b (g.let_expression d e) = g.let_expression (wider_binds a b d) (wider_expr a b e)
   wider_expr a b (g.plain d) = g.plain (wider_level a b d)
 
+  wider_bind : (a b : ℕ) {c n : ℕ} {bound : Bound} {ts rest : List Terminal} → IsBind c n ts bound rest → IsBind (plus c b) (plus n a) ts bound rest
+  wider_bind a b (g.a_bind y d) = g.a_bind (wider_type a y) (wider_level a b d)
+
   wider_binds : (a b : ℕ) {c n : ℕ} {found all : List Bound} {ts rest : List Terminal} → IsBinds c n found ts all rest → IsBinds (plus c b) (plus n a) found ts all rest
-  wider_binds a b (g.a_bind y d e) = g.a_bind (wider_type a y) (wider_level a b d) (wider_more_binds a b e)
+  wider_binds a b (g.some_binds d e) = g.some_binds (wider_bind a b d) (wider_more_binds a b e)
 
   wider_more_binds : (a b : ℕ) {c n : ℕ} {found all : List Bound} {ts rest : List Terminal} → MoreBinds c n found ts all rest → MoreBinds (plus c b) (plus n a) found ts all rest
   wider_more_binds a b (g.no_more_binds h) = g.no_more_binds h
@@ -71,8 +74,9 @@ mutual
   wider_steps a b (g.dot h e) = g.dot h (wider_steps a b e)
   wider_steps a b (g.dot_call d e) = g.dot_call (wider_arguments a b d) (wider_steps a b e)
   wider_steps a b (g.dot_word h d e) = g.dot_word h (wider_arguments a b d) (wider_steps a b e)
-  wider_steps a b (g.arrow_call h d e) = g.arrow_call h (wider_arguments a b d) (wider_steps a b e)
+  wider_steps a b (g.arrow_call h f d e) = g.arrow_call h f (wider_arguments a b d) (wider_steps a b e)
   wider_steps a b (g.arrow_iterate h d e) = g.arrow_iterate h (wider_iteration a b d) (wider_steps a b e)
+  wider_steps a b (g.arrow_fold h d e) = g.arrow_fold h (wider_fold a b d) (wider_steps a b e)
 
   wider_arguments : (a b : ℕ) {c n : ℕ} {ts rest : List Terminal} {all : List SurfaceTree} → IsArguments c n ts all rest → IsArguments (plus c b) (plus n a) ts all rest
   wider_arguments a b g.no_argument = g.no_argument
@@ -89,6 +93,9 @@ mutual
   wider_iteration a b (g.body_alone h d) = g.body_alone h (wider_expr a b d)
   wider_iteration a b (g.one_variable h v d) = g.one_variable h (wider_variable a v) (wider_expr a b d)
   wider_iteration a b (g.two_variables h v w d) = g.two_variables h (wider_variable a v) (wider_variable a w) (wider_expr a b d)
+
+  wider_fold : (a b : ℕ) {c n : ℕ} {v : VariableTree} {bound : Bound} {body : SurfaceTree} {ts rest : List Terminal} → IsFold c n ts v bound body rest → IsFold (plus c b) (plus n a) ts v bound body rest
+  wider_fold a b (g.a_fold v d e) = g.a_fold (wider_variable a v) (wider_bind a b d) (wider_expr a b e)
 
 wider_invariant : (a b : ℕ) {nesting c n class_at : ℕ} {class : List ℕ} {ts rest : List Terminal} {rule : Rule} → IsInvariant nesting c n class class_at ts rule rest → IsInvariant (plus nesting a) (plus c b) n class class_at ts rule rest
 wider_invariant a b (g.named d) = g.named (wider_expr a b d)

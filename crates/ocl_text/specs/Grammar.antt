@@ -5,9 +5,9 @@
 --   bind = id ":" type "=" level 8        type = id [ "(" type ")" ]        var = id [ ":" type ]
 --   level 0 = un        level k+1 = level k { operator of k+1, level k }
 --   un = ("not" | "-") un | prim { step }
---   step = "." (id | "div" | "mod") [ args ] | "->" id (args | iter); div and mod need their args
+--   step = "." (id | "div" | "mod") [ args ] | "->" id (args | iter | fold); div and mod need their args
 --   args = "(" [ level 8 { "," level 8 } ] ")"
---   iter = "(" [ var [ "," var ] "|" ] expr ")"
+--   iter = "(" [ var [ "," var ] "|" ] expr ")"        fold = "(" var ";" bind "|" expr ")"
 --   prim = number | string | keyword | id [ "::" id ] | "(" expr ")"
 --        | "if" level 8 "then" expr "else" expr "endif"
 use Rattle.std.specs.Prelude.{◌≡◌, ℕ, zero, suc, Bool, true, false, if◌then◌else◌, List, [], ◌∷◌, ◌++◌, length, Option, Some, None, codes, decimal, ◌&&◌, drop}
@@ -27,7 +27,7 @@ use Rattle.ocl_text.specs.declared.tree.Navigation.TheVariants.{Dot, Arrow}
 use Rattle.ocl_text.specs.declared.tree.PrefixOperator.TheVariants.{Negate, Not}
 use Rattle.ocl_text.specs.Strings.{string_value}
 use Rattle.ocl_text.specs.Tree as t
-use Rattle.ocl_text.specs.Tree.{TypeTree, VariableTree, Variables, Unnamed, Single, Pair, Bound, binding, lets_at, Rule, SurfaceTree, Number, Name, String, Keyword, EnumerationLiteral, Prefix, Binary, Property, Call, Iterate, If, trees_of}
+use Rattle.ocl_text.specs.Tree.{TypeTree, VariableTree, Variables, Unnamed, Single, Pair, Bound, binding, lets_at, Rule, SurfaceTree, Number, Name, String, Keyword, EnumerationLiteral, Prefix, Binary, Property, Call, Iterate, If, trees_of, fold_with}
 
 -- ---- single tokens
 
@@ -57,7 +57,7 @@ operator _ _ = None
 abbrev pub top : ℕ
 top = 8
 
--- the names that take an iteration's variables and body; every other name after an arrow takes arguments
+-- the names that take an iteration's variables and body
 abbrev pub iterators : List (List ℕ × IteratorKind)
 iterators =
     (codes "forAll", ForAll) ∷ (codes "exists", Exists) ∷ (codes "select", Select) ∷ (codes "reject", Reject) ∷ (codes "collect", Collect)
@@ -70,6 +70,10 @@ iterator_among (row ∷ rows) text = if bytes_eq text row.0 then Some row.1 else
 
 abbrev pub iterator_of : List ℕ → Option IteratorKind
 iterator_of text = iterator_among iterators text
+
+-- the name that takes a variable, an accumulator and a body
+abbrev pub is_fold_name : List ℕ → Bool
+is_fold_name text = bytes_eq text (codes "iterate")
 
 -- two variables only with forAll and exists
 abbrev pub takes_two : IteratorKind → Bool
@@ -101,6 +105,7 @@ is_mark m.Comma k.Comma = true
 is_mark m.Equal k.Equal = true
 is_mark m.Colon k.Colon = true
 is_mark m.ColonColon k.ColonColon = true
+is_mark m.Semicolon k.Semicolon = true
 is_mark m.In k.In = true
 is_mark m.Then k.Then = true
 is_mark m.Else k.Else = true
@@ -182,9 +187,12 @@ mutual
     let_expression : {m offset in_offset : ℕ} {text in_text : List ℕ} {ts mid rest : List Terminal} {bindings : List Bound} {body : SurfaceTree} → IsBinds chain (suc m) [] ts bindings (token k.In in_offset in_text ∷ mid) → IsExpr chain (suc m) mid body rest → IsExpr chain (suc (suc m)) (token k.Let offset text ∷ ts) (lets_at offset bindings body) rest
     plain : {n : ℕ} {ts rest : List Terminal} {tree : SurfaceTree} → IsLevel chain n top ts tree rest → IsExpr chain n ts tree rest
 
+  pub data IsBind (chain : ℕ) : ℕ → List Terminal → Bound → List Terminal → Type 0 where
+    a_bind : {n offset colon_offset equal_offset : ℕ} {text colon equal : List ℕ} {ts us rest : List Terminal} {declared : TypeTree} {value : SurfaceTree} → IsType n ts declared (token k.Equal equal_offset equal ∷ us) → IsLevel chain n top us value rest → IsBind chain n (token k.Identifier offset text ∷ token k.Colon colon_offset colon ∷ ts) (binding (text, offset) declared value) rest
+
   -- after the bindings that were found: one more
   pub data IsBinds (chain : ℕ) : ℕ → List Bound → List Terminal → List Bound → List Terminal → Type 0 where
-    a_bind : {n offset colon_offset equal_offset : ℕ} {text colon equal : List ℕ} {ts us mid rest : List Terminal} {declared : TypeTree} {value : SurfaceTree} {found all : List Bound} → IsType n ts declared (token k.Equal equal_offset equal ∷ us) → IsLevel chain n top us value mid → MoreBinds chain n (found ++ binding (text, offset) declared value ∷ []) mid all rest → IsBinds chain n found (token k.Identifier offset text ∷ token k.Colon colon_offset colon ∷ ts) all rest
+    some_binds : {n : ℕ} {ts mid rest : List Terminal} {bound : Bound} {found all : List Bound} → IsBind chain n ts bound mid → MoreBinds chain n (found ++ bound ∷ []) mid all rest → IsBinds chain n found ts all rest
 
   pub data MoreBinds (chain : ℕ) : ℕ → List Bound → List Terminal → List Bound → List Terminal → Type 0 where
     no_more_binds : {n : ℕ} {rest : List Terminal} {found : List Bound} → NotNext separates rest → MoreBinds chain n found rest found rest
@@ -221,8 +229,9 @@ mutual
     dot : {n c dot_offset offset : ℕ} {dot_text text : List ℕ} {ts rest : List Terminal} {source tree : SurfaceTree} → NotNext opens ts → IsSteps chain n c (Property source text offset) ts tree rest → IsSteps chain n (suc c) source (token k.Dot dot_offset dot_text ∷ token k.Identifier offset text ∷ ts) tree rest
     dot_call : {n c dot_offset offset : ℕ} {dot_text text : List ℕ} {ts mid rest : List Terminal} {source tree : SurfaceTree} {arguments : List SurfaceTree} → IsArguments chain n ts arguments mid → IsSteps chain n c (Call source Dot text (trees_of arguments) offset) mid tree rest → IsSteps chain n (suc c) source (token k.Dot dot_offset dot_text ∷ token k.Identifier offset text ∷ ts) tree rest
     dot_word : {n c dot_offset : ℕ} {dot_text : List ℕ} {t : Terminal} {ts mid rest : List Terminal} {source tree : SurfaceTree} {arguments : List SurfaceTree} → is_word_operator t.kind ≡ true → IsArguments chain n ts arguments mid → IsSteps chain n c (Call source Dot t.text (trees_of arguments) t.offset) mid tree rest → IsSteps chain n (suc c) source (token k.Dot dot_offset dot_text ∷ t ∷ ts) tree rest
-    arrow_call : {n c arrow_offset offset : ℕ} {arrow_text text : List ℕ} {ts mid rest : List Terminal} {source tree : SurfaceTree} {arguments : List SurfaceTree} → iterator_of text ≡ None → IsArguments chain n ts arguments mid → IsSteps chain n c (Call source Arrow text (trees_of arguments) offset) mid tree rest → IsSteps chain n (suc c) source (token k.Arrow arrow_offset arrow_text ∷ token k.Identifier offset text ∷ ts) tree rest
+    arrow_call : {n c arrow_offset offset : ℕ} {arrow_text text : List ℕ} {ts mid rest : List Terminal} {source tree : SurfaceTree} {arguments : List SurfaceTree} → iterator_of text ≡ None → is_fold_name text ≡ false → IsArguments chain n ts arguments mid → IsSteps chain n c (Call source Arrow text (trees_of arguments) offset) mid tree rest → IsSteps chain n (suc c) source (token k.Arrow arrow_offset arrow_text ∷ token k.Identifier offset text ∷ ts) tree rest
     arrow_iterate : {n c arrow_offset offset : ℕ} {arrow_text text : List ℕ} {ts mid rest : List Terminal} {source body tree : SurfaceTree} {kind : IteratorKind} {variables : Variables} → iterator_of text ≡ Some kind → IsIteration chain n (takes_two kind) ts variables body mid → IsSteps chain n c (Iterate source kind variables body offset) mid tree rest → IsSteps chain n (suc c) source (token k.Arrow arrow_offset arrow_text ∷ token k.Identifier offset text ∷ ts) tree rest
+    arrow_fold : {n c arrow_offset offset : ℕ} {arrow_text text : List ℕ} {ts mid rest : List Terminal} {source body tree : SurfaceTree} {variable : VariableTree} {accumulator : Bound} → is_fold_name text ≡ true → IsFold chain n ts variable accumulator body mid → IsSteps chain n c (fold_with source variable accumulator body offset) mid tree rest → IsSteps chain n (suc c) source (token k.Arrow arrow_offset arrow_text ∷ token k.Identifier offset text ∷ ts) tree rest
 
   -- the closing parenthesis is inside too, so `()` needs room for a construct
   pub data IsArguments (chain : ℕ) : ℕ → List Terminal → List SurfaceTree → List Terminal → Type 0 where
@@ -242,6 +251,10 @@ mutual
     body_alone : {n offset end : ℕ} {two : Bool} {text closing : List ℕ} {ts rest : List Terminal} {body : SurfaceTree} → begins_variable ts ≡ false → IsExpr chain n ts body (token k.Close end closing ∷ rest) → IsIteration chain n two (token k.Open offset text ∷ ts) Unnamed body rest
     one_variable : {m offset bar_offset end : ℕ} {two : Bool} {text bar closing : List ℕ} {us ts rest : List Terminal} {v : VariableTree} {body : SurfaceTree} → begins_variable us ≡ true → IsVariable (suc m) us v (token k.Bar bar_offset bar ∷ ts) → IsExpr chain (suc m) ts body (token k.Close end closing ∷ rest) → IsIteration chain (suc m) two (token k.Open offset text ∷ us) (Single v) body rest
     two_variables : {m offset comma_offset bar_offset end : ℕ} {text comma bar closing : List ℕ} {us vs ts rest : List Terminal} {v w : VariableTree} {body : SurfaceTree} → begins_variable us ≡ true → IsVariable (suc m) us v (token k.Comma comma_offset comma ∷ vs) → IsVariable (suc m) vs w (token k.Bar bar_offset bar ∷ ts) → IsExpr chain (suc m) ts body (token k.Close end closing ∷ rest) → IsIteration chain (suc m) true (token k.Open offset text ∷ us) (Pair v w) body rest
+
+  -- variable and accumulator stand inside the parenthesis
+  pub data IsFold (chain : ℕ) : ℕ → List Terminal → VariableTree → Bound → SurfaceTree → List Terminal → Type 0 where
+    a_fold : {m offset semicolon_offset bar_offset end : ℕ} {text semicolon bar closing : List ℕ} {us vs ts rest : List Terminal} {variable : VariableTree} {accumulator : Bound} {body : SurfaceTree} → IsVariable (suc m) us variable (token k.Semicolon semicolon_offset semicolon ∷ vs) → IsBind chain (suc m) vs accumulator (token k.Bar bar_offset bar ∷ ts) → IsExpr chain (suc m) ts body (token k.Close end closing ∷ rest) → IsFold chain (suc m) (token k.Open offset text ∷ us) variable accumulator body rest
 
 -- the tokens before the rest spell the expression, within some limits
 abbrev pub SpellsExpr : List Terminal → SurfaceTree → List Terminal → Type 0

@@ -16,8 +16,8 @@ use Rattle.ocl_text.specs.declared.tree.Navigation.TheVariants.{Dot, Arrow}
 use Rattle.ocl_text.specs.declared.tree.PrefixOperator.TheVariants.{Negate, Not}
 use Rattle.ocl_text.specs.Strings.{string_value}
 use Rattle.ocl_text.specs.Tree as t
-use Rattle.ocl_text.specs.Tree.{TypeTree, VariableTree, Variables, Unnamed, Single, Pair, Bound, binding, lets_at, Rule, SurfaceTree, Number, Name, String, Keyword, EnumerationLiteral, Prefix, Binary, Property, Call, Iterate, If, trees_of}
-use Rattle.ocl_text.specs.Grammar.{operator, top, steps_on, is_mark, opens, closes, separates, qualifies, next_is, begins_variable, begins_invariant, declares, is_identifier_kind, iterator_of, takes_two, numbered}
+use Rattle.ocl_text.specs.Tree.{TypeTree, VariableTree, Variables, Unnamed, Single, Pair, Bound, binding, lets_at, Rule, SurfaceTree, Number, Name, String, Keyword, EnumerationLiteral, Prefix, Binary, Property, Call, Iterate, If, trees_of, fold_with}
+use Rattle.ocl_text.specs.Grammar.{operator, top, steps_on, is_mark, opens, closes, separates, qualifies, next_is, begins_variable, begins_invariant, declares, is_identifier_kind, iterator_of, is_fold_name, takes_two, numbered}
 
 -- why a list of tokens is refused: the tokens from the refused one on
 pub data TokensFault : Type 0 where
@@ -166,6 +166,15 @@ optional_variables n two ts = if begins_variable ts then variables n two ts else
 unfoldable pub iteration : ℕ → Reader SurfaceTree → Bool → Reader (Variables × SurfaceTree)
 iteration n whole two ts = expect m.Open ts >>= optional_variables n two >>= λ vs. whole vs.1 >>= λ x. expect m.Close x.1 >>= λ rest. Ok ((vs.0, x.0), rest)
 
+-- after the accumulator of a fold over this source
+unfoldable pub fold_body : Reader SurfaceTree → SurfaceTree → VariableTree → Bound → ℕ → Reader SurfaceTree
+fold_body whole source variable accumulator offset ts = expect m.Bar ts >>= whole >>= λ x. expect m.Close x.1 >>= λ rest. Ok (fold_with source variable accumulator x.0 offset, rest)
+
+-- after the parenthesis of a fold over this source
+unfoldable pub fold_in : ℕ → Reader SurfaceTree → Reader SurfaceTree → SurfaceTree → ℕ → Reader SurfaceTree
+fold_in zero operand whole source offset ts = too_deep_at is_identifier_kind ts
+fold_in (suc n) operand whole source offset ts = a_variable (suc n) ts >>= λ v. expect m.Semicolon v.1 >>= a_bind (suc n) operand >>= λ b. fold_body whole source v.0 b.0 offset b.1
+
 unfoldable pub if_expression : Reader SurfaceTree → Reader SurfaceTree → ℕ → Reader SurfaceTree
 if_expression operand whole offset ts = operand ts >>= λ x. expect m.Then x.1 >>= whole >>= λ y. expect m.Else y.1 >>= whole >>= λ z. expect m.Endif z.1 >>= λ rest. Ok (If x.0 y.0 z.0 offset, rest)
 
@@ -192,13 +201,16 @@ module _ (n : ℕ) (operand whole : Reader SurfaceTree) where
   dotted source [] = Err (syntax [])
   dotted source (t ∷ ts) = dotted_by source t.kind t.text t.offset (t ∷ ts) ts
 
+  unfoldable pub a_fold : SurfaceTree → ℕ → Reader SurfaceTree
+  a_fold source offset ts = expect m.Open ts >>= fold_in n operand whole source offset
+
   -- an iteration, or a call by any other name
   abbrev pub applied_by : Option IteratorKind → SurfaceTree → List ℕ → ℕ → Reader SurfaceTree
   applied_by None source text offset ts = calling source Arrow text offset ts
   applied_by (Some kind) source text offset ts = iteration n whole (takes_two kind) ts >>= λ x. Ok (Iterate source kind x.0.0 x.0.1 offset, x.1)
 
   unfoldable pub applied_step : SurfaceTree → List ℕ → ℕ → Reader SurfaceTree
-  applied_step source text offset ts = applied_by (iterator_of text) source text offset ts
+  applied_step source text offset ts = if is_fold_name text then a_fold source offset ts else applied_by (iterator_of text) source text offset ts
 
   abbrev pub arrowed_by : SurfaceTree → TokenKind → List ℕ → ℕ → List Terminal → List Terminal → Reading SurfaceTree
   arrowed_by source k.Identifier text offset all ts = applied_step source text offset ts

@@ -35,6 +35,7 @@ mutual
     Property : (source : SurfaceTree) (name : List ℕ) (offset : ℕ) → SurfaceTree
     Call : (source : SurfaceTree) (navigation : Navigation) (name : List ℕ) (arguments : Trees) (offset : ℕ) → SurfaceTree
     Iterate : (source : SurfaceTree) (iterator : IteratorKind) (variables : Variables) (body : SurfaceTree) (offset : ℕ) → SurfaceTree
+    Fold : (source : SurfaceTree) (variable : VariableTree) (accumulator : List ℕ) (declared : TypeTree) (start body : SurfaceTree) (offset : ℕ) → SurfaceTree
     Let : (name : List ℕ) (declared : TypeTree) (value body : SurfaceTree) (offset : ℕ) → SurfaceTree
     If : (condition then_branch else_branch : SurfaceTree) (offset : ℕ) → SurfaceTree
 
@@ -59,6 +60,7 @@ offset_of (Binary operator left right offset) = offset
 offset_of (Property source name offset) = offset
 offset_of (Call source navigation name arguments offset) = offset
 offset_of (Iterate source iterator variables body offset) = offset
+offset_of (Fold source variable accumulator declared start body offset) = offset
 offset_of (Let name declared value body offset) = offset
 offset_of (If condition then_branch else_branch offset) = offset
 
@@ -67,7 +69,7 @@ abbrev pub type_offset : TypeTree → ℕ
 type_offset (Named name offset) = offset
 type_offset (Collection name element offset) = offset
 
--- a variable of a `let`, with its value and where its name stands
+-- a variable of a `let`, or an accumulator, with its value and where its name stands
 pub record Bound : Type 0 where
   pub name : List ℕ
   pub declared : TypeTree
@@ -87,6 +89,10 @@ lets (b ∷ bs) body = Let b.name b.declared b.value (lets bs body) b.offset
 abbrev pub lets_at : ℕ → List Bound → SurfaceTree → SurfaceTree
 lets_at offset [] body = body
 lets_at offset (b ∷ bs) body = Let b.name b.declared b.value (lets bs body) offset
+
+-- a fold over a source, with this accumulator
+abbrev pub fold_with : SurfaceTree → VariableTree → Bound → SurfaceTree → ℕ → SurfaceTree
+fold_with source variable b body offset = Fold source variable b.name b.declared b.value body offset
 
 -- a rule: its name, its context class, the offsets of its `inv` and of the class, and its expression
 pub record Rule : Type 0 where

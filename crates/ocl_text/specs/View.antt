@@ -10,7 +10,7 @@ use Rattle.ocl_text.specs.declared.tree.Expression.TheOpen.{Expression-F, Bindin
 use Rattle.ocl_text.specs.declared.tree.Binding.{Binding, fold-Binding}
 use Rattle.ocl_text.specs.declared.tree.Link.{Link, fold-Link}
 use Rattle.ocl_text.specs.declared.tree.SurfaceRule.{SurfaceRule}
-use Rattle.ocl_text.specs.Tree.{TypeTree, VariableTree, Variables, SurfaceTree, Bound, Rule, Named, Collection, Unnamed, Single, Pair, Number, String, Keyword, Name, EnumerationLiteral, Prefix, Binary, Property, Call, Iterate, If, trees_of, lets_at}
+use Rattle.ocl_text.specs.Tree.{TypeTree, VariableTree, Variables, SurfaceTree, Bound, Rule, Named, Collection, Unnamed, Single, Pair, Number, String, Keyword, Name, EnumerationLiteral, Prefix, Binary, Property, Call, Iterate, If, trees_of, lets_at, fold_with}
 
 abbrev pub type_step : DeclaredType-F TypeTree → TypeTree
 type_step (DeclaredType-F.Named name offset) = Named name offset
@@ -54,6 +54,7 @@ link_step (Link-F.Binary operator right offset) = λ left. Binary operator left 
 link_step (Link-F.Property name offset) = λ source. Property source name offset
 link_step (Link-F.Call navigation name arguments offset) = λ source. Call source navigation name (trees_of arguments.items) offset
 link_step (Link-F.Iterate iterator variables body offset) = λ source. Iterate source iterator (view_variables variables) body offset
+link_step (Link-F.Fold variable accumulator body offset) = λ source. fold_with source (view_variable variable) accumulator.value body offset
 
 abbrev pub view : Expression → SurfaceTree
 view = fold-Expression SurfaceTree Onward Bound view_step link_step bound_step

@@ -6,6 +6,7 @@ use Rattle.ocl_text.specs.declared.tree.PrefixOperator.{PrefixOperator}
 use Rattle.ocl_text.specs.declared.tree.IteratorKind.{IteratorKind}
 use Rattle.ocl_text.specs.declared.tree.Keyword.{Keyword}
 use Rattle.ocl_text.specs.declared.tree.Navigation.{Navigation}
+use Rattle.ocl_text.specs.declared.tree.Variable.{Variable}
 use Rattle.ocl_text.specs.declared.tree.Variables.{Variables}
 use Rattle.ocl_text.specs.declared.tree.DeclaredType.{DeclaredType}
 use Rattle.ocl_text.specs.declared.tree.DeclaredType.TheVariants as ty
@@ -15,8 +16,8 @@ use Rattle.ocl_text.specs.declared.tree.Link.TheVariants as li
 use Rattle.ocl_text.specs.declared.tree.Expression.{Expression}
 use Rattle.ocl_text.specs.declared.tree.Expression.TheVariants as e
 use Rattle.ocl_text.specs.Tree as t
-use Rattle.ocl_text.specs.Tree.{trees_of, lets_at}
-use Rattle.ocl_text.specs.View.{view, bound_of, link_of, spine_of, view_type, view_variables}
+use Rattle.ocl_text.specs.Tree.{trees_of, lets_at, fold_with}
+use Rattle.ocl_text.specs.View.{view, bound_of, link_of, spine_of, view_type, view_variable, view_variables}
 
 abbrev pub ViewsNumber : Type 0
 ViewsNumber = (value offset : ℕ) → view (e.Number value offset) ≡ t.Number value offset
@@ -64,6 +65,10 @@ ViewsCall = (navigation : Navigation) (name : List ℕ) (arguments : Vec Express
 abbrev pub ViewsIterate : Type 0
 ViewsIterate = (iterator : IteratorKind) (variables : Variables) (body : Expression) (offset : ℕ)
     → link_of (li.Iterate iterator variables body offset) ≡ λ source. t.Iterate source iterator (view_variables variables) (view body) offset
+
+abbrev pub ViewsFold : Type 0
+ViewsFold = (variable : Variable) (accumulator : Box Binding Global) (body : Expression) (offset : ℕ)
+    → link_of (li.Fold variable accumulator body offset) ≡ λ source. fold_with source (view_variable variable) (bound_of accumulator.value) (view body) offset
 
 abbrev pub ViewsNamedType : Type 0
 ViewsNamedType = (name : List ℕ) (offset : ℕ) → view_type (ty.Named name offset) ≡ t.Named name offset

@@ -57,6 +57,7 @@ pub(crate) enum Mark {
     Equal,
     Colon,
     ColonColon,
+    Semicolon,
     In,
     Then,
     Else,
@@ -166,6 +167,7 @@ fn is_mark(mark: Mark, kind: TokenKind) -> bool
         (Mark::Equal, TokenKind::Equal) => true,
         (Mark::Colon, TokenKind::Colon) => true,
         (Mark::ColonColon, TokenKind::ColonColon) => true,
+        (Mark::Semicolon, TokenKind::Semicolon) => true,
         (Mark::In, TokenKind::In) => true,
         (Mark::Then, TokenKind::Then) => true,
         (Mark::Else, TokenKind::Else) => true,
@@ -353,6 +355,13 @@ pub(crate) fn iterator_of(text: &str) -> Option<IteratorKind>
         "isUnique" => Some(IteratorKind::IsUnique),
         _ => None,
     }
+}
+
+/// Whether a name after an arrow takes a variable, an accumulator and a body.
+pub(crate) fn is_fold_name(text: &str) -> bool
+    ensures { result ≡ grammar.is_fold_name text.now }
+{
+    text == "iterate"
 }
 
 /// Whether an iteration may have two variables.

@@ -1,6 +1,6 @@
 //! Laws of the definitions: the contracts of functions that do nothing.
 
-ghost use Rattle.ocl_text.specs.ViewLaws.{ViewsNumber, ViewsString, ViewsKeyword, ViewsName, ViewsEnumerationLiteral, ViewsPrefix, ViewsSpine, ViewsLet, ViewsIf, ViewsBinding, ViewsBinary, ViewsProperty, ViewsCall, ViewsIterate, ViewsNamedType, ViewsCollectionType};
+ghost use Rattle.ocl_text.specs.ViewLaws.{ViewsNumber, ViewsString, ViewsKeyword, ViewsName, ViewsEnumerationLiteral, ViewsPrefix, ViewsSpine, ViewsLet, ViewsIf, ViewsBinding, ViewsBinary, ViewsProperty, ViewsCall, ViewsIterate, ViewsFold, ViewsNamedType, ViewsCollectionType};
 ghost use Rattle.ocl_text.specs.Laws.{SpellsOneList, KeepsUnderWiderLimits, SpellsOrIsRefused};
 
 /// A list of tokens spells at most one list of rules, and wider limits lose none.
@@ -30,6 +30,7 @@ pub fn trees_are_viewed()
     ensures property { ViewsProperty }
     ensures call { ViewsCall }
     ensures iterate { ViewsIterate }
+    ensures folding { ViewsFold }
     ensures named_type { ViewsNamedType }
     ensures collection_type { ViewsCollectionType }
 {}

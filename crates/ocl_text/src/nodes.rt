@@ -12,7 +12,7 @@ use crate::name::{Name, OperationName, WholeNumber};
 use crate::strings;
 use crate::tree::{
     BinaryOperator, Binding, DeclaredType, Expression, IteratorKind, Keyword, Link, Navigation,
-    PrefixOperator, Variables,
+    PrefixOperator, Variable, Variables,
 };
 use ocl_tokens::MAX_NUMBER;
 use std::alloc::{AllocError, Global};
@@ -179,6 +179,29 @@ pub(crate) fn iterate(
     let link = Link::Iterate {
         iterator,
         variables,
+        body,
+        offset,
+    };
+    linked(alloc, source, link)
+}
+
+#[tactic(auto, using(crate::proofs::Views::views))]
+pub(crate) fn fold(
+    alloc: Global,
+    source: Expression,
+    variable: Variable,
+    accumulator: Binding,
+    body: Expression,
+    offset: usize,
+) -> Result<Expression, AllocError>
+    ensures { IfOk result (λ e. spec.view e
+        ≡ tree.fold_with (spec.view source) (spec.view_variable variable)
+        (spec.bound_of accumulator) (spec.view body) offset) }
+{
+    let accumulator = Box::new(alloc, accumulator)?;
+    let link = Link::Fold {
+        variable,
+        accumulator,
         body,
         offset,
     };

@@ -8,10 +8,10 @@ ghost use Rattle.ocl_text.specs.Parse as spec;
 ghost use Rattle.ocl_text.specs.Parses.{Parses, UnlessOutOfMemory, from, operand, whole};
 ghost use Rattle.ocl_text.specs.Grammar.{IsExpr, SpellsExpr};
 ghost use Rattle.ocl_text.specs.Tree.{SurfaceTree};
-ghost use Rattle.ocl_text.specs.View.{view, bound_of, view_variables};
+ghost use Rattle.ocl_text.specs.View.{view, bound_of, view_variable, view_variables};
 
 use crate::cursor::{Mark, ParseFault, Parser, Start};
-use crate::tree::{Binding, Expression, Keyword, Navigation, PrefixOperator, Variables};
+use crate::tree::{Binding, Expression, Keyword, Navigation, PrefixOperator, Variable, Variables};
 use crate::{cursor, nodes, pending, types};
 use ocl_tokens::{Token, TokenKind};
 use std::alloc::Global;
@@ -390,7 +390,7 @@ fn dotted(
     }
 }
 
-/// The step after an arrow: an iteration by its name, else a call.
+/// The step after an arrow: a fold or an iteration by its name, else a call.
 #[cycle(parser)]
 #[tactic(auto, unfolding(crate::specs::Parse::arrowed, crate::specs::Parse::applied_step), using(crate::proofs::Names::token_operation))]
 fn arrowed(
@@ -408,6 +408,9 @@ fn arrowed(
         return Err(ParseFault::Syntax(index));
     };
     match t.kind {
+        TokenKind::Identifier if cursor::is_fold_name(t.text) => {
+            fold(alloc, parser, depth, source, t.span.start, index + 1)
+        }
         TokenKind::Identifier => match cursor::iterator_of(t.text) {
             Some(iterator) => {
                 let two = cursor::takes_two(iterator);
@@ -448,6 +451,64 @@ fn iteration(
     let (body, index) = expr(alloc, parser, depth, index)?;
     let index = cursor::expect(Mark::Close, parser, index)?;
     Ok(((names, body), index))
+}
+
+/// A fold over a source, at this offset in the text.
+#[cycle(parser)]
+#[tactic(auto, unfolding(crate::specs::Parse::a_fold, crate::specs::Parse::fold_in))]
+fn fold(
+    alloc: Global,
+    parser: &Parser<'_>,
+    depth: usize,
+    source: Expression,
+    offset: usize,
+    index: usize,
+) -> Result<(Expression, usize), ParseFault>
+    ensures { Parses parser.now view result
+        (spec.a_fold depth (operand parser.now depth) (whole parser.now depth) (view source) offset
+        (from parser.now index)) }
+{
+    let index = cursor::expect(Mark::Open, parser, index)?;
+    if depth == 0 {
+        return Err(cursor::too_deep(Start::Name, parser, index));
+    }
+    let (variable, index) = types::a_variable(alloc, parser, depth, index)?;
+    let index = cursor::expect(Mark::Semicolon, parser, index)?;
+    let (accumulator, index) = a_bind(alloc, parser, depth, index)?;
+    fold_body(
+        alloc,
+        parser,
+        depth,
+        source,
+        variable,
+        accumulator,
+        offset,
+        index,
+    )
+}
+
+/// What follows the accumulator of a fold.
+#[cycle(parser)]
+#[tactic(auto, unfolding(crate::specs::Parse::fold_body))]
+fn fold_body(
+    alloc: Global,
+    parser: &Parser<'_>,
+    depth: usize,
+    source: Expression,
+    variable: Variable,
+    accumulator: Binding,
+    offset: usize,
+    index: usize,
+) -> Result<(Expression, usize), ParseFault>
+    ensures { Parses parser.now view result
+        (spec.fold_body (whole parser.now depth) (view source) (view_variable variable)
+        (bound_of accumulator) offset (from parser.now index)) }
+{
+    let index = cursor::expect(Mark::Bar, parser, index)?;
+    let (body, index) = expr(alloc, parser, depth, index)?;
+    let index = cursor::expect(Mark::Close, parser, index)?;
+    let node = nodes::fold(alloc, source, variable, accumulator, body, offset)?;
+    Ok((node, index))
 }
 
 /// The arguments of a call.

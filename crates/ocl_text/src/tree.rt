@@ -146,7 +146,7 @@ pub enum Variables {
     Pair(Variable, Variable),
 }
 
-/// A variable of a `let`, with its value.
+/// A variable of a `let`, or the accumulator of an `iterate`, with its value.
 #[cycle(tree)]
 #[derive(Debug, Drop)]
 pub struct Binding {
@@ -154,7 +154,7 @@ pub struct Binding {
     pub name: Name,
     /// Its type.
     pub declared: DeclaredType,
-    /// Its value, which sees the bindings before it.
+    /// Its value; of a `let`, it sees the bindings before it.
     pub value: Expression,
     /// The name, in bytes from 0.
     pub offset: usize,
@@ -180,7 +180,7 @@ pub enum Link {
         /// The name, in bytes from 0.
         offset: usize,
     },
-    /// `.name(..)` or `->name(..)`, where the name is no iteration's.
+    /// `.name(..)` or `->name(..)`, where the name is no iteration's and not `iterate`.
     Call {
         /// Which of the two.
         navigation: Navigation,
@@ -202,6 +202,17 @@ pub enum Link {
         /// The name, in bytes from 0.
         offset: usize,
     },
+    /// `->iterate(variable; accumulator | body)`
+    Fold {
+        /// The element's variable.
+        variable: Variable,
+        /// The accumulator, with its start value.
+        accumulator: Box<Binding>,
+        /// What the accumulator becomes at each element.
+        body: Expression,
+        /// The word `iterate`, in bytes from 0.
+        offset: usize,
+    },
 }
 
 impl Link {
@@ -213,7 +224,8 @@ impl Link {
             Link::Binary { offset, .. }
             | Link::Property { offset, .. }
             | Link::Call { offset, .. }
-            | Link::Iterate { offset, .. } => *offset,
+            | Link::Iterate { offset, .. }
+            | Link::Fold { offset, .. } => *offset,
         }
     }
 }

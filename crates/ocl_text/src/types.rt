@@ -86,8 +86,9 @@ fn type_over(
     }
 }
 
+/// A variable, with its type where one is written.
 #[tactic(auto, unfolding(crate::specs::Parse::a_variable))]
-fn a_variable(
+pub(crate) fn a_variable(
     alloc: Global,
     parser: &Parser<'_>,
     depth: usize,

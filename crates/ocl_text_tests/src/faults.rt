@@ -12,6 +12,19 @@ context A inv: self.omvat->size(a | true) => Syntax at 34
 context A inv: self.x->select(a, b | true) => Syntax at 31
 context A inv: x->forAll(a, b) => Syntax at 29
 context A inv: x->forAll(a, b, c | true) => Syntax at 29
+context A inv: self.x->iterate(k | true) => Syntax at 33
+context A inv: x->iterate => Syntax at 25
+context A inv: x->iterate(a) => Syntax at 27
+context A inv: x->iterate(; b : T = 1 | a) => Syntax at 26
+context A inv: x->iterate(a, b; c : T = 1 | a) => Syntax at 27
+context A inv: x->iterate(a; b = 1 | a) => Syntax at 31
+context A inv: x->iterate(a; b : T | a) => Syntax at 35
+context A inv: x->iterate(a; b : T = let c : T = 1 in c | a) => Syntax at 37
+context A inv: x->iterate(a; b : T = 1) => Syntax at 38
+context A inv: x->iterate(a; b : T = 1, c : T = 2 | a) => Syntax at 38
+context A inv: x->iterate(a; b : T = 1 | a; b) => Syntax at 42
+context A inv: x.iterate(a; b : T = 1 | a) => Syntax at 26
+context A inv: x->select(a; b : T = 1 | a) => Syntax at 26
 context A inv: a.div => Syntax at 20
 context A inv: a.div() => 1 rule
 context A inv: 1 ; 2 => Syntax at 17

@@ -24,6 +24,8 @@ a.f(|a|) x 64 => 1 rule
 a.f(|a|) x 65 => TooDeep at 275
 a->one(|a|) x 64 => 1 rule
 a->one(|a|) x 65 => TooDeep at 470
+a->iterate(e; s : T = |1| | s) x 64 => 1 rule
+a->iterate(e; s : T = |1| | s) x 65 => TooDeep at 1434
 1+|1| x 256 => 1 rule
 1+|1| x 257 => TooDeep at 528
 1-1+|1| x 128 => 1 rule
@@ -44,6 +46,8 @@ a->one(|a|) x 65 => TooDeep at 470
 |a|.b x 257 => TooDeep at 528
 |a|->b() x 256 => 1 rule
 |a|->b() x 257 => TooDeep at 1296
+|a|->iterate(e; s : T = 1 | s) x 256 => 1 rule
+|a|->iterate(e; s : T = 1 | s) x 257 => TooDeep at 6928
 |a|.b->c() x 128 => 1 rule
 |a|.b->c() x 129 => TooDeep at 912
 ";
@@ -128,17 +132,54 @@ fn limits_of_nesting_and_chains(rt: HostRuntime) -> Result<(), Fail> {
     Ok(())
 }
 
-/// A rule that declares a variable of a type with so many types round it.
-fn has_nested_type(alloc: Global, times: usize, wanted: &str) -> Result<bool, AllocError> {
-    let mut text = nested(alloc, "context A inv: let a : ", "S(", "T", ")", times)?;
-    text.push_str(" = 1 in a")?;
+/// So many iterations, each the body of the one round it.
+fn has_nested_iterate(alloc: Global, times: usize, wanted: &str) -> Result<bool, AllocError> {
+    let text = nested(
+        alloc,
+        "context A inv: ",
+        "a->iterate(e; s : T = 1 | ",
+        "s",
+        ")",
+        times,
+    )?;
     gives(alloc, text.as_str(), wanted)
 }
 
 #[test]
+fn limits_of_iterate_in_its_body(rt: HostRuntime) -> Result<(), Fail> {
+    assert!(rt; has_nested_iterate(rt.alloc(), 64, "1 rule")?);
+    assert!(rt; has_nested_iterate(rt.alloc(), 65, "TooDeep at 1690")?);
+    Ok(())
+}
+
+/// A rule that declares a variable, between these texts, of a type with so many types round it.
+fn has_nested_type(
+    alloc: Global,
+    start: &str,
+    end: &str,
+    times: usize,
+    wanted: &str,
+) -> Result<bool, AllocError> {
+    let mut text = nested(alloc, start, "S(", "T", ")", times)?;
+    text.push_str(end)?;
+    gives(alloc, text.as_str(), wanted)
+}
+
+fn has_let_type(alloc: Global, times: usize, wanted: &str) -> Result<bool, AllocError> {
+    has_nested_type(alloc, "context A inv: let a : ", " = 1 in a", times, wanted)
+}
+
+fn has_iterate_type(alloc: Global, times: usize, wanted: &str) -> Result<bool, AllocError> {
+    let start = "context A inv: a->iterate(e; s : ";
+    has_nested_type(alloc, start, " = 1 | s)", times, wanted)
+}
+
+#[test]
 fn limits_of_nested_types(rt: HostRuntime) -> Result<(), Fail> {
-    assert!(rt; has_nested_type(rt.alloc(), 63, "1 rule")?);
-    assert!(rt; has_nested_type(rt.alloc(), 64, "TooDeep at 151")?);
+    assert!(rt; has_let_type(rt.alloc(), 63, "1 rule")?);
+    assert!(rt; has_let_type(rt.alloc(), 64, "TooDeep at 151")?);
+    assert!(rt; has_iterate_type(rt.alloc(), 63, "1 rule")?);
+    assert!(rt; has_iterate_type(rt.alloc(), 64, "TooDeep at 161")?);
     Ok(())
 }
 

@@ -227,6 +227,18 @@ fn one_link(out: &mut String, link: &Link) -> Result<(), AllocError> {
             expression(out, body)?;
             out.push(')')
         }
+        Link::Fold {
+            variable: element,
+            accumulator,
+            body,
+            ..
+        } => {
+            write!(out, "->iterate@{offset}(")?;
+            variable(out, element)?;
+            binding(out, accumulator)?;
+            expression(out, body)?;
+            out.push(')')
+        }
     }
 }
 

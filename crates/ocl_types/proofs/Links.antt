@@ -8,19 +8,21 @@ use Rattle.ocl_text.specs.declared.tree.IteratorKind.{IteratorKind}
 use Rattle.ocl_text.specs.declared.tree.Navigation.{Navigation}
 use Rattle.ocl_text.specs.declared.tree.Navigation.TheVariants.{Dot, Arrow}
 use Rattle.ocl_text.specs.declared.tree.Expression.{the_lemmas}
-use Rattle.ocl_text.specs.declared.tree.Link.{Link, Binary, Property, Call', Iterate}
+use Rattle.ocl_text.specs.declared.tree.Link.{Link, Binary, Property, Call', Iterate, Fold'}
 use Rattle.ocl_text.specs.Tree as t
 use Rattle.ocl_text.specs.declared.tree.Expression.{Expression}
 use Rattle.ocl_text.specs.declared.tree.Link.TheVariants as li
+use Rattle.ocl_text.specs.declared.tree.Variable.{Variable}
 use Rattle.ocl_text.specs.declared.tree.Variables as v
-use Rattle.ocl_text.proofs.ForAbove.{link_of-Binary, link_of-Property, link_of-Call, link_of-Iterate}
-use Rattle.ocl_text.specs.Tree.{Variables, SurfaceTree, Trees, trees_of, offset_of}
-use Rattle.ocl_text.specs.View.{view, link_of, spine_of, view_variables}
+use Rattle.ocl_text.specs.declared.tree.Binding.{Binding}
+use Rattle.ocl_text.proofs.ForAbove.{link_of-Binary, link_of-Property, link_of-Call, link_of-Iterate, link_of-Fold}
+use Rattle.ocl_text.specs.Tree.{VariableTree, Variables, Bound, SurfaceTree, Trees, trees_of, offset_of, fold_with}
+use Rattle.ocl_text.specs.View.{view, bound_of, link_of, spine_of, view_variable, view_variables}
 use Rattle.ocl_types.specs.Core.{TypedTree}
 use Rattle.ocl_types.specs.declared.core_tree.Typed.{Typed}
 use Rattle.ocl_types.specs.declared.fault.TypeFault.{TypeFault}
 use Rattle.ocl_types.specs.declared.fault.TypeFault.TheVariants.{At, OutOfMemory}
-use Rattle.ocl_types.specs.declared.fault.TypeFlaw.TheVariants.{UnknownName}
+use Rattle.ocl_types.specs.declared.fault.TypeFlaw.TheVariants.{UnknownName, UnknownOperation}
 use Rattle.ocl_types.specs.CoreView.{typed_in}
 use Rattle.ocl_types.specs.Faults.{TypeFaultAt, type_fault, type_fault_at}
 use Rattle.ocl_types.specs.Scope.{VariableScope}
@@ -34,6 +36,7 @@ Made left (t.Binary operator source right offset) = source ≡ left
 Made left (t.Property source name offset) = source ≡ left
 Made left (t.Call source navigation name arguments offset) = source ≡ left
 Made left (t.Iterate source iterator variables body offset) = source ≡ left
+Made left (t.Fold source variable accumulator declared start body offset) = source ≡ left
 Made left tree = ⊥
 
 link_made : (link : Link) (left : SurfaceTree) → Made left (link_of link left)
@@ -41,12 +44,14 @@ link_made (Binary operator right offset) left = search (rules, the_lemmas)
 link_made (Property name offset) left = search (rules, the_lemmas)
 link_made (Call' navigation name arguments row offset) left = search (rules, the_lemmas)
 link_made (Iterate iterator variables body offset) left = search (rules, the_lemmas)
+link_made (Fold' variable name declared value at_name row body offset) left = search (rules, the_lemmas)
 
 made_no_name : (left tree : SurfaceTree) → Made left tree → as_name tree ≡ None
 made_no_name left (t.Binary operator source right offset) made = refl
 made_no_name left (t.Property source name offset) made = refl
 made_no_name left (t.Call source navigation name arguments offset) made = refl
 made_no_name left (t.Iterate source iterator variables body offset) made = refl
+made_no_name left (t.Fold source variable accumulator declared start body offset) made = refl
 made_no_name left tree made = absurd made
 
 link_is_no_name : (link : Link) (left : SurfaceTree) → as_name (link_of link left) ≡ None
@@ -76,6 +81,7 @@ made_plain left (t.Binary operator source right offset) h made = refl
 made_plain left (t.Property source name offset) h made = refl
 made_plain left (t.Call source navigation name arguments offset) h made = no_class source navigation name (rw made h)
 made_plain left (t.Iterate source iterator variables body offset) h made = refl
+made_plain left (t.Fold source variable accumulator declared start body offset) h made = refl
 made_plain left tree h made = absurd made
 
 link_plain : (link : Link) (left : SurfaceTree) → as_name left ≡ None → class_of_call (link_of link left) ≡ None
@@ -107,6 +113,7 @@ made_named left (t.Binary operator source right offset) x made h = no_such x h
 made_named left (t.Property source name offset) x made h = no_such x h
 made_named left (t.Call source navigation name arguments offset) x made h = subst (λ (tree : SurfaceTree). as_name tree ≡ Some x) made (name_before source navigation name x h)
 made_named left (t.Iterate source iterator variables body offset) x made h = no_such x h
+made_named left (t.Fold source variable accumulator declared start body offset) x made h = no_such x h
 made_named left tree x made h = absurd made
 
 name_is : (tree : SurfaceTree) (x : List ℕ × ℕ) → as_name tree ≡ Some x → tree ≡ t.Name x.0 x.1
@@ -120,6 +127,7 @@ name_is (t.Binary operator left right offset) x h = no_such x h
 name_is (t.Property source name offset) x h = no_such x h
 name_is (t.Call source navigation name arguments offset) x h = no_such x h
 name_is (t.Iterate source iterator variables body offset) x h = no_such x h
+name_is (t.Fold source variable accumulator declared start body offset) x h = no_such x h
 name_is (t.Let name declared value body offset) x h = no_such x h
 name_is (t.If condition then_branch else_branch offset) x h = no_such x h
 
@@ -151,6 +159,10 @@ module _ (m : Model) (context : ℕ) (s : VariableScope) where
   unfolding elaborate
   iterate_is left x iterator variables body offset h = rw h refl
 
+  fold_is : (left : SurfaceTree) (x : TypedTree) (variable : VariableTree) (accumulator : Bound) (body : SurfaceTree) (offset : ℕ) → elaborate m context s left ≡ Ok x → elaborate m context s (fold_with left variable accumulator body offset) ≡ Err (type_fault_at UnknownOperation offset)
+  unfolding elaborate
+  fold_is left x variable accumulator body offset h = rw h refl
+
   -- ---- what is wrong on the left is wrong with the links
 
   made_fails : (e : TypeFaultAt) (left tree : SurfaceTree) → class_of_call tree ≡ None → Made left tree → elaborate m context s left ≡ Err e → elaborate m context s tree ≡ Err e
@@ -159,6 +171,7 @@ module _ (m : Model) (context : ℕ) (s : VariableScope) where
   made_fails e left (t.Property source name offset) h made fails = rw (made, fails) refl
   made_fails e left (t.Call source navigation name arguments offset) h made fails = rw h (rw (made, fails) refl)
   made_fails e left (t.Iterate source iterator variables body offset) h made fails = rw (made, fails) refl
+  made_fails e left (t.Fold source variable accumulator declared start body offset) h made fails = rw (made, fails) refl
   made_fails e left tree h made fails = absurd made
 
   still_fails : (e : TypeFaultAt) (links : List Link) (left : SurfaceTree) → as_name left ≡ None → elaborate m context s left ≡ Err e → elaborate m context s (spine_of left (map link_of links)) ≡ Err e
@@ -191,6 +204,9 @@ module _ (m : Model) (context : ℕ) (s : VariableScope) where
 
   pub iterate_link : (link : Link) (iterator : IteratorKind) (variables : v.Variables) (body : Expression) (offset : ℕ) (left : SurfaceTree) (x : TypedTree) → link ≡ li.Iterate iterator variables body offset → elaborate m context s left ≡ Ok x → elaborate m context s (link_of link left) ≡ iterate_after m context s iterator x (view_variables variables) (view body) offset
   iterate_link link iterator variables body offset left x is h = with_left _ link left (ap link_of is ∙ link_of-Iterate iterator variables body offset) ∙ iterate_is left x iterator (view_variables variables) (view body) offset h
+
+  pub fold_link : (link : Link) (variable : Variable) (accumulator : Box Binding Global) (body : Expression) (offset : ℕ) (left : SurfaceTree) (x : TypedTree) → link ≡ li.Fold variable accumulator body offset → elaborate m context s left ≡ Ok x → elaborate m context s (link_of link left) ≡ Err (type_fault_at UnknownOperation offset)
+  fold_link link variable accumulator body offset left x is h = with_left _ link left (ap link_of is ∙ link_of-Fold variable accumulator body offset) ∙ fold_is left x (view_variable variable) (bound_of accumulator.value) (view body) offset h
 
   -- a class before `.allInstances` is looked up in place of the operand
 

@@ -139,6 +139,9 @@ module _ (m : Model) (well : IsClassModel m) (context : ℕ) (within : context <
         chained (IsInner m context s over variables) Goal (inner_scope m s over variables) _ (inner_sound m well context s over variables h w.1) (λ inner is.
         chained (Sound m (kinds_of inner)) Goal (elaborate m context inner body) _ (elaborate_sound inner body (inner_scoped s inner over variables is)) (λ y q.
         iterate_sound m context s inner iterator over variables y (offset_of body) w is q)))
+    elaborate_sound s (t.Fold source variable accumulator declared start body offset) h =
+        let Goal : TypedTree → Type 0 = Sound m (kinds_of s) in
+        chained Goal Goal (elaborate m context s source) _ (elaborate_sound s source h) (λ x p. tt)
     elaborate_sound s (t.Let name declared value body offset) h =
         let Goal : TypedTree → Type 0 = Sound m (kinds_of s) in
         chained (IsKindOf m) Goal (declared_kind m declared) _ (declared_known m well declared) (λ kind known.

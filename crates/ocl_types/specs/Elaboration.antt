@@ -491,6 +491,10 @@ module _ (m : Model) (context : ℕ) where
       inner ← inner_scope m s (source_of_arrow x) variables
       y ← elaborate inner body
       iterate_of m (length s) iterator (source_of_arrow x) variables y (offset_of body)
+    -- no operation has this name yet
+    elaborate s (t.Fold source variable accumulator declared start body offset) = do
+      _ ← elaborate s source
+      Err (type_fault_at UnknownOperation offset)
     elaborate s (t.Let name declared value body offset) = do
       kind ← declared_kind m declared
       x ← elaborate s value

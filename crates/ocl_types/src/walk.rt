@@ -25,7 +25,7 @@ use crate::calls::{Arguments, Values, instances_call};
 use crate::core_tree::{Core, Typed};
 use crate::declared::declared_kind;
 use crate::environment::Environment;
-use crate::fault::TypeFault;
+use crate::fault::{TypeFault, TypeFlaw};
 use crate::iterations::{push_after_dot, push_variables};
 use crate::lets::let_of;
 use crate::names::{keyword_value, literal_value, name_value, number_value, text_value};
@@ -406,6 +406,10 @@ fn link_after<'t>(
             left,
             *offset,
         ),
+        Link::Fold { offset, .. } => Err(TypeFault::At {
+            flaw: TypeFlaw::UnknownOperation,
+            offset: *offset,
+        }),
     }
 }
 

@@ -43,6 +43,9 @@ returns-clause-call c = v.link_of-Call
 pub returns-clause-iterate : goal.returns-clause-iterate
 returns-clause-iterate c = v.link_of-Iterate
 
+pub returns-clause-folding : goal.returns-clause-folding
+returns-clause-folding c = v.link_of-Fold
+
 pub returns-clause-named_type : goal.returns-clause-named_type
 returns-clause-named_type c = v.view_type-Named
 

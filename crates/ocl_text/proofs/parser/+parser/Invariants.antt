@@ -25,6 +25,12 @@ decreases-arguments l = 40 * l.depth + 22
 abbrev pub decreases-iteration : goal.decreases-iteration
 decreases-iteration l = 40 * l.depth + 22
 
+abbrev pub decreases-fold : goal.decreases-fold
+decreases-fold l = 40 * l.depth + 22
+
+abbrev pub decreases-fold_body : goal.decreases-fold_body
+decreases-fold_body l = 40 * l.depth + 21
+
 abbrev pub decreases-dotted : goal.decreases-dotted
 decreases-dotted l = 40 * l.depth + 24
 

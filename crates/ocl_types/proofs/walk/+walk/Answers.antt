@@ -13,7 +13,7 @@ use Rattle.ocl_types.specs.Faults.{type_fault}
 use Rattle.ocl_types.proofs.Bindings.{let_steps}
 use Rattle.ocl_types.specs.Core.{TypedTree}
 use Rattle.ocl_types.specs.CoreView.{typed_in}
-use Rattle.ocl_types.proofs.Links.{binary_link, property_link, call_link, iterate_link, instances_link, first_plain, more_links, first_fails, after_instances, instances_fail, next_left, last_left, left_fails, went_on, carried}
+use Rattle.ocl_types.proofs.Links.{binary_link, property_link, call_link, iterate_link, fold_link, instances_link, first_plain, more_links, first_fails, after_instances, instances_fail, next_left, last_left, left_fails, went_on, carried}
 use Rattle.ocl_types.proofs.walk.+walk.Goals as goal
 
 pub link_after-returns-in-Binary-clause-gives : goal.link_after-returns-in-Binary-clause-gives
@@ -35,6 +35,10 @@ pub link_after-returns-in-Iterate-clause-gives : goal.link_after-returns-in-Iter
 link_after-returns-in-Iterate-clause-gives t c = λ tree value stands plain.
     carried _ _ _ (iterate_link c.args.environment.now.model.now c.args.environment.now.context c.args.scope.now c.args.link.now c.in-Iterate.iterator c.in-Iterate.variables c.in-Iterate.body c.in-Iterate.offset tree (typed_in c.args.left) c.in-Iterate.is value)
     c.iterate_link.ensures.gives
+
+pub link_after-returns-in-Fold-clause-gives : goal.link_after-returns-in-Fold-clause-gives
+link_after-returns-in-Fold-clause-gives t c = λ tree value stands plain.
+    fold_link c.args.environment.now.model.now c.args.environment.now.context c.args.scope.now c.args.link.now c.in-Fold.variable c.in-Fold.accumulator c.in-Fold.body c.in-Fold.offset tree (typed_in c.args.left) c.in-Fold.is value
 
 pub link_after-call_link-requires : goal.link_after-call_link-requires
 link_after-call_link-requires t c = (search (rules, the_lemmas), (c.requires.environment, c.requires.left))
