@@ -46,4 +46,7 @@ core_link_of-AsCollection collection element = search (rules, the_lemmas)
 pub core_link_of-Iterate : (iteration : Iteration) (body : Core) → core_link_of (l.Iterate iteration body) ≡ λ source. tree.Iterate iteration source (core_view body)
 core_link_of-Iterate iteration body = search (rules, the_lemmas)
 
-pub ruleset core_views = (core_view-Constant, core_view-Variable, core_view-AllInstances, core_view-Spine, core_view-Let, core_view-If, core_link_of-Feature, core_link_of-Operation, core_link_of-AsCollection, core_link_of-Iterate)
+pub core_link_of-Fold : (kind : ScalarKind) (start : Box Core Global) (body : Core) → core_link_of (l.Fold kind start body) ≡ λ source. tree.Fold kind source (core_view start.value) (core_view body)
+core_link_of-Fold kind start body = search (rules, the_lemmas)
+
+pub ruleset core_views = (core_view-Constant, core_view-Variable, core_view-AllInstances, core_view-Spine, core_view-Let, core_view-If, core_link_of-Feature, core_link_of-Operation, core_link_of-AsCollection, core_link_of-Iterate, core_link_of-Fold)

@@ -11,6 +11,7 @@ pub mod TypedScopes
 pub mod TypedTypes
 pub mod TypedOperations
 pub mod TypedIterations
+pub mod TypedFolds
 pub mod TypedWalk
 pub mod AllChecked
 pub mod ForAbove

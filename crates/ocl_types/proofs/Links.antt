@@ -3,6 +3,8 @@ use Rattle.std.proofs.lemmas.List.{drop_more}
 use Rattle.std.proofs.Common.{◌≡◌, ◌<◌, ◌+◌, get_or, drop, ℕ, Bool, true, false, List, [], ◌∷◌, map, length, Option, Some, None, Result, Ok, Err, refl, sym, ap, subst, ◌∙◌, Box, Vec, Global, rules, if◌then◌else◌}
 use Rattle.imkl_model.specs.ClassModel.{Model, class_number}
 use Rattle.ocl_base.specs.Steps.{◌>>=◌, found, Gives, Fails}
+use Rattle.ocl_kinds.specs.declared.kind.Kind.{Kind}
+use Rattle.ocl_kinds.specs.declared.kind.Kind.TheVariants.{Scalar}
 use Rattle.ocl_text.specs.declared.tree.BinaryOperator.{BinaryOperator}
 use Rattle.ocl_text.specs.declared.tree.IteratorKind.{IteratorKind}
 use Rattle.ocl_text.specs.declared.tree.Navigation.{Navigation}
@@ -15,19 +17,19 @@ use Rattle.ocl_text.specs.declared.tree.Link.TheVariants as li
 use Rattle.ocl_text.specs.declared.tree.Variable.{Variable}
 use Rattle.ocl_text.specs.declared.tree.Variables as v
 use Rattle.ocl_text.specs.declared.tree.Binding.{Binding}
-use Rattle.ocl_text.proofs.ForAbove.{link_of-Binary, link_of-Property, link_of-Call, link_of-Iterate, link_of-Fold}
-use Rattle.ocl_text.specs.Tree.{VariableTree, Variables, Bound, SurfaceTree, Trees, trees_of, offset_of, fold_with}
+use Rattle.ocl_text.proofs.ForAbove.{link_of-Binary, link_of-Property, link_of-Call, link_of-Iterate, link_of-Fold, views}
+use Rattle.ocl_text.specs.Tree.{VariableTree, Variables, Bound, SurfaceTree, Trees, trees_of, offset_of, type_offset, fold_with}
 use Rattle.ocl_text.specs.View.{view, bound_of, link_of, spine_of, view_variable, view_variables}
 use Rattle.ocl_types.specs.Core.{TypedTree}
 use Rattle.ocl_types.specs.declared.core_tree.Typed.{Typed}
 use Rattle.ocl_types.specs.declared.fault.TypeFault.{TypeFault}
 use Rattle.ocl_types.specs.declared.fault.TypeFault.TheVariants.{At, OutOfMemory}
-use Rattle.ocl_types.specs.declared.fault.TypeFlaw.TheVariants.{UnknownName, UnknownOperation}
+use Rattle.ocl_types.specs.declared.fault.TypeFlaw.TheVariants.{UnknownName}
 use Rattle.ocl_types.specs.CoreView.{typed_in}
 use Rattle.ocl_types.specs.Faults.{TypeFaultAt, type_fault, type_fault_at}
-use Rattle.ocl_types.specs.Scope.{VariableScope}
-use Rattle.ocl_types.specs.Elaboration.{Elaborated, as_name, class_before, OfInstances, OfValue, property_of, call_of, elaborate}
-use Rattle.ocl_types.specs.Walk.{IsLeft, class_of_call, class_before_links, binary_after, call_after, instances_after, iterate_after}
+use Rattle.ocl_types.specs.Scope.{VariableScope, ScopeVariable, Named, scope_variable}
+use Rattle.ocl_types.specs.Elaboration.{Elaborated, as_name, class_before, OfInstances, OfValue, Gathered, source_of_arrow, declared_element, element_variable, bound_value, accumulator_kind, fold_scope, fold_of, property_of, call_of, elaborate}
+use Rattle.ocl_types.specs.Walk.{IsLeft, FoldStart, begun_with, start_of, fold_begun, fold_rest, class_of_call, class_before_links, binary_after, call_after, instances_after, iterate_after, fold_start, fold_after}
 
 -- ---- a link makes a node with what stands on its left
 
@@ -136,9 +138,28 @@ first_is_name : (first : SurfaceTree) (links : List Link) (x : List ℕ × ℕ) 
 first_is_name first [] x h = no_such x h
 first_is_name first (l ∷ ls) x h = name_is first x (made_named first (link_of l first) x (link_made l first) h)
 
+-- the name of a binding
+pub name_bound : (b : Binding) → (bound_of b).name ≡ b.name
+name_bound b = search (views, the_lemmas)
+
 -- a step that succeeded, and the next one
 pub went_on : {A B : Type 0} (r : Result A TypeFaultAt) (f : A → Result B TypeFaultAt) (x : A) → r ≡ Ok x → (r >>= f) ≡ f x
 went_on r f x h = rw h refl
+
+-- steps that go on in the same way
+same_next : {A B : Type 0} (r : Result A TypeFaultAt) (f g : A → Result B TypeFaultAt) → ((x : A) → f x ≡ g x) → (r >>= f) ≡ (r >>= g)
+same_next (Ok x) f g h = h x
+same_next (Err e) f g h = refl
+
+started_by : {V A B : Type 0} (r : Result V TypeFaultAt) (made : V → A) (g : A → Result B TypeFaultAt) → (r >>= λ v. g (made v)) ≡ ((r >>= λ v. Ok (made v)) >>= g)
+started_by (Ok v) made g = refl
+started_by (Err e) made g = refl
+
+-- three steps whose results are put together before the next one
+started : {K X V A B : Type 0} (k : Result K TypeFaultAt) (x : Result X TypeFaultAt) (r : K → X → Result V TypeFaultAt) (made : K → V → A) (g : A → Result B TypeFaultAt) → (k >>= λ j. x >>= λ y. r j y >>= λ v. g (made j v)) ≡ ((k >>= λ j. x >>= λ y. r j y >>= λ v. Ok (made j v)) >>= g)
+started (Ok j) (Ok y) r made g = started_by (r j y) (made j) g
+started (Ok j) (Err e) r made g = refl
+started (Err e) x r made g = refl
 
 module _ (m : Model) (context : ℕ) (s : VariableScope) where
   -- ---- a node by what its left side gives
@@ -159,9 +180,26 @@ module _ (m : Model) (context : ℕ) (s : VariableScope) where
   unfolding elaborate
   iterate_is left x iterator variables body offset h = rw h refl
 
-  fold_is : (left : SurfaceTree) (x : TypedTree) (variable : VariableTree) (accumulator : Bound) (body : SurfaceTree) (offset : ℕ) → elaborate m context s left ≡ Ok x → elaborate m context s (fold_with left variable accumulator body offset) ≡ Err (type_fault_at UnknownOperation offset)
+  fold_is : (left : SurfaceTree) (x : TypedTree) (variable : VariableTree) (accumulator : Bound) (body : SurfaceTree) (offset : ℕ) → elaborate m context s left ≡ Ok x → elaborate m context s (fold_with left variable accumulator body offset) ≡ fold_after m context s x variable accumulator body
   unfolding elaborate
-  fold_is left x variable accumulator body offset h = rw h refl
+  fold_is left x variable accumulator body offset h =
+      let over = source_of_arrow x in
+      rw h (same_next (element_variable m over.element variable) _ _ (λ v.
+      started (accumulator_kind m accumulator.declared) (elaborate m context s accumulator.value) (λ k y. bound_value m (Scalar k) y (type_offset accumulator.declared)) fold_start
+      (λ start. elaborate m context (fold_scope s v accumulator.name start.kind) body >>= λ z. fold_of m start.kind over start.core z (offset_of body))))
+
+  -- a fold begins, and its body comes after it
+  begun_first : {B : Type 0} (r : Result Kind TypeFaultAt) (made : Kind → ScopeVariable) (start : Result FoldStart TypeFaultAt) (over : Gathered) (go : Gathered → ScopeVariable → FoldStart → Result B TypeFaultAt)
+      → ((r >>= λ kind. Ok (made kind)) >>= λ v. start >>= λ p. go over v p) ≡ ((r >>= λ kind. start >>= λ p. Ok (begun_with over kind p)) >>= λ g. go g.source (made g.element) g.start)
+  begun_first (Ok kind) made (Ok p) over go = refl
+  begun_first (Ok kind) made (Err e) over go = refl
+  begun_first (Err e) made start over go = refl
+
+  pub fold_goes_on : (x : TypedTree) (variable : VariableTree) (accumulator : Bound) (body : SurfaceTree) → fold_after m context s x variable accumulator body ≡ (fold_begun m context s x variable accumulator >>= λ g. fold_rest m context s variable.0 accumulator.name g body)
+  fold_goes_on x variable accumulator body =
+      let over = source_of_arrow x in
+      begun_first (declared_element m over.element variable.1) (λ kind. scope_variable (Named variable.0) kind) (start_of m context s accumulator) over
+      (λ from v start. elaborate m context (fold_scope s v accumulator.name start.kind) body >>= λ z. fold_of m start.kind from start.core z (offset_of body))
 
   -- ---- what is wrong on the left is wrong with the links
 
@@ -205,7 +243,7 @@ module _ (m : Model) (context : ℕ) (s : VariableScope) where
   pub iterate_link : (link : Link) (iterator : IteratorKind) (variables : v.Variables) (body : Expression) (offset : ℕ) (left : SurfaceTree) (x : TypedTree) → link ≡ li.Iterate iterator variables body offset → elaborate m context s left ≡ Ok x → elaborate m context s (link_of link left) ≡ iterate_after m context s iterator x (view_variables variables) (view body) offset
   iterate_link link iterator variables body offset left x is h = with_left _ link left (ap link_of is ∙ link_of-Iterate iterator variables body offset) ∙ iterate_is left x iterator (view_variables variables) (view body) offset h
 
-  pub fold_link : (link : Link) (variable : Variable) (accumulator : Box Binding Global) (body : Expression) (offset : ℕ) (left : SurfaceTree) (x : TypedTree) → link ≡ li.Fold variable accumulator body offset → elaborate m context s left ≡ Ok x → elaborate m context s (link_of link left) ≡ Err (type_fault_at UnknownOperation offset)
+  pub fold_link : (link : Link) (variable : Variable) (accumulator : Box Binding Global) (body : Expression) (offset : ℕ) (left : SurfaceTree) (x : TypedTree) → link ≡ li.Fold variable accumulator body offset → elaborate m context s left ≡ Ok x → elaborate m context s (link_of link left) ≡ fold_after m context s x (view_variable variable) (bound_of accumulator.value) (view body)
   fold_link link variable accumulator body offset left x is h = with_left _ link left (ap link_of is ∙ link_of-Fold variable accumulator body offset) ∙ fold_is left x (view_variable variable) (bound_of accumulator.value) (view body) offset h
 
   -- a class before `.allInstances` is looked up in place of the operand

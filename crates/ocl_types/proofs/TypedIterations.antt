@@ -76,7 +76,8 @@ module _ (m : Model) where
       chained (λ u. fits m (Scalar e) kind ≡ true) (IsVariable e) (check (fits m (Scalar e) kind) (type_fault_at WrongType (type_offset written))) _ (checked (fits m (Scalar e) kind) _) (λ u h.
       (h, known)))
 
-  variable_sound : IsClassModel m → (e : ScalarKind) (v : VariableTree) → IsScalarKindOf m e → IfOk (element_variable m e v) (λ w. IsVariable e w.kind)
+  -- a variable that stands for elements
+  pub variable_sound : IsClassModel m → (e : ScalarKind) (v : VariableTree) → IsScalarKindOf m e → IfOk (element_variable m e v) (λ w. IsVariable e w.kind)
   variable_sound well e v k = chained (IsVariable e) (λ w. IsVariable e w.kind) (declared_element m e v.1) _ (declared_sound well e v.1 k) (λ kind h. h)
 
   -- what a body sees

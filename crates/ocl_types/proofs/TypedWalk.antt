@@ -1,12 +1,12 @@
 -- What the walk gives is typed, by induction on the surface tree.
-use Rattle.std.proofs.Common.{◌≡◌, ◌<◌, ◌==◌, ℕ, true, List, [], ◌∷◌, ◌++◌, length, Option, Some, None, Result, Ok, Err, IfOk, slice_get, refl, subst}
+use Rattle.std.proofs.Common.{◌≡◌, ◌<◌, ◌==◌, ℕ, true, List, [], ◌∷◌, ◌++◌, length, Option, Some, None, Result, Ok, Err, IfOk, slice_get, refl, ap, subst, ◌∙◌}
 use Rattle.imkl_model.specs.ClassModel.{Model, class_number}
 use Rattle.imkl_model.specs.WellFormed.{IsClassModel}
 use Rattle.ocl_base.specs.Steps.{check, found, Gives}
 use Rattle.ocl_base.proofs.ForAbove.{AllOf}
 use Rattle.ocl_kinds.specs.declared.kind.Kind.{Kind}
 use Rattle.ocl_kinds.specs.declared.kind.Kind.TheVariants.{Scalar, Collection}
-use Rattle.ocl_kinds.specs.Kinds.{IsKindOf, fits}
+use Rattle.ocl_kinds.specs.Kinds.{IsScalarKindOf, IsKindOf, fits}
 use Rattle.ocl_kinds.proofs.ForAbove.{fits_itself}
 use Rattle.ocl_text.specs.declared.tree.Navigation.{Navigation}
 use Rattle.ocl_text.specs.declared.tree.Navigation.TheVariants.{Dot, Arrow}
@@ -22,13 +22,14 @@ use Rattle.ocl_types.specs.Core.{CoreTree, TypedTree, TypedTrees, CheckedRule, t
 use Rattle.ocl_types.specs.CoreView.{checked_rule_of}
 use Rattle.ocl_types.specs.Operators.{class_operator, binary}
 use Rattle.ocl_types.specs.Scope.{VariableScope, Named, Hidden, scope_variable, inside, outermost}
-use Rattle.ocl_types.specs.Elaboration.{Elaborated, Receiver, OfInstances, OfValue, Gathered, Arguments, truth_kind, asks_truth, class_before, receiver_of, seen_after_dot, seen_by_arguments, class_named, class_of_argument, classes_of_arguments, arguments_of, argument_count, call_on, dot_call, call_of, source_of_arrow, declared_kind, bound_value, left_of, inner_scope, as_name, elaborate, elaborates, elaborate_rule}
+use Rattle.ocl_types.specs.Elaboration.{Elaborated, Receiver, OfInstances, OfValue, Gathered, Arguments, element_variable, accumulator_kind, fold_scope, truth_kind, asks_truth, class_before, receiver_of, seen_after_dot, seen_by_arguments, class_named, class_of_argument, classes_of_arguments, arguments_of, argument_count, call_on, dot_call, call_of, source_of_arrow, declared_kind, bound_value, left_of, inner_scope, as_name, elaborate, elaborates, elaborate_rule}
 use Rattle.ocl_types.specs.Typing.{IsTyped, IsTypedRule}
 use Rattle.ocl_types.proofs.TypedSteps.{chained, checked, there, itself}
 use Rattle.ocl_types.proofs.TypedScopes.{kinds_of, kinds_inside, as_many_kinds, get_next, Sound, Scoped, scoped_inside, scoped_outermost, name_sound, literal_sound, keyword_sound}
 use Rattle.ocl_types.proofs.TypedTypes.{class_within, declared_known, Fitting, bound_sound, if_sound}
 use Rattle.ocl_types.proofs.TypedOperations.{prefix_sound, IsLeftOf, left_sound, binary_sound, HasArguments, AreSound, call_sound}
-use Rattle.ocl_types.proofs.TypedIterations.{gathered_sound, collect_sound, property_sound, IsInner, inner_sound, iterate_sound}
+use Rattle.ocl_types.proofs.TypedFolds.{accumulator_known, fold_sound}
+use Rattle.ocl_types.proofs.TypedIterations.{IsVariable, variable_sound, gathered_sound, collect_sound, property_sound, IsInner, inner_sound, iterate_sound}
 
 module _ (m : Model) (well : IsClassModel m) (context : ℕ) (within : context < length m.classes) where
   abbrev Judged : VariableScope → Elaborated → Type 0
@@ -141,7 +142,19 @@ module _ (m : Model) (well : IsClassModel m) (context : ℕ) (within : context <
         iterate_sound m context s inner iterator over variables y (offset_of body) w is q)))
     elaborate_sound s (t.Fold source variable accumulator declared start body offset) h =
         let Goal : TypedTree → Type 0 = Sound m (kinds_of s) in
-        chained Goal Goal (elaborate m context s source) _ (elaborate_sound s source h) (λ x p. tt)
+        chained Goal Goal (elaborate m context s source) _ (elaborate_sound s source h) (λ x p.
+        let over = source_of_arrow x in
+        let w = gathered_sound m (kinds_of s) x p in
+        chained (λ v. IsVariable m over.element v.kind) Goal (element_variable m over.element variable) _ (variable_sound m well over.element variable w.1) (λ v f.
+        chained (IsScalarKindOf m) Goal (accumulator_kind m declared) _ (accumulator_known m well declared) (λ k known.
+        chained Goal Goal (elaborate m context s start) _ (elaborate_sound s start h) (λ y q.
+        chained (Fitting m (kinds_of s) (Scalar k)) Goal (bound_value m (Scalar k) y (type_offset declared)) _ (bound_sound m (kinds_of s) (Scalar k) y (type_offset declared) q known) (λ c fc.
+        let one = inside s v in
+        let both = fold_scope s v accumulator k in
+        let seen : kinds_of both ≡ (kinds_of s ++ v.kind ∷ []) ++ Scalar k ∷ [] = kinds_inside one (scope_variable (Named accumulator) (Scalar k)) ∙ ap (λ (ks : List Kind). ks ++ Scalar k ∷ []) (kinds_inside s v) in
+        chained (Sound m (kinds_of both)) Goal (elaborate m context both body) _ (elaborate_sound both body (scoped_inside m context one (scope_variable (Named accumulator) (Scalar k)) (scoped_inside m context s v h f.1) known)) (λ z r.
+        let P : List Kind → Type 0 = λ ks. Sound m ks z in
+        fold_sound m (kinds_of s) k over c v.kind z (offset_of body) known w fc f (subst P seen r)))))))
     elaborate_sound s (t.Let name declared value body offset) h =
         let Goal : TypedTree → Type 0 = Sound m (kinds_of s) in
         chained (IsKindOf m) Goal (declared_kind m declared) _ (declared_known m well declared) (λ kind known.

@@ -16,7 +16,7 @@ pub data Constant : Type 0 where
   Invalid : Constant
 
 -- Variables are numbered by nesting: the object of the context class is variable 0, and each `let` and each iteration
--- binds the next one in its body.
+-- binds the next one in its body. A fold binds the next two: the element, then the accumulator.
 mutual
   pub data CoreTree : Type 0 where
     Value : (value : Constant) → CoreTree
@@ -26,6 +26,7 @@ mutual
     Operation : (operator : Operator) (first : CoreTree) (others : CoreTrees) → CoreTree
     AsCollection : (collection : CollectionKind) (element : ScalarKind) (source : CoreTree) → CoreTree
     Iterate : (iteration : Iteration) (source body : CoreTree) → CoreTree
+    Fold : (kind : ScalarKind) (source start body : CoreTree) → CoreTree
     Let : (value body : CoreTree) → CoreTree
     If : (kind : Kind) (condition then_branch else_branch : CoreTree) → CoreTree
 

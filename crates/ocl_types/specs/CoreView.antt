@@ -39,6 +39,7 @@ core_link_step (CoreLink-F.Feature feature) = λ source. c.Feature source featur
 core_link_step (CoreLink-F.Operation operator others) = λ first. c.Operation operator first (cores_of others.items)
 core_link_step (CoreLink-F.AsCollection collection element) = λ source. c.AsCollection collection element source
 core_link_step (CoreLink-F.Iterate iteration body) = λ source. c.Iterate iteration source body
+core_link_step (CoreLink-F.Fold kind start body) = λ source. c.Fold kind source start.value body
 
 abbrev pub core_view : Core → CoreTree
 core_view = fold-Core CoreTree CoreOnward core_step core_link_step

@@ -461,6 +461,32 @@ if_of m condition y z offset = do
   kind ← found (branch_kind m y.kind z.kind) (type_fault_at NoCommonType offset)
   Ok (typed (tree.If kind condition (as_wanted kind y) (as_wanted kind z)) kind)
 
+-- ---- folds
+
+-- an accumulator is a truth value, a number, a literal of an enumeration or an object
+abbrev pub accumulated : Kind → Option ScalarKind
+accumulated (Scalar element.Boolean) = Some element.Boolean
+accumulated (Scalar element.Integer) = Some element.Integer
+accumulated (Scalar (element.Enumeration e)) = Some (element.Enumeration e)
+accumulated (Scalar (element.Class c)) = Some (element.Class c)
+accumulated kind = None
+
+-- the kind of an accumulator whose type is written so
+unfoldable pub accumulator_kind : Model → TypeTree → Result ScalarKind TypeFaultAt
+accumulator_kind m declared = do
+  kind ← declared_kind m declared
+  found (accumulated kind) (type_fault_at WrongType (type_offset declared))
+
+-- what the body of a fold sees: the element, then the accumulator, both by their names
+abbrev pub fold_scope : VariableScope → ScopeVariable → List ℕ → ScalarKind → VariableScope
+fold_scope s v accumulator k = inside (inside s v) (scope_variable (Named accumulator) (Scalar k))
+
+-- a fold over this source from this start value, with this body, which stands at the offset
+unfoldable pub fold_of : Model → ScalarKind → Gathered → CoreTree → TypedTree → ℕ → Elaborated
+fold_of m k g start y offset = do
+  _ ← check (fits m y.kind (Scalar k)) (type_fault_at WrongType offset)
+  Ok (typed (tree.Fold k g.core start y.core) (Scalar k))
+
 -- ---- the walk
 
 module _ (m : Model) (context : ℕ) where
@@ -491,10 +517,14 @@ module _ (m : Model) (context : ℕ) where
       inner ← inner_scope m s (source_of_arrow x) variables
       y ← elaborate inner body
       iterate_of m (length s) iterator (source_of_arrow x) variables y (offset_of body)
-    -- no operation has this name yet
     elaborate s (t.Fold source variable accumulator declared start body offset) = do
-      _ ← elaborate s source
-      Err (type_fault_at UnknownOperation offset)
+      x ← elaborate s source
+      v ← element_variable m (source_of_arrow x).element variable
+      k ← accumulator_kind m declared
+      y ← elaborate s start
+      c ← bound_value m (Scalar k) y (type_offset declared)
+      z ← elaborate (fold_scope s v accumulator k) body
+      fold_of m k (source_of_arrow x) c z (offset_of body)
     elaborate s (t.Let name declared value body offset) = do
       kind ← declared_kind m declared
       x ← elaborate s value

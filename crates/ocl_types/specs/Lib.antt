@@ -15,3 +15,4 @@ pub mod EnvironmentView
 pub mod GatheredView
 pub mod CallView
 pub mod Walk
+pub mod FoldView

@@ -166,6 +166,11 @@ module _ (m : Model) where
     IsTyped g (tree.Iterate iteration source body) gives =
         (c : CollectionKind) × (e : ScalarKind) × (wider : Kind) × (y : Kind) × IsTyped g source (Collection c e)
         × (fits m (Scalar e) wider ≡ true) × IsTyped (g ++ wider ∷ []) body y × IsTypedIteration m iteration c e y gives × IsKindOf m wider
+    -- a fold's accumulator is the innermost variable of its body
+    IsTyped g (tree.Fold k source start body) gives =
+        IsScalarKindOf m k × ((c : CollectionKind) × (e : ScalarKind) × (wider : Kind) × (x : Kind) × (y : Kind) × IsTyped g source (Collection c e)
+        × IsTyped g start x × (fits m x (Scalar k) ≡ true) × (fits m (Scalar e) wider ≡ true)
+        × IsTyped ((g ++ wider ∷ []) ++ Scalar k ∷ []) body y × (fits m y (Scalar k) ≡ true) × IsKindOf m wider × (gives ≡ Scalar k))
     -- and that of a `let` than its value
     IsTyped g (tree.Let value body) gives =
         (x : Kind) × (wider : Kind) × IsTyped g value x × (fits m x wider ≡ true) × IsTyped (g ++ wider ∷ []) body gives × IsKindOf m wider

@@ -3,6 +3,9 @@ use Rattle.std.specs.Prelude.{◌≡◌, ℕ, List, [], ◌∷◌, map, length, 
 use Rattle.std.specs.Global.{Global}
 use Rattle.imkl_model.specs.ClassModel.{Model}
 use Rattle.ocl_base.specs.Steps.{◌>>=◌}
+use Rattle.ocl_kinds.specs.declared.kind.ScalarKind.{ScalarKind}
+use Rattle.ocl_kinds.specs.declared.kind.Kind.{Kind}
+use Rattle.ocl_kinds.specs.declared.kind.Kind.TheVariants.{Scalar}
 use Rattle.ocl_text.specs.declared.tree.BinaryOperator.{BinaryOperator}
 use Rattle.ocl_text.specs.declared.tree.IteratorKind.{IteratorKind}
 use Rattle.ocl_text.specs.declared.tree.Navigation.{Navigation}
@@ -11,13 +14,13 @@ use Rattle.ocl_text.specs.declared.tree.Expression.{Expression}
 use Rattle.ocl_text.specs.declared.tree.Expression.TheVariants as e
 use Rattle.ocl_text.specs.declared.tree.Link.{Link}
 use Rattle.ocl_text.specs.Tree as t
-use Rattle.ocl_text.specs.Tree.{Variables, SurfaceTree, Trees, Bound, offset_of, type_offset}
+use Rattle.ocl_text.specs.Tree.{VariableTree, Variables, SurfaceTree, Trees, Bound, offset_of, type_offset}
 use Rattle.ocl_text.specs.View.{link_of, spine_of}
 use Rattle.ocl_types.specs.Core.{CoreTree, TypedTree, typed, lets_of}
 use Rattle.ocl_types.specs.Faults.{TypeFaultAt}
 use Rattle.ocl_types.specs.Operators.{class_operator}
 use Rattle.ocl_types.specs.Scope.{VariableScope, Named, scope_variable, inside}
-use Rattle.ocl_types.specs.Elaboration.{Elaborated, Receiver, class_before, left_of, binary_of, arguments_of, classes_of_arguments, seen_by_arguments, instances_call, call_of, source_of_arrow, inner_scope, iterate_of, declared_kind, bound_value, elaborate, elaborates}
+use Rattle.ocl_types.specs.Elaboration.{Elaborated, Gathered, Receiver, class_before, left_of, binary_of, arguments_of, classes_of_arguments, seen_by_arguments, instances_call, call_of, source_of_arrow, inner_scope, declared_element, element_variable, iterate_of, declared_kind, bound_value, accumulator_kind, fold_scope, fold_of, elaborate, elaborates}
 
 -- an expression that is a `let`, and one that is an `if`
 abbrev pub IsLet : Expression → Type 0
@@ -52,6 +55,23 @@ pub record BoundCores : Type 0 where
 abbrev pub bound_cores : VariableScope → List CoreTree → BoundCores
 bound_cores scope values = record { scope = scope; values = values }
 
+-- an accumulator's kind and its start value
+pub record FoldStart : Type 0 where
+  pub kind : ScalarKind
+  pub core : CoreTree
+
+abbrev pub fold_start : ScalarKind → CoreTree → FoldStart
+fold_start kind core = record { kind = kind; core = core }
+
+-- what a fold has before its body
+pub record FoldBegun : Type 0 where
+  pub source : Gathered
+  pub element : Kind
+  pub start : FoldStart
+
+abbrev pub begun_with : Gathered → Kind → FoldStart → FoldBegun
+begun_with source element start = record { source = source; element = element; start = start }
+
 module _ (m : Model) (context : ℕ) where
   -- an operator after its left operand, which stands at its own offset
   abbrev pub binary_after : VariableScope → BinaryOperator → TypedTree → ℕ → SurfaceTree → ℕ → Elaborated
@@ -78,6 +98,35 @@ module _ (m : Model) (context : ℕ) where
     inner ← inner_scope m s (source_of_arrow x) variables
     y ← elaborate m context inner body
     iterate_of m (length s) iterator (source_of_arrow x) variables y (offset_of body)
+
+  -- the start value of an accumulator
+  abbrev pub start_of : VariableScope → Bound → Result FoldStart TypeFaultAt
+  start_of s b = do
+    k ← accumulator_kind m b.declared
+    y ← elaborate m context s b.value
+    c ← bound_value m (Scalar k) y (type_offset b.declared)
+    Ok (fold_start k c)
+
+  -- a fold after its source
+  abbrev pub fold_after : VariableScope → TypedTree → VariableTree → Bound → SurfaceTree → Elaborated
+  fold_after s x variable b body = do
+    v ← element_variable m (source_of_arrow x).element variable
+    start ← start_of s b
+    z ← elaborate m context (fold_scope s v b.name start.kind) body
+    fold_of m start.kind (source_of_arrow x) start.core z (offset_of body)
+
+  -- the source of a fold, what each of its elements is taken as, and the start value
+  abbrev pub fold_begun : VariableScope → TypedTree → VariableTree → Bound → Result FoldBegun TypeFaultAt
+  fold_begun s x variable b = do
+    kind ← declared_element m (source_of_arrow x).element variable.1
+    start ← start_of s b
+    Ok (begun_with (source_of_arrow x) kind start)
+
+  -- the rest of it, with the names of its two variables
+  abbrev pub fold_rest : VariableScope → List ℕ → List ℕ → FoldBegun → SurfaceTree → Elaborated
+  fold_rest s variable accumulator g body = do
+    z ← elaborate m context (fold_scope s (scope_variable (Named variable) g.element) accumulator g.start.kind) body
+    fold_of m g.start.kind g.source g.start.core z (offset_of body)
 
   -- one binding
   abbrev pub bind_one : VariableScope → Bound → Result BoundCore TypeFaultAt

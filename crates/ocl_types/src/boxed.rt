@@ -8,13 +8,15 @@ ghost use Rattle.ocl_types.specs.CallView.{arguments_view, AreKnownArguments};
 ghost use Rattle.ocl_types.specs.CoreView.{typed_in};
 ghost use Rattle.ocl_types.specs.Elaboration as spec;
 ghost use Rattle.ocl_types.specs.Faults.{type_fault};
+ghost use Rattle.ocl_types.specs.FoldView.{start_in};
 ghost use Rattle.ocl_types.specs.GatheredView.{gathered_view};
 
 use crate::calls::Arguments;
 use crate::core_tree::Typed;
 use crate::fault::TypeFault;
+use crate::folds::Start;
 use crate::wanted::{Gathered, source_of_arrow};
-use crate::{branches, calls, collecting, iterations, operators};
+use crate::{branches, calls, collecting, folds, iterations, operators};
 use imkl_model::ClassModel;
 use ocl_text::{BinaryOperator, IteratorKind, PrefixOperator, Variables};
 use std::alloc::Global;
@@ -147,6 +149,28 @@ pub(crate) fn iterate_of(
     let value = iterations::iterate_of(
         alloc, model, number, iterator, source, variables, body, offset,
     )?;
+    Ok(Box::new(alloc, value)?)
+}
+
+/// A fold, with a body that stands at the offset.
+#[inline(never)]
+pub(crate) fn fold_of(
+    alloc: Global,
+    model: &ClassModel,
+    source: Gathered,
+    start: Box<Start>,
+    body: Box<Typed>,
+    offset: usize,
+) -> Result<Box<Typed>, TypeFault>
+    requires kind { IsScalarKindOf model.now start.value.kind }
+    requires body { IsKindOf model.now body.value.kind }
+    ensures gives { Gives type_fault typed_in result (spec.fold_of model.now (start_in start).kind
+        (gathered_view source) (start_in start).core (typed_in body) offset) }
+    ensures known { IfOk result (λ b. IsKindOf model.now b.value.kind) }
+{
+    let start = Box::into_inner(start);
+    let body = Box::into_inner(body);
+    let value = folds::fold_of(alloc, model, source, start, body, offset)?;
     Ok(Box::new(alloc, value)?)
 }
 

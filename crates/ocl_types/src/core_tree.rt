@@ -73,10 +73,19 @@ pub enum CoreLink {
         /// What is evaluated for each element, which is one more variable.
         body: Core,
     },
+    /// A value accumulated over the collection on the left, element after element.
+    Fold {
+        /// The kind of the accumulator.
+        kind: ScalarKind,
+        /// What it begins with.
+        start: Box<Core>,
+        /// What it becomes at each element. Element and accumulator are two more variables, in this order.
+        body: Core,
+    },
 }
 
 /// A core tree. Variables are numbered by nesting: the object of the context class is variable 0, and each `let` and each
-/// iteration binds the next one in its body.
+/// iteration binds the next one in its body. A fold binds the next two: the element, then the accumulator.
 ///
 /// What is applied to a first operand stands in one list after it, the one applied last at its end: so a tree's depth in
 /// memory is bounded as that of the text's tree is.

@@ -26,7 +26,7 @@ use ocl_text::{DeclaredType, IteratorKind, Variable, Variables};
 use std::alloc::Global;
 
 /// The kind of a variable that stands for elements: theirs, or the type that is written.
-fn declared_element(
+pub(crate) fn declared_element(
     model: &ClassModel,
     element: ScalarKind,
     declared: &Option<DeclaredType>,

@@ -11,6 +11,7 @@ mod core_tree;
 mod declared;
 mod environment;
 mod fault;
+mod folds;
 mod iterations;
 mod lets;
 mod names;

@@ -135,6 +135,21 @@ pub(crate) fn iterate(
     linked(alloc, source, CoreLink::Iterate { iteration, body })
 }
 
+#[tactic(auto, using(crate::proofs::CoreViews::core_views))]
+pub(crate) fn fold(
+    alloc: Global,
+    kind: ScalarKind,
+    source: Core,
+    start: Core,
+    body: Core,
+) -> Result<Core, AllocError>
+    ensures { IfOk result (λ c. spec.core_view c
+        ≡ tree.Fold kind (spec.core_view source) (spec.core_view start) (spec.core_view body)) }
+{
+    let start = Box::new(alloc, start)?;
+    linked(alloc, source, CoreLink::Fold { kind, start, body })
+}
+
 /// A body inside these values.
 #[tactic(auto, using(crate::proofs::CoreViews::core_views))]
 pub(crate) fn lets(alloc: Global, values: Vec<Core>, body: Core) -> Result<Core, AllocError>

@@ -5,16 +5,18 @@
 
 ghost use Rattle.std.specs.Prelude.{◌≡◌, map, drop, All, Some, None, Ok, IfOk, OnOk};
 ghost use Rattle.ocl_base.specs.Steps.{Gives};
-ghost use Rattle.ocl_kinds.specs.Kinds.{IsKindOf};
+ghost use Rattle.ocl_kinds.specs.Kinds.{IsScalarKindOf, IsKindOf};
 ghost use Rattle.ocl_text.specs.Tree as tree;
 ghost use Rattle.ocl_text.specs.Tree.{SurfaceTree, trees_of, offset_of};
-ghost use Rattle.ocl_text.specs.View.{view, bound_of, link_of, view_variables};
+ghost use Rattle.ocl_text.specs.View.{view, bound_of, link_of, view_variable, view_variables};
 ghost use Rattle.ocl_types.specs.CallView.{values_view, arguments_view, AreKnownArguments};
 ghost use Rattle.ocl_types.specs.CoreView.{core_view, typed_in};
 ghost use Rattle.ocl_types.specs.Elaboration as spec;
 ghost use Rattle.ocl_types.specs.EnvironmentView.{IsEnvironment, within};
 ghost use Rattle.ocl_types.specs.Faults.{type_fault};
+ghost use Rattle.ocl_types.specs.FoldView.{start_in, begun_in};
 ghost use Rattle.ocl_types.specs.Operators.{class_operator};
+ghost use Rattle.ocl_types.specs.Scope as names;
 ghost use Rattle.ocl_types.specs.ScopeView.{AreKnownVariables, Extends};
 ghost use Rattle.ocl_types.specs.Walk as walk;
 ghost use Rattle.ocl_types.specs.Walk.{IsLet, IsIf, IsLeft, class_of_call, binary_after, call_after, iterate_after};
@@ -25,16 +27,18 @@ use crate::calls::{Arguments, Values, instances_call};
 use crate::core_tree::{Core, Typed};
 use crate::declared::declared_kind;
 use crate::environment::Environment;
-use crate::fault::{TypeFault, TypeFlaw};
-use crate::iterations::{push_after_dot, push_variables};
+use crate::fault::TypeFault;
+use crate::folds::{Begun, Start, accumulator_kind, push_both};
+use crate::iterations::{declared_element, push_after_dot, push_variables};
 use crate::lets::let_of;
 use crate::names::{keyword_value, literal_value, name_value, number_value, text_value};
 use crate::operators::left_of;
 use crate::scope::Scope;
 use crate::table::class_operator;
 use crate::wanted::{asks_truth, bound_value, source_of_arrow};
+use ocl_kinds::{Kind, ScalarKind};
 use ocl_text::{
-    BinaryOperator, Binding, Expression, IteratorKind, Link, Name, Navigation, Variables,
+    BinaryOperator, Binding, Expression, IteratorKind, Link, Name, Navigation, Variable, Variables,
 };
 use std::alloc::Global;
 
@@ -334,6 +338,142 @@ fn iterate_link<'t>(
     )
 }
 
+/// The start value of an accumulator.
+#[cycle(walk)]
+#[inline(never)]
+fn start_of<'t>(
+    alloc: Global,
+    environment: &Environment<'_>,
+    scope: &mut Scope<'t>,
+    accumulator: &'t Binding,
+) -> Result<Box<Start>, TypeFault>
+    requires { IsEnvironment environment.now scope.old }
+    ensures gives { Gives type_fault start_in result
+        (within environment.now walk.start_of scope.old (bound_of accumulator.now)) }
+    ensures known { IfOk result (λ b. IsScalarKindOf environment.now.model.now b.value.kind) }
+    ensures kept { OnOk result (scope.new ≡ scope.old) }
+{
+    let model = environment.model;
+    let kind = accumulator_kind(model, &accumulator.declared)?;
+    let value = elaborate(alloc, environment, scope, &accumulator.value)?;
+    let value = Box::into_inner(value);
+    let offset = accumulator.declared.offset();
+    let core = bound_value(alloc, model, &Kind::Scalar(kind), value, offset)?;
+    Ok(Box::new(alloc, Start { kind, core })?)
+}
+
+/// What a fold over a value has before its body.
+#[cycle(walk)]
+#[inline(never)]
+fn fold_begun<'t>(
+    alloc: Global,
+    environment: &Environment<'_>,
+    scope: &mut Scope<'t>,
+    variable: &'t Variable,
+    accumulator: &'t Binding,
+    left: Box<Typed>,
+) -> Result<Begun, TypeFault>
+    requires environment { IsEnvironment environment.now scope.old }
+    requires left { IsKindOf environment.now.model.now left.value.kind }
+    ensures gives { Gives type_fault begun_in result (within environment.now walk.fold_begun
+        scope.old (typed_in left) (view_variable variable.now) (bound_of accumulator.now)) }
+    ensures element { IfOk result (λ b. IsKindOf environment.now.model.now b.element) }
+    ensures start { IfOk result (λ b. IsScalarKindOf environment.now.model.now b.start.value.kind) }
+    ensures kept { OnOk result (scope.new ≡ scope.old) }
+{
+    let model = environment.model;
+    let source = source_of_arrow(alloc, Box::into_inner(left))?;
+    let element = declared_element(model, source.element, &variable.declared)?;
+    let start = start_of(alloc, environment, scope, accumulator)?;
+    Ok(Begun {
+        source,
+        element,
+        start,
+    })
+}
+
+/// What the accumulator of a fold becomes at each element, which is of this kind.
+#[cycle(walk)]
+#[inline(never)]
+fn fold_body<'t>(
+    alloc: Global,
+    environment: &Environment<'_>,
+    scope: &mut Scope<'t>,
+    variable: &'t Name,
+    element: Kind,
+    accumulator: &'t Name,
+    kind: ScalarKind,
+    body: &'t Expression,
+) -> Result<Box<Typed>, TypeFault>
+    requires environment { IsEnvironment environment.now scope.old }
+    requires element { IsKindOf environment.now.model.now element }
+    requires kind { IsScalarKindOf environment.now.model.now kind }
+    ensures gives { Gives type_fault typed_in result (within environment.now spec.elaborate
+        (spec.fold_scope scope.old (names.scope_variable (names.Named variable.now) element)
+        accumulator.now kind) (view body.now)) }
+    ensures known { IfOk result (λ b. IsKindOf environment.now.model.now b.value.kind) }
+    ensures kept { OnOk result (scope.new ≡ scope.old) }
+{
+    let outside = scope.len();
+    push_both(
+        environment.model,
+        scope,
+        variable,
+        element,
+        accumulator,
+        kind,
+    )?;
+    let value = elaborate(alloc, environment, scope, body)?;
+    scope.cut(outside);
+    Ok(value)
+}
+
+/// A fold of which the body is left.
+#[cycle(walk)]
+#[inline(never)]
+fn fold_link<'t>(
+    alloc: Global,
+    environment: &Environment<'_>,
+    scope: &mut Scope<'t>,
+    variable: &'t Name,
+    accumulator: &'t Name,
+    begun: Begun,
+    body: &'t Expression,
+) -> Result<Box<Typed>, TypeFault>
+    requires environment { IsEnvironment environment.now scope.old }
+    requires element { IsKindOf environment.now.model.now begun.element }
+    requires start { IsScalarKindOf environment.now.model.now begun.start.value.kind }
+    ensures gives { Gives type_fault typed_in result (within environment.now walk.fold_rest
+        scope.old variable.now accumulator.now (begun_in begun) (view body.now)) }
+    ensures known { IfOk result (λ b. IsKindOf environment.now.model.now b.value.kind) }
+    ensures kept { OnOk result (scope.new ≡ scope.old) }
+{
+    let Begun {
+        source,
+        element,
+        start,
+    } = begun;
+    let kind = start.kind;
+    let value = fold_body(
+        alloc,
+        environment,
+        scope,
+        variable,
+        element,
+        accumulator,
+        kind,
+        body,
+    )?;
+    boxed::fold_of(
+        alloc,
+        environment.model,
+        source,
+        start,
+        value,
+        body.offset(),
+    )
+}
+
 /// A link after what stands on its left, which isn't a class before `.allInstances`.
 #[cycle(walk)]
 fn link_after<'t>(
@@ -406,10 +546,24 @@ fn link_after<'t>(
             left,
             *offset,
         ),
-        Link::Fold { offset, .. } => Err(TypeFault::At {
-            flaw: TypeFlaw::UnknownOperation,
-            offset: *offset,
-        }),
+        Link::Fold {
+            variable,
+            accumulator,
+            body,
+            ..
+        } => {
+            let begun = fold_begun(alloc, environment, scope, variable, accumulator, left)?;
+            let accumulator = &accumulator.name;
+            fold_link(
+                alloc,
+                environment,
+                scope,
+                &variable.name,
+                accumulator,
+                begun,
+                body,
+            )
+        }
     }
 }
 

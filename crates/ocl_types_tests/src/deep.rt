@@ -43,6 +43,20 @@ fn nested(alloc: Global) -> Result<String, AllocError> {
     Ok(text)
 }
 
+/// So many folds, one inside the other, each written in two parts round the next.
+fn folded(alloc: Global, before: &str, inner: &str, after: &str) -> Result<String, AllocError> {
+    let mut text = String::from_str(alloc, "context Tray inv: ")?;
+    for _ in 0..64 {
+        text.push_str(before)?;
+    }
+    text.push_str(inner)?;
+    for _ in 0..64 {
+        text.push_str(after)?;
+    }
+    text.push_str(" = 0")?;
+    Ok(text)
+}
+
 /// A `let` of this many bindings, each with the value of the first.
 fn wide(alloc: Global, bindings: usize) -> Result<String, AllocError> {
     let mut text = String::from_str(alloc, "context Tray inv: let b:Integer=1")?;
@@ -75,6 +89,29 @@ fn is_innermost(alloc: Global) -> Result<bool, Fail> {
     Ok(tree.as_str().contains("{$63.above.ForAll{$64.flag}}"))
 }
 
+/// Whether the body of the innermost fold sees the innermost accumulator.
+fn is_innermost_fold(alloc: Global) -> Result<bool, Fail> {
+    let text = folded(alloc, "marks->iterate(m; s : Integer = 0 | ", "s", ")")?;
+    let tree = shown(alloc, text.as_str())?;
+    Ok(tree.as_str().contains("{$0.marks.Fold[Integer](0){$128}}"))
+}
+
+/// Whether the start value of the innermost fold sees none of the accumulators outside it.
+fn is_first_start(alloc: Global) -> Result<bool, Fail> {
+    let text = folded(
+        alloc,
+        "marks->iterate(m; s : Integer = ",
+        "count",
+        " | s + m)",
+    )?;
+    let tree = shown(alloc, text.as_str())?;
+    Ok(
+        tree.as_str()
+            .contains("($0.marks.Fold[Integer]($0.count){$2.Add($1)})")
+            && tree.as_str().ends_with("){$2.Add($1)}.Equal[Integer](0)"),
+    )
+}
+
 /// Whether the body of a wide `let` sees its first and its last variable.
 fn is_wide(alloc: Global) -> Result<bool, Fail> {
     let text = wide(alloc, 10_000)?;
@@ -95,5 +132,7 @@ fn a_let_of_many_bindings_is_checked_shown_and_dropped(rt: HostRuntime) -> Resul
 fn the_deepest_text_is_checked_shown_and_dropped(rt: HostRuntime) -> Result<(), Fail> {
     assert!(rt; is_whole(rt.alloc())?);
     assert!(rt; is_innermost(rt.alloc())?);
+    assert!(rt; is_innermost_fold(rt.alloc())?);
+    assert!(rt; is_first_start(rt.alloc())?);
     Ok(())
 }

@@ -8,6 +8,8 @@ mod collections;
 #[cfg(test)]
 mod deep;
 #[cfg(test)]
+mod folds;
+#[cfg(test)]
 mod model;
 #[cfg(test)]
 mod names;

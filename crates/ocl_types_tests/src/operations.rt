@@ -107,8 +107,6 @@ Mantelbuis | self.omvat->size(1) = 0 => WrongArgumentCount at 36
 Mantelbuis | self.omvat->first() = null => UnknownOperation at 36
 Mantelbuis | 'a' div 1 = 0 => WrongType at 28
 Mantelbuis | 'a'.div(1) = 0 => UnknownOperation at 28
-Tray | marks->iterate(m; s : Integer = 0 | s) = 0 => UnknownOperation at 25
-Tray | nope->iterate(m; s : Nope = 0 | s) = 0 => UnknownName at 18
 ";
 
 #[test]

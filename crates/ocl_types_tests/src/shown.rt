@@ -65,6 +65,13 @@ fn one_link(out: &mut String, model: &ClassModel, link: &CoreLink) -> Result<(),
             core(out, model, body)?;
             out.push('}')
         }
+        CoreLink::Fold { kind, start, body } => {
+            write!(out, ".Fold[{}](", scalar_name(model, *kind))?;
+            core(out, model, start)?;
+            out.push_str("){")?;
+            core(out, model, body)?;
+            out.push('}')
+        }
     }
 }
 

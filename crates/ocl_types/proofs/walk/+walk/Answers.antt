@@ -1,11 +1,11 @@
-use Rattle.std.proofs.Common.{◌+◌, map, drop, Ok, sym, ap, ◌∙◌, rules}
+use Rattle.std.proofs.Common.{ℕ, List, ◌+◌, map, drop, Ok, sym, ap, ◌∙◌, rules}
 use Rattle.std.proofs.Math.ListN.{drop_of_length-le}
 use Rattle.std.proofs.lemmas.Result.{err_from_is_err_and}
 use Rattle.ocl_base.proofs.ForAbove.{fails_whole, fails_along}
 use Rattle.ocl_text.specs.declared.tree.Expression.{the_lemmas}
 use Rattle.ocl_text.specs.Tree as surface
 use Rattle.ocl_text.specs.Tree.{SurfaceTree}
-use Rattle.ocl_text.specs.View.{view, bound_of, link_of, spine_of}
+use Rattle.ocl_text.specs.View.{view, bound_of, view_variable, link_of, spine_of}
 use Rattle.ocl_text.proofs.ForAbove.{view-Spine, view-Let}
 use Rattle.ocl_types.specs.CallView.{arguments_view}
 use Rattle.ocl_types.specs.Elaboration.{elaborate}
@@ -13,7 +13,9 @@ use Rattle.ocl_types.specs.Faults.{type_fault}
 use Rattle.ocl_types.proofs.Bindings.{let_steps}
 use Rattle.ocl_types.specs.Core.{TypedTree}
 use Rattle.ocl_types.specs.CoreView.{typed_in}
-use Rattle.ocl_types.proofs.Links.{binary_link, property_link, call_link, iterate_link, fold_link, instances_link, first_plain, more_links, first_fails, after_instances, instances_fail, next_left, last_left, left_fails, went_on, carried}
+use Rattle.ocl_types.specs.FoldView.{begun_in}
+use Rattle.ocl_types.specs.Walk.{fold_rest}
+use Rattle.ocl_types.proofs.Links.{binary_link, property_link, call_link, iterate_link, fold_link, name_bound, fold_goes_on, instances_link, first_plain, more_links, first_fails, after_instances, instances_fail, next_left, last_left, left_fails, went_on, carried}
 use Rattle.ocl_types.proofs.walk.+walk.Goals as goal
 
 pub link_after-returns-in-Binary-clause-gives : goal.link_after-returns-in-Binary-clause-gives
@@ -36,9 +38,29 @@ link_after-returns-in-Iterate-clause-gives t c = λ tree value stands plain.
     carried _ _ _ (iterate_link c.args.environment.now.model.now c.args.environment.now.context c.args.scope.now c.args.link.now c.in-Iterate.iterator c.in-Iterate.variables c.in-Iterate.body c.in-Iterate.offset tree (typed_in c.args.left) c.in-Iterate.is value)
     c.iterate_link.ensures.gives
 
-pub link_after-returns-in-Fold-clause-gives : goal.link_after-returns-in-Fold-clause-gives
-link_after-returns-in-Fold-clause-gives t c = λ tree value stands plain.
-    fold_link c.args.environment.now.model.now c.args.environment.now.context c.args.scope.now c.args.link.now c.in-Fold.variable c.in-Fold.accumulator c.in-Fold.body c.in-Fold.offset tree (typed_in c.args.left) c.in-Fold.is value
+pub link_after-returns-in_err-begun-in-Fold-clause-gives : goal.link_after-returns-in_err-begun-in-Fold-clause-gives
+link_after-returns-in_err-begun-in-Fold-clause-gives t c = λ tree value stands plain.
+    let m = c.args.environment.now.model.now in
+    let k = c.args.environment.now.context in
+    let x = typed_in c.args.left in
+    let whole = fold_link m k c.args.scope.now c.args.link.now c.in-Fold.variable c.in-Fold.accumulator c.in-Fold.body c.in-Fold.offset tree x c.in-Fold.is value
+    ∙ fold_goes_on m k c.args.scope.now x (view_variable c.in-Fold.variable) (bound_of c.in-Fold.accumulator.value) (view c.in-Fold.body) in
+    let p = err_from_is_err_and c.from_residual.result c.from_residual.ensures.1 in
+    rw (p.1, p.2) (fails_whole type_fault c.in_err-begun-in-Fold.field-0.0 _ _ _ (sym whole) (rw c.deref-in-Fold.ensures at c.in_err-begun-in-Fold.ensures.gives))
+
+pub link_after-returns-in_ok-begun-in-Fold-clause-gives : goal.link_after-returns-in_ok-begun-in-Fold-clause-gives
+link_after-returns-in_ok-begun-in-Fold-clause-gives t c = λ tree value stands plain.
+    let m = c.args.environment.now.model.now in
+    let k = c.args.environment.now.context in
+    let x = typed_in c.args.left in
+    let whole = fold_link m k c.args.scope.now c.args.link.now c.in-Fold.variable c.in-Fold.accumulator c.in-Fold.body c.in-Fold.offset tree x c.in-Fold.is value
+    ∙ fold_goes_on m k c.args.scope.now x (view_variable c.in-Fold.variable) (bound_of c.in-Fold.accumulator.value) (view c.in-Fold.body)
+    ∙ went_on _ _ _ (rw c.deref-in-Fold.ensures at c.in_ok-begun-in-Fold.ensures.gives)
+    ∙ ap (λ (name : List ℕ). fold_rest m k c.args.scope.now c.in-Fold.variable.name name (begun_in c.in_ok-begun-in-Fold.begun) (view c.in-Fold.body)) (name_bound c.in-Fold.accumulator.value) in
+    carried _ _ _ whole (rw (c.in_ok-begun-in-Fold.ensures.kept, c.deref-in-Fold-2.ensures) at c.fold_link.ensures.gives)
+
+pub fold_body-elaborate-requires : goal.fold_body-elaborate-requires
+fold_body-elaborate-requires t c = (search (rules, the_lemmas), (c.requires.environment.0, c.in_ok-push_both.ensures.known))
 
 pub link_after-call_link-requires : goal.link_after-call_link-requires
 link_after-call_link-requires t c = (search (rules, the_lemmas), (c.requires.environment, c.requires.left))
