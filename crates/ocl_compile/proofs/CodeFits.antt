@@ -32,8 +32,9 @@ use Rattle.rule_verify.specs.CodeTree.{CodeTree, instr_count}
 use Rattle.rule_verify.specs.declared.named.Named.{Named}
 use Rattle.rule_verify.specs.declared.named.Named.TheVariants as named
 use Rattle.ocl_compile.specs.Numbering.{Numbering, same_named, Use, UsedSymbol, owned_feature, constant_uses, scalar_uses, kind_uses, operator_uses, iteration_uses, tree_uses, trees_uses, text_number, symbol_number}
-use Rattle.ocl_compile.specs.Translation.{written_scalar, written_kind, constant_instr, variable_instr, plain_instr, operator_instr, iteration_instr, translate, translate_all, translate_symbol, instrs_of}
+use Rattle.ocl_compile.specs.Translation.{written_scalar, written_kind, constant_instr, variable_instr, plain_instr, operator_instr, iteration_instr, fold_block, translate, translate_all, translate_symbol, instrs_of}
 use Rattle.ocl_compile.specs.Written.{IsWrittenConstant, IsWritten, AreWritten}
+use Rattle.ocl_compile.proofs.Measured.{count_is, is_extent}
 use Rattle.ocl_compile.proofs.Resolving.{HasText, Has, numbered, same_is}
 
 -- ---- lists of uses
@@ -209,6 +210,20 @@ module _ (m : Model) (n : Numbering) where
         (λ s. block_fits g t.2 (iteration_instr n it (instr_count b)) b rest s
         (λ z. tree_fits body _ t.3 t.6 (rest_all (Has m n) (iteration_uses it) _ after) w.1 code.End z (λ _. tt))
         (iteration_fits it (instr_count b) (first_all (Has m n) (iteration_uses it) _ after)) later)
+    tree_fits (tree.Fold x source start body) g k t h w rest small later =
+        let one = g ++ t.1.2 ∷ [] in
+        let b = translate m n body code.End in
+        let block = fold_block n x b rest in
+        let after = rest_all (Has m n) (tree_uses m source) _ h in
+        let last = rest_all (Has m n) (tree_uses m start) _ after in
+        let counted = count_is m n source (translate m n start block) in
+        let in_body : length (one ++ Scalar x ∷ []) + instr_count b ≤ 65536 = omega (arith, small, counted, count_is m n start block, (is_extent source).instruction, length-append g (t.1.2 ∷ []), length-append one (Scalar x ∷ [])) in
+        tree_fits source g _ t.1.5 (first_all (Has m n) (tree_uses m source) _ h) w.0 _ small
+        (λ s. tree_fits start g _ t.1.6 (first_all (Has m n) (tree_uses m start) _ after) w.1.0 _ s
+        (λ z. (
+          (scalar_within x (first_all (Has m n) (scalar_uses x) _ last), (omega (arith, z), tt)),
+          both_all Fits (instrs_of b) (instrs_of rest) (tree_fits body _ t.1.4 t.1.9 (rest_all (Has m n) (scalar_uses x) _ last) w.1.1 code.End in_body (λ _. tt)) (later (omega (arith, z))),
+        )))
     tree_fits (tree.Let v body) g k t h w rest small later =
         let b = translate m n body code.End in
         tree_fits v g t.0 t.2 (first_all (Has m n) (tree_uses m v) _ h) w.0 _ small

@@ -17,11 +17,11 @@ use Rattle.rule_values.specs.Operations.{or_invalid, all_instances}
 use Rattle.rule_machine.specs.Machine.{Setting, judged_by, literal_named, on_class_named, value_named_read, Piece, Sequence, Configuration, configuration, step, run}
 use Rattle.rule_machine.specs.Verdict.{outcome}
 use Rattle.ocl_compile.specs.Meaning.{constant_value, operation_value, meaning, meanings}
-use Rattle.ocl_compile.specs.Numbering.{Numbering, Use, tree_uses, trees_uses, constant_uses, kind_uses, iteration_uses, owned_feature}
-use Rattle.ocl_compile.specs.Translation.{constant_instr, variable_instr, operator_instr, iteration_block, let_block, if_block, written_scalar, written_kind, symbol_of_unit, translate, translate_all}
+use Rattle.ocl_compile.specs.Numbering.{Numbering, Use, tree_uses, trees_uses, constant_uses, scalar_uses, kind_uses, iteration_uses, owned_feature}
+use Rattle.ocl_compile.specs.Translation.{constant_instr, variable_instr, operator_instr, iteration_block, fold_block, let_block, if_block, written_scalar, written_kind, symbol_of_unit, translate, translate_all}
 use Rattle.ocl_compile.proofs.Resolved.{AreResolved, of_first, of_rest}
 use Rattle.ocl_compile.proofs.Operating.{stacked, operands_counted, meanings_counted, operates}
-use Rattle.ocl_compile.proofs.Reaching.{Reached, plain_reached, let_reached, if_reached, iteration_reached}
+use Rattle.ocl_compile.proofs.Reaching.{Reached, plain_reached, let_reached, if_reached, iteration_reached, fold_reached}
 
 module _ (s : Setting) (first : Configuration) (goes_on : (k : ℕ) (c : Configuration) → run s k first ≡ Some c → outcome c ≡ None → (d : Configuration) × (step s c ≡ Some d)) (n : Numbering) where
   abbrev At : CodeTree → List Piece → List Value → List Value → Type 0
@@ -86,6 +86,17 @@ module _ (s : Setting) (first : Configuration) (goes_on : (k : ℕ) (c : Configu
         let below = tree_reached source g _ t.4 (of_first m s.unit n (tree_uses m source) _ h) (iteration_block n it b rest) ps vars os r in
         iteration_reached s first goes_on n it (instr_count b) b rest ps vars os (meaning s.population source vars) (λ e. meaning s.population body (element_value e ∷ vars)) below
         (λ e q begun. tree_reached body _ t.3 t.6 in_body code.End q (element_value e ∷ vars) os begun)
+    tree_reached (tree.Fold x source start body) g k t h rest ps vars os r =
+        let m = s.population.model in
+        let p = s.population in
+        let b = translate m n body code.End in
+        let block = fold_block n x b rest in
+        let from_start = of_rest m s.unit n (tree_uses m source) _ h in
+        let in_body = of_rest m s.unit n (scalar_uses x) _ (of_rest m s.unit n (tree_uses m start) _ from_start) in
+        let below = tree_reached source g _ t.1.5 (of_first m s.unit n (tree_uses m source) _ h) (translate m n start block) ps vars os r in
+        let begun = tree_reached start g _ t.1.6 (of_first m s.unit n (tree_uses m start) _ from_start) block ps vars (meaning p source vars ∷ os) below in
+        fold_reached s first goes_on (written_scalar n x) (instr_count b) b rest ps vars os (meaning p source vars) (meaning p start vars) (λ e a. meaning p body (a ∷ element_value e ∷ vars)) begun
+        (λ e a q at. tree_reached body _ t.1.4 t.1.9 in_body code.End q (a ∷ element_value e ∷ vars) os at)
     tree_reached (tree.Let v body) g k t h rest ps vars os r =
         let m = s.population.model in
         let b = translate m n body code.End in

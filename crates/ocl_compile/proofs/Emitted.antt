@@ -5,22 +5,23 @@ use Rattle.std.proofs.lemmas.List.{drop_more}
 use Rattle.std.specs.List.{AllByRecursion}
 use Rattle.std.proofs.Math.ListN.{drop_of_length-le}
 use Rattle.imkl_model.specs.ClassModel.{Model}
+use Rattle.ocl_kinds.specs.declared.kind.ScalarKind.{ScalarKind}
 use Rattle.ocl_kinds.specs.declared.kind.Kind.{Kind}
 use Rattle.ocl_types.specs.declared.core_tree.Core.{Core, the_lemmas}
 use Rattle.ocl_types.specs.declared.core_tree.Core.TheVariants as v
-use Rattle.ocl_types.specs.declared.core_tree.CoreLink.{CoreLink, Feature, Operation', AsCollection, Iterate}
+use Rattle.ocl_types.specs.declared.core_tree.CoreLink.{CoreLink, Feature, Operation', AsCollection, Iterate, Fold'}
 use Rattle.ocl_types.specs.declared.core_tree.CoreLink.TheVariants as l
 use Rattle.ocl_types.specs.declared.core_tree.Iteration.{Iteration}
 use Rattle.ocl_types.specs.Core as tree
 use Rattle.ocl_types.specs.Core.{CoreTree, CoreTrees, cores_of, lets_of}
 use Rattle.ocl_types.specs.CoreView.{core_view, core_link_of, core_spine}
-use Rattle.ocl_types.proofs.ForAbove.{core_view-Spine, core_view-Let, core_view-If, core_link_of-Iterate}
+use Rattle.ocl_types.proofs.ForAbove.{core_view-Spine, core_view-Let, core_view-If, core_link_of-Iterate, core_link_of-Fold}
 use Rattle.rule_code.specs.declared.instruction.Instr.{Instr}
 use Rattle.rule_code.specs.declared.instruction.Instr.TheVariants as instrs
 use Rattle.rule_verify.specs.CodeTree as code
 use Rattle.rule_verify.specs.CodeTree.{CodeTree, instr_count}
 use Rattle.ocl_compile.specs.Numbering.{Numbering}
-use Rattle.ocl_compile.specs.Translation.{written_kind, operator_instr, iteration_instr, let_block, if_block, translate, translate_all, instrs_of}
+use Rattle.ocl_compile.specs.Translation.{written_scalar, written_kind, operator_instr, iteration_instr, fold_block, let_block, if_block, translate, translate_all, instrs_of}
 use Rattle.ocl_compile.specs.Compiling.{most_counted}
 use Rattle.ocl_compile.specs.Written.{IsWritten, AreWritten}
 use Rattle.ocl_compile.specs.EmitWalk.{KnownIn, KnownIn_all, VariablesBelow, VariablesBelow_all, code_of, codes_of, IsEmittable, AreEmittable, top_code, IsTopEmittable, link_node, links_code, lets_code, AreEmittableLinks}
@@ -63,6 +64,10 @@ module _ (m : Model) (n : Numbering) where
     code_then (tree.AsCollection c k source) rest = source_then source _ _ rest (code_then source _) (code_then source _) refl
     code_then (tree.Iterate i source body) rest =
         source_then source _ _ rest (code_then source _) (code_then source _) (block_then (translate m n body code.End) rest _)
+    code_then (tree.Fold k source start body) rest =
+        let b = translate m n body code.End in
+        source_then source _ _ rest (code_then source _) (code_then source _)
+        (source_then start _ _ rest (code_then start (fold_block n k b code.End)) (code_then start (fold_block n k b rest)) (block_then b rest _))
     code_then (tree.Let v body) rest =
         source_then v _ _ rest (code_then v _) (code_then v _) (block_then (translate m n body code.End) rest _)
     code_then (tree.If k condition first second) rest =
@@ -161,6 +166,7 @@ module _ (m : Model) (n : Numbering) where
   on_top (tree.Operation operator first others) left = tree.Operation operator left others
   on_top (tree.AsCollection c k source) left = tree.AsCollection c k left
   on_top (tree.Iterate i source body) left = tree.Iterate i left body
+  on_top (tree.Fold k source start body) left = tree.Fold k left start body
   on_top t left = t
 
   -- a node that has one
@@ -169,6 +175,7 @@ module _ (m : Model) (n : Numbering) where
   HasFirst (tree.Operation operator first others) = Unit {0}
   HasFirst (tree.AsCollection c k source) = Unit {0}
   HasFirst (tree.Iterate i source body) = Unit {0}
+  HasFirst (tree.Fold k source start body) = Unit {0}
   HasFirst t = ⊥
 
   link_has_first : (link : CoreLink) → HasFirst (link_node link)
@@ -176,12 +183,14 @@ module _ (m : Model) (n : Numbering) where
   link_has_first (Operation' operator others row) = search (rules, the_lemmas)
   link_has_first (AsCollection collection element) = search (rules, the_lemmas)
   link_has_first (Iterate iteration body) = search (rules, the_lemmas)
+  link_has_first (Fold' kind start row body) = search (rules, the_lemmas)
 
   link_on_top : (link : CoreLink) (left : CoreTree) → core_link_of link left ≡ on_top (link_node link) left
   link_on_top (Feature feature) left = search (rules, the_lemmas)
   link_on_top (Operation' operator others row) left = search (rules, the_lemmas)
   link_on_top (AsCollection collection element) left = search (rules, the_lemmas)
   link_on_top (Iterate iteration body) left = search (rules, the_lemmas)
+  link_on_top (Fold' kind start row body) left = search (rules, the_lemmas)
 
   top_then : (t : CoreTree) → HasFirst t → (left : CoreTree) → code_of m n (on_top t left) ≡ code_of m n left ++ top_code m n t
   top_then (tree.Feature source f) h left = code_then left _
@@ -190,6 +199,11 @@ module _ (m : Model) (n : Numbering) where
   top_then (tree.AsCollection c k source) h left = code_then left _
   top_then (tree.Iterate i source body) h left =
       code_then left _ ∙ ap (λ (l : List Instr). code_of m n left ++ iteration_instr n i (instr_count (translate m n body code.End)) ∷ l) (append-nil (code_of m n body))
+  top_then (tree.Fold k source start body) h left =
+      let b = translate m n body code.End in
+      code_then left _
+      ∙ ap (λ (l : List Instr). code_of m n left ++ l) (code_then start (fold_block n k b code.End)
+      ∙ ap (λ (l : List Instr). code_of m n start ++ instrs.Fold (written_scalar n k) (instr_count b) ∷ l) (append-nil (code_of m n body)))
   top_then t h left = absurd h
 
   top_emittable : (t : CoreTree) → HasFirst t → (left : CoreTree) → IsEmittable m n (on_top t left) → IsEmittable m n left × IsTopEmittable m n t
@@ -209,6 +223,12 @@ module _ (m : Model) (n : Numbering) where
       let l = ap length (top_then (tree.Iterate i source body) h left) ∙ length-append (code_of m n left) (top_code m n (tree.Iterate i source body)) in (
         record { known = e.known.0; variables = e.variables.0; room = omega (arith, l, e.room) },
         record { known = e.known.1; variables = e.variables.1; room = omega (arith, l, e.room) },
+      )
+  top_emittable (tree.Fold k source start body) h left e =
+      let l = ap length (top_then (tree.Fold k source start body) h left) ∙ length-append (code_of m n left) (top_code m n (tree.Fold k source start body)) in
+      let j = length-append (code_of m n start) (instrs.Fold (written_scalar n k) (instr_count (translate m n body code.End)) ∷ code_of m n body) in (
+        record { known = e.known.0; variables = e.variables.0; room = omega (arith, l, j, e.room) },
+        (record { known = e.known.1.0; variables = e.variables.1.0; room = omega (arith, l, j, e.room) }, record { known = e.known.1.1; variables = e.variables.1.1; room = omega (arith, l, j, e.room) }),
       )
   top_emittable t h left e = absurd h
 
@@ -269,6 +289,17 @@ module _ (m : Model) (n : Numbering) where
       ap (λ (f : CoreTree → CoreTree). top_code m n (f (tree.Value tree.Null))) (ap core_link_of is ∙ core_link_of-Iterate i body)
       ∙ ap (λ (k : ℕ). iteration_instr n i k ∷ code_of m n (core_view body)) (sym (code_count (core_view body)))
 
+  -- and that of one that folds: its start value, its instruction, and its body
+  pub fold_is : (link : CoreLink) (k : ScalarKind) (start : Box Core Global) (body : Core) → link ≡ l.Fold k start body → top_code m n (link_node link) ≡ code_of m n (core_view start.value) ++ instrs.Fold (written_scalar n k) (length (code_of m n (core_view body))) ∷ code_of m n (core_view body)
+  fold_is link k start body is =
+      ap (λ (f : CoreTree → CoreTree). top_code m n (f (tree.Value tree.Null))) (ap core_link_of is ∙ core_link_of-Fold k start body)
+      ∙ ap (λ (j : ℕ). code_of m n (core_view start.value) ++ instrs.Fold (written_scalar n k) j ∷ code_of m n (core_view body)) (sym (code_count (core_view body)))
+
+  -- which can be written where the link can
+  pub fold_parts : (link : CoreLink) (k : ScalarKind) (start : Box Core Global) (body : Core) → link ≡ l.Fold k start body → IsTopEmittable m n (link_node link) → IsEmittable m n (core_view start.value) × IsEmittable m n (core_view body)
+  fold_parts link k start body is h =
+      subst (λ (f : CoreTree → CoreTree). IsTopEmittable m n (f (tree.Value tree.Null))) (ap core_link_of is ∙ core_link_of-Fold k start body) h
+
   -- ---- loops
 
   -- of values that can be written, the one before an index can, and so can a body inside those from the index on
@@ -302,6 +333,7 @@ link_written (Feature feature) left h w = search (rules, the_lemmas)
 link_written (Operation' operator others row) left h w = search (rules, the_lemmas)
 link_written (AsCollection collection element) left h w = search (rules, the_lemmas)
 link_written (Iterate iteration body) left h w = search (rules, the_lemmas)
+link_written (Fold' kind start row body) left h w = search (rules, the_lemmas)
 
 links_written : (links : List CoreLink) (first : CoreTree) → IsWritten first → AllByRecursion (λ l. IsWritten (link_node l)) links → IsWritten (core_spine first (map core_link_of links))
 links_written [] first h w = h

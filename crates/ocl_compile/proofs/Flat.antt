@@ -162,6 +162,7 @@ module _ (m : Model) (n : Numbering) where
     translated_cut (tree.AsCollection c k source) rest h = translated_cut source _ (refl, h)
     translated_cut (tree.Iterate it source body) rest h =
         translated_cut source _ (iteration_one_body n it (instr_count (translate m n body code.End)), translated_cut body code.End tt, h)
+    translated_cut (tree.Fold k source start body) rest h = translated_cut source _ (translated_cut start _ (refl, translated_cut body code.End tt, h))
     translated_cut (tree.Let v body) rest h = translated_cut v _ (refl, translated_cut body code.End tt, h)
     translated_cut (tree.If k condition first second) rest h =
         translated_cut condition _ (refl, translated_cut first code.End tt, translated_cut second code.End tt, h)

@@ -10,7 +10,7 @@ pub mod Resolving
 pub mod CompiledUnits
 pub mod CompiledRuns
 pub mod CodeFits
-pub mod FirstVersion
+pub mod Versions
 pub mod UnitFits
 pub mod Measured
 pub mod Emitted

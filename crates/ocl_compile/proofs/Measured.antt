@@ -3,6 +3,7 @@ use Rattle.std.proofs.Common.{◌≡◌, ℕ, zero, suc, ◌+◌, ◌-◌, ◌<�
 use Rattle.std.specs.Prelude.{min, nat_le, nat_lt}
 use Rattle.std.proofs.lemmas.Bool.{lt-ltb, le-ltb, ltb-true, ltb-false}
 use Rattle.imkl_model.specs.ClassModel.{Model}
+use Rattle.ocl_kinds.specs.declared.kind.ScalarKind.{ScalarKind}
 use Rattle.ocl_kinds.specs.declared.kind.Kind.{Kind}
 use Rattle.ocl_types.specs.declared.operator.PlainOperator.{PlainOperator}
 use Rattle.ocl_types.specs.declared.operator.PlainOperator.TheVariants as plain
@@ -26,7 +27,7 @@ use Rattle.rule_verify.specs.KindRules.{operand_limit, block_limit}
 use Rattle.rule_verify.specs.InstrKinds.{Surroundings, surroundings, operands_of}
 use Rattle.rule_verify.specs.declared.named.Named.TheVariants as named
 use Rattle.ocl_compile.specs.Numbering.{Numbering, owned_feature, rule_uses, numbering_of}
-use Rattle.ocl_compile.specs.Translation.{symbol_of_unit, written_scalar, written_kind, constant_instr, variable_instr, plain_instr, operator_instr, iteration_instr, translate_rules, iteration_block, let_block, if_block, translate, translate_all}
+use Rattle.ocl_compile.specs.Translation.{symbol_of_unit, written_scalar, written_kind, constant_instr, variable_instr, plain_instr, operator_instr, iteration_instr, translate_rules, iteration_block, fold_block, let_block, if_block, translate, translate_all}
 use Rattle.ocl_compile.specs.Compiling.{most_counted, has_long_text, numbering_so_far, compiled_tree, compiled_depths, is_too_large, limit_passed}
 use Rattle.ocl_compile.specs.declared.fault.Limit.{Limit}
 use Rattle.ocl_compile.specs.declared.fault.Limit.TheVariants as limits
@@ -53,6 +54,9 @@ module _ (m : Model) (n : Numbering) where
         omega (arith, count_is source (code.Plain (instrs.AsColl c (written_scalar n k)) rest))
     count_is (tree.Iterate it source body) rest =
         omega (arith, count_is source (iteration_block n it (translate m n body code.End) rest), count_is body code.End)
+    count_is (tree.Fold k source start body) rest =
+        let block = fold_block n k (translate m n body code.End) rest in
+        omega (arith, count_is source (translate m n start block), count_is start block, count_is body code.End)
     count_is (tree.Let v body) rest =
         omega (arith, count_is v (let_block (translate m n body code.End) rest), count_is body code.End)
     count_is (tree.If k condition first second) rest =
@@ -155,6 +159,11 @@ mutual
       let x = is_extent source in
       let y = is_extent body in
       record { operand = omega (arith, x.operand); instruction = omega arith; operands = omega (arith, x.operands, y.operands); blocks = omega (arith, x.blocks, y.blocks) }
+  is_extent (tree.Fold k source start body) =
+      let x = is_extent source in
+      let z = is_extent start in
+      let y = is_extent body in
+      record { operand = omega (arith, x.operand); instruction = omega arith; operands = omega (arith, x.operands, z.operands, y.operands, x.instruction); blocks = omega (arith, x.blocks, z.blocks, y.blocks) }
   is_extent (tree.Let v body) =
       let x = is_extent v in
       let y = is_extent body in
@@ -263,6 +272,11 @@ module _ (s : Surroundings) (n : Numbering) where
       let left : o + 1 - length (operands_of s i) ≡ o = omega (arith, one) in
       ap (λ j. max (o + 1) (max (most_operands s body j) (most_operands s rest (j + 1)))) left
 
+  past_fold_operands : (e : ScalarKind) (len : ℕ) (body rest : CodeTree) (o : ℕ) → most_operands s (code.Block (instrs.Fold (written_scalar n e) len) body rest) (o + 1 + 1) ≡ max (o + 1 + 1) (max (most_operands s body o) (most_operands s rest (o + 1)))
+  past_fold_operands e len body rest o =
+      let left : o + 1 + 1 - length (operands_of s (instrs.Fold (written_scalar n e) len)) ≡ o = omega arith in
+      ap (λ j. max (o + 1 + 1) (max (most_operands s body j) (most_operands s rest (j + 1)))) left
+
   past_branch_operands : (i : Instr) (first second rest : CodeTree) (o : ℕ) → length (operands_of s i) ≡ 1 → most_operands s (code.Branch i first second rest) (o + 1) ≡ max (o + 1) (max (most_operands s first o) (max (most_operands s second o) (most_operands s rest (o + 1))))
   past_branch_operands i first second rest o one =
       let left : o + 1 - length (operands_of s i) ≡ o = omega (arith, one) in
@@ -307,6 +321,15 @@ module _ (s : Surroundings) (n : Numbering) where
         let y = past_block_operands i b rest o (iteration_takes_one it (instr_count b)) in
         let z = tree_operands body _ t.3 t.6 code.End o in
         omega (arith, x, y, z, (is_extent source).operand, (is_extent body).operand, begins_with_operands s rest (o + 1))
+    tree_operands (tree.Fold e source start body) g k t rest o =
+        let b = translate s.model n body code.End in
+        let i = instrs.Fold (written_scalar n e) (instr_count b) in
+        let block = code.Block i b rest in
+        let x = tree_operands source g _ t.1.5 (translate s.model n start block) o in
+        let z = tree_operands start g _ t.1.6 block (o + 1) in
+        let y = past_fold_operands e (instr_count b) b rest o in
+        let w = tree_operands body _ t.1.4 t.1.9 code.End o in
+        omega (arith, x, z, y, w, (is_extent source).operand, (is_extent start).operand, (is_extent body).operand, begins_with_operands s rest (o + 1))
     tree_operands (tree.Let v body) g k t rest o =
         let b = translate s.model n body code.End in
         let i = instrs.Let (instr_count b) in
@@ -352,6 +375,9 @@ module _ (s : Surroundings) (n : Numbering) where
     tree_blocks (tree.AsCollection c e source) rest b = omega (arith, tree_blocks source (code.Plain (instrs.AsColl c (written_scalar n e)) rest) b)
     tree_blocks (tree.Iterate it source body) rest b =
         omega (arith, tree_blocks source (iteration_block n it (translate s.model n body code.End) rest) b, tree_blocks body code.End (b + 1))
+    tree_blocks (tree.Fold k source start body) rest b =
+        let block = fold_block n k (translate s.model n body code.End) rest in
+        omega (arith, tree_blocks source (translate s.model n start block) b, tree_blocks start block b, tree_blocks body code.End (b + 1))
     tree_blocks (tree.Let v body) rest b =
         omega (arith, tree_blocks v (let_block (translate s.model n body code.End) rest) b, tree_blocks body code.End (b + 1))
     tree_blocks (tree.If k condition first second) rest b =

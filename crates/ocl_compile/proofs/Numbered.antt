@@ -3,19 +3,20 @@ use Rattle.std.proofs.Common.{◌≡◌, ℕ, ◌+◌, ◌<◌, ◌≤◌, List,
 use Rattle.std.proofs.lemmas.List.{drop_more}
 use Rattle.std.proofs.Math.ListN.{drop_of_length-le}
 use Rattle.imkl_model.specs.ClassModel.{Model}
+use Rattle.ocl_kinds.specs.declared.kind.ScalarKind.{ScalarKind}
 use Rattle.ocl_kinds.specs.declared.kind.Kind.{Kind}
 use Rattle.ocl_types.specs.declared.core_tree.Core.{Core, the_lemmas}
 use Rattle.ocl_types.specs.declared.core_tree.Core.TheVariants as v
-use Rattle.ocl_types.specs.declared.core_tree.CoreLink.{CoreLink, Feature, Operation', AsCollection, Iterate}
+use Rattle.ocl_types.specs.declared.core_tree.CoreLink.{CoreLink, Feature, Operation', AsCollection, Iterate, Fold'}
 use Rattle.ocl_types.specs.declared.core_tree.CoreLink.TheVariants as l
 use Rattle.ocl_types.specs.declared.operator.Operator.{Operator}
 use Rattle.ocl_types.specs.declared.core_tree.Iteration.{Iteration}
 use Rattle.ocl_types.specs.Core.{CoreTree, cores_of, lets_of}
 use Rattle.ocl_types.specs.Core as tree
 use Rattle.ocl_types.specs.CoreView.{core_view, core_link_of, core_spine}
-use Rattle.ocl_types.proofs.ForAbove.{core_view-Spine, core_view-Let, core_view-If, core_link_of-Operation, core_link_of-Iterate}
+use Rattle.ocl_types.proofs.ForAbove.{core_view-Spine, core_view-Let, core_view-If, core_link_of-Operation, core_link_of-Iterate, core_link_of-Fold}
 use Rattle.ocl_compile.specs.EmitWalk.{link_node}
-use Rattle.ocl_compile.specs.Numbering.{Use, Numbering, tree_uses, trees_uses, kind_uses, operator_uses, iteration_uses, with_use, with_uses}
+use Rattle.ocl_compile.specs.Numbering.{Use, Numbering, tree_uses, trees_uses, scalar_uses, kind_uses, operator_uses, iteration_uses, with_use, with_uses}
 use Rattle.ocl_compile.specs.declared.numbers.NumberFault.{NumberFault}
 use Rattle.ocl_compile.specs.declared.numbers.NumberFault.TheVariants as faults
 use Rattle.ocl_compile.specs.NumberWalk.{IsUseOf, AreUsesOf, FitsUnit, NumbersTo, links_uses}
@@ -50,6 +51,7 @@ module _ (m : Model) where
   link_then (Operation' operator others row) left = search (rules, the_lemmas)
   link_then (AsCollection collection element) left = search (rules, the_lemmas)
   link_then (Iterate iteration body) left = search (rules, the_lemmas)
+  link_then (Fold' kind start row body) left = search (rules, the_lemmas)
 
   spine_then : (links : List CoreLink) (first : CoreTree) → tree_uses m (core_spine first (map core_link_of links)) ≡ tree_uses m first ++ links_uses m links
   spine_then [] first = sym (append-nil (tree_uses m first))
@@ -92,6 +94,19 @@ module _ (m : Model) where
   pub iterate_uses : (link : CoreLink) (i : Iteration) (body : Core) → link ≡ l.Iterate i body → tree_uses m (link_node link) ≡ iteration_uses i ++ tree_uses m (core_view body)
   iterate_uses link i body is =
       ap (λ (f : CoreTree → CoreTree). tree_uses m (f (tree.Value tree.Null))) (ap core_link_of is ∙ core_link_of-Iterate i body)
+
+  -- a fold what its start value uses, its kind, and its body
+  pub fold_uses : (link : CoreLink) (k : ScalarKind) (start : Box Core Global) (body : Core) → link ≡ l.Fold k start body → tree_uses m (link_node link) ≡ tree_uses m (core_view start.value) ++ (scalar_uses k ++ tree_uses m (core_view body))
+  fold_uses link k start body is =
+      ap (λ (f : CoreTree → CoreTree). tree_uses m (f (tree.Value tree.Null))) (ap core_link_of is ∙ core_link_of-Fold k start body)
+
+  -- and where it is in the class model, so is what each of them uses
+  pub fold_parts : (link : CoreLink) (k : ScalarKind) (start : Box Core Global) (body : Core) → link ≡ l.Fold k start body → AreUsesOf m (tree_uses m (link_node link)) → AreUsesOf m (tree_uses m (core_view start.value)) × AreUsesOf m (scalar_uses k) × AreUsesOf m (tree_uses m (core_view body))
+  fold_parts link k start body is h =
+      let b = tree_uses m (core_view body) in
+      let p = uses_parts (tree_uses m (core_view start.value)) (scalar_uses k ++ b) (subst (AreUsesOf m) (fold_uses link k start body is) h) in
+      let q = uses_parts (scalar_uses k) b p.1 in
+      (p.0, q.0, q.1)
 
 -- ---- loops
 

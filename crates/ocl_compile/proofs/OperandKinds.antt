@@ -207,7 +207,8 @@ module _ (s : Surroundings) (n : Numbering) where
   takes_one vars i w l ks e names variable h =
       record { names = names; variable = variable; there = ap (λ (ws : List Pattern). are_there ws (l ∷ ks)) e; match = ap (λ (ws : List Pattern). all_match s.model ws (l ∷ ks)) e ∙ and_from _ _ h refl; leaves = ap (λ (ws : List Pattern). below ws (l ∷ ks)) e }
 
-  takes_two : (vars : List Kind) (i : Instr) (w x : Pattern) (j l : Kind) (ks : List Kind) → operands_of s i ≡ w ∷ x ∷ [] → has_names s i ≡ true → has_variable vars i ≡ true → matches s.model w j ≡ true → matches s.model x l ≡ true → TakesKinds s vars i (j ∷ l ∷ ks) ks
+  -- an instruction takes its two operands
+  pub takes_two : (vars : List Kind) (i : Instr) (w x : Pattern) (j l : Kind) (ks : List Kind) → operands_of s i ≡ w ∷ x ∷ [] → has_names s i ≡ true → has_variable vars i ≡ true → matches s.model w j ≡ true → matches s.model x l ≡ true → TakesKinds s vars i (j ∷ l ∷ ks) ks
   takes_two vars i w x j l ks e names variable h g =
       record { names = names; variable = variable; there = ap (λ (ws : List Pattern). are_there ws (j ∷ l ∷ ks)) e; match = ap (λ (ws : List Pattern). all_match s.model ws (j ∷ l ∷ ks)) e ∙ and_from _ _ h (and_from _ _ g refl); leaves = ap (λ (ws : List Pattern). below ws (j ∷ l ∷ ks)) e }
 

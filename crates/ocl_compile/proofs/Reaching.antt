@@ -5,6 +5,7 @@ use Rattle.std.specs.Option.{option_map}
 use Rattle.imkl_population.specs.declared.scalar.Scalar.TheVariants as scalar
 use Rattle.rule_code.specs.declared.instruction.Instr.{Instr}
 use Rattle.rule_code.specs.declared.instruction.Instr.TheVariants as instrs
+use Rattle.rule_code.specs.declared.kind.WrittenScalar.{WrittenScalar}
 use Rattle.rule_verify.specs.CodeTree.{CodeTree, Plain, Block, Branch}
 use Rattle.rule_verify.specs.InstrKinds.{operands_of, bound_count, ends_with, operands_above}
 use Rattle.ocl_types.specs.declared.core_tree.Iteration.{Iteration}
@@ -16,7 +17,7 @@ use Rattle.rule_values.specs.Endings.{Source, ending}
 use Rattle.rule_machine.specs.Machine.{Setting, judged_by, is_what, operands_below, result_of, performed, Piece, Sequence, LetEnd, Opened, Turning, Skipped, Configuration, configuration, branched, opened_over, block_opened, keeping, turned, on_operand, step, run}
 use Rattle.rule_machine.specs.Verdict.{outcome}
 use Rattle.rule_machine.proofs.ForAbove.{one_bound, element_bound, one_kept, run_more}
-use Rattle.ocl_compile.specs.Meaning.{iteration_value, iterated, chosen}
+use Rattle.ocl_compile.specs.Meaning.{iteration_value, iterated, fold_over, folded, chosen}
 use Rattle.ocl_compile.specs.Numbering.{Numbering}
 use Rattle.ocl_compile.specs.Translation.{iteration_instr}
 
@@ -34,6 +35,16 @@ one_operand s i o os go d one e = by_below (operands_below s i (o ∷ os)) refl 
     by_below (Some left) is e =
         let kept : drop (length (operands_of (judged_by s) i)) (o ∷ os) ≡ left = test_passed _ _ left is in
         let same : os ≡ left = ap (λ n. drop n (o ∷ os)) (sym one) ∙ kept in
+        rw same e
+
+-- a FOLD takes two
+two_operands : (s : Setting) (k : WrittenScalar) (len : ℕ) (a o : Value) (os : List Value) (go : List Value → Option Configuration) (d : Configuration) → option_and_then go (operands_below s (instrs.Fold k len) (a ∷ o ∷ os)) ≡ Some d → go os ≡ Some d
+two_operands s k len a o os go d e = by_below (operands_below s (instrs.Fold k len) (a ∷ o ∷ os)) refl e
+  where
+    by_below : (b : Option (List Value)) → operands_below s (instrs.Fold k len) (a ∷ o ∷ os) ≡ b → option_and_then go b ≡ Some d → go os ≡ Some d
+    by_below None is e = cc
+    by_below (Some left) is e =
+        let same : os ≡ left = test_passed _ _ left is in
         rw same e
 
 -- an instruction without a body puts its result in the place of its operands
@@ -158,6 +169,47 @@ module _ (s : Setting) (first : Configuration) (goes_on : (k : ℕ) (c : Configu
           let same : d ≡ c = cc in
           let begun = on_to c (turned i body source es [] (Sequence rest ∷ ps) vars os) (subst Reached same r) refl in
           subst (λ x. Reached (configuration (Sequence rest ∷ ps) vars (x ∷ os))) ((is_iterating n it len).ends source (map f es)) (turns_reached i (is_iterating n it len).topmost body source (Sequence rest ∷ ps) vars os f go es [] begun)
+      by_value value.Invalid d e r =
+          let c = configuration (Skipped ∷ Sequence rest ∷ ps) vars os in
+          let same : d ≡ c = cc in
+          on_to c (configuration (Sequence rest ∷ ps) vars (value.Invalid ∷ os)) (subst Reached same r) refl
+      by_value w d e r = cc
+
+  -- ---- folds
+
+  -- all turns that are left
+  fold_turns : (k : WrittenScalar) (len : ℕ) (body : CodeTree) (source : Source) (ps : List Piece) (vars os : List Value) (next : Element → Value → Value)
+      → ((e : Element) (a : Value) (q : List Piece) → Reached (configuration (Sequence body ∷ q) (a ∷ element_value e ∷ vars) os) → Reached (configuration q (a ∷ element_value e ∷ vars) (next e a ∷ os)))
+      → (left : List Element) (a : Value)
+      → Reached (turned (instrs.Fold k len) body source left (a ∷ []) ps vars os)
+      → Reached (configuration ps vars (fold_over next a left ∷ os))
+  fold_turns k len body source ps vars os next go [] a r = r
+  fold_turns k len body source ps vars os next go (e ∷ left) a r =
+      let i : Instr = instrs.Fold k len in
+      let c = configuration (Turning i body source left (a ∷ []) ∷ ps) (a ∷ element_value e ∷ vars) (next e a ∷ os) in
+      let given = go e a (Turning i body source left (a ∷ []) ∷ ps) r in
+      let m = goes_on given.0 c given.1 refl in
+      let same = test_passed (nat_le (bound_count i) (length (a ∷ element_value e ∷ vars)) && is_what s.population (ends_with (judged_by s) i) (next e a)) (turned i body source left (next e a ∷ []) ps vars os) m.0 m.1 in
+      fold_turns k len body source ps vars os next go left (next e a) (subst Reached (sym same) (on_to c m.0 given m.1))
+
+  -- one that comes to a FOLD, its start value above the source, comes past it, with the accumulator after all turns
+  pub fold_reached : (k : WrittenScalar) (len : ℕ) (body rest : CodeTree) (ps : List Piece) (vars os : List Value) (v a : Value) (next : Element → Value → Value)
+      → Reached (configuration (Sequence (Block (instrs.Fold k len) body rest) ∷ ps) vars (a ∷ v ∷ os))
+      → ((e : Element) (b : Value) (q : List Piece) → Reached (configuration (Sequence body ∷ q) (b ∷ element_value e ∷ vars) os) → Reached (configuration q (b ∷ element_value e ∷ vars) (next e b ∷ os)))
+      → Reached (configuration (Sequence rest ∷ ps) vars (folded v a next ∷ os))
+  fold_reached k len body rest ps vars os v a next r go =
+      let i : Instr = instrs.Fold k len in
+      let c = configuration (Sequence (Block i body rest) ∷ ps) vars (a ∷ v ∷ os) in
+      let m = goes_on r.0 c r.1 refl in
+      by_value v m.0 (two_operands s k len a v os (λ left. block_opened i body (a ∷ v ∷ os) (Sequence rest ∷ ps) vars left) m.0 m.1) (on_to c m.0 r m.1)
+    where
+      by_value : (w : Value) (d : Configuration) → opened_over (instrs.Fold k len) body w (a ∷ []) (Sequence rest ∷ ps) vars os ≡ Some d → Reached d → Reached (configuration (Sequence rest ∷ ps) vars (folded w a next ∷ os))
+      by_value (value.Collection j es) d e r =
+          let i : Instr = instrs.Fold k len in
+          let source : Source = record { kind = j; elements = es } in
+          let c = configuration (Opened i body source (a ∷ []) ∷ Sequence rest ∷ ps) vars os in
+          let same : d ≡ c = cc in
+          fold_turns k len body source (Sequence rest ∷ ps) vars os next go es a (on_to c (turned i body source es (a ∷ []) (Sequence rest ∷ ps) vars os) (subst Reached same r) refl)
       by_value value.Invalid d e r =
           let c = configuration (Skipped ∷ Sequence rest ∷ ps) vars os in
           let same : d ≡ c = cc in

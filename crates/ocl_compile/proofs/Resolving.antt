@@ -209,6 +209,8 @@ module _ (m : Model) where
     tree_there (tree.AsCollection c e source) g k t = both m (tree_uses m source) _ (tree_there source g t.1.0 t.1.1) (scalar_there m e t.0)
     tree_there (tree.Iterate it source body) g k t =
         both m (tree_uses m source) _ (tree_there source g _ t.4) (both m (iteration_uses it) _ (iteration_there m it t.0 t.1 t.3 k t.7) (tree_there body _ t.3 t.6))
+    tree_there (tree.Fold x source start body) g k t =
+        both m (tree_uses m source) _ (tree_there source g _ t.1.5) (both m (tree_uses m start) _ (tree_there start g _ t.1.6) (both m (scalar_uses x) _ (scalar_there m x t.0) (tree_there body _ t.1.4 t.1.9)))
     tree_there (tree.Let v body) g k t = both m (tree_uses m v) _ (tree_there v g t.0 t.2) (tree_there body _ k t.4)
     tree_there (tree.If kind condition first second) g k t =
         both m (tree_uses m condition) _ (tree_there condition g t.1.0 t.1.3) (both m (kind_uses kind) _ (kind_there m kind t.0) (both m (tree_uses m first) _ (tree_there first g t.1.1 t.1.5) (tree_there second g t.1.2 t.1.7)))

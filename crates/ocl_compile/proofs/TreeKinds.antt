@@ -25,14 +25,14 @@ use Rattle.rule_verify.specs.declared.named.Named.TheVariants as named
 use Rattle.rule_verify.specs.declared.pattern.Pattern.TheVariants as pattern
 use Rattle.rule_verify.specs.CodeTree as code
 use Rattle.rule_verify.specs.CodeTree.{CodeTree, instr_count}
-use Rattle.rule_verify.specs.InstrKinds.{Surroundings, has_names, has_variable, operands_of, result_kind, block_operand, binds, ends_with, yields, or_void, class_kind, literal_kind, owner_kind, feature_read, collected, kind_meant}
+use Rattle.rule_verify.specs.InstrKinds.{Surroundings, has_names, has_variable, operands_of, result_kind, block_operand, binds, ends_with, yields, or_void, class_kind, literal_kind, owner_kind, feature_read, collected, scalar_meant, kind_meant}
 use Rattle.rule_verify.specs.Patterns.{matches}
 use Rattle.rule_verify.specs.KindRules.{Enclosing, in_block, kinds_after}
-use Rattle.ocl_compile.specs.Numbering.{Numbering, Use, tree_uses, trees_uses, constant_uses, kind_uses, iteration_uses, owned_feature}
-use Rattle.ocl_compile.specs.Translation.{constant_instr, variable_instr, operator_instr, iteration_instr, iteration_block, let_block, if_block, written_scalar, written_kind, symbol_of_unit, translate, translate_all}
+use Rattle.ocl_compile.specs.Numbering.{Numbering, Use, tree_uses, trees_uses, constant_uses, scalar_uses, kind_uses, iteration_uses, owned_feature}
+use Rattle.ocl_compile.specs.Translation.{constant_instr, variable_instr, operator_instr, iteration_instr, iteration_block, fold_block, let_block, if_block, written_scalar, written_kind, symbol_of_unit, translate, translate_all}
 use Rattle.ocl_compile.proofs.Resolved.{AreResolved, of_first, of_rest}
 use Rattle.ocl_compile.proofs.Kinded.{Narrower, bound_too, StandsDeep, IsShallow, TakesKinds, Past, past_plain, past_block, past_branch}
-use Rattle.ocl_compile.proofs.OperandKinds.{AllNarrower, kinds_stacked, TakesAndGives, scalar_is, kind_is, one_named, scalar_named, kind_named, is_fitting, takes_none, takes_one, operator_takes}
+use Rattle.ocl_compile.proofs.OperandKinds.{AllNarrower, kinds_stacked, TakesAndGives, scalar_is, kind_is, one_named, scalar_named, kind_named, is_fitting, takes_none, takes_one, takes_two, operator_takes}
 
 module _ (s : Surroundings) (n : Numbering) where
   abbrev Known : List Use → Type 0
@@ -97,13 +97,13 @@ module _ (s : Surroundings) (n : Numbering) where
   iteration_named iteration.CollectFlat len h = refl
   iteration_named (iteration.IsUnique k) len h = scalar_named s n k h
 
+  any_collection : (j : Kind) (c : CollectionKind) (e : ScalarKind) → fits s.model j (Collection c e) ≡ true → matches s.model pattern.AnyCollection j ≡ true
+  any_collection (Scalar j) c e h = cc
+  any_collection (Collection d j) c e h = refl
+
   iteration_takes : (it : Iteration) (len : ℕ) (vars : List Kind) (l : Kind) (c : CollectionKind) (e : ScalarKind) (ks : List Kind) → Known (iteration_uses it) → fits s.model l (Collection c e) ≡ true → TakesKinds s vars (iteration_instr n it len) (l ∷ ks) ks
   iteration_takes it len vars l c e ks known h =
-      takes_one s n vars (iteration_instr n it len) pattern.AnyCollection l ks (iterates it len).operands (iteration_named it len known) ((iterates it len).variable vars) (any_collection l h)
-    where
-      any_collection : (j : Kind) → fits s.model j (Collection c e) ≡ true → matches s.model pattern.AnyCollection j ≡ true
-      any_collection (Scalar j) h = cc
-      any_collection (Collection d j) h = refl
+      takes_one s n vars (iteration_instr n it len) pattern.AnyCollection l ks (iterates it len).operands (iteration_named it len known) ((iterates it len).variable vars) (any_collection l c e h)
 
   -- the variable of its body is of a kind that the element's kind fits
   element_fits : (l : Kind) (c : CollectionKind) (e : ScalarKind) (wider : Kind) → fits s.model l (Collection c e) ≡ true → fits s.model (Scalar e) wider ≡ true → fits s.model (Scalar (elements_kind l)) wider ≡ true
@@ -235,6 +235,27 @@ module _ (s : Surroundings) (n : Numbering) where
         (r.kind, r.after, z.0, subst (λ j. fits m (yields s i j r.kind) k ≡ true) (sym same) z.1)) in
         then_past _ (iteration_block n it b rest) rest e at ks x k p
         (record { kind = yields s i on q.0; is_narrower = q.5; next = p.next + 1 + len; depths = q.1; after = q.2; stands = q.3; shallow = q.4 })
+    tree_past (tree.Fold x source start body) g k t o h rest e d at ks w stands shallow =
+        let m = s.model in
+        let b = translate m n body code.End in
+        let len = instr_count b in
+        let i = instrs.Fold (written_scalar n x) len in
+        let block = fold_block n x b rest in
+        let from_start = of_rest m s.unit n (tree_uses m source) _ h in
+        let after = of_rest m s.unit n (tree_uses m start) _ from_start in
+        let known = of_first m s.unit n (scalar_uses x) _ after in
+        let meant = ap (λ (z : ScalarKind). Scalar z) (scalar_is s n x known) in
+        let p = tree_past source g (Collection t.1.0 t.1.1) t.1.5 o (of_first m s.unit n (tree_uses m source) _ h) (translate m n start block) e d at ks w stands shallow in
+        let q = tree_past start g t.1.3 t.1.6 o (of_first m s.unit n (tree_uses m start) _ from_start) block e p.depths p.next (p.kind ∷ ks) w p.stands p.shallow in
+        let fitting : (j y : Kind) → fits m j y ≡ true → fits m y (Scalar x) ≡ true → matches m (ends_with s i) j ≡ true = λ j y f f'. ap (λ (z : Kind). fits m j z) meant ∙ fits_along m j y (Scalar x) f f' in
+        let takes : TakesKinds s e.variables i (q.kind ∷ p.kind ∷ ks) ks = takes_two s n e.variables i _ pattern.AnyCollection q.kind p.kind ks refl (scalar_named s n x known) refl (fitting q.kind t.1.3 q.is_narrower t.1.7) (any_collection p.kind t.1.0 t.1.1 p.is_narrower) in
+        let element = bound_too m e.variables g (Scalar (elements_kind p.kind)) t.1.2 w (element_fits p.kind t.1.0 t.1.1 t.1.2 p.is_narrower t.1.8) in
+        let bound = bound_too m (Scalar (elements_kind p.kind) ∷ e.variables) (g ++ t.1.2 ∷ []) (Scalar (scalar_meant s (written_scalar n x))) (Scalar x) element (is_fitting s n _ (Scalar x) meant) in
+        let r = past_block s e q.depths i b rest q.next (q.kind ∷ p.kind ∷ ks) ks (λ j. Unit {0}) takes q.stands q.shallow
+        (λ deep stands_in shallow_in.
+        let z = tree_past body ((g ++ t.1.2 ∷ []) ++ Scalar x ∷ []) t.1.4 t.1.9 (object_stays (g ++ t.1.2 ∷ []) (Scalar x) (object_stays g t.1.2 o)) (of_rest m s.unit n (scalar_uses x) _ after) code.End (in_block e (Scalar (scalar_meant s (written_scalar n x)) ∷ Scalar (elements_kind p.kind) ∷ e.variables) ks) deep (q.next + 1) [] bound stands_in shallow_in in
+        (z.kind, z.after, fitting z.kind t.1.4 z.is_narrower t.1.10, tt)) in
+        record { kind = Scalar (scalar_meant s (written_scalar n x)); is_narrower = is_fitting s n _ k (meant ∙ sym t.1.12); next = q.next + 1 + len; depths = r.1; after = p.after ∙ q.after ∙ r.2; stands = r.3; shallow = r.4 }
     tree_past (tree.Let v body) g k t o h rest e d at ks w stands shallow =
         let m = s.model in
         let b = translate m n body code.End in

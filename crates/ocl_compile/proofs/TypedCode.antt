@@ -1,14 +1,16 @@
 -- Typed core trees whose code is short enough name what is there, and variables that fit two bytes.
-use Rattle.std.proofs.Common.{ℕ, suc, ◌+◌, ◌≤◌, List, [], ◌∷◌, length, arith, length-append}
+use Rattle.std.proofs.Common.{ℕ, suc, ◌+◌, ◌≤◌, List, [], ◌∷◌, ◌++◌, length, arith, length-append}
 use Rattle.std.proofs.lemmas.Option.{slice_get_within}
 use Rattle.imkl_model.specs.ClassModel.{Model}
 use Rattle.ocl_kinds.specs.declared.kind.Kind.{Kind}
+use Rattle.ocl_kinds.specs.declared.kind.Kind.TheVariants.{Scalar}
 use Rattle.ocl_types.specs.Core as tree
 use Rattle.ocl_types.specs.Core.{CoreTree, CoreTrees}
 use Rattle.ocl_types.specs.Typing.{IsTyped, AreTyped}
 use Rattle.ocl_compile.specs.declared.extent.Extent.{Extent}
 use Rattle.ocl_compile.specs.Extents.{extent_of, extent_after, then_above}
 use Rattle.ocl_compile.specs.EmitWalk.{KnownIn, KnownIn_all, VariablesBelow, VariablesBelow_all}
+use Rattle.ocl_compile.proofs.Measured.{is_extent}
 
 module _ (m : Model) where
   mutual
@@ -21,6 +23,7 @@ module _ (m : Model) where
     typed_known (tree.Operation operator first others) g k t = (typed_known first g t.0 t.2, all_known others g t.1 t.3)
     typed_known (tree.AsCollection c e source) g k t = typed_known source g t.1.0 t.1.1
     typed_known (tree.Iterate i source body) g k t = (typed_known source g _ t.4, typed_known body _ t.3 t.6)
+    typed_known (tree.Fold x source start body) g k t = (typed_known source g _ t.1.5, (typed_known start g _ t.1.6, typed_known body _ t.1.4 t.1.9))
     typed_known (tree.Let v body) g k t = (typed_known v g t.0 t.2, typed_known body _ k t.4)
     typed_known (tree.If kind condition first second) g k t =
         (typed_known condition g t.1.0 t.1.3, (typed_known first g t.1.1 t.1.5, typed_known second g t.1.2 t.1.7))
@@ -51,6 +54,13 @@ module _ (m : Model) where
     variables_below (tree.AsCollection c e source) g k t s = variables_below source g t.1.0 t.1.1 (omega (arith, s))
     variables_below (tree.Iterate i source body) g k t s =
         (variables_below source g _ t.4 (omega (arith, s)), variables_below body _ t.3 t.6 (omega (arith, s, length-append g (t.2 ∷ []))))
+    variables_below (tree.Fold x source start body) g k t s =
+        let one = g ++ t.1.2 ∷ [] in
+        let bound = length-append g (t.1.2 ∷ []) in
+        let both = length-append one (Scalar x ∷ []) in (
+          variables_below source g _ t.1.5 (omega (arith, s)),
+          (variables_below start g _ t.1.6 (omega (arith, s)), variables_below body _ t.1.4 t.1.9 (omega (arith, s, bound, both, (is_extent source).instruction))),
+        )
     variables_below (tree.Let v body) g k t s =
         (variables_below v g t.0 t.2 (omega (arith, s)), variables_below body _ k t.4 (omega (arith, s, length-append g (t.1 ∷ []))))
     variables_below (tree.If kind condition first second) g k t s =

@@ -11,7 +11,6 @@ use Rattle.ocl_base.specs.Words.{is_name}
 use Rattle.imkl_model.specs.ClassModel.{Model, class_at, enumeration_at, feature_at}
 use Rattle.ocl_types.specs.Core.{CheckedRule}
 use Rattle.ocl_types.specs.Typing.{IsTypedRule}
-use Rattle.rule_code.specs.declared.version.Version.TheVariants as versions
 use Rattle.rule_code.specs.Content.{Content, RuleContent, text_at, names_of}
 use Rattle.rule_code.specs.WellFormed.{most_text_bytes, most_rules, IsTextOfUnit, SymbolFits, EachFits, RuleFits, IsUnit}
 use Rattle.rule_verify.specs.declared.named.Named.{Named}
@@ -26,8 +25,8 @@ use Rattle.ocl_compile.proofs.Added.{or_parts}
 use Rattle.ocl_compile.proofs.Flat.{flat_count, translated_cut}
 use Rattle.ocl_compile.proofs.Resolving.{HasText, Has, Grows, all_texts, has_uses, texts_added, grows_by_use, text_stands}
 use Rattle.ocl_compile.proofs.CodeFits.{first_all, rest_all, both_all, text_within, symbol_within, tree_fits}
-use Rattle.ocl_compile.proofs.FirstVersion.{tree_known}
 use Rattle.ocl_compile.proofs.CompiledUnits.{none_later}
+use Rattle.ocl_compile.proofs.Versions.{HasInstrs, version_has}
 
 -- ---- what no limit says
 
@@ -200,8 +199,8 @@ module _ (m : Model) (all : List CheckedRule) where
       ap (λ t. t ∷ names_of n.texts (map to rs)) (text_stands n r.name h.0) ∙ ap (λ l. r.name ∷ l) (names_are rs (rest_all (Has m n) (rule_uses m r) (rules_uses m rs) h))
 
   rule_fits : (before : List CheckedRule) (r : CheckedRule) (rs : List CheckedRule) → IsTypedRule m r → IsWrittenRule r → AllByRecursion (Has m n) (rule_uses m r) → limit_passed m all before r ≡ None → repeats bytes_eq (map rule_name before ++ r.name ∷ map rule_name rs) ≡ false → names_of n.texts (map to before) ≡ map rule_name before
-      → RuleFits versions.One n.texts u.symbols (map to before) (to r)
-  rule_fits before r rs typed written h none apart named_before =
+      → HasInstrs u.version (to r) → RuleFits u.version n.texts u.symbols (map to before) (to r)
+  rule_fits before r rs typed written h none apart named_before instrs =
       let q = is_roomy m all before r none in
       let name_is = text_stands n r.name h.0 in
       let t = rule_tree m n r in
@@ -212,13 +211,13 @@ module _ (m : Model) (all : List CheckedRule) where
         context = symbol_within m n (named.Class r.context) h.1.0;
         len = omega (arith, q.code, flat_count t (translated_cut m n r.tree End tt));
         code = tree_fits m n r.tree _ typed.1.0 typed.1.1 h.1.1 written.1 End (omega (arith, q.code)) (λ _. tt);
-        instrs = tree_known m n r.tree End tt;
+        instrs = instrs;
       }
 
   rules_fit : (before rs : List CheckedRule) → AllByRecursion (IsTypedRule m) rs → AllByRecursion IsWrittenRule rs → AllByRecursion (Has m n) (rules_uses m rs) → first_passed m all before rs ≡ None → repeats bytes_eq (map rule_name before ++ map rule_name rs) ≡ false → names_of n.texts (map to before) ≡ map rule_name before
-      → EachFits (RuleFits versions.One n.texts u.symbols) (map to before) (map to rs)
-  rules_fit before [] typed written h none apart named_before = tt
-  rules_fit before (r ∷ rs) typed written h none apart named_before =
+      → AllByRecursion (HasInstrs u.version) (map to rs) → EachFits (RuleFits u.version n.texts u.symbols) (map to before) (map to rs)
+  rules_fit before [] typed written h none apart named_before instrs = tt
+  rules_fit before (r ∷ rs) typed written h none apart named_before instrs =
       let p = none_later (length before) (limit_passed m all before r) (first_passed m all (before ++ r ∷ []) rs) none in
       let here = first_all (Has m n) (rule_uses m r) (rules_uses m rs) h in
       let later = rest_all (Has m n) (rule_uses m r) (rules_uses m rs) h in
@@ -231,9 +230,9 @@ module _ (m : Model) (all : List CheckedRule) where
       let apart_later : repeats bytes_eq (map rule_name (before ++ r ∷ []) ++ map rule_name rs) ≡ false =
       ap (λ (l : List (List ℕ)). repeats bytes_eq (l ++ map rule_name rs)) (map-append rule_name before (r ∷ []))
       ∙ ap (repeats bytes_eq) (append_assoc (map rule_name before) (r.name ∷ []) (map rule_name rs)) ∙ apart in (
-        rule_fits before r rs typed.0 written.0 here p.0 apart named_before,
-        subst (λ (l : List RuleContent). EachFits (RuleFits versions.One n.texts u.symbols) l (map to rs)) (map-append to before (r ∷ []))
-            (rules_fit (before ++ r ∷ []) rs typed.1 written.1 later p.1 apart_later names),
+        rule_fits before r rs typed.0 written.0 here p.0 apart named_before instrs.0,
+        subst (λ (l : List RuleContent). EachFits (RuleFits u.version n.texts u.symbols) l (map to rs)) (map-append to before (r ∷ []))
+            (rules_fit (before ++ r ∷ []) rs typed.1 written.1 later p.1 apart_later names instrs.1),
       )
 
 -- typed rules with names that differ, which pass no limit, are a unit
@@ -248,5 +247,5 @@ unit_fits m rs typed written apart utf8 none =
       symbol_count = omega (arith, room.symbols, length-map n.symbols (translate_symbol m n));
       symbols = symbols_fit m n n.symbols (uses_named m no_numbers (rules_uses m rs) tt);
       rule_count = omega (arith, room.rules, length-map rs (translate_rule m n));
-      rules = rules_fit m rs [] rs typed written has none apart refl;
+      rules = rules_fit m rs [] rs typed written has none apart refl (version_has (map (translate_rule m n) rs));
     }

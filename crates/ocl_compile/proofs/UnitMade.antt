@@ -8,10 +8,10 @@ use Rattle.ocl_types.specs.Core.{CheckedRule}
 use Rattle.ocl_types.specs.Typing.{IsTypedRule}
 use Rattle.rule_code.specs.declared.symbol.Symbol.{Symbol}
 use Rattle.rule_code.specs.declared.unit.Rule.{Rule}
-use Rattle.rule_code.specs.declared.version.Version.TheVariants as versions
+use Rattle.rule_code.specs.declared.version.Version.{Version}
 use Rattle.rule_code.specs.Content.{RuleContent, rule_content, content_of}
 use Rattle.ocl_compile.specs.Numbering.{Numbering, no_numbers, same_named, Use, UsedText, UsedSymbol, with_use, with_uses, rules_uses, numbering_of}
-use Rattle.ocl_compile.specs.Translation.{translate_rule, translate_symbol, translate_rules}
+use Rattle.ocl_compile.specs.Translation.{version_of, translate_rule, translate_symbol, translate_rules}
 use Rattle.ocl_compile.specs.Compiling.{limit_passed, first_passed}
 use Rattle.ocl_compile.specs.CompileWalk.{numbered_rules, IsCodable}
 use Rattle.ocl_compile.specs.NumberWalk.{IsNamedIn, AreUsesOf}
@@ -55,9 +55,10 @@ strings_are_utf8 (t ∷ ts) = (is_utf8-from_IsUtf8 (string_bytes t) (IsUtf8-stri
 
 -- texts, symbols and rules that were translated make up the unit of the rules
 pub unit_is : (m : Model) (rs : List CheckedRule) (n : Numbering) (texts : List (String Global)) (symbols : List Symbol) (rules : List Rule) → n ≡ numbering_of m rs → map string_bytes texts ≡ n.texts → symbols ≡ map (translate_symbol m n) n.symbols
-    → map rule_content rules ≡ map (translate_rule m n) rs → content_of versions.One texts symbols rules ≡ translate_rules m rs
-unit_is m rs n texts symbols rules e t s r =
-    ap (λ (x : List (List ℕ)). record { version = versions.One; texts = x; symbols = symbols; rules = map rule_content rules }) t
-    ∙ ap (λ (x : List Symbol). record { version = versions.One; texts = n.texts; symbols = x; rules = map rule_content rules }) s
-    ∙ ap (λ (x : List RuleContent). record { version = versions.One; texts = n.texts; symbols = map (translate_symbol m n) n.symbols; rules = x }) r
-    ∙ ap (λ (o : Numbering). record { version = versions.One; texts = o.texts; symbols = map (translate_symbol m o) o.symbols; rules = map (translate_rule m o) rs }) e
+    → map rule_content rules ≡ map (translate_rule m n) rs → (version : Version) → version ≡ version_of (map rule_content rules) → content_of version texts symbols rules ≡ translate_rules m rs
+unit_is m rs n texts symbols rules e t s r version v =
+    ap (λ (x : Version). record { version = x; texts = map string_bytes texts; symbols = symbols; rules = map rule_content rules }) v
+    ∙ ap (λ (x : List (List ℕ)). record { version = version_of (map rule_content rules); texts = x; symbols = symbols; rules = map rule_content rules }) t
+    ∙ ap (λ (x : List Symbol). record { version = version_of (map rule_content rules); texts = n.texts; symbols = x; rules = map rule_content rules }) s
+    ∙ ap (λ (x : List RuleContent). record { version = version_of x; texts = n.texts; symbols = map (translate_symbol m n) n.symbols; rules = x }) r
+    ∙ ap (λ (o : Numbering). record { version = version_of (map (translate_rule m o) rs); texts = o.texts; symbols = map (translate_symbol m o) o.symbols; rules = map (translate_rule m o) rs }) e

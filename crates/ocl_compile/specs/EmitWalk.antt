@@ -25,6 +25,7 @@ module _ (m : Model) where
     KnownIn (tree.Operation operator first others) = KnownIn first × KnownIn_all others
     KnownIn (tree.AsCollection c k source) = KnownIn source
     KnownIn (tree.Iterate i source body) = KnownIn source × KnownIn body
+    KnownIn (tree.Fold k source start body) = KnownIn source × (KnownIn start × KnownIn body)
     KnownIn (tree.Let v body) = KnownIn v × KnownIn body
     KnownIn (tree.If k condition first second) = KnownIn condition × (KnownIn first × KnownIn second)
 
@@ -43,6 +44,7 @@ module _ (n : ℕ) where
     VariablesBelow (tree.Operation operator first others) = VariablesBelow first × VariablesBelow_all others
     VariablesBelow (tree.AsCollection c k source) = VariablesBelow source
     VariablesBelow (tree.Iterate i source body) = VariablesBelow source × VariablesBelow body
+    VariablesBelow (tree.Fold k source start body) = VariablesBelow source × (VariablesBelow start × VariablesBelow body)
     VariablesBelow (tree.Let v body) = VariablesBelow v × VariablesBelow body
     VariablesBelow (tree.If k condition first second) =
         VariablesBelow condition × (VariablesBelow first × VariablesBelow second)
@@ -81,12 +83,15 @@ module _ (m : Model) (n : Numbering) where
   top_code (tree.Operation operator first others) = codes_of others ++ operator_instr n operator ∷ []
   top_code (tree.AsCollection c k source) = instrs.AsColl c (written_scalar n k) ∷ []
   top_code (tree.Iterate i source body) = iteration_instr n i (instr_count (translate m n body code.End)) ∷ code_of body
+  top_code (tree.Fold k source start body) =
+      code_of start ++ instrs.Fold (written_scalar n k) (instr_count (translate m n body code.End)) ∷ code_of body
   top_code t = []
 
   abbrev pub IsTopEmittable : CoreTree → Type 0
   IsTopEmittable (tree.Feature source f) = f < length m.features
   IsTopEmittable (tree.Operation operator first others) = AreEmittable others
   IsTopEmittable (tree.Iterate i source body) = IsEmittable body
+  IsTopEmittable (tree.Fold k source start body) = IsEmittable start × IsEmittable body
   IsTopEmittable t = Unit {0}
 
 -- a link as a node on some first operand

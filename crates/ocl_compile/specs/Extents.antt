@@ -44,6 +44,7 @@ abbrev mutual
   extent_of (tree.Operation operator first others) = then_instruction (extent_after 1 (extent_of first) others)
   extent_of (tree.AsCollection c k source) = then_instruction (extent_of source)
   extent_of (tree.Iterate i source body) = then_block (extent_of source) (extent_of body)
+  extent_of (tree.Fold k source start body) = then_block (then_above 1 (extent_of source) (extent_of start)) (extent_of body)
   extent_of (tree.Let v body) = then_block (extent_of v) (extent_of body)
   extent_of (tree.If k condition first second) = then_branches (extent_of condition) (extent_of first) (extent_of second)
 

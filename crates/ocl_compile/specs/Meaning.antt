@@ -105,6 +105,18 @@ abbrev pub iterated : Iteration → Value → (Element → Value) → Value
 iterated i (value.Collection c es) body = iteration_value i (record { kind = c; elements = es }) (map body es)
 iterated i v body = value.Invalid
 
+-- ---- folds
+
+-- what the accumulator is after these elements, one after another, if it is this before them
+abbrev pub fold_over : (Element → Value → Value) → Value → List Element → Value
+fold_over next a [] = a
+fold_over next a (e ∷ es) = fold_over next (next e a) es
+
+-- over what is no collection it is invalid
+abbrev pub folded : Value → Value → (Element → Value → Value) → Value
+folded (value.Collection c es) start next = fold_over next start es
+folded v start next = value.Invalid
+
 -- ---- if
 
 -- neither branch is chosen by null or by invalid
@@ -128,6 +140,8 @@ module _ (p : Population) where
     meaning (tree.AsCollection c k source) vars = as_collection c (meaning source vars)
     meaning (tree.Iterate i source body) vars =
         iterated i (meaning source vars) (λ e. meaning body (element_value e ∷ vars))
+    meaning (tree.Fold k source start body) vars =
+        folded (meaning source vars) (meaning start vars) (λ e a. meaning body (a ∷ element_value e ∷ vars))
     meaning (tree.Let v body) vars = meaning body (meaning v vars ∷ vars)
     meaning (tree.If k condition first second) vars =
         chosen (meaning condition vars) (meaning first vars) (meaning second vars)

@@ -80,6 +80,7 @@ module _ (m : Model) where
     tree_uses (tree.Operation operator first others) = tree_uses first ++ (trees_uses others ++ operator_uses operator)
     tree_uses (tree.AsCollection c k source) = tree_uses source ++ scalar_uses k
     tree_uses (tree.Iterate i source body) = tree_uses source ++ (iteration_uses i ++ tree_uses body)
+    tree_uses (tree.Fold k source start body) = tree_uses source ++ (tree_uses start ++ (scalar_uses k ++ tree_uses body))
     tree_uses (tree.Let v body) = tree_uses v ++ tree_uses body
     tree_uses (tree.If k condition first second) =
         tree_uses condition ++ (kind_uses k ++ (tree_uses first ++ tree_uses second))

@@ -1,5 +1,6 @@
 -- The code of core trees, and the unit of rules.
-use Rattle.std.specs.Prelude.{ℕ, zero, suc, pos, List, [], ◌∷◌, ◌++◌, map}
+use Rattle.std.specs.Prelude.{ℕ, zero, suc, pos, Bool, true, false, List, [], ◌∷◌, ◌++◌, map, if◌then◌else◌}
+use Rattle.std.specs.List.{list_any}
 use Rattle.imkl_model.specs.ClassModel.{Model, class_at, enumeration_at, feature_at}
 use Rattle.ocl_kinds.specs.declared.kind.ScalarKind.{ScalarKind}
 use Rattle.ocl_kinds.specs.declared.kind.ScalarKind.TheVariants as element
@@ -27,6 +28,7 @@ use Rattle.rule_code.specs.declared.symbol.Symbol.{Symbol}
 use Rattle.rule_code.specs.declared.symbol.Symbol.TheVariants as symbols
 use Rattle.rule_code.specs.declared.symbol.SymbolNumber.{SymbolNumber}
 use Rattle.rule_code.specs.declared.symbol.TextNumber.{TextNumber}
+use Rattle.rule_code.specs.declared.version.Version.{Version}
 use Rattle.rule_code.specs.declared.version.Version.TheVariants as versions
 use Rattle.rule_code.specs.Content.{Content, RuleContent}
 use Rattle.rule_verify.specs.declared.named.Named.{Named}
@@ -134,6 +136,9 @@ iteration_instr n (iteration.IsUnique k) len = instrs.IsUnique (written_scalar n
 abbrev pub iteration_block : Numbering → Iteration → CodeTree → CodeTree → CodeTree
 iteration_block n i body rest = code.Block (iteration_instr n i (instr_count body)) body rest
 
+abbrev pub fold_block : Numbering → ScalarKind → CodeTree → CodeTree → CodeTree
+fold_block n k body rest = code.Block (instrs.Fold (written_scalar n k) (instr_count body)) body rest
+
 abbrev pub let_block : CodeTree → CodeTree → CodeTree
 let_block body rest = code.Block (instrs.Let (instr_count body)) body rest
 
@@ -154,6 +159,8 @@ module _ (m : Model) (n : Numbering) where
         translate first (translate_all others (code.Plain (operator_instr n operator) rest))
     translate (tree.AsCollection c k source) rest = translate source (code.Plain (instrs.AsColl c (written_scalar n k)) rest)
     translate (tree.Iterate i source body) rest = translate source (iteration_block n i (translate body code.End) rest)
+    translate (tree.Fold k source start body) rest =
+        translate source (translate start (fold_block n k (translate body code.End) rest))
     translate (tree.Let v body) rest = translate v (let_block (translate body code.End) rest)
     translate (tree.If k condition first second) rest =
         translate condition (if_block n k (translate first code.End) (translate second code.End) rest)
@@ -187,10 +194,22 @@ translate_symbol m n (named.Feature c f) =
 translate_symbol m n (named.Literal e l) =
     symbols.Literal (text_of_unit n (enumeration_at m e).name) (text_of_unit n (literal_name m e l))
 
--- in the first version of the code file
+abbrev pub is_fold : Instr → Bool
+is_fold (instrs.Fold k len) = true
+is_fold i = false
+
+-- the first version, or the second where FOLD occurs, which the first has not
+abbrev pub version_of : List RuleContent → Version
+version_of rules = if list_any (λ r. list_any is_fold r.code) rules then versions.Two else versions.One
+
 abbrev pub unit_with : Model → Numbering → List CheckedRule → Content
 unit_with m n rs =
-    record { version = versions.One; texts = n.texts; symbols = map (translate_symbol m n) n.symbols; rules = map (translate_rule m n) rs }
+    record {
+      version = version_of (map (translate_rule m n) rs);
+      texts = n.texts;
+      symbols = map (translate_symbol m n) n.symbols;
+      rules = map (translate_rule m n) rs;
+    }
 
 -- the unit of rules
 abbrev pub translate_rules : Model → List CheckedRule → Content

@@ -18,6 +18,7 @@ abbrev mutual
   IsWritten (tree.Operation operator first others) = IsWritten first × AreWritten others
   IsWritten (tree.AsCollection c k source) = IsWritten source
   IsWritten (tree.Iterate i source body) = IsWritten source × IsWritten body
+  IsWritten (tree.Fold k source start body) = IsWritten source × (IsWritten start × IsWritten body)
   IsWritten (tree.Let v body) = IsWritten v × IsWritten body
   IsWritten (tree.If k condition first second) = IsWritten condition × (IsWritten first × IsWritten second)
 

@@ -1,7 +1,7 @@
 //! Compiling: what rules use is numbered, and then their code is written.
 
 ghost use Rattle.std.specs.Prelude.{◌≡◌, map, IfOk, OnOk};
-ghost use Rattle.std.specs.List.{AllByRecursion};
+ghost use Rattle.std.specs.List.{list_any, AllByRecursion};
 ghost use Rattle.ocl_base.specs.Steps.{Gives};
 ghost use Rattle.ocl_types.specs.CoreView.{checked_rule_of};
 ghost use Rattle.ocl_types.specs.AllRules.{HaveOwnNames};
@@ -10,10 +10,10 @@ ghost use Rattle.rule_code.specs.Content.{rule_content};
 ghost use Rattle.rule_code.specs.View.{content};
 ghost use Rattle.ocl_compile.specs.Written.{IsWrittenRule};
 ghost use Rattle.ocl_compile.specs.Numbering.{rule_uses, with_uses};
-ghost use Rattle.ocl_compile.specs.Translation.{translate_rule, translate_symbol};
+ghost use Rattle.ocl_compile.specs.Translation.{is_fold, translate_rule, translate_symbol};
 ghost use Rattle.ocl_compile.specs.Compiling.{compile_of};
 ghost use Rattle.ocl_compile.specs.CompileFaults.{compile_fault};
-ghost use Rattle.ocl_compile.specs.CompileWalk.{numbered_rules, IsCodable};
+ghost use Rattle.ocl_compile.specs.CompileWalk.{numbered_rules, version_for, IsCodable};
 ghost use Rattle.ocl_compile.specs.NumberWalk.{IsNamedIn, NumbersTo};
 
 use crate::emitting::emit;
@@ -25,7 +25,7 @@ use crate::numbering::number_tree;
 use crate::numbers::{NumberFault, Numbers};
 use imkl_model::ClassModel;
 use ocl_types::CoreRule;
-use rule_code::{Rule, Symbol, Unit, Version};
+use rule_code::{Instr, Rule, Symbol, Unit, Version};
 use rule_verify::Named;
 use std::alloc::{AllocError, Global};
 
@@ -127,6 +127,31 @@ fn unit_symbols(
     Ok(symbols)
 }
 
+/// Whether code has a FOLD.
+fn has_fold(code: &[Instr]) -> bool
+    ensures { result ≡ list_any is_fold code.now }
+{
+    code.iter().any(|instr| matches!(instr, Instr::Fold(_, _)))
+}
+
+/// Whether a rule has a FOLD.
+fn have_fold(rules: &[Rule]) -> bool
+    ensures { result ≡ list_any (λ r. list_any is_fold r.code.items) rules.now }
+{
+    rules.iter().any(|rule| has_fold(&rule.code))
+}
+
+/// The version of the code file that has all instructions of the rules.
+fn version_of(rules: &[Rule]) -> Version
+    ensures { result ≡ version_for rules.now }
+{
+    if have_fold(rules) {
+        Version::Two
+    } else {
+        Version::One
+    }
+}
+
 /// Compiles rules to a unit of code, whose rules stand in the order of theirs.
 ///
 /// A rule that passes a limit of a unit is reported: the first, with the first of its limits
@@ -141,7 +166,7 @@ pub fn compile(alloc: Global, model: &ClassModel, rules: &[CoreRule]) -> Result<
     let coded = code_rules(alloc, model, &numbers, rules)?;
     let symbols = unit_symbols(alloc, model, &numbers)?;
     Ok(Unit {
-        version: Version::One,
+        version: version_of(&coded),
         texts: numbers.into_texts(),
         symbols,
         rules: coded,

@@ -230,6 +230,12 @@ fn emit_link(
             let block = iteration_instr(numbers, *iteration, body_length(&inner));
             put_block(code, block, inner)
         }
+        CoreLink::Fold { kind, start, body } => {
+            emit(alloc, model, numbers, start, code)?;
+            let inner = code_of_body(alloc, model, numbers, body)?;
+            let block = Instr::Fold(written_scalar(numbers, *kind), body_length(&inner));
+            put_block(code, block, inner)
+        }
     }
 }
 

@@ -61,5 +61,10 @@ fn measure_link(extent: Extent, link: &CoreLink) -> Extent
             whole.then_instruction()
         }
         CoreLink::Iterate { body, .. } => extent.then_block(measure(body)),
+        CoreLink::Fold { start, body, .. } => {
+            extent
+                .then_above(1, measure(start))
+                .then_block(measure(body))
+        }
     }
 }

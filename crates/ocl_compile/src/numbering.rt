@@ -191,6 +191,11 @@ fn number_link(
             number_iteration(alloc, model, *iteration, numbers)?;
             number_tree(alloc, model, body, numbers)
         }
+        CoreLink::Fold { kind, start, body } => {
+            number_tree(alloc, model, start, numbers)?;
+            number_scalar(alloc, model, *kind, numbers)?;
+            number_tree(alloc, model, body, numbers)
+        }
     }
 }
 

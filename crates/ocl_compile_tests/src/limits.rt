@@ -45,6 +45,19 @@ fn nested(alloc: Global, depth: usize) -> Result<String, AllocError> {
     Ok(text)
 }
 
+/// A rule of so many folds inside each other.
+fn folds(alloc: Global, depth: usize) -> Result<String, AllocError> {
+    let mut text = String::from_str(alloc, "context Box inv: ")?;
+    for i in 0..depth {
+        write!(text, "Set12->iterate(x{i}; a{i} : Boolean = true | ")?;
+    }
+    text.push_str("true")?;
+    for _ in 0..depth {
+        text.push(')')?;
+    }
+    Ok(text)
+}
+
 /// A rule of a `let` of so many bindings.
 fn bindings(alloc: Global, count: usize) -> Result<String, AllocError> {
     let mut text = String::from_str(alloc, "context Lid inv: let a0: Integer = 0")?;
@@ -86,6 +99,15 @@ fn blocks_enclose_each_other_64_deep(rt: HostRuntime) -> Result<(), Fail> {
     assert_eq!(rt; refusal(alloc, most.as_str())?, None);
     let passed = Refusal::Passes(Limit::Nesting, 0);
     assert_eq!(rt; refusal(alloc, more.as_str())?, Some(passed));
+    Ok(())
+}
+
+/// A fold is one block.
+#[test]
+fn folds_enclose_each_other_64_deep(rt: HostRuntime) -> Result<(), Fail> {
+    let alloc = rt.alloc();
+    let most = folds(alloc, 64)?;
+    assert_eq!(rt; refusal(alloc, most.as_str())?, None);
     Ok(())
 }
 

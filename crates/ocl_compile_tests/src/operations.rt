@@ -141,6 +141,37 @@ Set12->forAll(x | Set45->forAll(y | x < y)) -> Holds
 Set12->forAll(x | Set45->exists(y | y - x = 4)) -> Fails
 ";
 
+/// Over each kind of collection, in its order; with null, invalid and nothing; one in another.
+const FOLDS: &str = "\
+Sequence123->iterate(x; a : Integer = 0 | a * 10 + x) = 123 -> Holds
+OrderedSet321->iterate(x; a : Integer = 0 | a * 10 + x) = 321 -> Holds
+Set321->iterate(x; a : Integer = 0 | a * 10 + x) = 321 -> Holds
+Bag121->iterate(x; a : Integer = 0 | a * 10 + x) = 121 -> Holds
+Set123->select(x | x <> 2)->iterate(x; a : Integer = 0 | a * 10 + x) = 13 -> Holds
+Sequence12->collect(x | Sequence123)->iterate(x; a : Integer = 0 | a * 10 + x) = 123123 -> Holds
+Bag121->asSet()->iterate(x; a : Integer = 0 | a * 10 + x) = 12 -> Holds
+SetNone->iterate(x; a : Integer = 5 | 0) = 5 -> Holds
+SetNone->iterate(x; a : Integer = null | 0) = null -> Holds
+weight->iterate(x; a : Integer = 1 | a + x) = 8 -> Holds
+depth->iterate(x; a : Integer = 1 | a + x) = 1 -> Holds
+Set123->iterate(x; a : Boolean = true | a and x > 0) -> Holds
+Set123->iterate(x; a : Boolean = true | a and x > 1) -> Fails
+Set123->iterate(x; a : Boolean = null | a or x = 3) -> Holds
+Set123->iterate(x; a : Mood = Mood::calm | if a = Mood::calm then Mood::wild else Mood::calm endif) = Mood::wild -> Holds
+lids->iterate(l; a : Lid = null | if l.size = 2 then l else a endif).size = 2 -> Holds
+Set123->iterate(x; a : Integer = null | if x = 3 then 7 else null endif) = 7 -> Holds
+Set123->iterate(x; a : Integer = invalid | if x = 3 then 7 else a endif) = 7 -> Holds
+Set123->iterate(x; a : Integer = 0 | if x = 3 then 1 div 0 else a + x endif) = 3 -> Undecided
+Set123->iterate(x; a : Integer = 1 div 0 | x) = 3 -> Holds
+Set123->iterate(x; a : Integer = 9223372036854775807 | a + x) > 0 -> Undecided
+lids->iterate(l; a : Integer = 0 | if l.size.oclIsUndefined() then a else a + l.size endif) > 0 -> Holds
+Set12->iterate(x; a : Integer = 0 | a + Set45->iterate(y; b : Integer = x | b + y)) = 21 -> Holds
+Set12->iterate(x; a : Integer = Set45->iterate(y; b : Integer = 0 | b + y) | a + x) = 12 -> Holds
+Set12->forAll(x | Set12->iterate(y; a : Integer = x | a + y) = x + 3) -> Holds
+let a : Integer = 2 in Set12->iterate(x; a : Integer = a | a * x) = 4 and a = 2 -> Holds
+Set12->iterate(x; a : Integer = 0 | let b : Integer = a in if x > 1 then b + x else b - x endif) = 1 -> Holds
+";
+
 const BRANCHES_AND_VARIABLES: &str = "\
 if truth then weight = 7 else weight = 8 endif -> Holds
 if not truth then weight = 7 else weight = 8 endif -> Fails
@@ -186,6 +217,12 @@ fn collections(rt: HostRuntime) -> Result<(), Fail> {
 #[test]
 fn iterations(rt: HostRuntime) -> Result<(), Fail> {
     assert_eq!(rt; wrong_rows(rt.alloc(), ITERATIONS)?.as_str(), "");
+    Ok(())
+}
+
+#[test]
+fn folds(rt: HostRuntime) -> Result<(), Fail> {
+    assert_eq!(rt; wrong_rows(rt.alloc(), FOLDS)?.as_str(), "");
     Ok(())
 }
 

@@ -7,7 +7,7 @@ use Rattle.rule_code.specs.declared.instruction.Instr.{Instr}
 use Rattle.rule_code.specs.declared.instruction.Instr.TheVariants as instrs
 use Rattle.ocl_compile.specs.EmitWalk.{code_of, codes_of, lets_code}
 use Rattle.ocl_compile.specs.Written.{IsWritten}
-use Rattle.ocl_compile.proofs.Emitted.{spine_written, operands_written, asked, spine_is, spine_parts, lets_is, lets_are, lets_parts, lets_written, value_here, drop_before, if_is, if_parts, iterate_is, operand_code, operands_here, walked_on, joined, on_ok}
+use Rattle.ocl_compile.proofs.Emitted.{spine_written, operands_written, asked, spine_is, spine_parts, lets_is, lets_are, lets_parts, lets_written, value_here, drop_before, if_is, if_parts, iterate_is, fold_is, fold_parts, operand_code, operands_here, walked_on, joined, on_ok}
 use Rattle.ocl_compile.proofs.emitting.+emit.Goals as goal
 
 pub code_of_body-emit-requires : goal.code_of_body-emit-requires
@@ -149,6 +149,35 @@ emit_link-returns-in_ok-inner-in-Iterate-clause-code t c =
     let n = c.args.numbers.now in
     let after = rw (c.iteration_instr-block.ensures, c.body_length.ensures, c.deref-in-Iterate.ensures.value, c.in_ok-inner-in-Iterate.ensures.code) at c.put_block.ensures in
     rw (iterate_is m n c.args.link.now c.in-Iterate.iteration c.in-Iterate.body c.in-Iterate.is) after
+
+pub emit_link-emit-requires : goal.emit_link-emit-requires
+emit_link-emit-requires t c =
+    let m = c.args.model.now in
+    let n = c.args.numbers.now in
+    let p = fold_parts m n c.args.link.now c.in-Fold.kind c.in-Fold.start c.in-Fold.body c.in-Fold.is c.requires in
+    (search (rules, the_lemmas), (rw c.deref-in-Fold.ensures (asked m n (core_view c.in-Fold.start.value) p.0)))
+
+pub emit_link-code_of_body-requires-in-Fold : goal.emit_link-code_of_body-requires-in-Fold
+emit_link-code_of_body-requires-in-Fold t c =
+    let m = c.args.model.now in
+    let n = c.args.numbers.now in
+    let p = fold_parts m n c.args.link.now c.in-Fold.kind c.in-Fold.start c.in-Fold.body c.in-Fold.is c.requires in
+    (search (rules, the_lemmas), p.1)
+
+pub emit_link-body_length-requires-in-Fold : goal.emit_link-body_length-requires-in-Fold
+emit_link-body_length-requires-in-Fold t c =
+    let m = c.args.model.now in
+    let n = c.args.numbers.now in
+    let p = fold_parts m n c.args.link.now c.in-Fold.kind c.in-Fold.start c.in-Fold.body c.in-Fold.is c.requires in
+    rw (c.deref-in-Fold-2.ensures.value, c.in_ok-inner-in-Fold.ensures.code) p.1.room
+
+pub emit_link-returns-in_ok-inner-in-Fold-clause-code : goal.emit_link-returns-in_ok-inner-in-Fold-clause-code
+emit_link-returns-in_ok-inner-in-Fold-clause-code t c =
+    let m = c.args.model.now in
+    let n = c.args.numbers.now in
+    let first = rw c.deref-in-Fold.ensures at c.in_ok-emit-in-Fold.ensures.emitted in
+    let after = rw (c.written_scalar-in-Fold.ensures, c.body_length-in-Fold.ensures, c.deref-in-Fold-2.ensures.value, c.in_ok-inner-in-Fold.ensures.code) at c.put_block-in-Fold.ensures in
+    on_ok _ _ c.put_block-in-Fold.result (λ e. joined _ _ _ _ _ _ e first (fold_is m n c.args.link.now c.in-Fold.kind c.in-Fold.start c.in-Fold.body c.in-Fold.is)) after
 
 -- ---- operands
 

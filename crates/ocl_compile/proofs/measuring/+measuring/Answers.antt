@@ -4,7 +4,7 @@ use Rattle.ocl_types.specs.declared.core_tree.Core.{Core}
 use Rattle.ocl_types.specs.declared.core_tree.CoreLink.{CoreLink}
 use Rattle.ocl_types.specs.Core.{CoreTree, cores_of, lets_of}
 use Rattle.ocl_types.specs.CoreView.{CoreOnward, core_view, core_link_of, core_spine}
-use Rattle.ocl_types.proofs.ForAbove.{core_view-Spine, core_link_of-Operation}
+use Rattle.ocl_types.proofs.ForAbove.{core_view-Spine, core_link_of-Operation, core_link_of-Fold}
 use Rattle.ocl_compile.specs.declared.extent.Extent.{Extent}
 use Rattle.ocl_compile.specs.Extents.{then_instruction, then_above, then_block, extent_of, extent_after, cut_extent}
 use Rattle.ocl_compile.proofs.Cuts.{cut_instruction, cut_above, cut_block}
@@ -71,6 +71,18 @@ measure_link-returns-after-loop-i t c = λ source e.
     ∙ ap (λ (x : Extent). cut_extent (then_instruction x)) all
     ∙ ap (λ (f : CoreOnward). cut_extent (extent_of (f source))) (sym (core_link_of-Operation c.in-Operation.operator others))
     ∙ ap (λ (l : CoreLink). cut_extent (extent_of (core_link_of l source))) (sym c.in-Operation.is)
+
+pub measure_link-returns-in-Fold : goal.measure_link-returns-in-Fold
+measure_link-returns-in-Fold t c = λ source e.
+    let x = extent_of source in
+    let a = extent_of (core_view c.in-Fold.start.value) in
+    let b = extent_of (core_view c.in-Fold.body) in
+    c.then_block-in-Fold.ensures
+    ∙ ap (λ (y : Extent). cut_extent (then_block c.then_above.result y)) c.measure-in-Fold-2.ensures
+    ∙ ap (λ (y : Extent). cut_extent (then_block y (cut_extent b))) (c.then_above.ensures ∙ ap (λ (y : Extent). cut_extent (then_above 1 y c.measure-in-Fold.result)) e ∙ ap (λ (y : Extent). cut_extent (then_above 1 (cut_extent x) y)) (c.measure-in-Fold.ensures ∙ ap (λ (y : Core). cut_extent (extent_of (core_view y))) c.deref.ensures) ∙ cut_above 1 x a)
+    ∙ cut_block (then_above 1 x a) b
+    ∙ ap (λ (f : CoreOnward). cut_extent (extent_of (f source))) (sym (core_link_of-Fold c.in-Fold.kind c.in-Fold.start c.in-Fold.body))
+    ∙ ap (λ (l : CoreLink). cut_extent (extent_of (core_link_of l source))) (sym c.in-Fold.is)
 
 -- ---- values with the body that sees them
 

@@ -4,10 +4,10 @@ use Rattle.ocl_types.specs.declared.core_tree.CoreLink.{CoreLink}
 use Rattle.ocl_types.specs.Core.{cores_of}
 use Rattle.ocl_types.specs.CoreView.{core_view}
 use Rattle.ocl_compile.specs.EmitWalk.{link_node}
-use Rattle.ocl_compile.specs.Numbering.{tree_uses, trees_uses, kind_uses, operator_uses, iteration_uses, with_uses}
+use Rattle.ocl_compile.specs.Numbering.{tree_uses, trees_uses, scalar_uses, kind_uses, operator_uses, iteration_uses, with_uses}
 use Rattle.ocl_compile.specs.NumberWalk.{AreUsesOf, links_uses}
 use Rattle.std.proofs.lemmas.Result.{err_from_is_err_and}
-use Rattle.ocl_compile.proofs.Numbered.{numbered_then, stopped, stopped_here, iterate_uses, uses_parts, spine_uses, let_uses, if_uses, if_parts, operation_uses, uses_here, numbered_on, all_numbered}
+use Rattle.ocl_compile.proofs.Numbered.{numbered_then, stopped, stopped_here, iterate_uses, uses_parts, spine_uses, let_uses, if_uses, if_parts, operation_uses, fold_uses, fold_parts, uses_here, numbered_on, all_numbered}
 use Rattle.ocl_compile.proofs.numbering.+number.Goals as goal
 
 -- ---- a first operand with its links
@@ -180,6 +180,56 @@ number_link-returns-in_err-number_iteration-in-Iterate t c =
     let m = c.args.model.now in
     let p = err_from_is_err_and c.from_residual-in_err-number_iteration-in-Iterate.result c.from_residual-in_err-number_iteration-in-Iterate.ensures.1 in
     rw (p.1, p.2) (stopped m _ _ _ _ (iteration_uses c.in-Iterate.iteration) (tree_uses m (core_view c.in-Iterate.body)) _ c.in_err-number_iteration-in-Iterate.ensures (iterate_uses m c.args.link.now c.in-Iterate.iteration c.in-Iterate.body c.in-Iterate.is))
+
+-- a start value, its kind, and the body that sees it
+
+pub number_link-number_tree-requires-in-Fold : goal.number_link-number_tree-requires-in-Fold
+number_link-number_tree-requires-in-Fold t c =
+    let p = fold_parts c.args.model.now c.args.link.now c.in-Fold.kind c.in-Fold.start c.in-Fold.body c.in-Fold.is c.requires in
+    (search (rules, the_lemmas), rw c.deref-in-Fold.ensures p.0)
+
+pub number_link-number_scalar-requires-in-Fold : goal.number_link-number_scalar-requires-in-Fold
+number_link-number_scalar-requires-in-Fold t c =
+    (fold_parts c.args.model.now c.args.link.now c.in-Fold.kind c.in-Fold.start c.in-Fold.body c.in-Fold.is c.requires).1
+
+pub number_link-number_tree-requires-in-Fold-2 : goal.number_link-number_tree-requires-in-Fold-2
+number_link-number_tree-requires-in-Fold-2 t c =
+    let p = fold_parts c.args.model.now c.args.link.now c.in-Fold.kind c.in-Fold.start c.in-Fold.body c.in-Fold.is c.requires in
+    (search (rules, the_lemmas), p.2)
+
+pub number_link-returns-in_ok-number_scalar-in-Fold : goal.number_link-returns-in_ok-number_scalar-in-Fold
+number_link-returns-in_ok-number_scalar-in-Fold t c =
+    let m = c.args.model.now in
+    let node = c.in-Fold in
+    let start = tree_uses m (core_view node.start.value) in
+    let kinds = scalar_uses node.kind in
+    let body = tree_uses m (core_view node.body) in
+    let old = c.args.numbers.now in
+    let one = c.number_tree-in-Fold.new.numbers in
+    let two = c.number_scalar-in-Fold.new.numbers in
+    let new = c.number_tree-in-Fold-2.new.numbers in
+    let is_one = rw c.deref-in-Fold.ensures at c.in_ok-number_tree-in-Fold.ensures in
+    let r = c.number_tree-in-Fold-2.result in
+    numbered_then m r new one old start (kinds ++ body) _ (numbered_then m r new two one kinds body _ c.number_tree-in-Fold-2.ensures c.in_ok-number_scalar-in-Fold.ensures refl) is_one (fold_uses m c.args.link.now node.kind node.start node.body node.is)
+
+pub number_link-returns-in_err-number_tree-in-Fold : goal.number_link-returns-in_err-number_tree-in-Fold
+number_link-returns-in_err-number_tree-in-Fold t c =
+    let m = c.args.model.now in
+    let node = c.in-Fold in
+    let p = err_from_is_err_and c.from_residual-in_err-number_tree-in-Fold.result c.from_residual-in_err-number_tree-in-Fold.ensures.1 in
+    rw (p.1, p.2) (stopped m _ _ _ _ (tree_uses m (core_view node.start.value)) (scalar_uses node.kind ++ tree_uses m (core_view node.body)) _ (rw c.deref-in-Fold.ensures at c.in_err-number_tree-in-Fold.ensures) (fold_uses m c.args.link.now node.kind node.start node.body node.is))
+
+pub number_link-returns-in_err-number_scalar-in-Fold : goal.number_link-returns-in_err-number_scalar-in-Fold
+number_link-returns-in_err-number_scalar-in-Fold t c =
+    let m = c.args.model.now in
+    let node = c.in-Fold in
+    let p = err_from_is_err_and c.from_residual-in_err-number_scalar-in-Fold.result c.from_residual-in_err-number_scalar-in-Fold.ensures.1 in
+    let kinds = scalar_uses node.kind in
+    let body = tree_uses m (core_view node.body) in
+    let is_one = rw c.deref-in-Fold.ensures at c.in_ok-number_tree-in-Fold.ensures in
+    let later = c.number_scalar-in-Fold.new.numbers in
+    let stop = stopped m _ _ later _ kinds body _ c.in_err-number_scalar-in-Fold.ensures refl in
+    rw (p.1, p.2) (numbered_then m (Err c.in_err-number_scalar-in-Fold.field-0.0) later _ _ (tree_uses m (core_view node.start.value)) (kinds ++ body) _ stop is_one (fold_uses m c.args.link.now node.kind node.start node.body node.is))
 
 pub number_links-links-init : goal.number_links-links-init
 number_links-links-init t c = (refl, c.requires)
