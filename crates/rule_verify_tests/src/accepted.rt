@@ -1,6 +1,6 @@
 //! What is read of an accepted unit.
 
-use crate::files::{HEAD, MODEL};
+use crate::files::{HEAD, HEAD_OF_TWO, MODEL};
 use imkl_model::ClassModel;
 use imkl_population::PopulationBuilder;
 use rule_code::{SymbolNumber, Unit, read_unit};
@@ -11,6 +11,9 @@ use test_support::bytes_of;
 
 /// ALL, SELECT with BOOL 1, FORALL with GET 1, ATTR depth, UNDEF.
 const RULE: &str = "0007 0a0000 450001 0401 420003 020001 090005 2a";
+
+/// ALL, INT 0, FOLD with GET 2, INT 0, EQ.
+const FOLD: &str = "0006 0a0000 030000000000000000 4a020001 020002 030000000000000000 2802";
 
 /// Whether the reads answer what the rule says.
 fn reads(accepted: &Accepted<'_>) -> bool {
@@ -95,5 +98,44 @@ fn reads_rule(alloc: Global) -> Result<bool, AllocError> {
 #[test]
 fn reads_accepted_units(rt: HostRuntime) -> Result<(), Fail> {
     assert!(rt; reads_rule(rt.alloc())?);
+    Ok(())
+}
+
+/// Whether a rule with FOLD has two variables in it besides the object, and gathers nothing.
+fn reads_fold_in(accepted: &Accepted<'_>) -> bool {
+    let depths = Depths {
+        operands: 2,
+        variables: 3,
+        blocks: 1,
+    };
+    accepted.rules() == 1 && accepted.depths(0) == depths && !accepted.takes_memory(0)
+}
+
+fn is_fold_accepted(alloc: Global, model: &ClassModel, unit: Unit) -> Result<bool, AllocError> {
+    match verify(alloc, model, unit) {
+        Ok(accepted) => Ok(reads_fold_in(&accepted)),
+        Err(_refused) => Ok(false),
+    }
+}
+
+fn reads_fold_of(alloc: Global, model: &ClassModel) -> Result<bool, AllocError> {
+    let mut bytes = bytes_of(alloc, HEAD_OF_TWO)?;
+    bytes.extend_from_slice(&bytes_of(alloc, FOLD)?)?;
+    match read_unit(alloc, &bytes) {
+        Ok(unit) => is_fold_accepted(alloc, model, unit),
+        Err(_fault) => Ok(false),
+    }
+}
+
+fn reads_fold(alloc: Global) -> Result<bool, AllocError> {
+    match ClassModel::read(alloc, MODEL.as_bytes()) {
+        Ok(model) => reads_fold_of(alloc, &model),
+        Err(_fault) => Ok(false),
+    }
+}
+
+#[test]
+fn reads_accepted_units_with_fold(rt: HostRuntime) -> Result<(), Fail> {
+    assert!(rt; reads_fold(rt.alloc())?);
     Ok(())
 }
