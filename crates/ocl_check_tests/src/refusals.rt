@@ -53,12 +53,13 @@ refused delivery 7 0 7: {"model":"imkl-profile","objects":[{"id":"M1","class":"M
 refused delivery 7 0 8: {"model":"imkl-profile","objects":[{"id":"M1","class":"Mantelbuis","features":{"identificatie":"m","diameter":110,"omvat":["E1","E1"]}},{"id":"E1","class":"Waterleiding","features":{}}]}
 refused delivery 7 0 9: {"model":"imkl-profile","objects":[{"id":"E1","class":"Waterleiding","features":{"identificatie":"a","diameter":64,"ligtIn":"M1"}}]}
 # a character, a string, an escape, a number and a comment that can't be
-refused text 1 24: context Mantelbuis inv: ;
+refused text 1 24: context Mantelbuis inv: ?
 refused text 2 24: context Mantelbuis inv: 'abc
 refused text 3 26: context Mantelbuis inv: 'a\q'
 refused text 4 24: context Mantelbuis inv: 9223372036854775808
 refused text 5 29: context Mantelbuis inv: true /* a
 # an operand that is missing; 65 parentheses; two rules of one name
+refused text 6 24: context Mantelbuis inv: ;
 refused text 6 27: context Mantelbuis inv: 1 +
 refused text 7 89: context Mantelbuis inv: «65 (»true«65 )»
 refused text 8 43: context Mantelbuis inv p: true inv q: true inv p: true
