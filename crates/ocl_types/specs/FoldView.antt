@@ -10,5 +10,5 @@ use Rattle.ocl_types.specs.Walk.{FoldStart, FoldBegun, fold_start, begun_with}
 abbrev pub start_in : Box Start Global → FoldStart
 start_in b = fold_start b.value.kind (core_view b.value.core)
 
-abbrev pub begun_in : Begun → FoldBegun
-begun_in b = begun_with (gathered_view b.source) b.element (start_in b.start)
+abbrev pub begun_in : Box Begun Global → FoldBegun
+begun_in b = begun_with (gathered_view b.value.source) b.value.element (start_in b.value.start)

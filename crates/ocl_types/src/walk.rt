@@ -372,24 +372,25 @@ fn fold_begun<'t>(
     variable: &'t Variable,
     accumulator: &'t Binding,
     left: Box<Typed>,
-) -> Result<Begun, TypeFault>
+) -> Result<Box<Begun>, TypeFault>
     requires environment { IsEnvironment environment.now scope.old }
     requires left { IsKindOf environment.now.model.now left.value.kind }
     ensures gives { Gives type_fault begun_in result (within environment.now walk.fold_begun
         scope.old (typed_in left) (view_variable variable.now) (bound_of accumulator.now)) }
-    ensures element { IfOk result (λ b. IsKindOf environment.now.model.now b.element) }
-    ensures start { IfOk result (λ b. IsScalarKindOf environment.now.model.now b.start.value.kind) }
+    ensures element { IfOk result (λ b. IsKindOf environment.now.model.now b.value.element) }
+    ensures start { IfOk result (λ b. IsScalarKindOf environment.now.model.now b.value.start.value.kind) }
     ensures kept { OnOk result (scope.new ≡ scope.old) }
 {
     let model = environment.model;
     let source = source_of_arrow(alloc, Box::into_inner(left))?;
     let element = declared_element(model, source.element, &variable.declared)?;
     let start = start_of(alloc, environment, scope, accumulator)?;
-    Ok(Begun {
+    let begun = Begun {
         source,
         element,
         start,
-    })
+    };
+    Ok(Box::new(alloc, begun)?)
 }
 
 /// What the accumulator of a fold becomes at each element, which is of this kind.
@@ -437,12 +438,12 @@ fn fold_link<'t>(
     scope: &mut Scope<'t>,
     variable: &'t Name,
     accumulator: &'t Name,
-    begun: Begun,
+    begun: Box<Begun>,
     body: &'t Expression,
 ) -> Result<Box<Typed>, TypeFault>
     requires environment { IsEnvironment environment.now scope.old }
-    requires element { IsKindOf environment.now.model.now begun.element }
-    requires start { IsScalarKindOf environment.now.model.now begun.start.value.kind }
+    requires element { IsKindOf environment.now.model.now begun.value.element }
+    requires start { IsScalarKindOf environment.now.model.now begun.value.start.value.kind }
     ensures gives { Gives type_fault typed_in result (within environment.now walk.fold_rest
         scope.old variable.now accumulator.now (begun_in begun) (view body.now)) }
     ensures known { IfOk result (λ b. IsKindOf environment.now.model.now b.value.kind) }
@@ -452,7 +453,7 @@ fn fold_link<'t>(
         source,
         element,
         start,
-    } = begun;
+    } = Box::into_inner(begun);
     let kind = start.kind;
     let value = fold_body(
         alloc,
