@@ -1,6 +1,7 @@
 //! The command line.
 
 use crate::help;
+use crate::opening::STANDARD_INPUT;
 use clap::{Arg, ArgAction, ArgMatches, Command, Error, value_parser};
 use ocl_check::{JudgeOptions, MAX_BUDGET, RulesForm};
 use std::alloc::{AllocError, Global};
@@ -58,6 +59,31 @@ pub enum Request<'a> {
     Verify(VerifyFiles<'a>),
     /// `desk` with its files.
     Desk(DeskFiles<'a>),
+}
+
+/// How many of these paths name standard input.
+fn standard_inputs(paths: &[&str]) -> usize {
+    paths.iter().filter(|path| **path == STANDARD_INPUT).count()
+}
+
+impl Request<'_> {
+    /// Whether standard input is named for more than one input, of which only the first would have any bytes.
+    pub fn shares_standard_input(&self) -> bool {
+        let count = match self {
+            Request::Judge(files, _) | Request::Bound(files) => {
+                standard_inputs(&[files.model, files.delivery, files.rules])
+            }
+            Request::Compile(files) => standard_inputs(&[files.model, files.rules]),
+            Request::Verify(files) => standard_inputs(&[files.model, files.code]),
+            Request::Desk(files) => standard_inputs(&[
+                files.rules.model,
+                files.rules.delivery,
+                files.rules.rules,
+                files.script,
+            ]),
+        };
+        count > 1
+    }
 }
 
 /// A file that must be named.
@@ -148,7 +174,7 @@ fn desk<'a>(alloc: Global) -> Result<Command<'a>, AllocError> {
 fn command<'a>(alloc: Global) -> Result<Command<'a>, AllocError> {
     Command::new(alloc, "ocl_check")
         .about("Judges deliveries of buried networks against OCL invariants")
-        .version("1.0.0")
+        .version(help::VERSION)
         .after_help(help::PROGRAM)
         .subcommand_required(true)
         .subcommand(judge(alloc)?)?

@@ -1,16 +1,22 @@
-//! The ends of the help texts: inputs, statuses, and where the pages are.
+//! The version, and the ends of the help texts: inputs, examples, statuses, and where the pages are.
+
+/// The program's version, and the logic of the kit by which it is proved.
+pub const VERSION: &str = "1.0.0 (Rattle logic dac8208d650f15bf)";
 
 /// Of the program.
 pub const PROGRAM: &str = "\
 Inputs are read whole before the first is checked, each of at most 268,435,456 bytes; a path may be
-a pipe. `ocl_check COMMAND --help` says what a command prints and how it ends. The pages are in
-docs/: language.md for rules, class-model.md, delivery.md, code-file.md, machine.md, commands.md.";
+a pipe, and `-` is standard input, for one input. `ocl_check COMMAND --help` says what a command
+prints and how it ends. The pages are in docs/: language.md for rules, class-model.md, delivery.md,
+code-file.md, machine.md, commands.md.";
 
 /// Of `judge`.
 pub const JUDGE: &str = "\
 For each rule prints a line for each object for which it fails or is undecided, then a line of its
 own, and at the end a total. A refused input, or a rule above the budget, prints one line instead:
 `refused WHAT NUMBER ..`.
+
+Example: ocl_check judge --text model.json delivery.json rules.ocl
 
 Status 0: every rule holds for each of its objects. 1: a rule fails or is undecided for an object.
 2: an input, a rule's cost or the command line is refused. 3: memory, a read or a write failed.
@@ -22,6 +28,8 @@ pub const COMPILE: &str = "\
 Writes OUT and prints `compiled N`, N being the number of rules. A refused input prints one line
 instead, and OUT is not touched: `refused WHAT NUMBER ..`.
 
+Example: ocl_check compile model.json rules.ocl rules.code
+
 Status 0: compiled. 2: an input or the command line is refused. 3: memory, a read or a write failed.
 
 docs/commands.md has every line, docs/language.md how rules are written.";
@@ -31,6 +39,8 @@ pub const VERIFY: &str = "\
 Prints `accepted N`, N being the number of rules. A refused input prints one line instead:
 `refused WHAT NUMBER ..`.
 
+Example: ocl_check verify model.json rules.code
+
 Status 0: accepted. 2: an input or the command line is refused. 3: memory, a read or a write failed.
 
 docs/commands.md has every line, docs/machine.md what is accepted.";
@@ -39,6 +49,8 @@ docs/commands.md has every line, docs/machine.md what is accepted.";
 pub const BOUND: &str = "\
 Prints for each rule `bound NAME N`, or `bound NAME over` where N would be 2^63 or more. A refused
 input prints one line instead: `refused WHAT NUMBER ..`.
+
+Example: ocl_check bound model.json delivery.json rules.code
 
 Status 0: printed. 2: an input or the command line is refused. 3: memory, a read or a write failed.
 
@@ -54,6 +66,8 @@ A job is the report on the delivery by the code, made step by step. In each line
 A call that can't be answered gives `refused desk 1` (no such job) or `refused desk 2` (the job is
 over), and the script goes on. A refused input, a script with a wrong line too, prints one line
 instead: `refused WHAT NUMBER ..`.
+
+Example: ocl_check desk model.json delivery.json rules.code calls.script
 
 Status 0: the script was run. 2: an input, a rule's cost, the script or the command line is refused.
 3: memory, a read or a write failed.

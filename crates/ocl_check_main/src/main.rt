@@ -103,6 +103,10 @@ fn main(rt: HostRuntime) -> ExitCode {
         return ended(&rt, Outcome::Failed(CommandFault::OutOfMemory));
     };
     match read_words(rt.alloc(), words.as_slice()) {
+        Ok(request) if request.shares_standard_input() => {
+            let _ = rt.eprintln("error: standard input (-) may be named for one input only");
+            ExitCode::from(2)
+        }
         Ok(Request::Judge(files, options)) => ended(&rt, judge(&rt, files, options)),
         Ok(Request::Compile(files)) => ended(&rt, compile(&rt, files)),
         Ok(Request::Bound(files)) => ended(&rt, bound(&rt, files)),

@@ -4,8 +4,12 @@ use std::fs::File;
 use std::io::Read;
 use std::{fs, io};
 
+/// The path that names standard input.
+pub const STANDARD_INPUT: &str = "-";
+
 /// A file that is opened at its first read, so that no file is opened before the inputs named earlier have ended: a
-/// writer that feeds several pipes in turn is not kept waiting. A file that can't be opened is a failed read.
+/// writer that feeds several pipes in turn is not kept waiting. A file that can't be opened is a failed read. Standard
+/// input, which is open already, is read as it is.
 #[derive(Drop)]
 pub struct Opening<'a> {
     rt: &'a HostRuntime,
@@ -26,6 +30,9 @@ impl<'a> Opening<'a> {
 
 impl Read for Opening<'_> {
     fn read(&mut self, piece: &mut [u8]) -> io::Result<usize> {
+        if self.path == STANDARD_INPUT {
+            return self.rt.stdin().read(piece);
+        }
         if let Some(file) = &mut self.file {
             return file.read(piece);
         }

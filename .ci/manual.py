@@ -1,0 +1,69 @@
+"""The manual page of a program, from the texts of its command line: what its commands say of themselves in
+`command_line.rt`, and the ends of the help texts in `help.rt`."""
+import re
+
+
+def texts(source):
+    """The constant texts of help.rt, by name."""
+    found = re.findall(r'pub const (\w+): &str = "(?:\\\n)?(.*?)";', source, flags=re.S)
+    return {name: text.replace("\\\\", "\\") for name, text in found}
+
+
+def functions(source):
+    """The bodies of the functions of command_line.rt, by name."""
+    return dict(re.findall(r"(?ms)^(?:pub(?:\([a-z]+\))? )?fn (\w+).*?\n?\{\n(.*?)^\}", source))
+
+
+def arguments(body, shared):
+    """What a command's body names: the arguments that must be given, each with what it is."""
+    flat = re.sub(r"\s+", " ", body)
+    named = r'file\( ?alloc, "(\w+)", "([^"]+)"'
+    below = re.search(r'on_delivery\( ?alloc, \w+, "(\w+)", "([^"]+)"', flat)
+    first = re.findall(named, re.sub(r"\s+", " ", shared)) + [below.groups()] if below else []
+    return first + re.findall(named, flat)
+
+
+def options(body, functions):
+    """The options of a command: how each is written, and what it does."""
+    found = []
+    for name in re.findall(r"\.arg\((\w+)\(alloc\)\)", body):
+        option = functions[name]
+        value = re.search(r'value_name\("(\w+)"\)', option)
+        written = "--" + re.search(r'long\("([\w-]+)"\)', option)[1] + (f" {value[1]}" if value else "")
+        found.append((written, re.search(r'\.help\("([^"]+)"\)', option)[1]))
+    return found
+
+
+def escaped(text):
+    """A text as a manual page writes it: no line of it is a request."""
+    lines = text.replace("\\", "\\e").replace("-", "\\-").split("\n")
+    return "\n".join("\\&" + it if it.startswith((".", "'")) else it for it in lines)
+
+
+def paragraphs(text):
+    """Paragraphs of a help text; one with indented lines stays as it is laid out."""
+    written = []
+    for it in text.split("\n\n"):
+        laid_out = re.search(r"(?m)^ ", it)
+        written += [".PP", *([".nf"] if laid_out else []), escaped(it), *([".fi"] if laid_out else [])]
+    return written
+
+
+def manual(program, command_line, help_texts):
+    """The page in the form of `man`."""
+    said, bodies = texts(help_texts), functions(command_line)
+    about = lambda name: re.search(r'\.about\("([^"]+)"\)', bodies[name])[1]
+    commands = re.findall(r"\.subcommand\((\w+)\(alloc\)\?\)", bodies["command"])
+    page = [f'.TH {program.upper()} 1 "" "{program} {said["VERSION"].split()[0]}"', ".SH NAME",
+            f"{program} \\- {about('command')}", ".SH SYNOPSIS"]
+    for name in commands:
+        chosen = [f"[\\fB{escaped(it)}\\fR]" for it, _ in options(bodies[name], bodies)]
+        files = [f"\\fI{it}\\fR" for it, _ in arguments(bodies[name], bodies["on_delivery"])]
+        page += [f"\\fB{program} {name}\\fR {' '.join([*chosen, *files])}", ".br"]
+    page += [".SH DESCRIPTION", *paragraphs(said["PROGRAM"])[1:], ".SH COMMANDS"]
+    for name in commands:
+        page += [f".SS {name}", escaped(about(name)) + "."]
+        for written, meaning in arguments(bodies[name], bodies["on_delivery"]) + options(bodies[name], bodies):
+            page += [".TP", f"\\fB{escaped(written)}\\fR", escaped(meaning)]
+        page += paragraphs(said[name.upper()])
+    return "\n".join(page) + "\n"
