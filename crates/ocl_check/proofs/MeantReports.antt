@@ -10,7 +10,7 @@ use Rattle.imkl_model.specs.WellFormed.{IsClassModel}
 use Rattle.imkl_population.specs.Population.{Population, object_at, instances, is_instance, IsInstance}
 use Rattle.imkl_population.specs.Consistency.{IsConsistent}
 use Rattle.ocl_base.proofs.ForAbove.{places_below, places_pass}
-use Rattle.ocl_types.specs.Core.{CheckedRule}
+use Rattle.ocl_core.specs.Core.{CheckedRule}
 use Rattle.rule_code.specs.Content.{Content}
 use Rattle.rule_code.specs.WellFormed.{IsUnit}
 use Rattle.rule_machine.specs.Laws.{verdict_at}

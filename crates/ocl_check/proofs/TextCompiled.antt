@@ -3,7 +3,7 @@ use Rattle.std.proofs.Common.{◌≡◌, ℕ, List, Result, Ok, Err, IfOk, refl,
 use Rattle.ocl_base.specs.Steps.{◌>>=◌, FaultMeaning, fault, out_of_memory, never, Means, Fails}
 use Rattle.imkl_model.specs.ClassModel.{Model}
 use Rattle.ocl_text.specs.Tree.{Rule}
-use Rattle.ocl_types.specs.Core.{CheckedRule}
+use Rattle.ocl_core.specs.Core.{CheckedRule}
 use Rattle.ocl_types.specs.AllRules.{RulesFaultAt, rules_fault, elaborate_rules}
 use Rattle.ocl_types.specs.declared.rules_fault.RulesFault.{RulesFault}
 use Rattle.ocl_types.specs.declared.rules_fault.RulesFault.TheVariants as types

@@ -8,7 +8,7 @@ use Rattle.ocl_base.specs.Steps.{◌>>=◌}
 use Rattle.ocl_base.proofs.ForAbove.{both_steps, ok_is, not_okay}
 use Rattle.imkl_model.specs.ClassModel.{Model}
 use Rattle.ocl_text.specs.Tree.{Rule}
-use Rattle.ocl_types.specs.Core.{CheckedRule}
+use Rattle.ocl_core.specs.Core.{CheckedRule}
 use Rattle.ocl_types.specs.AllRules.{RulesFaultAt, elaborate_rules}
 use Rattle.ocl_types.proofs.ForAbove.{all_typed}
 use Rattle.rule_code.specs.Content.{Content}

@@ -3,7 +3,7 @@ use Rattle.std.specs.Prelude.{ℕ, List, Result, Ok, Err}
 use Rattle.ocl_base.specs.Steps.{◌>>=◌}
 use Rattle.imkl_model.specs.ClassModel.{Model}
 use Rattle.ocl_text.specs.Tree.{Rule}
-use Rattle.ocl_types.specs.Core.{CheckedRule}
+use Rattle.ocl_core.specs.Core.{CheckedRule}
 use Rattle.ocl_types.specs.AllRules.{RulesFaultAt, elaborate_rules}
 use Rattle.rule_code.specs.Content.{Content}
 use Rattle.ocl_compile.specs.Compiling.{LimitAt, compile_of}

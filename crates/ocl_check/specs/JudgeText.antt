@@ -2,7 +2,7 @@
 use Rattle.std.specs.Prelude.{ℕ, ◌+◌, ◌≡◌, List, Result, Ok, Err}
 use Rattle.imkl_population.specs.Population.{Population}
 use Rattle.imkl_population.specs.Sizes.{sizes_of}
-use Rattle.ocl_types.specs.Core.{CheckedRule}
+use Rattle.ocl_core.specs.Core.{CheckedRule}
 use Rattle.rule_cost.specs.Admission.{admission}
 use Rattle.ocl_check.specs.declared.commands.judge.RulesForm.{RulesForm}
 use Rattle.ocl_check.specs.declared.commands.judge.RulesForm.TheVariants.{Code, Text}

@@ -2,7 +2,7 @@
 use Rattle.std.specs.Prelude.{ℕ, List, ◌++◌, Option, Some, length, map}
 use Rattle.std.specs.List.{flat_map}
 use Rattle.imkl_population.specs.Population.{Population, object_at, instances}
-use Rattle.ocl_types.specs.Core.{CheckedRule}
+use Rattle.ocl_core.specs.Core.{CheckedRule}
 use Rattle.rule_machine.specs.declared.verdict.Verdict.{Verdict}
 use Rattle.ocl_compile.specs.Meaning.{meant_verdict}
 use Rattle.rule_report.specs.declared.summary.Summary.{Summary}

@@ -6,7 +6,7 @@ use Rattle.ocl_tokens.specs.declared.fault.TextFault.{TextFault}
 use Rattle.ocl_tokens.specs.declared.fault.TextFault.TheVariants as text
 use Rattle.ocl_text.specs.View.{rule_of}
 use Rattle.ocl_text.specs.declared.tree.SurfaceRule.{SurfaceRule}
-use Rattle.ocl_types.specs.Core.{CheckedRule}
+use Rattle.ocl_core.specs.Core.{CheckedRule}
 use Rattle.ocl_types.specs.declared.rules_fault.RulesFault.{RulesFault}
 use Rattle.ocl_types.specs.declared.rules_fault.RulesFault.TheVariants as types
 use Rattle.rule_code.specs.Content.{Content}

@@ -3,9 +3,9 @@ use Rattle.std.proofs.Common.{◌≡◌, ℕ, zero, suc, List, ◌∷◌, length
 use Rattle.std.specs.Str.{chars}
 use Rattle.imkl_population.specs.declared.scalar.Scalar.TheVariants as scalar
 use Rattle.ocl_kinds.specs.declared.kind.Kind.{Kind}
-use Rattle.ocl_types.specs.Core as tree
-use Rattle.ocl_types.specs.Core.{Constant, CoreTree, CoreTrees}
-use Rattle.ocl_types.specs.Typing.{IsTyped, AreTyped}
+use Rattle.ocl_core.specs.Core as tree
+use Rattle.ocl_core.specs.Core.{Constant, CoreTree, CoreTrees}
+use Rattle.ocl_core.specs.Typing.{IsTyped, AreTyped}
 use Rattle.rule_code.specs.declared.instruction.Instr.TheVariants as instrs
 use Rattle.rule_verify.specs.CodeTree as code
 use Rattle.rule_verify.specs.CodeTree.{CodeTree, instr_count}

@@ -8,8 +8,8 @@ use Rattle.std.proofs.lemmas.Option.{slice_get-map, slice_get_within, get_or_fro
 use Rattle.imkl_model.specs.ClassModel.{Model}
 use Rattle.imkl_model.specs.WellFormed.{IsClassModel}
 use Rattle.imkl_population.specs.Population.{Population, IsInstance}
-use Rattle.ocl_types.specs.Core.{CheckedRule}
-use Rattle.ocl_types.specs.Typing.{IsTypedRule}
+use Rattle.ocl_core.specs.Core.{CheckedRule}
+use Rattle.ocl_core.specs.Typing.{IsTypedRule}
 use Rattle.rule_code.specs.Content.{Content, RuleContent, text_at}
 use Rattle.rule_verify.specs.CodeTree.{CodeTree, End, code_tree}
 use Rattle.rule_verify.specs.UnitRules.{unit_rule, empty_rule, context_class, IsAcceptedUnit}

@@ -11,9 +11,9 @@ use Rattle.ocl_kinds.specs.declared.kind.Kind.{Kind}
 use Rattle.ocl_kinds.specs.declared.kind.Kind.TheVariants.{Scalar}
 use Rattle.ocl_kinds.specs.Kinds.{fits}
 use Rattle.ocl_kinds.proofs.ForAbove.{fits_itself, fits_along}
-use Rattle.ocl_types.specs.Core.{CheckedRule}
-use Rattle.ocl_types.specs.Elaboration.{truth_kind}
-use Rattle.ocl_types.specs.Typing.{IsTypedRule}
+use Rattle.ocl_core.specs.Core.{CheckedRule}
+use Rattle.ocl_core.specs.OperatorKinds.{truth_kind}
+use Rattle.ocl_core.specs.Typing.{IsTypedRule}
 use Rattle.rule_code.specs.Content.{Content}
 use Rattle.rule_verify.specs.declared.named.Named.{Named}
 use Rattle.rule_verify.specs.declared.depths.Depths.{Depths}

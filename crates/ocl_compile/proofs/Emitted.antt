@@ -7,15 +7,15 @@ use Rattle.std.proofs.Math.ListN.{drop_of_length-le}
 use Rattle.imkl_model.specs.ClassModel.{Model}
 use Rattle.ocl_kinds.specs.declared.kind.ScalarKind.{ScalarKind}
 use Rattle.ocl_kinds.specs.declared.kind.Kind.{Kind}
-use Rattle.ocl_types.specs.declared.core_tree.Core.{Core, the_lemmas}
-use Rattle.ocl_types.specs.declared.core_tree.Core.TheVariants as v
-use Rattle.ocl_types.specs.declared.core_tree.CoreLink.{CoreLink, Feature, Operation', AsCollection, Iterate, Fold'}
-use Rattle.ocl_types.specs.declared.core_tree.CoreLink.TheVariants as l
-use Rattle.ocl_types.specs.declared.core_tree.Iteration.{Iteration}
-use Rattle.ocl_types.specs.Core as tree
-use Rattle.ocl_types.specs.Core.{CoreTree, CoreTrees, cores_of, lets_of}
-use Rattle.ocl_types.specs.CoreView.{core_view, core_link_of, core_spine}
-use Rattle.ocl_types.proofs.ForAbove.{core_view-Spine, core_view-Let, core_view-If, core_link_of-Iterate, core_link_of-Fold}
+use Rattle.ocl_core.specs.declared.core_tree.Core.{Core, the_lemmas}
+use Rattle.ocl_core.specs.declared.core_tree.Core.TheVariants as v
+use Rattle.ocl_core.specs.declared.core_tree.CoreLink.{CoreLink, Feature, Operation', AsCollection, Iterate, Fold'}
+use Rattle.ocl_core.specs.declared.core_tree.CoreLink.TheVariants as l
+use Rattle.ocl_core.specs.declared.core_tree.Iteration.{Iteration}
+use Rattle.ocl_core.specs.Core as tree
+use Rattle.ocl_core.specs.Core.{CoreTree, CoreTrees, cores_of, lets_of}
+use Rattle.ocl_core.specs.CoreView.{core_view, core_link_of, core_spine}
+use Rattle.ocl_core.proofs.ForAbove.{core_view-Spine, core_view-Let, core_view-If, core_link_of-Iterate, core_link_of-Fold}
 use Rattle.rule_code.specs.declared.instruction.Instr.{Instr}
 use Rattle.rule_code.specs.declared.instruction.Instr.TheVariants as instrs
 use Rattle.rule_verify.specs.CodeTree as code

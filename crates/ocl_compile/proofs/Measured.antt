@@ -5,17 +5,17 @@ use Rattle.std.proofs.lemmas.Bool.{lt-ltb, le-ltb, ltb-true, ltb-false}
 use Rattle.imkl_model.specs.ClassModel.{Model}
 use Rattle.ocl_kinds.specs.declared.kind.ScalarKind.{ScalarKind}
 use Rattle.ocl_kinds.specs.declared.kind.Kind.{Kind}
-use Rattle.ocl_types.specs.declared.operator.PlainOperator.{PlainOperator}
-use Rattle.ocl_types.specs.declared.operator.PlainOperator.TheVariants as plain
-use Rattle.ocl_types.specs.declared.operator.ClassOperator.TheVariants as of_class
-use Rattle.ocl_types.specs.declared.operator.ElementOperator.TheVariants as of_elements
-use Rattle.ocl_types.specs.declared.operator.Operator.{Operator}
-use Rattle.ocl_types.specs.declared.operator.Operator.TheVariants.{Plain, OfClass, OfElements, Equal}
-use Rattle.ocl_types.specs.declared.core_tree.Iteration.{Iteration}
-use Rattle.ocl_types.specs.declared.core_tree.Iteration.TheVariants as iteration
-use Rattle.ocl_types.specs.Core as tree
-use Rattle.ocl_types.specs.Core.{Constant, CoreTree, CoreTrees, CheckedRule}
-use Rattle.ocl_types.specs.Typing.{plain_operands, IsTyped, AreTyped, IsTypedRule}
+use Rattle.ocl_core.specs.declared.operator.PlainOperator.{PlainOperator}
+use Rattle.ocl_core.specs.declared.operator.PlainOperator.TheVariants as plain
+use Rattle.ocl_core.specs.declared.operator.ClassOperator.TheVariants as of_class
+use Rattle.ocl_core.specs.declared.operator.ElementOperator.TheVariants as of_elements
+use Rattle.ocl_core.specs.declared.operator.Operator.{Operator}
+use Rattle.ocl_core.specs.declared.operator.Operator.TheVariants.{Plain, OfClass, OfElements, Equal}
+use Rattle.ocl_core.specs.declared.core_tree.Iteration.{Iteration}
+use Rattle.ocl_core.specs.declared.core_tree.Iteration.TheVariants as iteration
+use Rattle.ocl_core.specs.Core as tree
+use Rattle.ocl_core.specs.Core.{Constant, CoreTree, CoreTrees, CheckedRule}
+use Rattle.ocl_core.specs.Typing.{plain_operands, IsTyped, AreTyped, IsTypedRule}
 use Rattle.rule_code.specs.declared.instruction.Instr.{Instr}
 use Rattle.rule_code.specs.declared.instruction.Instr.TheVariants as instrs
 use Rattle.rule_verify.specs.declared.depths.Depths.{Depths}

@@ -5,16 +5,16 @@ use Rattle.std.proofs.Math.ListN.{drop_of_length-le}
 use Rattle.imkl_model.specs.ClassModel.{Model}
 use Rattle.ocl_kinds.specs.declared.kind.ScalarKind.{ScalarKind}
 use Rattle.ocl_kinds.specs.declared.kind.Kind.{Kind}
-use Rattle.ocl_types.specs.declared.core_tree.Core.{Core, the_lemmas}
-use Rattle.ocl_types.specs.declared.core_tree.Core.TheVariants as v
-use Rattle.ocl_types.specs.declared.core_tree.CoreLink.{CoreLink, Feature, Operation', AsCollection, Iterate, Fold'}
-use Rattle.ocl_types.specs.declared.core_tree.CoreLink.TheVariants as l
-use Rattle.ocl_types.specs.declared.operator.Operator.{Operator}
-use Rattle.ocl_types.specs.declared.core_tree.Iteration.{Iteration}
-use Rattle.ocl_types.specs.Core.{CoreTree, cores_of, lets_of}
-use Rattle.ocl_types.specs.Core as tree
-use Rattle.ocl_types.specs.CoreView.{core_view, core_link_of, core_spine}
-use Rattle.ocl_types.proofs.ForAbove.{core_view-Spine, core_view-Let, core_view-If, core_link_of-Operation, core_link_of-Iterate, core_link_of-Fold}
+use Rattle.ocl_core.specs.declared.core_tree.Core.{Core, the_lemmas}
+use Rattle.ocl_core.specs.declared.core_tree.Core.TheVariants as v
+use Rattle.ocl_core.specs.declared.core_tree.CoreLink.{CoreLink, Feature, Operation', AsCollection, Iterate, Fold'}
+use Rattle.ocl_core.specs.declared.core_tree.CoreLink.TheVariants as l
+use Rattle.ocl_core.specs.declared.operator.Operator.{Operator}
+use Rattle.ocl_core.specs.declared.core_tree.Iteration.{Iteration}
+use Rattle.ocl_core.specs.Core.{CoreTree, cores_of, lets_of}
+use Rattle.ocl_core.specs.Core as tree
+use Rattle.ocl_core.specs.CoreView.{core_view, core_link_of, core_spine}
+use Rattle.ocl_core.proofs.ForAbove.{core_view-Spine, core_view-Let, core_view-If, core_link_of-Operation, core_link_of-Iterate, core_link_of-Fold}
 use Rattle.ocl_compile.specs.EmitWalk.{link_node}
 use Rattle.ocl_compile.specs.Numbering.{Use, Numbering, tree_uses, trees_uses, scalar_uses, kind_uses, operator_uses, iteration_uses, with_use, with_uses}
 use Rattle.ocl_compile.specs.declared.numbers.NumberFault.{NumberFault}

@@ -12,18 +12,18 @@ use Rattle.ocl_kinds.specs.declared.kind.Kind.{Kind}
 use Rattle.ocl_kinds.specs.declared.kind.Kind.TheVariants.{Scalar, Collection}
 use Rattle.ocl_kinds.specs.Kinds.{is_same_collection, scalar_fits, fits, elements_kind}
 use Rattle.ocl_kinds.proofs.ForAbove.{scalar_fits_along, fits_itself, fits_along}
-use Rattle.ocl_types.specs.declared.operator.PlainOperator.{PlainOperator}
-use Rattle.ocl_types.specs.declared.operator.PlainOperator.TheVariants as plain
-use Rattle.ocl_types.specs.declared.operator.ClassOperator.{ClassOperator}
-use Rattle.ocl_types.specs.declared.operator.ClassOperator.TheVariants as of_class
-use Rattle.ocl_types.specs.declared.operator.ElementOperator.{ElementOperator}
-use Rattle.ocl_types.specs.declared.operator.ElementOperator.TheVariants as of_elements
-use Rattle.ocl_types.specs.declared.operator.Operator.{Operator}
-use Rattle.ocl_types.specs.declared.operator.Operator.TheVariants.{Plain, OfClass, OfElements, Equal}
-use Rattle.ocl_types.specs.Operators.{basic, basic_kind}
-use Rattle.ocl_types.specs.Elaboration.{class_result, element_result}
-use Rattle.ocl_types.specs.Typing as typing
-use Rattle.ocl_types.specs.Typing.{Operand, is_operand, are_operands, plain_operands, plain_result, AreOthers, IsOperation}
+use Rattle.ocl_core.specs.declared.operator.PlainOperator.{PlainOperator}
+use Rattle.ocl_core.specs.declared.operator.PlainOperator.TheVariants as plain
+use Rattle.ocl_core.specs.declared.operator.ClassOperator.{ClassOperator}
+use Rattle.ocl_core.specs.declared.operator.ClassOperator.TheVariants as of_class
+use Rattle.ocl_core.specs.declared.operator.ElementOperator.{ElementOperator}
+use Rattle.ocl_core.specs.declared.operator.ElementOperator.TheVariants as of_elements
+use Rattle.ocl_core.specs.declared.operator.Operator.{Operator}
+use Rattle.ocl_core.specs.declared.operator.Operator.TheVariants.{Plain, OfClass, OfElements, Equal}
+use Rattle.ocl_core.specs.OperatorKinds.{basic, basic_kind}
+use Rattle.ocl_core.specs.OperatorKinds.{class_result, element_result}
+use Rattle.ocl_core.specs.Typing as typing
+use Rattle.ocl_core.specs.Typing.{Operand, is_operand, are_operands, plain_operands, plain_result, AreOthers, IsOperation}
 use Rattle.rule_code.specs.declared.instruction.Instr.{Instr}
 use Rattle.rule_code.specs.declared.instruction.Instr.TheVariants as instrs
 use Rattle.rule_verify.specs.declared.named.Named.{Named}

@@ -8,8 +8,8 @@ use Rattle.rule_code.specs.declared.instruction.Instr.TheVariants as instrs
 use Rattle.rule_code.specs.declared.kind.WrittenScalar.{WrittenScalar}
 use Rattle.rule_verify.specs.CodeTree.{CodeTree, Plain, Block, Branch}
 use Rattle.rule_verify.specs.InstrKinds.{operands_of, bound_count, ends_with, operands_above}
-use Rattle.ocl_types.specs.declared.core_tree.Iteration.{Iteration}
-use Rattle.ocl_types.specs.declared.core_tree.Iteration.TheVariants as iteration
+use Rattle.ocl_core.specs.declared.core_tree.Iteration.{Iteration}
+use Rattle.ocl_core.specs.declared.core_tree.Iteration.TheVariants as iteration
 use Rattle.rule_values.specs.Value as value
 use Rattle.rule_values.specs.Value.{Element, Value, element_value}
 use Rattle.rule_values.specs.Operations.{or_invalid}

@@ -11,12 +11,12 @@ use Rattle.ocl_kinds.specs.declared.kind.Kind.{Kind}
 use Rattle.ocl_kinds.specs.declared.kind.Kind.TheVariants.{Scalar, Collection}
 use Rattle.ocl_kinds.specs.Kinds.{is_same_collection, scalar_fits, fits, elements_kind, collected_kind}
 use Rattle.ocl_kinds.proofs.ForAbove.{same_collection_is, same_collection_itself, fits_along}
-use Rattle.ocl_types.specs.declared.core_tree.Iteration.{Iteration}
-use Rattle.ocl_types.specs.declared.core_tree.Iteration.TheVariants as iteration
-use Rattle.ocl_types.specs.Core as tree
-use Rattle.ocl_types.specs.Core.{Constant, CoreTree, CoreTrees}
-use Rattle.ocl_types.specs.Elaboration.{truth_kind}
-use Rattle.ocl_types.specs.Typing.{constant_kind, IsTypedIteration, IsTyped, AreTyped}
+use Rattle.ocl_core.specs.declared.core_tree.Iteration.{Iteration}
+use Rattle.ocl_core.specs.declared.core_tree.Iteration.TheVariants as iteration
+use Rattle.ocl_core.specs.Core as tree
+use Rattle.ocl_core.specs.Core.{Constant, CoreTree, CoreTrees}
+use Rattle.ocl_core.specs.OperatorKinds.{truth_kind}
+use Rattle.ocl_core.specs.Typing.{constant_kind, IsTypedIteration, IsTyped, AreTyped}
 use Rattle.rule_code.specs.declared.instruction.Instr.{Instr}
 use Rattle.rule_code.specs.declared.instruction.Instr.TheVariants as instrs
 use Rattle.rule_verify.specs.declared.depths.Depths.{Depths}

@@ -9,8 +9,8 @@ use Rattle.std.proofs.lemmas.Slice.Eq.{bytes_eq-Decides}
 use Rattle.ocl_base.specs.Lists.{is_among, repeats}
 use Rattle.ocl_base.specs.Words.{is_name}
 use Rattle.imkl_model.specs.ClassModel.{Model, class_at, enumeration_at, feature_at}
-use Rattle.ocl_types.specs.Core.{CheckedRule}
-use Rattle.ocl_types.specs.Typing.{IsTypedRule}
+use Rattle.ocl_core.specs.Core.{CheckedRule}
+use Rattle.ocl_core.specs.Typing.{IsTypedRule}
 use Rattle.rule_code.specs.Content.{Content, RuleContent, text_at, names_of}
 use Rattle.rule_code.specs.WellFormed.{most_text_bytes, most_rules, IsTextOfUnit, SymbolFits, EachFits, RuleFits, IsUnit}
 use Rattle.rule_verify.specs.declared.named.Named.{Named}

@@ -5,8 +5,8 @@ use Rattle.imkl_model.specs.ClassModel.{Model}
 use Rattle.imkl_model.specs.WellFormed.{IsClassModel}
 use Rattle.imkl_population.specs.Population.{Population, IsInstance}
 use Rattle.imkl_population.specs.Consistency.{IsConsistent}
-use Rattle.ocl_types.specs.Core.{CheckedRule}
-use Rattle.ocl_types.specs.Typing.{IsTypedRule}
+use Rattle.ocl_core.specs.Core.{CheckedRule}
+use Rattle.ocl_core.specs.Typing.{IsTypedRule}
 use Rattle.rule_code.specs.Content.{Content, text_at}
 use Rattle.rule_code.specs.WellFormed.{IsUnit}
 use Rattle.rule_verify.specs.UnitRules.{unit_rule, context_class, IsAcceptedUnit}

@@ -2,8 +2,8 @@
 use Rattle.std.specs.Prelude.{ℕ, ◌≤◌, List, [], Result, if◌then◌else◌}
 use Rattle.std.specs.List.{list_any}
 use Rattle.imkl_model.specs.ClassModel.{Model}
-use Rattle.ocl_types.specs.Core.{CheckedRule}
-use Rattle.ocl_types.specs.Typing.{IsTypedRule}
+use Rattle.ocl_core.specs.Core.{CheckedRule}
+use Rattle.ocl_core.specs.Typing.{IsTypedRule}
 use Rattle.ocl_base.specs.Steps.{FaultMeaning, fault, out_of_memory}
 use Rattle.rule_code.specs.declared.unit.Rule.{Rule}
 use Rattle.rule_code.specs.declared.version.Version.{Version}

@@ -1,7 +1,7 @@
 -- How large and how deep the code of a core tree is, by the tree alone.
 use Rattle.std.specs.Prelude.{ℕ, suc, ◌+◌, ◌||◌, max, min, Option, Some, None, nat_le, nat_lt, if◌then◌else◌}
-use Rattle.ocl_types.specs.Core as tree
-use Rattle.ocl_types.specs.Core.{CoreTree, CoreTrees}
+use Rattle.ocl_core.specs.Core as tree
+use Rattle.ocl_core.specs.Core.{CoreTree, CoreTrees}
 use Rattle.rule_code.specs.WellFormed.{most_rules}
 use Rattle.rule_verify.specs.KindRules.{operand_limit, block_limit}
 use Rattle.ocl_compile.specs.declared.extent.Extent.{Extent}

@@ -4,18 +4,18 @@ use Rattle.std.specs.Str.{chars}
 use Rattle.imkl_population.specs.declared.scalar.Scalar.TheVariants as scalar
 use Rattle.imkl_population.specs.Population.{Population}
 use Rattle.ocl_base.specs.Lists.{variable_at}
-use Rattle.ocl_types.specs.declared.operator.PlainOperator.{PlainOperator}
-use Rattle.ocl_types.specs.declared.operator.PlainOperator.TheVariants as plain
-use Rattle.ocl_types.specs.declared.operator.ClassOperator.{ClassOperator}
-use Rattle.ocl_types.specs.declared.operator.ClassOperator.TheVariants as of_class
-use Rattle.ocl_types.specs.declared.operator.ElementOperator.{ElementOperator}
-use Rattle.ocl_types.specs.declared.operator.ElementOperator.TheVariants as of_elements
-use Rattle.ocl_types.specs.declared.operator.Operator.{Operator}
-use Rattle.ocl_types.specs.declared.operator.Operator.TheVariants.{Plain, OfClass, OfElements, Equal}
-use Rattle.ocl_types.specs.declared.core_tree.Iteration.{Iteration}
-use Rattle.ocl_types.specs.declared.core_tree.Iteration.TheVariants as iteration
-use Rattle.ocl_types.specs.Core as tree
-use Rattle.ocl_types.specs.Core.{Constant, CoreTree, CoreTrees, CheckedRule}
+use Rattle.ocl_core.specs.declared.operator.PlainOperator.{PlainOperator}
+use Rattle.ocl_core.specs.declared.operator.PlainOperator.TheVariants as plain
+use Rattle.ocl_core.specs.declared.operator.ClassOperator.{ClassOperator}
+use Rattle.ocl_core.specs.declared.operator.ClassOperator.TheVariants as of_class
+use Rattle.ocl_core.specs.declared.operator.ElementOperator.{ElementOperator}
+use Rattle.ocl_core.specs.declared.operator.ElementOperator.TheVariants as of_elements
+use Rattle.ocl_core.specs.declared.operator.Operator.{Operator}
+use Rattle.ocl_core.specs.declared.operator.Operator.TheVariants.{Plain, OfClass, OfElements, Equal}
+use Rattle.ocl_core.specs.declared.core_tree.Iteration.{Iteration}
+use Rattle.ocl_core.specs.declared.core_tree.Iteration.TheVariants as iteration
+use Rattle.ocl_core.specs.Core as tree
+use Rattle.ocl_core.specs.Core.{Constant, CoreTree, CoreTrees, CheckedRule}
 use Rattle.rule_machine.specs.declared.verdict.Verdict.{Verdict}
 use Rattle.rule_values.specs.Value as value
 use Rattle.rule_values.specs.Value.{Element, Value, truth_value, object_value, element_value}

@@ -3,7 +3,7 @@ use Rattle.std.specs.Prelude.{◌≡◌, ◌<◌, ◌≤◌, List, false, Result
 use Rattle.std.specs.List.{flat_map, list_any, AllByRecursion}
 use Rattle.imkl_model.specs.ClassModel.{Model, enumeration_at, feature_at}
 use Rattle.imkl_model.specs.WellFormed.{IsFeature}
-use Rattle.ocl_types.specs.declared.core_tree.CoreLink.{CoreLink}
+use Rattle.ocl_core.specs.declared.core_tree.CoreLink.{CoreLink}
 use Rattle.rule_verify.specs.declared.named.Named.{Named}
 use Rattle.rule_verify.specs.declared.named.Named.TheVariants as named
 use Rattle.ocl_compile.specs.declared.numbers.NumberFault.{NumberFault}

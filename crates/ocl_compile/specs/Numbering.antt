@@ -7,12 +7,12 @@ use Rattle.ocl_kinds.specs.declared.kind.ScalarKind.{ScalarKind}
 use Rattle.ocl_kinds.specs.declared.kind.ScalarKind.TheVariants as element
 use Rattle.ocl_kinds.specs.declared.kind.Kind.{Kind}
 use Rattle.ocl_kinds.specs.declared.kind.Kind.TheVariants.{Scalar, Collection}
-use Rattle.ocl_types.specs.declared.operator.Operator.{Operator}
-use Rattle.ocl_types.specs.declared.operator.Operator.TheVariants.{Plain, OfClass, OfElements, Equal}
-use Rattle.ocl_types.specs.declared.core_tree.Iteration.{Iteration}
-use Rattle.ocl_types.specs.declared.core_tree.Iteration.TheVariants as iteration
-use Rattle.ocl_types.specs.Core as tree
-use Rattle.ocl_types.specs.Core.{Constant, CoreTree, CoreTrees, CheckedRule}
+use Rattle.ocl_core.specs.declared.operator.Operator.{Operator}
+use Rattle.ocl_core.specs.declared.operator.Operator.TheVariants.{Plain, OfClass, OfElements, Equal}
+use Rattle.ocl_core.specs.declared.core_tree.Iteration.{Iteration}
+use Rattle.ocl_core.specs.declared.core_tree.Iteration.TheVariants as iteration
+use Rattle.ocl_core.specs.Core as tree
+use Rattle.ocl_core.specs.Core.{Constant, CoreTree, CoreTrees, CheckedRule}
 use Rattle.rule_verify.specs.declared.named.Named.{Named}
 use Rattle.rule_verify.specs.declared.named.Named.TheVariants as named
 

@@ -2,8 +2,8 @@
 use Rattle.std.specs.Prelude.{◌≡◌, ◌≤◌, true}
 use Rattle.ocl_base.specs.Words.{is_name}
 use Rattle.ocl_tokens.specs.declared.token.TheConstants.{MAX_NUMBER}
-use Rattle.ocl_types.specs.Core as tree
-use Rattle.ocl_types.specs.Core.{Constant, CoreTree, CoreTrees, CheckedRule}
+use Rattle.ocl_core.specs.Core as tree
+use Rattle.ocl_core.specs.Core.{Constant, CoreTree, CoreTrees, CheckedRule}
 
 abbrev pub IsWrittenConstant : Constant → Type 0
 IsWrittenConstant (tree.Integer n) = n ≤ MAX_NUMBER

@@ -2,8 +2,8 @@
 
 ghost use Rattle.std.specs.Prelude.{◌≡◌, ◌≤◌, [], ◌∷◌, ◌++◌, length, map, OnOk, IfOk};
 ghost use Rattle.std.specs.List.{AllByRecursion};
-ghost use Rattle.ocl_types.specs.Core.{cores_of};
-ghost use Rattle.ocl_types.specs.CoreView.{core_view};
+ghost use Rattle.ocl_core.specs.Core.{cores_of};
+ghost use Rattle.ocl_core.specs.CoreView.{core_view};
 ghost use Rattle.rule_code.specs.declared.instruction.Instr.TheVariants.{Let};
 ghost use Rattle.rule_verify.specs.CodeTree.{End, instr_count};
 ghost use Rattle.ocl_compile.specs.Written.{IsWritten, AreWritten};
@@ -15,7 +15,7 @@ use crate::fields::{body_length, feature_of_unit, symbol_of_unit, written_kind, 
 use crate::instructions::{constant_instr, iteration_instr, operator_instr, variable_instr};
 use crate::numbers::Numbers;
 use imkl_model::ClassModel;
-use ocl_types::{Core, CoreLink};
+use ocl_core::{Core, CoreLink};
 use rule_code::Instr;
 use rule_verify::Named;
 use std::alloc::{AllocError, Global};
@@ -63,7 +63,7 @@ fn put_branches(
 ///
 /// It fails only where memory runs out: then part of the tree's code may have been added.
 #[cycle(emit)]
-#[tactic(auto, using(ocl_types::proofs::ForAbove::views))]
+#[tactic(auto, using(ocl_core::proofs::ForAbove::views))]
 pub(crate) fn emit(
     alloc: Global,
     model: &ClassModel,
@@ -197,7 +197,7 @@ fn emit_operands(
 
 /// Adds the code of a link, which follows that of what stands on its left.
 #[cycle(emit)]
-#[tactic(auto, using(ocl_types::proofs::ForAbove::views))]
+#[tactic(auto, using(ocl_core::proofs::ForAbove::views))]
 fn emit_link(
     alloc: Global,
     model: &ClassModel,

@@ -1,15 +1,13 @@
 //! The instructions of constants, variables, operators and iterations.
 
 ghost use Rattle.std.specs.Prelude.{◌≡◌, ◌<◌};
-ghost use Rattle.ocl_types.specs.CoreView.{constant_of};
+ghost use Rattle.ocl_core.specs.CoreView.{constant_of};
 ghost use Rattle.ocl_compile.specs.Written.{IsWrittenConstant};
 ghost use Rattle.ocl_compile.specs.Translation as spec;
 
 use crate::fields::{symbol_of_unit, text_of_unit, written_kind, written_scalar};
 use crate::numbers::Numbers;
-use ocl_types::{
-    ClassOperator, ConstantValue, ElementOperator, Iteration, Operator, PlainOperator,
-};
+use ocl_core::{ClassOperator, ConstantValue, ElementOperator, Iteration, Operator, PlainOperator};
 use rule_code::{Instr, SymbolNumber, WrittenScalar};
 use rule_verify::Named;
 

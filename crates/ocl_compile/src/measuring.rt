@@ -1,12 +1,12 @@
 //! The extent of the code of core trees.
 
 ghost use Rattle.std.specs.Prelude.{◌≡◌, map};
-ghost use Rattle.ocl_types.specs.Core.{CoreTree, lets_of};
-ghost use Rattle.ocl_types.specs.CoreView.{core_view, core_link_of};
+ghost use Rattle.ocl_core.specs.Core.{CoreTree, lets_of};
+ghost use Rattle.ocl_core.specs.CoreView.{core_view, core_link_of};
 ghost use Rattle.ocl_compile.specs.Extents.{extent_of, cut_extent};
 
 use crate::extent::Extent;
-use ocl_types::{Core, CoreLink};
+use ocl_core::{Core, CoreLink};
 
 /// The extent of the code of a core tree.
 #[cycle(measuring)]

@@ -1,16 +1,16 @@
 //! Numbers the texts and symbols of core trees, in the order of their code.
 
 ghost use Rattle.std.specs.Prelude.{map};
-ghost use Rattle.ocl_types.specs.Core.{cores_of};
-ghost use Rattle.ocl_types.specs.CoreView.{core_view, constant_of};
+ghost use Rattle.ocl_core.specs.Core.{cores_of};
+ghost use Rattle.ocl_core.specs.CoreView.{core_view, constant_of};
 ghost use Rattle.ocl_compile.specs.Numbering.{with_uses, constant_uses, scalar_uses, kind_uses, operator_uses, iteration_uses, tree_uses, trees_uses};
 ghost use Rattle.ocl_compile.specs.EmitWalk.{link_node};
 ghost use Rattle.ocl_compile.specs.NumberWalk.{AreUsesOf, NumbersTo, links_uses};
 
 use crate::numbers::{NumberFault, Numbers};
 use imkl_model::ClassModel;
+use ocl_core::{ConstantValue, Core, CoreLink, Iteration, Operator};
 use ocl_kinds::{Kind, ScalarKind};
-use ocl_types::{ConstantValue, Core, CoreLink, Iteration, Operator};
 use rule_verify::Named;
 use std::alloc::Global;
 
@@ -109,7 +109,7 @@ fn number_iteration(
 
 /// Numbers what a core tree uses.
 #[cycle(number)]
-#[tactic(auto, using(ocl_types::proofs::ForAbove::views))]
+#[tactic(auto, using(ocl_core::proofs::ForAbove::views))]
 pub(crate) fn number_tree(
     alloc: Global,
     model: &ClassModel,
@@ -166,7 +166,7 @@ fn number_trees(
 
 /// Numbers what a link uses, without what stands on its left.
 #[cycle(number)]
-#[tactic(auto, using(ocl_types::proofs::ForAbove::views))]
+#[tactic(auto, using(ocl_core::proofs::ForAbove::views))]
 fn number_link(
     alloc: Global,
     model: &ClassModel,

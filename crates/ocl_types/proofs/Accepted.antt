@@ -3,8 +3,9 @@ use Rattle.std.proofs.Common.{◌≡◌, List, [], ◌∷◌, length, Bool, true
 use Rattle.imkl_model.specs.ClassModel.{Model}
 use Rattle.ocl_kinds.specs.declared.kind.Kind.{Kind}
 use Rattle.ocl_kinds.specs.Kinds.{fits}
-use Rattle.ocl_types.specs.declared.operator.BasicType.{BasicType}
-use Rattle.ocl_types.specs.Operators.{basic, accepts}
+use Rattle.ocl_core.specs.declared.operator.BasicType.{BasicType}
+use Rattle.ocl_core.specs.OperatorKinds.{basic}
+use Rattle.ocl_types.specs.Operators.{accepts}
 
 and_false : (b : Bool) → (b && false) ≡ false
 and_false true = refl

@@ -13,12 +13,13 @@ use Rattle.ocl_text.specs.RuleText.{has_name, AreNamedApart, NamesDiffer}
 use Rattle.ocl_text.specs.Tree.{Rule, offset_of}
 use Rattle.ocl_text.specs.View.{rule_of}
 use Rattle.ocl_types.specs.declared.fault.TypeFlaw.TheVariants.{UnknownName}
-use Rattle.ocl_types.specs.Core.{CheckedRule}
+use Rattle.ocl_core.specs.Core.{CheckedRule}
 use Rattle.ocl_types.specs.Faults.{TypeFaultAt, type_fault_at}
 use Rattle.ocl_types.specs.Elaboration.{elaborate, elaborate_rule, asks_truth}
 use Rattle.ocl_types.specs.Scope.{outermost}
-use Rattle.ocl_types.specs.AllRules.{RulesFaultAt, HaveOwnNames, in_rule, elaborate_rules}
-use Rattle.ocl_types.specs.Typing.{IsTypedRule}
+use Rattle.ocl_types.specs.AllRules.{RulesFaultAt, in_rule, elaborate_rules}
+use Rattle.ocl_core.specs.Core.{HaveOwnNames}
+use Rattle.ocl_core.specs.Typing.{IsTypedRule}
 use Rattle.ocl_types.proofs.TypedWalk.{rule_typed}
 
 abbrev pub after : List CheckedRule → Result (List CheckedRule) RulesFaultAt → Result (List CheckedRule) RulesFaultAt

@@ -1,4 +1,3 @@
-pub mod CoreViews
 pub mod KnownKinds
 pub mod Accepted
 pub mod Scopes

@@ -20,12 +20,12 @@ use Rattle.ocl_text.specs.declared.tree.Binding.{Binding}
 use Rattle.ocl_text.proofs.ForAbove.{link_of-Binary, link_of-Property, link_of-Call, link_of-Iterate, link_of-Fold, views}
 use Rattle.ocl_text.specs.Tree.{VariableTree, Variables, Bound, SurfaceTree, Trees, trees_of, offset_of, type_offset, fold_with}
 use Rattle.ocl_text.specs.View.{view, bound_of, link_of, spine_of, view_variable, view_variables}
-use Rattle.ocl_types.specs.Core.{TypedTree}
-use Rattle.ocl_types.specs.declared.core_tree.Typed.{Typed}
+use Rattle.ocl_types.specs.TypedTrees.{TypedTree}
+use Rattle.ocl_types.specs.declared.typed.Typed.{Typed}
 use Rattle.ocl_types.specs.declared.fault.TypeFault.{TypeFault}
 use Rattle.ocl_types.specs.declared.fault.TypeFault.TheVariants.{At, OutOfMemory}
 use Rattle.ocl_types.specs.declared.fault.TypeFlaw.TheVariants.{UnknownName}
-use Rattle.ocl_types.specs.CoreView.{typed_in}
+use Rattle.ocl_types.specs.TypedView.{typed_in}
 use Rattle.ocl_types.specs.Faults.{TypeFaultAt, type_fault, type_fault_at}
 use Rattle.ocl_types.specs.Scope.{VariableScope, ScopeVariable, Named, scope_variable}
 use Rattle.ocl_types.specs.Elaboration.{Elaborated, as_name, class_before, OfInstances, OfValue, Gathered, source_of_arrow, declared_element, element_variable, bound_value, accumulator_kind, fold_scope, fold_of, property_of, call_of, elaborate}

@@ -12,8 +12,8 @@ use Rattle.ocl_kinds.specs.declared.kind.Kind.{Kind}
 use Rattle.ocl_kinds.specs.Kinds.{IsKindOf}
 use Rattle.ocl_types.specs.declared.scope.ScopeVariable as declared
 use Rattle.ocl_types.specs.declared.scope.ImplicitVariable.{ImplicitVariable}
-use Rattle.ocl_types.specs.Core as tree
-use Rattle.ocl_types.specs.Core.{TypedTree, typed}
+use Rattle.ocl_core.specs.Core as tree
+use Rattle.ocl_types.specs.TypedTrees.{TypedTree, typed}
 use Rattle.ocl_types.specs.Scope.{Binder, Named, Implicit, Hidden, ScopeVariable, VariableScope, inside, has_binder_name, by_binder, by_feature, feature_of, innermost}
 use Rattle.ocl_types.specs.ScopeView.{binder_by, binder_of, variable_view, scope_view, AreKnownVariables}
 use Rattle.ocl_types.specs.ScopeIndex.{name_number, number_named, hidden_by, hidden_from, with_implicit, implicit_from, last_feature, IsIndexed}

@@ -1,7 +1,7 @@
 -- Lists of arguments, one after another.
 use Rattle.std.proofs.Common.{◌≡◌, ℕ, List, [], ◌∷◌, ◌++◌, Result, Ok, Err, refl, append_assoc}
 use Rattle.ocl_base.specs.Steps.{◌>>=◌}
-use Rattle.ocl_types.specs.Core.{TypedTree, TypedTrees, typed_trees}
+use Rattle.ocl_types.specs.TypedTrees.{TypedTree, TypedTrees, typed_trees}
 
 -- what was read before, and what is still to be read
 abbrev pub after_classes : {E : Type 0} → List ℕ → Result (List ℕ) E → Result (List ℕ) E

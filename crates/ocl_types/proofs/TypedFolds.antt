@@ -11,7 +11,8 @@ use Rattle.ocl_kinds.specs.Kinds.{IsScalarKindOf, IsKindOf, fits}
 use Rattle.ocl_text.specs.Tree.{TypeTree, type_offset}
 use Rattle.ocl_types.specs.declared.fault.TypeFlaw.TheVariants.{WrongType}
 use Rattle.ocl_types.specs.Faults.{type_fault_at}
-use Rattle.ocl_types.specs.Core.{CoreTree, TypedTree}
+use Rattle.ocl_core.specs.Core.{CoreTree}
+use Rattle.ocl_types.specs.TypedTrees.{TypedTree}
 use Rattle.ocl_types.specs.Elaboration.{Gathered, declared_kind, accumulated, accumulator_kind, fold_of}
 use Rattle.ocl_types.proofs.TypedSteps.{chained, checked, there}
 use Rattle.ocl_types.proofs.TypedScopes.{Sound}

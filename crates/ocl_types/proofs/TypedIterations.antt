@@ -17,11 +17,13 @@ use Rattle.ocl_types.specs.declared.fault.TypeFlaw.TheVariants.{UnknownName, Wro
 use Rattle.ocl_types.specs.declared.table.Turn.{Turn}
 use Rattle.ocl_types.specs.declared.table.Turn.TheVariants.{Asks, Keeps, Gathers, Compares}
 use Rattle.ocl_types.specs.Faults.{type_fault_at}
-use Rattle.ocl_types.specs.Core as tree
-use Rattle.ocl_types.specs.Core.{CoreTree, TypedTree, typed}
+use Rattle.ocl_core.specs.Core as tree
+use Rattle.ocl_core.specs.Core.{CoreTree}
+use Rattle.ocl_types.specs.TypedTrees.{TypedTree, typed}
 use Rattle.ocl_types.specs.Scope.{Implicit, Hidden, VariableScope, scope_variable, inside, feature_of}
-use Rattle.ocl_types.specs.Elaboration.{Gathered, gathered, gathered_by, source_of_arrow, truth_kind, asks_truth, collect_by, property_by, property_of, declared_kind, declared_element, element_variable, inner_scope, turn_of, unique_by, iterate_by, iterate_twice, iterate_of}
-use Rattle.ocl_types.specs.Typing.{IsTypedIteration, IsTyped}
+use Rattle.ocl_types.specs.Elaboration.{Gathered, gathered, gathered_by, source_of_arrow, asks_truth, collect_by, property_by, property_of, declared_kind, declared_element, element_variable, inner_scope, turn_of, unique_by, iterate_by, iterate_twice, iterate_of}
+use Rattle.ocl_core.specs.OperatorKinds.{truth_kind}
+use Rattle.ocl_core.specs.Typing.{IsTypedIteration, IsTyped}
 use Rattle.ocl_types.proofs.TypedSteps.{chained, checked, there}
 use Rattle.ocl_types.proofs.TypedScopes.{kinds_of, kinds_inside, as_many_kinds, get_before, get_next, Sound, Scoped, scoped_inside, feature_sound}
 use Rattle.ocl_types.proofs.TypedOperations.{comparable_known}

@@ -16,24 +16,27 @@ use Rattle.ocl_text.specs.declared.tree.BinaryOperator.TheVariants as b
 use Rattle.ocl_text.specs.declared.tree.PrefixOperator.{PrefixOperator}
 use Rattle.ocl_text.specs.declared.tree.PrefixOperator.TheVariants as prefix
 use Rattle.ocl_types.specs.declared.fault.TypeFlaw.TheVariants.{WrongType, UnknownOperation, WrongArgumentCount}
-use Rattle.ocl_types.specs.declared.operator.BasicType.{BasicType}
-use Rattle.ocl_types.specs.declared.operator.BasicType.TheVariants as type
-use Rattle.ocl_types.specs.declared.operator.PlainOperator.{PlainOperator}
-use Rattle.ocl_types.specs.declared.operator.ClassOperator.{ClassOperator}
-use Rattle.ocl_types.specs.declared.operator.ClassOperator.TheVariants as class
-use Rattle.ocl_types.specs.declared.operator.ElementOperator.{ElementOperator}
-use Rattle.ocl_types.specs.declared.operator.ElementOperator.TheVariants as of
-use Rattle.ocl_types.specs.declared.operator.Operator.{Operator}
-use Rattle.ocl_types.specs.declared.operator.Operator.TheVariants.{Plain, OfElements}
+use Rattle.ocl_core.specs.declared.operator.BasicType.{BasicType}
+use Rattle.ocl_core.specs.declared.operator.BasicType.TheVariants as type
+use Rattle.ocl_core.specs.declared.operator.PlainOperator.{PlainOperator}
+use Rattle.ocl_core.specs.declared.operator.ClassOperator.{ClassOperator}
+use Rattle.ocl_core.specs.declared.operator.ClassOperator.TheVariants as class
+use Rattle.ocl_core.specs.declared.operator.ElementOperator.{ElementOperator}
+use Rattle.ocl_core.specs.declared.operator.ElementOperator.TheVariants as of
+use Rattle.ocl_core.specs.declared.operator.Operator.{Operator}
+use Rattle.ocl_core.specs.declared.operator.Operator.TheVariants.{Plain, OfElements}
 use Rattle.ocl_types.specs.declared.table.Source.{Source}
 use Rattle.ocl_types.specs.declared.table.Source.TheVariants.{OfType, Single, AnyCollection, CollectionOf}
 use Rattle.ocl_types.specs.declared.table.Binary.{Binary}
 use Rattle.ocl_types.specs.declared.table.Binary.TheVariants.{Numbers, Truths, Equality}
 use Rattle.ocl_types.specs.Faults.{type_fault_at}
-use Rattle.ocl_types.specs.Core.{CoreTree, TypedTree, TypedTrees, typed, cores_of}
-use Rattle.ocl_types.specs.Operators.{Effect, Plainly, OnElements, OperationRow, basic, basic_kind, operations, is_source, is_row_for, row_for, element_parameters, accepts, binary}
-use Rattle.ocl_types.specs.Elaboration.{Arguments, Classes, Values, truth_kind, asks_truth, plainly, negation_of, negated_if, prefix_of, left_by, left_of, equal_scalars, equal_collections, equality_operator, binary_by, binary_of, class_result, is_object, one_class, class_call, scalar_argument, collection_argument, common_with, compared_as, element_result, parameter_count, effect_on, negated_row_if, value_call, call_on}
-use Rattle.ocl_types.specs.Typing.{Operand, Of, AnySingle, Many, ManyOf, is_operand, are_operands, plain_operands, plain_result, AreOthers, IsOperation, IsTyped, AreTyped}
+use Rattle.ocl_core.specs.Core.{CoreTree, cores_of}
+use Rattle.ocl_types.specs.TypedTrees.{TypedTree, TypedTrees, typed}
+use Rattle.ocl_types.specs.Operators.{Effect, Plainly, OnElements, OperationRow, operations, is_source, is_row_for, row_for, element_parameters, accepts, binary}
+use Rattle.ocl_core.specs.OperatorKinds.{basic, basic_kind}
+use Rattle.ocl_types.specs.Elaboration.{Arguments, Classes, Values, asks_truth, plainly, negation_of, negated_if, prefix_of, left_by, left_of, equal_scalars, equal_collections, equality_operator, binary_by, binary_of, is_object, one_class, class_call, scalar_argument, collection_argument, common_with, compared_as, parameter_count, effect_on, negated_row_if, value_call, call_on}
+use Rattle.ocl_core.specs.OperatorKinds.{truth_kind, class_result, element_result}
+use Rattle.ocl_core.specs.Typing.{Operand, Of, AnySingle, Many, ManyOf, is_operand, are_operands, plain_operands, plain_result, AreOthers, IsOperation, IsTyped, AreTyped}
 use Rattle.ocl_types.proofs.TypedSteps.{chained, checked, there, itself}
 use Rattle.ocl_types.proofs.TypedScopes.{Sound}
 

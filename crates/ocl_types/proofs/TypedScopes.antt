@@ -14,11 +14,12 @@ use Rattle.ocl_text.specs.declared.tree.Keyword as word
 use Rattle.ocl_text.specs.declared.tree.Keyword.TheVariants as k
 use Rattle.ocl_types.specs.declared.fault.TypeFlaw.TheVariants.{UnknownName}
 use Rattle.ocl_types.specs.Faults.{type_fault_at}
-use Rattle.ocl_types.specs.Core as tree
-use Rattle.ocl_types.specs.Core.{CoreTree, TypedTree, typed}
+use Rattle.ocl_core.specs.Core as tree
+use Rattle.ocl_core.specs.Core.{CoreTree}
+use Rattle.ocl_types.specs.TypedTrees.{TypedTree, typed}
 use Rattle.ocl_types.specs.Scope.{Binder, Named, Implicit, Hidden, ScopeVariable, VariableScope, inside, outermost, has_binder_name, by_binder, feature_on, feature_of, by_feature, innermost, bare_name}
 use Rattle.ocl_types.specs.Elaboration.{keyword_value, name_value, literal_value}
-use Rattle.ocl_types.specs.Typing.{IsTyped}
+use Rattle.ocl_core.specs.Typing.{IsTyped}
 use Rattle.ocl_types.proofs.TypedSteps.{chained, there, itself}
 
 -- the kinds of a scope's variables

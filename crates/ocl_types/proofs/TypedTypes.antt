@@ -17,9 +17,11 @@ use Rattle.ocl_text.specs.Tree as t
 use Rattle.ocl_text.specs.Tree.{TypeTree}
 use Rattle.ocl_types.specs.declared.fault.TypeFlaw.TheVariants.{UnknownName, WrongType, NoCommonType}
 use Rattle.ocl_types.specs.Faults.{type_fault_at}
-use Rattle.ocl_types.specs.Core.{CoreTree, TypedTree}
-use Rattle.ocl_types.specs.Elaboration.{truth_kind, collection_named, basic_named, scalar_named, known_scalar, no_element, inner_type, declared_kind, is_empty_for, stands_for, as_wanted_by, bound_value, branch_kind, if_of}
-use Rattle.ocl_types.specs.Typing.{IsTyped}
+use Rattle.ocl_core.specs.Core.{CoreTree}
+use Rattle.ocl_types.specs.TypedTrees.{TypedTree}
+use Rattle.ocl_core.specs.OperatorKinds.{truth_kind}
+use Rattle.ocl_types.specs.Elaboration.{collection_named, basic_named, scalar_named, known_scalar, no_element, inner_type, declared_kind, is_empty_for, stands_for, as_wanted_by, bound_value, branch_kind, if_of}
+use Rattle.ocl_core.specs.Typing.{IsTyped}
 use Rattle.ocl_types.proofs.TypedSteps.{chained, checked, there, itself}
 use Rattle.ocl_types.proofs.TypedScopes.{Sound}
 

@@ -12,18 +12,20 @@ use Rattle.ocl_text.specs.declared.tree.Navigation.{Navigation}
 use Rattle.ocl_text.specs.declared.tree.Navigation.TheVariants.{Dot, Arrow}
 use Rattle.ocl_text.specs.Tree as t
 use Rattle.ocl_text.specs.Tree.{SurfaceTree, Trees, Rule, offset_of, type_offset}
-use Rattle.ocl_types.specs.declared.core_tree.CoreRule.{CoreRule}
+use Rattle.ocl_core.specs.declared.core_tree.CoreRule.{CoreRule}
 use Rattle.ocl_types.specs.declared.fault.TypeFault.{TypeFault}
 use Rattle.ocl_types.specs.declared.fault.TypeFlaw.TheVariants.{UnknownName, WrongArgumentCount}
-use Rattle.ocl_types.specs.declared.operator.ClassOperator.{ClassOperator}
+use Rattle.ocl_core.specs.declared.operator.ClassOperator.{ClassOperator}
 use Rattle.ocl_types.specs.Faults.{TypeFaultAt, type_fault, type_fault_at}
-use Rattle.ocl_types.specs.Core as tree
-use Rattle.ocl_types.specs.Core.{CoreTree, TypedTree, TypedTrees, CheckedRule, typed, cores_of}
-use Rattle.ocl_types.specs.CoreView.{checked_rule_of}
+use Rattle.ocl_core.specs.Core as tree
+use Rattle.ocl_core.specs.Core.{CoreTree, CheckedRule, cores_of}
+use Rattle.ocl_types.specs.TypedTrees.{TypedTree, TypedTrees, typed}
+use Rattle.ocl_core.specs.CoreView.{checked_rule_of}
 use Rattle.ocl_types.specs.Operators.{class_operator, binary}
 use Rattle.ocl_types.specs.Scope.{VariableScope, Named, Hidden, scope_variable, inside, outermost}
-use Rattle.ocl_types.specs.Elaboration.{Elaborated, Receiver, OfInstances, OfValue, Gathered, Arguments, element_variable, accumulator_kind, fold_scope, truth_kind, asks_truth, class_before, receiver_of, seen_after_dot, seen_by_arguments, class_named, class_of_argument, classes_of_arguments, arguments_of, argument_count, call_on, dot_call, call_of, source_of_arrow, declared_kind, bound_value, left_of, inner_scope, as_name, elaborate, elaborates, elaborate_rule}
-use Rattle.ocl_types.specs.Typing.{IsTyped, IsTypedRule}
+use Rattle.ocl_types.specs.Elaboration.{Elaborated, Receiver, OfInstances, OfValue, Gathered, Arguments, element_variable, accumulator_kind, fold_scope, asks_truth, class_before, receiver_of, seen_after_dot, seen_by_arguments, class_named, class_of_argument, classes_of_arguments, arguments_of, argument_count, call_on, dot_call, call_of, source_of_arrow, declared_kind, bound_value, left_of, inner_scope, as_name, elaborate, elaborates, elaborate_rule}
+use Rattle.ocl_core.specs.OperatorKinds.{truth_kind}
+use Rattle.ocl_core.specs.Typing.{IsTyped, IsTypedRule}
 use Rattle.ocl_types.proofs.TypedSteps.{chained, checked, there, itself}
 use Rattle.ocl_types.proofs.TypedScopes.{kinds_of, kinds_inside, as_many_kinds, get_next, Sound, Scoped, scoped_inside, scoped_outermost, name_sound, literal_sound, keyword_sound}
 use Rattle.ocl_types.proofs.TypedTypes.{class_within, declared_known, Fitting, bound_sound, if_sound}

@@ -7,7 +7,7 @@ use Rattle.ocl_text.specs.Tree.{Rule}
 use Rattle.ocl_types.specs.declared.fault.TypeFlaw.{TypeFlaw}
 use Rattle.ocl_types.specs.declared.rules_fault.RulesFault.{RulesFault}
 use Rattle.ocl_types.specs.declared.rules_fault.RulesFault.TheVariants.{At, OutOfMemory}
-use Rattle.ocl_types.specs.Core.{CheckedRule}
+use Rattle.ocl_core.specs.Core.{CheckedRule}
 use Rattle.ocl_types.specs.Faults.{TypeFaultAt, type_flaw_number}
 use Rattle.ocl_types.specs.Elaboration.{elaborate_rule}
 
@@ -28,10 +28,6 @@ elaborate_rules m i (r ∷ rs) = do
   x ← in_rule i (elaborate_rule m r)
   xs ← elaborate_rules m (suc i) rs
   Ok (x ∷ xs)
-
--- no two rules have one name
-abbrev pub HaveOwnNames : List CheckedRule → Type 0
-HaveOwnNames rs = repeats bytes_eq (map (λ r. r.name) rs) ≡ false
 
 -- ---- faults
 

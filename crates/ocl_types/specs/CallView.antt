@@ -5,8 +5,8 @@ use Rattle.ocl_kinds.specs.Kinds.{IsKindOf}
 use Rattle.ocl_types.specs.declared.calls.Arguments as declared
 use Rattle.ocl_types.specs.declared.calls.Arguments.TheVariants as a
 use Rattle.ocl_types.specs.declared.calls.Values as declared_values
-use Rattle.ocl_types.specs.Core.{TypedTrees, typed_trees}
-use Rattle.ocl_types.specs.CoreView.{core_view}
+use Rattle.ocl_types.specs.TypedTrees.{TypedTrees, typed_trees}
+use Rattle.ocl_core.specs.CoreView.{core_view}
 use Rattle.ocl_types.specs.Elaboration.{Arguments, Classes, Values}
 
 abbrev pub values_view : declared_values.Values → TypedTrees

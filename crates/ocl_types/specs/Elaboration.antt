@@ -24,30 +24,29 @@ use Rattle.ocl_text.specs.declared.tree.Navigation.TheVariants.{Dot, Arrow}
 use Rattle.ocl_text.specs.Tree as t
 use Rattle.ocl_text.specs.Tree.{TypeTree, VariableTree, Variables, SurfaceTree, Trees, Rule, offset_of, type_offset}
 use Rattle.ocl_types.specs.declared.fault.TypeFlaw.TheVariants.{UnknownName, WrongType, NoCommonType, NestedCollection, NotBoolean, UnknownOperation, WrongArgumentCount}
-use Rattle.ocl_types.specs.declared.operator.BasicType.TheVariants as type
-use Rattle.ocl_types.specs.declared.operator.PlainOperator.TheVariants as plain
-use Rattle.ocl_types.specs.declared.operator.ClassOperator.{ClassOperator}
-use Rattle.ocl_types.specs.declared.operator.ClassOperator.TheVariants as class
-use Rattle.ocl_types.specs.declared.operator.ElementOperator.{ElementOperator}
-use Rattle.ocl_types.specs.declared.operator.ElementOperator.TheVariants as of
-use Rattle.ocl_types.specs.declared.operator.Operator.{Operator}
-use Rattle.ocl_types.specs.declared.operator.Operator.TheVariants.{Plain, OfClass, OfElements, Equal}
-use Rattle.ocl_types.specs.declared.core_tree.Iteration.TheVariants as iteration
+use Rattle.ocl_core.specs.declared.operator.BasicType.TheVariants as type
+use Rattle.ocl_core.specs.declared.operator.PlainOperator.TheVariants as plain
+use Rattle.ocl_core.specs.declared.operator.ClassOperator.{ClassOperator}
+use Rattle.ocl_core.specs.declared.operator.ClassOperator.TheVariants as class
+use Rattle.ocl_core.specs.declared.operator.ElementOperator.{ElementOperator}
+use Rattle.ocl_core.specs.declared.operator.ElementOperator.TheVariants as of
+use Rattle.ocl_core.specs.declared.operator.Operator.{Operator}
+use Rattle.ocl_core.specs.declared.operator.Operator.TheVariants.{Plain, OfClass, OfElements, Equal}
+use Rattle.ocl_core.specs.declared.core_tree.Iteration.TheVariants as iteration
 use Rattle.ocl_types.specs.declared.table.Binary.{Binary}
 use Rattle.ocl_types.specs.declared.table.Binary.TheVariants.{Numbers, Truths, Equality}
 use Rattle.ocl_types.specs.declared.table.Turn.{Turn}
 use Rattle.ocl_types.specs.declared.table.Turn.TheVariants.{Asks, Keeps, Gathers, Compares}
 use Rattle.ocl_types.specs.Faults.{TypeFaultAt, type_fault_at}
-use Rattle.ocl_types.specs.Core as tree
-use Rattle.ocl_types.specs.Core.{CoreTree, CoreTrees, TypedTree, TypedTrees, CheckedRule, typed, typed_trees, cores_of}
-use Rattle.ocl_types.specs.Operators.{Effect, Plainly, OnElements, basic, operations, class_operator, row_for, element_parameters, accepts, binary}
+use Rattle.ocl_core.specs.Core as tree
+use Rattle.ocl_core.specs.Core.{CoreTree, CoreTrees, CheckedRule, cores_of}
+use Rattle.ocl_types.specs.TypedTrees.{TypedTree, TypedTrees, typed, typed_trees}
+use Rattle.ocl_types.specs.Operators.{Effect, Plainly, OnElements, operations, class_operator, row_for, element_parameters, accepts, binary}
+use Rattle.ocl_core.specs.OperatorKinds.{basic, truth_kind, class_result, element_result}
 use Rattle.ocl_types.specs.Scope.{VariableScope, ScopeVariable, Named, Implicit, Hidden, scope_variable, inside, outermost, feature_of, bare_name}
 
 abbrev pub Elaborated : Type 0
 Elaborated = Result TypedTree TypeFaultAt
-
-abbrev pub truth_kind : Kind
-truth_kind = basic type.Boolean
 
 -- a node that has to give a truth value, else the fault stands at it
 abbrev pub asks_truth : Model → Kind → ℕ → Result (Unit {0}) TypeFaultAt
@@ -290,11 +289,6 @@ abbrev pub argument_count : Arguments → ℕ
 argument_count (Classes operator classes) = length classes
 argument_count (Values values) = length values.kinds
 
-abbrev pub class_result : ClassOperator → ℕ → Kind
-class_result class.IsKindOf c = truth_kind
-class_result class.IsTypeOf c = truth_kind
-class_result class.AsType c = Scalar (element.Class c)
-
 abbrev pub is_object : Kind → Bool
 is_object (Scalar (element.Class c)) = true
 is_object kind = false
@@ -329,13 +323,6 @@ compared_as of.Occurrences e kinds = common_with e (scalar_argument kinds)
 compared_as of.IncludesAll e kinds = common_with e (collection_argument kinds)
 compared_as of.ExcludesAll e kinds = common_with e (collection_argument kinds)
 compared_as of.AsSet e kinds = Some (comparable e)
-
-abbrev pub element_result : ElementOperator → ScalarKind → Kind
-element_result of.Includes e = truth_kind
-element_result of.Occurrences e = basic type.Integer
-element_result of.IncludesAll e = truth_kind
-element_result of.ExcludesAll e = truth_kind
-element_result of.AsSet e = Collection collection.Set e
 
 abbrev pub parameter_count : Effect → ℕ
 parameter_count (Plainly operator parameters result) = length parameters

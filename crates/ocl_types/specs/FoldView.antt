@@ -3,7 +3,7 @@ use Rattle.std.specs.Prelude.{Box}
 use Rattle.std.specs.Global.{Global}
 use Rattle.ocl_types.specs.declared.folds.Begun.{Begun}
 use Rattle.ocl_types.specs.declared.folds.Start.{Start}
-use Rattle.ocl_types.specs.CoreView.{core_view}
+use Rattle.ocl_core.specs.CoreView.{core_view}
 use Rattle.ocl_types.specs.GatheredView.{gathered_view}
 use Rattle.ocl_types.specs.Walk.{FoldStart, FoldBegun, fold_start, begun_with}
 

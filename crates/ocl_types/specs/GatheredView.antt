@@ -1,6 +1,6 @@
 -- What the sources of arrows are.
 use Rattle.ocl_types.specs.declared.wanted.Gathered as declared
-use Rattle.ocl_types.specs.CoreView.{core_view}
+use Rattle.ocl_core.specs.CoreView.{core_view}
 use Rattle.ocl_types.specs.Elaboration.{Gathered, gathered}
 
 abbrev pub gathered_view : declared.Gathered → Gathered

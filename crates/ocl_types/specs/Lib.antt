@@ -1,13 +1,12 @@
 -- Definitions: what contracts mean.
 pub mod Faults
-pub mod Core
+pub mod TypedTrees
 pub mod Operators
 pub mod Scope
 pub mod Elaboration
-pub mod Typing
 pub mod AllRules
-pub mod CoreView
 -- Bookkeeping: views, layouts, walks and tables that only proofs and private contracts use.
+pub mod TypedView
 pub mod TableView
 pub mod ScopeView
 pub mod ScopeIndex

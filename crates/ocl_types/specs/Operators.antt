@@ -8,26 +8,19 @@ use Rattle.ocl_kinds.specs.declared.kind.Kind.TheVariants.{Scalar, Collection}
 use Rattle.ocl_kinds.specs.Kinds.{scalar_fits, fits}
 use Rattle.ocl_text.specs.declared.tree.BinaryOperator.{BinaryOperator}
 use Rattle.ocl_text.specs.declared.tree.BinaryOperator.TheVariants as b
-use Rattle.ocl_types.specs.declared.operator.PlainOperator.{PlainOperator}
-use Rattle.ocl_types.specs.declared.operator.PlainOperator.TheVariants as plain
-use Rattle.ocl_types.specs.declared.operator.ClassOperator.{ClassOperator}
-use Rattle.ocl_types.specs.declared.operator.ClassOperator.TheVariants as class
-use Rattle.ocl_types.specs.declared.operator.ElementOperator.{ElementOperator}
-use Rattle.ocl_types.specs.declared.operator.ElementOperator.TheVariants as of
-use Rattle.ocl_types.specs.declared.operator.BasicType.{BasicType}
-use Rattle.ocl_types.specs.declared.operator.BasicType.TheVariants.{Boolean, Integer, String}
+use Rattle.ocl_core.specs.declared.operator.PlainOperator.{PlainOperator}
+use Rattle.ocl_core.specs.declared.operator.PlainOperator.TheVariants as plain
+use Rattle.ocl_core.specs.declared.operator.ClassOperator.{ClassOperator}
+use Rattle.ocl_core.specs.declared.operator.ClassOperator.TheVariants as class
+use Rattle.ocl_core.specs.declared.operator.ElementOperator.{ElementOperator}
+use Rattle.ocl_core.specs.declared.operator.ElementOperator.TheVariants as of
+use Rattle.ocl_core.specs.declared.operator.BasicType.{BasicType}
+use Rattle.ocl_core.specs.declared.operator.BasicType.TheVariants.{Boolean, Integer, String}
+use Rattle.ocl_core.specs.OperatorKinds.{basic_kind, basic}
 use Rattle.ocl_types.specs.declared.table.Source.{Source}
 use Rattle.ocl_types.specs.declared.table.Source.TheVariants.{OfType, Single, AnyCollection, CollectionOf}
 use Rattle.ocl_types.specs.declared.table.Binary.{Binary}
 use Rattle.ocl_types.specs.declared.table.Binary.TheVariants.{Numbers, Truths, Equality}
-
-abbrev pub basic_kind : BasicType → ScalarKind
-basic_kind Boolean = element.Boolean
-basic_kind Integer = element.Integer
-basic_kind String = element.String
-
-abbrev pub basic : BasicType → Kind
-basic t = Scalar (basic_kind t)
 
 -- ---- operations with a name
 

@@ -7,8 +7,9 @@ use Rattle.ocl_kinds.specs.declared.kind.ScalarKind.TheVariants as element
 use Rattle.ocl_kinds.specs.declared.kind.Kind.{Kind}
 use Rattle.ocl_kinds.specs.declared.kind.Kind.TheVariants.{Scalar}
 use Rattle.ocl_kinds.specs.Kinds.{feature_kind}
-use Rattle.ocl_types.specs.Core as tree
-use Rattle.ocl_types.specs.Core.{CoreTree, TypedTree, typed}
+use Rattle.ocl_core.specs.Core as tree
+use Rattle.ocl_core.specs.Core.{CoreTree}
+use Rattle.ocl_types.specs.TypedTrees.{TypedTree, typed}
 
 -- how an expression can speak of a variable: by its name; without naming it, by a feature of it; or not at all
 pub data Binder : Type 0 where

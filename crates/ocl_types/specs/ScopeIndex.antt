@@ -9,8 +9,8 @@ use denote.Ref.{Bor}
 use Rattle.imkl_model.specs.ClassModel.{Model}
 use Rattle.ocl_types.specs.declared.scope.ScopeVariable as declared
 use Rattle.ocl_types.specs.declared.scope.ImplicitVariable.{ImplicitVariable}
-use Rattle.ocl_types.specs.Core as tree
-use Rattle.ocl_types.specs.Core.{TypedTree}
+use Rattle.ocl_core.specs.Core as tree
+use Rattle.ocl_types.specs.TypedTrees.{TypedTree}
 use Rattle.ocl_types.specs.Scope.{Binder, Named, Implicit, Hidden, VariableScope, inside, has_binder_name, feature_of}
 use Rattle.ocl_types.specs.ScopeView.{scope_view}
 

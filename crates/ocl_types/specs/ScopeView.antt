@@ -5,8 +5,8 @@ use Rattle.imkl_model.specs.ClassModel.{Model, feature_at}
 use Rattle.ocl_kinds.specs.declared.kind.Kind.{Kind}
 use Rattle.ocl_kinds.specs.Kinds.{IsKindOf, feature_kind}
 use Rattle.ocl_types.specs.declared.scope.ScopeVariable as declared
-use Rattle.ocl_types.specs.Core as tree
-use Rattle.ocl_types.specs.Core.{TypedTree, typed}
+use Rattle.ocl_core.specs.Core as tree
+use Rattle.ocl_types.specs.TypedTrees.{TypedTree, typed}
 use Rattle.ocl_types.specs.Scope.{Binder, Named, Implicit, Hidden, ScopeVariable, VariableScope, scope_variable}
 
 abbrev pub unnamed : Bool → Binder

@@ -16,7 +16,8 @@ use Rattle.ocl_text.specs.declared.tree.Link.{Link}
 use Rattle.ocl_text.specs.Tree as t
 use Rattle.ocl_text.specs.Tree.{VariableTree, Variables, SurfaceTree, Trees, Bound, offset_of, type_offset}
 use Rattle.ocl_text.specs.View.{link_of, spine_of}
-use Rattle.ocl_types.specs.Core.{CoreTree, TypedTree, typed, lets_of}
+use Rattle.ocl_core.specs.Core.{CoreTree, lets_of}
+use Rattle.ocl_types.specs.TypedTrees.{TypedTree, typed}
 use Rattle.ocl_types.specs.Faults.{TypeFaultAt}
 use Rattle.ocl_types.specs.Operators.{class_operator}
 use Rattle.ocl_types.specs.Scope.{VariableScope, Named, scope_variable, inside}

@@ -7,18 +7,19 @@ ghost use Rattle.ocl_base.specs.Steps.{Gives};
 ghost use Rattle.ocl_text.specs.RuleText.{NamesDiffer};
 ghost use Rattle.ocl_text.specs.Tree.{Rule};
 ghost use Rattle.ocl_text.specs.View.{rule_of};
-ghost use Rattle.ocl_types.specs.CoreView.{checked_rule_of};
+ghost use Rattle.ocl_core.specs.CoreView.{checked_rule_of};
 ghost use Rattle.ocl_types.specs.declared.fault.TypeFlaw.TheVariants.{UnknownName};
 ghost use Rattle.ocl_types.specs.declared.rules_fault.RulesFault.TheVariants.{At};
 ghost use Rattle.ocl_types.specs.Elaboration.{elaborate_rule};
-ghost use Rattle.ocl_types.specs.AllRules.{HaveOwnNames, elaborate_rules, in_rule, rules_fault};
-ghost use Rattle.ocl_types.specs.Typing.{IsTypedRule};
+ghost use Rattle.ocl_core.specs.Core.{HaveOwnNames};
+ghost use Rattle.ocl_types.specs.AllRules.{elaborate_rules, in_rule, rules_fault};
+ghost use Rattle.ocl_core.specs.Typing.{IsTypedRule};
 
-use crate::core_tree::CoreRule;
 use crate::fault::TypeFault;
 use crate::rules::check;
 use crate::rules_fault::RulesFault;
 use imkl_model::ClassModel;
+use ocl_core::CoreRule;
 use ocl_text::SurfaceRule;
 use std::alloc::Global;
 

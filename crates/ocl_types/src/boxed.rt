@@ -5,16 +5,16 @@ ghost use Rattle.ocl_base.specs.Steps.{Gives};
 ghost use Rattle.ocl_kinds.specs.Kinds.{IsScalarKindOf, IsKindOf};
 ghost use Rattle.ocl_text.specs.View.{view_variables};
 ghost use Rattle.ocl_types.specs.CallView.{arguments_view, AreKnownArguments};
-ghost use Rattle.ocl_types.specs.CoreView.{typed_in};
+ghost use Rattle.ocl_types.specs.TypedView.{typed_in};
 ghost use Rattle.ocl_types.specs.Elaboration as spec;
 ghost use Rattle.ocl_types.specs.Faults.{type_fault};
 ghost use Rattle.ocl_types.specs.FoldView.{start_in};
 ghost use Rattle.ocl_types.specs.GatheredView.{gathered_view};
 
 use crate::calls::Arguments;
-use crate::core_tree::Typed;
 use crate::fault::TypeFault;
 use crate::folds::Start;
+use crate::typed::Typed;
 use crate::wanted::{Gathered, source_of_arrow};
 use crate::{branches, calls, collecting, folds, iterations, operators};
 use imkl_model::ClassModel;

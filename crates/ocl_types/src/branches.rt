@@ -3,15 +3,17 @@
 ghost use Rattle.std.specs.Prelude.{◌≡◌, IfOk, IfSome};
 ghost use Rattle.ocl_base.specs.Steps.{Gives};
 ghost use Rattle.ocl_kinds.specs.Kinds.{IsKindOf};
-ghost use Rattle.ocl_types.specs.CoreView.{core_view, typed_of};
+ghost use Rattle.ocl_core.specs.CoreView.{core_view};
+ghost use Rattle.ocl_types.specs.TypedView.{typed_of};
 ghost use Rattle.ocl_types.specs.Elaboration as spec;
 ghost use Rattle.ocl_types.specs.Faults.{type_fault};
 
-use crate::core_tree::{Core, Typed};
 use crate::fault::{TypeFault, TypeFlaw};
 use crate::nodes;
+use crate::typed::Typed;
 use crate::wanted::{as_wanted, is_empty_for};
 use imkl_model::ClassModel;
+use ocl_core::Core;
 use ocl_kinds::{Kind, wider_kind};
 use std::alloc::Global;
 

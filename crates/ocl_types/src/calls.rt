@@ -4,8 +4,9 @@ ghost use Rattle.std.specs.Prelude.{◌≡◌, ◌<◌, ◌≤◌, length, All, 
 ghost use Rattle.imkl_model.specs.ClassModel.{Model};
 ghost use Rattle.ocl_base.specs.Steps.{Gives};
 ghost use Rattle.ocl_kinds.specs.Kinds.{IsScalarKindOf, IsKindOf};
+ghost use Rattle.ocl_core.specs.OperatorKinds.{class_result, element_result};
 ghost use Rattle.ocl_types.specs.CallView.{values_view, arguments_view, AreKnownClasses, AreKnownArguments};
-ghost use Rattle.ocl_types.specs.CoreView.{typed_in, typed_of};
+ghost use Rattle.ocl_types.specs.TypedView.{typed_in, typed_of};
 ghost use Rattle.ocl_types.specs.Elaboration as spec;
 ghost use Rattle.ocl_types.specs.Faults.{type_fault};
 ghost use Rattle.ocl_types.specs.GatheredView.{gathered_view};
@@ -13,13 +14,13 @@ ghost use Rattle.ocl_types.specs.Operators as table;
 ghost use Rattle.ocl_types.specs.TableView.{effect_of};
 
 use crate::collecting::collect_of;
-use crate::core_tree::{Core, Typed};
 use crate::fault::{TypeFault, TypeFlaw};
 use crate::nodes;
-use crate::operator::{BasicType, ClassOperator, ElementOperator, Operator};
 use crate::table::{Effect, row_for};
+use crate::typed::Typed;
 use crate::wanted::{Gathered, is_of};
 use imkl_model::{ClassModel, ClassNo, CollectionKind};
+use ocl_core::{BasicType, ClassOperator, Core, ElementOperator, Operator};
 use ocl_kinds::{Kind, ScalarKind, common_kind, comparable, elements_kind};
 use std::alloc::Global;
 
@@ -63,7 +64,7 @@ fn one_class(classes: &[ClassNo]) -> Option<ClassNo>
 }
 
 fn class_result(operator: ClassOperator, class: ClassNo) -> Kind
-    ensures value { result ≡ spec.class_result operator class }
+    ensures value { result ≡ class_result operator class }
     ensures known { (m : Model) → class < length m.classes → IsKindOf m result }
 {
     match operator {
@@ -161,7 +162,7 @@ fn compared_as(
 }
 
 fn element_result(operator: ElementOperator, element: ScalarKind) -> Kind
-    ensures value { result ≡ spec.element_result operator element }
+    ensures value { result ≡ element_result operator element }
     ensures known { (m : Model) → IsScalarKindOf m element → IsKindOf m result }
 {
     match operator {

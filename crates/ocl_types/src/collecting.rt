@@ -4,16 +4,18 @@ ghost use Rattle.std.specs.Prelude.{◌≡◌, IfOk};
 ghost use Rattle.imkl_model.specs.ClassModel.{Model};
 ghost use Rattle.ocl_base.specs.Steps.{Gives};
 ghost use Rattle.ocl_kinds.specs.Kinds.{IsKindOf};
-ghost use Rattle.ocl_types.specs.CoreView.{core_view, typed_of};
+ghost use Rattle.ocl_core.specs.CoreView.{core_view};
+ghost use Rattle.ocl_types.specs.TypedView.{typed_of};
 ghost use Rattle.ocl_types.specs.Elaboration as spec;
 ghost use Rattle.ocl_types.specs.Faults.{type_fault};
 
-use crate::core_tree::{Core, Iteration, Typed};
 use crate::fault::{TypeFault, TypeFlaw};
 use crate::names::feature_value;
 use crate::nodes;
 use crate::scope::feature_of;
+use crate::typed::Typed;
 use imkl_model::{ClassModel, CollectionKind};
+use ocl_core::{Core, Iteration};
 use ocl_kinds::{Kind, collected_kind};
 use std::alloc::{AllocError, Global};
 

@@ -4,19 +4,22 @@ ghost use Rattle.std.specs.Prelude.{◌≡◌, ◌<◌, length, IfOk, Ok};
 ghost use Rattle.imkl_model.specs.ClassModel.{Model, feature_at};
 ghost use Rattle.ocl_base.specs.Steps.{Gives};
 ghost use Rattle.ocl_kinds.specs.Kinds.{IsKindOf, feature_kind};
-ghost use Rattle.ocl_types.specs.Core as tree;
-ghost use Rattle.ocl_types.specs.CoreView.{core_view, typed_in, typed_of};
+ghost use Rattle.ocl_core.specs.Core as tree;
+ghost use Rattle.ocl_types.specs.TypedTrees.{typed};
+ghost use Rattle.ocl_core.specs.CoreView.{core_view};
+ghost use Rattle.ocl_types.specs.TypedView.{typed_in, typed_of};
 ghost use Rattle.ocl_types.specs.Elaboration as spec;
 ghost use Rattle.ocl_types.specs.Faults.{type_fault};
-ghost use Rattle.ocl_types.specs.declared.operator.BasicType.TheVariants as type;
-ghost use Rattle.ocl_types.specs.Operators.{basic};
+ghost use Rattle.ocl_core.specs.declared.operator.BasicType.TheVariants as type;
+ghost use Rattle.ocl_core.specs.OperatorKinds.{basic};
 ghost use Rattle.ocl_types.specs.ScopeView.{AreKnownVariables};
 
-use crate::core_tree::{ConstantValue, Core, Typed};
 use crate::fault::{TypeFault, TypeFlaw};
 use crate::nodes;
 use crate::scope::Scope;
+use crate::typed::Typed;
 use imkl_model::{ClassModel, ClassNo, FeatureNo};
+use ocl_core::{ConstantValue, Core};
 use ocl_kinds::{Kind, ScalarKind, feature_kind};
 use ocl_text::{Keyword, WholeNumber};
 use std::alloc::{AllocError, Global};
@@ -25,7 +28,7 @@ use std::alloc::{AllocError, Global};
 #[inline(never)]
 pub(crate) fn number_value(alloc: Global, number: &WholeNumber) -> Result<Box<Typed>, TypeFault>
     ensures gives { Gives type_fault typed_in result
-        (Ok (tree.typed (tree.Value (tree.Integer number.now)) (basic type.Integer))) }
+        (Ok (typed (tree.Value (tree.Integer number.now)) (basic type.Integer))) }
     ensures known { (m : Model) → IfOk result (λ b. IsKindOf m b.value.kind) }
 {
     let core = nodes::constant(ConstantValue::Integer(number.copy()));
@@ -37,7 +40,7 @@ pub(crate) fn number_value(alloc: Global, number: &WholeNumber) -> Result<Box<Ty
 #[inline(never)]
 pub(crate) fn text_value(alloc: Global, text: &str) -> Result<Box<Typed>, TypeFault>
     ensures gives { Gives type_fault typed_in result
-        (Ok (tree.typed (tree.Value (tree.Text text.now)) (basic type.String))) }
+        (Ok (typed (tree.Value (tree.Text text.now)) (basic type.String))) }
     ensures known { (m : Model) → IfOk result (λ b. IsKindOf m b.value.kind) }
 {
     let text = String::from_str(alloc, text)?;
@@ -85,7 +88,7 @@ pub(crate) fn feature_value(
 ) -> Result<Typed, AllocError>
     requires { feature < length model.now.features }
     ensures value { IfOk result (λ t. typed_of t
-        ≡ tree.typed (tree.Feature (core_view source) feature)
+        ≡ typed (tree.Feature (core_view source) feature)
         (feature_kind (feature_at model.now feature))) }
     ensures known { IfOk result (λ t. IsKindOf model.now t.kind) }
 {

@@ -1,31 +1,30 @@
 //! Each kind of node of a core tree, in a box where it needs one.
 
 ghost use Rattle.std.specs.Prelude.{◌≡◌, IfOk, [], ◌∷◌, map};
-ghost use Rattle.ocl_types.specs.Core as tree;
-ghost use Rattle.ocl_types.specs.CoreView as spec;
+ghost use Rattle.ocl_core.specs.Core as tree;
+ghost use Rattle.ocl_core.specs.CoreView as spec;
 ghost use Rattle.ocl_types.specs.Elaboration.{plainly, negated_if};
 
-use crate::core_tree::{ConstantValue, Core, CoreLink, Iteration};
-use crate::operator::{Operator, PlainOperator};
 use imkl_model::{ClassNo, CollectionKind, FeatureNo};
+use ocl_core::{ConstantValue, Core, CoreLink, Iteration, Operator, PlainOperator};
 use ocl_kinds::{Kind, ScalarKind};
 use std::alloc::{AllocError, Global};
 
-#[tactic(auto, using(crate::proofs::CoreViews::core_views))]
+#[tactic(auto, using(ocl_core::proofs::ForAbove::views))]
 pub(crate) fn constant(value: ConstantValue) -> Core
     ensures { spec.core_view result ≡ tree.Value (spec.constant_of value) }
 {
     Core::Constant { value }
 }
 
-#[tactic(auto, using(crate::proofs::CoreViews::core_views))]
+#[tactic(auto, using(ocl_core::proofs::ForAbove::views))]
 pub(crate) fn variable(number: usize) -> Core
     ensures { spec.core_view result ≡ tree.Variable number }
 {
     Core::Variable { number }
 }
 
-#[tactic(auto, using(crate::proofs::CoreViews::core_views))]
+#[tactic(auto, using(ocl_core::proofs::ForAbove::views))]
 pub(crate) fn all_instances(class: ClassNo) -> Core
     ensures { spec.core_view result ≡ tree.AllInstances class }
 {
@@ -33,7 +32,7 @@ pub(crate) fn all_instances(class: ClassNo) -> Core
 }
 
 /// What stands left of a link, with the link.
-#[tactic(auto, using(crate::proofs::CoreViews::core_views))]
+#[tactic(auto, using(ocl_core::proofs::ForAbove::views))]
 fn linked(alloc: Global, left: Core, link: CoreLink) -> Result<Core, AllocError>
     ensures { IfOk result (λ c. spec.core_view c ≡ spec.core_link_of link (spec.core_view left)) }
 {
@@ -52,14 +51,14 @@ fn linked(alloc: Global, left: Core, link: CoreLink) -> Result<Core, AllocError>
     }
 }
 
-#[tactic(auto, using(crate::proofs::CoreViews::core_views))]
+#[tactic(auto, using(ocl_core::proofs::ForAbove::views))]
 pub(crate) fn feature(alloc: Global, source: Core, feature: FeatureNo) -> Result<Core, AllocError>
     ensures { IfOk result (λ c. spec.core_view c ≡ tree.Feature (spec.core_view source) feature) }
 {
     linked(alloc, source, CoreLink::Feature { feature })
 }
 
-#[tactic(auto, using(crate::proofs::CoreViews::core_views))]
+#[tactic(auto, using(ocl_core::proofs::ForAbove::views))]
 pub(crate) fn operation(
     alloc: Global,
     operator: Operator,
@@ -105,7 +104,7 @@ pub(crate) fn negated_if(alloc: Global, is_negated: bool, core: Core) -> Result<
     }
 }
 
-#[tactic(auto, using(crate::proofs::CoreViews::core_views))]
+#[tactic(auto, using(ocl_core::proofs::ForAbove::views))]
 pub(crate) fn as_collection(
     alloc: Global,
     collection: CollectionKind,
@@ -122,7 +121,7 @@ pub(crate) fn as_collection(
     linked(alloc, source, link)
 }
 
-#[tactic(auto, using(crate::proofs::CoreViews::core_views))]
+#[tactic(auto, using(ocl_core::proofs::ForAbove::views))]
 pub(crate) fn iterate(
     alloc: Global,
     iteration: Iteration,
@@ -135,7 +134,7 @@ pub(crate) fn iterate(
     linked(alloc, source, CoreLink::Iterate { iteration, body })
 }
 
-#[tactic(auto, using(crate::proofs::CoreViews::core_views))]
+#[tactic(auto, using(ocl_core::proofs::ForAbove::views))]
 pub(crate) fn fold(
     alloc: Global,
     kind: ScalarKind,
@@ -151,7 +150,7 @@ pub(crate) fn fold(
 }
 
 /// A body inside these values.
-#[tactic(auto, using(crate::proofs::CoreViews::core_views))]
+#[tactic(auto, using(ocl_core::proofs::ForAbove::views))]
 pub(crate) fn lets(alloc: Global, values: Vec<Core>, body: Core) -> Result<Core, AllocError>
     ensures { IfOk result (λ c. spec.core_view c
         ≡ tree.lets_of (map spec.core_view values.items) (spec.core_view body)) }
@@ -170,7 +169,7 @@ pub(crate) fn let_core(alloc: Global, value: Core, body: Core) -> Result<Core, A
     lets(alloc, values, body)
 }
 
-#[tactic(auto, using(crate::proofs::CoreViews::core_views))]
+#[tactic(auto, using(ocl_core::proofs::ForAbove::views))]
 pub(crate) fn if_core(
     alloc: Global,
     kind: Kind,

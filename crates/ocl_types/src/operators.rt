@@ -3,17 +3,17 @@
 ghost use Rattle.std.specs.Prelude.{◌≡◌, IfOk};
 ghost use Rattle.ocl_base.specs.Steps.{Gives};
 ghost use Rattle.ocl_kinds.specs.Kinds.{IsKindOf};
-ghost use Rattle.ocl_types.specs.CoreView.{typed_of};
+ghost use Rattle.ocl_types.specs.TypedView.{typed_of};
 ghost use Rattle.ocl_types.specs.Elaboration as spec;
 ghost use Rattle.ocl_types.specs.Faults.{type_fault};
 
-use crate::core_tree::Typed;
 use crate::fault::{TypeFault, TypeFlaw};
 use crate::nodes;
-use crate::operator::{BasicType, Operator, PlainOperator};
 use crate::table::{Binary, operands_of};
+use crate::typed::Typed;
 use crate::wanted::{asks_truth, is_of};
 use imkl_model::ClassModel;
+use ocl_core::{BasicType, Operator, PlainOperator};
 use ocl_kinds::{Kind, ScalarKind, common_kind, is_same_collection};
 use ocl_text::{BinaryOperator, PrefixOperator};
 use std::alloc::Global;

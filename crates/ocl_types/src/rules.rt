@@ -4,21 +4,21 @@ ghost use Rattle.std.specs.Prelude.{◌≡◌, None, Err, IfOk};
 ghost use Rattle.imkl_model.specs.ClassModel.{class_number};
 ghost use Rattle.ocl_base.specs.Steps.{Gives};
 ghost use Rattle.ocl_text.specs.View.{rule_of};
-ghost use Rattle.ocl_types.specs.CoreView.{checked_rule_of};
+ghost use Rattle.ocl_core.specs.CoreView.{checked_rule_of};
 ghost use Rattle.ocl_types.specs.declared.fault.TypeFault.TheVariants.{At};
 ghost use Rattle.ocl_types.specs.declared.fault.TypeFlaw.TheVariants.{UnknownName};
 ghost use Rattle.ocl_types.specs.Elaboration.{elaborate_rule};
 ghost use Rattle.ocl_types.specs.Faults.{type_fault};
-ghost use Rattle.ocl_types.specs.Typing.{IsTypedRule};
+ghost use Rattle.ocl_core.specs.Typing.{IsTypedRule};
 
 use crate::arguments::known_class;
-use crate::core_tree::CoreRule;
 use crate::environment::Environment;
 use crate::fault::TypeFault;
 use crate::scope::Scope;
 use crate::walk::elaborate;
 use crate::wanted::asks_truth;
 use imkl_model::ClassModel;
+use ocl_core::CoreRule;
 use ocl_text::SurfaceRule;
 use std::alloc::Global;
 

@@ -4,8 +4,8 @@ ghost use Rattle.std.specs.Prelude.{◌≡◌, ◌<◌, ◌-◌, ◌++◌, ◌�
 ghost use Rattle.std.specs.Map.{update};
 ghost use Rattle.imkl_model.specs.ClassModel.{Model as Classes};
 ghost use Rattle.ocl_kinds.specs.Kinds.{IsKindOf};
-ghost use Rattle.ocl_types.specs.Core as tree;
-ghost use Rattle.ocl_types.specs.Core.{CoreTree};
+ghost use Rattle.ocl_core.specs.Core as tree;
+ghost use Rattle.ocl_core.specs.Core.{CoreTree};
 ghost use Rattle.ocl_types.specs.declared.fault.TypeFault.TheVariants.{OutOfMemory};
 ghost use Rattle.ocl_types.specs.Scope as spec;
 ghost use Rattle.ocl_types.specs.ScopeIndex.{name_number, last_feature};

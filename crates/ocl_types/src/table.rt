@@ -6,9 +6,8 @@ ghost use Rattle.ocl_types.specs.Operators as spec;
 ghost use Rattle.ocl_types.specs.Elaboration.{turn_of};
 ghost use Rattle.ocl_types.specs.TableView.{operation_row_of};
 
-use crate::core_tree::Iteration;
-use crate::operator::{BasicType, ClassOperator, ElementOperator, PlainOperator};
 use imkl_model::ClassModel;
+use ocl_core::{BasicType, ClassOperator, ElementOperator, Iteration, PlainOperator};
 use ocl_kinds::{Kind, ScalarKind, fits, scalar_fits};
 use ocl_text::{BinaryOperator, IteratorKind};
 

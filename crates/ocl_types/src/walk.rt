@@ -10,7 +10,8 @@ ghost use Rattle.ocl_text.specs.Tree as tree;
 ghost use Rattle.ocl_text.specs.Tree.{SurfaceTree, trees_of, offset_of};
 ghost use Rattle.ocl_text.specs.View.{view, bound_of, link_of, view_variable, view_variables};
 ghost use Rattle.ocl_types.specs.CallView.{values_view, arguments_view, AreKnownArguments};
-ghost use Rattle.ocl_types.specs.CoreView.{core_view, typed_in};
+ghost use Rattle.ocl_core.specs.CoreView.{core_view};
+ghost use Rattle.ocl_types.specs.TypedView.{typed_in};
 ghost use Rattle.ocl_types.specs.Elaboration as spec;
 ghost use Rattle.ocl_types.specs.EnvironmentView.{IsEnvironment, within};
 ghost use Rattle.ocl_types.specs.Faults.{type_fault};
@@ -24,7 +25,6 @@ ghost use Rattle.ocl_types.specs.Walk.{IsLet, IsIf, IsLeft, class_of_call, binar
 use crate::arguments::{class_before_links, classes_of_arguments, known_class};
 use crate::boxed;
 use crate::calls::{Arguments, Values, instances_call};
-use crate::core_tree::{Core, Typed};
 use crate::declared::declared_kind;
 use crate::environment::Environment;
 use crate::fault::TypeFault;
@@ -35,7 +35,9 @@ use crate::names::{keyword_value, literal_value, name_value, number_value, text_
 use crate::operators::left_of;
 use crate::scope::Scope;
 use crate::table::class_operator;
+use crate::typed::Typed;
 use crate::wanted::{asks_truth, bound_value, source_of_arrow};
+use ocl_core::Core;
 use ocl_kinds::{Kind, ScalarKind};
 use ocl_text::{
     BinaryOperator, Binding, Expression, IteratorKind, Link, Name, Navigation, Variable, Variables,

@@ -4,17 +4,18 @@ ghost use Rattle.std.specs.Prelude.{◌≡◌, IfOk};
 ghost use Rattle.imkl_model.specs.ClassModel.{Model};
 ghost use Rattle.ocl_base.specs.Steps.{Gives};
 ghost use Rattle.ocl_kinds.specs.Kinds.{IsScalarKindOf, IsKindOf, fits};
-ghost use Rattle.ocl_types.specs.Operators.{basic};
-ghost use Rattle.ocl_types.specs.CoreView.{core_view, typed_of};
+ghost use Rattle.ocl_core.specs.OperatorKinds.{basic};
+ghost use Rattle.ocl_core.specs.CoreView.{core_view};
+ghost use Rattle.ocl_types.specs.TypedView.{typed_of};
 ghost use Rattle.ocl_types.specs.GatheredView.{gathered_view};
 ghost use Rattle.ocl_types.specs.Elaboration as spec;
 ghost use Rattle.ocl_types.specs.Faults.{type_fault};
 
-use crate::core_tree::{Core, Typed};
 use crate::fault::{TypeFault, TypeFlaw};
 use crate::nodes;
-use crate::operator::BasicType;
+use crate::typed::Typed;
 use imkl_model::{ClassModel, CollectionKind};
+use ocl_core::{BasicType, Core};
 use ocl_kinds::{Kind, ScalarKind, fits};
 use std::alloc::{AllocError, Global};
 

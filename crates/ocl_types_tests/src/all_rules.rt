@@ -3,7 +3,8 @@
 use crate::model::MODEL;
 use imkl_model::{ClassModel, ModelFault};
 use ocl_text::{SurfaceRule, parse_rules};
-use ocl_types::{CoreRule, check_rules};
+use ocl_core::CoreRule;
+use ocl_types::check_rules;
 use std::alloc::{AllocError, Global};
 use std::test::Fail;
 

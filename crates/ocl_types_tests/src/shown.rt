@@ -2,7 +2,7 @@
 
 use imkl_model::{ClassModel, ClassNo, EnumNo, FeatureNo, LiteralNo};
 use ocl_kinds::{Kind, ScalarKind};
-use ocl_types::{ConstantValue, Core, CoreLink, Iteration, Operator};
+use ocl_core::{ConstantValue, Core, CoreLink, Iteration, Operator};
 use std::alloc::AllocError;
 
 #[cycle(shown)]

@@ -1,7 +1,7 @@
 use Rattle.std.proofs.Common.{◌≡◌, List, map, Ok, subst}
 use Rattle.ocl_text.specs.View.{rule_of}
-use Rattle.ocl_types.specs.declared.core_tree.CoreRule.{CoreRule}
-use Rattle.ocl_types.specs.CoreView.{checked_rule_of}
+use Rattle.ocl_core.specs.declared.core_tree.CoreRule.{CoreRule}
+use Rattle.ocl_core.specs.CoreView.{checked_rule_of}
 use Rattle.rule_code.specs.View.{content}
 use Rattle.ocl_compile.specs.Compiling.{compile_of}
 use Rattle.ocl_check.proofs.TextCompiled.{rules_compiled}

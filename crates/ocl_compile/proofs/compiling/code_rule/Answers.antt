@@ -1,6 +1,6 @@
 use Rattle.std.proofs.Common.{arith}
 use Rattle.rule_verify.specs.CodeTree as code
-use Rattle.ocl_types.specs.CoreView.{core_view}
+use Rattle.ocl_core.specs.CoreView.{core_view}
 use Rattle.ocl_compile.proofs.Measured.{count_is}
 use Rattle.ocl_compile.proofs.TypedCode.{typed_known, variables_below}
 use Rattle.ocl_compile.proofs.compiling.code_rule.Goals as goal

@@ -1,6 +1,6 @@
 use Rattle.std.proofs.Common.{◌≡◌, ◌++◌, map, drop}
 use Rattle.std.specs.List.{AllByRecursion}
-use Rattle.ocl_types.specs.CoreView.{checked_rule_of}
+use Rattle.ocl_core.specs.CoreView.{checked_rule_of}
 use Rattle.rule_code.specs.Content.{rule_content}
 use Rattle.ocl_compile.specs.Written.{IsWrittenRule}
 use Rattle.ocl_compile.specs.CompileWalk.{IsCodable}

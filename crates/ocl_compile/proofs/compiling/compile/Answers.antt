@@ -1,7 +1,7 @@
 use Rattle.std.proofs.Common.{◌≡◌, [], map, true, Option, None, sym, ap, ◌∙◌, subst}
 use Rattle.std.specs.Str.{is_utf8}
 use Rattle.std.specs.List.{AllByRecursion}
-use Rattle.ocl_types.specs.CoreView.{checked_rule_of}
+use Rattle.ocl_core.specs.CoreView.{checked_rule_of}
 use Rattle.rule_code.specs.Content.{Content}
 use Rattle.rule_code.specs.WellFormed.{IsUnit}
 use Rattle.ocl_compile.specs.Numbering.{Numbering}

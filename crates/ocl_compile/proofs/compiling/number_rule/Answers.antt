@@ -1,6 +1,6 @@
 use Rattle.std.proofs.Common.{[], ◌∷◌, Err, refl}
 use Rattle.std.proofs.lemmas.Result.{err_from_is_err_and}
-use Rattle.ocl_types.specs.CoreView.{core_view}
+use Rattle.ocl_core.specs.CoreView.{core_view}
 use Rattle.rule_verify.specs.declared.named.Named.TheVariants as named
 use Rattle.ocl_compile.specs.Numbering.{UsedText, UsedSymbol, tree_uses}
 use Rattle.ocl_compile.proofs.Numbered.{numbered_then, stopped}

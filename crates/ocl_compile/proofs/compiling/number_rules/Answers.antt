@@ -1,7 +1,7 @@
 use Rattle.std.proofs.Common.{◌+◌, List, ◌∷◌, Option, drop, map, refl, sym, ap, ◌∙◌, subst}
 use Rattle.std.proofs.lemmas.List.{drop_more}
-use Rattle.ocl_types.specs.declared.core_tree.CoreRule.{CoreRule}
-use Rattle.ocl_types.specs.CoreView.{checked_rule_of}
+use Rattle.ocl_core.specs.declared.core_tree.CoreRule.{CoreRule}
+use Rattle.ocl_core.specs.CoreView.{checked_rule_of}
 use Rattle.ocl_compile.specs.Numbering.{numbering_of, rule_uses, with_uses}
 use Rattle.ocl_compile.specs.Compiling.{LimitAt, unless_passed}
 use Rattle.ocl_compile.proofs.RulesNumbered.{NumberedTo, limit_here, first_is, stops_at, one_numbered}

@@ -1,5 +1,5 @@
 use Rattle.std.proofs.Common.{map, drop}
-use Rattle.ocl_types.specs.CoreView.{checked_rule_of}
+use Rattle.ocl_core.specs.CoreView.{checked_rule_of}
 use Rattle.ocl_compile.proofs.RulesNumbered.{NumberedTo}
 use Rattle.ocl_compile.proofs.compiling.number_rules.Given as goal
 

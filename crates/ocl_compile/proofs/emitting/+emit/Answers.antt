@@ -1,8 +1,8 @@
 use Rattle.std.proofs.Common.{◌∷◌, ◌++◌, map, length, List, sym, ap, ◌∙◌, rules, subst}
 use Rattle.std.specs.List.{AllByRecursion}
-use Rattle.ocl_types.specs.declared.core_tree.Core.{Core, the_lemmas}
-use Rattle.ocl_types.specs.Core.{cores_of}
-use Rattle.ocl_types.specs.CoreView.{core_view}
+use Rattle.ocl_core.specs.declared.core_tree.Core.{Core, the_lemmas}
+use Rattle.ocl_core.specs.Core.{cores_of}
+use Rattle.ocl_core.specs.CoreView.{core_view}
 use Rattle.rule_code.specs.declared.instruction.Instr.{Instr}
 use Rattle.rule_code.specs.declared.instruction.Instr.TheVariants as instrs
 use Rattle.ocl_compile.specs.EmitWalk.{code_of, codes_of, lets_code}

@@ -1,7 +1,7 @@
 use Rattle.std.proofs.Common.{◌≡◌, ◌++◌, map, drop}
 use Rattle.std.specs.List.{AllByRecursion}
-use Rattle.ocl_types.specs.Core.{cores_of}
-use Rattle.ocl_types.specs.CoreView.{core_view}
+use Rattle.ocl_core.specs.Core.{cores_of}
+use Rattle.ocl_core.specs.CoreView.{core_view}
 use Rattle.ocl_compile.specs.EmitWalk.{AreEmittable, AreEmittableLinks, codes_of, link_node, links_code, lets_code}
 use Rattle.ocl_compile.specs.Written.{IsWritten, AreWritten}
 use Rattle.ocl_compile.proofs.emitting.+emit.Given as goal

@@ -1,10 +1,10 @@
 use Rattle.std.proofs.Common.{◌≡◌, ℕ, suc, ◌+◌, ◌<◌, length, List, ◌∷◌, map, drop, refl, sym, ap, ◌∙◌, arith}
 use Rattle.std.proofs.lemmas.List.{drop_more, drop_all}
-use Rattle.ocl_types.specs.declared.core_tree.Core.{Core}
-use Rattle.ocl_types.specs.declared.core_tree.CoreLink.{CoreLink}
-use Rattle.ocl_types.specs.Core.{CoreTree, cores_of, lets_of}
-use Rattle.ocl_types.specs.CoreView.{CoreOnward, core_view, core_link_of, core_spine}
-use Rattle.ocl_types.proofs.ForAbove.{core_view-Spine, core_link_of-Operation, core_link_of-Fold}
+use Rattle.ocl_core.specs.declared.core_tree.Core.{Core}
+use Rattle.ocl_core.specs.declared.core_tree.CoreLink.{CoreLink}
+use Rattle.ocl_core.specs.Core.{CoreTree, cores_of, lets_of}
+use Rattle.ocl_core.specs.CoreView.{CoreOnward, core_view, core_link_of, core_spine}
+use Rattle.ocl_core.proofs.ForAbove.{core_view-Spine, core_link_of-Operation, core_link_of-Fold}
 use Rattle.ocl_compile.specs.declared.extent.Extent.{Extent}
 use Rattle.ocl_compile.specs.Extents.{then_instruction, then_above, then_block, extent_of, extent_after, cut_extent}
 use Rattle.ocl_compile.proofs.Cuts.{cut_instruction, cut_above, cut_block}

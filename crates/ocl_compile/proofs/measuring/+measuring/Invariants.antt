@@ -1,6 +1,6 @@
 use Rattle.std.proofs.Common.{◌≡◌, ◌+◌, map, drop}
-use Rattle.ocl_types.specs.Core.{CoreTree, cores_of, lets_of}
-use Rattle.ocl_types.specs.CoreView.{core_view, core_link_of, core_spine}
+use Rattle.ocl_core.specs.Core.{CoreTree, cores_of, lets_of}
+use Rattle.ocl_core.specs.CoreView.{core_view, core_link_of, core_spine}
 use Rattle.ocl_compile.specs.declared.extent.Extent.{Extent}
 use Rattle.ocl_compile.specs.Extents.{extent_of, extent_after, cut_extent}
 use Rattle.ocl_compile.proofs.measuring.+measuring.Given as goal

@@ -1,8 +1,8 @@
 use Rattle.std.proofs.Common.{◌++◌, map, List, Err, refl, rules, subst}
-use Rattle.ocl_types.specs.declared.core_tree.Core.{Core, the_lemmas}
-use Rattle.ocl_types.specs.declared.core_tree.CoreLink.{CoreLink}
-use Rattle.ocl_types.specs.Core.{cores_of}
-use Rattle.ocl_types.specs.CoreView.{core_view}
+use Rattle.ocl_core.specs.declared.core_tree.Core.{Core, the_lemmas}
+use Rattle.ocl_core.specs.declared.core_tree.CoreLink.{CoreLink}
+use Rattle.ocl_core.specs.Core.{cores_of}
+use Rattle.ocl_core.specs.CoreView.{core_view}
 use Rattle.ocl_compile.specs.EmitWalk.{link_node}
 use Rattle.ocl_compile.specs.Numbering.{tree_uses, trees_uses, scalar_uses, kind_uses, operator_uses, iteration_uses, with_uses}
 use Rattle.ocl_compile.specs.NumberWalk.{AreUsesOf, links_uses}

@@ -1,6 +1,6 @@
 use Rattle.std.proofs.Common.{◌≡◌, map, drop}
-use Rattle.ocl_types.specs.Core.{cores_of}
-use Rattle.ocl_types.specs.CoreView.{core_view}
+use Rattle.ocl_core.specs.Core.{cores_of}
+use Rattle.ocl_core.specs.CoreView.{core_view}
 use Rattle.ocl_compile.specs.Numbering.{trees_uses, with_uses}
 use Rattle.ocl_compile.specs.NumberWalk.{AreUsesOf, links_uses}
 use Rattle.ocl_compile.proofs.numbering.+number.Given as goal

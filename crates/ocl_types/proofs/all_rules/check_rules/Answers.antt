@@ -3,7 +3,7 @@ use Rattle.std.proofs.lemmas.List.{drop_all, drop_more, map_push}
 use Rattle.ocl_text.specs.declared.tree.SurfaceRule.{SurfaceRule}
 use Rattle.ocl_text.specs.Tree.{Rule}
 use Rattle.ocl_text.specs.View.{rule_of}
-use Rattle.ocl_types.specs.CoreView.{checked_rule_of}
+use Rattle.ocl_core.specs.CoreView.{checked_rule_of}
 use Rattle.ocl_types.specs.declared.fault.TypeFlaw.TheVariants.{UnknownName}
 use Rattle.ocl_types.specs.declared.rules_fault.RulesFault.{RulesFault}
 use Rattle.ocl_types.specs.declared.rules_fault.RulesFault.TheVariants.{At}

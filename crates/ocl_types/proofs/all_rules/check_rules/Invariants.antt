@@ -1,6 +1,6 @@
 use Rattle.std.proofs.Common.{map, drop}
 use Rattle.ocl_text.specs.View.{rule_of}
-use Rattle.ocl_types.specs.CoreView.{checked_rule_of}
+use Rattle.ocl_core.specs.CoreView.{checked_rule_of}
 use Rattle.ocl_types.proofs.AllChecked.{CheckedTo, NoneIfUnknown}
 use Rattle.ocl_types.proofs.all_rules.check_rules.Given as goal
 

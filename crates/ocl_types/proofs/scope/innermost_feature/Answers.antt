@@ -1,6 +1,6 @@
 use Rattle.std.proofs.Common.{◌≡◌, ◌+◌, ◌-◌, ℕ, drop, None, sym, ap, ◌∙◌, arith}
 use Rattle.ocl_types.specs.declared.scope.ImplicitVariable.{ImplicitVariable}
-use Rattle.ocl_types.specs.Core as tree
+use Rattle.ocl_core.specs.Core as tree
 use Rattle.ocl_types.specs.Scope.{feature_of}
 use Rattle.ocl_types.specs.ScopeIndex.{last_feature}
 use Rattle.ocl_types.proofs.ScopeIndexes.{feature_here, feature_from}

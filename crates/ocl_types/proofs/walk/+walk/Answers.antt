@@ -11,8 +11,8 @@ use Rattle.ocl_types.specs.CallView.{arguments_view}
 use Rattle.ocl_types.specs.Elaboration.{elaborate}
 use Rattle.ocl_types.specs.Faults.{type_fault}
 use Rattle.ocl_types.proofs.Bindings.{let_steps}
-use Rattle.ocl_types.specs.Core.{TypedTree}
-use Rattle.ocl_types.specs.CoreView.{typed_in}
+use Rattle.ocl_types.specs.TypedTrees.{TypedTree}
+use Rattle.ocl_types.specs.TypedView.{typed_in}
 use Rattle.ocl_types.specs.FoldView.{begun_in}
 use Rattle.ocl_types.specs.Walk.{fold_rest}
 use Rattle.ocl_types.proofs.Links.{binary_link, property_link, call_link, iterate_link, fold_link, name_bound, fold_goes_on, instances_link, first_plain, more_links, first_fails, after_instances, instances_fail, next_left, last_left, left_fails, went_on, carried}

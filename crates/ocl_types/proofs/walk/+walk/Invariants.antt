@@ -2,8 +2,9 @@ use Rattle.std.proofs.Common.{◌≡◌, map, drop, All}
 use Rattle.ocl_kinds.specs.Kinds.{IsKindOf}
 use Rattle.ocl_text.specs.Tree.{SurfaceTree, trees_of}
 use Rattle.ocl_text.specs.View.{view, bound_of}
-use Rattle.ocl_types.specs.Core.{typed_trees}
-use Rattle.ocl_types.specs.CoreView.{core_view, typed_in}
+use Rattle.ocl_types.specs.TypedTrees.{typed_trees}
+use Rattle.ocl_core.specs.CoreView.{core_view}
+use Rattle.ocl_types.specs.TypedView.{typed_in}
 use Rattle.ocl_types.specs.Walk as walk
 use Rattle.ocl_types.specs.Walk.{IsLeft}
 use Rattle.ocl_types.specs.ScopeView.{AreKnownVariables, Extends}

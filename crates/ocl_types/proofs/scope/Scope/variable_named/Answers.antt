@@ -2,8 +2,8 @@ use Rattle.std.proofs.Common.{Some, sym, ap, subst, ◌∙◌, arith}
 use Rattle.std.proofs.lemmas.List.Elements.{All-get_or}
 use Rattle.ocl_kinds.specs.Kinds.{IsKindOf}
 use Rattle.ocl_types.specs.declared.scope.ScopeVariable.{ScopeVariable}
-use Rattle.ocl_types.specs.Core as tree
-use Rattle.ocl_types.specs.Core.{typed}
+use Rattle.ocl_core.specs.Core as tree
+use Rattle.ocl_types.specs.TypedTrees.{typed}
 use Rattle.ocl_types.specs.Scope.{by_binder, innermost}
 use Rattle.ocl_types.specs.ScopeView.{scope_view, AreKnownVariables}
 use Rattle.ocl_types.proofs.Scopes.{known_each}

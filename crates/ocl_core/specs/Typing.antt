@@ -10,20 +10,20 @@ use Rattle.ocl_kinds.specs.declared.kind.ScalarKind.TheVariants as element
 use Rattle.ocl_kinds.specs.declared.kind.Kind.{Kind}
 use Rattle.ocl_kinds.specs.declared.kind.Kind.TheVariants.{Scalar, Collection}
 use Rattle.ocl_kinds.specs.Kinds.{IsScalarKindOf, IsKindOf, scalar_fits, fits, feature_kind, collected_kind}
-use Rattle.ocl_types.specs.declared.operator.BasicType.{BasicType}
-use Rattle.ocl_types.specs.declared.operator.BasicType.TheVariants as type
-use Rattle.ocl_types.specs.declared.operator.PlainOperator.{PlainOperator}
-use Rattle.ocl_types.specs.declared.operator.PlainOperator.TheVariants as plain
-use Rattle.ocl_types.specs.declared.operator.ElementOperator.{ElementOperator}
-use Rattle.ocl_types.specs.declared.operator.ElementOperator.TheVariants as of
-use Rattle.ocl_types.specs.declared.operator.Operator.{Operator}
-use Rattle.ocl_types.specs.declared.operator.Operator.TheVariants.{Plain, OfClass, OfElements, Equal}
-use Rattle.ocl_types.specs.declared.core_tree.Iteration.{Iteration}
-use Rattle.ocl_types.specs.declared.core_tree.Iteration.TheVariants as iteration
-use Rattle.ocl_types.specs.Core as tree
-use Rattle.ocl_types.specs.Core.{Constant, CoreTree, CoreTrees, CheckedRule}
-use Rattle.ocl_types.specs.Operators.{basic, basic_kind}
-use Rattle.ocl_types.specs.Elaboration.{truth_kind, class_result, element_result}
+use Rattle.ocl_core.specs.declared.operator.BasicType.{BasicType}
+use Rattle.ocl_core.specs.declared.operator.BasicType.TheVariants as type
+use Rattle.ocl_core.specs.declared.operator.PlainOperator.{PlainOperator}
+use Rattle.ocl_core.specs.declared.operator.PlainOperator.TheVariants as plain
+use Rattle.ocl_core.specs.declared.operator.ElementOperator.{ElementOperator}
+use Rattle.ocl_core.specs.declared.operator.ElementOperator.TheVariants as of
+use Rattle.ocl_core.specs.declared.operator.Operator.{Operator}
+use Rattle.ocl_core.specs.declared.operator.Operator.TheVariants.{Plain, OfClass, OfElements, Equal}
+use Rattle.ocl_core.specs.declared.core_tree.Iteration.{Iteration}
+use Rattle.ocl_core.specs.declared.core_tree.Iteration.TheVariants as iteration
+use Rattle.ocl_core.specs.Core as tree
+use Rattle.ocl_core.specs.Core.{Constant, CoreTree, CoreTrees, CheckedRule}
+use Rattle.ocl_core.specs.OperatorKinds.{basic, basic_kind}
+use Rattle.ocl_core.specs.OperatorKinds.{truth_kind, class_result, element_result}
 
 -- ---- constants
 

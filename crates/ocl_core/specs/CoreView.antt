@@ -1,15 +1,13 @@
 -- What the values of the code are, as core trees and rules.
-use Rattle.std.specs.Prelude.{List, fold, string_bytes, Box}
-use Rattle.std.specs.Global.{Global}
-use Rattle.ocl_types.specs.declared.core_tree.ConstantValue.{ConstantValue}
-use Rattle.ocl_types.specs.declared.core_tree.ConstantValue.TheVariants as cv
-use Rattle.ocl_types.specs.declared.core_tree.Core.{Core, fold-Core}
-use Rattle.ocl_types.specs.declared.core_tree.Core.TheOpen.{Core-F, CoreLink-F}
-use Rattle.ocl_types.specs.declared.core_tree.CoreLink.{CoreLink, fold-CoreLink}
-use Rattle.ocl_types.specs.declared.core_tree.Typed.{Typed}
-use Rattle.ocl_types.specs.declared.core_tree.CoreRule.{CoreRule}
-use Rattle.ocl_types.specs.Core as c
-use Rattle.ocl_types.specs.Core.{Constant, CoreTree, TypedTree, CheckedRule, typed, cores_of, lets_of}
+use Rattle.std.specs.Prelude.{List, fold, string_bytes}
+use Rattle.ocl_core.specs.declared.core_tree.ConstantValue.{ConstantValue}
+use Rattle.ocl_core.specs.declared.core_tree.ConstantValue.TheVariants as cv
+use Rattle.ocl_core.specs.declared.core_tree.Core.{Core, fold-Core}
+use Rattle.ocl_core.specs.declared.core_tree.Core.TheOpen.{Core-F, CoreLink-F}
+use Rattle.ocl_core.specs.declared.core_tree.CoreLink.{CoreLink, fold-CoreLink}
+use Rattle.ocl_core.specs.declared.core_tree.CoreRule.{CoreRule}
+use Rattle.ocl_core.specs.Core as c
+use Rattle.ocl_core.specs.Core.{Constant, CoreTree, CheckedRule, cores_of, lets_of}
 
 abbrev pub constant_of : ConstantValue → Constant
 constant_of (cv.Boolean value) = c.Boolean value
@@ -46,13 +44,6 @@ core_view = fold-Core CoreTree CoreOnward core_step core_link_step
 
 abbrev pub core_link_of : CoreLink → CoreOnward
 core_link_of = fold-CoreLink CoreTree CoreOnward core_step core_link_step
-
-abbrev pub typed_of : Typed → TypedTree
-typed_of t = typed (core_view t.core) t.kind
-
--- the same in a box
-abbrev pub typed_in : Box Typed Global → TypedTree
-typed_in b = typed_of b.value
 
 abbrev pub checked_rule_of : CoreRule → CheckedRule
 checked_rule_of r = record { name = r.name; context = r.context; tree = core_view r.tree }

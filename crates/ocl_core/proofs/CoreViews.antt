@@ -3,16 +3,16 @@ use Rattle.std.proofs.Common.{◌≡◌, ℕ, map, Box, Vec, Global, rules}
 use Rattle.ocl_base.specs.declared.collection_kind.CollectionKind.{CollectionKind}
 use Rattle.ocl_kinds.specs.declared.kind.ScalarKind.{ScalarKind}
 use Rattle.ocl_kinds.specs.declared.kind.Kind.{Kind}
-use Rattle.ocl_types.specs.declared.operator.Operator.{Operator}
-use Rattle.ocl_types.specs.declared.core_tree.ConstantValue.{ConstantValue}
-use Rattle.ocl_types.specs.declared.core_tree.Iteration.{Iteration}
-use Rattle.ocl_types.specs.declared.core_tree.Core.{Core, the_lemmas}
-use Rattle.ocl_types.specs.declared.core_tree.Core.TheVariants as v
-use Rattle.ocl_types.specs.declared.core_tree.CoreLink.{CoreLink}
-use Rattle.ocl_types.specs.declared.core_tree.CoreLink.TheVariants as l
-use Rattle.ocl_types.specs.Core as tree
-use Rattle.ocl_types.specs.Core.{cores_of, lets_of}
-use Rattle.ocl_types.specs.CoreView.{constant_of, core_view, core_link_of, core_spine}
+use Rattle.ocl_core.specs.declared.operator.Operator.{Operator}
+use Rattle.ocl_core.specs.declared.core_tree.ConstantValue.{ConstantValue}
+use Rattle.ocl_core.specs.declared.core_tree.Iteration.{Iteration}
+use Rattle.ocl_core.specs.declared.core_tree.Core.{Core, the_lemmas}
+use Rattle.ocl_core.specs.declared.core_tree.Core.TheVariants as v
+use Rattle.ocl_core.specs.declared.core_tree.CoreLink.{CoreLink}
+use Rattle.ocl_core.specs.declared.core_tree.CoreLink.TheVariants as l
+use Rattle.ocl_core.specs.Core as tree
+use Rattle.ocl_core.specs.Core.{cores_of, lets_of}
+use Rattle.ocl_core.specs.CoreView.{constant_of, core_view, core_link_of, core_spine}
 
 -- how each kind of core expression is seen, one equation for each
 pub core_view-Constant : (value : ConstantValue) → core_view (v.Constant value) ≡ tree.Value (constant_of value)
@@ -48,5 +48,3 @@ core_link_of-Iterate iteration body = search (rules, the_lemmas)
 
 pub core_link_of-Fold : (kind : ScalarKind) (start : Box Core Global) (body : Core) → core_link_of (l.Fold kind start body) ≡ λ source. tree.Fold kind source (core_view start.value) (core_view body)
 core_link_of-Fold kind start body = search (rules, the_lemmas)
-
-pub ruleset core_views = (core_view-Constant, core_view-Variable, core_view-AllInstances, core_view-Spine, core_view-Let, core_view-If, core_link_of-Feature, core_link_of-Operation, core_link_of-AsCollection, core_link_of-Iterate, core_link_of-Fold)

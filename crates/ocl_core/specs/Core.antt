@@ -1,10 +1,11 @@
 -- Core trees and rules, without where they lie in memory.
-use Rattle.std.specs.Prelude.{ℕ, Bool, List, [], ◌∷◌}
+use Rattle.std.specs.Prelude.{◌≡◌, ℕ, Bool, false, bytes_eq, List, [], ◌∷◌, map}
+use Rattle.ocl_base.specs.Lists.{repeats}
 use Rattle.ocl_base.specs.declared.collection_kind.CollectionKind.{CollectionKind}
 use Rattle.ocl_kinds.specs.declared.kind.ScalarKind.{ScalarKind}
 use Rattle.ocl_kinds.specs.declared.kind.Kind.{Kind}
-use Rattle.ocl_types.specs.declared.operator.Operator.{Operator}
-use Rattle.ocl_types.specs.declared.core_tree.Iteration.{Iteration}
+use Rattle.ocl_core.specs.declared.operator.Operator.{Operator}
+use Rattle.ocl_core.specs.declared.core_tree.Iteration.{Iteration}
 
 -- a value that stands in the text
 pub data Constant : Type 0 where
@@ -43,24 +44,12 @@ abbrev pub cores_of : List CoreTree → CoreTrees
 cores_of [] = no_core
 cores_of (c ∷ cs) = one_core c (cores_of cs)
 
--- a core tree, and the kind of its value
-pub record TypedTree : Type 0 where
-  pub core : CoreTree
-  pub kind : Kind
-
-abbrev pub typed : CoreTree → Kind → TypedTree
-typed core kind = record { core = core; kind = kind }
-
--- several of them
-pub record TypedTrees : Type 0 where
-  pub cores : List CoreTree
-  pub kinds : List Kind
-
-abbrev pub typed_trees : List CoreTree → List Kind → TypedTrees
-typed_trees cores kinds = record { cores = cores; kinds = kinds }
-
 -- a rule: its name, its context class and its expression
 pub record CheckedRule : Type 0 where
   pub name : List ℕ
   pub context : ℕ
   pub tree : CoreTree
+
+-- no two rules have one name
+abbrev pub HaveOwnNames : List CheckedRule → Type 0
+HaveOwnNames rs = repeats bytes_eq (map (λ r. r.name) rs) ≡ false

@@ -3,7 +3,7 @@
 ghost use Rattle.std.specs.Prelude.{◌≡◌};
 ghost use Rattle.imkl_model.specs.ClassModel.{Model};
 ghost use Rattle.ocl_kinds.specs.Kinds.{IsScalarKindOf};
-ghost use Rattle.ocl_types.specs.Operators.{basic_kind};
+ghost use Rattle.ocl_core.specs.OperatorKinds.{basic_kind};
 
 use imkl_model::ClassNo;
 use ocl_kinds::{Kind, ScalarKind};
@@ -117,7 +117,7 @@ pub enum BasicType {
 
 impl BasicType {
     /// The kind of its values.
-    pub(crate) fn kind(self) -> ScalarKind
+    pub fn kind(self) -> ScalarKind
         ensures value { result ≡ basic_kind self }
         ensures known { (m : Model) → IsScalarKindOf m result }
     {

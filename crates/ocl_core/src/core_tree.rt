@@ -134,13 +134,6 @@ pub enum Core {
     },
 }
 
-/// A core tree with the kind of its value.
-#[derive(Debug, Drop)]
-pub(crate) struct Typed {
-    pub(crate) core: Core,
-    pub(crate) kind: Kind,
-}
-
 /// A rule whose types are checked.
 #[derive(Debug, Drop)]
 pub struct CoreRule {

@@ -1,0 +1,2 @@
+pub mod CoreViews
+pub mod ForAbove

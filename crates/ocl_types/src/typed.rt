@@ -1,0 +1,11 @@
+//! What elaboration gives of an expression.
+
+use ocl_core::Core;
+use ocl_kinds::Kind;
+
+/// A core tree with the kind of its value.
+#[derive(Debug, Drop)]
+pub(crate) struct Typed {
+    pub(crate) core: Core,
+    pub(crate) kind: Kind,
+}
