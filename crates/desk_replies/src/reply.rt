@@ -10,10 +10,10 @@ ghost use Rattle.desk_replies.specs.Told.{IsReplied, IsRepliedAnyway};
 
 use desk_script::Call;
 use imkl_population::Population;
+use ocl_base::OutOfMemory;
 use rule_cost::Admitted;
 use rule_desk::laws::{grants_are_events, withdrawals_are_events};
 use rule_desk::{Desk, DeskFault, JobNo, JobReply};
-use rule_machine::OutOfMemory;
 use std::alloc::Global;
 
 fn put(text: &mut Vec<u8>, line: &str) -> Result<(), OutOfMemory>

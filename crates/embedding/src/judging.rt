@@ -13,9 +13,10 @@ use crate::refusal::Refusal;
 use imkl_delivery::load;
 use imkl_model::ClassModel;
 use imkl_population::{ObjectNo, Population, Sizes};
+use ocl_base::OutOfMemory;
 use rule_code::{Unit, read_unit};
 use rule_cost::admit;
-use rule_machine::{Machine, OutOfMemory, Verdict};
+use rule_machine::{Machine, Verdict};
 use rule_verify::{Accepted, verify};
 use std::alloc::Global;
 

@@ -8,7 +8,7 @@ ghost use Rattle.ocl_check.specs.Ending.{IsEnding};
 
 use crate::input::InputFault;
 use crate::reply::Reply;
-use rule_machine::OutOfMemory;
+use ocl_base::OutOfMemory;
 use rule_report::{Sink, write_and_flush};
 
 /// Why a command failed.

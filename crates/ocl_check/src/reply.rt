@@ -9,8 +9,8 @@ ghost use Rattle.ocl_check.specs.TextParts.{text_rules_fault, IsRefusedAs};
 use crate::compiled_rules::TextRulesFault;
 use imkl_delivery::DeliveryFault;
 use imkl_model::ModelFault;
+use ocl_base::OutOfMemory;
 use rule_code::CodeFlaw;
-use rule_machine::OutOfMemory;
 use rule_verify::VerifyFlaw;
 use std::alloc::{AllocError, Global};
 

@@ -8,8 +8,9 @@ use crate::compiled::unit_of;
 use imkl_delivery::load;
 use imkl_model::ClassModel;
 use imkl_population::{ObjectNo, Population};
+use ocl_base::OutOfMemory;
 use rule_code::Unit;
-use rule_machine::{Machine, OutOfMemory};
+use rule_machine::Machine;
 use rule_verify::{Accepted, VerifyFault, verify};
 use std::alloc::Global;
 

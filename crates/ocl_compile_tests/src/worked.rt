@@ -3,8 +3,8 @@
 use crate::compiled::unit_of;
 use crate::judging::verdicts;
 use imkl_model::{ClassModel, ModelFault};
+use ocl_base::OutOfMemory;
 use rule_code::write_unit;
-use rule_machine::OutOfMemory;
 use std::alloc::Global;
 use std::test::*;
 use test_support::{

@@ -5,7 +5,7 @@ use Rattle.imkl_population.specs.Population.{Population}
 use Rattle.rule_code.specs.Content.{Content}
 use Rattle.rule_verify.specs.UnitRules.{unit_rule, takes_memory}
 use Rattle.rule_cost.specs.Admission.{Admission}
-use Rattle.rule_machine.specs.declared.memory.OutOfMemory.{OutOfMemory}
+use Rattle.ocl_base.specs.declared.memory.OutOfMemory.{OutOfMemory}
 use Rattle.rule_machine.specs.declared.verdict.Verdict.{Verdict}
 use Rattle.rule_machine.specs.declared.progress.Progress.{Progress}
 use Rattle.rule_machine.specs.declared.progress.Progress.TheVariants.{Paused, Done}

@@ -4,7 +4,7 @@ ghost use Rattle.std.specs.Prelude.{◌≡◌};
 ghost use Rattle.rule_desk.specs.declared.fault.DeskFault.TheVariants.{OutOfMemory};
 ghost use Rattle.rule_desk.specs.Faults.{desk_fault_number};
 
-use rule_machine::OutOfMemory;
+use ocl_base::OutOfMemory;
 use thiserror::Error;
 
 /// Why a desk refuses a call.

@@ -13,8 +13,9 @@ ghost use Rattle.rule_desk.specs.Rooms.{longest_lines, NeedsNoMemory};
 ghost use Rattle.rule_desk.specs.Stands.{IsReady, IsAtPair, Advanced};
 
 use imkl_population::Population;
+use ocl_base::OutOfMemory;
 use rule_cost::Admitted;
-use rule_machine::{Machine, OutOfMemory, Progress};
+use rule_machine::{Machine, Progress};
 use rule_report::ReportCursor;
 use std::alloc::Global;
 use std::marker::Model;

@@ -11,7 +11,7 @@ use Rattle.rule_slots.specs.Slots.{Lists}
 use Rattle.rule_machine.specs.Places.{Place, AllAt, now_at, Mark, Here, Iterating}
 use Rattle.rule_machine.specs.Live.{IsOneBoolean, Going}
 use Rattle.imkl_population.specs.Population.{Population}
-use Rattle.rule_machine.specs.declared.memory.OutOfMemory.{OutOfMemory}
+use Rattle.ocl_base.specs.declared.memory.OutOfMemory.{OutOfMemory}
 use Rattle.rule_machine.specs.declared.verdict.Verdict.{Verdict}
 use Rattle.rule_machine.specs.declared.state.State.{State}
 use Rattle.rule_machine.specs.declared.state.Started.{Started}

@@ -1,6 +1,6 @@
 -- What the calls of a machine promise.
 use Rattle.std.specs.Prelude.{◌≡◌, ◌⊎◌, ℕ, suc, ◌+◌, ◌-◌, ◌^◌, ◌<◌, ◌≤◌, min, Some, None, Result, Ok, Err}
-use Rattle.rule_machine.specs.declared.memory.OutOfMemory.{OutOfMemory}
+use Rattle.ocl_base.specs.declared.memory.OutOfMemory.{OutOfMemory}
 use Rattle.rule_machine.specs.declared.verdict.Verdict.{Verdict}
 use Rattle.rule_machine.specs.declared.progress.Progress.{Progress}
 use Rattle.rule_machine.specs.declared.progress.Progress.TheVariants.{Paused, Done}

@@ -7,7 +7,7 @@ ghost use Rattle.rule_slots.specs.Slots.{lists_in, index_slot, invalid_mark, sca
 ghost use Rattle.rule_machine.specs.StandFor.{kept_slots};
 
 use crate::control::Turn;
-use crate::memory::OutOfMemory;
+use ocl_base::OutOfMemory;
 use rule_slots::{Home, Lists, Slot, home_named, index_slot, is_false, is_true, scalar_slot};
 use rule_verify::{BlockInstr, block_of};
 

@@ -8,7 +8,6 @@ mod endings;
 mod keeping;
 pub mod laws;
 mod machine;
-mod memory;
 mod performing;
 mod progress;
 mod running;
@@ -20,6 +19,5 @@ mod turning;
 mod verdict;
 
 pub use machine::Machine;
-pub use memory::OutOfMemory;
 pub use progress::Progress;
 pub use verdict::Verdict;

@@ -9,12 +9,12 @@ ghost use Rattle.rule_machine.specs.Shown.{IsTask, task_lists, depths_in, HasRoo
 ghost use Rattle.rule_machine.specs.Seen.{IsIdle, Represents};
 ghost use Rattle.rule_machine.specs.Contract.{SameTask, IsStarted, IsBegun, Ran, Judged, IsCount};
 
-use crate::memory::OutOfMemory;
 use crate::progress::Progress;
 use crate::state::State;
 use crate::task::Task;
 use crate::verdict::Verdict;
 use imkl_population::{ObjectNo, Population};
+use ocl_base::OutOfMemory;
 use rule_verify::Accepted;
 use std::alloc::Global;
 use std::marker::Model;

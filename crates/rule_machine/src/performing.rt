@@ -21,10 +21,10 @@ ghost use Rattle.rule_machine.specs.StandFor.{GivesSlot, CanPerform, Performed};
 ghost use Rattle.rule_machine.specs.Shown.{IsTask, setting_in, task_lists};
 
 use crate::applying::{apply_one, apply_two, takes_one};
-use crate::memory::OutOfMemory;
 use crate::stack::ReservedStack;
 use crate::task::Task;
 use imkl_model::{ClassNo, FeatureNo};
+use ocl_base::OutOfMemory;
 use rule_code::{Instr, SymbolNumber};
 use rule_slots::{
     Lists, Slot, all_instances, as_collection, as_set, cast, index_slot, invalid_slot, kind_test,

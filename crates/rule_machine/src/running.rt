@@ -8,12 +8,12 @@ ghost use Rattle.rule_machine.specs.Seen.{seen_in};
 ghost use Rattle.rule_machine.specs.Contract.{IsStarted, Ran, Judged};
 
 use crate::charging::with_charge;
-use crate::memory::OutOfMemory;
 use crate::progress::Progress;
 use crate::state::State;
 use crate::task::Task;
 use crate::verdict::Verdict;
 use imkl_population::ObjectNo;
+use ocl_base::OutOfMemory;
 use std::marker::Brand;
 use std::sync::ledger::{Blank, Ledger};
 

@@ -3,7 +3,7 @@
 ghost use Rattle.std.specs.Prelude.{◌≡◌, ℕ, ◌+◌, ◌<◌, ◌≤◌, List, [], ◌∷◌, length, drop, reverse, slice_get, vec_capacity, OnOk, OnErr, MatchOption, None, Some};
 ghost use Rattle.ocl_base.specs.Lists.{variable_at};
 
-use crate::memory::OutOfMemory;
+use ocl_base::OutOfMemory;
 use std::alloc::Global;
 use std::marker::Model;
 

@@ -7,11 +7,11 @@ ghost use Rattle.rule_machine.specs.Laws.{IsAcceptedRun};
 ghost use Rattle.rule_machine.specs.Shown.{depths_in, IsTask, LiesIn, CanGoOn, Same, IsStartOf, IsAtFront, HasRoomFor, SameRoom};
 
 use crate::control::Control;
-use crate::memory::OutOfMemory;
 use crate::stack::ReservedStack;
 use crate::task::Task;
 use crate::verdict::{Verdict, verdict_of};
 use imkl_population::ObjectNo;
+use ocl_base::OutOfMemory;
 use rule_slots::{Slot, index_slot};
 use rule_verify::Depths;
 use std::alloc::Global;

@@ -12,11 +12,11 @@ ghost use Rattle.rule_machine.specs.StandFor.{choice_slot, opening_mark};
 ghost use Rattle.rule_machine.specs.Shown.{code_in, IsTask, LiesIn, HasStep, Room, Same, Stepped, IsAtFront};
 
 use crate::control::{Control, Turn};
-use crate::memory::OutOfMemory;
 use crate::performing::perform;
 use crate::stack::ReservedStack;
 use crate::state::State;
 use crate::task::Task;
+use ocl_base::OutOfMemory;
 use rule_code::Instr;
 use rule_slots::{Slot, invalid_slot};
 use rule_verify::{BlockInstr, Shape, block_of, operands_above, shape_of};

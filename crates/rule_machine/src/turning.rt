@@ -11,10 +11,10 @@ ghost use Rattle.rule_machine.specs.Shown.{code_in, task_lists, IsTurnIn, LiesIn
 use crate::control::{Control, Turn};
 use crate::endings::{ending, kept_part, turn_after};
 use crate::keeping::keep;
-use crate::memory::OutOfMemory;
 use crate::stack::ReservedStack;
 use crate::state::State;
 use crate::task::Task;
+use ocl_base::OutOfMemory;
 use rule_code::Instr;
 use rule_slots::{Slot, are_distinct, element, invalid_slot};
 use rule_verify::{BlockInstr, block_of, bound_count, operands_above};

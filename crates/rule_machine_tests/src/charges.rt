@@ -2,7 +2,7 @@
 
 use crate::judging::verdicts;
 use crate::rows::wrong_rows;
-use rule_machine::OutOfMemory;
+use ocl_base::OutOfMemory;
 use std::alloc::{AllocError, Global};
 use std::test::*;
 

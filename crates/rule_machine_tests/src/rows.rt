@@ -4,7 +4,7 @@ use crate::judging::file_verdicts;
 use imkl_delivery::load;
 use imkl_model::ClassModel;
 use imkl_population::Population;
-use rule_machine::OutOfMemory;
+use ocl_base::OutOfMemory;
 use std::alloc::Global;
 use test_support::{BOX_DELIVERY, BOXES, file_of_rule};
 

@@ -1,7 +1,7 @@
 //! Rules of the catalogue, worked by hand: what they say of each object, and for how many charges.
 
 use crate::judging::verdicts;
-use rule_machine::OutOfMemory;
+use ocl_base::OutOfMemory;
 use std::alloc::{AllocError, Global};
 use std::test::*;
 use test_support::{

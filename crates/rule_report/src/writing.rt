@@ -19,8 +19,9 @@ use crate::sink::Sink;
 use crate::summary::Summary;
 use crate::unfailed::Unfailed;
 use imkl_population::{ObjectNo, Population};
+use ocl_base::OutOfMemory;
 use rule_cost::Admitted;
-use rule_machine::{Machine, OutOfMemory};
+use rule_machine::Machine;
 use std::alloc::Global;
 
 /// Text is written once there are so many bytes of it.

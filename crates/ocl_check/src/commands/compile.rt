@@ -19,8 +19,8 @@ use crate::outcome::{CommandFault, Outcome, say};
 use crate::reply::{Reply, compiled_reply, refused_model, refused_text};
 use crate::source::Source;
 use imkl_model::ClassModel;
+use ocl_base::OutOfMemory;
 use rule_code::{Unit, write_unit};
-use rule_machine::OutOfMemory;
 use rule_report::{Sink, write_and_flush};
 use std::alloc::Global;
 
