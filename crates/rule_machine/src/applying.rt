@@ -14,12 +14,21 @@ use rule_slots::{
 };
 
 /// What an instruction makes of two operands, the second of which is the topmost. (Both are read where they stand: a copy
-/// would be made at each step, whichever words the instruction needs.)
+/// would be made at each step, whichever words the instruction needs.) The pool stays as it was: what compares long
+/// collections may put copies behind its end, and takes them off again.
 #[inline(always)]
-pub(crate) fn apply_two(task: Task<'_>, pool: &[Slot], instr: Instr, v: &Slot, w: &Slot) -> Slot
+pub(crate) fn apply_two(
+    task: Task<'_>,
+    pool: &mut Vec<Slot>,
+    instr: Instr,
+    v: &Slot,
+    w: &Slot,
+) -> Slot
     requires takes { TakesTwo instr }
-    requires can { CanTakeTwo (setting_in task) (task_lists task) pool.now instr v.now w.now }
-    ensures { GivesOfTwo (setting_in task.entry) (task_lists task.entry) pool.now instr v.now w.now result }
+    requires can { CanTakeTwo (setting_in task) (task_lists task) pool.old.items instr v.now w.now }
+    ensures gives { GivesOfTwo (setting_in task.entry) (task_lists task.entry) pool.old.items instr
+        v.now w.now result }
+    ensures pool { pool.new.items ≡ pool.old.items }
 {
     match instr {
         Instr::Add => addition(*v, *w),

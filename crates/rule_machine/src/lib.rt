@@ -11,6 +11,7 @@ mod machine;
 mod performing;
 mod progress;
 mod running;
+mod spare;
 mod stack;
 mod state;
 mod stepping;

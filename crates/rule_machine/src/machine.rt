@@ -10,6 +10,7 @@ ghost use Rattle.rule_machine.specs.Seen.{IsIdle, Represents};
 ghost use Rattle.rule_machine.specs.Contract.{SameTask, IsStarted, IsBegun, Ran, Judged, IsCount};
 
 use crate::progress::Progress;
+use crate::spare::{any_compares, spare_for};
 use crate::state::State;
 use crate::task::Task;
 use crate::verdict::Verdict;
@@ -45,7 +46,8 @@ impl<'a> Model for Machine<'a> {
 
 impl<'a> Machine<'a> {
     /// A machine for accepted code, over a population of the same class model, with nothing started. Its stacks have
-    /// room for each rule; where there is no memory for them, it is `OutOfMemory`.
+    /// room for each rule, and its pool for copies of what rules compare; where there is no memory for them, it is
+    /// `OutOfMemory`.
     pub fn new(
         alloc: Global,
         accepted: &'a Accepted<'a>,
@@ -57,8 +59,13 @@ impl<'a> Machine<'a> {
         ensures idle { IfOk result IsIdle }
     {
         let mut state = State::new(alloc);
+        let mut compares = false;
         for rule in 0..accepted.rules() {
             state.reserve(accepted.depths(rule))?;
+            compares = compares || any_compares(accepted.unit().rule(rule).code.as_slice());
+        }
+        if compares {
+            state.reserve_spare(spare_for(population))?;
         }
         Ok(Machine {
             accepted,

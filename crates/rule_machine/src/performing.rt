@@ -159,12 +159,18 @@ fn feature_read(task: Task<'_>, feature: FeatureNo, v: Slot) -> Slot
 
 /// What an instruction makes of operands alone.
 #[inline(always)]
-fn on_operands(task: Task<'_>, operands: &ReservedStack<Slot>, pool: &[Slot], instr: Instr) -> Slot
+fn on_operands(
+    task: Task<'_>,
+    operands: &ReservedStack<Slot>,
+    pool: &mut Vec<Slot>,
+    instr: Instr,
+) -> Slot
     requires takes { TakesOne instr ⊎ TakesTwo instr }
-    requires can { (vars : List Held) × CanPerform (setting_in task) (task_lists task) pool.now vars
-        operands.now.0 instr }
-    ensures { (vars : List Held) → GivesSlot (setting_in task.entry) (task_lists task.entry)
-        pool.now pool.now vars operands.now.0 instr result }
+    requires can { (vars : List Held) × CanPerform (setting_in task) (task_lists task)
+        pool.old.items vars operands.now.0 instr }
+    ensures gives { (vars : List Held) → GivesSlot (setting_in task.entry) (task_lists task.entry)
+        pool.old.items pool.old.items vars operands.now.0 instr result }
+    ensures pool { pool.new.items ≡ pool.old.items }
 {
     if takes_one(instr) {
         apply_one(task, pool, instr, topmost(operands))
@@ -173,13 +179,13 @@ fn on_operands(task: Task<'_>, operands: &ReservedStack<Slot>, pool: &[Slot], in
     }
 }
 
-/// What an instruction gives that gathers nothing.
+/// What an instruction gives that gathers nothing. The pool stays as it was.
 #[inline(always)]
 fn plain_result(
     task: Task<'_>,
     variables: &ReservedStack<Slot>,
     operands: &ReservedStack<Slot>,
-    pool: &[Slot],
+    pool: &mut Vec<Slot>,
     instr: Instr,
 ) -> Slot
     requires task { IsTask task }
@@ -187,10 +193,11 @@ fn plain_result(
         task.accepted.now.unit.symbols instr }
     requires shape { shape_of instr ≡ Single }
     requires plain { gathers instr ≡ false }
-    requires can { CanPerform (setting_in task) (task_lists task) pool.now variables.now.0
+    requires can { CanPerform (setting_in task) (task_lists task) pool.old.items variables.now.0
         operands.now.0 instr }
-    ensures { GivesSlot (setting_in task.entry) (task_lists task.entry) pool.now pool.now
-        variables.now.0 operands.now.0 instr result }
+    ensures gives { GivesSlot (setting_in task.entry) (task_lists task.entry) pool.old.items
+        pool.old.items variables.now.0 operands.now.0 instr result }
+    ensures pool { pool.new.items ≡ pool.old.items }
 {
     match instr {
         Instr::SelfObject => variable(variables, 0),

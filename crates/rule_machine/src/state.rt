@@ -74,6 +74,16 @@ impl State {
         self.controls.reserve(controls)
     }
 
+    /// Makes room for so many slots more in the pool.
+    pub(crate) fn reserve_spare(&mut self, count: usize) -> Result<(), OutOfMemory>
+        ensures room { SameRoom self.old self.new }
+        ensures started { self.new.started ≡ self.old.started }
+        ensures count { self.new.count ≡ self.old.count }
+    {
+        self.pool.reserve(count)?;
+        Ok(())
+    }
+
     /// Stands before the first step of a rule for an object.
     pub(crate) fn start(&mut self, task: Task<'_>, object: ObjectNo)
         requires task { IsTask task }

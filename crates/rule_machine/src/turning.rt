@@ -5,6 +5,7 @@ ghost use Rattle.rule_verify.specs.UnitRules.{unit_rule, takes_memory};
 ghost use Rattle.rule_machine.specs.Machine.{Configuration};
 ghost use Rattle.rule_machine.specs.declared.control.Control.TheVariants.{LetEnd, Opened, Turning, Skipped};
 ghost use Rattle.rule_machine.specs.declared.control.Control.{Control as Pending};
+ghost use Rattle.rule_slots.specs.declared.slot.Slot.{Slot as Held};
 ghost use Rattle.rule_machine.specs.StandFor.{TellsDistinct, bound_slots, gives_part, given_pool};
 ghost use Rattle.rule_machine.specs.Shown.{code_in, task_lists, IsTurnIn, LiesIn, BetweenIn, WentOn, TurnEnded, HasStep, IsFirstMark, Same, Stepped, Room};
 
@@ -216,7 +217,7 @@ impl State {
         requires room { Room self.old }
         ensures { WentOn task.entry turn last self.old self.new }
     {
-        let distinct = keeps_distinct(task, &self.pool, turn);
+        let distinct = keeps_distinct(task, &mut self.pool, turn);
         let gives = ending(turn, distinct, last);
         cut_to_given(&mut self.pool, turn, gives);
         self.operands.push(gives);
@@ -241,11 +242,14 @@ fn bind_turn(variables: &mut ReservedStack<Slot>, instr: Instr, element: Slot, l
     }
 }
 
-/// Whether ISUNIQUE keeps no element twice; no other iteration asks for it.
+/// Whether ISUNIQUE keeps no element twice; no other iteration asks for it. What it keeps may be sorted to tell; the pool
+/// that the iteration leaves stays the same.
 #[inline(always)]
-fn keeps_distinct(task: Task<'_>, pool: &[Slot], turn: Turn) -> bool
-    requires { turn.opened + turn.kept ≤ length pool.now }
-    ensures { TellsDistinct (task_lists task.entry) pool.now turn result }
+fn keeps_distinct(task: Task<'_>, pool: &mut Vec<Slot>, turn: Turn) -> bool
+    requires { turn.opened + turn.kept ≤ length pool.old.items }
+    ensures told { TellsDistinct (task_lists task.entry) pool.old.items turn result }
+    ensures given { (gives : Held) →
+        given_pool turn gives pool.new.items ≡ given_pool turn gives pool.old.items }
 {
     match block_of(turn.instr) {
         Some(BlockInstr::IsUnique(kind, _)) => {

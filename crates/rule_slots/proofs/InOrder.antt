@@ -17,12 +17,24 @@ less_is Less e = refl
 less_is Equal e = cc
 less_is Greater e = cc
 
-not_true : (b : Bool) → not b ≡ true → b ≡ false
+pub not_true : (b : Bool) → not b ≡ true → b ≡ false
 not_true true e = cc
 not_true false e = refl
 
 false_is_no_true : false ≡ true → ⊥
 false_is_no_true e = cc
+
+or_true : (b : Bool) → (b || true) ≡ true
+or_true true = refl
+or_true false = refl
+
+or_false_left : (a b : Bool) → (a || b) ≡ false → a ≡ false
+or_false_left false b e = refl
+or_false_left true b e = cc
+
+or_false_right : (a b : Bool) → (a || b) ≡ false → b ≡ false
+or_false_right false b e = e
+or_false_right true b e = cc
 
 and_false : (b : Bool) → (b && false) ≡ false
 and_false true = refl
@@ -60,7 +72,7 @@ all_alike : {A : Type 0} (f g : A → Bool) (xs : List A) → Each (λ x. f x �
 all_alike f g [] h = refl
 all_alike f g (x ∷ xs) h = ap (λ z. z && list_all f xs) h.0 ∙ ap (λ z. g x && z) (all_alike f g xs h.1)
 
-always_alike : {A : Type 0} (f g : A → Bool) → ((x : A) → f x ≡ g x) → (xs : List A) → list_all f xs ≡ list_all g xs
+pub always_alike : {A : Type 0} (f g : A → Bool) → ((x : A) → f x ≡ g x) → (xs : List A) → list_all f xs ≡ list_all g xs
 always_alike f g h [] = refl
 always_alike f g h (x ∷ xs) = ap (λ z. z && list_all f xs) (h x) ∙ ap (λ z. g x && z) (always_alike f g h xs)
 
@@ -170,23 +182,53 @@ module _ {A : Type 0} (R : A → A → Ordering) (o : IsTotalOrder R) (same : A 
       by true q rest = absurd (false_is_no_true (sym e ∙ ap (λ b. b || list_any (same z) before) q))
       by false q rest = ap (λ b. b || list_any (same z) (before ++ y ∷ [])) q ∙ rest (sym (ap (λ b. b || list_any (same z) before) q) ∙ e)
 
-  each_behind : (before : List A) (y : A) (ys : List A) → Each (λ z. is_among same before z ≡ false) ys → Each (λ z. R y z ≡ Less) ys → Each (λ z. is_among same (before ++ y ∷ []) z ≡ false) ys
+  each_behind : (before : List A) (y : A) (ys : List A) → Each (λ z. is_among same before z ≡ false) ys → Each (λ z. same z y ≡ false) ys → Each (λ z. is_among same (before ++ y ∷ []) z ≡ false) ys
   each_behind before y [] h g = tt
-  each_behind before y (z ∷ zs) h g = (among_behind before y z h.0 (apart_back y z g.0), each_behind before y zs h.1 g.1)
+  each_behind before y (z ∷ zs) h g = (among_behind before y z h.0 g.0, each_behind before y zs h.1 g.1)
 
-  first_after : (before ys : List A) → IsRising R valid true ys → Each (λ z. is_among same before z ≡ false) ys → first_ones same before ys ≡ ys
+  -- what an item isn't among is another than it
+  each_other : (y : A) (zs : List A) → is_among same zs y ≡ false → Each (λ z. same z y ≡ false) zs
+  each_other y [] n = tt
+  each_other y (z ∷ zs) n = (other (same z y) refl, each_other y zs (or_false_right (same y z) (list_any (same y) zs) n))
+    where
+      other : (b : Bool) → same z y ≡ b → same z y ≡ false
+      other false e = e
+      other true e = absurd (false_is_no_true (sym n ∙ ap (λ b. b || list_any (same y) zs) (same_back z y e)))
+
+  first_after : (before ys : List A) → repeats same ys ≡ false → Each (λ z. is_among same before z ≡ false) ys → first_ones same before ys ≡ ys
   first_after before [] e h = refl
   first_after before (y ∷ ys) e h =
+      let here = or_false_left (is_among same ys y) (repeats same ys) e in
+      let behind = or_false_right (is_among same ys y) (repeats same ys) e in
       ap (λ b. if b then first_ones same before ys else y ∷ first_ones same (before ++ y ∷ []) ys) h.0
-      ∙ ap (λ z. y ∷ z) (first_after (before ++ y ∷ []) ys (rising_parts true y ys e).1 (each_behind before y ys h.1 (all_after y ys e)))
+      ∙ ap (λ z. y ∷ z) (first_after (before ++ y ∷ []) ys behind (each_behind before y ys h.1 (each_other y ys here)))
 
-  -- so each is the first of its like
-  pub first_are_all : (xs : List A) → IsRising R valid true xs → first_ones same [] xs ≡ xs
+  -- where none stands twice, each is the first of its like
+  pub first_are_all : (xs : List A) → repeats same xs ≡ false → first_ones same [] xs ≡ xs
   first_are_all xs e = first_after [] xs e (none xs)
     where
       none : (ys : List A) → Each (λ z. is_among same [] z ≡ false) ys
       none [] = tt
       none (y ∷ ys) = (refl, none ys)
+
+  -- in a list that rises, but not strictly, two that stand side by side are the same
+  pub some_twice : (xs : List A) → IsRising R valid false xs → rises valid (λ x y. may_precede true (R x y)) xs ≡ false → repeats same xs ≡ true
+  some_twice [] e n = cc
+  some_twice (x ∷ []) e n = absurd (false_is_no_true (sym n ∙ ap (λ b. (b && true) && true) (rising_parts false x [] e).0.0))
+  some_twice (x ∷ y ∷ ys) e n = by (R x y) refl (some_twice (y ∷ ys) parts.1)
+    where
+      strict : A → A → Bool
+      strict a b = may_precede true (R a b)
+
+      parts : ((valid x ≡ true) × (not (is_gt (R x y)) ≡ true)) × IsRising R valid false (y ∷ ys)
+      parts = rising_parts false x (y ∷ ys) e
+
+      by : (r : Ordering) → R x y ≡ r → (rises valid strict (y ∷ ys) ≡ false → repeats same (y ∷ ys) ≡ true) → repeats same (x ∷ y ∷ ys) ≡ true
+      by Less q rest =
+          let tail : rises valid strict (y ∷ ys) ≡ false = sym (ap (λ b. (b && is_lt (R x y)) && rises valid strict (y ∷ ys)) parts.0.0 ∙ ap (λ r. is_lt r && rises valid strict (y ∷ ys)) q) ∙ n in
+          ap (λ b. is_among same (y ∷ ys) x || b) (rest tail) ∙ or_true (is_among same (y ∷ ys) x)
+      by Equal q rest = ap (λ b. (b || list_any (same x) ys) || repeats same (y ∷ ys)) (same_tied x y q parts.0.0)
+      by Greater q rest = absurd (false_is_no_true (sym (ap (λ r. not (is_gt r)) q) ∙ parts.0.1))
 
   -- ---- lists that are the same one by one
 
@@ -202,10 +244,6 @@ module _ {A : Type 0} (R : A → A → Ordering) (o : IsTotalOrder R) (same : A 
         ap (λ z. (z || is_among same xs y) && list_all (is_among same (x ∷ xs)) ys) (same_back x y both.0) ∙ more x xs ys rest.1,
       )
     where
-      or_true : (b : Bool) → (b || true) ≡ true
-      or_true true = refl
-      or_true false = refl
-
       more : (z : A) (zs us : List A) → list_all (is_among same zs) us ≡ true → list_all (is_among same (z ∷ zs)) us ≡ true
       more z zs [] h = refl
       more z zs (u ∷ us) h =
@@ -340,10 +378,6 @@ any_at : {A : Type 0} (f : A → Bool) (xs : List A) (k : ℕ) (x : A) → slice
 any_at f [] k x e t = cc
 any_at f (y ∷ ys) zero x e t = let q : y ≡ x = cc in ap (λ z. f z || list_any f ys) q ∙ ap (λ b. b || list_any f ys) t
 any_at f (y ∷ ys) (suc k) x e t = ap (λ b. f y || b) (any_at f ys k x e t) ∙ or_true (f y)
-  where
-    or_true : (b : Bool) → (b || true) ≡ true
-    or_true true = refl
-    or_true false = refl
 
 -- no item passes it
 none_at : {A : Type 0} (f : A → Bool) (xs : List A) → ((k : ℕ) (x : A) → slice_get xs k ≡ Some x → f x ≡ false) → list_any f xs ≡ false

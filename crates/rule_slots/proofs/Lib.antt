@@ -7,6 +7,8 @@ pub mod Equal
 pub mod Characters
 pub mod Loops
 pub mod InOrder
+pub mod Moved
 pub mod SlotOrder
+pub mod Copies
 pub mod Taken
 pub mod ForAbove

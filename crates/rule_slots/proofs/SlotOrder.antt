@@ -1,7 +1,8 @@
 -- Slots stand in a total order, and two that may stand in a collection are the same where it doesn't tell them apart.
-use Rattle.std.proofs.Common.{◌≡◌, ◌∙◌, Bool, true, false, List, [], Ordering, Less, Equal, is_eq, refl, ◌≡◌}
+use Rattle.std.proofs.Common.{◌≡◌, ◌∙◌, Bool, true, false, List, [], Ordering, Less, Equal, is_eq, refl, sym}
 use Rattle.std.specs.Prelude.{◌&&◌, not}
 use Rattle.std.specs.Ordering.{ordering_reverse}
+use Rattle.std.specs.List.Sorted.{IsPermutation}
 use Rattle.std.proofs.lemmas.Bool.{and_from}
 use Rattle.std.specs.Cmp.{IsTotalOrder, on_total, nat_cmp_total, int_cmp_total, unsigned_ties}
 use Rattle.std.specs.Cmp.Lexicographic.{nat_list_cmp_total, texts_ties}
@@ -12,10 +13,10 @@ use Rattle.rule_slots.specs.declared.slot.Mark.TheVariants as mark
 use Rattle.rule_slots.specs.declared.slot.Slot.{Slot}
 use Rattle.rule_slots.specs.Slots.{Lists, invalid_mark}
 use Rattle.ocl_base.specs.Lists.{repeats}
-use Rattle.ocl_base.specs.declared.collection_kind.CollectionKind.TheVariants as collection
-use Rattle.rule_slots.specs.Compared.{slot_bytes, same_marked, same_words, same_slots, pairwise_same, first_ones, same_collections}
-use Rattle.rule_slots.specs.Ordered.{compare_words, compare_marked, compare_slots, is_defined}
-use Rattle.rule_slots.proofs.InOrder.{IsRising, none_twice, first_are_all, pairs_among, pairs_often, sets_differ, bags_differ}
+use Rattle.rule_slots.specs.Compared.{slot_bytes, same_marked, same_words, same_slots, pairwise_same, first_ones, same_unordered}
+use Rattle.rule_slots.specs.Ordered.{compare_words, compare_marked, compare_slots, is_defined, may_precede, rises}
+use Rattle.rule_slots.proofs.InOrder.{IsRising, same_back, none_twice, some_twice, first_are_all, pairs_among, pairs_often, sets_differ, bags_differ}
+use Rattle.rule_slots.proofs.Moved.{repeats_moved}
 
 -- ---- words
 
@@ -136,24 +137,38 @@ module _ (l : Lists) (w : WrittenScalar) where
   pub distinct_in_order : (xs : List Slot) → IsRising (compare_slots l w) is_defined true xs → repeats (same_slots l w) xs ≡ false
   distinct_in_order xs up = none_twice (compare_slots l w) slots_total (same_slots l w) is_defined slots_tie slots_like xs up
 
-  -- the Set of such a list is the list
-  pub set_in_order : (xs : List Slot) → IsRising (compare_slots l w) is_defined true xs → first_ones (same_slots l w) [] xs ≡ xs
-  set_in_order xs up = first_are_all (compare_slots l w) slots_total (same_slots l w) is_defined slots_tie slots_like xs up
+  -- one does in a list that rises, but not strictly
+  pub twice_in_order : (xs : List Slot) → IsRising (compare_slots l w) is_defined false xs → rises is_defined (λ a b. may_precede true (compare_slots l w a b)) xs ≡ false → repeats (same_slots l w) xs ≡ true
+  twice_in_order xs up n = some_twice (compare_slots l w) slots_total (same_slots l w) is_defined slots_tie slots_like xs up n
+
+  -- the Set of a list in which none stands twice is the list
+  pub set_of_all : (xs : List Slot) → repeats (same_slots l w) xs ≡ false → first_ones (same_slots l w) [] xs ≡ xs
+  set_of_all xs e = first_are_all (compare_slots l w) slots_total (same_slots l w) is_defined slots_tie slots_like xs e
+
+  -- slots are the same both ways
+  same_both_ways : (a b : Slot) → same_slots l w a b ≡ same_slots l w b a
+  same_both_ways a b = by (same_slots l w a b) refl (same_slots l w b a) refl
+    where
+      by : (x : Bool) → same_slots l w a b ≡ x → (y : Bool) → same_slots l w b a ≡ y → same_slots l w a b ≡ same_slots l w b a
+      by true e true f = e ∙ sym f
+      by false e false f = e ∙ sym f
+      by true e false f = e ∙ sym (same_back (compare_slots l w) slots_total (same_slots l w) is_defined slots_tie slots_like a b e)
+      by false e true f = same_back (compare_slots l w) slots_total (same_slots l w) is_defined slots_tie slots_like b a f ∙ sym f
+
+  -- one stands twice in a list wherever it does in another order of it
+  pub repeats_slots_moved : (xs ys : List Slot) → IsPermutation xs ys → repeats (same_slots l w) xs ≡ repeats (same_slots l w) ys
+  repeats_slots_moved xs ys m = repeats_moved (same_slots l w) same_both_ways xs ys m
 
   -- Sets and Bags whose lists are the same one by one
-  pub same_sets : (xs ys : List Slot) → pairwise_same (same_slots l w) xs ys ≡ true → same_collections (same_slots l w) collection.Set xs ys ≡ true
-  same_sets xs ys e =
+  pub same_listed : (unique : Bool) (xs ys : List Slot) → pairwise_same (same_slots l w) xs ys ≡ true → same_unordered (same_slots l w) unique xs ys ≡ true
+  same_listed true xs ys e =
       let both = pairs_among (compare_slots l w) slots_total (same_slots l w) is_defined slots_tie slots_like xs ys e in
       and_from _ _ both.0 both.1
-
-  pub same_bags : (xs ys : List Slot) → pairwise_same (same_slots l w) xs ys ≡ true → same_collections (same_slots l w) collection.Bag xs ys ≡ true
-  same_bags xs ys e =
+  same_listed false xs ys e =
       let both = pairs_often (compare_slots l w) slots_total (same_slots l w) is_defined slots_tie slots_like xs ys e in
       and_from _ _ both.0 both.1
 
   -- and those whose lists stand in order, and differ
-  pub other_sets : (xs ys : List Slot) → IsRising (compare_slots l w) is_defined true xs → IsRising (compare_slots l w) is_defined true ys → pairwise_same (same_slots l w) xs ys ≡ false → same_collections (same_slots l w) collection.Set xs ys ≡ false
-  other_sets xs ys h g e = sets_differ (compare_slots l w) slots_total (same_slots l w) is_defined slots_tie slots_like xs ys h g e
-
-  pub other_bags : (xs ys : List Slot) → IsRising (compare_slots l w) is_defined false xs → IsRising (compare_slots l w) is_defined false ys → pairwise_same (same_slots l w) xs ys ≡ false → same_collections (same_slots l w) collection.Bag xs ys ≡ false
-  other_bags xs ys h g e = bags_differ (compare_slots l w) slots_total (same_slots l w) is_defined slots_tie slots_like xs ys h g e
+  pub other_in_order : (unique : Bool) (xs ys : List Slot) → IsRising (compare_slots l w) is_defined unique xs → IsRising (compare_slots l w) is_defined unique ys → pairwise_same (same_slots l w) xs ys ≡ false → same_unordered (same_slots l w) unique xs ys ≡ false
+  other_in_order true xs ys h g e = sets_differ (compare_slots l w) slots_total (same_slots l w) is_defined slots_tie slots_like xs ys h g e
+  other_in_order false xs ys h g e = bags_differ (compare_slots l w) slots_total (same_slots l w) is_defined slots_tie slots_like xs ys h g e

@@ -106,6 +106,11 @@ same_collections same collection.OrderedSet xs ys = pairwise_same same xs ys
 same_collections same collection.Bag xs ys = stand_as_often same xs ys && stand_as_often same ys xs
 same_collections same collection.Sequence xs ys = pairwise_same same xs ys
 
+-- Sets, of which each element stands once, or Bags
+abbrev pub same_unordered : {A : Type 0} → (A → A → Bool) → Bool → List A → List A → Bool
+same_unordered same true xs ys = same_collections same collection.Set xs ys
+same_unordered same unique xs ys = same_collections same collection.Bag xs ys
+
 -- each element once, where it first stands, that is not among those before
 abbrev pub first_ones : {A : Type 0} → (A → A → Bool) → List A → List A → List A
 first_ones same before [] = []

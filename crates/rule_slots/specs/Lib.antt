@@ -4,5 +4,6 @@ pub mod Slots
 pub mod Operands
 pub mod Compared
 pub mod Ordered
+pub mod Sorted
 pub mod Cut
 pub mod Summed

@@ -11,9 +11,10 @@ ghost use Rattle.rule_slots.specs.declared.slot.Slot.{Slot as Held};
 ghost use Rattle.rule_slots.specs.Operands.{MakesOfOne, MakesOfTwo, is_many_operand, is_elements_operand, integer_slot};
 ghost use Rattle.rule_slots.specs.Compared.{covers};
 
-use crate::elements::{are_all_among, is_any_among, is_slot_among, times_among};
+use crate::elements::{is_slot_among, times_among};
 use crate::integers::if_plain;
 use crate::lists::Lists;
+use crate::searching::{are_all_among, is_any_among};
 use crate::slot::{Slot, invalid_slot, number_slot, truth_slot};
 use rule_code::WrittenScalar;
 
@@ -79,14 +80,22 @@ pub fn occurrence_count(
     }
 }
 
-/// Whether each element of the second collection is in the first.
+/// Whether each element of the second collection is in the first. The pool stays as it was; a long collection may be
+/// searched by a copy behind its end.
 #[inline(always)]
-pub fn inclusion(lists: Lists<'_>, pool: &[Slot], kind: WrittenScalar, v: Slot, w: Slot) -> Slot
-    requires source { LiesInHome (lists_in lists) (length pool.now) v }
-    requires others { LiesInHome (lists_in lists) (length pool.now) w }
-    ensures { (p : Population) (k : ScalarKind) → covers kind k ≡ true →
-        MakesOfTwo (lists_in lists.entry) pool.now (is_elements_operand p k)
+pub fn inclusion(
+    lists: Lists<'_>,
+    pool: &mut Vec<Slot>,
+    kind: WrittenScalar,
+    v: Slot,
+    w: Slot,
+) -> Slot
+    requires source { LiesInHome (lists_in lists) (length pool.old.items) v }
+    requires others { LiesInHome (lists_in lists) (length pool.old.items) w }
+    ensures made { (p : Population) (k : ScalarKind) → covers kind k ≡ true →
+        MakesOfTwo (lists_in lists.entry) pool.old.items (is_elements_operand p k)
         (is_elements_operand p k) inclusion v w result }
+    ensures pool { pool.new.items ≡ pool.old.items }
 {
     if v.is_plain() && w.is_plain() {
         truth_slot(are_all_among(lists, pool, kind, v, w))
@@ -95,14 +104,21 @@ pub fn inclusion(lists: Lists<'_>, pool: &[Slot], kind: WrittenScalar, v: Slot, 
     }
 }
 
-/// Whether no element of the second collection is in the first.
+/// Whether no element of the second collection is in the first, likewise.
 #[inline(always)]
-pub fn exclusion(lists: Lists<'_>, pool: &[Slot], kind: WrittenScalar, v: Slot, w: Slot) -> Slot
-    requires source { LiesInHome (lists_in lists) (length pool.now) v }
-    requires others { LiesInHome (lists_in lists) (length pool.now) w }
-    ensures { (p : Population) (k : ScalarKind) → covers kind k ≡ true →
-        MakesOfTwo (lists_in lists.entry) pool.now (is_elements_operand p k)
+pub fn exclusion(
+    lists: Lists<'_>,
+    pool: &mut Vec<Slot>,
+    kind: WrittenScalar,
+    v: Slot,
+    w: Slot,
+) -> Slot
+    requires source { LiesInHome (lists_in lists) (length pool.old.items) v }
+    requires others { LiesInHome (lists_in lists) (length pool.old.items) w }
+    ensures made { (p : Population) (k : ScalarKind) → covers kind k ≡ true →
+        MakesOfTwo (lists_in lists.entry) pool.old.items (is_elements_operand p k)
         (is_elements_operand p k) exclusion v w result }
+    ensures pool { pool.new.items ≡ pool.old.items }
 {
     if v.is_plain() && w.is_plain() {
         truth_slot(!is_any_among(lists, pool, kind, v, w))

@@ -1,22 +1,26 @@
 //! Equality of values of one kind.
 
-ghost use Rattle.std.specs.Prelude.{◌≡◌, length, true};
+ghost use Rattle.std.specs.Prelude.{◌≡◌, ◌+◌, ◌≤◌, length, true, vec_capacity, MatchOption};
 ghost use Rattle.ocl_kinds.specs.declared.kind.Kind.{Kind};
-ghost use Rattle.ocl_base.specs.declared.collection_kind.CollectionKind.TheVariants.{Set, Bag};
 ghost use Rattle.rule_values.specs.Value.{is_in};
 ghost use Rattle.rule_values.specs.Operations.{equality};
 ghost use Rattle.imkl_population.specs.Population.{Population};
 ghost use Rattle.rule_slots.specs.Slots.{lists_in, held_slots, plain_mark, IsInHome};
 ghost use Rattle.rule_slots.specs.Operands.{MakesOfTwo};
-ghost use Rattle.rule_slots.specs.Compared.{same_slots, stand_as_often, pairwise_same, same_collections, covers_kind, ComparesWithin, same_values};
+ghost use Rattle.rule_slots.specs.Compared.{same_slots, stand_as_often, pairwise_same, same_unordered, same_collections, covers_kind, ComparesWithin, same_values};
 
-use crate::elements::{are_all_among, same_slots, times_among};
+use crate::elements::{same_slots, times_among};
 use crate::lists::Lists;
 use crate::ordering::is_in_order;
 use crate::reading::element;
+use crate::searching::are_all_in;
 use crate::slot::{Slot, invalid_slot, truth_slot};
+use crate::sorting::{has_room, push_sorted};
 use ocl_base::CollectionKind;
 use rule_code::{WrittenKind, WrittenScalar};
+
+/// Collections of at most so many elements are compared each element with each, where they stand in no order.
+const FEW: usize = 8;
 
 /// Whether each element of the first collection stands as often in the second.
 #[inline(never)]
@@ -72,56 +76,134 @@ fn pairwise_same(
     true
 }
 
-/// Whether two collections have the same members. In lists that stand strictly in order the members differ where the
-/// lists do.
+/// Whether the elements of two collections are the same, of Sets by members and of Bags by counts, if that is told by
+/// going through their lists once: they are the same one by one; or both stand in order, and then they aren't the same.
 #[inline(never)]
-fn same_members(
+fn told_by_order(
     lists: Lists<'_>,
     pool: &[Slot],
     kind: WrittenScalar,
+    unique: bool,
     left: Slot,
     right: Slot,
-) -> bool
+) -> Option<bool>
     requires left { IsInHome (lists_in lists) (length pool.now) left }
     requires right { IsInHome (lists_in lists) (length pool.now) right }
-    ensures { result ≡ same_collections (same_slots (lists_in lists.entry) kind) Set
+    ensures { MatchOption result (Unit {0}) (λ told. told ≡
+        same_unordered (same_slots (lists_in lists.entry) kind) unique
         (held_slots (lists_in lists.entry) pool.now left)
-        (held_slots (lists_in lists.entry) pool.now right) }
+        (held_slots (lists_in lists.entry) pool.now right)) }
 {
     if pairwise_same(lists, pool, kind, left, right) {
-        return true;
+        return Some(true);
     }
-    if is_in_order(lists, pool, kind, left, true) && is_in_order(lists, pool, kind, right, true) {
-        return false;
+    if is_in_order(lists, pool, kind, left, unique)
+        && is_in_order(lists, pool, kind, right, unique)
+    {
+        return Some(false);
     }
-    let all = are_all_among(lists, pool, kind, right, left);
-    all && are_all_among(lists, pool, kind, left, right)
+    None
 }
 
-/// Whether each element stands as often in one collection as in the other. In lists that stand in order the counts differ
-/// where the lists do.
+/// Whether the elements of two collections are the same, each compared with each.
 #[inline(never)]
-fn same_counts(
+fn same_by_pairs(
     lists: Lists<'_>,
     pool: &[Slot],
     kind: WrittenScalar,
+    unique: bool,
     left: Slot,
     right: Slot,
 ) -> bool
     requires left { IsInHome (lists_in lists) (length pool.now) left }
     requires right { IsInHome (lists_in lists) (length pool.now) right }
-    ensures { result ≡ same_collections (same_slots (lists_in lists.entry) kind) Bag
+    ensures { result ≡ same_unordered (same_slots (lists_in lists.entry) kind) unique
         (held_slots (lists_in lists.entry) pool.now left)
         (held_slots (lists_in lists.entry) pool.now right) }
 {
-    if pairwise_same(lists, pool, kind, left, right) {
-        return true;
+    if unique {
+        let all = are_all_in(lists, pool, kind, right, left);
+        all && are_all_in(lists, pool, kind, left, right)
+    } else {
+        let all = stand_as_often(lists, pool, kind, left, right);
+        all && stand_as_often(lists, pool, kind, right, left)
     }
-    if is_in_order(lists, pool, kind, left, false) && is_in_order(lists, pool, kind, right, false) {
-        return false;
+}
+
+/// Whether the elements of two collections are the same, by their lists as they stand.
+fn same_as_listed(
+    lists: Lists<'_>,
+    pool: &[Slot],
+    kind: WrittenScalar,
+    unique: bool,
+    left: Slot,
+    right: Slot,
+) -> bool
+    requires left { IsInHome (lists_in lists) (length pool.now) left }
+    requires right { IsInHome (lists_in lists) (length pool.now) right }
+    ensures { result ≡ same_unordered (same_slots (lists_in lists.entry) kind) unique
+        (held_slots (lists_in lists.entry) pool.now left)
+        (held_slots (lists_in lists.entry) pool.now right) }
+{
+    match told_by_order(lists, pool, kind, unique, left, right) {
+        Some(told) => told,
+        None => same_by_pairs(lists, pool, kind, unique, left, right),
     }
-    let all = stand_as_often(lists, pool, kind, left, right);
-    all && stand_as_often(lists, pool, kind, right, left)
+}
+
+/// Whether the elements of two collections are the same, by sorted copies of both.
+#[inline(never)]
+fn same_by_copies(
+    lists: Lists<'_>,
+    pool: &mut Vec<Slot>,
+    kind: WrittenScalar,
+    unique: bool,
+    left: Slot,
+    right: Slot,
+) -> bool
+    requires left { IsInHome (lists_in lists) (length pool.old.items) left }
+    requires right { IsInHome (lists_in lists) (length pool.old.items) right }
+    requires room { length pool.old.items + (left.count + right.count) ≤ vec_capacity pool.old }
+    ensures told { result ≡ same_unordered (same_slots (lists_in lists.entry) kind) unique
+        (held_slots (lists_in lists.entry) pool.old.items left)
+        (held_slots (lists_in lists.entry) pool.old.items right) }
+    ensures pool { pool.new.items ≡ pool.old.items }
+{
+    let start = pool.len();
+    let one = push_sorted(lists, pool, kind, left);
+    let other = push_sorted(lists, pool, kind, right);
+    let same = same_as_listed(lists, pool, kind, unique, one, other);
+    pool.truncate(start);
+    same
+}
+
+/// Whether the elements of two collections are the same, of Sets by members and of Bags by counts. Where their lists don't
+/// tell it as they stand, sorted copies do; short ones, and those for which the pool has no room, are compared each
+/// element with each. The pool stays as it was.
+#[inline(never)]
+fn same_unordered(
+    lists: Lists<'_>,
+    pool: &mut Vec<Slot>,
+    kind: WrittenScalar,
+    unique: bool,
+    left: Slot,
+    right: Slot,
+) -> bool
+    requires left { IsInHome (lists_in lists) (length pool.old.items) left }
+    requires right { IsInHome (lists_in lists) (length pool.old.items) right }
+    ensures told { result ≡ same_unordered (same_slots (lists_in lists.entry) kind) unique
+        (held_slots (lists_in lists.entry) pool.old.items left)
+        (held_slots (lists_in lists.entry) pool.old.items right) }
+    ensures pool { pool.new.items ≡ pool.old.items }
+{
+    if let Some(told) = told_by_order(lists, pool, kind, unique, left, right) {
+        return told;
+    }
+    let short = left.count <= FEW && right.count <= FEW;
+    if short || !has_room(pool, left.count, right.count) {
+        return same_by_pairs(lists, pool, kind, unique, left, right);
+    }
+    same_by_copies(lists, pool, kind, unique, left, right)
 }
 
 /// Whether the elements of two collections of one kind are the same: Sets by members, Bags by counts, the ordered ones
@@ -129,32 +211,34 @@ fn same_counts(
 #[inline(always)]
 fn same_collections(
     lists: Lists<'_>,
-    pool: &[Slot],
+    pool: &mut Vec<Slot>,
     collection: CollectionKind,
     kind: WrittenScalar,
     left: Slot,
     right: Slot,
 ) -> bool
-    requires left { IsInHome (lists_in lists) (length pool.now) left }
-    requires right { IsInHome (lists_in lists) (length pool.now) right }
-    ensures { result ≡ same_collections (same_slots (lists_in lists.entry) kind) collection
-        (held_slots (lists_in lists.entry) pool.now left)
-        (held_slots (lists_in lists.entry) pool.now right) }
+    requires left { IsInHome (lists_in lists) (length pool.old.items) left }
+    requires right { IsInHome (lists_in lists) (length pool.old.items) right }
+    ensures told { result ≡ same_collections (same_slots (lists_in lists.entry) kind) collection
+        (held_slots (lists_in lists.entry) pool.old.items left)
+        (held_slots (lists_in lists.entry) pool.old.items right) }
+    ensures pool { pool.new.items ≡ pool.old.items }
 {
     match collection {
-        CollectionKind::Set => same_members(lists, pool, kind, left, right),
+        CollectionKind::Set => same_unordered(lists, pool, kind, true, left, right),
         CollectionKind::OrderedSet => pairwise_same(lists, pool, kind, left, right),
-        CollectionKind::Bag => same_counts(lists, pool, kind, left, right),
+        CollectionKind::Bag => same_unordered(lists, pool, kind, false, left, right),
         CollectionKind::Sequence => pairwise_same(lists, pool, kind, left, right),
     }
 }
 
 /// Whether two values of one kind, of which none is invalid, are the same.
 #[inline(always)]
-fn same_values(lists: Lists<'_>, pool: &[Slot], kind: WrittenKind, v: Slot, w: Slot) -> bool
-    requires left { ComparesWithin (lists_in lists) (length pool.now) kind v }
-    requires right { ComparesWithin (lists_in lists) (length pool.now) kind w }
-    ensures { result ≡ same_values (lists_in lists.entry) pool.now kind v w }
+fn same_values(lists: Lists<'_>, pool: &mut Vec<Slot>, kind: WrittenKind, v: Slot, w: Slot) -> bool
+    requires left { ComparesWithin (lists_in lists) (length pool.old.items) kind v }
+    requires right { ComparesWithin (lists_in lists) (length pool.old.items) kind w }
+    ensures told { result ≡ same_values (lists_in lists.entry) pool.old.items kind v w }
+    ensures pool { pool.new.items ≡ pool.old.items }
 {
     match kind {
         WrittenKind::Scalar(element) => same_slots(lists, element, v, w),
@@ -164,14 +248,16 @@ fn same_values(lists: Lists<'_>, pool: &[Slot], kind: WrittenKind, v: Slot, w: S
     }
 }
 
-/// Whether two values of one kind are equal; invalid where one is invalid.
+/// Whether two values of one kind are equal; invalid where one is invalid. The pool stays as it was; long collections may
+/// be compared by copies behind its end.
 #[inline(always)]
-pub fn equality(lists: Lists<'_>, pool: &[Slot], kind: WrittenKind, v: Slot, w: Slot) -> Slot
-    requires left { ComparesWithin (lists_in lists) (length pool.now) kind v }
-    requires right { ComparesWithin (lists_in lists) (length pool.now) kind w }
-    ensures { (p : Population) (k : Kind) → covers_kind kind k ≡ true →
-        MakesOfTwo (lists_in lists.entry) pool.now (λ x. is_in p x k) (λ x. is_in p x k)
+pub fn equality(lists: Lists<'_>, pool: &mut Vec<Slot>, kind: WrittenKind, v: Slot, w: Slot) -> Slot
+    requires left { ComparesWithin (lists_in lists) (length pool.old.items) kind v }
+    requires right { ComparesWithin (lists_in lists) (length pool.old.items) kind w }
+    ensures made { (p : Population) (k : Kind) → covers_kind kind k ≡ true →
+        MakesOfTwo (lists_in lists.entry) pool.old.items (λ x. is_in p x k) (λ x. is_in p x k)
         equality v w result }
+    ensures pool { pool.new.items ≡ pool.old.items }
 {
     if v.is_invalid() || w.is_invalid() {
         return invalid_slot();

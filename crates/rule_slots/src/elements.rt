@@ -1,20 +1,19 @@
 //! Elements of collections, compared as a kind says.
 
 ghost use Rattle.std.specs.Prelude.{◌≡◌, length, drop, bytes_eq};
-ghost use Rattle.std.specs.List.{list_all, list_any};
 ghost use Rattle.ocl_base.specs.Lists.{is_among, repeats};
 ghost use Rattle.rule_slots.specs.Slots.{lists_in, home_named, held_slots, IsInHome};
 ghost use Rattle.rule_slots.specs.Compared.{slot_bytes, same_words, same_slots, times_among};
 
 use crate::lists::Lists;
-use crate::ordering::{is_among_known, is_in_order};
+use crate::ordering::is_in_order;
 use crate::reading::{element, element_in};
 use crate::slot::{Home, Mark, Slot, home_named};
 use crate::texts::slot_bytes;
 use rule_code::WrittenScalar;
 
 /// In a collection of at most so many elements, one is looked for among all; in a longer one by its order, if it has one.
-const SHORT: usize = 16;
+pub(crate) const SHORT: usize = 16;
 
 /// Whether the texts of two slots are the same.
 #[inline(always)]
@@ -211,57 +210,7 @@ pub(crate) fn times_among(
     }
 }
 
-/// Whether each element of the second collection is one of the first.
-#[inline(never)]
-pub(crate) fn are_all_among(
-    lists: Lists<'_>,
-    pool: &[Slot],
-    kind: WrittenScalar,
-    source: Slot,
-    others: Slot,
-) -> bool
-    requires source { IsInHome (lists_in lists) (length pool.now) source }
-    requires others { IsInHome (lists_in lists) (length pool.now) others }
-    ensures { result ≡ list_all (is_among (same_slots (lists_in lists.entry) kind)
-        (held_slots (lists_in lists.entry) pool.now source))
-        (held_slots (lists_in lists.entry) pool.now others) }
-{
-    let ordered = source.count > SHORT && is_in_order(lists, pool, kind, source, false);
-    for index in 0..others.count {
-        let slot = element(lists, pool, others, index);
-        if !is_among_known(lists, pool, kind, source, ordered, slot) {
-            return false;
-        }
-    }
-    true
-}
-
-/// Whether an element of the second collection is one of the first.
-#[inline(never)]
-pub(crate) fn is_any_among(
-    lists: Lists<'_>,
-    pool: &[Slot],
-    kind: WrittenScalar,
-    source: Slot,
-    others: Slot,
-) -> bool
-    requires source { IsInHome (lists_in lists) (length pool.now) source }
-    requires others { IsInHome (lists_in lists) (length pool.now) others }
-    ensures { result ≡ list_any (is_among (same_slots (lists_in lists.entry) kind)
-        (held_slots (lists_in lists.entry) pool.now source))
-        (held_slots (lists_in lists.entry) pool.now others) }
-{
-    let ordered = source.count > SHORT && is_in_order(lists, pool, kind, source, false);
-    for index in 0..others.count {
-        let slot = element(lists, pool, others, index);
-        if is_among_known(lists, pool, kind, source, ordered, slot) {
-            return true;
-        }
-    }
-    false
-}
-
-/// Whether an element stands twice in a collection.
+/// Whether an element stands twice in a collection. In one that stands in order, but not strictly, one does.
 #[inline(never)]
 pub(crate) fn repeats_slot(
     lists: Lists<'_>,
@@ -275,6 +224,9 @@ pub(crate) fn repeats_slot(
 {
     if is_in_order(lists, pool, kind, source, true) {
         return false;
+    }
+    if is_in_order(lists, pool, kind, source, false) {
+        return true;
     }
     for index in 0..source.count {
         let slot = element(lists, pool, source, index);

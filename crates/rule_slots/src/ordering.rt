@@ -33,7 +33,7 @@ fn compare_words(lists: Lists<'_>, kind: WrittenScalar, a: Slot, b: Slot) -> Ord
 
 /// How two elements of a kind stand beside each other: null first, then what has a value.
 #[inline(always)]
-fn compare_slots(lists: Lists<'_>, kind: WrittenScalar, a: Slot, b: Slot) -> Ordering
+pub(crate) fn compare_slots(lists: Lists<'_>, kind: WrittenScalar, a: Slot, b: Slot) -> Ordering
     ensures { result ≡ compare_slots (lists_in lists.entry) kind a b }
 {
     match (a.mark, b.mark) {

@@ -8,16 +8,17 @@ ghost use Rattle.std.specs.List.{list_all};
 ghost use Rattle.rule_values.specs.Value.{Element, is_element_in, same_element};
 ghost use Rattle.rule_values.specs.Operations.{as_collection, as_set};
 ghost use Rattle.ocl_base.specs.Lists.{repeats};
-ghost use Rattle.rule_slots.specs.Slots.{Lists as Indexed, lists_in, held_slots, LiesInHome, IsInHome, PartIs};
+ghost use Rattle.rule_slots.specs.Slots.{Lists as Indexed, lists_in, home_named, held_slots, LiesInHome, IsInHome, PartIs};
 ghost use Rattle.rule_slots.specs.declared.slot.Slot.{Slot as Held};
 ghost use Rattle.rule_slots.specs.Operands.{is_single_operand, is_elements_operand, MadeInPool};
 ghost use Rattle.rule_slots.specs.Compared.{covers, same_slots, first_ones};
 
-use crate::elements::{is_slot_among, repeats_slot};
+use crate::elements::{SHORT, is_slot_among, repeats_slot};
 use crate::lists::Lists;
 use crate::ordering::is_in_order;
 use crate::reading::element;
-use crate::slot::{Slot, invalid_slot, part_slot};
+use crate::slot::{Home, Slot, invalid_slot, part_slot};
+use crate::sorting::{push_all, push_sorted, sort_part};
 use rule_code::WrittenScalar;
 use std::alloc::AllocError;
 
@@ -60,21 +61,24 @@ fn push_first_ones(lists: Lists<'_>, pool: &mut Vec<Slot>, kind: WrittenScalar, 
     }
 }
 
-/// Puts all elements of a collection at the pool's end.
-#[inline(never)]
-fn push_all(lists: Lists<'_>, pool: &mut Vec<Slot>, source: Slot)
+/// Whether no element of a collection stands twice, by a sorted copy. The pool stays as it was.
+fn differ_by_copy(lists: Lists<'_>, pool: &mut Vec<Slot>, kind: WrittenScalar, source: Slot) -> bool
     requires within { IsInHome (lists_in lists) (length pool.old.items) source }
     requires room { length pool.old.items + source.count ≤ vec_capacity pool.old }
-    ensures { pool.new.items ≡ pool.old.items ++
-        held_slots (lists_in lists.entry) pool.old.items source }
+    ensures told { result ≡ not (repeats (same_slots (lists_in lists.entry) kind)
+        (held_slots (lists_in lists.entry) pool.old.items source)) }
+    ensures pool { pool.new.items ≡ pool.old.items }
+    ensures capacity { vec_capacity pool.new ≡ vec_capacity pool.old }
 {
-    for index in 0..source.count {
-        let slot = element(lists, pool, source, index);
-        pool.push_reserved(slot);
-    }
+    let start = pool.len();
+    let copy = push_sorted(lists, pool, kind, source);
+    let repeats = repeats_slot(lists, pool, kind, copy);
+    pool.truncate(start);
+    !repeats
 }
 
-/// Puts the elements of a collection at the pool's end, each once. Where they stand strictly in order, these are all.
+/// Puts the elements of a collection at the pool's end, each once. Where they stand strictly in order, or a sorted copy
+/// does, these are all.
 #[inline(never)]
 fn push_set(lists: Lists<'_>, pool: &mut Vec<Slot>, kind: WrittenScalar, source: Slot)
     requires within { IsInHome (lists_in lists) (length pool.old.items) source }
@@ -84,9 +88,27 @@ fn push_set(lists: Lists<'_>, pool: &mut Vec<Slot>, kind: WrittenScalar, source:
 {
     if is_in_order(lists, pool, kind, source, true) {
         push_all(lists, pool, source);
+    } else if source.count > SHORT && differ_by_copy(lists, pool, kind, source) {
+        push_all(lists, pool, source);
     } else {
         push_first_ones(lists, pool, kind, source);
     }
+}
+
+/// Whether an element stands twice in a part of the pool. A long one that stands in no order is sorted in its place.
+#[inline(never)]
+fn repeats_in_pool(lists: Lists<'_>, pool: &mut Vec<Slot>, kind: WrittenScalar, part: Slot) -> bool
+    requires pool { home_named part.list ≡ Home.Pool }
+    requires within { part.start + part.count ≤ length pool.old.items }
+    ensures told { result ≡ repeats (same_slots (lists_in lists.entry) kind)
+        (held_slots (lists_in lists.entry) pool.old.items part) }
+    ensures below { take part.start pool.new.items ≡ take part.start pool.old.items }
+{
+    if part.count <= SHORT || is_in_order(lists, pool, kind, part, true) {
+        return repeats_slot(lists, pool, kind, part);
+    }
+    sort_part(lists, pool, kind, part);
+    repeats_slot(lists, pool, kind, part)
 }
 
 /// The Set of a collection's elements.
@@ -114,13 +136,16 @@ pub fn as_set(
     Ok(part_slot(2, start, pool.len() - start))
 }
 
-/// Whether no two elements of a collection are the same.
+/// Whether no two elements of a part of the pool are the same. Where they stand in no order, they may be sorted there; what
+/// lies below them stays.
 #[inline(always)]
-pub fn are_distinct(lists: Lists<'_>, pool: &[Slot], kind: WrittenScalar, part: Slot) -> bool
-    requires { IsInHome (lists_in lists) (length pool.now) part }
-    ensures { (p : Population) (k : ScalarKind) (es : List Element) → covers kind k ≡ true →
-        PartIs (lists_in lists.entry) pool.now (length pool.now) part es →
+pub fn are_distinct(lists: Lists<'_>, pool: &mut Vec<Slot>, kind: WrittenScalar, part: Slot) -> bool
+    requires pool { home_named part.list ≡ Home.Pool }
+    requires within { part.start + part.count ≤ length pool.old.items }
+    ensures told { (p : Population) (k : ScalarKind) (es : List Element) → covers kind k ≡ true →
+        PartIs (lists_in lists.entry) pool.old.items (length pool.old.items) part es →
         list_all (is_element_in p k) es ≡ true → result ≡ not (repeats same_element es) }
+    ensures below { take part.start pool.new.items ≡ take part.start pool.old.items }
 {
-    !repeats_slot(lists, pool, kind, part)
+    !repeats_in_pool(lists, pool, kind, part)
 }

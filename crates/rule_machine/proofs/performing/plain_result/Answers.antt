@@ -21,7 +21,7 @@ pub variable-requires : goal.variable-requires
 variable-requires c =
     let s = setting_in c.args.task in
     let l = task_lists c.args.task in
-    let p = c.args.pool.now in
+    let p = c.args.pool.now.items in
     let vs = c.args.variables.now.0 in
     let os = c.args.operands.now.0 in
     variable_there s l p vs os instrs.SelfObject 0 (λ vars ops. refl) (subst (CanPerform s l p vs os) c.in-SelfObject.is c.requires.can)
@@ -30,7 +30,7 @@ pub variable-requires-in-Get : goal.variable-requires-in-Get
 variable-requires-in-Get c =
     let s = setting_in c.args.task in
     let l = task_lists c.args.task in
-    let p = c.args.pool.now in
+    let p = c.args.pool.now.items in
     let vs = c.args.variables.now.0 in
     let os = c.args.operands.now.0 in
     let n = c.in-Get.number in
@@ -40,7 +40,7 @@ pub below-requires : goal.below-requires
 below-requires c =
     let s = setting_in c.args.task in
     let l = task_lists c.args.task in
-    let p = c.args.pool.now in
+    let p = c.args.pool.now.items in
     let vs = c.args.variables.now.0 in
     let os = c.args.operands.now.0 in
     let there : 3 ≤ length os = operands_there s l p vs os instrs.SubStr (subst (CanPerform s l p vs os) c.in-SubStr.is c.requires.can) in
@@ -50,38 +50,38 @@ pub below-requires-in-SubStr : goal.below-requires-in-SubStr
 below-requires-in-SubStr c =
     let s = setting_in c.args.task in
     let l = task_lists c.args.task in
-    let p = c.args.pool.now in
+    let p = c.args.pool.now.items in
     let vs = c.args.variables.now.0 in
     let os = c.args.operands.now.0 in
     let there : 3 ≤ length os = operands_there s l p vs os instrs.SubStr (subst (CanPerform s l p vs os) c.in-SubStr.is c.requires.can) in
     omega (arith, there)
 
-pub returns-in-SelfObject : goal.returns-in-SelfObject
-returns-in-SelfObject c =
-    rw c.in-SelfObject.is (of_variable (setting_in c.args.task) (task_lists c.args.task) c.args.pool.now c.args.variables.now.0 c.args.operands.now.0 instrs.SelfObject 0 c.variable.result (λ vars ops. refl) c.variable.ensures)
+pub returns-in-SelfObject-clause-gives : goal.returns-in-SelfObject-clause-gives
+returns-in-SelfObject-clause-gives c =
+    rw c.in-SelfObject.is (of_variable (setting_in c.args.task) (task_lists c.args.task) c.args.pool.now.items c.args.variables.now.0 c.args.operands.now.0 instrs.SelfObject 0 c.variable.result (λ vars ops. refl) c.variable.ensures)
 
-pub returns-in-Get : goal.returns-in-Get
-returns-in-Get c =
+pub returns-in-Get-clause-gives : goal.returns-in-Get-clause-gives
+returns-in-Get-clause-gives c =
     let vs = c.args.variables.now.0 in
     let n = c.in-Get.number in
     let o = c.variable-in-Get.result in
-    rw c.in-Get.is (of_variable (setting_in c.args.task) (task_lists c.args.task) c.args.pool.now vs c.args.operands.now.0 (instrs.Get n) n o (λ vars ops. refl) (ap (variable_at vs) (sym c.from.ensures) ∙ c.variable-in-Get.ensures))
+    rw c.in-Get.is (of_variable (setting_in c.args.task) (task_lists c.args.task) c.args.pool.now.items vs c.args.operands.now.0 (instrs.Get n) n o (λ vars ops. refl) (ap (variable_at vs) (sym c.from.ensures) ∙ c.variable-in-Get.ensures))
 
-pub returns-in-Text : goal.returns-in-Text
-returns-in-Text c =
+pub returns-in-Text-clause-gives : goal.returns-in-Text-clause-gives
+returns-in-Text-clause-gives c =
     let s = setting_in c.args.task in
     let l = task_lists c.args.task in
-    let p = c.args.pool.now in
+    let p = c.args.pool.now.items in
     let t = c.in-Text.text in
     let o = c.unit_text.result in
     rw c.in-Text.is (of_none s l p c.args.variables.now.0 c.args.operands.now.0 (instrs.Text t) o (value.Single (scalar.Text (chars (text_at s.unit.texts t.0)))) (λ vars ops. refl)
     (subst (λ q. SlotIs q p (length p) o (value.Single (scalar.Text (chars (text_at q.texts t.0))))) c.lists.ensures (c.unit_text.ensures p (length p))))
 
-pub returns-in-SubStr : goal.returns-in-SubStr
-returns-in-SubStr c =
+pub returns-in-SubStr-clause-gives : goal.returns-in-SubStr-clause-gives
+returns-in-SubStr-clause-gives c =
     let s = setting_in c.args.task in
     let l = task_lists c.args.task in
-    let p = c.args.pool.now in
+    let p = c.args.pool.now.items in
     let n = s.population in
     let os = c.args.operands.now.0 in
     let o = c.substring.result in

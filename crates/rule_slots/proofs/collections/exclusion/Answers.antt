@@ -6,10 +6,10 @@ use Rattle.rule_slots.specs.Slots.{lists_in, SlotIs, plain_mark, truth_slot, inv
 use Rattle.rule_slots.proofs.Equal.{exclusion_is, passes}
 use Rattle.rule_slots.proofs.collections.exclusion.Goals as goal
 
-pub returns-then-is_plain-2 : goal.returns-then-is_plain-2
-returns-then-is_plain-2 c = λ p k cov v w h g i j.
+pub returns-then-is_plain-2-clause-made : goal.returns-then-is_plain-2-clause-made
+returns-then-is_plain-2-clause-made c = λ p k cov v w h g i j.
     let l = lists_in c.args.lists in
-    let pool = c.args.pool.now in
+    let pool = c.args.pool.now.items in
     let test = and_from _ _ (sym c.is_plain.ensures ∙ c.if-is_plain.true) (sym c.is_plain-then-is_plain.ensures ∙ c.if-is_plain-2.true) in
-    subst (λ z. SlotIs l pool (length pool) z (exclusion v w)) (passes (plain_mark c.args.v.mark && plain_mark c.args.w.mark) c.truth_slot.result _ invalid_slot test (c.truth_slot.ensures ∙ ap (λ b. truth_slot (not b)) c.is_any_among.ensures))
+    subst (λ z. SlotIs l pool (length pool) z (exclusion v w)) (passes (plain_mark c.args.v.mark && plain_mark c.args.w.mark) c.truth_slot.result _ invalid_slot test (c.truth_slot.ensures ∙ ap (λ b. truth_slot (not b)) c.is_any_among.ensures.told))
     (exclusion_is l p pool (length pool) c.args.kind k cov c.args.v c.args.w v w h g i j)

@@ -4,13 +4,18 @@ use Rattle.ocl_base.specs.Lists.{repeats}
 use Rattle.rule_slots.specs.Slots.{lists_in, held_slots}
 use Rattle.rule_slots.specs.Compared.{same_slots}
 use Rattle.rule_slots.proofs.Loops.{held_long, repeats_next, repeats_end}
-use Rattle.rule_slots.proofs.SlotOrder.{distinct_in_order}
+use Rattle.rule_slots.proofs.SlotOrder.{distinct_in_order, twice_in_order}
 use Rattle.rule_slots.proofs.elements.repeats_slot.Goals as goal
 
 pub returns-then-is_in_order : goal.returns-then-is_in_order
 returns-then-is_in_order c =
     let l = lists_in c.args.lists in
     sym (distinct_in_order l c.args.kind (held_slots l c.args.pool.now c.args.source) (sym c.is_in_order.ensures ∙ c.if-is_in_order.true))
+
+pub returns-then-is_in_order-2 : goal.returns-then-is_in_order-2
+returns-then-is_in_order-2 c =
+    let l = lists_in c.args.lists in
+    sym (twice_in_order l c.args.kind (held_slots l c.args.pool.now c.args.source) (sym c.is_in_order-2.ensures ∙ c.if-is_in_order-2.true) (sym c.is_in_order.ensures ∙ c.if-is_in_order.false))
 
 pub returns-then-is_among_from : goal.returns-then-is_among_from
 returns-then-is_among_from c =

@@ -1,6 +1,5 @@
-use Rattle.std.proofs.Common.{arith, refl, subst}
+use Rattle.std.proofs.Common.{◌∙◌, arith, refl}
 use Rattle.rule_machine.specs.Shown.{code_in, setting_in, task_lists}
-use Rattle.rule_machine.specs.StandFor.{TellsDistinct}
 use Rattle.rule_machine.proofs.EndSlots.{decided_low}
 use Rattle.rule_machine.proofs.TurnEnds.{end_gives}
 use Rattle.rule_machine.proofs.Lies.{is_with, is_under}
@@ -21,8 +20,8 @@ returns c =
     let l = task_lists t in
     let code = code_in t in
     let p = m.pool.items in
-    let pool = c.cut_to_given.ensures in
-    let tells = subst (λ q. TellsDistinct l q u c.keeps_distinct-distinct.result) c.deref.ensures.value c.keeps_distinct-distinct.ensures in
+    let pool = c.cut_to_given.ensures ∙ c.keeps_distinct-distinct.ensures.given c.ending-gives.result in
+    let tells = c.keeps_distinct-distinct.ensures.told in
     record {
       made = λ d b.
           let e = end_gives s l code p m.at m.end u c.args.last m.controls.0 m.variables.0 m.operands.0 d c.keeps_distinct-distinct.result c.ending-gives.result r.at_end b r.all tells c.ending-gives.ensures in

@@ -3,7 +3,7 @@ use Rattle.ocl_base.specs.Lists.{is_among}
 use Rattle.rule_slots.specs.Slots.{lists_in, held_slots}
 use Rattle.rule_slots.specs.Compared.{same_slots}
 use Rattle.rule_slots.proofs.Loops.{held_long, any_next, any_found, any_end}
-use Rattle.rule_slots.proofs.elements.is_any_among.Goals as goal
+use Rattle.rule_slots.proofs.searching.is_any_known.Goals as goal
 
 pub returns-then-is_among_known : goal.returns-then-is_among_known
 returns-then-is_among_known c =

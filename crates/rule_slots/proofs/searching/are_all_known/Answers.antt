@@ -3,7 +3,7 @@ use Rattle.ocl_base.specs.Lists.{is_among}
 use Rattle.rule_slots.specs.Slots.{lists_in, held_slots}
 use Rattle.rule_slots.specs.Compared.{same_slots}
 use Rattle.rule_slots.proofs.Loops.{held_long, all_next, all_failed, all_end}
-use Rattle.rule_slots.proofs.elements.are_all_among.Goals as goal
+use Rattle.rule_slots.proofs.searching.are_all_known.Goals as goal
 
 pub returns-then-not-is_among_known : goal.returns-then-not-is_among_known
 returns-then-not-is_among_known c =

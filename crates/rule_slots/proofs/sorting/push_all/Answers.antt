@@ -1,12 +1,12 @@
-use Rattle.std.proofs.Common.{◌≤◌, ◌++◌, ◌∷◌, [], length, take, sym, ap, ◌∙◌, arith, append_assoc, append-nil, length-append}
+use Rattle.std.proofs.Common.{◌≤◌, ◌++◌, ◌∷◌, [], length, take, refl, sym, ap, ◌∙◌, arith, append_assoc, append-nil, length-append}
 use Rattle.std.specs.Prelude.{slice_get}
 use Rattle.rule_slots.specs.Slots.{lists_in, held_slots}
 use Rattle.rule_slots.proofs.Pool.{within_grown, held_same, grows}
 use Rattle.rule_slots.proofs.Loops.{held_long, take_next, all_taken}
-use Rattle.rule_slots.proofs.sets.push_all.Goals as goal
+use Rattle.rule_slots.proofs.sorting.push_all.Goals as goal
 
 pub loop-index-init : goal.loop-index-init
-loop-index-init c = (sym (append-nil c.args.pool.now.items), omega (arith, c.requires.room))
+loop-index-init c = (sym (append-nil c.args.pool.now.items), omega (arith, c.requires.room), refl)
 
 pub element-slot-requires-clause-within : goal.element-slot-requires-clause-within
 element-slot-requires-clause-within c =
@@ -33,10 +33,11 @@ loop-index-preserved c =
     let read = ap (λ z. slice_get z n) (held_same l old c.deref.result.now (length old) (length c.deref.result.now) more grown c.args.source c.requires.within) ∙ c.element-slot.ensures in (
       c.push_reserved.ensures.items ∙ ap (λ z. z ++ slot ∷ []) put ∙ append_assoc old so_far (slot ∷ []) ∙ ap (λ z. old ++ z) (sym (take_next held n slot read)),
       omega (arith, c.loop-index.invariant.1, c.loop-index-test.true, c.push_reserved.ensures.capacity, ap length c.push_reserved.ensures.items, length-append c.loop-index.pool.items (slot ∷ [])),
+      c.push_reserved.ensures.capacity ∙ c.loop-index.invariant.2,
     )
 
-pub returns : goal.returns
-returns c =
+pub returns-clause-items : goal.returns-clause-items
+returns-clause-items c =
     let l = lists_in c.args.lists in
     let old = c.args.pool.now.items in
     let held = held_slots l old c.args.source in

@@ -1,0 +1,171 @@
+//! Elements of one collection, looked for in another.
+
+ghost use Rattle.std.specs.Prelude.{◌≡◌, length, true, false};
+ghost use Rattle.std.specs.List.{list_all, list_any};
+ghost use Rattle.ocl_base.specs.Lists.{is_among};
+ghost use Rattle.rule_slots.specs.Slots.{lists_in, held_slots, IsInHome};
+ghost use Rattle.rule_slots.specs.Compared.{same_slots};
+ghost use Rattle.rule_slots.specs.Ordered.{compare_slots, is_defined, may_precede, rises};
+ghost use Rattle.rule_slots.specs.Sorted.{IsCopyOf};
+
+use crate::elements::SHORT;
+use crate::lists::Lists;
+use crate::ordering::{is_among_known, is_in_order};
+use crate::reading::element;
+use crate::slot::Slot;
+use crate::sorting::{has_room, push_sorted};
+use rule_code::WrittenScalar;
+
+/// For so few elements that are looked for no copy is sorted.
+const FEW: usize = 8;
+
+/// A collection in which so many elements are to be looked for, as it is best searched, and whether it stands in order:
+/// itself; or a sorted copy at the pool's end, if it is long, stands in no order, and there is room.
+#[inline(never)]
+fn searchable(
+    lists: Lists<'_>,
+    pool: &mut Vec<Slot>,
+    kind: WrittenScalar,
+    source: Slot,
+    searches: usize,
+) -> (Slot, bool)
+    requires { IsInHome (lists_in lists) (length pool.old.items) source }
+    ensures copy { IsCopyOf (lists_in lists.entry) pool.old.items source pool.new.items result.0 }
+    ensures order { result.1 ≡ true → rises is_defined (λ a b.
+        may_precede false (compare_slots (lists_in lists.entry) kind a b))
+        (held_slots (lists_in lists.entry) pool.new.items result.0) ≡ true }
+{
+    if source.count <= SHORT {
+        return (source, false);
+    }
+    if is_in_order(lists, pool, kind, source, false) {
+        return (source, true);
+    }
+    if searches <= FEW || !has_room(pool, source.count, 0) {
+        return (source, false);
+    }
+    let copy = push_sorted(lists, pool, kind, source);
+    let ordered = is_in_order(lists, pool, kind, copy, false);
+    (copy, ordered)
+}
+
+/// Whether each element of the second collection is one of the first, which stands in order if `ordered` says so.
+#[inline(never)]
+fn are_all_known(
+    lists: Lists<'_>,
+    pool: &[Slot],
+    kind: WrittenScalar,
+    source: Slot,
+    ordered: bool,
+    others: Slot,
+) -> bool
+    requires source { IsInHome (lists_in lists) (length pool.now) source }
+    requires others { IsInHome (lists_in lists) (length pool.now) others }
+    requires order { ordered ≡ true → rises is_defined (λ a b.
+        may_precede false (compare_slots (lists_in lists) kind a b))
+        (held_slots (lists_in lists) pool.now source) ≡ true }
+    ensures { result ≡ list_all (is_among (same_slots (lists_in lists.entry) kind)
+        (held_slots (lists_in lists.entry) pool.now source))
+        (held_slots (lists_in lists.entry) pool.now others) }
+{
+    for index in 0..others.count {
+        let slot = element(lists, pool, others, index);
+        if !is_among_known(lists, pool, kind, source, ordered, slot) {
+            return false;
+        }
+    }
+    true
+}
+
+/// Whether an element of the second collection is one of the first, which stands in order if `ordered` says so.
+#[inline(never)]
+fn is_any_known(
+    lists: Lists<'_>,
+    pool: &[Slot],
+    kind: WrittenScalar,
+    source: Slot,
+    ordered: bool,
+    others: Slot,
+) -> bool
+    requires source { IsInHome (lists_in lists) (length pool.now) source }
+    requires others { IsInHome (lists_in lists) (length pool.now) others }
+    requires order { ordered ≡ true → rises is_defined (λ a b.
+        may_precede false (compare_slots (lists_in lists) kind a b))
+        (held_slots (lists_in lists) pool.now source) ≡ true }
+    ensures { result ≡ list_any (is_among (same_slots (lists_in lists.entry) kind)
+        (held_slots (lists_in lists.entry) pool.now source))
+        (held_slots (lists_in lists.entry) pool.now others) }
+{
+    for index in 0..others.count {
+        let slot = element(lists, pool, others, index);
+        if is_among_known(lists, pool, kind, source, ordered, slot) {
+            return true;
+        }
+    }
+    false
+}
+
+/// Whether each element of the second collection is one of the first, without a copy.
+#[inline(never)]
+pub(crate) fn are_all_in(
+    lists: Lists<'_>,
+    pool: &[Slot],
+    kind: WrittenScalar,
+    source: Slot,
+    others: Slot,
+) -> bool
+    requires source { IsInHome (lists_in lists) (length pool.now) source }
+    requires others { IsInHome (lists_in lists) (length pool.now) others }
+    ensures { result ≡ list_all (is_among (same_slots (lists_in lists.entry) kind)
+        (held_slots (lists_in lists.entry) pool.now source))
+        (held_slots (lists_in lists.entry) pool.now others) }
+{
+    let ordered = source.count > SHORT && is_in_order(lists, pool, kind, source, false);
+    are_all_known(lists, pool, kind, source, ordered, others)
+}
+
+/// Whether each element of the second collection is one of the first. The pool stays as it was.
+#[inline(never)]
+pub(crate) fn are_all_among(
+    lists: Lists<'_>,
+    pool: &mut Vec<Slot>,
+    kind: WrittenScalar,
+    source: Slot,
+    others: Slot,
+) -> bool
+    requires source { IsInHome (lists_in lists) (length pool.old.items) source }
+    requires others { IsInHome (lists_in lists) (length pool.old.items) others }
+    ensures told { result ≡ list_all (is_among (same_slots (lists_in lists.entry) kind)
+        (held_slots (lists_in lists.entry) pool.old.items source))
+        (held_slots (lists_in lists.entry) pool.old.items others) }
+    ensures pool { pool.new.items ≡ pool.old.items }
+{
+    let start = pool.len();
+    let (searched, ordered) = searchable(lists, pool, kind, source, others.count);
+    let all = are_all_known(lists, pool, kind, searched, ordered, others);
+    pool.truncate(start);
+    all
+}
+
+/// Whether an element of the second collection is one of the first. The pool stays as it was.
+#[inline(never)]
+pub(crate) fn is_any_among(
+    lists: Lists<'_>,
+    pool: &mut Vec<Slot>,
+    kind: WrittenScalar,
+    source: Slot,
+    others: Slot,
+) -> bool
+    requires source { IsInHome (lists_in lists) (length pool.old.items) source }
+    requires others { IsInHome (lists_in lists) (length pool.old.items) others }
+    ensures told { result ≡ list_any (is_among (same_slots (lists_in lists.entry) kind)
+        (held_slots (lists_in lists.entry) pool.old.items source))
+        (held_slots (lists_in lists.entry) pool.old.items others) }
+    ensures pool { pool.new.items ≡ pool.old.items }
+{
+    let start = pool.len();
+    let (searched, ordered) = searchable(lists, pool, kind, source, others.count);
+    let any = is_any_known(lists, pool, kind, searched, ordered, others);
+    pool.truncate(start);
+    any
+}
