@@ -10,6 +10,9 @@ chain:    each class is below the one before it and has 16 names of its own (twi
 couples:  each name is that of two classes, which are not related (twin: names that differ).
 depth:    each class is below the one before it, without features; the objects are of each class in turn (twin: classes that
           are not related).
+renames:  as chain, and each feature has an old name (twin: the same without old names).
+olds:     half of the classes have the same 16 old names for their features, and each has one class below it; the objects are
+          of those (twin: old names that differ).
 
 Each model has the class and the feature that examples/min-depth.code names, so that it can be judged by it.
 """
@@ -100,21 +103,40 @@ def depth(count, plain):
     return [], [base()] + classes, [(f"C{it % len(classes)}", {}) for it in range(count)]
 
 
+def old(owner, name, feature):
+    return {"class": owner, "old": name, "new": feature}
+
+
+def renames(count, plain):
+    enumerations, classes, objects = chain(count, False)
+    features = [(it["name"], feature["name"]) for it in classes for feature in it["attributes"]]
+    return enumerations, classes, objects, [] if plain else [old(owner, f"old_{it}", it) for owner, it in features]
+
+
+def olds(count, plain):
+    enumerations, classes, objects = owners(count, True)
+    places = [(owner, it) for owner in range(CLASSES // 2) for it in range(NAMES)]
+    names = [old(f"C{owner}", f"old{owner}_{it}" if plain else f"old{it}", f"a{owner}_{it}") for owner, it in places]
+    return enumerations, classes, objects, names
+
+
 def write(folder, name, tree):
     with open(os.path.join(folder, name), "w", encoding="utf-8") as to:
         json.dump(tree, to, separators=(",", ":"))
 
 
 def main():
-    shapes = {"literals": literals, "owners": owners, "chain": chain, "couples": couples, "depth": depth}
+    shapes = {it.__name__: it for it in (literals, owners, chain, couples, depth, renames, olds)}
     reader = argparse.ArgumentParser(description=__doc__, formatter_class=argparse.RawDescriptionHelpFormatter)
     reader.add_argument("SHAPE", choices=shapes)
     reader.add_argument("N", type=int, help="the number of objects")
     reader.add_argument("FOLDER", help="where the two files are written")
     reader.add_argument("--plain", action="store_true", help="write the plain twin")
     words = reader.parse_args()
-    enumerations, classes, objects = shapes[words.SHAPE](words.N, words.plain)
+    enumerations, classes, objects, *names = shapes[words.SHAPE](words.N, words.plain)
     model = {"model": "imkl-profile", "enums": enumerations, "classes": classes, "associations": []}
+    if names:
+        model["renames"] = names[0]
     write(words.FOLDER, "model.json", model)
     listed = [{"id": f"o{place}", "class": it, "features": values} for place, (it, values) in enumerate(objects)]
     write(words.FOLDER, "delivery.json", {"model": "imkl-profile", "objects": listed})

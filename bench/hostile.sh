@@ -51,6 +51,8 @@ compare owners 20000
 compare chain 20000
 compare couples 20000
 compare depth 500000
+compare renames 20000
+compare olds 20000
 for size in 100000 1000000 10000000; do
     for shape in bindings arguments chains names rules last comments strings context; do
         compare_text "$shape" "$size"

@@ -14,8 +14,11 @@ pub mod Ranks
 pub mod ClashLaws
 pub mod ClashGroups
 pub mod ClashWalks
+pub mod Doubles
 pub mod Parts
 pub mod Ends
 pub mod FeatureParts
 pub mod Sound
 pub mod ModelLaws
+pub mod Links
+pub mod Entries

@@ -4,10 +4,10 @@ use Rattle.std.proofs.lemmas.Bool.{and_from, and_parts, or_cases, or_right}
 use Rattle.std.proofs.lemmas.Bool.Decides.{Decides-eqb}
 use Rattle.std.proofs.lemmas.Slice.Eq.{bytes_eq-Decides}
 use Rattle.imkl_model.specs.Chains.{is_or_reaches, reaches}
-use Rattle.imkl_model.specs.ClassModel.{Model, supers, is_named, belongs, feature_at, feature_number}
+use Rattle.imkl_model.specs.ClassModel.{Model, supers, is_named, is_own_in, belongs, feature_at, feature_number}
 use Rattle.imkl_model.specs.WellFormed.{IsClassModel}
-use Rattle.imkl_model.specs.Held.{Group, IsGroup, own_in, is_own_in}
-use Rattle.imkl_model.specs.Groups.{IsInherited}
+use Rattle.imkl_model.specs.Held.{Group, IsGroup, own_in}
+use Rattle.imkl_model.specs.Groups.{AreDistinct, IsInherited}
 use Rattle.imkl_model.proofs.Warshall.{is_or_reaches-decides}
 use Rattle.ocl_base.proofs.ForAbove.{find_places, least_passes, least_found, least_is}
 
@@ -27,8 +27,12 @@ feature_of m c q f lt h =
     let p = and_parts (is_named m q f) (belongs m c f) h in
     (lt, p.1, sym ((bytes_eq-Decides q (feature_at m f).name).0 p.0))
 
+-- what a class model keeps of its features, for look-ups
+pub distinct : (m : Model) → IsClassModel m → AreDistinct m.classes m.features
+distinct m well = record { owners = well.known_owners; one_feature = well.one_feature }
+
 -- a feature of the name that belongs to the class is the one found, since no other is
-pub the_feature : (m : Model) (c : ℕ) (q : List ℕ) → IsClassModel m → (f : ℕ) → IsFeatureOf m c q f → feature_number m c q ≡ Some f
+pub the_feature : (m : Model) (c : ℕ) (q : List ℕ) → AreDistinct m.classes m.features → (f : ℕ) → IsFeatureOf m c q f → feature_number m c q ≡ Some f
 the_feature m c q well f h =
     let here = and_from (is_named m q f) (belongs m c f) ((bytes_eq-Decides q (feature_at m f).name).1 (sym h.2)) h.1 in
     least_is (passes m c q) (length m.features) f h.0 here (λ k lt g.
@@ -61,7 +65,7 @@ module _ (m : Model) (c : ℕ) (q : List ℕ) (g : Group) (group : IsGroup m.fea
       and_from (is_named m q f) (belongs m c f) p.0 (let here : is_or_reaches (supers m) c c ≡ true = (is_or_reaches-decides (supers m) c c).1 (0, refl) in ap (is_or_reaches (supers m) c) owned ∙ here)
 
   -- no other feature of the name belongs to a class that has its own
-  pub own_is : IsClassModel m → (f : ℕ) → own_in g c ≡ Some f → feature_number m c q ≡ Some f
+  pub own_is : AreDistinct m.classes m.features → (f : ℕ) → own_in g c ≡ Some f → feature_number m c q ≡ Some f
   own_is well f own =
       let n = length m.features in
       let found : IfSome (Some f) (λ k. (k < n) × (is_own_in m.features q c k ≡ true)) = subst (λ (o : Option ℕ). IfSome o (λ k. (k < n) × (is_own_in m.features q c k ≡ true))) (sym (group.own c) ∙ own) (least_passes (is_own_in m.features q c) n) in
@@ -76,7 +80,7 @@ module _ (m : Model) (c : ℕ) (q : List ℕ) (g : Group) (group : IsGroup m.fea
       (found.0, p.0, (Decides-eqb (feature_at m f).owner d).0 p.1)
 
   -- a class above has a feature of this name
-  above_is : IsClassModel m → (d f : ℕ) → reaches (supers m) c d ≡ true → own_in g d ≡ Some f → feature_number m c q ≡ Some f
+  above_is : AreDistinct m.classes m.features → (d f : ℕ) → reaches (supers m) c d ≡ true → own_in g d ≡ Some f → feature_number m c q ≡ Some f
   above_is well d f above own =
       let h = owned d f own in
       let here : belongs m c f ≡ true = ap (is_or_reaches (supers m) c) h.2 ∙ or_right (eqb c d) (reaches (supers m) c d) above in
@@ -86,7 +90,7 @@ module _ (m : Model) (c : ℕ) (q : List ℕ) (g : Group) (group : IsGroup m.fea
   none_and_some f e = cc
 
   -- neither the class nor one above has a feature of this name
-  none_above : IsClassModel m → own_in g c ≡ None → ((d : ℕ) → d < length m.classes → reaches (supers m) c d ≡ true → own_in g d ≡ None) → (o : Option ℕ) → feature_number m c q ≡ o → None ≡ o
+  none_above : AreDistinct m.classes m.features → own_in g c ≡ None → ((d : ℕ) → d < length m.classes → reaches (supers m) c d ≡ true → own_in g d ≡ None) → (o : Option ℕ) → feature_number m c q ≡ o → None ≡ o
   none_above well own none None e = refl
   none_above well own none (Some f) e =
       let n = length m.features in
@@ -97,11 +101,11 @@ module _ (m : Model) (c : ℕ) (q : List ℕ) (g : Group) (group : IsGroup m.fea
       let own_d : own_in g d ≡ Some w.0 = group.own d ∙ w.1 in
       elim (or_cases (eqb c d) (reaches (supers m) c d) p.1) [
         | inl same ↦ absurd (none_and_some w.0 (sym own ∙ ap (own_in g) ((Decides-eqb c d).0 same) ∙ own_d))
-        | inr above ↦ absurd (none_and_some w.0 (sym (none d (well.known_owners f found.0) above) ∙ own_d))
+        | inr above ↦ absurd (none_and_some w.0 (sym (none d (well.owners f found.0) above) ∙ own_d))
       ]
 
   -- what is inherited is the feature of the name, where the class has none of its own
-  pub inherited_is : IsClassModel m → own_in g c ≡ None → (o : Option ℕ) → IsInherited m c g o → o ≡ feature_number m c q
+  pub inherited_is : AreDistinct m.classes m.features → own_in g c ≡ None → (o : Option ℕ) → IsInherited m c g o → o ≡ feature_number m c q
   inherited_is well own o (inl e) = e ∙ first_is
   inherited_is well own None (inr h) = none_above well own (h.1 refl) (feature_number m c q) refl
   inherited_is well own (Some f) (inr h) = sym (above_is well h.0.0 f h.0.1 h.0.2)

@@ -28,7 +28,7 @@ use Rattle.imkl_model.proofs.ClashLaws.{found_clash}
 use Rattle.imkl_model.proofs.ClashGroups.{any_of}
 use Rattle.imkl_model.proofs.Repeated.{one_place, repeats_front, repeats_back}
 use Rattle.imkl_model.proofs.Parts.{not_repeated}
-use Rattle.imkl_model.proofs.Lookup.{found_in_range, found_belongs, found_named, the_feature}
+use Rattle.imkl_model.proofs.Lookup.{distinct, found_in_range, found_belongs, found_named, the_feature}
 
 -- ---- conformance
 
@@ -134,7 +134,7 @@ literals_have_names m well e lt name l = numbers_of (laws.literals_at m e) (well
 pub features_have_names : (m : Model) → IsClassModel m → laws.FeaturesHaveNames m
 features_have_names m well name c f = (
   λ e. (found_in_range m c name (Some f) (sym e), found_belongs m c name (Some f) (sym e), found_named m c name (Some f) (sym e)),
-  λ h. the_feature m c name well f (h.0, h.1, h.2),
+  λ h. the_feature m c name (distinct m well) f (h.0, h.1, h.2),
 )
 
 -- ---- names differ
@@ -192,6 +192,8 @@ has_names m well = record {
   literals = λ e lt i less. well.named_literals e no_enumeration lt i [] less;
   features = well.named_features;
   associations = λ i lt. well.named_associations i [] lt;
+  old_classes = λ i lt. well.named_old_classes i [] lt;
+  old_features = well.named_old_features;
 }
 
 -- there are no more classes, enumerations, literals and features than the limits allow
@@ -201,6 +203,7 @@ within_limits m well = record {
   enumerations = well.few_enumerations;
   literals = λ e lt. well.few_literals e no_enumeration lt;
   features = well.few_features;
+  renames = well.few_renames;
 }
 
 -- ---- clashes

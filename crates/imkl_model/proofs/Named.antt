@@ -7,8 +7,8 @@ use Rattle.std.specs.Cmp.Lexicographic.{nat_list_eq_equiv}
 use Rattle.std.specs.Option.{option_or}
 use Rattle.imkl_model.specs.declared.feature.FeatureInfo.{FeatureInfo}
 use Rattle.ocl_base.specs.Numbers.{places, least}
-use Rattle.imkl_model.specs.ClassModel.{is_named_in, no_feature}
-use Rattle.imkl_model.specs.Held.{Group, IsGroup, own_in, is_own_in}
+use Rattle.imkl_model.specs.ClassModel.{is_named_in, is_own_in, no_feature}
+use Rattle.imkl_model.specs.Held.{Group, IsGroup, own_in}
 
 option_or-none : (o : Option ℕ) → o ≡ option_or o None
 option_or-none None = refl

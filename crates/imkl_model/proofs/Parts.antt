@@ -1,5 +1,5 @@
 -- What is known of the parts of a class model that was numbered.
-use Rattle.std.proofs.Common.{◌≡◌, ℕ, ◌<◌, ◌||◌, List, [], ◌∷◌, ◌++◌, length, get_or, map, Bool, true, false, Ok, refl, sym, ap, ◌∙◌, All, bytes_eq, position, nat_eq, inl, inr}
+use Rattle.std.proofs.Common.{◌≡◌, ℕ, ◌<◌, ◌||◌, List, [], ◌∷◌, ◌++◌, length, get_or, map, Bool, true, false, Some, Ok, refl, sym, ap, subst, ◌∙◌, All, bytes_eq, position, nat_eq, inl, inr}
 use Rattle.std.specs.List.{list_any}
 use Rattle.std.proofs.lemmas.Bool.{false≢true, or_parts, or_cases, or_left, or_right, eqb-true}
 use Rattle.std.proofs.lemmas.List.{map-id}
@@ -8,18 +8,25 @@ use Rattle.std.proofs.lemmas.List.Folds.{list_any-append}
 use Rattle.std.proofs.lemmas.Slice.Eq.{bytes_eq-Decides}
 use Rattle.imkl_model.specs.declared.fault.ModelFault.TheVariants as faults
 use Rattle.imkl_model.specs.declared.entry.Class.{Class}
+use Rattle.imkl_model.specs.declared.entry.ClassRename.{ClassRename}
+use Rattle.imkl_model.specs.declared.entry.FeatureRename.{FeatureRename}
+use Rattle.imkl_model.specs.declared.feature.FeatureInfo.{FeatureInfo}
 use Rattle.imkl_model.specs.declared.numbering.Scope.{Scope}
 use Rattle.imkl_model.specs.declared.written.Written.{Written}
 use Rattle.imkl_model.specs.declared.written.WrittenClass.{WrittenClass}
 use Rattle.imkl_model.specs.declared.written.WrittenEnumeration.{WrittenEnumeration}
+use Rattle.imkl_model.specs.declared.written.WrittenClassRename.{WrittenClassRename}
+use Rattle.imkl_model.specs.declared.written.WrittenFeatureRename.{WrittenFeatureRename}
 use Rattle.ocl_base.specs.Lists.{is_among, repeats}
 use Rattle.imkl_model.specs.Words.{is_predefined}
-use Rattle.ocl_base.specs.Steps.{each}
+use Rattle.ocl_base.specs.Steps.{◌>>=◌, each, found}
 use Rattle.imkl_model.specs.Checks as checks
 use Rattle.imkl_model.specs.WrittenFeatures.{written_features}
-use Rattle.imkl_model.specs.Numbering.{number_in, class_in_scope, enumeration_as_written}
+use Rattle.imkl_model.specs.Scopes.{scope_of}
+use Rattle.imkl_model.specs.Numbering.{number_in, class_in_scope, enumeration_as_written, class_rename_in_scope, feature_rename_in_scope}
 use Rattle.imkl_model.specs.Tables.{AreWithin}
-use Rattle.imkl_model.specs.ClassModel.{names_of_classes, names_of_enumerations, supers_in}
+use Rattle.imkl_model.specs.ClassModel.{names_of_classes, names_of_enumerations, supers_in, own_feature_number}
+use Rattle.imkl_model.specs.Renames.{old_names_of}
 use Rattle.imkl_model.proofs.Repeated.{repeats_front, repeats_back}
 use Rattle.ocl_base.proofs.ForAbove.{each_first, each_nothing, okay, ok_is, both_steps, found_is, each_map, all_each, all_at, all_mapped, AllOf}
 
@@ -38,19 +45,24 @@ pub record Differs (w : Written) : Type 0 where
   pub supers : list_any (λ c. repeats bytes_eq c.supers) w.classes ≡ false
   pub associations : repeats bytes_eq (checks.written_association_names w) ≡ false
   pub features : repeats bytes_eq (checks.feature_names (written_features w)) ≡ false
+  pub old_types : repeats bytes_eq ((checks.written_enumeration_names w ++ checks.written_class_names w) ++ checks.written_old_names w) ≡ false
+  pub old_defined : list_any is_predefined (checks.written_old_names w) ≡ false
 
 none_defined : (xs ys : List (List ℕ)) → list_any is_predefined xs ≡ false → list_any is_predefined ys ≡ false → list_any is_predefined (xs ++ ys) ≡ false
 none_defined xs ys e f = list_any-append is_predefined xs ys ∙ rw (e, f) refl
 
 type_parts : (w : Written) → checks.repeats_type w ≡ false
-    → (list_any is_predefined (checks.written_enumeration_names w ++ checks.written_class_names w) ≡ false) × (repeats bytes_eq (checks.written_enumeration_names w ++ checks.written_class_names w) ≡ false)
+    → (list_any is_predefined (checks.written_enumeration_names w ++ checks.written_class_names w) ≡ false) × (repeats bytes_eq ((checks.written_enumeration_names w ++ checks.written_class_names w) ++ checks.written_old_names w) ≡ false)
+    × (list_any is_predefined (checks.written_old_names w) ≡ false)
 unfolding checks.repeats_type
 type_parts w e =
     let es = checks.written_enumeration_names w in
     let cs = checks.written_class_names w in
-    let p = or_parts (list_any is_predefined es || list_any is_predefined cs) (repeats bytes_eq (es ++ cs)) e in
-    let q = or_parts (list_any is_predefined es) (list_any is_predefined cs) p.0 in
-    (none_defined es cs q.0 q.1, p.1)
+    let os = checks.written_old_names w in
+    let p = or_parts (list_any is_predefined es || list_any is_predefined cs || list_any is_predefined os) (repeats bytes_eq ((es ++ cs) ++ os)) e in
+    let r = or_parts (list_any is_predefined es || list_any is_predefined cs) (list_any is_predefined os) p.0 in
+    let q = or_parts (list_any is_predefined es) (list_any is_predefined cs) r.0 in
+    (none_defined es cs q.0 q.1, p.1, r.1)
 
 -- where the check finds no name twice, the names of each sort differ
 pub differs : (w : Written) → checks.repeats_name w ≡ false → Differs w
@@ -61,7 +73,23 @@ differs w e =
     let r = or_parts (checks.repeats_type w || checks.repeats_literal w) (checks.repeats_super w) q.0 in
     let s = or_parts (checks.repeats_type w) (checks.repeats_literal w) r.0 in
     let t = type_parts w s.0 in
-    record { types = t.1; defined = t.0; literals = s.1; supers = r.1; associations = q.1; features = p.1 }
+    let types = checks.written_enumeration_names w ++ checks.written_class_names w in
+    record {
+      types = not_repeated (repeats bytes_eq types) (repeats bytes_eq (types ++ checks.written_old_names w)) (repeats_front types (checks.written_old_names w)) t.1;
+      defined = t.0;
+      literals = s.1;
+      supers = r.1;
+      associations = q.1;
+      features = p.1;
+      old_types = t.1;
+      old_defined = t.2;
+    }
+
+-- then the old names of classes differ
+pub old_names_differ : (w : Written) → checks.repeats_name w ≡ false → repeats bytes_eq (checks.written_old_names w) ≡ false
+old_names_differ w e =
+    let types = checks.written_enumeration_names w ++ checks.written_class_names w in
+    not_repeated (repeats bytes_eq (checks.written_old_names w)) (repeats bytes_eq (types ++ checks.written_old_names w)) (repeats_back types (checks.written_old_names w)) (differs w e).old_types
 
 -- then the enumerations' names differ
 pub enumerations_differ : (w : Written) → checks.repeats_name w ≡ false → repeats bytes_eq (checks.written_enumeration_names w) ≡ false
@@ -96,6 +124,10 @@ class_is s c k e =
 pub class_names_kept : (s : Scope) (cs : List WrittenClass) (ks : List Class) → each (class_in_scope s) cs ≡ Ok ks → names_of_classes ks ≡ map (λ c. c.name) cs
 class_names_kept s cs ks e = each_map (class_in_scope s) (λ k. k.name) (λ c. c.name) (λ c k h. (class_is s c k h).0) cs ks e
 
+-- the names of the scope are those of the classes that were numbered in it
+pub class_names_are : (w : Written) (s : Scope) (ks : List Class) → s ≡ scope_of w → each (class_in_scope s) w.classes ≡ Ok ks → s.classes ≡ names_of_classes ks
+class_names_are w s ks is e = ap (λ (x : Scope). x.classes) is ∙ sym (class_names_kept s w.classes ks e)
+
 abbrev SupersWithin : ℕ → Class → Type 0
 SupersWithin n k = All (λ d. d < n) k.supers
 
@@ -103,6 +135,32 @@ SupersWithin n k = All (λ d. d < n) k.supers
 pub supers_within : (s : Scope) (cs : List WrittenClass) (ks : List Class) → each (class_in_scope s) cs ≡ Ok ks → AllOf (SupersWithin (length s.classes)) ks
 supers_within s cs ks e =
     all_each (class_in_scope s) (SupersWithin (length s.classes)) (λ c k h. all_at (λ d. d < length s.classes) k.supers (all_each (number_in s.classes) (λ d. d < length s.classes) (λ name n g. (number_is s.classes name n g).0) c.supers k.supers (class_is s c k h).1)) cs ks e
+
+-- the old name of a class that was numbered is the written one, and the class has the written number
+pub class_rename_is : (s : Scope) (r : WrittenClassRename) (k : ClassRename) → class_rename_in_scope s r ≡ Ok k → (k.old ≡ r.old) × (number_in s.classes r.new ≡ Ok k.class)
+unfolding class_rename_in_scope
+class_rename_is s r k e =
+    let p = both_steps (number_in s.classes r.new) (λ class. Ok (record { old = r.old; class = class })) k e in
+    let made : ClassRename = record { old = r.old; class = p.0 } in
+    let same : made ≡ k = ok_is made k p.2 in
+    (ap (λ (x : ClassRename). x.old) (sym same), p.1 ∙ ap (λ (x : ClassRename). okay x.class) same)
+
+-- the old names of classes are the written ones
+pub old_names_kept : (s : Scope) (rs : List WrittenClassRename) (ks : List ClassRename) → each (class_rename_in_scope s) rs ≡ Ok ks → old_names_of ks ≡ map (λ r. r.old) rs
+old_names_kept s rs ks e = each_map (class_rename_in_scope s) (λ k. k.old) (λ r. r.old) (λ r k h. (class_rename_is s r k h).0) rs ks e
+
+-- the old name of a feature that was numbered is the written one, the class is that of the written number, and it owns the
+-- feature
+pub feature_rename_is : (s : Scope) (fs : List FeatureInfo) (r : WrittenFeatureRename) (k : FeatureRename) → feature_rename_in_scope s fs r ≡ Ok k
+    → (k.old ≡ r.old) × (number_in s.classes r.class ≡ Ok k.class) × (own_feature_number fs k.class r.new ≡ Some k.feature)
+unfolding feature_rename_in_scope
+feature_rename_is s fs r k e =
+    let p = both_steps (number_in s.classes r.class) (λ class. found (own_feature_number fs class r.new) faults.UnknownName >>= λ feature. Ok (record { class = class; old = r.old; feature = feature })) k e in
+    let q = both_steps (found (own_feature_number fs p.0 r.new) faults.UnknownName) (λ feature. Ok (record { class = p.0; old = r.old; feature = feature })) k p.2 in
+    let made : FeatureRename = record { class = p.0; old = r.old; feature = q.0 } in
+    let same : made ≡ k = ok_is made k q.2 in
+    let there : own_feature_number fs p.0 r.new ≡ Some q.0 = found_is (own_feature_number fs p.0 r.new) faults.UnknownName q.0 q.1 in
+    (ap (λ (x : FeatureRename). x.old) (sym same), p.1 ∙ ap (λ (x : FeatureRename). okay x.class) same, subst (λ (x : FeatureRename). own_feature_number fs x.class r.new ≡ Some x.feature) same there)
 
 -- where each class has superclasses below n, each row of superclasses is below n
 pub rows_within : (n : ℕ) (ks : List Class) → AllOf (SupersWithin n) ks → AreWithin n (supers_in ks)

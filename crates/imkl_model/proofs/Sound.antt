@@ -1,41 +1,49 @@
 -- A class model that was numbered and checked keeps what a class model keeps.
-use Rattle.std.proofs.Common.{◌≡◌, ℕ, zero, suc, ◌+◌, ◌<◌, ◌≤◌, ◌&&◌, not, Bool, true, false, List, [], ◌∷◌, ◌++◌, length, get_or, map, eqb, leb, Option, Some, Ok, All, IfSome, refl, sym, ap, ◌∙◌, subst, arith, inl, inr, nat_le, nat_lt, if◌then◌else◌, bytes_eq}
+use Rattle.std.proofs.Common.{◌≡◌, ℕ, zero, suc, ◌+◌, ◌<◌, ◌≤◌, ◌&&◌, ◌||◌, not, Bool, true, false, List, [], ◌∷◌, ◌++◌, length, get_or, map, eqb, leb, Option, Some, Ok, All, IfSome, refl, sym, ap, ◌∙◌, subst, arith, inl, inr, nat_le, nat_lt, if◌then◌else◌, bytes_eq}
 use Rattle.std.specs.List.{list_all, list_any}
 use Rattle.std.proofs.lemmas.Bool.{false≢true, and_parts, or_parts}
-use Rattle.std.proofs.lemmas.Bool.Decides.{eqb_tells, leb_tells}
+use Rattle.std.proofs.lemmas.Bool.Decides.{eqb_tells, leb_tells, Decides-eqb}
 use Rattle.std.proofs.lemmas.List.{length-map, get_or-map}
 use Rattle.std.proofs.lemmas.List.Sums.{AllPass-from_list_all}
 use Rattle.imkl_model.specs.declared.entry.Class.{Class}
 use Rattle.imkl_model.specs.declared.entry.Enumeration.{Enumeration}
+use Rattle.imkl_model.specs.declared.feature.FeatureInfo.{FeatureInfo}
 use Rattle.imkl_model.specs.declared.feature.ElementType.TheVariants as element
 use Rattle.ocl_base.specs.declared.collection_kind.CollectionKind.TheVariants as kind
 use Rattle.imkl_model.specs.declared.feature.Role.{Role}
 use Rattle.imkl_model.specs.declared.feature.Role.TheVariants as role
+use Rattle.imkl_model.specs.declared.numbering.Scope.{Scope}
 use Rattle.imkl_model.specs.declared.written.Written.{Written}
 use Rattle.imkl_model.specs.declared.written.WrittenEnumeration.{WrittenEnumeration}
 use Rattle.imkl_model.specs.declared.written.WrittenFeature.{WrittenFeature}
+use Rattle.imkl_model.specs.declared.written.WrittenClassRename.{WrittenClassRename}
+use Rattle.imkl_model.specs.declared.written.WrittenFeatureRename.{WrittenFeatureRename}
 use Rattle.ocl_base.specs.Lists.{repeats}
-use Rattle.imkl_model.specs.Limits.{type_limit, feature_limit, bound_limit}
+use Rattle.imkl_model.specs.Limits.{type_limit, feature_limit, rename_limit, bound_limit}
 use Rattle.imkl_model.specs.Words.{is_title, is_predefined, qualified}
 use Rattle.ocl_base.specs.Steps.{◌>>=◌, each}
 use Rattle.imkl_model.specs.Checks as checks
 use Rattle.imkl_model.specs.WrittenFeatures.{written_features}
 use Rattle.imkl_model.specs.Scopes.{scope_of}
-use Rattle.imkl_model.specs.Numbering.{number_in, element_type, collection_kind, kind_of, feature_in_scope, class_in_scope, enumeration_as_written, numbered_model}
+use Rattle.imkl_model.specs.Numbering.{number_in, element_type, collection_kind, kind_of, feature_in_scope, class_in_scope, enumeration_as_written, class_rename_in_scope, feature_rename_in_scope, renames_in_scope, numbered_model}
 use Rattle.imkl_model.specs.Chains as chains
-use Rattle.imkl_model.specs.ClassModel.{Model, supers, class_names, enumeration_names, names_of_enumerations, feature_at, no_feature, has_clash, belongs, is_named}
+use Rattle.imkl_model.specs.ClassModel.{Model, Renames, supers, class_names, enumeration_names, names_of_enumerations, feature_at, no_feature, has_clash, belongs, is_named, conforms, is_own_in}
+use Rattle.imkl_model.specs.Renames.{class_rename_at, no_class_rename, feature_rename_at, no_feature_rename, old_class_names, is_for, renames_clash}
+use Rattle.imkl_model.specs.Held.{alias_of}
+use Rattle.imkl_model.specs.Groups.{AreOwned, AreOfOneOwner}
 use Rattle.imkl_model.specs.Features.{is_end, is_single}
 use Rattle.ocl_base.specs.CollectionKinds.{is_unique_kind}
-use Rattle.imkl_model.specs.WellFormed.{IsClassModel, ArePaired, IsFeature, IsModelName, type_names}
-use Rattle.imkl_model.specs.Spelled.{IsSpelledClass, IsSpelledEnumeration, IsSpelledAssociation}
+use Rattle.imkl_model.specs.WellFormed.{IsClassModel, ArePaired, IsFeature, IsFeatureRename, IsModelName, type_names}
+use Rattle.imkl_model.specs.Spelled.{IsSpelledClass, IsSpelledEnumeration, IsSpelledAssociation, IsSpelledClassRename}
 use Rattle.imkl_model.specs.Drafts.{IsNumbered}
-use Rattle.ocl_base.proofs.ForAbove.{okay, ok_is, both_steps, each_length, each_at, AllOf, all_at, all_mapped, all_joined, from_all}
-use Rattle.imkl_model.proofs.Parts.{differs, number_is, class_names_kept, supers_within, SupersDiffer, supers_differ, enumeration_names_kept}
+use Rattle.ocl_base.proofs.ForAbove.{okay, ok_is, both_steps, each_length, each_at, AllOf, all_at, all_mapped, all_joined, from_all, least_passes}
+use Rattle.imkl_model.proofs.Parts.{differs, number_is, class_names_kept, supers_within, SupersDiffer, supers_differ, enumeration_names_kept, class_rename_is, old_names_kept, feature_rename_is}
 use Rattle.imkl_model.proofs.FeatureParts.{IsFrom, feature_is, attribute_is, source_is, opposite_is, class_within, enumeration_within}
 use Rattle.imkl_model.proofs.Ends.{no_written, at, PairAt, paired, IsUniqueEnd, all_unique, IsSpelledWritten, all_spelled}
 use Rattle.imkl_model.proofs.Repeated.{one_place}
 use Rattle.imkl_model.proofs.Warshall.{in_range, is_or_reaches-decides}
 use Rattle.imkl_model.proofs.ClashLaws.{clash_found, joined, unequal}
+use Rattle.imkl_model.proofs.Doubles.{taken_by_feature, taken_by_entry}
 use Rattle.std.proofs.lemmas.Slice.Eq.{bytes_eq-Decides}
 
 le_of : (a b : ℕ) → leb a b ≡ true → a ≤ b
@@ -49,21 +57,46 @@ pub record Made (w : Written) (m : Model) : Type 0 where
   pub enumerations : m.enumerations ≡ map enumeration_as_written w.enumerations
   pub associations : m.associations ≡ checks.written_association_names w
   pub name : m.name ≡ w.name
+  pub old_classes : each (class_rename_in_scope (scope_of w)) w.class_renames ≡ Ok m.renames.classes
+  pub old_features : each (feature_rename_in_scope (scope_of w) m.features) w.feature_renames ≡ Ok m.renames.features
+
+renames_are : (s : Scope) (fs : List FeatureInfo) (w : Written) (r : Renames) → renames_in_scope s fs w ≡ Ok r
+    → (each (class_rename_in_scope s) w.class_renames ≡ Ok r.classes) × (each (feature_rename_in_scope s fs) w.feature_renames ≡ Ok r.features)
+unfolding renames_in_scope
+renames_are s fs w r e =
+    let p = both_steps (each (class_rename_in_scope s) w.class_renames) (λ classes. each (feature_rename_in_scope s fs) w.feature_renames >>= λ features. Ok (record { classes = classes; features = features })) r e in
+    let q = both_steps (each (feature_rename_in_scope s fs) w.feature_renames) (λ features. Ok (record { classes = p.0; features = features })) r p.2 in
+    let made : Renames = record { classes = p.0; features = q.0 } in
+    let same : made ≡ r = ok_is made r q.2 in
+    (p.1 ∙ ap (λ (x : Renames). okay x.classes) same, q.1 ∙ ap (λ (x : Renames). okay x.features) same)
 
 -- a class model that was numbered has these parts
 pub made_of : (w : Written) (m : Model) → numbered_model w ≡ Ok m → Made w m
 unfolding numbered_model
 made_of w m e =
-    let p = both_steps (each (class_in_scope (scope_of w)) w.classes) (λ classes. each (feature_in_scope (scope_of w)) (written_features w) >>= λ features. Ok (record { name = w.name; enumerations = map enumeration_as_written w.enumerations; classes = classes; features = features; associations = checks.written_association_names w })) m e in
-    let q = both_steps (each (feature_in_scope (scope_of w)) (written_features w)) (λ features. Ok (record { name = w.name; enumerations = map enumeration_as_written w.enumerations; classes = p.0; features = features; associations = checks.written_association_names w })) m p.2 in
-    let built : Model = record { name = w.name; enumerations = map enumeration_as_written w.enumerations; classes = p.0; features = q.0; associations = checks.written_association_names w } in
-    let same : built ≡ m = ok_is built m q.2 in
+    let model : List Class → List FeatureInfo → Renames → Model = λ classes features renames. record {
+      name = w.name;
+      enumerations = map enumeration_as_written w.enumerations;
+      classes = classes;
+      features = features;
+      associations = checks.written_association_names w;
+      renames = renames;
+    } in
+    let s = scope_of w in
+    let p = both_steps (each (class_in_scope s) w.classes) (λ classes. each (feature_in_scope s) (written_features w) >>= λ features. renames_in_scope s features w >>= λ renames. Ok (model classes features renames)) m e in
+    let q = both_steps (each (feature_in_scope s) (written_features w)) (λ features. renames_in_scope s features w >>= λ renames. Ok (model p.0 features renames)) m p.2 in
+    let r = both_steps (renames_in_scope s q.0 w) (λ renames. Ok (model p.0 q.0 renames)) m q.2 in
+    let built : Model = model p.0 q.0 r.0 in
+    let same : built ≡ m = ok_is built m r.2 in
+    let old = renames_are s q.0 w r.0 r.1 in
     record {
       classes = p.1 ∙ ap (λ (x : Model). okay x.classes) same;
       features = q.1 ∙ ap (λ (x : Model). okay x.features) same;
       enumerations = ap (λ (x : Model). x.enumerations) (sym same);
       associations = ap (λ (x : Model). x.associations) (sym same);
       name = ap (λ (x : Model). x.name) (sym same);
+      old_classes = subst (λ (x : Model). each (class_rename_in_scope (scope_of w)) w.class_renames ≡ okay x.renames.classes) same old.0;
+      old_features = subst (λ (x : Model). each (feature_rename_in_scope (scope_of w) x.features) w.feature_renames ≡ okay x.renames.features) same old.1;
     }
 
 -- ---- counts
@@ -73,6 +106,7 @@ pub record IsFew (w : Written) : Type 0 where
   pub enumerations : length w.enumerations ≤ type_limit
   pub literals : list_all (λ e. nat_le (length e.literals) type_limit) w.enumerations ≡ true
   pub features : length (written_features w) ≤ feature_limit
+  pub renames : length w.class_renames + length w.feature_renames ≤ rename_limit
 
 few : (w : Written) → checks.is_within_limits w ≡ true → IsFew w
 unfolding checks.is_within_limits
@@ -80,7 +114,8 @@ few w e =
     let a = nat_le (length w.classes) type_limit in
     let b = nat_le (length w.enumerations) type_limit in
     let l = list_all (λ (e : WrittenEnumeration). nat_le (length e.literals) type_limit) w.enumerations in
-    let p = and_parts (a && b && l) (nat_le (length (written_features w)) feature_limit) e in
+    let z = and_parts (a && b && l && nat_le (length (written_features w)) feature_limit) (nat_le (length w.class_renames + length w.feature_renames) rename_limit) e in
+    let p = and_parts (a && b && l) (nat_le (length (written_features w)) feature_limit) z.0 in
     let q = and_parts (a && b) l p.0 in
     let r = and_parts a b q.0 in
     record {
@@ -88,6 +123,7 @@ few w e =
       enumerations = le_of (length w.enumerations) type_limit r.1;
       literals = q.1;
       features = le_of (length (written_features w)) feature_limit p.1;
+      renames = le_of (length w.class_renames + length w.feature_renames) rename_limit z.1;
     }
 
 -- each enumeration's literals
@@ -202,14 +238,55 @@ module _ (w : Written) (m : Model) (limits : checks.is_within_limits w ≡ true)
       opposite_number : (x y : ℕ) → role.OppositeEnd x ≡ role.OppositeEnd y → x ≡ y
       opposite_number x y h = cc
 
+  -- ---- old names
+
+  old_kept : old_class_names m ≡ checks.written_old_names w
+  old_kept = old_names_kept (scope_of w) w.class_renames m.renames.classes parts.old_classes
+
+  pub renamed_classes : (i : ℕ) → i < length m.renames.classes → (class_rename_at m i).class < length m.classes
+  renamed_classes i lt =
+      let inside = subst (λ (n : ℕ). i < n) (each_length (class_rename_in_scope (scope_of w)) w.class_renames m.renames.classes parts.old_classes) lt in
+      let is = class_rename_is (scope_of w) (get_or w.class_renames i no_class) (class_rename_at m i) (each_at (class_rename_in_scope (scope_of w)) w.class_renames m.renames.classes i no_class no_class_rename parts.old_classes inside) in
+      subst (λ (n : ℕ). (class_rename_at m i).class < n) scope_classes (number_is (scope_of w).classes (get_or w.class_renames i no_class).new (class_rename_at m i).class is.1).0
+    where
+      no_class : WrittenClassRename
+      no_class = record { old = []; new = [] }
+
+  abbrev WrittenAt : ℕ → WrittenFeatureRename
+  WrittenAt i = get_or w.feature_renames i (record { class = []; old = []; new = [] })
+
+  written_inside : (i : ℕ) → IsFeatureRename m i → i < length w.feature_renames
+  written_inside i lt = subst (λ (n : ℕ). i < n) (each_length (feature_rename_in_scope (scope_of w) m.features) w.feature_renames m.renames.features parts.old_features) lt
+
+  entry_is : (i : ℕ) → IsFeatureRename m i
+      → ((feature_rename_at m i).old ≡ (WrittenAt i).old) × (number_in (scope_of w).classes (WrittenAt i).class ≡ Ok (feature_rename_at m i).class)
+      × (IsFeature m (feature_rename_at m i).feature) × ((feature_at m (feature_rename_at m i).feature).owner ≡ (feature_rename_at m i).class)
+  entry_is i lt =
+      let r = feature_rename_at m i in
+      let is = feature_rename_is (scope_of w) m.features (WrittenAt i) r (each_at (feature_rename_in_scope (scope_of w) m.features) w.feature_renames m.renames.features i (record { class = []; old = []; new = [] }) no_feature_rename parts.old_features (written_inside i lt)) in
+      let p : ℕ → Bool = is_own_in m.features (WrittenAt i).new r.class in
+      let own : IfSome (Some r.feature) (λ (f : ℕ). (f < length m.features) × (p f ≡ true)) = subst (λ (o : Option ℕ). IfSome o (λ (f : ℕ). (f < length m.features) × (p f ≡ true))) is.2 (least_passes p (length m.features)) in
+      let parts_of = and_parts (bytes_eq (WrittenAt i).new (feature_at m r.feature).name) (eqb (feature_at m r.feature).owner r.class) own.1 in
+      (is.0, is.1, own.0, (Decides-eqb (feature_at m r.feature).owner r.class).0 parts_of.1)
+
+  pub renamed_owned : AreOwned m.classes (map alias_of m.renames.features)
+  renamed_owned i lt =
+      let inside : IsFeatureRename m i = omega (arith, lt, length-map m.renames.features alias_of) in
+      let here = entry_is i inside in
+      let class = subst (λ (n : ℕ). (feature_rename_at m i).class < n) scope_classes (number_is (scope_of w).classes (WrittenAt i).class (feature_rename_at m i).class here.1).0 in
+      subst (λ (f : FeatureInfo). f.owner < length m.classes) (sym (get_or-map alias_of m.renames.features i no_feature_rename no_feature inside)) class
+
   -- ---- features of a class
 
-  class_known : (c f : ℕ) → IsFeature m f → belongs m c f ≡ true → c < length m.classes
-  class_known c f lt e = chained c (feature_at m f).owner (owned f lt) ((is_or_reaches-decides (supers m) c (feature_at m f).owner).0 e)
+  conforming_known : (c d : ℕ) → d < length m.classes → conforms m c d ≡ true → c < length m.classes
+  conforming_known c d lt e = chained c d lt ((is_or_reaches-decides (supers m) c d).0 e)
     where
       chained : (x y : ℕ) → y < length m.classes → chains.IsOrReaches (supers m) x y → x < length m.classes
       chained x y l (zero, h) = subst (λ (n : ℕ). n < length m.classes) (sym h) l
       chained x y l (suc n, h) = subst (λ (k : ℕ). x < k) (length-map m.classes (λ (k : Class). k.supers)) (in_range (supers m) x h.0 h.1)
+
+  class_known : (c f : ℕ) → IsFeature m f → belongs m c f ≡ true → c < length m.classes
+  class_known c f lt e = conforming_known c (feature_at m f).owner (owned f lt) e
 
   label : (f : ℕ) → IsFeature m f → get_or (checks.feature_names (written_features w)) f [] ≡ qualified (at (written_features w) f).owner (at (written_features w) f).name
   label f lt = get_or-map (λ (d : WrittenFeature). qualified d.owner d.name) (written_features w) f no_written [] (within f lt)
@@ -237,6 +314,31 @@ module _ (w : Written) (m : Model) (limits : checks.is_within_limits w ≡ true)
             let clash = clash_found m c f g (class_known c f lf in_f) lf lg (joined (is_named m (feature_at m f).name g) (not (eqb (feature_at m f).owner (feature_at m g).owner)) (belongs m c f) (belongs m c g) ((bytes_eq-Decides (feature_at m f).name (feature_at m g).name).1 same) apart in_f in_g) in
             absurd (false≢true (sym free ∙ clash))
       ]
+
+  -- no two features of one owner have one name
+  pub owners_apart : (f g : ℕ) → AreOfOneOwner m.features f g → ⊥
+  owners_apart f g h =
+      let same : f ≡ g = one_of_owner f g h.1 (omega (arith, h.0, h.1)) h.3 h.2 in
+      absurd (omega (arith, same, h.0))
+
+  module _ (free : renames_clash m ≡ false) where
+    pub old_or_present : (c i f : ℕ) → IsFeatureRename m i → IsFeature m f → is_for m c i ≡ true → belongs m c f ≡ true → (feature_at m f).name ≡ (feature_rename_at m i).old → ⊥
+    old_or_present c i f li lf for in_f same = false≢true (sym free ∙ taken_by_feature m c i f (class_known c f lf in_f) li lf for in_f same)
+
+    for_class : (c i : ℕ) → IsFeatureRename m i → is_for m c i ≡ true → c < length m.classes
+    for_class c i lt for =
+        let here = entry_is i lt in
+        conforming_known c (feature_rename_at m i).class (subst (λ (k : ℕ). k < length m.classes) here.3 (owned (feature_rename_at m i).feature here.2)) for
+
+    pub one_old_feature : (c i j : ℕ) → IsFeatureRename m i → IsFeatureRename m j → is_for m c i ≡ true → is_for m c j ≡ true → (feature_rename_at m i).old ≡ (feature_rename_at m j).old → i ≡ j
+    one_old_feature c i j li lj for_i for_j same =
+        elim (eqb_tells i j) [
+          | inl one ↦ one.1
+          | inr two ↦ elim (leb_tells i j) [
+            | inl le ↦ absurd (false≢true (sym free ∙ taken_by_entry m c j i (for_class c j lj for_j) lj (omega (arith, le.1, two.1)) for_j for_i (sym same)))
+            | inr less ↦ absurd (false≢true (sym free ∙ taken_by_entry m c i j (for_class c i li for_i) li less.1 for_i for_j same))
+          ]
+        ]
 
   -- ---- bounds
 
@@ -266,9 +368,11 @@ names_of : {X : Type 0} (P : X → Type 0) (f : X → List ℕ) (xs : List X) �
 names_of P f xs step h = all_mapped P IsModelName f step xs (from_all P xs h)
 
 -- a model that was numbered, without a cycle or a clash and with its multiplicities in order, is a class model
-pub well_formed : (m : Model) → IsNumbered m → chains.is_cyclic (supers m) ≡ false → has_clash m ≡ false → list_all checks.has_multiplicity m.features ≡ true → IsClassModel m
-well_formed m n acyclic free bounds =
+pub well_formed : (m : Model) → IsNumbered m → chains.is_cyclic (supers m) ≡ false → (has_clash m || renames_clash m) ≡ false → list_all checks.has_multiplicity m.features ≡ true → IsClassModel m
+well_formed m n acyclic no_clash bounds =
     let w = n.written in
+    let free = (or_parts (has_clash m) (renames_clash m) no_clash).0 in
+    let free_old = (or_parts (has_clash m) (renames_clash m) no_clash).1 in
     let parts = made_of w m n.numbered in
     let counts = few w n.limits in
     let names = differs w n.distinct in
@@ -309,4 +413,14 @@ well_formed m n acyclic free bounds =
       sources = sources w m n.limits n.distinct parts;
       opposites = opposites w m n.limits n.distinct parts;
       one_feature = one_feature w m n.limits n.distinct parts free;
+      few_renames = omega (arith, each_length (class_rename_in_scope scope) w.class_renames m.renames.classes parts.old_classes, each_length (feature_rename_in_scope scope m.features) w.feature_renames m.renames.features parts.old_features, counts.renames);
+      named_old_classes = along IsModelName (checks.written_old_names w) (old_class_names m) (old_kept w m n.limits n.distinct parts) (names_of IsSpelledClassRename (λ r. r.old) w.class_renames (λ r h. h) n.spelled.4);
+      named_old_features = λ i lt. subst IsModelName (sym (entry_is w m n.limits n.distinct parts i lt).0) (n.spelled.5 i (record { class = []; old = []; new = [] }) (written_inside w m n.limits n.distinct parts i lt));
+      old_classes_differ = ap (λ (l : List (List ℕ)). repeats bytes_eq (l ++ old_class_names m)) (types_kept w m n.limits n.distinct parts) ∙ ap (λ (l : List (List ℕ)). repeats bytes_eq ((checks.written_enumeration_names w ++ checks.written_class_names w) ++ l)) (old_kept w m n.limits n.distinct parts) ∙ names.old_types;
+      old_classes_defined = ap (list_any is_predefined) (old_kept w m n.limits n.distinct parts) ∙ names.old_defined;
+      renamed_classes = renamed_classes w m n.limits n.distinct parts;
+      renamed_features = λ i lt. (entry_is w m n.limits n.distinct parts i lt).2;
+      renamed_owners = λ i lt. (entry_is w m n.limits n.distinct parts i lt).3;
+      old_or_present = old_or_present w m n.limits n.distinct parts free_old;
+      one_old_feature = one_old_feature w m n.limits n.distinct parts free_old;
     }

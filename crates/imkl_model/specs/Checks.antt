@@ -1,9 +1,9 @@
 -- The conditions on a class model as it is written.
-use Rattle.std.specs.Prelude.{ℕ, ◌&&◌, ◌||◌, List, ◌++◌, length, map, Bool, true, nat_le, nat_lt, Option, Some, None, bytes_eq}
+use Rattle.std.specs.Prelude.{ℕ, ◌+◌, ◌&&◌, ◌||◌, List, ◌++◌, length, map, Bool, true, nat_le, nat_lt, Option, Some, None, bytes_eq}
 use Rattle.std.specs.List.{list_all, list_any}
 use Rattle.imkl_model.specs.declared.written.Written.{Written}
 use Rattle.ocl_base.specs.Lists.{repeats}
-use Rattle.imkl_model.specs.Limits.{type_limit, feature_limit}
+use Rattle.imkl_model.specs.Limits.{type_limit, feature_limit, rename_limit}
 use Rattle.imkl_model.specs.Words.{is_predefined, qualified}
 use Rattle.imkl_model.specs.WrittenFeatures.{written_features}
 use Rattle.imkl_model.specs.declared.written.WrittenFeature.{WrittenFeature}
@@ -18,20 +18,26 @@ written_class_names w = map (λ c. c.name) w.classes
 abbrev pub written_association_names : Written → List (List ℕ)
 written_association_names w = map (λ a. a.name) w.associations
 
+abbrev pub written_old_names : Written → List (List ℕ)
+written_old_names w = map (λ r. r.old) w.class_renames
+
 abbrev pub feature_names : List WrittenFeature → List (List ℕ)
 feature_names ds = map (λ d. qualified d.owner d.name) ds
 
--- counts of classes, enumerations, literals of each enumeration, and features
+-- counts of classes, enumerations, literals of each enumeration, features, and old names
 unfoldable pub is_within_limits : Written → Bool
 is_within_limits w =
     nat_le (length w.classes) type_limit && nat_le (length w.enumerations) type_limit
     && list_all (λ e. nat_le (length e.literals) type_limit) w.enumerations
     && nat_le (length (written_features w)) feature_limit
+    && nat_le (length w.class_renames + length w.feature_renames) rename_limit
 
--- two classes or enumerations of one name, or one with the name of a predefined type
+-- two classes or enumerations of one name, or one with the name of a predefined type; a class's old name counts as the
+-- name of one more class
 unfoldable pub repeats_type : Written → Bool
 repeats_type w = list_any is_predefined (written_enumeration_names w) || list_any is_predefined (written_class_names w)
-    || repeats bytes_eq (written_enumeration_names w ++ written_class_names w)
+    || list_any is_predefined (written_old_names w)
+    || repeats bytes_eq ((written_enumeration_names w ++ written_class_names w) ++ written_old_names w)
 
 -- two literals of one enumeration with one name
 abbrev pub repeats_literal : Written → Bool

@@ -3,11 +3,21 @@ use Rattle.std.specs.Prelude.{◌≡◌, ◌≢◌, ℕ, ◌==◌, ◌&&◌, ◌
 use Rattle.ocl_base.specs.Numbers.{least}
 use Rattle.imkl_model.specs.declared.entry.Enumeration.{Enumeration}
 use Rattle.imkl_model.specs.declared.entry.Class.{Class}
+use Rattle.imkl_model.specs.declared.entry.ClassRename.{ClassRename}
+use Rattle.imkl_model.specs.declared.entry.FeatureRename.{FeatureRename}
 use Rattle.imkl_model.specs.declared.feature.FeatureInfo.{FeatureInfo}
 use Rattle.imkl_model.specs.declared.feature.ElementType.TheVariants as element
 use Rattle.ocl_base.specs.declared.collection_kind.CollectionKind.TheVariants as kind
 use Rattle.imkl_model.specs.declared.feature.Role.TheVariants as role
 use Rattle.imkl_model.specs.Chains as chains
+
+-- The old names of classes and of features, in the file's order.
+pub record Renames : Type 0 where
+  pub classes : List ClassRename
+  pub features : List FeatureRename
+
+abbrev pub no_renames : Renames
+no_renames = record { classes = []; features = [] }
 
 -- What a class model is. Enumerations, classes, features and associations are numbered by their indices. Features stand
 -- in the model's order: attributes class by class as written, then for each association its source end and its
@@ -18,6 +28,7 @@ pub record Model : Type 0 where
   pub classes : List Class
   pub features : List FeatureInfo
   pub associations : List (List ℕ)
+  pub renames : Renames
 
 abbrev pub no_enumeration : Enumeration
 no_enumeration = record { name = []; literals = [] }
@@ -103,6 +114,13 @@ is_named m name f = is_named_in m.features name f
 -- the first feature of this name that belongs to the class
 abbrev pub feature_number : Model → ℕ → List ℕ → Option ℕ
 feature_number m c name = least (λ f. is_named m name f && belongs m c f) (length m.features)
+
+-- a feature of this name that the class itself owns
+abbrev pub is_own_in : List FeatureInfo → List ℕ → ℕ → ℕ → Bool
+is_own_in features name c f = is_named_in features name f && (feature_in features f).owner == c
+
+abbrev pub own_feature_number : List FeatureInfo → ℕ → List ℕ → Option ℕ
+own_feature_number features c name = least (is_own_in features name c) (length features)
 
 -- ---- clashes
 

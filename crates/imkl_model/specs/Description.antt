@@ -1,10 +1,11 @@
 -- The class model that bytes describe, or their first fault.
-use Rattle.std.specs.Prelude.{◌≡◌, ℕ, List, Result, Ok, Err, not}
+use Rattle.std.specs.Prelude.{◌≡◌, ℕ, ◌||◌, List, Result, Ok, Err, not}
 use Rattle.std.specs.List.{list_all}
 use Rattle.serde_json.specs.Data.{Data}
 use Rattle.imkl_model.specs.declared.fault.ModelFault.{ModelFault}
 use Rattle.imkl_model.specs.declared.fault.ModelFault.TheVariants.{NotJson, DuplicateName, Cycle, FeatureClash, BadMultiplicity, Limit, OutOfMemory}
 use Rattle.imkl_model.specs.ClassModel.{Model, supers, has_clash}
+use Rattle.imkl_model.specs.Renames.{renames_clash}
 use Rattle.imkl_model.specs.Chains.{is_cyclic}
 use Rattle.imkl_model.specs.Json.{IsTree, IsNoTree}
 use Rattle.ocl_base.specs.Steps.{◌>>=◌, check}
@@ -16,7 +17,7 @@ use Rattle.imkl_model.specs.Numbering.{numbered_model}
 unfoldable pub checked_model : Model → Result Model ModelFault
 checked_model m = do
   _ ← check (not (is_cyclic (supers m))) Cycle
-  _ ← check (not (has_clash m)) FeatureClash
+  _ ← check (not (has_clash m || renames_clash m)) FeatureClash
   _ ← check (list_all has_multiplicity m.features) BadMultiplicity
   Ok m
 

@@ -14,6 +14,7 @@ model_of_draft d = record {
   classes = d.classes;
   features = d.features;
   associations = d.associations;
+  renames = d.renames;
 }
 
 -- the class model was numbered from one that is written, within its limits and with names that differ

@@ -3,7 +3,7 @@ use Rattle.std.specs.Prelude.{◌≡◌, ◌⊎◌, IfSome, true, ℕ, ◌<◌, 
 use Rattle.std.specs.List.{list_any}
 use Rattle.imkl_model.specs.declared.entry.Class.{Class}
 use Rattle.imkl_model.specs.declared.feature.FeatureInfo.{FeatureInfo}
-use Rattle.imkl_model.specs.ClassModel.{Model, supers, feature_at, feature_in, belongs, is_named}
+use Rattle.imkl_model.specs.ClassModel.{Model, Renames, no_renames, supers, feature_at, feature_in, belongs, is_named}
 use Rattle.imkl_model.specs.Chains.{any_below, reaches}
 use Rattle.imkl_model.specs.Held.{Group, own_in}
 use Rattle.ocl_base.specs.Numbers.{places}
@@ -16,7 +16,12 @@ model_with classes features = record {
   classes = classes;
   features = features;
   associations = [];
+  renames = no_renames;
 }
+
+-- with old names
+abbrev pub model_renaming : List Class → List FeatureInfo → Renames → Model
+model_renaming classes features renames = record (model_with classes features) { renames = renames }
 
 -- the features with the name of feature f
 abbrev pub group : Model → ℕ → List ℕ
@@ -46,6 +51,18 @@ group_meets m f = begins_with (group m f) f && any_below (λ c. meets m c (group
 -- each feature's owner is a class
 abbrev pub AreOwned : List Class → List FeatureInfo → Type 0
 AreOwned classes features = (f : ℕ) → f < length features → (feature_in features f).owner < length classes
+
+-- each feature's owner is a class, and no class has two features of one name
+pub record AreDistinct (classes : List Class) (features : List FeatureInfo) : Type 0 where
+  pub owners : AreOwned classes features
+  pub one_feature : (c f g : ℕ) → f < length features → g < length features → belongs (model_with classes features) c f ≡ true
+      → belongs (model_with classes features) c g ≡ true → (feature_in features f).name ≡ (feature_in features g).name → f ≡ g
+
+-- two features of one name and one owner
+abbrev pub AreOfOneOwner : List FeatureInfo → ℕ → ℕ → Type 0
+AreOfOneOwner features f g =
+    (g < f) × (f < length features) × ((feature_in features f).name ≡ (feature_in features g).name)
+    × ((feature_in features f).owner ≡ (feature_in features g).owner)
 
 -- what a look-up among the features of one name answers for a class that has none of its own: the first that belongs, or
 -- that of some class above, and none only where no class above has one

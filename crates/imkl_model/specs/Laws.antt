@@ -1,5 +1,5 @@
 -- Laws of class models.
-use Rattle.std.specs.Prelude.{◌≡◌, ◌≢◌, ℕ, ◌<◌, ◌≤◌, ◌↔◌, true, false, [], List, length, slice_index_or, Some, IfSome}
+use Rattle.std.specs.Prelude.{◌≡◌, ◌≢◌, ℕ, ◌+◌, ◌<◌, ◌≤◌, ◌↔◌, true, false, [], List, length, slice_index_or, Some, IfSome}
 use Rattle.imkl_model.specs.declared.feature.ElementType.{ElementType}
 use Rattle.imkl_model.specs.declared.feature.ElementType.TheVariants as element
 use Rattle.ocl_base.specs.declared.collection_kind.CollectionKind.TheVariants as kind
@@ -7,10 +7,11 @@ use Rattle.imkl_model.specs.declared.feature.FeatureInfo.{FeatureInfo}
 use Rattle.imkl_model.specs.declared.feature.Role.TheVariants as role
 use Rattle.imkl_model.specs.Features.{is_attribute, is_end, is_single}
 use Rattle.ocl_base.specs.CollectionKinds.{is_unique_kind}
-use Rattle.imkl_model.specs.Limits.{type_limit, feature_limit, bound_limit}
+use Rattle.imkl_model.specs.Limits.{type_limit, feature_limit, rename_limit, bound_limit}
 use Rattle.imkl_model.specs.Words.{is_title, is_predefined}
 use Rattle.imkl_model.specs.ClassModel.{Model, class_at, enumeration_at, feature_at, conforms, belongs, class_number, enumeration_number, literal_number, feature_number}
-use Rattle.imkl_model.specs.WellFormed.{IsModelName, IsFeature, ArePaired}
+use Rattle.imkl_model.specs.Renames.{renamed_class, renamed_feature, feature_by_names, linked_class, linked_feature, old_class_names, feature_rename_at}
+use Rattle.imkl_model.specs.WellFormed.{IsModelName, IsFeature, IsFeatureRename, ArePaired}
 
 -- ---- conformance, in every model
 
@@ -59,6 +60,35 @@ FeaturesHaveNames m =
     (name : List ℕ) (c f : ℕ)
     → (feature_number m c name ≡ Some f) ↔ (IsFeature m f × (belongs m c f ≡ true) × ((feature_at m f).name ≡ name))
 
+-- ---- old names
+
+-- what a name of a class names, old or present, is there
+abbrev pub LinkedClassesAreThere : Model → Type 0
+LinkedClassesAreThere m = (name : List ℕ) (c : ℕ) → linked_class m name ≡ Some c → c < length m.classes
+
+-- what a class's name and a feature's name name is a feature that belongs to the class
+abbrev pub LinkedFeaturesBelong : Model → Type 0
+LinkedFeaturesBelong m =
+    (class name : List ℕ) (f : ℕ) → linked_feature m class name ≡ Some f
+    → (c : ℕ) × (linked_class m class ≡ Some c) × IsFeature m f × (belongs m c f ≡ true)
+
+-- a present name stays as it is, and names what it names
+abbrev pub PresentClassesStay : Model → Type 0
+PresentClassesStay m =
+    (name : List ℕ) (c : ℕ) → class_number m name ≡ Some c
+    → (renamed_class m name ≡ name) × (linked_class m name ≡ Some c)
+
+abbrev pub PresentFeaturesStay : Model → Type 0
+PresentFeaturesStay m =
+    (class name : List ℕ) (f : ℕ) → feature_by_names m class name ≡ Some f
+    → (renamed_feature m class name ≡ name) × (linked_feature m class name ≡ Some f)
+
+-- every name stays as it is
+abbrev pub NamesStay : Model → Type 0
+NamesStay m =
+    ((name : List ℕ) → renamed_class m name ≡ name)
+    × ((class name : List ℕ) → renamed_feature m class name ≡ name)
+
 -- ---- names differ
 
 -- no name is that of a class and of an enumeration
@@ -96,6 +126,8 @@ pub record HasNames (m : Model) : Type 0 where
   pub literals : (e : ℕ) → e < length m.enumerations → AreNames (literals_at m e)
   pub features : (f : ℕ) → IsFeature m f → IsModelName (feature_at m f).name
   pub associations : AreNames m.associations
+  pub old_classes : AreNames (old_class_names m)
+  pub old_features : (i : ℕ) → IsFeatureRename m i → IsModelName (feature_rename_at m i).old
 
 -- ---- counts
 
@@ -104,6 +136,7 @@ pub record IsWithinLimits (m : Model) : Type 0 where
   pub enumerations : length m.enumerations ≤ type_limit
   pub literals : (e : ℕ) → e < length m.enumerations → length (literals_at m e) ≤ type_limit
   pub features : length m.features ≤ feature_limit
+  pub renames : length m.renames.classes + length m.renames.features ≤ rename_limit
 
 -- ---- features
 

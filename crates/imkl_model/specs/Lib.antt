@@ -6,6 +6,7 @@ pub mod Faults
 pub mod Features
 pub mod Chains
 pub mod ClassModel
+pub mod Renames
 pub mod WellFormed
 pub mod Shape
 pub mod WrittenFeatures

@@ -16,3 +16,7 @@ type_limit = 4096
 -- the greatest count of features, both ends of each association among them
 abbrev pub feature_limit : ℕ
 feature_limit = 65535
+
+-- the greatest count of old names
+abbrev pub rename_limit : ℕ
+rename_limit = 65535

@@ -4,6 +4,8 @@ use Rattle.imkl_model.specs.declared.fault.ModelFault.{ModelFault}
 use Rattle.imkl_model.specs.declared.fault.ModelFault.TheVariants.{UnknownName}
 use Rattle.imkl_model.specs.declared.entry.Enumeration.{Enumeration}
 use Rattle.imkl_model.specs.declared.entry.Class.{Class}
+use Rattle.imkl_model.specs.declared.entry.ClassRename.{ClassRename}
+use Rattle.imkl_model.specs.declared.entry.FeatureRename.{FeatureRename}
 use Rattle.imkl_model.specs.declared.feature.FeatureInfo.{FeatureInfo}
 use Rattle.imkl_model.specs.declared.feature.ElementType.{ElementType}
 use Rattle.imkl_model.specs.declared.feature.ElementType.TheVariants as element
@@ -13,6 +15,8 @@ use Rattle.imkl_model.specs.declared.feature.Role.{Role}
 use Rattle.imkl_model.specs.declared.feature.Role.TheVariants as role
 use Rattle.imkl_model.specs.declared.written.WrittenClass.{WrittenClass}
 use Rattle.imkl_model.specs.declared.written.WrittenEnumeration.{WrittenEnumeration}
+use Rattle.imkl_model.specs.declared.written.WrittenClassRename.{WrittenClassRename}
+use Rattle.imkl_model.specs.declared.written.WrittenFeatureRename.{WrittenFeatureRename}
 use Rattle.imkl_model.specs.declared.written.Written.{Written}
 use Rattle.ocl_base.specs.Steps.{◌>>=◌, found, each}
 use Rattle.imkl_model.specs.WrittenFeatures.{written_features}
@@ -21,7 +25,7 @@ use Rattle.imkl_model.specs.Checks.{written_association_names}
 use Rattle.imkl_model.specs.declared.numbering.Scope.{Scope}
 use Rattle.imkl_model.specs.Scopes.{scope_of}
 use Rattle.imkl_model.specs.Features.{is_single}
-use Rattle.imkl_model.specs.ClassModel.{Model}
+use Rattle.imkl_model.specs.ClassModel.{Model, Renames, own_feature_number}
 
 -- the number of a name, else UnknownName
 abbrev pub number_in : List (List ℕ) → List ℕ → Result ℕ ModelFault
@@ -80,15 +84,36 @@ class_in_scope s c = do
 abbrev pub enumeration_as_written : WrittenEnumeration → Enumeration
 enumeration_as_written e = record { name = e.name; literals = e.literals }
 
+unfoldable pub class_rename_in_scope : Scope → WrittenClassRename → Result ClassRename ModelFault
+class_rename_in_scope s r = do
+  class ← number_in s.classes r.new
+  Ok (record { old = r.old; class = class })
+
+-- the class itself owns the feature
+unfoldable pub feature_rename_in_scope : Scope → List FeatureInfo → WrittenFeatureRename → Result FeatureRename ModelFault
+feature_rename_in_scope s features r = do
+  class ← number_in s.classes r.class
+  feature ← found (own_feature_number features class r.new) UnknownName
+  Ok (record { class = class; old = r.old; feature = feature })
+
+-- the old names, of the classes of a scope and of these features
+unfoldable pub renames_in_scope : Scope → List FeatureInfo → Written → Result Renames ModelFault
+renames_in_scope s features w = do
+  old_classes ← each (class_rename_in_scope s) w.class_renames
+  old_features ← each (feature_rename_in_scope s features) w.feature_renames
+  Ok (record { classes = old_classes; features = old_features })
+
 -- the class model with numbers for names
 unfoldable pub numbered_model : Written → Result Model ModelFault
 numbered_model w = do
   classes ← each (class_in_scope (scope_of w)) w.classes
   features ← each (feature_in_scope (scope_of w)) (written_features w)
+  renames ← renames_in_scope (scope_of w) features w
   Ok (record {
     name = w.name;
     enumerations = map enumeration_as_written w.enumerations;
     classes = classes;
     features = features;
     associations = written_association_names w;
+    renames = renames;
   })

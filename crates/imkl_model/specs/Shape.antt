@@ -1,6 +1,6 @@
 -- What a JSON tree has to look like, and the class model that it writes. One function for each row of the format's table:
 -- an object has exactly the members that its function reads.
-use Rattle.std.specs.Prelude.{ℕ, List, Option, Some, None, Result, Ok, Err, nat_le, if◌then◌else◌, codes}
+use Rattle.std.specs.Prelude.{ℕ, ◌+◌, List, [], ◌∷◌, ◌++◌, Option, Some, None, is_some, Result, Ok, Err, nat_le, if◌then◌else◌, codes}
 use Rattle.serde_json.specs.Data.{Data, null}
 use Rattle.serde_json.specs.Find.{get, as_str, as_bool}
 use Rattle.imkl_model.specs.declared.fault.ModelFault.{ModelFault}
@@ -10,11 +10,15 @@ use Rattle.imkl_model.specs.declared.written.WrittenClass.{WrittenClass}
 use Rattle.imkl_model.specs.declared.written.WrittenEnumeration.{WrittenEnumeration}
 use Rattle.imkl_model.specs.declared.written.WrittenEnd.{WrittenEnd}
 use Rattle.imkl_model.specs.declared.written.WrittenAssociation.{WrittenAssociation}
+use Rattle.imkl_model.specs.declared.written.WrittenClassRename.{WrittenClassRename}
+use Rattle.imkl_model.specs.declared.written.WrittenFeatureRename.{WrittenFeatureRename}
+use Rattle.imkl_model.specs.declared.written.WrittenRename.{WrittenRename}
+use Rattle.imkl_model.specs.declared.written.WrittenRename.TheVariants as renames
 use Rattle.imkl_model.specs.declared.written.Written.{Written}
 use Rattle.ocl_base.specs.Steps.{◌>>=◌, found, each}
 use Rattle.imkl_model.specs.Limits.{bound_limit}
 use Rattle.imkl_model.specs.Words.{is_model_name, is_title}
-use Rattle.imkl_model.specs.Json.{record_from, list_from, natural_from}
+use Rattle.imkl_model.specs.Json.{record_from, list_from, natural_from, member_count}
 
 -- the class model's own name
 unfoldable pub title_from : Data → Result (List ℕ) ModelFault
@@ -111,9 +115,57 @@ association_from d = do
   opposite ← end_from o
   Ok (record { name = name; from = from; to = to; end = end; opposite = opposite })
 
+unfoldable pub class_rename_from : Data → Result WrittenRename ModelFault
+class_rename_from d = do
+  _ ← found (record_from 2 d) Shape
+  o ← found (get (codes "old") d) Shape
+  old ← name_from o
+  n ← found (get (codes "new") d) Shape
+  new ← name_from n
+  Ok (renames.Class (record { old = old; new = new }))
+
+unfoldable pub feature_rename_from : Data → Result WrittenRename ModelFault
+feature_rename_from d = do
+  _ ← found (record_from 3 d) Shape
+  c ← found (get (codes "class") d) Shape
+  class ← name_from c
+  o ← found (get (codes "old") d) Shape
+  old ← name_from o
+  n ← found (get (codes "new") d) Shape
+  new ← name_from n
+  Ok (renames.Feature (record { class = class; old = old; new = new }))
+
+-- an old name with a class is a feature's, and one without is a class's
+unfoldable pub rename_from : Data → Result WrittenRename ModelFault
+rename_from d = if is_some (get (codes "class") d) then feature_rename_from d else class_rename_from d
+
+-- the old names: an optional member
+abbrev pub renames_in : Option Data → Result (List WrittenRename) ModelFault
+renames_in None = Ok []
+renames_in (Some r) = do
+  rs ← found (list_from r) Shape
+  each rename_from rs
+
+abbrev pub class_rename_of : WrittenRename → List WrittenClassRename
+class_rename_of (renames.Class r) = r ∷ []
+class_rename_of (renames.Feature r) = []
+
+abbrev pub feature_rename_of : WrittenRename → List WrittenFeatureRename
+feature_rename_of (renames.Class r) = []
+feature_rename_of (renames.Feature r) = r ∷ []
+
+-- those of classes, and those of features
+abbrev pub class_renames_of : List WrittenRename → List WrittenClassRename
+class_renames_of [] = []
+class_renames_of (r ∷ rs) = class_rename_of r ++ class_renames_of rs
+
+abbrev pub feature_renames_of : List WrittenRename → List WrittenFeatureRename
+feature_renames_of [] = []
+feature_renames_of (r ∷ rs) = feature_rename_of r ++ feature_renames_of rs
+
 unfoldable pub written_from : Data → Result Written ModelFault
 written_from d = do
-  _ ← found (record_from 4 d) Shape
+  _ ← found (record_from (4 + member_count (codes "renames") d) d) Shape
   n ← found (get (codes "model") d) Shape
   name ← title_from n
   e ← found (get (codes "enums") d) Shape
@@ -125,4 +177,12 @@ written_from d = do
   a ← found (get (codes "associations") d) Shape
   as' ← found (list_from a) Shape
   associations ← each association_from as'
-  Ok (record { name = name; enumerations = enumerations; classes = classes; associations = associations })
+  rs ← renames_in (get (codes "renames") d)
+  Ok (record {
+    name = name;
+    enumerations = enumerations;
+    classes = classes;
+    associations = associations;
+    class_renames = class_renames_of rs;
+    feature_renames = feature_renames_of rs;
+  })

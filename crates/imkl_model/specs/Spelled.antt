@@ -8,6 +8,10 @@ use Rattle.imkl_model.specs.declared.written.WrittenClass.{WrittenClass}
 use Rattle.imkl_model.specs.declared.written.WrittenEnumeration.{WrittenEnumeration}
 use Rattle.imkl_model.specs.declared.written.WrittenEnd.{WrittenEnd}
 use Rattle.imkl_model.specs.declared.written.WrittenAssociation.{WrittenAssociation}
+use Rattle.imkl_model.specs.declared.written.WrittenClassRename.{WrittenClassRename}
+use Rattle.imkl_model.specs.declared.written.WrittenFeatureRename.{WrittenFeatureRename}
+use Rattle.imkl_model.specs.declared.written.WrittenRename.{WrittenRename}
+use Rattle.imkl_model.specs.declared.written.WrittenRename.TheVariants as renames
 use Rattle.imkl_model.specs.declared.written.Written.{Written}
 
 abbrev pub IsSmallUpper : Option ℕ → Type 0
@@ -32,7 +36,18 @@ IsSpelledEnd e = IsSpelledFeature e.name e.lower e.upper
 abbrev pub IsSpelledAssociation : WrittenAssociation → Type 0
 IsSpelledAssociation a = IsModelName a.name × IsSpelledEnd a.end × IsSpelledEnd a.opposite
 
+abbrev pub IsSpelledClassRename : WrittenClassRename → Type 0
+IsSpelledClassRename r = IsModelName r.old
+
+abbrev pub IsSpelledFeatureRename : WrittenFeatureRename → Type 0
+IsSpelledFeatureRename r = IsModelName r.old
+
+abbrev pub IsSpelledRename : WrittenRename → Type 0
+IsSpelledRename (renames.Class r) = IsSpelledClassRename r
+IsSpelledRename (renames.Feature r) = IsSpelledFeatureRename r
+
 abbrev pub IsSpelled : Written → Type 0
 IsSpelled w =
     (is_title w.name ≡ true) × All IsSpelledEnumeration w.enumerations × All IsSpelledClass w.classes
-    × All IsSpelledAssociation w.associations
+    × All IsSpelledAssociation w.associations × All IsSpelledClassRename w.class_renames
+    × All IsSpelledFeatureRename w.feature_renames

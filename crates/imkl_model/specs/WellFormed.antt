@@ -1,20 +1,25 @@
 -- What every class model keeps.
-use Rattle.std.specs.Prelude.{◌≡◌, ℕ, suc, ◌<◌, ◌≤◌, ◌++◌, true, false, List, length, nat_eq, All, Some, bytes_eq}
+use Rattle.std.specs.Prelude.{◌≡◌, ℕ, suc, ◌+◌, ◌<◌, ◌≤◌, ◌++◌, true, false, List, length, nat_eq, All, Some, bytes_eq}
 use Rattle.std.specs.List.{list_any}
 use Rattle.ocl_base.specs.Lists.{repeats}
 use Rattle.imkl_model.specs.declared.feature.ElementType.TheVariants as element
 use Rattle.ocl_base.specs.declared.collection_kind.CollectionKind.TheVariants as kind
 use Rattle.imkl_model.specs.declared.feature.Role.TheVariants as role
-use Rattle.imkl_model.specs.Limits.{type_limit, feature_limit, bound_limit}
+use Rattle.imkl_model.specs.Limits.{type_limit, feature_limit, rename_limit, bound_limit}
 use Rattle.imkl_model.specs.Words.{is_model_name, is_title, is_predefined}
 use Rattle.imkl_model.specs.Chains.{is_cyclic}
 use Rattle.imkl_model.specs.Features.{is_end}
 use Rattle.ocl_base.specs.CollectionKinds.{is_unique_kind}
 use Rattle.imkl_model.specs.ClassModel.{Model, supers, class_names, enumeration_names, feature_at, belongs}
+use Rattle.imkl_model.specs.Renames.{old_class_names, class_rename_at, feature_rename_at, is_for}
 
 -- a feature of the model
 abbrev pub IsFeature : Model → ℕ → Type 0
 IsFeature m f = f < length m.features
+
+-- an entry for a feature that had another name
+abbrev pub IsFeatureRename : Model → ℕ → Type 0
+IsFeatureRename m i = i < length m.renames.features
 
 abbrev pub IsModelName : List ℕ → Type 0
 IsModelName name = is_model_name name ≡ true
@@ -39,12 +44,15 @@ pub record IsClassModel (m : Model) : Type 0 where
   pub few_enumerations : length m.enumerations ≤ type_limit
   pub few_literals : All (λ e. length e.literals ≤ type_limit) m.enumerations
   pub few_features : length m.features ≤ feature_limit
+  pub few_renames : length m.renames.classes + length m.renames.features ≤ rename_limit
   -- names are names
   pub title : is_title m.name ≡ true
   pub named_types : All IsModelName (type_names m)
   pub named_literals : All (λ e. All IsModelName e.literals) m.enumerations
   pub named_features : (f : ℕ) → IsFeature m f → IsModelName (feature_at m f).name
   pub named_associations : All IsModelName m.associations
+  pub named_old_classes : All IsModelName (old_class_names m)
+  pub named_old_features : (i : ℕ) → IsFeatureRename m i → IsModelName (feature_rename_at m i).old
   -- names differ
   pub types_differ : repeats bytes_eq (type_names m) ≡ false
   pub types_defined : list_any is_predefined (type_names m) ≡ false
@@ -72,3 +80,15 @@ pub record IsClassModel (m : Model) : Type 0 where
   -- no two features of a class have one name
   pub one_feature : (c f g : ℕ) → IsFeature m f → IsFeature m g → belongs m c f ≡ true → belongs m c g ≡ true
       → (feature_at m f).name ≡ (feature_at m g).name → f ≡ g
+  -- old names: no class's is the name of a type or another class's old name, and of the features of a class, by present
+  -- names and by old ones, no two have one name
+  pub old_classes_differ : repeats bytes_eq (type_names m ++ old_class_names m) ≡ false
+  pub old_classes_defined : list_any is_predefined (old_class_names m) ≡ false
+  pub renamed_classes : (i : ℕ) → i < length m.renames.classes → (class_rename_at m i).class < length m.classes
+  pub renamed_features : (i : ℕ) → IsFeatureRename m i → IsFeature m (feature_rename_at m i).feature
+  pub renamed_owners : (i : ℕ) → IsFeatureRename m i
+      → (feature_at m (feature_rename_at m i).feature).owner ≡ (feature_rename_at m i).class
+  pub old_or_present : (c i f : ℕ) → IsFeatureRename m i → IsFeature m f → is_for m c i ≡ true → belongs m c f ≡ true
+      → (feature_at m f).name ≡ (feature_rename_at m i).old → ⊥
+  pub one_old_feature : (c i j : ℕ) → IsFeatureRename m i → IsFeatureRename m j → is_for m c i ≡ true
+      → is_for m c j ≡ true → (feature_rename_at m i).old ≡ (feature_rename_at m j).old → i ≡ j

@@ -1,8 +1,8 @@
 //! Features that belong to a class.
 
 ghost use Rattle.std.specs.Prelude.{◌≡◌, ◌<◌, length, find, All, IfSome};
-ghost use Rattle.imkl_model.specs.ClassModel.{belongs};
-ghost use Rattle.imkl_model.specs.Groups.{model_with, AreOwned, IsInherited};
+ghost use Rattle.imkl_model.specs.ClassModel.{belongs, feature_number};
+ghost use Rattle.imkl_model.specs.Groups.{model_with, AreOwned, AreDistinct, IsInherited};
 
 use crate::class_table::ClassTable;
 use crate::feature_group::FeatureGroup;
@@ -49,4 +49,22 @@ pub(crate) fn inherited(
     }
     let owner = classes.above(class).common(owners)?;
     group.own(ClassNo::new(owner))
+}
+
+/// The feature of this name that belongs to the class: its own, or else that of a class above it.
+pub(crate) fn feature_of(
+    classes: &ClassTable,
+    features: &FeatureTable,
+    class: ClassNo,
+    name: &str,
+) -> Option<FeatureNo>
+    requires class { class < length classes.now }
+    requires distinct { AreDistinct classes.now features.now }
+    ensures { result ≡ feature_number (model_with classes.now features.now) class name.now }
+{
+    let group = features.group(name)?;
+    match group.own(class) {
+        Some(own) => Some(own),
+        None => inherited(classes, features, class, group),
+    }
 }

@@ -15,6 +15,9 @@ const TYPE_LIMIT: usize = 4_096;
 /// The greatest count of features.
 const FEATURE_LIMIT: usize = 65_535;
 
+/// The greatest count of old names.
+const RENAME_LIMIT: usize = 65_535;
+
 fn few_literals(enumerations: &[WrittenEnumeration]) -> bool
     ensures { result ≡ list_all (λ e. nat_le (length e.literals) type_limit) enumerations.now }
 {
@@ -34,10 +37,13 @@ pub(crate) fn is_within_limits(written: &Written, features: &[WrittenFeature]) -
 {
     let classes = written.classes.as_slice();
     let enumerations = written.enumerations.as_slice();
+    let old_classes = written.class_renames.as_slice();
+    let old_features = written.feature_renames.as_slice();
     classes.len() <= TYPE_LIMIT
         && enumerations.len() <= TYPE_LIMIT
         && few_literals(enumerations)
         && features.len() <= FEATURE_LIMIT
+        && old_classes.len().saturating_add(old_features.len()) <= RENAME_LIMIT
 }
 
 fn is_multiplicity(lower: u32, upper: Option<u32>) -> bool

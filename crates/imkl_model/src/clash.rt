@@ -1,15 +1,18 @@
 //! Features of one name and different owners that belong to one class.
 
-ghost use Rattle.std.specs.Prelude.{◌≡◌, ◌<◌, length, All, IfOk};
+ghost use Rattle.std.specs.Prelude.{◌≡◌, ◌<◌, ◌++◌, ◌||◌, ℕ, length, map, All, IfOk, OnOk, Decides};
 ghost use Rattle.imkl_model.specs.Chains.{any_below};
 ghost use Rattle.imkl_model.specs.ClassModel.{has_clash};
-ghost use Rattle.imkl_model.specs.Groups.{model_with, begins_with, meets, group_meets, AreOwned};
-ghost use Rattle.imkl_model.specs.Held.{AreDescendants};
+ghost use Rattle.imkl_model.specs.Renames.{renames_clash};
+ghost use Rattle.imkl_model.specs.Groups.{model_with, model_renaming, begins_with, meets, group_meets, AreOwned, AreOfOneOwner};
+ghost use Rattle.imkl_model.specs.Held.{AreDescendants, alias_of};
 
 use crate::class_table::ClassTable;
 use crate::descendants::descendants;
+use crate::feature::FeatureInfo;
 use crate::feature_table::FeatureTable;
 use crate::numbers::FeatureNo;
+use crate::rename_table::RenameTable;
 use crate::row::Row;
 use std::alloc::{AllocError, Global};
 
@@ -85,7 +88,7 @@ fn group_meets(
 
 /// Whether two features of one name and different owners belong to one class. The features of each name are looked at
 /// once, with the first of them.
-pub(crate) fn has_clash(
+fn has_clash(
     alloc: Global,
     classes: &ClassTable,
     features: &FeatureTable,
@@ -100,4 +103,79 @@ pub(crate) fn has_clash(
         }
     }
     Ok(false)
+}
+
+/// Whether an earlier feature has the name and the owner of this one.
+fn is_repeated(features: &FeatureTable, number: FeatureNo) -> bool
+    requires { number < length features.now }
+    ensures { Decides result ((g : ℕ) × AreOfOneOwner features.now number g) }
+{
+    let feature = features.at(number);
+    match features.own(feature.owner, feature.name.as_str()) {
+        Some(first) => first.index() < number.index(),
+        None => false,
+    }
+}
+
+/// Whether two features have one name and one owner.
+fn repeats_own(features: &FeatureTable) -> bool
+    ensures { Decides result ((f g : ℕ) × AreOfOneOwner features.now f g) }
+{
+    for number in 0..features.len() {
+        if is_repeated(features, FeatureNo::new(number)) {
+            return true;
+        }
+    }
+    false
+}
+
+fn push_copies(
+    alloc: Global,
+    copies: &mut Vec<FeatureInfo>,
+    features: &[FeatureInfo],
+) -> Result<(), AllocError>
+    ensures { OnOk result (copies.new.items ≡ copies.old.items ++ features.now) }
+{
+    for feature in features {
+        copies.push(feature.copy(alloc)?)?;
+    }
+    Ok(())
+}
+
+/// The features by their present names, then by old ones.
+fn by_all_names(
+    alloc: Global,
+    features: &FeatureTable,
+    renames: &RenameTable,
+) -> Result<Vec<FeatureInfo>, AllocError>
+    ensures { IfOk result (λ v. v.items ≡ features.now ++ map alias_of renames.now.features) }
+{
+    let mut all = Vec::new(alloc);
+    push_copies(alloc, &mut all, features.entries())?;
+    push_copies(alloc, &mut all, renames.aliases().entries())?;
+    Ok(all)
+}
+
+/// Whether features clash, by their present names or by old ones.
+pub(crate) fn names_clash(
+    alloc: Global,
+    classes: &ClassTable,
+    features: &FeatureTable,
+    renames: &RenameTable,
+) -> Result<bool, AllocError>
+    requires features { AreOwned classes.now features.now }
+    requires renames { AreOwned classes.now (map alias_of renames.now.features) }
+    requires distinct { (f g : ℕ) → AreOfOneOwner features.now f g → ⊥ }
+    ensures { let m = model_renaming classes.now features.now renames.now in
+        IfOk result (λ b. b ≡ (has_clash m || renames_clash m)) }
+{
+    if renames.features().len() == 0 {
+        return has_clash(alloc, classes, features);
+    }
+    let named = by_all_names(alloc, features, renames)?;
+    let all = FeatureTable::new(alloc, named, classes.len())?;
+    if repeats_own(&all) {
+        return Ok(true);
+    }
+    has_clash(alloc, classes, &all)
 }

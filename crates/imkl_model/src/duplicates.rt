@@ -7,11 +7,13 @@ ghost use Rattle.imkl_model.specs.Words.{is_predefined, qualified};
 ghost use Rattle.imkl_model.specs.Checks.{repeats_type, repeats_literal, repeats_super, repeats_association, repeats_feature, repeats_name, feature_names};
 ghost use Rattle.imkl_model.specs.WrittenFeatures.{written_features};
 
+use crate::entry::ClassRename;
 use crate::name::Name;
 use crate::names::Names;
 use crate::words::is_predefined;
 use crate::written::{
-    Written, WrittenAssociation, WrittenClass, WrittenEnumeration, WrittenFeature,
+    Written, WrittenAssociation, WrittenClass, WrittenClassRename, WrittenEnumeration,
+    WrittenFeature,
 };
 use std::alloc::{AllocError, Global};
 
@@ -56,6 +58,22 @@ impl Named for WrittenAssociation {
 
     fn text(&self, alloc: Global) -> Result<String, AllocError> {
         String::from_str(alloc, self.name.as_str())
+    }
+}
+
+impl Named for WrittenClassRename {
+    ghost label = { λ r. r.old };
+
+    fn text(&self, alloc: Global) -> Result<String, AllocError> {
+        String::from_str(alloc, self.old.as_str())
+    }
+}
+
+impl Named for ClassRename {
+    ghost label = { λ r. r.old };
+
+    fn text(&self, alloc: Global) -> Result<String, AllocError> {
+        String::from_str(alloc, self.old.as_str())
     }
 }
 
@@ -134,19 +152,36 @@ fn predefined_class(classes: &[WrittenClass]) -> bool
     false
 }
 
-/// Whether two classes or enumerations have one name, or one that of a predefined type.
+fn predefined_rename(renames: &[WrittenClassRename]) -> bool
+    ensures { result ≡ list_any is_predefined (map (λ r. r.old) renames.now) }
+{
+    for rename in renames {
+        if is_predefined(rename.old.as_str()) {
+            return true;
+        }
+    }
+    false
+}
+
+/// Whether two classes or enumerations have one name, or one that of a predefined type. A class's old name counts as the
+/// name of one more class.
 #[tactic(auto, unfolding(crate::specs::Checks::repeats_type))]
 fn repeats_type(alloc: Global, written: &Written) -> Result<bool, AllocError>
     ensures { IfOk result (λ b. b ≡ repeats_type written.now) }
 {
     let enumerations = written.enumerations.as_slice();
     let classes = written.classes.as_slice();
-    if predefined_enumeration(enumerations) || predefined_class(classes) {
+    let renames = written.class_renames.as_slice();
+    if predefined_enumeration(enumerations)
+        || predefined_class(classes)
+        || predefined_rename(renames)
+    {
         return Ok(true);
     }
     let mut texts = Vec::new(alloc);
     push_texts(alloc, &mut texts, enumerations)?;
     push_texts(alloc, &mut texts, classes)?;
+    push_texts(alloc, &mut texts, renames)?;
     let found = Names::of(alloc, texts.as_slice())?;
     Ok(found.is_none())
 }

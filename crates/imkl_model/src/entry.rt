@@ -3,7 +3,7 @@
 use crate::items::Items;
 use crate::name::Name;
 use crate::names::Names;
-use crate::numbers::ClassNo;
+use crate::numbers::{ClassNo, FeatureNo};
 
 /// An enumeration, with its literals as written.
 #[derive(Drop)]
@@ -21,4 +21,22 @@ pub struct Class {
     pub is_abstract: bool,
     /// The numbers of its direct superclasses.
     pub supers: Items<ClassNo>,
+}
+
+/// A class that had another name.
+#[derive(Drop)]
+pub struct ClassRename {
+    /// The name that the class had.
+    pub old: Name,
+    pub class: ClassNo,
+}
+
+/// A feature that had another name, in its owner and in each class that conforms to it.
+#[derive(Drop)]
+pub struct FeatureRename {
+    /// The feature's owner.
+    pub class: ClassNo,
+    /// The name that the feature had.
+    pub old: Name,
+    pub feature: FeatureNo,
 }

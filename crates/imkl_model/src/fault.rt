@@ -18,22 +18,24 @@ pub enum ModelFault {
     /// type, a name is no identifier, is reserved or too long, or a bound isn't a whole number from 0 to 1,000,000.
     #[error("not the shape of a class model")]
     Shape,
-    /// A name is repeated where names must differ, or a class or enumeration has the name of a predefined type.
+    /// A name is repeated where names must differ, or a class or enumeration has the name of a predefined type. A class's
+    /// old name counts as the name of one more class.
     #[error("a name stands twice")]
     DuplicateName,
-    /// A superclass, an attribute's type or an association's class isn't there.
+    /// A superclass, an attribute's type or an association's class isn't there, or what has an old name isn't.
     #[error("a name is unknown")]
     UnknownName,
     /// A class reaches itself by one or more superclass steps.
     #[error("a class is above itself")]
     Cycle,
-    /// Two features of one name and different owners belong to one class.
+    /// Two features of one name and different owners belong to one class, or a class has two features of one name where
+    /// old names count too.
     #[error("two features of one name belong to one class")]
     FeatureClash,
     /// A lower bound is above its upper bound, or an upper bound is 0.
     #[error("a multiplicity that nothing meets")]
     BadMultiplicity,
-    /// There are too many classes, enumerations, literals of one enumeration or features.
+    /// There are too many classes, enumerations, literals of one enumeration, features or old names.
     #[error("too large a class model")]
     Limit,
     /// Memory ran out.

@@ -3,12 +3,12 @@
 ghost use Rattle.std.specs.Prelude.{◌≡◌, ◌<◌, length, unwrap_or, IfOk};
 ghost use Rattle.std.specs.Option.{option_copied};
 ghost use Rattle.std.specs.BTreeMap.{get_by_text};
-ghost use Rattle.imkl_model.specs.ClassModel.{feature_in};
+ghost use Rattle.imkl_model.specs.ClassModel.{feature_in, own_feature_number};
 ghost use Rattle.imkl_model.specs.Held.{IsGroup, AreGroups, no_group};
 
 use crate::feature::FeatureInfo;
 use crate::feature_group::FeatureGroup;
-use crate::numbers::FeatureNo;
+use crate::numbers::{ClassNo, FeatureNo};
 use std::alloc::{AllocError, Global};
 use std::collections::BTreeMap;
 use std::marker::Model;
@@ -64,6 +64,13 @@ impl FeatureTable {
         ensures { result.now ≡ feature_in self.now feature }
     {
         &self.features[feature.index()]
+    }
+
+    /// The feature of this name that the class itself owns.
+    pub(crate) fn own(&self, class: ClassNo, name: &str) -> Option<FeatureNo>
+        ensures { result ≡ own_feature_number self.now class name.now }
+    {
+        self.group(name)?.own(class)
     }
 
     /// The group of the features of this name, if there are any.

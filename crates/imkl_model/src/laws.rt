@@ -2,7 +2,8 @@
 
 ghost use Rattle.std.specs.Prelude.{◌≡◌, false, List, ℕ, Decides};
 ghost use Rattle.imkl_model.specs.Chains.{IsCyclic, is_cyclic};
-ghost use Rattle.imkl_model.specs.ClassModel.{Model, Conforms, conforms, IsClash, has_clash};
+ghost use Rattle.imkl_model.specs.ClassModel.{Model, no_renames, Conforms, conforms, IsClash, has_clash};
+ghost use Rattle.imkl_model.specs.Renames.{renames_clash};
 ghost use Rattle.imkl_model.specs.WellFormed.{IsClassModel};
 ghost use Rattle.imkl_model.specs.Laws as laws;
 
@@ -40,6 +41,16 @@ pub fn names_and_numbers()
     ensures features { (m : Model) → IsClassModel m → laws.FeaturesHaveNames m }
 {}
 
+/// What a name names, old or present, is there. A present name stays as it is whatever old names there are, and without old
+/// names every name does.
+pub fn old_names()
+    ensures classes { (m : Model) → IsClassModel m → laws.LinkedClassesAreThere m }
+    ensures features { (m : Model) → IsClassModel m → laws.LinkedFeaturesBelong m }
+    ensures present_classes { (m : Model) → IsClassModel m → laws.PresentClassesStay m }
+    ensures present_features { (m : Model) → IsClassModel m → laws.PresentFeaturesStay m }
+    ensures none { (m : Model) → m.renames ≡ no_renames → laws.NamesStay m }
+{}
+
 /// Names differ where they must, and are names.
 pub fn names()
     ensures types { (m : Model) → IsClassModel m → laws.TypesDiffer m }
@@ -52,6 +63,7 @@ pub fn names()
 /// A class model has no clash and is within its limits, its features are sound, and its ends are paired.
 pub fn class_models()
     ensures clash { (m : Model) → IsClassModel m → has_clash m ≡ false }
+    ensures old_names { (m : Model) → IsClassModel m → renames_clash m ≡ false }
     ensures limits { (m : Model) → IsClassModel m → laws.IsWithinLimits m }
     ensures features { (m : Model) → IsClassModel m → laws.FeaturesAreSound m }
     ensures ends { (m : Model) → IsClassModel m → laws.EndsArePaired m }

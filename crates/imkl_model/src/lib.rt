@@ -26,6 +26,8 @@ mod names;
 mod numbering;
 mod numbers;
 mod reading;
+mod rename_table;
+mod renames;
 mod row;
 mod same;
 mod sorted_texts;

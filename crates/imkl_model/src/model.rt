@@ -2,15 +2,16 @@
 
 ghost use Rattle.std.specs.Prelude.{◌≡◌, ◌<◌, [], true, length, Decides, IfOk, IfSome, slice_index_or};
 ghost use Rattle.imkl_model.specs.ClassModel.{Conforms, conforms, belongs, enumeration_at, class_at, feature_at, class_number, enumeration_number, literal_number, feature_number};
+ghost use Rattle.imkl_model.specs.Renames.{linked_class, linked_feature};
 ghost use Rattle.imkl_model.specs.WellFormed.{IsClassModel};
 ghost use Rattle.ocl_base.specs.Steps.{Gives};
 ghost use Rattle.imkl_model.specs.Faults.{model_fault};
 ghost use Rattle.imkl_model.specs.Drafts.{IsNumbered, model_of_draft};
 ghost use Rattle.imkl_model.specs.Description.{ModelAnswers, checked_model};
 
-use crate::belonging::inherited;
+use crate::belonging::feature_of;
 use crate::checks::have_multiplicities;
-use crate::clash::has_clash;
+use crate::clash::names_clash;
 use crate::class_table::ClassTable;
 use crate::draft::Draft;
 use crate::enumeration_table::EnumerationTable;
@@ -21,6 +22,7 @@ use crate::items::Items;
 use crate::name::Name;
 use crate::numbers::{ClassNo, EnumNo, FeatureNo, LiteralNo};
 use crate::reading::read;
+use crate::rename_table::RenameTable;
 use crate::same::all_same;
 use std::alloc::Global;
 use std::marker::Model;
@@ -37,6 +39,7 @@ pub struct ClassModel {
     classes: ClassTable,
     features: FeatureTable,
     associations: Items<Name>,
+    renames: RenameTable,
 }
 
 impl Model for ClassModel {
@@ -51,6 +54,7 @@ impl Model for ClassModel {
       classes = m.classes;
       features = m.features;
       associations = m.associations;
+      renames = m.renames;
     } };
 
     ghost invariant = { λ m. IsClassModel (record {
@@ -59,6 +63,7 @@ impl Model for ClassModel {
       classes = m.classes;
       features = m.features;
       associations = m.associations;
+      renames = m.renames;
     }) };
 }
 
@@ -209,10 +214,30 @@ impl ClassModel {
         ensures belongs { IfSome result (λ f. belongs self.now class f ≡ true) }
         ensures named { IfSome result (λ f. (feature_at self.now f).name ≡ name.now) }
     {
-        let group = self.features.group(name)?;
-        match group.own(class) {
-            Some(own) => Some(own),
-            None => inherited(&self.classes, &self.features, class, group),
+        feature_of(&self.classes, &self.features, class, name)
+    }
+
+    /// The class of this name, which may be an old one.
+    pub fn linked_class(&self, name: &str) -> Option<ClassNo>
+        ensures number { result ≡ linked_class self.now name.now }
+        ensures in_range { IfSome result (λ c. c < length self.now.classes) }
+    {
+        match self.renames.class(name) {
+            Some(class) => Some(class),
+            None => self.class(name),
+        }
+    }
+
+    /// The feature of this name that belongs to the class of this name. Either name may be an old one; an old name of a
+    /// feature holds for its owner and for each class that conforms to the owner.
+    pub fn linked_feature(&self, class: &str, name: &str) -> Option<FeatureNo>
+        ensures number { result ≡ linked_feature self.now class.now name.now }
+        ensures in_range { IfSome result (λ f. f < length self.now.features) }
+    {
+        let class = self.linked_class(class)?;
+        match self.renames.feature(&self.classes, class, name) {
+            Some(feature) => Some(feature),
+            None => self.feature(class, name),
         }
     }
 
@@ -225,6 +250,8 @@ impl ClassModel {
             && all_same(self.classes.entries(), other.classes.entries())
             && all_same(self.features.entries(), other.features.entries())
             && all_same(self.associations.as_slice(), other.associations.as_slice())
+            && all_same(self.renames.classes(), other.renames.classes())
+            && all_same(self.renames.features(), other.renames.features())
     }
 
     /// The class model of a draft, after the checks over numbers.
@@ -236,7 +263,7 @@ impl ClassModel {
         if draft.classes.is_cyclic() {
             return Err(ModelFault::Cycle);
         }
-        if has_clash(alloc, &draft.classes, &draft.features)? {
+        if names_clash(alloc, &draft.classes, &draft.features, &draft.renames)? {
             return Err(ModelFault::FeatureClash);
         }
         if !have_multiplicities(draft.features.entries()) {
@@ -248,6 +275,7 @@ impl ClassModel {
             classes: draft.classes,
             features: draft.features,
             associations: draft.associations,
+            renames: draft.renames,
         })
     }
 

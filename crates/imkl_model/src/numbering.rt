@@ -8,18 +8,20 @@ ghost use Rattle.imkl_model.specs.Faults.{model_fault};
 ghost use Rattle.imkl_model.specs.Checks.{written_class_names, written_enumeration_names, written_association_names};
 ghost use Rattle.imkl_model.specs.WrittenFeatures.{written_features};
 ghost use Rattle.imkl_model.specs.Scopes.{scope_of};
-ghost use Rattle.imkl_model.specs.Numbering.{number_in, scalar_type, element_type, kind_of, collection_kind, feature_in_scope, class_in_scope, enumeration_as_written};
+ghost use Rattle.imkl_model.specs.Numbering.{number_in, scalar_type, element_type, kind_of, collection_kind, feature_in_scope, class_in_scope, enumeration_as_written, class_rename_in_scope, feature_rename_in_scope};
 
 use crate::duplicates::distinct_names;
-use crate::entry::{Class, Enumeration};
+use crate::entry::{Class, ClassRename, Enumeration, FeatureRename};
 use crate::fault::ModelFault;
 use crate::feature::{ElementType, FeatureInfo, Role, is_single};
+use crate::feature_table::FeatureTable;
 use crate::items::Items;
 use crate::name::Name;
 use crate::names::Names;
 use crate::numbers::{ClassNo, EnumNo};
 use crate::written::{
-    Written, WrittenAssociation, WrittenClass, WrittenEnumeration, WrittenFeature,
+    Written, WrittenAssociation, WrittenClass, WrittenClassRename, WrittenEnumeration,
+    WrittenFeature, WrittenFeatureRename,
 };
 use ocl_base::CollectionKind;
 use std::alloc::{AllocError, Global};
@@ -220,6 +222,72 @@ pub(crate) fn association_names(
     let mut found = Vec::new(alloc);
     for association in associations {
         found.push(association.name.copy(alloc)?)?;
+    }
+    Ok(found)
+}
+
+#[tactic(auto, unfolding(crate::specs::Numbering::class_rename_in_scope))]
+fn class_rename_of(
+    alloc: Global,
+    scope: &Scope,
+    rename: &WrittenClassRename,
+) -> Result<ClassRename, ModelFault>
+    ensures { Gives model_fault (λ r. r) result (class_rename_in_scope scope.now rename.now) }
+{
+    let class = class_in(scope, &rename.new)?;
+    let old = rename.old.copy(alloc)?;
+    Ok(ClassRename { old, class })
+}
+
+pub(crate) fn class_renames_of(
+    alloc: Global,
+    scope: &Scope,
+    renames: &[WrittenClassRename],
+) -> Result<Vec<ClassRename>, ModelFault>
+    ensures { Gives model_fault (λ v. v.items) result
+        (each (class_rename_in_scope scope.now) renames.now) }
+{
+    let mut found = Vec::new(alloc);
+    for rename in renames {
+        found.push(class_rename_of(alloc, scope, rename)?)?;
+    }
+    Ok(found)
+}
+
+#[tactic(auto, unfolding(crate::specs::Numbering::feature_rename_in_scope))]
+fn feature_rename_of(
+    alloc: Global,
+    scope: &Scope,
+    features: &FeatureTable,
+    rename: &WrittenFeatureRename,
+) -> Result<FeatureRename, ModelFault>
+    ensures { Gives model_fault (λ r. r) result
+        (feature_rename_in_scope scope.now features.now rename.now) }
+{
+    let class = class_in(scope, &rename.class)?;
+    let feature = features
+        .own(class, rename.new.as_str())
+        .ok_or(ModelFault::UnknownName)?;
+    let old = rename.old.copy(alloc)?;
+    Ok(FeatureRename {
+        class,
+        old,
+        feature,
+    })
+}
+
+pub(crate) fn feature_renames_of(
+    alloc: Global,
+    scope: &Scope,
+    features: &FeatureTable,
+    renames: &[WrittenFeatureRename],
+) -> Result<Vec<FeatureRename>, ModelFault>
+    ensures { Gives model_fault (λ v. v.items) result
+        (each (feature_rename_in_scope scope.now features.now) renames.now) }
+{
+    let mut found = Vec::new(alloc);
+    for rename in renames {
+        found.push(feature_rename_of(alloc, scope, features, rename)?)?;
     }
     Ok(found)
 }

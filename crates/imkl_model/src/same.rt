@@ -2,7 +2,7 @@
 
 ghost use Rattle.std.specs.Prelude.{◌≡◌, Decides};
 
-use crate::entry::{Class, Enumeration};
+use crate::entry::{Class, ClassRename, Enumeration, FeatureRename};
 use crate::feature::FeatureInfo;
 use crate::name::Name;
 use crate::names::Names;
@@ -54,6 +54,18 @@ impl Same for Class {
 impl Same for Enumeration {
     fn is_same(&self, other: &Enumeration) -> bool {
         self.name.same_as(&other.name) && self.literals.same_as(&other.literals)
+    }
+}
+
+impl Same for ClassRename {
+    fn is_same(&self, other: &ClassRename) -> bool {
+        self.old.same_as(&other.old) && self.class == other.class
+    }
+}
+
+impl Same for FeatureRename {
+    fn is_same(&self, other: &FeatureRename) -> bool {
+        self.class == other.class && self.old.same_as(&other.old) && self.feature == other.feature
     }
 }
 

@@ -1,7 +1,7 @@
 //! From a JSON tree to the class model that it writes.
 
-ghost use Rattle.std.specs.Prelude.{◌≡◌, ◌≤◌, true, map, IfOk, IfSome};
-ghost use Rattle.imkl_model.specs.Spelled.{IsSpelledAttribute, IsSpelledClass, IsSpelledEnumeration, IsSpelledEnd, IsSpelledAssociation, IsSpelled};
+ghost use Rattle.std.specs.Prelude.{◌≡◌, ◌≤◌, true, map, All, IfOk, IfSome, codes};
+ghost use Rattle.imkl_model.specs.Spelled.{IsSpelledAttribute, IsSpelledClass, IsSpelledEnumeration, IsSpelledEnd, IsSpelledAssociation, IsSpelledRename, IsSpelled};
 ghost use Rattle.serde_json.specs.View.{view, members_view};
 ghost use Rattle.serde_json.specs.Find.{get, as_str, as_bool};
 ghost use Rattle.ocl_base.specs.Steps.{Gives, found};
@@ -11,16 +11,18 @@ ghost use Rattle.imkl_model.specs.Words.{is_title};
 ghost use Rattle.imkl_model.specs.WellFormed.{IsModelName};
 ghost use Rattle.imkl_model.specs.Faults.{model_fault};
 ghost use Rattle.imkl_model.specs.Json.{list_from, record_from, natural_from};
-ghost use Rattle.imkl_model.specs.Shape.{title_from, name_from, lower_from, upper_from, attribute_from, class_from, enumeration_from, end_from, association_from, written_from};
+ghost use Rattle.imkl_model.specs.Shape.{title_from, name_from, lower_from, upper_from, attribute_from, class_from, enumeration_from, end_from, association_from, class_rename_from, feature_rename_from, rename_from, renames_in, written_from};
 
 use crate::each::{Spelled, each_of};
 use crate::fault::ModelFault;
 use crate::items::Items;
-use crate::json::{list_of, record_of};
+use crate::json::{list_of, member_count, record_of};
 use crate::name::Name;
+use crate::renames::{class_renames, feature_renames};
 use crate::words::{is_model_name, is_title};
 use crate::written::{
-    Written, WrittenAssociation, WrittenAttribute, WrittenClass, WrittenEnd, WrittenEnumeration,
+    Written, WrittenAssociation, WrittenAttribute, WrittenClass, WrittenClassRename, WrittenEnd,
+    WrittenEnumeration, WrittenFeatureRename, WrittenRename,
 };
 use serde_json::{Map, Value};
 use std::alloc::Global;
@@ -207,6 +209,52 @@ fn association_of(alloc: Global, value: &Value) -> Result<WrittenAssociation, Mo
     })
 }
 
+#[tactic(auto, unfolding(crate::specs::Shape::class_rename_from))]
+fn class_rename_of(alloc: Global, value: &Value) -> Result<WrittenRename, ModelFault>
+    ensures tree { Gives model_fault (λ r. r) result (class_rename_from (view value.now)) }
+    ensures fits { IfOk result IsSpelledRename }
+{
+    record(value, 2)?;
+    let old = name_of(alloc, member(value, "old")?)?;
+    let new = name_of(alloc, member(value, "new")?)?;
+    Ok(WrittenRename::Class(WrittenClassRename { old, new }))
+}
+
+#[tactic(auto, unfolding(crate::specs::Shape::feature_rename_from))]
+fn feature_rename_of(alloc: Global, value: &Value) -> Result<WrittenRename, ModelFault>
+    ensures tree { Gives model_fault (λ r. r) result (feature_rename_from (view value.now)) }
+    ensures fits { IfOk result IsSpelledRename }
+{
+    record(value, 3)?;
+    let class = name_of(alloc, member(value, "class")?)?;
+    let old = name_of(alloc, member(value, "old")?)?;
+    let new = name_of(alloc, member(value, "new")?)?;
+    Ok(WrittenRename::Feature(WrittenFeatureRename { class, old, new }))
+}
+
+#[tactic(auto, unfolding(crate::specs::Shape::rename_from))]
+fn rename_of(alloc: Global, value: &Value) -> Result<WrittenRename, ModelFault>
+    ensures tree { Gives model_fault (λ r. r) result (rename_from (view value.now)) }
+    ensures fits { IfOk result IsSpelledRename }
+{
+    match value.get("class") {
+        Some(_) => feature_rename_of(alloc, value),
+        None => class_rename_of(alloc, value),
+    }
+}
+
+/// The old names that a JSON tree writes: an optional member.
+fn renames_of(alloc: Global, value: &Value) -> Result<Vec<WrittenRename>, ModelFault>
+    ensures tree { Gives model_fault (λ v. v.items) result
+        (renames_in (get (codes "renames") (view value.now))) }
+    ensures fits { IfOk result (λ v. All IsSpelledRename v.items) }
+{
+    match value.get("renames") {
+        Some(renames) => each_of::<WrittenRename>(alloc, list(renames)?),
+        None => Ok(Vec::new(alloc)),
+    }
+}
+
 impl Spelled for Name {
     ghost use Rattle.imkl_model.specs.Shape.{name_from};
     ghost use Rattle.imkl_model.specs.WellFormed.{IsModelName};
@@ -272,21 +320,39 @@ impl Spelled for WrittenAssociation {
     }
 }
 
+impl Spelled for WrittenRename {
+    ghost use Rattle.imkl_model.specs.Shape.{rename_from};
+    ghost use Rattle.imkl_model.specs.Spelled.{IsSpelledRename};
+
+    ghost spelled = { rename_from };
+
+    ghost fits = { IsSpelledRename };
+
+    fn of(alloc: Global, value: &Value) -> Result<Self, ModelFault> {
+        rename_of(alloc, value)
+    }
+}
+
 /// The class model that a JSON tree writes.
 #[tactic(auto, unfolding(crate::specs::Shape::written_from))]
 pub(crate) fn written_of(alloc: Global, value: &Value) -> Result<Written, ModelFault>
     ensures tree { Gives model_fault (λ w. w) result (written_from (view value.now)) }
     ensures fits { IfOk result IsSpelled }
 {
-    record(value, 4)?;
+    record(value, 4 + member_count(value, "renames"))?;
     let name = title_of(alloc, member(value, "model")?)?;
     let enumerations = each_of::<WrittenEnumeration>(alloc, list(member(value, "enums")?)?)?;
     let classes = each_of::<WrittenClass>(alloc, list(member(value, "classes")?)?)?;
     let associations = each_of::<WrittenAssociation>(alloc, list(member(value, "associations")?)?)?;
+    let renames = renames_of(alloc, value)?;
+    let old_classes = class_renames(alloc, &renames)?;
+    let old_features = feature_renames(alloc, &renames)?;
     Ok(Written {
         name,
         enumerations: Items::new(enumerations),
         classes: Items::new(classes),
         associations: Items::new(associations),
+        class_renames: Items::new(old_classes),
+        feature_renames: Items::new(old_features),
     })
 }

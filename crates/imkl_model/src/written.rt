@@ -66,6 +66,35 @@ pub struct WrittenAssociation {
     pub opposite: WrittenEnd,
 }
 
+/// An old name of a class.
+#[derive(Debug, Drop)]
+pub struct WrittenClassRename {
+    /// The name that the class had.
+    pub old: Name,
+    /// The name of the class.
+    pub new: Name,
+}
+
+/// An old name of a feature.
+#[derive(Debug, Drop)]
+pub struct WrittenFeatureRename {
+    /// The name of the class that owns the feature.
+    pub class: Name,
+    /// The name that the feature had.
+    pub old: Name,
+    /// The name of the feature.
+    pub new: Name,
+}
+
+/// An old name.
+#[derive(Debug, Drop)]
+pub enum WrittenRename {
+    /// Of a class.
+    Class(WrittenClassRename),
+    /// Of a feature.
+    Feature(WrittenFeatureRename),
+}
+
 /// A class model.
 #[derive(Debug, Drop)]
 pub struct Written {
@@ -74,6 +103,10 @@ pub struct Written {
     pub enumerations: Items<WrittenEnumeration>,
     pub classes: Items<WrittenClass>,
     pub associations: Items<WrittenAssociation>,
+    /// The old names of classes.
+    pub class_renames: Items<WrittenClassRename>,
+    /// The old names of features.
+    pub feature_renames: Items<WrittenFeatureRename>,
 }
 
 /// A feature with names for its owner and its type: an attribute, or an end of an association.

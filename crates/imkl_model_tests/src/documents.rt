@@ -62,6 +62,18 @@ pub(crate) fn outcome_with(
     Ok(outcome_of(alloc, text.as_bytes()))
 }
 
+/// What reading a class model with one enumeration `E`, these classes and these old names gives.
+pub(crate) fn outcome_with_old(
+    alloc: Global,
+    classes: &str,
+    renames: &str,
+) -> Result<&'static str, AllocError> {
+    let text = format!(in alloc;
+        r#"{{"model":"m","enums":[{{"name":"E","literals":["l"]}}],"classes":[{classes}],"associations":[],"renames":[{renames}]}}"#
+    )?;
+    Ok(outcome_of(alloc, text.as_bytes()))
+}
+
 /// A class with its superclasses and its attributes.
 pub(crate) fn class(
     alloc: Global,

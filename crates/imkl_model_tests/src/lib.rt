@@ -12,4 +12,6 @@ mod faults;
 #[cfg(test)]
 mod limits;
 #[cfg(test)]
+mod renames;
+#[cfg(test)]
 mod trees;

@@ -1,6 +1,6 @@
 //! Each limit: a class model at it is read, and one past it is refused.
 
-use crate::documents::{attribute, class, outcome_of, outcome_with};
+use crate::documents::{attribute, class, outcome_of, outcome_with, outcome_with_old};
 use std::alloc::{AllocError, Global};
 use std::test::Fail;
 
@@ -103,6 +103,28 @@ fn shape_comes_before_limit_and_limit_before_duplicates(rt: HostRuntime) -> Resu
     let second = r#"{"name":"C0","abstract":false,"supers":[],"attributes":[]}"#;
     assert!(rt; outcome_of_last(rt.alloc(), no_class)? == "Shape");
     assert!(rt; outcome_of_last(rt.alloc(), second)? == "Limit");
+    Ok(())
+}
+
+const OLD_FEATURE: &str = r##"{"class":"A","old":"o#","new":"x"}"##;
+
+/// The outcome of a class `A` with one attribute and so many old names of it, and this entry after them.
+fn outcome_of_renames(alloc: Global, count: usize, last: &str) -> Result<&'static str, AllocError> {
+    let attribute = attribute(alloc, "x", "0", "1")?;
+    let class = class(alloc, "A", "", attribute.as_str())?;
+    let entries = repeated(alloc, count, OLD_FEATURE)?;
+    let entries = format!(in alloc; "{entries},{last}")?;
+    outcome_with_old(alloc, class.as_str(), entries.as_str())
+}
+
+#[test]
+fn old_names(rt: HostRuntime) -> Result<(), Fail> {
+    let class = r#"{"old":"O","new":"A"}"#;
+    let duplicate = r#"{"old":"A","new":"A"}"#;
+    assert!(rt; outcome_of_renames(rt.alloc(), 65_534, class)? == "read");
+    assert!(rt; outcome_of_renames(rt.alloc(), 65_535, class)? == "Limit");
+    assert!(rt; outcome_of_renames(rt.alloc(), 65_535, duplicate)? == "Limit");
+    assert!(rt; outcome_of_renames(rt.alloc(), 65_534, duplicate)? == "DuplicateName");
     Ok(())
 }
 

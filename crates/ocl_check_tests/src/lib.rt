@@ -26,6 +26,8 @@ mod outputs;
 #[cfg(test)]
 mod refusals;
 #[cfg(test)]
+mod renames;
+#[cfg(test)]
 mod text_rows;
 #[cfg(test)]
 mod texts;

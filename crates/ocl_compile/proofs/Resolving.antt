@@ -10,8 +10,9 @@ use Rattle.std.proofs.lemmas.Option.{slice_get-map, slice_get-get_or}
 use Rattle.std.proofs.lemmas.Slice.Eq.{bytes_eq-Decides}
 use Rattle.ocl_base.specs.Lists.{is_among}
 use Rattle.imkl_model.specs.ClassModel.{Model, class_at, enumeration_at, feature_at, class_number, enumeration_number, feature_number, literal_number, belongs}
+use Rattle.imkl_model.specs.Renames.{renamed_class, renamed_feature, linked_class, feature_by_names}
 use Rattle.imkl_model.specs.WellFormed.{IsClassModel}
-use Rattle.imkl_model.proofs.ForAbove.{conforms_to_itself, classes_have_names, enumerations_have_names, literals_have_names, features_have_names}
+use Rattle.imkl_model.proofs.ForAbove.{conforms_to_itself, classes_have_names, enumerations_have_names, literals_have_names, features_have_names, present_classes_stay, present_features_stay}
 use Rattle.ocl_base.specs.declared.collection_kind.CollectionKind.{CollectionKind}
 use Rattle.ocl_kinds.specs.declared.kind.ScalarKind.{ScalarKind}
 use Rattle.ocl_kinds.specs.declared.kind.ScalarKind.TheVariants as element
@@ -237,18 +238,27 @@ text_stands n t h =
 module _ (m : Model) (model : IsClassModel m) (n : Numbering) (rs : List CheckedRule) where
   symbol_stands : (x : Named) → IsNamedIn m x → AllByRecursion (HasText n) (names_of_symbol m x) → named_by m n.texts (translate_symbol m n x) ≡ Some x
   symbol_stands (named.Class c) there h =
-      ap (λ (t : List ℕ). option_map named.Class (class_number m t)) (text_stands n (class_at m c).name h.0)
-      ∙ ap (option_map named.Class) ((classes_have_names m model (class_at m c).name c).1 (there, refl))
+      let number = (classes_have_names m model (class_at m c).name c).1 (there, refl) in
+      ap (λ (t : List ℕ). option_map named.Class (linked_class m t)) (text_stands n (class_at m c).name h.0)
+      ∙ ap (option_map named.Class) (present_classes_stay m model (class_at m c).name c number).1
   symbol_stands (named.Enumeration e) there h =
       ap (λ (t : List ℕ). option_map named.Enumeration (enumeration_number m t)) (text_stands n (enumeration_at m e).name h.0)
       ∙ ap (option_map named.Enumeration) ((enumerations_have_names m model (enumeration_at m e).name e).1 (there, refl))
   symbol_stands (named.Feature c f) there h =
       let owned : belongs m c f ≡ true = subst (λ (k : ℕ). belongs m k f ≡ true) (sym there.1) (conforms_to_itself m (feature_at m f).owner) in
       let inside : c < length m.classes = subst (λ (k : ℕ). k < length m.classes) (sym there.1) (model.known_owners f there.0) in
-      ap (λ (t : List ℕ). option_and_then (λ class. option_map (named.Feature class) (feature_number m class (text_at n.texts (text_number n (feature_at m f).name)))) (class_number m t)) (text_stands n (class_at m c).name h.0)
-      ∙ ap (λ (o : Option ℕ). option_and_then (λ class. option_map (named.Feature class) (feature_number m class (text_at n.texts (text_number n (feature_at m f).name)))) o) ((classes_have_names m model (class_at m c).name c).1 (inside, refl))
-      ∙ ap (λ (t : List ℕ). option_map (named.Feature c) (feature_number m c t)) (text_stands n (feature_at m f).name h.1.0)
-      ∙ ap (option_map (named.Feature c)) ((features_have_names m model (feature_at m f).name c f).1 (there.0, owned, refl))
+      let class = (class_at m c).name in
+      let name = (feature_at m f).name in
+      let text = text_at n.texts (text_number n name) in
+      let class_is = (classes_have_names m model class c).1 (inside, refl) in
+      let feature_is = (features_have_names m model name c f).1 (there.0, owned, refl) in
+      let both : feature_by_names m class name ≡ Some f = ap (λ (o : Option ℕ). option_and_then (λ k. feature_number m k name) o) class_is ∙ feature_is in
+      ap (λ (t : List ℕ). option_and_then (λ k. option_map (named.Feature k) (feature_number m k (renamed_feature m (renamed_class m t) text))) (class_number m (renamed_class m t))) (text_stands n class h.0)
+      ∙ ap (λ (t : List ℕ). option_and_then (λ k. option_map (named.Feature k) (feature_number m k (renamed_feature m t text))) (class_number m t)) (present_classes_stay m model class c class_is).0
+      ∙ ap (λ (o : Option ℕ). option_and_then (λ k. option_map (named.Feature k) (feature_number m k (renamed_feature m class text))) o) class_is
+      ∙ ap (λ (t : List ℕ). option_map (named.Feature c) (feature_number m c (renamed_feature m class t))) (text_stands n name h.1.0)
+      ∙ ap (λ (t : List ℕ). option_map (named.Feature c) (feature_number m c t)) (present_features_stay m model class name f both).0
+      ∙ ap (option_map (named.Feature c)) feature_is
   symbol_stands (named.Literal e l) there h =
       ap (λ (t : List ℕ). option_and_then (λ enumeration. option_map (named.Literal enumeration) (literal_number m enumeration (text_at n.texts (text_number n (literal_name m e l))))) (enumeration_number m t)) (text_stands n (enumeration_at m e).name h.0)
       ∙ ap (λ (o : Option ℕ). option_and_then (λ enumeration. option_map (named.Literal enumeration) (literal_number m enumeration (text_at n.texts (text_number n (literal_name m e l))))) o) ((enumerations_have_names m model (enumeration_at m e).name e).1 (there.0, refl))

@@ -3,6 +3,7 @@ use Rattle.std.proofs.Common.{◌≡◌, ℕ, true, false, List, Option, Some, N
 use Rattle.std.specs.Prelude.{is_some, slice_get, option_and_then}
 use Rattle.std.specs.Option.{option_map, option_map_or}
 use Rattle.imkl_model.specs.ClassModel.{Model, class_number, enumeration_number, feature_number, literal_number}
+use Rattle.imkl_model.specs.Renames.{renamed_class, renamed_feature}
 use Rattle.rule_code.specs.declared.symbol.Symbol.{Symbol}
 use Rattle.rule_code.specs.declared.symbol.Symbol.TheVariants as symbols
 use Rattle.rule_code.specs.declared.symbol.SymbolTag.{SymbolTag}
@@ -51,9 +52,9 @@ literal_found (Some e) g h = by_literal (g e) h
     by_literal None h = cc
 
 by_symbol : (m : Model) (texts : List (List ℕ)) (tag : SymbolTag) (s : Symbol) → has_tag tag s ≡ true → is_some (named_by m texts s) ≡ true → Found tag (named_by m texts s)
-by_symbol m texts tags.Class (symbols.Class c) t h = class_found (class_number m (text_at texts c.0)) h
+by_symbol m texts tags.Class (symbols.Class c) t h = class_found (class_number m (renamed_class m (text_at texts c.0))) h
 by_symbol m texts tags.Enumeration (symbols.Enumeration e) t h = enumeration_found (enumeration_number m (text_at texts e.0)) h
-by_symbol m texts tags.Feature (symbols.Feature c f) t h = feature_found (class_number m (text_at texts c.0)) (λ class. feature_number m class (text_at texts f.0)) h
+by_symbol m texts tags.Feature (symbols.Feature c f) t h = feature_found (class_number m (renamed_class m (text_at texts c.0))) (λ class. feature_number m class (renamed_feature m (renamed_class m (text_at texts c.0)) (text_at texts f.0))) h
 by_symbol m texts tags.Literal (symbols.Literal e l) t h = literal_found (enumeration_number m (text_at texts e.0)) (λ d. literal_number m d (text_at texts l.0)) h
 by_symbol m texts tag s t h = cc
 

@@ -7,3 +7,4 @@ pub mod Walking
 pub mod WalkingBlocks
 pub mod CheckedRules
 pub mod ForAbove
+pub mod OldSymbols

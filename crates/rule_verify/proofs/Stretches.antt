@@ -7,6 +7,7 @@ use Rattle.std.proofs.lemmas.List.{length-map, length-take, take-take, drop-drop
 use Rattle.std.proofs.lemmas.Option.{IfSome_then, get_or_from_slice_get}
 use Rattle.std.proofs.lemmas.List.Quantifiers.{position-Some}
 use Rattle.imkl_model.specs.ClassModel.{Model, class_number, enumeration_number, feature_number, literal_number, class_names, enumeration_names, enumeration_at, is_named, belongs}
+use Rattle.imkl_model.specs.Renames.{renamed_class, renamed_feature, linked_class}
 use Rattle.ocl_base.proofs.ForAbove.{least_passes}
 use Rattle.rule_code.specs.declared.symbol.Symbol.{Symbol}
 use Rattle.rule_code.specs.declared.symbol.Symbol.TheVariants as symbols
@@ -55,12 +56,13 @@ feature_known m c name =
 
 by_symbol : (m : Model) (texts : List (List ℕ)) (s : Symbol) → IfSome (named_by m texts s) (IsKnownName m)
 by_symbol m texts (symbols.Class c) =
-    if_map (class_number m (text_at texts c.0)) named.Class (λ k. k < length m.classes) (IsKnownName m) (class_known m (text_at texts c.0)) (λ k h. h)
+    if_map (linked_class m (text_at texts c.0)) named.Class (λ k. k < length m.classes) (IsKnownName m) (class_known m (renamed_class m (text_at texts c.0))) (λ k h. h)
 by_symbol m texts (symbols.Enumeration e) =
     if_map (enumeration_number m (text_at texts e.0)) named.Enumeration (λ k. k < length m.enumerations) (IsKnownName m) (enumeration_known m (text_at texts e.0)) (λ k h. h)
 by_symbol m texts (symbols.Feature c f) =
-    if_then (class_number m (text_at texts c.0)) (λ class. option_map (named.Feature class) (feature_number m class (text_at texts f.0))) (λ k. k < length m.classes) (IsKnownName m) (class_known m (text_at texts c.0))
-    (λ class h. if_map (feature_number m class (text_at texts f.0)) (named.Feature class) (λ k. (k < length m.features) × (belongs m class k ≡ true)) (IsKnownName m) (feature_known m class (text_at texts f.0)) (λ k g. (h, g.0, g.1)))
+    let name = renamed_feature m (renamed_class m (text_at texts c.0)) (text_at texts f.0) in
+    if_then (linked_class m (text_at texts c.0)) (λ class. option_map (named.Feature class) (feature_number m class name)) (λ k. k < length m.classes) (IsKnownName m) (class_known m (renamed_class m (text_at texts c.0)))
+    (λ class h. if_map (feature_number m class name) (named.Feature class) (λ k. (k < length m.features) × (belongs m class k ≡ true)) (IsKnownName m) (feature_known m class name) (λ k g. (h, g.0, g.1)))
 by_symbol m texts (symbols.Literal e l) =
     if_then (enumeration_number m (text_at texts e.0)) (λ d. option_map (named.Literal d) (literal_number m d (text_at texts l.0))) (λ k. k < length m.enumerations) (IsKnownName m) (enumeration_known m (text_at texts e.0))
     (λ d h. if_map (literal_number m d (text_at texts l.0)) (named.Literal d) (λ k. k < length (enumeration_at m d).literals) (IsKnownName m) (position_within (text_at texts l.0) (enumeration_at m d).literals) (λ k g. (h, g)))

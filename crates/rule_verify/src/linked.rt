@@ -35,14 +35,14 @@ impl<'m> Model for Linked<'m> {
         map (named_by l.model.now (content l.unit).texts) (content l.unit).symbols };
 }
 
-/// What a symbol of a unit names in a class model, if it is there.
+/// What a symbol of a unit names in a class model, by present names or by old ones, if it is there.
 pub(crate) fn look_up(model: &ClassModel, unit: &Unit, symbol: Symbol) -> Option<Named>
     requires { SymbolFits (length (content unit.now).texts) symbol }
     ensures { result ≡ named_by model.now (content unit.now).texts symbol }
 {
     match symbol {
         Symbol::Class(class) => {
-            let class = model.class(unit.text(class))?;
+            let class = model.linked_class(unit.text(class))?;
             Some(Named::Class(class))
         }
         Symbol::Enumeration(enumeration) => {
@@ -50,9 +50,9 @@ pub(crate) fn look_up(model: &ClassModel, unit: &Unit, symbol: Symbol) -> Option
             Some(Named::Enumeration(enumeration))
         }
         Symbol::Feature { class, feature } => {
-            let class = model.class(unit.text(class))?;
-            let feature = model.feature(class, unit.text(feature))?;
-            Some(Named::Feature(class, feature))
+            let owner = model.linked_class(unit.text(class))?;
+            let feature = model.linked_feature(unit.text(class), unit.text(feature))?;
+            Some(Named::Feature(owner, feature))
         }
         Symbol::Literal {
             enumeration,
