@@ -123,18 +123,29 @@ fn orders_of_faults(rt: HostRuntime) -> Result<(), Fail> {
     Ok(())
 }
 
+/// A row has the outcome, and the members of a document after its first four.
+const MEMBERS: &str = r#"read|"renames":[]
+Shape|"renames":{}
+Shape|"renames":null
+Shape|"renames":[],"more":1
+Shape|"more":[]"#;
+
+fn has_members(alloc: Global, row: &str) -> Result<bool, AllocError> {
+    let Some((outcome, members)) = row.split_once("|") else {
+        return Ok(false);
+    };
+    let text = format!(in alloc;
+        r#"{{"model":"m","enums":[],"classes":[],"associations":[],{members}}}"#
+    )?;
+    Ok(outcome_of(alloc, text.as_bytes()) == outcome)
+}
+
 #[test]
-fn the_member_is_a_list(rt: HostRuntime) {
-    let object = br#"{"model":"m","enums":[],"classes":[],"associations":[],"renames":{}}"#;
-    let null = br#"{"model":"m","enums":[],"classes":[],"associations":[],"renames":null}"#;
-    let sixth = br#"{"model":"m","enums":[],"classes":[],"associations":[],"renames":[],"more":1}"#;
-    let other = br#"{"model":"m","enums":[],"classes":[],"associations":[],"more":[]}"#;
-    let empty = br#"{"model":"m","enums":[],"classes":[],"associations":[],"renames":[]}"#;
-    assert!(rt; outcome_of(rt.alloc(), object) == "Shape");
-    assert!(rt; outcome_of(rt.alloc(), null) == "Shape");
-    assert!(rt; outcome_of(rt.alloc(), sixth) == "Shape");
-    assert!(rt; outcome_of(rt.alloc(), other) == "Shape");
-    assert!(rt; outcome_of(rt.alloc(), empty) == "read");
+fn the_member_is_a_list(rt: HostRuntime) -> Result<(), Fail> {
+    for row in MEMBERS.lines() {
+        assert!(rt; has_members(rt.alloc(), row)?, "{row}");
+    }
+    Ok(())
 }
 
 fn model_with(alloc: Global, entries: &str) -> Result<ClassModel, ModelFault> {
@@ -250,14 +261,32 @@ fn are_same(alloc: Global, left: &str, right: &str) -> Result<bool, ModelFault> 
     Ok(left.same_as(&right))
 }
 
+/// Two lists of old names in a row, which differ.
+const DIFFERENT: &str = r#"|{"old":"O","new":"A"}
+|{"class":"A","old":"o","new":"x"}
+{"old":"O","new":"A"}|{"old":"O","new":"B"}
+{"old":"O","new":"A"}|{"old":"P","new":"A"}
+{"class":"A","old":"o","new":"x"}|{"class":"A","old":"p","new":"x"}
+{"class":"A","old":"o","new":"x"}|{"class":"N","old":"o","new":"w"}
+{"old":"O","new":"A"},{"old":"P","new":"B"}|{"old":"P","new":"B"},{"old":"O","new":"A"}"#;
+
+fn differ(alloc: Global, row: &str) -> Result<bool, ModelFault> {
+    match row.split_once("|") {
+        Some((left, right)) => Ok(!are_same(alloc, left, right)?),
+        None => Ok(false),
+    }
+}
+
 #[test]
 fn models_that_differ_in_old_names_differ(rt: HostRuntime) -> Result<(), Fail> {
-    let class = r#"{"old":"O","new":"A"}"#;
-    let feature = r#"{"class":"A","old":"o","new":"x"}"#;
+    for row in DIFFERENT.lines() {
+        assert!(rt; differ(rt.alloc(), row)?, "{row}");
+    }
+    Ok(())
+}
+
+#[test]
+fn models_of_the_same_old_names_are_same(rt: HostRuntime) -> Result<(), Fail> {
     assert!(rt; are_same(rt.alloc(), ENTRIES, ENTRIES)?);
-    assert!(rt; !are_same(rt.alloc(), "", class)?);
-    assert!(rt; !are_same(rt.alloc(), "", feature)?);
-    assert!(rt; !are_same(rt.alloc(), class, r#"{"old":"O","new":"B"}"#)?);
-    assert!(rt; !are_same(rt.alloc(), feature, r#"{"class":"A","old":"p","new":"x"}"#)?);
     Ok(())
 }

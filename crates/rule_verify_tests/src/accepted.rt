@@ -101,6 +101,62 @@ fn reads_accepted_units(rt: HostRuntime) -> Result<(), Fail> {
     Ok(())
 }
 
+/// The class model after two names changed: `Cable` is `Line` now, and the depth of a `Thing` is its `level`.
+fn renamed(alloc: Global) -> Result<String, AllocError> {
+    let classes = MODEL.replace(alloc, "Cable", "Line")?;
+    let features = classes.replace(alloc, "depth", "level")?;
+    features.replace(
+        alloc,
+        r#""associations""#,
+        r#""renames":[{"old":"Cable","new":"Line"},{"class":"Thing","old":"depth","new":"level"}],"associations""#,
+    )
+}
+
+/// Whether the context class and the depth of a cable have their present names.
+fn has_present_names(accepted: &Accepted<'_>) -> bool {
+    if accepted.rules() != 1 || accepted.unit().symbols.len() <= 9 {
+        return false;
+    }
+    match accepted.named(SymbolNumber(5)) {
+        Some(Named::Feature(class, feature)) => {
+            accepted.model().class_name(accepted.context(0)) == "Line"
+                && accepted.model().class_name(class) == "Line"
+                && accepted.model().feature_info(feature).name.as_str() == "level"
+        }
+        _ => false,
+    }
+}
+
+fn is_accepted_under_new_names(alloc: Global, model: &ClassModel, unit: Unit) -> bool {
+    match verify(alloc, model, unit) {
+        Ok(accepted) => has_present_names(&accepted),
+        Err(_refused) => false,
+    }
+}
+
+fn reads_old_names_of(alloc: Global, model: &ClassModel) -> Result<bool, AllocError> {
+    let mut bytes = bytes_of(alloc, HEAD)?;
+    bytes.extend_from_slice(&bytes_of(alloc, RULE)?)?;
+    match read_unit(alloc, &bytes) {
+        Ok(unit) => Ok(is_accepted_under_new_names(alloc, model, unit)),
+        Err(_fault) => Ok(false),
+    }
+}
+
+fn reads_old_names(alloc: Global) -> Result<bool, AllocError> {
+    let text = renamed(alloc)?;
+    match ClassModel::read(alloc, text.as_bytes()) {
+        Ok(model) => reads_old_names_of(alloc, &model),
+        Err(_fault) => Ok(false),
+    }
+}
+
+#[test]
+fn old_names_are_read(rt: HostRuntime) -> Result<(), Fail> {
+    assert!(rt; reads_old_names(rt.alloc())?);
+    Ok(())
+}
+
 /// Whether a rule with FOLD has two variables in it besides the object, and gathers nothing.
 fn reads_fold_in(accepted: &Accepted<'_>) -> bool {
     let depths = Depths {
