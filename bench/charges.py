@@ -1,19 +1,20 @@
 #!/usr/bin/env python3
 """Writes model.json, delivery.json and rules.code into a folder: rules that make one instruction do much work.
 
-Each object has collections of N whole numbers, of each kind, and each rule applies the instruction to them. There are as
-many objects and rules as it takes to be charged some 20,000,000 in all. Prints what all runs are charged. With --none there
-is no rule, so that what remains is reading.
+Each object has collections of N whole numbers, of each kind, and each rule applies the instruction to them. They stand in
+order; with --mixed in none, each in its own. There are as many objects and rules as it takes to be charged some 20,000,000
+in all. Prints what all runs are charged. With --none there is no rule, so that what remains is reading.
 """
 import argparse
 import json
 import pathlib
+import random
 import struct
 
 WORK, MOST_RULES = 20_000_000, 200
 SELF, ADD, LT, ISEMPTY, SUM = b"\x01", b"\x10", b"\x19", b"\x31", b"\x36"
 INTEGER, SET, BAG, SEQUENCE = b"\x02", b"\x12", b"\x32", b"\x42"
-FEATURES = ["numbers", "repeated", "listed", "backwards", "others"]
+FEATURES = ["numbers", "moved", "repeated", "shuffled", "listed", "backwards", "others"]
 
 
 def number(n):
@@ -39,8 +40,8 @@ CASES = {
     "INCLUDES": lambda n: ([*all_of("numbers"), integer(-1), b"\x32" + INTEGER], 4 + n),
     "COUNT": lambda n: ([*all_of("repeated"), integer(-1), b"\x33" + INTEGER, integer(1), LT], 6 + n),
     "SUM": lambda n: ([*all_of("listed"), SUM, integer(0), LT], 5 + n),
-    "EQ_SET": lambda n: ([*all_of("numbers"), *all_of("numbers"), b"\x28" + SET], 5 + n * n),
-    "EQ_BAG": lambda n: ([*all_of("repeated"), *all_of("repeated"), b"\x28" + BAG], 5 + n * n),
+    "EQ_SET": lambda n: ([*all_of("numbers"), *all_of("moved"), b"\x28" + SET], 5 + n * n),
+    "EQ_BAG": lambda n: ([*all_of("repeated"), *all_of("shuffled"), b"\x28" + BAG], 5 + n * n),
     "EQ_SEQUENCE": lambda n: ([*all_of("listed"), *all_of("listed"), b"\x28" + SEQUENCE], 5 + n * n),
     "INCALL": lambda n: ([*all_of("listed"), *all_of("backwards"), b"\x34" + INTEGER], 5 + n * n),
     "EXCALL": lambda n: ([*all_of("listed"), *all_of("others"), b"\x35" + INTEGER], 5 + n * n),
@@ -54,15 +55,19 @@ def class_model():
     def attribute(name, ordered, unique):
         return {"name": name, "type": "Integer", "lower": 0, "upper": None, "ordered": ordered, "unique": unique}
 
-    attributes = [attribute("numbers", False, True), attribute("repeated", False, False)]
-    attributes += [attribute(name, True, False) for name in FEATURES[2:]]
+    attributes = [attribute(name, False, True) for name in FEATURES[:2]]
+    attributes += [attribute(name, False, False) for name in FEATURES[2:4]]
+    attributes += [attribute(name, True, False) for name in FEATURES[4:]]
     return {"model": "work", "enums": [], "associations": [],
             "classes": [{"name": "Box", "abstract": False, "supers": [], "attributes": attributes}]}
 
 
-def delivery(objects, n):
+def delivery(objects, n, mixed):
     ascending = list(range(n))
-    lists = [ascending, ascending, ascending, ascending[::-1], [n + it for it in ascending]]
+    lists = [ascending, ascending, ascending, ascending, ascending, ascending[::-1], [n + it for it in ascending]]
+    if mixed:
+        chance = random.Random(n)
+        lists = [chance.sample(it, n) for it in lists]
     return {"model": "work", "objects": [{"id": f"B{it}", "class": "Box", "features": dict(zip(FEATURES, lists))} for it in range(objects)]}
 
 
@@ -82,13 +87,14 @@ def main():
     parser.add_argument("n", type=int, help="the number of elements")
     parser.add_argument("folder", type=pathlib.Path)
     parser.add_argument("--none", action="store_true", help="no rule")
+    parser.add_argument("--mixed", action="store_true", help="in no order")
     given = parser.parse_args()
     code, charge = CASES[given.instruction](given.n)
     runs = max(1, WORK // charge)
     rules = min(MOST_RULES, runs)
     objects = runs // rules
     (given.folder / "model.json").write_text(json.dumps(class_model()))
-    (given.folder / "delivery.json").write_text(json.dumps(delivery(objects, given.n)))
+    (given.folder / "delivery.json").write_text(json.dumps(delivery(objects, given.n, given.mixed)))
     (given.folder / "rules.code").write_bytes(unit(code, 0 if given.none else rules))
     print(objects * rules * charge)
 

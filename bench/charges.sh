@@ -19,12 +19,12 @@ judge() {
     sort -n "$room/$kept".[1-3] | head -n 1 >"$room/$kept"
 }
 
-# An instruction, over collections of so many elements.
+# An instruction, over collections of so many elements, and "mixed" where they stand in no order.
 report() {
-    judge reading --none "$1" "$2"
-    judge whole "$1" "$2"
-    awk -v name="$1" -v n="$2" -v charges="$(cat "$room/charges")" 'NR == 1 { reading = $1 }
-        NR == 2 { printf "%-12s %6d elements: %9d charges, %.2f s, of which reading %.2f s, %7.2f ns a charge\n",
+    judge reading --none ${3:+--mixed} "$1" "$2"
+    judge whole ${3:+--mixed} "$1" "$2"
+    awk -v name="$1${3:+, mixed}" -v n="$2" -v charges="$(cat "$room/charges")" 'NR == 1 { reading = $1 }
+        NR == 2 { printf "%-19s %6d elements: %9d charges, %.2f s, of which reading %.2f s, %7.2f ns a charge\n",
                   name, n, charges, $1, reading, ($1 - reading) * 1e9 / charges }' "$room/reading" "$room/whole"
 }
 
@@ -37,5 +37,10 @@ done
 for n in 10 100 1000 4000; do
     for instruction in EQ_SET EQ_BAG EQ_SEQUENCE INCALL EXCALL ASSET ISUNIQUE; do
         report "$instruction" "$n"
+    done
+done
+for n in 10 100 1000 10000; do
+    for instruction in EQ_SET EQ_BAG INCALL EXCALL ASSET ISUNIQUE; do
+        report "$instruction" "$n" mixed
     done
 done

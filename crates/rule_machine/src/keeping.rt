@@ -8,7 +8,9 @@ ghost use Rattle.rule_machine.specs.StandFor.{kept_slots};
 
 use crate::control::Turn;
 use ocl_base::OutOfMemory;
-use rule_slots::{Home, Lists, Slot, home_named, index_slot, is_false, is_true, scalar_slot};
+use rule_slots::{
+    Home, Lists, Slot, home_named, index_slot, is_false, is_true, move_down, scalar_slot,
+};
 use rule_verify::{BlockInstr, block_of};
 
 /// Cuts the pool, and puts a slot at its end, if it is to be kept. Tells how many are put.
@@ -29,17 +31,6 @@ fn keep_if(pool: &mut Vec<Slot>, at: usize, keep: bool, slot: Slot) -> Result<us
         pool.truncate(at);
         Ok(0)
     }
-}
-
-/// Cuts the pool back to a place, with a range that lies past it moved down to there.
-fn move_down(pool: &mut Vec<Slot>, at: usize, start: usize, count: usize)
-    requires past { at ≤ start }
-    requires there { start + count ≤ length pool.old.items }
-    ensures { pool.new.items ≡ take at pool.old.items ++
-        slice_range pool.old.items start (start + count) }
-{
-    pool.copy_within(start..start + count, at);
-    pool.truncate(at + count);
 }
 
 /// Cuts the pool back, and keeps a part of itself from there on.

@@ -114,6 +114,81 @@ fn lines_of(
     Ok(out)
 }
 
+/// Writes a rule's name if it doesn't hold for an object. It is judged once, in one go.
+fn put_not_holding(
+    alloc: Global,
+    accepted: &Accepted<'_>,
+    population: &Population<'_>,
+    rule: usize,
+    object: ObjectNo,
+    out: &mut String,
+) -> Result<(), OutOfMemory>
+    requires one_model { population.now.content.model ≡ accepted.now.model }
+    requires rule { rule < length accepted.now.unit.rules }
+    requires object { IsInstance population.now.content
+        (setting_of accepted.now.unit population.now.content rule).context object }
+{
+    let verdict = Machine::new(alloc, accepted, population)?.judge(rule, object)?;
+    if verdict != Verdict::Holds {
+        let name = accepted.rule_name(rule);
+        write!(out, "{name} {verdict:?}, ")?;
+    }
+    Ok(())
+}
+
+fn put_rules_not_holding(
+    alloc: Global,
+    accepted: &Accepted<'_>,
+    population: &Population<'_>,
+    out: &mut String,
+) -> Result<(), OutOfMemory>
+    requires one_model { population.now.content.model ≡ accepted.now.model }
+{
+    let rules = accepted.rules();
+    for rule in 0..rules {
+        for object in population.instances(accepted.context(rule)) {
+            put_not_holding(alloc, accepted, population, rule, *object, out)?;
+        }
+    }
+    write!(out, "{rules} rules")?;
+    Ok(())
+}
+
+fn put_unit_not_holding(
+    alloc: Global,
+    population: &Population<'_>,
+    unit: Unit,
+    out: &mut String,
+) -> Result<(), OutOfMemory> {
+    match verify(alloc, population.model(), unit) {
+        Ok(accepted) => put_rules_not_holding(alloc, &accepted, population, out),
+        Err((VerifyFault::At { flaw, at, .. }, _unit)) => {
+            write!(out, "{flaw:?} at {at}")?;
+            Ok(())
+        }
+        Err((VerifyFault::OutOfMemory, _unit)) => Err(OutOfMemory),
+    }
+}
+
+/// Writes the rules that don't hold for an object of their context class, and how many there are; or why they are
+/// refused.
+pub(crate) fn put_file_not_holding(
+    alloc: Global,
+    population: &Population<'_>,
+    rules: &str,
+    out: &mut String,
+) -> Result<(), OutOfMemory> {
+    let file = file_of_rules(alloc, rules)?;
+    match read_unit(alloc, &file) {
+        Ok(unit) => put_unit_not_holding(alloc, population, unit, out),
+        Err(CodeFault::At { flaw, offset }) => {
+            write!(out, "{flaw:?} at {offset}")?;
+            Ok(())
+        }
+        Err(CodeFault::OutOfMemory) => Err(OutOfMemory),
+    }
+}
+
 fn unit_verdicts(
     alloc: Global,
     population: &Population<'_>,

@@ -30,4 +30,6 @@ mod texts;
 #[cfg(test)]
 mod truth;
 #[cfg(test)]
+mod unordered;
+#[cfg(test)]
 mod worked;

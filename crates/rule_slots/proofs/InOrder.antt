@@ -21,18 +21,18 @@ pub not_true : (b : Bool) → not b ≡ true → b ≡ false
 not_true true e = cc
 not_true false e = refl
 
-false_is_no_true : false ≡ true → ⊥
+pub false_is_no_true : false ≡ true → ⊥
 false_is_no_true e = cc
 
-or_true : (b : Bool) → (b || true) ≡ true
+pub or_true : (b : Bool) → (b || true) ≡ true
 or_true true = refl
 or_true false = refl
 
-or_false_left : (a b : Bool) → (a || b) ≡ false → a ≡ false
+pub or_false_left : (a b : Bool) → (a || b) ≡ false → a ≡ false
 or_false_left false b e = refl
 or_false_left true b e = cc
 
-or_false_right : (a b : Bool) → (a || b) ≡ false → b ≡ false
+pub or_false_right : (a b : Bool) → (a || b) ≡ false → b ≡ false
 or_false_right false b e = e
 or_false_right true b e = cc
 
@@ -374,7 +374,7 @@ get_within (y ∷ ys) zero x e = omega arith
 get_within (y ∷ ys) (suc k) x e = let lt = get_within ys k x e in omega (arith, lt)
 
 -- an item that passes a test
-any_at : {A : Type 0} (f : A → Bool) (xs : List A) (k : ℕ) (x : A) → slice_get xs k ≡ Some x → f x ≡ true → list_any f xs ≡ true
+pub any_at : {A : Type 0} (f : A → Bool) (xs : List A) (k : ℕ) (x : A) → slice_get xs k ≡ Some x → f x ≡ true → list_any f xs ≡ true
 any_at f [] k x e t = cc
 any_at f (y ∷ ys) zero x e t = let q : y ≡ x = cc in ap (λ z. f z || list_any f ys) q ∙ ap (λ b. b || list_any f ys) t
 any_at f (y ∷ ys) (suc k) x e t = ap (λ b. f y || b) (any_at f ys k x e t) ∙ or_true (f y)

@@ -9,6 +9,7 @@ pub mod Loops
 pub mod InOrder
 pub mod Moved
 pub mod SlotOrder
+pub mod Choosing
 pub mod Copies
 pub mod Taken
 pub mod ForAbove

@@ -12,7 +12,7 @@ use Rattle.rule_slots.proofs.InOrder.{always_alike}
 
 -- ---- tests
 
-any_alike : {A : Type 0} (f g : A → Bool) → ((x : A) → f x ≡ g x) → (xs : List A) → list_any f xs ≡ list_any g xs
+pub any_alike : {A : Type 0} (f g : A → Bool) → ((x : A) → f x ≡ g x) → (xs : List A) → list_any f xs ≡ list_any g xs
 any_alike f g h [] = refl
 any_alike f g h (x ∷ xs) = ap (λ z. z || list_any f xs) (h x) ∙ ap (λ z. g x || z) (any_alike f g h xs)
 

@@ -15,7 +15,7 @@ use Rattle.rule_slots.specs.Slots.{Lists, invalid_mark}
 use Rattle.ocl_base.specs.Lists.{repeats}
 use Rattle.rule_slots.specs.Compared.{slot_bytes, same_marked, same_words, same_slots, pairwise_same, first_ones, same_unordered}
 use Rattle.rule_slots.specs.Ordered.{compare_words, compare_marked, compare_slots, is_defined, may_precede, rises}
-use Rattle.rule_slots.proofs.InOrder.{IsRising, same_back, none_twice, some_twice, first_are_all, pairs_among, pairs_often, sets_differ, bags_differ}
+use Rattle.rule_slots.proofs.InOrder.{IsRising, same_back, same_alike, none_twice, some_twice, first_are_all, pairs_among, pairs_often, sets_differ, bags_differ}
 use Rattle.rule_slots.proofs.Moved.{repeats_moved}
 
 -- ---- words
@@ -146,7 +146,7 @@ module _ (l : Lists) (w : WrittenScalar) where
   set_of_all xs e = first_are_all (compare_slots l w) slots_total (same_slots l w) is_defined slots_tie slots_like xs e
 
   -- slots are the same both ways
-  same_both_ways : (a b : Slot) → same_slots l w a b ≡ same_slots l w b a
+  pub same_both_ways : (a b : Slot) → same_slots l w a b ≡ same_slots l w b a
   same_both_ways a b = by (same_slots l w a b) refl (same_slots l w b a) refl
     where
       by : (x : Bool) → same_slots l w a b ≡ x → (y : Bool) → same_slots l w b a ≡ y → same_slots l w a b ≡ same_slots l w b a
@@ -154,6 +154,9 @@ module _ (l : Lists) (w : WrittenScalar) where
       by false e false f = e ∙ sym f
       by true e false f = e ∙ sym (same_back (compare_slots l w) slots_total (same_slots l w) is_defined slots_tie slots_like a b e)
       by false e true f = same_back (compare_slots l w) slots_total (same_slots l w) is_defined slots_tie slots_like b a f ∙ sym f
+
+  pub same_as_same : (a b c : Slot) → same_slots l w a b ≡ true → same_slots l w a c ≡ same_slots l w b c
+  same_as_same a b c e = same_alike (compare_slots l w) slots_total (same_slots l w) is_defined slots_tie slots_like a b c e
 
   -- one stands twice in a list wherever it does in another order of it
   pub repeats_slots_moved : (xs ys : List Slot) → IsPermutation xs ys → repeats (same_slots l w) xs ≡ repeats (same_slots l w) ys

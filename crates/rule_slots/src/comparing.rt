@@ -19,8 +19,10 @@ use crate::sorting::{has_room, push_sorted};
 use ocl_base::CollectionKind;
 use rule_code::{WrittenKind, WrittenScalar};
 
-/// Collections of at most so many elements are compared each element with each, where they stand in no order.
-const FEW: usize = 8;
+/// Sets, and Bags, of at most so many elements are compared each element with each, where they stand in no order.
+const FEW_IN_SET: usize = 12;
+
+const FEW_IN_BAG: usize = 4;
 
 /// Whether each element of the first collection stands as often in the second.
 #[inline(never)]
@@ -199,7 +201,8 @@ fn same_unordered(
     if let Some(told) = told_by_order(lists, pool, kind, unique, left, right) {
         return told;
     }
-    let short = left.count <= FEW && right.count <= FEW;
+    let few = if unique { FEW_IN_SET } else { FEW_IN_BAG };
+    let short = left.count <= few && right.count <= few;
     if short || !has_room(pool, left.count, right.count) {
         return same_by_pairs(lists, pool, kind, unique, left, right);
     }

@@ -9,6 +9,7 @@ mod integers;
 mod lists;
 mod objects;
 mod ordering;
+mod placing;
 mod reading;
 mod searching;
 mod sets;
@@ -34,6 +35,7 @@ pub use slot::{
     Home, Mark, Slot, home_named, index_slot, invalid_slot, null_slot, number_slot, part_slot,
     text_slot, truth_slot,
 };
+pub use sorting::move_down;
 pub use sums::summation;
 pub use texts::{substring, text_length, unit_text};
 pub use truth::{

@@ -125,9 +125,9 @@ fn is_among_ordered_in(
     )
 }
 
-/// Whether an element is one of a collection that stands in order. (Each list has a loop of its own.)
-#[inline(never)]
-pub(crate) fn is_among_ordered(
+/// Whether an element is one of a collection that stands in order, with a loop for each list.
+#[inline(always)]
+fn is_among_ordered_list(
     lists: Lists<'_>,
     pool: &[Slot],
     kind: WrittenScalar,
@@ -145,6 +145,36 @@ pub(crate) fn is_among_ordered(
         Home::Scalars => is_among_ordered_in(Home::Scalars, lists, pool, kind, source, slot),
         Home::Instances => is_among_ordered_in(Home::Instances, lists, pool, kind, source, slot),
         Home::Pool => is_among_ordered_in(Home::Pool, lists, pool, kind, source, slot),
+    }
+}
+
+/// Whether an element is one of a collection that stands in order. (Kinds that are compared by the
+/// same word have loops of their own for it.)
+#[inline(never)]
+pub(crate) fn is_among_ordered(
+    lists: Lists<'_>,
+    pool: &[Slot],
+    kind: WrittenScalar,
+    source: Slot,
+    slot: Slot,
+) -> bool
+    requires home { IsInHome (lists_in lists) (length pool.now) source }
+    requires order { rises is_defined (λ a b.
+        may_precede false (compare_slots (lists_in lists) kind a b))
+        (held_slots (lists_in lists) pool.now source) ≡ true }
+    ensures { result ≡ is_among (same_slots (lists_in lists.entry) kind)
+        (held_slots (lists_in lists.entry) pool.now source) slot }
+{
+    match kind {
+        WrittenScalar::Void | WrittenScalar::Boolean | WrittenScalar::Integer => {
+            is_among_ordered_list(lists, pool, WrittenScalar::Integer, source, slot)
+        }
+        WrittenScalar::String => {
+            is_among_ordered_list(lists, pool, WrittenScalar::String, source, slot)
+        }
+        WrittenScalar::Enumeration(_) | WrittenScalar::Class(_) | WrittenScalar::AnyObject => {
+            is_among_ordered_list(lists, pool, WrittenScalar::AnyObject, source, slot)
+        }
     }
 }
 

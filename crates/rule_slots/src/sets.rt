@@ -1,6 +1,6 @@
 //! Collections that are made in the pool: of one value, and the Set of a collection's elements.
 
-ghost use Rattle.std.specs.Prelude.{◌≡◌, ◌+◌, ◌≤◌, ◌++◌, List, [], length, take, true, not, IfOk, OnErr, vec_capacity};
+ghost use Rattle.std.specs.Prelude.{◌≡◌, ◌+◌, ◌≤◌, ◌++◌, List, [], length, take, true, false, not, ◌*◌, ◌<◌, IfOk, OnOk, OnErr, vec_capacity};
 ghost use Rattle.ocl_base.specs.declared.collection_kind.CollectionKind.{CollectionKind};
 ghost use Rattle.imkl_population.specs.Population.{Population};
 ghost use Rattle.ocl_kinds.specs.declared.kind.ScalarKind.{ScalarKind};
@@ -12,13 +12,15 @@ ghost use Rattle.rule_slots.specs.Slots.{Lists as Indexed, lists_in, home_named,
 ghost use Rattle.rule_slots.specs.declared.slot.Slot.{Slot as Held};
 ghost use Rattle.rule_slots.specs.Operands.{is_single_operand, is_elements_operand, MadeInPool};
 ghost use Rattle.rule_slots.specs.Compared.{covers, same_slots, first_ones};
+ghost use Rattle.rule_slots.specs.Sorted.{IsChoice, IsSameBefore};
 
-use crate::elements::{SHORT, is_slot_among, repeats_slot};
+use crate::elements::{SHORT, is_slot_among, repeats_slot, same_slots};
 use crate::lists::Lists;
 use crate::ordering::is_in_order;
+use crate::placing::{first_place, push_placed};
 use crate::reading::element;
 use crate::slot::{Home, Slot, invalid_slot, part_slot};
-use crate::sorting::{push_all, push_sorted, sort_part};
+use crate::sorting::{move_down, push_all, push_sorted, sort_part};
 use rule_code::WrittenScalar;
 use std::alloc::AllocError;
 
@@ -77,22 +79,123 @@ fn differ_by_copy(lists: Lists<'_>, pool: &mut Vec<Slot>, kind: WrittenScalar, s
     !repeats
 }
 
-/// Puts the elements of a collection at the pool's end, each once. Where they stand strictly in order, or a sorted copy
-/// does, these are all.
+/// Whether all elements of a collection are known to differ: they stand strictly in order, or a sorted copy of a long one
+/// does. The pool stays as it was.
 #[inline(never)]
-fn push_set(lists: Lists<'_>, pool: &mut Vec<Slot>, kind: WrittenScalar, source: Slot)
+fn all_differ(lists: Lists<'_>, pool: &mut Vec<Slot>, kind: WrittenScalar, source: Slot) -> bool
     requires within { IsInHome (lists_in lists) (length pool.old.items) source }
     requires room { length pool.old.items + source.count ≤ vec_capacity pool.old }
+    ensures told { result ≡ true → repeats (same_slots (lists_in lists.entry) kind)
+        (held_slots (lists_in lists.entry) pool.old.items source) ≡ false }
+    ensures pool { pool.new.items ≡ pool.old.items }
+    ensures capacity { vec_capacity pool.new ≡ vec_capacity pool.old }
+{
+    if is_in_order(lists, pool, kind, source, true) {
+        return true;
+    }
+    source.count > SHORT && differ_by_copy(lists, pool, kind, source)
+}
+
+/// Puts the elements of a collection at the pool's end, but those that are the same as one before them, as far as the
+/// sorted copy tells that lies in the pool from an index on.
+#[inline(never)]
+fn push_new_ones(
+    lists: Lists<'_>,
+    pool: &mut Vec<Slot>,
+    kind: WrittenScalar,
+    source: Slot,
+    copy: usize,
+)
+    requires within { IsInHome (lists_in lists) (length pool.old.items) source }
+    requires copy { copy ≤ length pool.old.items }
+    requires room { length pool.old.items + source.count ≤ vec_capacity pool.old }
+    ensures chosen { IsChoice (same_slots (lists_in lists.entry) kind)
+        (held_slots (lists_in lists.entry) pool.old.items source) pool.old.items pool.new.items }
+    ensures long { length pool.new.items ≤ length pool.old.items + source.count }
+    ensures capacity { vec_capacity pool.new ≡ vec_capacity pool.old }
+{
+    let opened = pool.len();
+    for index in 0..source.count {
+        let slot = element(lists, pool, source, index);
+        let place = first_place(lists, &pool[copy..opened], kind, slot);
+        if !stands_before(lists, pool, kind, source, index, place) {
+            pool.push_reserved(slot);
+        }
+    }
+}
+
+/// Whether an element of a collection stands before another, and is the same.
+#[inline(always)]
+fn stands_before(
+    lists: Lists<'_>,
+    pool: &[Slot],
+    kind: WrittenScalar,
+    source: Slot,
+    index: usize,
+    place: usize,
+) -> bool
+    requires within { IsInHome (lists_in lists) (length pool.now) source }
+    requires index { index < source.count }
+    ensures { result ≡ true → IsSameBefore (same_slots (lists_in lists.entry) kind)
+        (held_slots (lists_in lists.entry) pool.now source) index place }
+{
+    if place >= index {
+        return false;
+    }
+    let slot = element(lists, pool, source, index);
+    same_slots(lists, kind, slot, element(lists, pool, source, place))
+}
+
+/// Puts each element of a collection at the pool's end, where it first stands, by sorted copies.
+#[inline(never)]
+fn push_first_by_copy(lists: Lists<'_>, pool: &mut Vec<Slot>, kind: WrittenScalar, source: Slot)
+    requires within { IsInHome (lists_in lists) (length pool.old.items) source }
+    requires room { length pool.old.items + 3 * source.count ≤ vec_capacity pool.old }
     ensures { pool.new.items ≡ pool.old.items ++ first_ones (same_slots (lists_in lists.entry) kind)
         [] (held_slots (lists_in lists.entry) pool.old.items source) }
 {
-    if is_in_order(lists, pool, kind, source, true) {
-        push_all(lists, pool, source);
-    } else if source.count > SHORT && differ_by_copy(lists, pool, kind, source) {
-        push_all(lists, pool, source);
+    let start = pool.len();
+    push_placed(lists, pool, kind, source);
+    let opened = pool.len();
+    push_new_ones(lists, pool, kind, source, start);
+    let count = pool.len() - opened;
+    let differ = differ_by_copy(lists, pool, kind, part_slot(2, opened, count));
+    if differ {
+        move_down(pool, start, opened, count);
     } else {
+        pool.truncate(start);
         push_first_ones(lists, pool, kind, source);
     }
+}
+
+/// Puts the elements of a collection at the pool's end, each once. Those of a long one in which some stand twice are found
+/// by sorted copies, for which room is made.
+#[inline(never)]
+fn push_set(
+    lists: Lists<'_>,
+    pool: &mut Vec<Slot>,
+    kind: WrittenScalar,
+    source: Slot,
+) -> Result<(), AllocError>
+    requires { IsInHome (lists_in lists) (length pool.old.items) source }
+    ensures items { OnOk result (pool.new.items ≡ pool.old.items ++
+        first_ones (same_slots (lists_in lists.entry) kind) []
+        (held_slots (lists_in lists.entry) pool.old.items source)) }
+    ensures refused { OnErr result (pool.new.items ≡ pool.old.items) }
+{
+    pool.reserve(source.count)?;
+    if all_differ(lists, pool, kind, source) {
+        push_all(lists, pool, source);
+        return Ok(());
+    }
+    let room = source.count.saturating_mul(3);
+    if source.count <= SHORT || room / 3 != source.count {
+        push_first_ones(lists, pool, kind, source);
+        return Ok(());
+    }
+    pool.reserve(room)?;
+    push_first_by_copy(lists, pool, kind, source);
+    Ok(())
 }
 
 /// Whether an element stands twice in a part of the pool. A long one that stands in no order is sorted in its place.
@@ -131,8 +234,7 @@ pub fn as_set(
         return Ok(invalid_slot());
     }
     let start = pool.len();
-    pool.reserve(v.count)?;
-    push_set(lists, pool, kind, v);
+    push_set(lists, pool, kind, v)?;
     Ok(part_slot(2, start, pool.len() - start))
 }
 

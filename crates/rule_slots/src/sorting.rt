@@ -1,6 +1,6 @@
 //! Sorted copies of collections, in the room that the pool has behind its end. No memory is taken for them.
 
-ghost use Rattle.std.specs.Prelude.{◌≡◌, ◌+◌, ◌≤◌, ◌++◌, length, take, true, vec_capacity};
+ghost use Rattle.std.specs.Prelude.{◌≡◌, ◌+◌, ◌≤◌, ◌++◌, length, take, true, slice_range, vec_capacity};
 ghost use Rattle.std.specs.List.Sorted.{IsPermutation};
 ghost use Rattle.rule_slots.specs.Slots.{lists_in, home_named, held_slots, IsInHome};
 ghost use Rattle.rule_slots.specs.Sorted.{IsCopyOf};
@@ -83,4 +83,16 @@ pub(crate) fn push_sorted(
     push_all(lists, pool, source);
     sort_slots(lists, &mut pool[start..], kind);
     part_slot(2, start, source.count)
+}
+
+/// Cuts the pool back to a place, with a range that lies past it moved down to there.
+pub fn move_down(pool: &mut Vec<Slot>, at: usize, start: usize, count: usize)
+    requires past { at ≤ start }
+    requires there { start + count ≤ length pool.old.items }
+    ensures items { pool.new.items ≡ take at pool.old.items ++
+        slice_range pool.old.items start (start + count) }
+    ensures capacity { vec_capacity pool.new ≡ vec_capacity pool.old }
+{
+    pool.copy_within(start..start + count, at);
+    pool.truncate(at + count);
 }

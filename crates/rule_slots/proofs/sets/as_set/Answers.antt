@@ -1,6 +1,5 @@
-use Rattle.std.proofs.Common.{sym, ap, ◌∙◌, ◌++◌, []}
-use Rattle.rule_slots.specs.Slots.{lists_in, held_slots}
-use Rattle.rule_slots.specs.Compared.{same_slots, first_ones}
+use Rattle.std.proofs.Common.{sym, ◌∙◌}
+use Rattle.rule_slots.specs.Slots.{lists_in}
 use Rattle.rule_slots.proofs.Equal.{set_is}
 use Rattle.rule_slots.proofs.sets.as_set.Goals as goal
 
@@ -9,6 +8,4 @@ returns-clause-made c = λ p k cov v h i.
     let l = lists_in c.args.lists in
     let old = c.args.pool.now.items in
     let new = c.push_set.new.pool in
-    let kept = c.in_ok-reserve.ensures.items in
-    let grown = c.push_set.ensures ∙ ap (λ z. z ++ first_ones (same_slots l c.args.kind) [] (held_slots l z c.args.v)) kept in
-    set_is l p c.args.kind k cov old new.items c.args.v c.part_slot.result c.len-start.result c.len.result grown (c.len-start.ensures ∙ c.args.pool.now.ok.0) (c.len.ensures ∙ new.ok.0) c.part_slot.ensures (sym c.is_plain.ensures ∙ c.if-not-is_plain.false) v h i
+    set_is l p c.args.kind k cov old new.items c.args.v c.part_slot.result c.len-start.result c.len.result c.in_ok-push_set.ensures.items (c.len-start.ensures ∙ c.args.pool.now.ok.0) (c.len.ensures ∙ new.ok.0) c.part_slot.ensures (sym c.is_plain.ensures ∙ c.if-not-is_plain.false) v h i
