@@ -16,8 +16,8 @@ use crate::slot::Slot;
 use crate::sorting::{has_room, push_sorted};
 use rule_code::WrittenScalar;
 
-/// For so few elements that are looked for no copy is sorted.
-const FEW: usize = 8;
+/// For so few elements that are looked for no copy is sorted: they are found sooner one by one.
+const FEW: usize = 64;
 
 /// A collection in which so many elements are to be looked for, as it is best searched, and whether it stands in order:
 /// itself; or a sorted copy at the pool's end, if it is long, stands in no order, and there is room.
