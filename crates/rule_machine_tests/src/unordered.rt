@@ -9,7 +9,7 @@ use crate::judging::put_file_not_holding;
 use imkl_delivery::load;
 use imkl_model::ClassModel;
 use imkl_population::Population;
-use rule_machine::OutOfMemory;
+use ocl_base::OutOfMemory;
 use std::alloc::Global;
 use std::test::*;
 
