@@ -10,7 +10,7 @@ chain:    each class is below the one before it and has 16 names of its own (twi
 couples:  each name is that of two classes, which are not related (twin: names that differ).
 depth:    each class is below the one before it, without features; the objects are of each class in turn (twin: classes that
           are not related).
-renames:  as chain, and each feature has an old name (twin: the same without old names).
+renames:  as chain, and each feature has an old name (twin: as chain's, with as many old names).
 olds:     half of the classes have the same 16 old names for their features, and each has one class below it; the objects are
           of those (twin: old names that differ).
 
@@ -108,9 +108,9 @@ def old(owner, name, feature):
 
 
 def renames(count, plain):
-    enumerations, classes, objects = chain(count, False)
+    enumerations, classes, objects = chain(count, plain)
     features = [(it["name"], feature["name"]) for it in classes for feature in it["attributes"]]
-    return enumerations, classes, objects, [] if plain else [old(owner, f"old_{it}", it) for owner, it in features]
+    return enumerations, classes, objects, [old(owner, f"old_{it}", it) for owner, it in features]
 
 
 def olds(count, plain):

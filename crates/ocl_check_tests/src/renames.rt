@@ -91,7 +91,15 @@ fn deliveries_and_rule_texts_use_present_names(rt: HostRuntime) -> Result<(), Fa
     let old_feature = "context Leidingdeel inv: self.diepte > 0";
     let present = "context Leidingdeel inv r: self.diepteMm > 0";
     let report = "rule r checked 0 holds 0 fails 0 undecided 0\ntotal fails 0 undecided 0\n";
-    assert!(rt; judges_old_to(rt.alloc(), SHALLOW_CABLE, present, 2, "refused delivery 5 0\n")?);
+    assert!(rt;
+        judges_old_to(
+            rt.alloc(),
+            SHALLOW_CABLE,
+            present,
+            2,
+            "refused delivery 5 0\n"
+        )?
+    );
     assert!(rt; judges_old_to(rt.alloc(), none, old_class, 2, "refused types 1 0 8\n")?);
     assert!(rt; judges_old_to(rt.alloc(), none, old_feature, 2, "refused types 1 0 30\n")?);
     assert!(rt; judges_old_to(rt.alloc(), none, present, 0, report)?);
