@@ -1,10 +1,4 @@
-//! The ends of the help texts: inputs, statuses, and where the pages are.
-
-/// Of the program.
-pub const PROGRAM: &str = "\
-Inputs are read whole before the first is checked, each of at most 268,435,456 bytes; a path may be
-a pipe. `ocl_check COMMAND --help` says what a command prints and how it ends. The pages are in
-docs/: language.md for rules, class-model.md, delivery.md, code-file.md, machine.md, commands.md.";
+//! The ends of the commands' help texts: what they print, their statuses, and where the pages are.
 
 /// Of `judge`.
 pub const JUDGE: &str = "\
