@@ -1,16 +1,16 @@
-"""The manual page of a program, from the texts of its command line: what its commands say of themselves in
-`command_line.rt`, and the ends of the help texts in `help.rt`."""
+"""The manual page of a program, from the texts of its command line: what its commands say of themselves, and the ends of
+their help texts."""
 import re
 
 
 def texts(source):
-    """The constant texts of help.rt, by name."""
-    found = re.findall(r'pub const (\w+): &str = "(?:\\\n)?(.*?)";', source, flags=re.S)
+    """The constant texts of sources, by name."""
+    found = re.findall(r'const (\w+): &str = "(?:\\\n)?(.*?)";', source, flags=re.S)
     return {name: text.replace("\\\\", "\\") for name, text in found}
 
 
 def functions(source):
-    """The bodies of the functions of command_line.rt, by name."""
+    """The bodies of the functions of sources, by name."""
     return dict(re.findall(r"(?ms)^(?:pub(?:\([a-z]+\))? )?fn (\w+).*?\n?\{\n(.*?)^\}", source))
 
 
@@ -18,9 +18,10 @@ def arguments(body, shared):
     """What a command's body names: the arguments that must be given, each with what it is."""
     flat = re.sub(r"\s+", " ", body)
     named = r'file\( ?alloc, "(\w+)", "([^"]+)"'
+    alone = r'Arg::new\(alloc, "(\w+)"\) ?\.required\(true\) ?\.help\("([^"]+)"\)'
     below = re.search(r'on_delivery\( ?alloc, \w+, "(\w+)", "([^"]+)"', flat)
     first = re.findall(named, re.sub(r"\s+", " ", shared)) + [below.groups()] if below else []
-    return first + re.findall(named, flat)
+    return first + re.findall(named, flat) + re.findall(alone, flat)
 
 
 def options(body, functions):
@@ -49,9 +50,9 @@ def paragraphs(text):
     return written
 
 
-def manual(program, command_line, help_texts):
-    """The page in the form of `man`."""
-    said, bodies = texts(help_texts), functions(command_line)
+def manual(program, sources):
+    """The page in the form of `man`, from the sources of the command line and of the commands."""
+    said, bodies = texts(sources), functions(sources)
     about = lambda name: re.search(r'\.about\("([^"]+)"\)', bodies[name])[1]
     commands = re.findall(r"\.subcommand\((\w+)\(alloc\)\?\)", bodies["command"])
     page = [f'.TH {program.upper()} 1 "" "{program} {said["VERSION"].split()[0]}"', ".SH NAME",
@@ -60,7 +61,7 @@ def manual(program, command_line, help_texts):
         chosen = [f"[\\fB{escaped(it)}\\fR]" for it, _ in options(bodies[name], bodies)]
         files = [f"\\fI{it}\\fR" for it, _ in arguments(bodies[name], bodies["on_delivery"])]
         page += [f"\\fB{program} {name}\\fR {' '.join([*chosen, *files])}", ".br"]
-    page += [".SH DESCRIPTION", *paragraphs(said["PROGRAM"])[1:], ".SH COMMANDS"]
+    page += [".SH DESCRIPTION", *paragraphs(said["HELP"])[1:], ".SH COMMANDS"]
     for name in commands:
         page += [f".SS {name}", escaped(about(name)) + "."]
         for written, meaning in arguments(bodies[name], bodies["on_delivery"]) + options(bodies[name], bodies):

@@ -2,17 +2,15 @@
 #![tactic(auto)]
 
 mod command_line;
-mod creating;
-mod help;
 mod opening;
 
 use clap::error::{Error, ErrorKind};
-use command_line::{CompileFiles, DeskFiles, Request, RuleFiles, VerifyFiles, read_words};
-use creating::Creating;
+use command_line::read_words;
 use ocl_check::{
     CommandFault, Counting, JudgeOptions, Outcome, Telling, run_bound, run_compile, run_desk,
     run_judge, run_verify,
 };
+use ocl_programs::{CompileFiles, Creating, DeskFiles, Request, RuleFiles, VerifyFiles};
 use opening::Opening;
 use std::process::ExitCode;
 use std::{env, io};

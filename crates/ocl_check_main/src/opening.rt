@@ -1,11 +1,9 @@
 //! Files that are opened when they are first read.
 
+use ocl_programs::STANDARD_INPUT;
 use std::fs::File;
 use std::io::Read;
 use std::{fs, io};
-
-/// The path that names standard input.
-pub const STANDARD_INPUT: &str = "-";
 
 /// A file that is opened at its first read, so that no file is opened before the inputs named earlier have ended: a
 /// writer that feeds several pipes in turn is not kept waiting. A file that can't be opened is a failed read. Standard

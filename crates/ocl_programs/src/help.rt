@@ -1,14 +1,7 @@
-//! The version, and the ends of the help texts: inputs, examples, statuses, and where the pages are.
+//! The version, and the ends of the commands' help texts: what they print, examples, statuses, and where the pages are.
 
-/// The program's version, and the logic of the kit by which it is proved.
+/// The version of the programs, and the logic of the kit by which they are proved.
 pub const VERSION: &str = "1.0.0 (Rattle logic dac8208d650f15bf)";
-
-/// Of the program.
-pub const PROGRAM: &str = "\
-Inputs are read whole before the first is checked, each of at most 268,435,456 bytes; a path may be
-a pipe, and `-` is standard input, for one input. `ocl_check COMMAND --help` says what a command
-prints and how it ends. The pages are in docs/: language.md for rules, class-model.md, delivery.md,
-code-file.md, machine.md, commands.md.";
 
 /// Of `judge`.
 pub const JUDGE: &str = "\

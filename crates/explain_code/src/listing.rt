@@ -1,0 +1,127 @@
+//! A unit in words: rule by rule, an instruction a line.
+
+use crate::instructions::{bodies_of, instruction_words, length_of};
+use crate::symbols::{symbol_words, text_of};
+use rule_code::{Instr, Rule, Symbol, Unit, Version};
+use std::alloc::{AllocError, Global};
+
+/// A block that is open: the index after its bodies, and where its second branch begins, if it has one.
+#[derive(Clone, Copy)]
+struct Open {
+    end: usize,
+    second: usize,
+}
+
+/// Where the rules of a unit begin in its file, in bytes from 0.
+fn rules_offset(unit: &Unit) -> usize {
+    let mut offset = 12usize;
+    for text in &unit.texts {
+        offset = offset.saturating_add(2).saturating_add(text.len());
+    }
+    for symbol in &unit.symbols {
+        offset = offset.saturating_add(match symbol {
+            Symbol::Class(_) | Symbol::Enumeration(_) => 3,
+            Symbol::Feature { .. } | Symbol::Literal { .. } => 5,
+        });
+    }
+    offset
+}
+
+/// Writes spaces, two for each block that is open.
+fn indent(out: &mut String, depth: usize) -> Result<(), AllocError> {
+    for _ in 0..depth {
+        out.push_str("  ")?;
+    }
+    Ok(())
+}
+
+/// Closes the blocks that end before an index; writes where a second branch begins.
+fn close(out: &mut String, open: &mut Vec<Open>, index: usize) -> Result<(), AllocError> {
+    for _ in 0..open.len() {
+        match open.last() {
+            Some(block) if block.end <= index => (),
+            _ => break,
+        }
+        open.pop();
+    }
+    match open.last() {
+        Some(block) if block.second == index => {
+            out.push_str("        ")?;
+            indent(out, open.len().saturating_sub(1))?;
+            out.push_str("else\n")
+        }
+        _ => Ok(()),
+    }
+}
+
+/// The block that an instruction at an index opens.
+fn opened(instruction: &Instr, index: usize) -> Option<Open> {
+    let (first, second) = bodies_of(instruction)?;
+    let body = index.saturating_add(1);
+    let middle = body.saturating_add(first);
+    Some(Open {
+        end: middle.saturating_add(second),
+        second: if second == 0 { 0 } else { middle },
+    })
+}
+
+/// Writes the instructions of a rule, the first of which begins at an offset; answers where they end.
+fn list_code(
+    alloc: Global,
+    out: &mut String,
+    unit: &Unit,
+    code: &[Instr],
+    begin: usize,
+) -> Result<usize, AllocError> {
+    let mut offset = begin;
+    let mut open = Vec::new(alloc);
+    for (index, instruction) in code.iter().enumerate() {
+        close(out, &mut open, index)?;
+        write!(out, "{offset:6}  ")?;
+        indent(out, open.len())?;
+        let words = instruction_words(alloc, unit, instruction)?;
+        writeln!(out, "{words}")?;
+        offset = offset.saturating_add(length_of(instruction));
+        if let Some(block) = opened(instruction, index) {
+            open.push(block)?;
+        }
+    }
+    Ok(offset)
+}
+
+/// Writes a rule that begins at an offset; answers where it ends.
+fn list_rule(
+    alloc: Global,
+    out: &mut String,
+    unit: &Unit,
+    rule: &Rule,
+    begin: usize,
+) -> Result<usize, AllocError> {
+    let name = text_of(unit, rule.name);
+    let context = symbol_words(alloc, unit, rule.context)?;
+    let count = rule.code.len();
+    writeln!(
+        out,
+        "rule {name}, context {context}, {count} instructions, at byte {begin}"
+    )?;
+    list_code(alloc, out, unit, &rule.code, begin.saturating_add(6))
+}
+
+/// Writes a unit in words: its counts, and then for each rule a line and a line for each of its instructions, which begins
+/// with the offset in the file; the bodies of a block are indented.
+pub fn list_unit(alloc: Global, out: &mut String, unit: &Unit) -> Result<(), AllocError> {
+    let version = match unit.version {
+        Version::One => 1,
+        Version::Two => 2,
+    };
+    let (texts, symbols, rules) = (unit.texts.len(), unit.symbols.len(), unit.rules.len());
+    writeln!(
+        out,
+        "version {version}, texts {texts}, symbols {symbols}, rules {rules}"
+    )?;
+    let mut offset = rules_offset(unit);
+    for rule in &unit.rules {
+        offset = list_rule(alloc, out, unit, rule, offset)?;
+    }
+    Ok(())
+}

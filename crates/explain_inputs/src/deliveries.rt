@@ -1,0 +1,183 @@
+//! Why a delivery is refused.
+
+use crate::entries::{Entry, entries_of, offsets_of};
+use crate::json_notes::explain_json;
+use crate::objects::{Document, look_at_object};
+use crate::report::Report;
+use crate::shapes::delivery_shape;
+use crate::values::values_of;
+use explain_notes::{Input, quoted};
+use imkl_delivery::DeliveryFault;
+use imkl_model::{ClassModel, FeatureNo, Role};
+use model_names::{belongs, feature_info};
+use serde_json::Value;
+use std::alloc::{AllocError, Global};
+use std::collections::BTreeMap;
+
+/// The first object of each id.
+fn ids_of<'v>(
+    alloc: Global,
+    entries: &[Entry<'v>],
+) -> Result<BTreeMap<&'v str, usize>, AllocError> {
+    let mut ids = BTreeMap::new(alloc);
+    for (index, entry) in entries.iter().enumerate() {
+        if !ids.contains_key(entry.id) {
+            ids.insert(entry.id, index)?;
+        }
+    }
+    Ok(ids)
+}
+
+/// Counts one more holder of an object at an opposite end.
+fn count_holder(
+    holders: &mut BTreeMap<(usize, usize), usize>,
+    key: (usize, usize),
+) -> Result<(), AllocError> {
+    let count = holders.get(&key).copied().unwrap_or(0);
+    holders.insert(key, count.saturating_add(1))?;
+    Ok(())
+}
+
+/// Counts an object as a holder of all that it writes at a source end.
+fn count_targets(
+    holders: &mut BTreeMap<(usize, usize), usize>,
+    ids: &BTreeMap<&str, usize>,
+    opposite: FeatureNo,
+    value: &Value,
+) -> Result<(), AllocError> {
+    for target in values_of(value) {
+        if let Some(id) = target.as_str()
+            && let Some(index) = ids.get(id)
+        {
+            count_holder(holders, (opposite.index(), *index))?;
+        }
+    }
+    Ok(())
+}
+
+/// How many objects write an object at the source end of an opposite end, by that end and the object's index.
+fn holders_of(
+    alloc: Global,
+    model: &ClassModel,
+    entries: &[Entry<'_>],
+    ids: &BTreeMap<&str, usize>,
+) -> Result<BTreeMap<(usize, usize), usize>, AllocError> {
+    let mut holders = BTreeMap::new(alloc);
+    for entry in entries {
+        let Some(class) = model.class(entry.class) else {
+            continue;
+        };
+        for (name, value) in entry.features {
+            if let Some(feature) = model.feature(class, name.as_str())
+                && let Some(info) = feature_info(model, feature)
+                && let Role::SourceEnd { opposite } = info.role
+                && belongs(model, class, feature)
+            {
+                count_targets(&mut holders, ids, opposite, value)?;
+            }
+        }
+    }
+    Ok(holders)
+}
+
+/// Says all that is wrong with the objects of a document.
+fn look_at_objects(
+    alloc: Global,
+    report: &mut Report<'_>,
+    document: Document<'_, '_>,
+    offsets: &[usize],
+) -> Result<(), AllocError> {
+    for (index, entry) in document.entries.iter().enumerate() {
+        if report.is_full() {
+            return Ok(());
+        }
+        let offset = offsets.get(index).copied().unwrap_or(0);
+        look_at_object(alloc, report, document, entry, index, offset)?;
+    }
+    Ok(())
+}
+
+/// The lines on all faults of a document, with their number.
+fn lines_of(
+    alloc: Global,
+    input: Input<'_>,
+    model: &ClassModel,
+    document: &Value,
+) -> Result<(String, usize), AllocError> {
+    let entries = entries_of(alloc, document)?;
+    let ids = ids_of(alloc, &entries)?;
+    let holders = holders_of(alloc, model, &entries, &ids)?;
+    let offsets = offsets_of(alloc, input.bytes)?;
+    let mut report = Report::new(alloc, input);
+    let document = Document {
+        model,
+        entries: &entries,
+        ids: &ids,
+        holders: &holders,
+    };
+    look_at_objects(alloc, &mut report, document, &offsets)?;
+    let faults = report.faults();
+    Ok((report.into_lines(), faults))
+}
+
+/// Writes all faults of the objects of a delivery.
+fn explain_objects(
+    alloc: Global,
+    out: &mut String,
+    input: Input<'_>,
+    model: &ClassModel,
+    document: &Value,
+    fault: &DeliveryFault,
+) -> Result<(), AllocError> {
+    let (lines, faults) = lines_of(alloc, input, model, document)?;
+    out.push_str(lines.as_str())?;
+    let path = input.path;
+    match faults {
+        0 => writeln!(out, "{path}: {fault}"),
+        1 => writeln!(out, "{path}: 1 fault"),
+        100 => writeln!(out, "{path}: 100 faults; there may be more"),
+        _ => writeln!(out, "{path}: {faults} faults"),
+    }
+}
+
+/// Writes that a delivery is for another class model.
+fn explain_other_model(
+    alloc: Global,
+    out: &mut String,
+    input: Input<'_>,
+    model: &ClassModel,
+    document: &Value,
+) -> Result<(), AllocError> {
+    let path = input.path;
+    let wanted = quoted(alloc, model.name())?;
+    let given = match document.get("model").and_then(Value::as_str) {
+        Some(name) => quoted(alloc, name)?,
+        None => String::new(alloc),
+    };
+    writeln!(
+        out,
+        "{path}: this delivery is for the class model `{given}`, and not for `{wanted}` (delivery 3)"
+    )
+}
+
+/// Writes why a delivery is refused that has this fault: all faults of its objects, at most 100, unless it is no JSON, has
+/// another shape, or is for another class model.
+pub fn explain_delivery(
+    alloc: Global,
+    out: &mut String,
+    input: Input<'_>,
+    model: &ClassModel,
+    fault: &DeliveryFault,
+) -> Result<(), AllocError> {
+    if let DeliveryFault::NotJson = fault {
+        return explain_json(alloc, out, input, "delivery 1");
+    }
+    let Ok(document) = Value::from_slice(alloc, input.bytes) else {
+        return Err(AllocError);
+    };
+    match fault {
+        DeliveryFault::Shape => delivery_shape(alloc, out, input, &document),
+        DeliveryFault::OtherModel => explain_other_model(alloc, out, input, model, &document),
+        _ => explain_objects(alloc, out, input, model, &document, fault),
+    }
+}

@@ -1,0 +1,92 @@
+//! The objects of a delivery as they are written, and where.
+
+use serde_json::{Map, Value};
+use std::alloc::{AllocError, Global};
+
+/// An object as it is written.
+#[derive(Clone, Copy, Drop)]
+pub(crate) struct Entry<'v> {
+    /// Its id.
+    pub(crate) id: &'v str,
+    /// The name of its class.
+    pub(crate) class: &'v str,
+    /// Its features.
+    pub(crate) features: &'v Map<String, Value>,
+}
+
+/// The object that a value writes.
+fn entry_of(value: &Value) -> Option<Entry<'_>> {
+    Some(Entry {
+        id: value.get("id")?.as_str()?,
+        class: value.get("class")?.as_str()?,
+        features: value.get("features")?.as_object()?,
+    })
+}
+
+/// The objects that a document writes, as far as they have the shape of objects.
+pub(crate) fn entries_of(alloc: Global, document: &Value) -> Result<Vec<Entry<'_>>, AllocError> {
+    let mut entries = Vec::new(alloc);
+    if let Some(objects) = document.get("objects")
+        && let Some(objects) = objects.as_array()
+    {
+        for object in objects {
+            match entry_of(object) {
+                Some(entry) => entries.push(entry)?,
+                None => break,
+            }
+        }
+    }
+    Ok(entries)
+}
+
+/// What goes over the bytes of a document: how deep it is in lists and objects, and whether it is in a string.
+#[derive(Clone, Copy)]
+struct Walk {
+    depth: usize,
+    is_in_string: bool,
+    is_escaped: bool,
+}
+
+impl Walk {
+    /// After one more byte.
+    fn after(self, byte: u8) -> Walk {
+        if self.is_in_string {
+            return Walk {
+                depth: self.depth,
+                is_in_string: self.is_escaped || byte != b'"',
+                is_escaped: !self.is_escaped && byte == b'\\',
+            };
+        }
+        let depth = match byte {
+            b'{' | b'[' => self.depth.saturating_add(1),
+            b'}' | b']' => self.depth.saturating_sub(1),
+            _ => self.depth,
+        };
+        Walk {
+            depth,
+            is_in_string: byte == b'"',
+            is_escaped: false,
+        }
+    }
+}
+
+/// Where each object of a document begins, in bytes from 0: what opens by a brace in a list that is a member of the
+/// document. Where a member stands twice these are the objects of the last.
+pub(crate) fn offsets_of(alloc: Global, bytes: &[u8]) -> Result<Vec<usize>, AllocError> {
+    let mut offsets = Vec::new(alloc);
+    let mut walk = Walk {
+        depth: 0,
+        is_in_string: false,
+        is_escaped: false,
+    };
+    for (offset, byte) in bytes.iter().enumerate() {
+        if !walk.is_in_string && *byte == b'[' && walk.depth == 1 {
+            offsets.clear();
+        }
+        if !walk.is_in_string && *byte == b'{' && walk.depth == 2 {
+            offsets.push(offset)?;
+        }
+        walk = walk.after(*byte);
+    }
+    Ok(offsets)
+}

@@ -1,0 +1,17 @@
+//! Why a class model or a delivery is refused: what is no JSON, what has another shape, and every fault of a delivery,
+//! object by object.
+#![tactic(auto)]
+
+mod deliveries;
+mod drafts;
+mod entries;
+mod json_notes;
+mod model_faults;
+mod models;
+mod objects;
+mod report;
+mod shapes;
+mod values;
+
+pub use deliveries::explain_delivery;
+pub use models::explain_model;

@@ -1,0 +1,44 @@
+//! Why a class model is refused.
+
+use crate::json_notes::explain_json;
+use crate::model_faults::model_fault_words;
+use crate::shapes::model_shape;
+use explain_notes::Input;
+use imkl_model::ModelFault;
+use serde_json::Value;
+use std::alloc::{AllocError, Global};
+
+/// Writes what is wrong with a class model that has the shape of one.
+fn explain_content(
+    alloc: Global,
+    out: &mut String,
+    input: Input<'_>,
+    document: &Value,
+    fault: ModelFault,
+) -> Result<(), AllocError> {
+    let path = input.path;
+    let number = fault.number();
+    match model_fault_words(alloc, document, fault)? {
+        Some(words) => writeln!(out, "{path}: {words} (model {number})"),
+        None => writeln!(out, "{path}: {fault} (model {number})"),
+    }
+}
+
+/// Writes why a class model is refused that has this fault.
+pub fn explain_model(
+    alloc: Global,
+    out: &mut String,
+    input: Input<'_>,
+    fault: ModelFault,
+) -> Result<(), AllocError> {
+    if fault == ModelFault::NotJson {
+        return explain_json(alloc, out, input, "model 1");
+    }
+    let Ok(document) = Value::from_slice(alloc, input.bytes) else {
+        return Err(AllocError);
+    };
+    match fault {
+        ModelFault::Shape => model_shape(alloc, out, input, &document),
+        _ => explain_content(alloc, out, input, &document, fault),
+    }
+}

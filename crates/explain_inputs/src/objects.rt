@@ -1,0 +1,396 @@
+//! The faults of one object of a delivery.
+
+use crate::entries::Entry;
+use crate::report::{Report, Subject};
+use crate::values::{is_of_type, values_of, wanted, written};
+use explain_notes::{Nearest, quoted};
+use imkl_model::{ClassModel, ClassNo, ElementType, FeatureInfo, FeatureNo, Role};
+use imkl_population::PopulationFault;
+use model_names::{
+    belongs, class_name, feature_info, feature_named, is_abstract, is_class_below, offer_classes,
+    offer_features,
+};
+use serde_json::Value;
+use std::alloc::{AllocError, Global};
+use std::collections::BTreeMap;
+
+/// A delivery as it is written.
+#[derive(Clone, Copy)]
+pub(crate) struct Document<'d, 'v> {
+    pub(crate) model: &'d ClassModel,
+    pub(crate) entries: &'d [Entry<'v>],
+    /// The first object of each id.
+    pub(crate) ids: &'d BTreeMap<&'v str, usize>,
+    /// How many objects write an object at the source end of an opposite end, by that end and the object's index.
+    pub(crate) holders: &'d BTreeMap<(usize, usize), usize>,
+}
+
+/// Whether an id may be one.
+fn is_id(id: &str) -> bool {
+    !id.is_empty()
+        && id.len() <= 128
+        && id.bytes().all(|b| {
+            matches!(b, b'A'..=b'Z' | b'a'..=b'z' | b'0'..=b'9' | b'-' | b'.' | b'_' | b':')
+        })
+}
+
+/// What is asked of a name that is near a wanted one.
+fn meant(alloc: Global, nearest: &Nearest<'_>) -> Result<String, AllocError> {
+    match nearest.found() {
+        Some(name) => format!(in alloc; "; did you mean `{name}`?"),
+        None => Ok(String::new(alloc)),
+    }
+}
+
+/// Says what is wrong with the id of an object.
+fn look_at_id(
+    alloc: Global,
+    report: &mut Report<'_>,
+    document: Document<'_, '_>,
+    subject: &Subject<'_>,
+) -> Result<(), AllocError> {
+    if !is_id(subject.id) {
+        let message = "its id isn't 1 to 128 characters of A-Z a-z 0-9 . _ : -";
+        return report.refuse(alloc, subject, PopulationFault::BadId.number(), message);
+    }
+    match document.ids.get(subject.id) {
+        Some(first) if *first != subject.index => {
+            let first = *first;
+            let message = format!(in alloc; "object {first} has its id already")?;
+            report.refuse(
+                alloc,
+                subject,
+                PopulationFault::DuplicateId.number(),
+                message.as_str(),
+            )
+        }
+        _ => Ok(()),
+    }
+}
+
+/// Says what is wrong with the class of an object; gives the class if it is there.
+fn look_at_class(
+    alloc: Global,
+    report: &mut Report<'_>,
+    model: &ClassModel,
+    subject: &Subject<'_>,
+) -> Result<Option<ClassNo>, AllocError> {
+    let Some(class) = model.class(subject.class) else {
+        let mut nearest = Nearest::to(subject.class);
+        offer_classes(alloc, model, &mut nearest)?;
+        let name = quoted(alloc, subject.class)?;
+        let near = meant(alloc, &nearest)?;
+        let message = format!(in alloc; "there is no class `{name}`{near}")?;
+        report.say(alloc, subject, "delivery 4", message.as_str())?;
+        return Ok(None);
+    };
+    if is_abstract(model, class) {
+        let name = class_name(model, class);
+        let message = format!(in alloc; "{name} is abstract, so an object is of a class below it")?;
+        report.refuse(
+            alloc,
+            subject,
+            PopulationFault::AbstractClass.number(),
+            message.as_str(),
+        )?;
+    }
+    Ok(Some(class))
+}
+
+/// Says which members of an object are no features of its class.
+fn look_at_members(
+    alloc: Global,
+    report: &mut Report<'_>,
+    model: &ClassModel,
+    subject: &Subject<'_>,
+    class: ClassNo,
+    entry: &Entry<'_>,
+) -> Result<(), AllocError> {
+    for (name, _) in entry.features {
+        if feature_named(model, class, name.as_str()).is_none() {
+            let mut nearest = Nearest::to(name.as_str());
+            offer_features(alloc, model, class, &mut nearest)?;
+            let near = meant(alloc, &nearest)?;
+            let written = quoted(alloc, name.as_str())?;
+            let owner = class_name(model, class);
+            let message = format!(in alloc; "{owner} has no feature `{written}`{near}")?;
+            report.say(alloc, subject, "delivery 5", message.as_str())?;
+        }
+    }
+    Ok(())
+}
+
+/// Bounds in words: how many values a feature wants.
+fn bounds(alloc: Global, feature: &FeatureInfo) -> Result<String, AllocError> {
+    let lower = feature.lower;
+    match feature.upper {
+        Some(upper) if upper == lower => format!(in alloc; "wants {lower}"),
+        Some(upper) => format!(in alloc; "wants {lower} to {upper}"),
+        None => format!(in alloc; "wants {lower} or more"),
+    }
+}
+
+/// The numbers of the faults that a feature has too few or too many values.
+const TOO_FEW: u8 = 5;
+
+const TOO_MANY: u8 = 6;
+
+/// What a count of values is against a feature's bounds, if it isn't within them.
+fn count_fault(feature: &FeatureInfo, count: usize) -> Option<u8> {
+    let count = count as u64;
+    if count < u64::from(feature.lower) {
+        return Some(TOO_FEW);
+    }
+    match feature.upper {
+        Some(upper) if count > u64::from(upper) => Some(TOO_MANY),
+        _ => None,
+    }
+}
+
+/// Says whether a feature has too few or too many values.
+fn look_at_count(
+    alloc: Global,
+    report: &mut Report<'_>,
+    subject: &Subject<'_>,
+    feature: &FeatureInfo,
+    count: usize,
+) -> Result<(), AllocError> {
+    let Some(fault) = count_fault(feature, count) else {
+        return Ok(());
+    };
+    let name = feature.name.as_str();
+    let bounds = bounds(alloc, feature)?;
+    let what = match (feature.role, count) {
+        (Role::Attribute, 1) => "value",
+        (Role::Attribute, _) => "values",
+        (_, 1) => "object",
+        (_, _) => "objects",
+    };
+    let message = format!(in alloc; "`{name}` {bounds}, and has {count} {what}")?;
+    report.refuse(alloc, subject, fault, message.as_str())
+}
+
+/// Says which value of a feature is of another type; whether there is one.
+fn look_at_types(
+    alloc: Global,
+    report: &mut Report<'_>,
+    model: &ClassModel,
+    subject: &Subject<'_>,
+    feature: &FeatureInfo,
+    values: &[Value],
+) -> Result<bool, AllocError> {
+    let name = feature.name.as_str();
+    for value in values {
+        if !is_of_type(model, feature.element, value) {
+            let value = written(alloc, value)?;
+            let wanted = wanted(alloc, model, feature.element)?;
+            let message = format!(in alloc; "`{name}` wants {wanted}, and not {value}")?;
+            report.refuse(
+                alloc,
+                subject,
+                PopulationFault::WrongKind.number(),
+                message.as_str(),
+            )?;
+            return Ok(true);
+        }
+    }
+    Ok(false)
+}
+
+/// Says what is wrong with a target of an end that holds objects of a class; whether there is something.
+fn look_at_target(
+    alloc: Global,
+    report: &mut Report<'_>,
+    document: Document<'_, '_>,
+    subject: &Subject<'_>,
+    name: &str,
+    class: ClassNo,
+    id: &str,
+) -> Result<bool, AllocError> {
+    let model = document.model;
+    let target = quoted(alloc, id)?;
+    let Some(index) = document.ids.get(id) else {
+        let message = format!(in alloc; "`{name}` names `{target}`, and no object has that id")?;
+        report.say(alloc, subject, "delivery 6", message.as_str())?;
+        return Ok(true);
+    };
+    let own = match document.entries.get(*index) {
+        Some(entry) => entry.class,
+        None => "",
+    };
+    match model.class(own) {
+        Some(found) if !is_class_below(model, found, class) => {
+            let wanted = class_name(model, class);
+            let message = format!(in alloc;
+                "`{name}` wants objects of {wanted}, and `{target}` is of {own}"
+            )?;
+            report.refuse(
+                alloc,
+                subject,
+                PopulationFault::WrongClass.number(),
+                message.as_str(),
+            )?;
+            Ok(true)
+        }
+        _ => Ok(false),
+    }
+}
+
+/// Says what is wrong with the targets of an end; whether there is something.
+fn look_at_targets(
+    alloc: Global,
+    report: &mut Report<'_>,
+    document: Document<'_, '_>,
+    subject: &Subject<'_>,
+    feature: &FeatureInfo,
+    values: &[Value],
+) -> Result<bool, AllocError> {
+    let ElementType::Class(class) = feature.element else {
+        return Ok(false);
+    };
+    let name = feature.name.as_str();
+    let mut is_wrong = false;
+    for value in values {
+        if let Some(id) = value.as_str()
+            && look_at_target(alloc, report, document, subject, name, class, id)?
+        {
+            is_wrong = true;
+        }
+    }
+    Ok(is_wrong)
+}
+
+/// The first value that stands twice in a list.
+fn repeated(values: &[Value]) -> Option<&Value> {
+    for (index, value) in values.iter().enumerate() {
+        let before = values.get(..index).unwrap_or(&[]);
+        if before.iter().any(|other| other == value) {
+            return Some(value);
+        }
+    }
+    None
+}
+
+/// Says what is wrong with the values of a feature, in the order in which they are checked: the first that is.
+fn look_at_values(
+    alloc: Global,
+    report: &mut Report<'_>,
+    document: Document<'_, '_>,
+    subject: &Subject<'_>,
+    feature: &FeatureInfo,
+    values: &[Value],
+) -> Result<(), AllocError> {
+    let name = feature.name.as_str();
+    if look_at_types(alloc, report, document.model, subject, feature, values)?
+        || look_at_targets(alloc, report, document, subject, feature, values)?
+    {
+        return Ok(());
+    }
+    if feature.is_unique()
+        && let Some(value) = repeated(values)
+    {
+        let value = written(alloc, value)?;
+        let message = format!(in alloc; "`{name}` has {value} twice")?;
+        return report.refuse(
+            alloc,
+            subject,
+            PopulationFault::DuplicateTarget.number(),
+            message.as_str(),
+        );
+    }
+    look_at_count(alloc, report, subject, feature, values.len())
+}
+
+/// Says what is wrong with an opposite end, which follows from what other objects write.
+fn look_at_opposite(
+    alloc: Global,
+    report: &mut Report<'_>,
+    document: Document<'_, '_>,
+    subject: &Subject<'_>,
+    number: FeatureNo,
+    feature: &FeatureInfo,
+    source: FeatureNo,
+    is_written: bool,
+) -> Result<(), AllocError> {
+    let name = feature.name.as_str();
+    let Some(writer) = feature_info(document.model, source) else {
+        return Ok(());
+    };
+    if is_written {
+        let (end, owner) = (
+            writer.name.as_str(),
+            class_name(document.model, writer.owner),
+        );
+        let message = format!(in alloc;
+            "`{name}` follows from `{end}` of {owner}: write it there, and not here"
+        )?;
+        return report.refuse(
+            alloc,
+            subject,
+            PopulationFault::Derived.number(),
+            message.as_str(),
+        );
+    }
+    let key = (number.index(), subject.index);
+    let count = document.holders.get(&key).copied().unwrap_or(0);
+    look_at_count(alloc, report, subject, feature, count)
+}
+
+/// Says what is wrong with a feature of an object.
+fn look_at_feature(
+    alloc: Global,
+    report: &mut Report<'_>,
+    document: Document<'_, '_>,
+    subject: &Subject<'_>,
+    entry: &Entry<'_>,
+    number: FeatureNo,
+) -> Result<(), AllocError> {
+    let Some(feature) = feature_info(document.model, number) else {
+        return Ok(());
+    };
+    let member = entry.features.get(feature.name.as_str());
+    if let Role::OppositeEnd { source } = feature.role {
+        let is_written = match member {
+            Some(value) => !value.is_null(),
+            None => false,
+        };
+        return look_at_opposite(
+            alloc, report, document, subject, number, feature, source, is_written,
+        );
+    }
+    let values = match member {
+        Some(value) => values_of(value),
+        None => &[],
+    };
+    look_at_values(alloc, report, document, subject, feature, values)
+}
+
+/// Says all that is wrong with an object.
+pub(crate) fn look_at_object(
+    alloc: Global,
+    report: &mut Report<'_>,
+    document: Document<'_, '_>,
+    entry: &Entry<'_>,
+    index: usize,
+    offset: usize,
+) -> Result<(), AllocError> {
+    let subject = Subject {
+        index,
+        offset,
+        id: entry.id,
+        class: entry.class,
+    };
+    look_at_id(alloc, report, document, &subject)?;
+    let model = document.model;
+    let Some(class) = look_at_class(alloc, report, model, &subject)? else {
+        return Ok(());
+    };
+    look_at_members(alloc, report, model, &subject, class, entry)?;
+    for index in 0..model.feature_count() {
+        let number = FeatureNo::new(index);
+        if belongs(model, class, number) && !report.is_full() {
+            look_at_feature(alloc, report, document, &subject, entry, number)?;
+        }
+    }
+    Ok(())
+}

@@ -1,0 +1,86 @@
+//! The values of a feature as they are written, and what is said of them.
+
+use explain_notes::quoted;
+use imkl_model::{ClassModel, ElementType};
+use model_names::{class_name, enumeration_name, literal_count, literal_name};
+use serde_json::Value;
+use std::alloc::{AllocError, Global};
+use std::slice;
+
+/// The most literals that are listed.
+const MOST_LISTED: usize = 12;
+
+/// The values that a member lists: one stands for a list of one, null for none.
+pub(crate) fn values_of(value: &Value) -> &[Value] {
+    match value {
+        Value::Null => &[],
+        Value::Array(values) => values.as_slice(),
+        _ => slice::from_ref(value),
+    }
+}
+
+/// A value as it is written, cut where it is long.
+pub(crate) fn written(alloc: Global, value: &Value) -> Result<String, AllocError> {
+    let text = value.to_string(alloc)?;
+    quoted(alloc, text.as_str())
+}
+
+/// Whether a value is of an attribute's type, or for an end a text.
+pub(crate) fn is_of_type(model: &ClassModel, element: ElementType, value: &Value) -> bool {
+    match element {
+        ElementType::Boolean => value.is_boolean(),
+        ElementType::Integer => value.as_i64().is_some(),
+        ElementType::String | ElementType::Class(_) => value.is_string(),
+        ElementType::Enumeration(enumeration) => match value.as_str() {
+            Some(name) => {
+                (0..literal_count(model, enumeration)).any(|index| literal_name(
+                    model,
+                    enumeration,
+                    index,
+                ) == name)
+            }
+            None => false,
+        },
+    }
+}
+
+/// The literals of an enumeration, as they are listed.
+fn literals(alloc: Global, model: &ClassModel, element: ElementType) -> Result<String, AllocError> {
+    let mut names = String::new(alloc);
+    let ElementType::Enumeration(enumeration) = element else {
+        return Ok(names);
+    };
+    for index in 0..literal_count(model, enumeration) {
+        if index != 0 {
+            names.push_str(", ")?;
+        }
+        if index == MOST_LISTED {
+            names.push_str("..")?;
+            return Ok(names);
+        }
+        names.push_str(literal_name(model, enumeration, index))?;
+    }
+    Ok(names)
+}
+
+/// What a value of an element type is, in words.
+pub(crate) fn wanted(
+    alloc: Global,
+    model: &ClassModel,
+    element: ElementType,
+) -> Result<String, AllocError> {
+    match element {
+        ElementType::Boolean => String::from_str(alloc, "true or false"),
+        ElementType::Integer => String::from_str(alloc, "a whole number without a point"),
+        ElementType::String => String::from_str(alloc, "a text in double quotes"),
+        ElementType::Enumeration(enumeration) => {
+            let name = enumeration_name(model, enumeration);
+            let literals = literals(alloc, model, element)?;
+            format!(in alloc; "a literal of {name} ({literals})")
+        }
+        ElementType::Class(class) => {
+            let name = class_name(model, class);
+            format!(in alloc; "the id of an object of {name}")
+        }
+    }
+}

@@ -1,0 +1,14 @@
+//! Notes on inputs as compilers write them: where a byte stands, the line with a mark under it, and the nearest name.
+#![tactic(auto)]
+
+mod input;
+mod nearest;
+mod note;
+mod place;
+mod showing;
+
+pub use input::Input;
+pub use nearest::Nearest;
+pub use note::{Note, write_marked};
+pub use place::{Place, place_of};
+pub use showing::{quoted, shown};

@@ -1,0 +1,15 @@
+//! Why the types of rules are refused: a reading of their types that stops at the fault, and what is said of it.
+#![tactic(auto)]
+
+mod conforming;
+mod found;
+mod operations;
+mod reading;
+mod sayings;
+mod scope;
+mod type_flaws;
+mod type_names;
+mod warnings;
+
+pub use type_flaws::explain_type_flaw;
+pub use warnings::warn_of_rule;

@@ -1,0 +1,227 @@
+//! The variables that a part of a rule sees.
+
+use crate::found::Stop;
+use explain_notes::Nearest;
+use imkl_model::{ClassModel, ClassNo};
+use model_names::{feature_info, feature_named, offer_features};
+use ocl_kinds::{Kind, ScalarKind, feature_kind};
+use ocl_text::Name;
+use std::alloc::{AllocError, Global};
+
+/// A variable; one without a name lends its features.
+#[derive(Clone, Copy)]
+struct Variable<'t> {
+    name: Option<&'t str>,
+    kind: Kind,
+    /// Where its name stands, of the variable of a `let`.
+    bound: Option<usize>,
+}
+
+/// A comparison of values of types that have nothing in common.
+#[derive(Clone, Copy, Drop)]
+pub(crate) struct Unequal {
+    /// Where its operator stands, in bytes from 0.
+    pub(crate) offset: usize,
+    /// The type on its left.
+    pub(crate) left: Kind,
+    /// The type on its right.
+    pub(crate) right: Kind,
+}
+
+/// The variables, outermost first; the outermost is the context object. And what a reading that ends well has met, of which
+/// there are warnings.
+#[derive(Drop)]
+pub(crate) struct Scope<'t> {
+    context: ClassNo,
+    variables: Vec<Variable<'t>>,
+    /// Of each variable, whether something has read it.
+    is_read: Vec<bool>,
+    /// The comparisons that are never true.
+    pub(crate) unequal: Vec<Unequal>,
+    /// Where the names of variables stand that nothing reads.
+    pub(crate) unread: Vec<usize>,
+}
+
+/// The type of the feature of a name that an object of a class has.
+pub(crate) fn kind_of_feature(model: &ClassModel, class: ClassNo, name: &str) -> Option<Kind> {
+    let feature = feature_named(model, class, name)?;
+    let info = feature_info(model, feature)?;
+    Some(feature_kind(info))
+}
+
+/// Puts an item at a list's end.
+fn push<T: Drop>(items: &mut Vec<T>, item: T) -> Result<(), Stop> {
+    items.push(item)?;
+    Ok(())
+}
+
+/// The type of the feature of a name that a variable lends.
+fn kind_lent(model: &ClassModel, variable: &Variable<'_>, name: &str) -> Option<Kind> {
+    if variable.name.is_some() {
+        return None;
+    }
+    match &variable.kind {
+        Kind::Scalar(ScalarKind::Class(class)) => kind_of_feature(model, *class, name),
+        _ => None,
+    }
+}
+
+impl<'t> Scope<'t> {
+    /// The context object alone.
+    pub(crate) fn of_context(alloc: Global, context: ClassNo) -> Result<Scope<'t>, Stop> {
+        let mut scope = Scope {
+            context,
+            variables: Vec::new(alloc),
+            is_read: Vec::new(alloc),
+            unequal: Vec::new(alloc),
+            unread: Vec::new(alloc),
+        };
+        scope.push_unnamed(Kind::Scalar(ScalarKind::Class(context)))?;
+        Ok(scope)
+    }
+
+    /// The type of the context object.
+    pub(crate) fn context_kind(&self) -> Kind {
+        Kind::Scalar(ScalarKind::Class(self.context))
+    }
+
+    /// How many variables there are.
+    pub(crate) fn len(&self) -> usize {
+        self.variables.len()
+    }
+
+    /// One more variable, of this name.
+    pub(crate) fn push_named(&mut self, name: &'t Name, kind: Kind) -> Result<(), Stop> {
+        push(&mut self.is_read, false)?;
+        let variable = Variable {
+            name: Some(name.as_str()),
+            kind,
+            bound: None,
+        };
+        push(&mut self.variables, variable)
+    }
+
+    /// One more variable, of a `let`, whose name stands at an offset.
+    pub(crate) fn push_bound(
+        &mut self,
+        name: &'t Name,
+        kind: Kind,
+        offset: usize,
+    ) -> Result<(), Stop> {
+        push(&mut self.is_read, false)?;
+        let variable = Variable {
+            name: Some(name.as_str()),
+            kind,
+            bound: Some(offset),
+        };
+        push(&mut self.variables, variable)
+    }
+
+    /// One more variable, which lends its features.
+    pub(crate) fn push_unnamed(&mut self, kind: Kind) -> Result<(), Stop> {
+        push(&mut self.is_read, false)?;
+        let variable = Variable {
+            name: None,
+            kind,
+            bound: None,
+        };
+        push(&mut self.variables, variable)
+    }
+
+    /// The outermost variables alone, so many; notes those of the others that nothing read.
+    pub(crate) fn cut(&mut self, len: usize) -> Result<(), Stop> {
+        for index in len..self.variables.len() {
+            if let Some(variable) = self.variables.get(index)
+                && let Some(offset) = variable.bound
+                && !self.is_read.get(index).copied().unwrap_or(true)
+            {
+                push(&mut self.unread, offset)?;
+            }
+        }
+        self.variables.truncate(len);
+        self.is_read.truncate(len);
+        Ok(())
+    }
+
+    /// Notes a comparison of values of types that have nothing in common.
+    pub(crate) fn note_unequal(
+        &mut self,
+        offset: usize,
+        left: &Kind,
+        right: &Kind,
+    ) -> Result<(), Stop> {
+        let unequal = Unequal {
+            offset,
+            left: *left,
+            right: *right,
+        };
+        push(&mut self.unequal, unequal)
+    }
+
+    /// The index of the innermost variable of a name.
+    fn variable_of_name(&self, name: &str) -> Option<usize> {
+        for index in (0..self.variables.len()).rev() {
+            if let Some(variable) = self.variables.get(index)
+                && let Some(own) = variable.name
+                && own == name
+            {
+                return Some(index);
+            }
+        }
+        None
+    }
+
+    /// The type of the innermost variable of a name, which is read by that.
+    fn kind_of_variable(&mut self, name: &str) -> Option<Kind> {
+        let index = self.variable_of_name(name)?;
+        if index < self.is_read.len() {
+            self.is_read[index] = true;
+        }
+        match self.variables.get(index) {
+            Some(variable) => Some(variable.kind),
+            None => None,
+        }
+    }
+
+    /// The type of a bare name: that of a variable, or else of a feature that one without a name lends.
+    pub(crate) fn kind_of_name(&mut self, model: &ClassModel, name: &str) -> Option<Kind> {
+        if let Some(kind) = self.kind_of_variable(name) {
+            return Some(kind);
+        }
+        for variable in self.variables.iter().rev() {
+            if let Some(kind) = kind_lent(model, variable, name) {
+                return Some(kind);
+            }
+        }
+        None
+    }
+
+    /// Offers the names that can stand by themselves.
+    pub(crate) fn offer_names(
+        &self,
+        alloc: Global,
+        model: &'t ClassModel,
+        nearest: &mut Nearest<'t>,
+    ) -> Result<(), AllocError> {
+        for variable in &self.variables {
+            match variable.name {
+                Some(name) => nearest.offer(alloc, name)?,
+                None => offer_lent(alloc, model, &variable.kind, nearest)?,
+            }
+        }
+        Ok(())
+    }
+}
+
+/// Offers the features that a variable of a type lends.
+fn offer_lent<'n>(
+    alloc: Global,
+    model: &'n ClassModel,
+    kind: &Kind,
+    nearest: &mut Nearest<'n>,
+) -> Result<(), AllocError> {
+    match kind {
+        Kind::Scalar(ScalarKind::Class(class)) => offer_features(alloc, model, *class, nearest),
+        _ => Ok(()),
+    }
+}

@@ -1,0 +1,109 @@
+//! Warnings of rules whose types are right.
+
+use crate::reading::{Reading, kind_of};
+use crate::scope::{Scope, Unequal};
+use crate::type_names::a_type;
+use explain_notes::{Input, Note};
+use explain_text::length_of_token;
+use imkl_model::ClassModel;
+use ocl_kinds::{Kind, ScalarKind};
+use ocl_text::SurfaceRule;
+use ocl_types::TypeFlaw;
+use std::alloc::{AllocError, Global};
+
+/// How what was meant by a comparison with a literal's name is written.
+fn equality_advice(left: &Kind, right: &Kind) -> &'static str {
+    match (left, right) {
+        (Kind::Scalar(ScalarKind::Enumeration(_)), Kind::Scalar(ScalarKind::String)) => {
+            "a literal of an enumeration is written without quotes, as `Thema::water`"
+        }
+        _ => "",
+    }
+}
+
+/// Writes a warning of a comparison that is true only where both values are null.
+fn write_unequal(
+    alloc: Global,
+    out: &mut String,
+    input: Input<'_>,
+    model: &ClassModel,
+    unequal: &Unequal,
+) -> Result<(), AllocError> {
+    let left = a_type(alloc, model, &unequal.left)?;
+    let right = a_type(alloc, model, &unequal.right)?;
+    let label = format!(in alloc; "{left} on its left, {right} on its right")?;
+    let note = Note {
+        input,
+        offset: unequal.offset,
+        length: length_of_token(alloc, input.bytes, unequal.offset),
+        message: "these are equal only where both are null",
+        fault: "warning",
+        label: label.as_str(),
+        help: equality_advice(&unequal.left, &unequal.right),
+    };
+    note.write(alloc, out)
+}
+
+/// Writes a warning of a variable that nothing reads.
+fn write_unread(
+    alloc: Global,
+    out: &mut String,
+    input: Input<'_>,
+    offset: usize,
+) -> Result<(), AllocError> {
+    let note = Note {
+        input,
+        offset,
+        length: length_of_token(alloc, input.bytes, offset),
+        message: "nothing reads this variable",
+        fault: "warning",
+        label: "",
+        help: "",
+    };
+    note.write(alloc, out)
+}
+
+/// Writes the warnings that a reading gathered.
+fn write_gathered(
+    alloc: Global,
+    out: &mut String,
+    input: Input<'_>,
+    model: &ClassModel,
+    scope: &Scope<'_>,
+) -> Result<(), AllocError> {
+    for unequal in &scope.unequal {
+        write_unequal(alloc, out, input, model, unequal)?;
+    }
+    for offset in &scope.unread {
+        write_unread(alloc, out, input, *offset)?;
+    }
+    Ok(())
+}
+
+/// Writes the warnings of a rule whose types are right: comparisons that are true only of two nulls, and variables of a `let`
+/// that nothing reads.
+pub fn warn_of_rule(
+    alloc: Global,
+    out: &mut String,
+    input: Input<'_>,
+    model: &ClassModel,
+    rule: &SurfaceRule,
+) -> Result<(), AllocError> {
+    let Some(class) = model.class(rule.context.as_str()) else {
+        return Ok(());
+    };
+    let Ok(mut scope) = Scope::of_context(alloc, class) else {
+        return Err(AllocError);
+    };
+    // (no fault stands there, so the reading goes through the whole rule)
+    let reading = Reading {
+        model,
+        flaw: TypeFlaw::UnknownName,
+        offset: usize::MAX,
+        rule_offset: rule.expression.offset(),
+    };
+    match kind_of(alloc, &reading, &mut scope, &rule.expression) {
+        Ok(_) => write_gathered(alloc, out, input, model, &scope),
+        Err(_) => Ok(()),
+    }
+}

@@ -1,0 +1,131 @@
+//! What `ocl_check` answers, of inputs that were read already.
+
+ghost use Rattle.std.specs.Prelude.{◌≡◌, ◌||◌, false};
+ghost use Rattle.ocl_check.specs.Answers.{IsAnswered, IsAnsweredBy, KeepsSink, KeepsUnread, fails_write};
+ghost use Rattle.ocl_check.specs.Bound.{bound_answer};
+ghost use Rattle.ocl_check.specs.Compile.{IsCodeWritten, IsOfUnit, compile_answer};
+ghost use Rattle.ocl_check.specs.Desk.{desk_answer};
+ghost use Rattle.ocl_check.specs.JudgeText.{JudgeAnswers};
+ghost use Rattle.ocl_check.specs.TextReading.{TextReading, ReadsAs};
+ghost use Rattle.ocl_check.specs.Verify.{verify_answer};
+
+use ocl_check::{
+    Counting, JudgeOptions, Outcome, Sink, run_bound, run_compile, run_desk, run_judge, run_verify,
+};
+use std::alloc::Global;
+
+/// Judges a delivery by rules as `run_judge` does.
+pub fn answer_judge<S: Sink>(
+    alloc: Global,
+    options: JudgeOptions,
+    model: &[u8],
+    delivery: &[u8],
+    rules: &[u8],
+    sink: &mut S,
+) -> Outcome
+    requires { S.has_failed sink.old ≡ false }
+    ensures answered { IsAnsweredBy (JudgeAnswers options model.now delivery.now rules.now)
+        (S.contents sink.old) (S.contents sink.new) result }
+    ensures sink { S.has_failed sink.new ≡ fails_write result }
+    ensures kept { KeepsUnread result sink.old sink.new }
+{
+    run_judge(
+        alloc,
+        options,
+        &mut Counting::new(model),
+        &mut Counting::new(delivery),
+        &mut Counting::new(rules),
+        sink,
+    )
+}
+
+/// Says what each rule of a code file is charged at most, as `run_bound` does.
+pub fn answer_bound<S: Sink>(
+    alloc: Global,
+    model: &[u8],
+    delivery: &[u8],
+    code: &[u8],
+    sink: &mut S,
+) -> Outcome
+    requires { S.has_failed sink.old ≡ false }
+    ensures answered { IsAnswered (bound_answer model.now delivery.now code.now)
+        (S.contents sink.old) (S.contents sink.new) result }
+    ensures sink { S.has_failed sink.new ≡ fails_write result }
+    ensures kept { KeepsSink result sink.old sink.new }
+{
+    run_bound(
+        alloc,
+        &mut Counting::new(model),
+        &mut Counting::new(delivery),
+        &mut Counting::new(code),
+        sink,
+    )
+}
+
+/// Verifies a code file as `run_verify` does.
+pub fn answer_verify<S: Sink>(alloc: Global, model: &[u8], code: &[u8], sink: &mut S) -> Outcome
+    requires { S.has_failed sink.old ≡ false }
+    ensures answered { IsAnswered (verify_answer model.now code.now)
+        (S.contents sink.old) (S.contents sink.new) result }
+    ensures sink { S.has_failed sink.new ≡ fails_write result }
+    ensures kept { KeepsSink result sink.old sink.new }
+{
+    run_verify(
+        alloc,
+        &mut Counting::new(model),
+        &mut Counting::new(code),
+        sink,
+    )
+}
+
+/// Compiles a rule text as `run_compile` does.
+pub fn answer_compile<O: Sink, S: Sink>(
+    alloc: Global,
+    model: &[u8],
+    rules: &[u8],
+    out: &mut O,
+    sink: &mut S,
+) -> Outcome
+    requires out { O.has_failed out.old ≡ false }
+    requires sink { S.has_failed sink.old ≡ false }
+    ensures answered { (t : TextReading) × ReadsAs rules.now t × IsOfUnit result model.now t
+        × IsCodeWritten O.contents O.has_failed (compile_answer model.now t).code
+        out.old out.new result
+        × IsAnswered (compile_answer model.now t).said
+        (S.contents sink.old) (S.contents sink.new) result }
+    ensures sinks { (O.has_failed out.new || S.has_failed sink.new) ≡ fails_write result }
+    ensures kept { KeepsSink result sink.old sink.new }
+{
+    run_compile(
+        alloc,
+        &mut Counting::new(model),
+        &mut Counting::new(rules),
+        out,
+        sink,
+    )
+}
+
+/// Answers a script of calls on a desk as `run_desk` does.
+pub fn answer_desk<S: Sink>(
+    alloc: Global,
+    model: &[u8],
+    delivery: &[u8],
+    code: &[u8],
+    script: &[u8],
+    sink: &mut S,
+) -> Outcome
+    requires { S.has_failed sink.old ≡ false }
+    ensures answered { IsAnswered (desk_answer model.now delivery.now code.now script.now)
+        (S.contents sink.old) (S.contents sink.new) result }
+    ensures sink { S.has_failed sink.new ≡ fails_write result }
+    ensures kept { KeepsUnread result sink.old sink.new }
+{
+    run_desk(
+        alloc,
+        &mut Counting::new(model),
+        &mut Counting::new(delivery),
+        &mut Counting::new(code),
+        &mut Counting::new(script),
+        sink,
+    )
+}

@@ -1,0 +1,43 @@
+//! Why a rule isn't admitted.
+
+ghost use Rattle.std.specs.Prelude.{◌≡◌};
+
+use explain_notes::Input;
+use imkl_population::Sizes;
+use rule_cost::{Bound, bound};
+use rule_verify::Accepted;
+use std::alloc::{AllocError, Global};
+
+/// Writes what a rule may be charged, and the budget that this is above.
+pub(crate) fn explain_cost(
+    alloc: Global,
+    out: &mut String,
+    input: Input<'_>,
+    accepted: &Accepted<'_>,
+    sizes: &Sizes<'_>,
+    budget: u64,
+    rule: usize,
+) -> Result<(), AllocError>
+    requires { sizes.now.model ≡ accepted.now.model }
+{
+    let path = input.path;
+    if rule >= accepted.rules() {
+        return Ok(());
+    }
+    let name = accepted.rule_name(rule);
+    match bound(alloc, accepted, rule, sizes) {
+        Ok(Bound::Steps(charges)) => writeln!(
+            out,
+            "{path}: rule `{name}` may be charged {charges} for an object, and the budget is {budget} (cost 1)"
+        )?,
+        Ok(Bound::Over) => writeln!(
+            out,
+            "{path}: rule `{name}` may be charged 2^63 or more for an object, which no budget allows (cost 1)"
+        )?,
+        Err(_) => return Err(AllocError),
+    }
+    writeln!(
+        out,
+        "  each iteration costs its body as often as there may be elements, and one inside another multiplies"
+    )
+}

@@ -1,0 +1,16 @@
+//! The commands of `ocl_check` over inputs that were read already, and why an input is refused, in words.
+#![tactic(auto)]
+
+mod answers;
+mod costs;
+mod keeping;
+mod listing;
+mod refusals;
+mod rules;
+mod warnings;
+
+pub use answers::{answer_bound, answer_compile, answer_desk, answer_judge, answer_verify};
+pub use keeping::Keeping;
+pub use listing::{Listing, list_code};
+pub use refusals::{explain_bound, explain_compile, explain_desk, explain_judge, explain_verify};
+pub use warnings::{warn_compile, warn_judge};

@@ -1,0 +1,66 @@
+//! The command line.
+
+use clap::{Arg, ArgMatches, Command, Error};
+use ocl_programs::{Request, VERSION, bound, compile, desk, judge, request_of, verify, word};
+use std::alloc::{AllocError, Global};
+
+/// The end of the program's help.
+const HELP: &str = "\
+A command of ocl_check is answered as ocl_check answers it, with its status; on standard error it is
+said why an input is refused, where, and how it can be mended. For instance
+  ocl_explain judge --text examples/catalogue.json examples/network.json examples/network.rules
+docs/explain.md shows what is said.";
+
+/// The end of the help of `list`.
+const LIST: &str = "\
+Prints for each rule its name, its context class and its instructions, one in a line, each with the
+byte at which it begins. For instance
+  ocl_explain list examples/min-depth.code
+
+Status 0: printed. 2: the file is refused. 3: memory, a read or a write failed.";
+
+/// What is asked.
+#[derive(Clone, Copy, Drop)]
+pub enum Asked<'a> {
+    /// To answer a command of `ocl_check`, and to explain the answer.
+    Answer(Request<'a>),
+    /// To list the code file of a path.
+    List(&'a str),
+}
+
+fn list<'a>(alloc: Global) -> Result<Command<'a>, AllocError> {
+    Command::new(alloc, "list")
+        .about("Lists a code file in words")
+        .after_help(LIST)
+        .arg(Arg::new(alloc, "CODE").required(true).help("The code file"))
+}
+
+/// The program's commands and their arguments.
+fn command<'a>(alloc: Global) -> Result<Command<'a>, AllocError> {
+    Command::new(alloc, "ocl_explain")
+        .about("Answers as ocl_check does, and says why an input is refused")
+        .version(VERSION)
+        .after_help(HELP)
+        .subcommand_required(true)
+        .subcommand(judge(alloc)?)?
+        .subcommand(compile(alloc)?)?
+        .subcommand(verify(alloc)?)?
+        .subcommand(bound(alloc)?)?
+        .subcommand(desk(alloc)?)?
+        .subcommand(list(alloc)?)
+}
+
+/// What the matches of a command line ask.
+fn asked_by<'a>(matches: &ArgMatches<'a>) -> Asked<'a> {
+    let list = matches.subcommand_matches("list");
+    if list.is_some() {
+        return Asked::List(word(list, "CODE"));
+    }
+    Asked::Answer(request_of(matches))
+}
+
+/// What the words ask.
+pub(crate) fn read_words<'a>(alloc: Global, words: &'a [String]) -> Result<Asked<'a>, Error> {
+    let matches = command(alloc)?.try_get_matches_from(words)?;
+    Ok(asked_by(&matches))
+}

@@ -1,0 +1,58 @@
+//! The program `ocl_explain`: its command line, its files, its standard streams and its status.
+#![tactic(auto)]
+
+mod command_line;
+mod files;
+mod requests;
+
+use clap::error::{Error, ErrorKind};
+use command_line::{Asked, read_words};
+use ocl_check::{CommandFault, Outcome};
+use requests::{answer, list};
+use std::process::ExitCode;
+use std::{env, io};
+
+/// The exit status of an outcome; that memory ran out is reported here, every other failure where it is met.
+fn ended(rt: &HostRuntime, outcome: Outcome) -> ExitCode {
+    if let Outcome::Failed(CommandFault::OutOfMemory) = outcome {
+        let _ = rt.eprintln("memory ran out");
+    }
+    ExitCode::from(outcome.status())
+}
+
+/// Reports why the command line was refused, with status 2. Help and the version come here too, with status 0.
+fn refused(rt: &HostRuntime, error: &Error) -> ExitCode {
+    if error.kind() == ErrorKind::OutOfMemory {
+        return ended(rt, Outcome::Failed(CommandFault::OutOfMemory));
+    }
+    let is_help = error.exit_code() == 0;
+    if error.print(rt).is_err() && is_help {
+        return ended(rt, Outcome::Failed(CommandFault::Write));
+    }
+    ExitCode::from(if is_help { 0 } else { 2 })
+}
+
+fn main(rt: HostRuntime) -> ExitCode {
+    let args = match env::args(&rt) {
+        Ok(args) => args,
+        Err(error) if error.kind() == io::ErrorKind::OutOfMemory => {
+            return ended(&rt, Outcome::Failed(CommandFault::OutOfMemory));
+        }
+        Err(_) => {
+            let _ = rt.eprintln("error: an argument isn't UTF-8 text");
+            return ExitCode::from(2);
+        }
+    };
+    let Ok(words) = args.collect::<Vec<String>>(rt.alloc()) else {
+        return ended(&rt, Outcome::Failed(CommandFault::OutOfMemory));
+    };
+    match read_words(rt.alloc(), words.as_slice()) {
+        Ok(Asked::Answer(request)) if request.shares_standard_input() => {
+            let _ = rt.eprintln("error: standard input (-) may be named for one input only");
+            ExitCode::from(2)
+        }
+        Ok(Asked::Answer(request)) => ended(&rt, answer(&rt, request)),
+        Ok(Asked::List(path)) => ended(&rt, list(&rt, path)),
+        Err(error) => refused(&rt, &error),
+    }
+}

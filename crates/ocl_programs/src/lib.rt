@@ -1,0 +1,14 @@
+//! What the programs `ocl_check` and `ocl_explain` share: commands on a command line, and files that are created when they
+//! are first written.
+#![tactic(auto)]
+
+mod commands;
+mod creating;
+mod help;
+
+pub use commands::{
+    CompileFiles, DeskFiles, Request, RuleFiles, STANDARD_INPUT, VerifyFiles, bound, compile, desk,
+    judge, request_of, verify, word,
+};
+pub use creating::Creating;
+pub use help::VERSION;
