@@ -112,19 +112,11 @@ fn renamed(alloc: Global) -> Result<String, AllocError> {
     )
 }
 
-/// Whether the context class and the depth of a cable have their present names.
+/// Whether the context class has its present name, and symbols of old names name what they should.
 fn has_present_names(accepted: &Accepted<'_>) -> bool {
-    if accepted.rules() != 1 || accepted.unit().symbols.len() <= 9 {
-        return false;
-    }
-    match accepted.named(SymbolNumber(5)) {
-        Some(Named::Feature(class, feature)) => {
-            accepted.model().class_name(accepted.context(0)) == "Line"
-                && accepted.model().class_name(class) == "Line"
-                && accepted.model().feature_info(feature).name.as_str() == "level"
-        }
-        _ => false,
-    }
+    accepted.rules() == 1
+        && accepted.model().class_name(accepted.context(0)) == "Line"
+        && names(accepted)
 }
 
 fn is_accepted_under_new_names(alloc: Global, model: &ClassModel, unit: Unit) -> bool {
