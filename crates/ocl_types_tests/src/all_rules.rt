@@ -2,8 +2,8 @@
 
 use crate::model::MODEL;
 use imkl_model::{ClassModel, ModelFault};
-use ocl_text::{SurfaceRule, parse_rules};
 use ocl_core::CoreRule;
+use ocl_text::{SurfaceRule, parse_rules};
 use ocl_types::check_rules;
 use std::alloc::{AllocError, Global};
 use std::test::Fail;

@@ -3,8 +3,8 @@
 use crate::model::MODEL;
 use crate::shown::core;
 use imkl_model::{ClassModel, ModelFault};
-use ocl_text::{SurfaceRule, parse_rules};
 use ocl_core::CoreRule;
+use ocl_text::{SurfaceRule, parse_rules};
 use ocl_types::{TypeFault, check};
 use std::alloc::{AllocError, Global};
 

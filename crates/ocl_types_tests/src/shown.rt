@@ -1,8 +1,8 @@
 //! A core tree as a row can name it: each operation after its first operand, variables as `$0`, `$1` by their numbers.
 
 use imkl_model::{ClassModel, ClassNo, EnumNo, FeatureNo, LiteralNo};
-use ocl_kinds::{Kind, ScalarKind};
 use ocl_core::{ConstantValue, Core, CoreLink, Iteration, Operator};
+use ocl_kinds::{Kind, ScalarKind};
 use std::alloc::AllocError;
 
 #[cycle(shown)]
