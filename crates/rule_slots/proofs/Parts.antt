@@ -1,7 +1,7 @@
 -- The elements of parts of lists.
 use Rattle.std.proofs.Common.{◌≡◌, ℕ, zero, suc, ◌+◌, ◌-◌, ◌<◌, ◌≤◌, List, [], ◌∷◌, ◌++◌, length, take, drop, map, get_or, Some, refl, sym, ap, ◌∙◌, arith}
 use Rattle.std.specs.Prelude.{slice_get, slice_range}
-use Rattle.std.proofs.lemmas.List.{length-drop, length-map, length-take-le, get_or-take, get_or-drop, take_more}
+use Rattle.std.proofs.lemmas.List.{length-drop, length-map, length-take-le, get_or-take, get_or-drop, take_more, drop-take, drop-map, drop-drop}
 use Rattle.std.proofs.lemmas.Option.{slice_get-get_or}
 use Rattle.imkl_population.specs.declared.scalar.Scalar.{Scalar}
 use Rattle.rule_slots.specs.declared.slot.Home.{Home}
@@ -28,6 +28,38 @@ pub map_at : {A B : Type 0} (f : A → B) (xs : List A) (k : ℕ) (x : A) → sl
 map_at f [] k x e = cc
 map_at f (y ∷ xs) zero x e = let q : y ≡ x = cc in ap (λ z. Some (f z)) q
 map_at f (y ∷ xs) (suc k) x e = map_at f xs k x e
+
+-- ---- parts from an item on
+
+-- a part without its first items
+pub range_from : {A : Type 0} (xs : List A) (a n k : ℕ) → k ≤ n → drop k (slice_range xs a (a + n)) ≡ slice_range xs (a + k) (a + n)
+range_from xs a n k le =
+    let e : a + n - a ≡ k + (a + n - (a + k)) = omega (arith, le) in
+    ap (λ m. drop k (take m (drop a xs))) e ∙ drop-take k (a + n - (a + k)) (drop a xs) ∙ ap (take (a + n - (a + k))) (drop-drop k a xs)
+
+-- the slots of values without the first
+pub scalars_from : (i : ℕ) (vs : List Scalar) (k : ℕ) → drop k (scalar_slots i vs) ≡ scalar_slots (i + k) (drop k vs)
+scalars_from i vs zero = let e : i ≡ i + 0 = omega arith in ap (λ n. scalar_slots n vs) e
+scalars_from i [] (suc k) = refl
+scalars_from i (v ∷ vs) (suc k) = let e : i + 1 + k ≡ i + suc k = omega arith in scalars_from (i + 1) vs k ∙ ap (λ n. scalar_slots n (drop k vs)) e
+
+-- the slots of a part without the first, where it is a part of the population's values
+pub scalar_part_from : (h : Home) (l : Lists) (p : List Slot) (a n k : ℕ) → h ≡ home.Scalars → k ≤ n → drop k (part_slots h l p a n) ≡ scalar_slots (a + k) (slice_range l.scalars (a + k) (a + n))
+scalar_part_from home.Scalars l p a n k e le = scalars_from a (slice_range l.scalars a (a + n)) k ∙ ap (scalar_slots (a + k)) (range_from l.scalars a n k le)
+scalar_part_from home.Instances l p a n k e le = cc
+scalar_part_from home.Pool l p a n k e le = cc
+
+-- of the instances
+pub instance_part_from : (h : Home) (l : Lists) (p : List Slot) (a n k : ℕ) → h ≡ home.Instances → k ≤ n → drop k (part_slots h l p a n) ≡ map index_slot (slice_range l.instances (a + k) (a + n))
+instance_part_from home.Scalars l p a n k e le = cc
+instance_part_from home.Instances l p a n k e le = drop-map index_slot k (slice_range l.instances a (a + n)) ∙ ap (map index_slot) (range_from l.instances a n k le)
+instance_part_from home.Pool l p a n k e le = cc
+
+-- of the pool
+pub pool_part_from : (h : Home) (l : Lists) (p : List Slot) (a n k : ℕ) → h ≡ home.Pool → k ≤ n → drop k (part_slots h l p a n) ≡ slice_range p (a + k) (a + n)
+pool_part_from home.Scalars l p a n k e le = cc
+pool_part_from home.Instances l p a n k e le = cc
+pool_part_from home.Pool l p a n k e le = range_from p a n k le
 
 -- ---- parts with an item more
 

@@ -2,6 +2,8 @@
 
 ghost use Rattle.std.specs.Prelude.{◌≡◌, ◌+◌, ◌≤◌, length, true, vec_capacity, MatchOption};
 ghost use Rattle.ocl_kinds.specs.declared.kind.Kind.{Kind};
+ghost use Rattle.std.specs.List.{list_all};
+ghost use Rattle.ocl_base.specs.Lists.{is_among};
 ghost use Rattle.rule_values.specs.Value.{is_in};
 ghost use Rattle.rule_values.specs.Operations.{equality};
 ghost use Rattle.imkl_population.specs.Population.{Population};
@@ -9,7 +11,7 @@ ghost use Rattle.rule_slots.specs.Slots.{lists_in, held_slots, plain_mark, IsInH
 ghost use Rattle.rule_slots.specs.Operands.{MakesOfTwo};
 ghost use Rattle.rule_slots.specs.Compared.{same_slots, stand_as_often, pairwise_same, same_unordered, same_collections, covers_kind, ComparesWithin, same_values};
 
-use crate::elements::{same_slots, times_among};
+use crate::elements::{find_from, is_slot_among, same_slots, times_among};
 use crate::lists::Lists;
 use crate::ordering::is_in_order;
 use crate::reading::element;
@@ -20,7 +22,7 @@ use ocl_base::CollectionKind;
 use rule_code::{WrittenKind, WrittenScalar};
 
 /// Sets, and Bags, of at most so many elements are compared each element with each, where they stand in no order.
-const FEW_IN_SET: usize = 12;
+const FEW_IN_SET: usize = 32;
 
 const FEW_IN_BAG: usize = 4;
 
@@ -107,6 +109,108 @@ fn told_by_order(
     None
 }
 
+/// Whether each element of the first collection is one of the second. Hints keep for elements of the second where one of
+/// the first was found to be the same.
+#[inline(never)]
+fn are_all_found(
+    lists: Lists<'_>,
+    pool: &[Slot],
+    kind: WrittenScalar,
+    left: Slot,
+    right: Slot,
+    hints: &mut [u8; FEW_IN_SET],
+) -> bool
+    requires left { IsInHome (lists_in lists) (length pool.now) left }
+    requires right { IsInHome (lists_in lists) (length pool.now) right }
+    ensures { result ≡ list_all (is_among (same_slots (lists_in lists.entry) kind)
+        (held_slots (lists_in lists.entry) pool.now right))
+        (held_slots (lists_in lists.entry) pool.now left) }
+{
+    for index in 0..left.count {
+        let slot = element(lists, pool, left, index);
+        match find_from(lists, pool, kind, right, 0, slot) {
+            Some(place) => keep_hint(hints, place, index),
+            None => return false,
+        }
+    }
+    true
+}
+
+/// Keeps for an element of the second collection which one of the first is the same, if there is room for it.
+#[inline(always)]
+fn keep_hint(hints: &mut [u8; FEW_IN_SET], place: usize, index: usize) {
+    if place < FEW_IN_SET && index < FEW_IN_SET {
+        hints[place] = index as u8;
+    }
+}
+
+/// Whether an element is one of a collection, which is seen at once where the hint is right.
+#[inline(always)]
+fn is_hinted_among(
+    lists: Lists<'_>,
+    pool: &[Slot],
+    kind: WrittenScalar,
+    source: Slot,
+    hint: usize,
+    slot: Slot,
+) -> bool
+    requires { IsInHome (lists_in lists) (length pool.now) source }
+    ensures { result ≡ is_among (same_slots (lists_in lists.entry) kind)
+        (held_slots (lists_in lists.entry) pool.now source) slot }
+{
+    if hint < source.count && same_slots(lists, kind, slot, element(lists, pool, source, hint)) {
+        return true;
+    }
+    is_slot_among(lists, pool, kind, source, slot)
+}
+
+/// Whether each element of the second collection is one of the first.
+#[inline(never)]
+fn are_all_hinted(
+    lists: Lists<'_>,
+    pool: &[Slot],
+    kind: WrittenScalar,
+    left: Slot,
+    right: Slot,
+    hints: &[u8; FEW_IN_SET],
+) -> bool
+    requires left { IsInHome (lists_in lists) (length pool.now) left }
+    requires right { IsInHome (lists_in lists) (length pool.now) right }
+    ensures { result ≡ list_all (is_among (same_slots (lists_in lists.entry) kind)
+        (held_slots (lists_in lists.entry) pool.now left))
+        (held_slots (lists_in lists.entry) pool.now right) }
+{
+    for index in 0..right.count {
+        let slot = element(lists, pool, right, index);
+        let hint = if index < FEW_IN_SET { hints[index] } else { 0 };
+        if !is_hinted_among(lists, pool, kind, left, hint as usize, slot) {
+            return false;
+        }
+    }
+    true
+}
+
+/// Whether each element of two collections is one of the other. An element that another was found to be the same as is
+/// compared with that one first: so where all are, each is looked for once.
+#[inline(never)]
+fn same_members(
+    lists: Lists<'_>,
+    pool: &[Slot],
+    kind: WrittenScalar,
+    left: Slot,
+    right: Slot,
+) -> bool
+    requires left { IsInHome (lists_in lists) (length pool.now) left }
+    requires right { IsInHome (lists_in lists) (length pool.now) right }
+    ensures { result ≡ same_unordered (same_slots (lists_in lists.entry) kind) true
+        (held_slots (lists_in lists.entry) pool.now left)
+        (held_slots (lists_in lists.entry) pool.now right) }
+{
+    let mut hints = [0; FEW_IN_SET];
+    let all = are_all_found(lists, pool, kind, left, right, &mut hints);
+    all && are_all_hinted(lists, pool, kind, left, right, &hints)
+}
+
 /// Whether the elements of two collections are the same, each compared with each.
 #[inline(never)]
 fn same_by_pairs(
@@ -123,7 +227,9 @@ fn same_by_pairs(
         (held_slots (lists_in lists.entry) pool.now left)
         (held_slots (lists_in lists.entry) pool.now right) }
 {
-    if unique {
+    if unique && left.count <= FEW_IN_SET {
+        same_members(lists, pool, kind, left, right)
+    } else if unique {
         let all = are_all_in(lists, pool, kind, right, left);
         all && are_all_in(lists, pool, kind, left, right)
     } else {

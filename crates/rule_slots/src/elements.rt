@@ -1,19 +1,17 @@
 //! Elements of collections, compared as a kind says.
 
-ghost use Rattle.std.specs.Prelude.{◌≡◌, length, drop, bytes_eq};
+ghost use Rattle.std.specs.Prelude.{◌≡◌, ◌+◌, ◌<◌, ◌≤◌, ◌^◌, length, drop, map, is_some, true, bytes_eq};
 ghost use Rattle.ocl_base.specs.Lists.{is_among, repeats};
-ghost use Rattle.rule_slots.specs.Slots.{lists_in, home_named, held_slots, IsInHome};
+ghost use Rattle.rule_slots.specs.Slots.{lists_in, home_named, plain_mark, scalar_slot, scalar_slots, index_slot, held_slots, IsInHome};
 ghost use Rattle.rule_slots.specs.Compared.{slot_bytes, same_words, same_slots, times_among};
 
 use crate::lists::Lists;
 use crate::ordering::is_in_order;
-use crate::reading::{element, element_in};
-use crate::slot::{Home, Mark, Slot, home_named};
+use crate::reading::{element, element_in, scalar_slot};
+use crate::slot::{Home, Mark, Slot, home_named, index_slot};
 use crate::texts::slot_bytes;
+use imkl_population::{ObjectNo, Scalar};
 use rule_code::WrittenScalar;
-
-/// In a collection of at most so many elements, one is looked for among all; in a longer one by its order, if it has one.
-pub(crate) const SHORT: usize = 16;
 
 /// Whether the texts of two slots are the same.
 #[inline(always)]
@@ -52,76 +50,216 @@ pub(crate) fn same_slots(lists: Lists<'_>, kind: WrittenScalar, a: Slot, b: Slot
     }
 }
 
-/// Whether an element is one of a collection, which is a part of this list, from an index on.
-#[inline(always)]
-fn is_among_in(
-    home: Home,
+/// Whether a slot and a value of the population are the same, as elements of a kind.
+#[inline(never)]
+fn same_as_scalar(
     lists: Lists<'_>,
-    pool: &[Slot],
     kind: WrittenScalar,
-    source: Slot,
-    first: usize,
     slot: Slot,
+    index: usize,
+    scalar: &Scalar,
 ) -> bool
-    requires home { home_named source.list ≡ home }
-    requires within { IsInHome (lists_in lists) (length pool.now) source }
-    ensures { result ≡ is_among (same_slots (lists_in lists.entry) kind)
-        (drop first (held_slots (lists_in lists.entry) pool.now source)) slot }
+    ensures { result ≡ same_slots (lists_in lists.entry) kind slot (scalar_slot index scalar.now) }
 {
-    for index in first..source.count {
-        let found = element_in(home, lists, pool, source, index);
-        if same_slots(lists, kind, slot, found) {
-            return true;
-        }
-    }
-    false
+    same_slots(lists, kind, slot, scalar_slot(index, scalar))
 }
 
-/// Whether an element is one of a collection from an index on, with a loop for each list.
+/// The same of a slot that has a number. (It is lent, so that no loop copies it.)
 #[inline(always)]
-fn is_among_list(
+fn same_as_number(lists: Lists<'_>, slot: &Slot, index: usize, scalar: &Scalar) -> bool
+    requires { plain_mark slot.now.mark ≡ true }
+    ensures { result ≡ same_slots (lists_in lists.entry) WrittenScalar.Integer slot.now
+        (scalar_slot index scalar.now) }
+{
+    match scalar {
+        Scalar::Int(number) => slot.number == *number,
+        other => same_as_scalar(lists, WrittenScalar::Integer, *slot, index, other),
+    }
+}
+
+/// The same of a slot that has an object.
+#[inline(always)]
+fn same_as_object(lists: Lists<'_>, slot: &Slot, index: usize, scalar: &Scalar) -> bool
+    requires { plain_mark slot.now.mark ≡ true }
+    ensures { result ≡ same_slots (lists_in lists.entry) WrittenScalar.AnyObject slot.now
+        (scalar_slot index scalar.now) }
+{
+    match scalar {
+        Scalar::Object(object) => slot.index == object.index(),
+        other => same_as_scalar(lists, WrittenScalar::AnyObject, *slot, index, other),
+    }
+}
+
+/// Finds a number among these values of the population, of which the first has this index.
+#[inline(always)]
+fn find_number(lists: Lists<'_>, start: usize, scalars: &[Scalar], slot: Slot) -> Option<usize>
+    requires plain { plain_mark slot.mark ≡ true }
+    requires room { start + length scalars.now < 2 ^ 64 }
+    ensures { is_some result ≡ is_among (same_slots (lists_in lists.entry) WrittenScalar.Integer)
+        (scalar_slots start scalars.now) slot }
+{
+    for index in 0..scalars.len() {
+        if same_as_number(lists, &slot, start + index, &scalars[index]) {
+            return Some(index);
+        }
+    }
+    None
+}
+
+/// Finds an object among these values of the population, of which the first has this index.
+#[inline(always)]
+fn find_object(lists: Lists<'_>, start: usize, scalars: &[Scalar], slot: Slot) -> Option<usize>
+    requires plain { plain_mark slot.mark ≡ true }
+    requires room { start + length scalars.now < 2 ^ 64 }
+    ensures { is_some result ≡ is_among (same_slots (lists_in lists.entry) WrittenScalar.AnyObject)
+        (scalar_slots start scalars.now) slot }
+{
+    for index in 0..scalars.len() {
+        if same_as_object(lists, &slot, start + index, &scalars[index]) {
+            return Some(index);
+        }
+    }
+    None
+}
+
+/// Finds an element among these values of the population, of which the first has this index.
+#[inline(always)]
+fn find_scalar(
+    lists: Lists<'_>,
+    kind: WrittenScalar,
+    start: usize,
+    scalars: &[Scalar],
+    slot: Slot,
+) -> Option<usize>
+    requires { start + length scalars.now < 2 ^ 64 }
+    ensures { is_some result ≡ is_among (same_slots (lists_in lists.entry) kind)
+        (scalar_slots start scalars.now) slot }
+{
+    for index in 0..scalars.len() {
+        if same_slots(
+            lists,
+            kind,
+            slot,
+            scalar_slot(start + index, &scalars[index]),
+        ) {
+            return Some(index);
+        }
+    }
+    None
+}
+
+/// Finds an element among these values of the population, of which the first has this index. (Numbers and objects have
+/// loops of their own, which read no more of a value than that.)
+#[inline(always)]
+fn find_in_scalars(
+    lists: Lists<'_>,
+    kind: WrittenScalar,
+    start: usize,
+    scalars: &[Scalar],
+    slot: Slot,
+) -> Option<usize>
+    requires { start + length scalars.now < 2 ^ 64 }
+    ensures { is_some result ≡ is_among (same_slots (lists_in lists.entry) kind)
+        (scalar_slots start scalars.now) slot }
+{
+    match (kind, slot.is_plain()) {
+        (WrittenScalar::Integer, true) => find_number(lists, start, scalars, slot),
+        (WrittenScalar::AnyObject, true) => find_object(lists, start, scalars, slot),
+        _ => find_scalar(lists, kind, start, scalars, slot),
+    }
+}
+
+/// Finds an element among these objects.
+#[inline(always)]
+fn find_in_objects(
+    lists: Lists<'_>,
+    kind: WrittenScalar,
+    objects: &[ObjectNo],
+    slot: Slot,
+) -> Option<usize>
+    ensures { is_some result ≡ is_among (same_slots (lists_in lists.entry) kind)
+        (map index_slot objects.now) slot }
+{
+    for index in 0..objects.len() {
+        if same_slots(lists, kind, slot, index_slot(objects[index].index())) {
+            return Some(index);
+        }
+    }
+    None
+}
+
+/// Finds an element among these slots.
+#[inline(always)]
+fn find_in_slots(lists: Lists<'_>, kind: WrittenScalar, slots: &[Slot], slot: Slot) -> Option<usize>
+    ensures { is_some result ≡ is_among (same_slots (lists_in lists.entry) kind) slots.now slot }
+{
+    for index in 0..slots.len() {
+        let found = slots[index];
+        if same_slots(lists, kind, slot, found) {
+            return Some(index);
+        }
+    }
+    None
+}
+
+/// Finds an element in a collection from an index on, with a loop for each list.
+#[inline(always)]
+fn find_in_list(
     lists: Lists<'_>,
     pool: &[Slot],
     kind: WrittenScalar,
     source: Slot,
     first: usize,
     slot: Slot,
-) -> bool
-    requires { IsInHome (lists_in lists) (length pool.now) source }
-    ensures { result ≡ is_among (same_slots (lists_in lists.entry) kind)
+) -> Option<usize>
+    requires first { first ≤ source.count }
+    requires within { IsInHome (lists_in lists) (length pool.now) source }
+    ensures { is_some result ≡ is_among (same_slots (lists_in lists.entry) kind)
         (drop first (held_slots (lists_in lists.entry) pool.now source)) slot }
 {
     match home_named(source.list) {
-        Home::Scalars => is_among_in(Home::Scalars, lists, pool, kind, source, first, slot),
-        Home::Instances => is_among_in(Home::Instances, lists, pool, kind, source, first, slot),
-        Home::Pool => is_among_in(Home::Pool, lists, pool, kind, source, first, slot),
+        Home::Scalars => {
+            let scalars = lists.scalars();
+            let (start, end) = (source.start + first, source.start + source.count);
+            find_in_scalars(lists, kind, start, &scalars[start..end], slot)
+        }
+        Home::Instances => {
+            let instances = lists.instances();
+            let (start, end) = (source.start + first, source.start + source.count);
+            find_in_objects(lists, kind, &instances[start..end], slot)
+        }
+        Home::Pool => {
+            let (start, end) = (source.start + first, source.start + source.count);
+            find_in_slots(lists, kind, &pool[start..end], slot)
+        }
     }
 }
 
-/// Whether an element is one of a collection from an index on. (Kinds that are compared by the same word have loops of
-/// their own for it.)
+/// Finds an element in a collection from an index on, and gives its place from there. (Kinds that are compared by the same
+/// word have loops of their own for it.)
 #[inline(never)]
-pub(crate) fn is_among_from(
+pub(crate) fn find_from(
     lists: Lists<'_>,
     pool: &[Slot],
     kind: WrittenScalar,
     source: Slot,
     first: usize,
     slot: Slot,
-) -> bool
-    requires { IsInHome (lists_in lists) (length pool.now) source }
-    ensures { result ≡ is_among (same_slots (lists_in lists.entry) kind)
+) -> Option<usize>
+    requires first { first ≤ source.count }
+    requires within { IsInHome (lists_in lists) (length pool.now) source }
+    ensures { is_some result ≡ is_among (same_slots (lists_in lists.entry) kind)
         (drop first (held_slots (lists_in lists.entry) pool.now source)) slot }
 {
     match kind {
         WrittenScalar::Void | WrittenScalar::Boolean | WrittenScalar::Integer => {
-            is_among_list(lists, pool, WrittenScalar::Integer, source, first, slot)
+            find_in_list(lists, pool, WrittenScalar::Integer, source, first, slot)
         }
         WrittenScalar::String => {
-            is_among_list(lists, pool, WrittenScalar::String, source, first, slot)
+            find_in_list(lists, pool, WrittenScalar::String, source, first, slot)
         }
         WrittenScalar::Enumeration(_) | WrittenScalar::Class(_) | WrittenScalar::AnyObject => {
-            is_among_list(lists, pool, WrittenScalar::AnyObject, source, first, slot)
+            find_in_list(lists, pool, WrittenScalar::AnyObject, source, first, slot)
         }
     }
 }
@@ -138,7 +276,7 @@ pub(crate) fn is_slot_among(
     ensures { result ≡ is_among (same_slots (lists_in lists.entry) kind)
         (held_slots (lists_in lists.entry) pool.now source) slot }
 {
-    is_among_from(lists, pool, kind, source, 0, slot)
+    find_from(lists, pool, kind, source, 0, slot).is_some()
 }
 
 /// How often an element stands in a collection that is a part of this list.
@@ -230,7 +368,7 @@ pub(crate) fn repeats_slot(
     }
     for index in 0..source.count {
         let slot = element(lists, pool, source, index);
-        if is_among_from(lists, pool, kind, source, index + 1, slot) {
+        if find_from(lists, pool, kind, source, index + 1, slot).is_some() {
             return true;
         }
     }

@@ -8,13 +8,15 @@ ghost use Rattle.rule_slots.specs.Compared.{same_slots};
 ghost use Rattle.rule_slots.specs.Ordered.{compare_slots, is_defined, may_precede, rises};
 ghost use Rattle.rule_slots.specs.Sorted.{IsCopyOf};
 
-use crate::elements::SHORT;
 use crate::lists::Lists;
 use crate::ordering::{is_among_known, is_in_order};
 use crate::reading::element;
 use crate::slot::Slot;
 use crate::sorting::{has_room, push_sorted};
 use rule_code::WrittenScalar;
+
+/// In a collection of at most so many elements each is looked for among all, whatever its order.
+const SHORT: usize = 40;
 
 /// For so few elements that are looked for no copy is sorted: they are found sooner one by one.
 const FEW: usize = 64;

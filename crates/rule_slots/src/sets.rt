@@ -14,7 +14,7 @@ ghost use Rattle.rule_slots.specs.Operands.{is_single_operand, is_elements_opera
 ghost use Rattle.rule_slots.specs.Compared.{covers, same_slots, first_ones};
 ghost use Rattle.rule_slots.specs.Sorted.{IsChoice, IsSameBefore};
 
-use crate::elements::{SHORT, is_slot_among, repeats_slot, same_slots};
+use crate::elements::{is_slot_among, repeats_slot, same_slots};
 use crate::lists::Lists;
 use crate::ordering::is_in_order;
 use crate::placing::{first_place, push_placed};
@@ -23,6 +23,10 @@ use crate::slot::{Home, Slot, invalid_slot, part_slot};
 use crate::sorting::{move_down, push_all, push_sorted, sort_part};
 use rule_code::WrittenScalar;
 use std::alloc::AllocError;
+
+/// In a collection of at most so many elements each is compared with each, to tell which stand twice; of a longer one a copy
+/// is sorted.
+const SHORT: usize = 16;
 
 /// A collection of the one value; of null it is empty.
 #[inline(always)]

@@ -17,19 +17,19 @@ returns-then-is_in_order-2 c =
     let l = lists_in c.args.lists in
     sym (twice_in_order l c.args.kind (held_slots l c.args.pool.now c.args.source) (sym c.is_in_order-2.ensures ∙ c.if-is_in_order-2.true) (sym c.is_in_order.ensures ∙ c.if-is_in_order.false))
 
-pub returns-then-is_among_from : goal.returns-then-is_among_from
-returns-then-is_among_from c =
+pub returns-then-is_some : goal.returns-then-is_some
+returns-then-is_some c =
     let l = lists_in c.args.lists in
     let same = same_slots l c.args.kind in
     let held = held_slots l c.args.pool.now c.args.source in
-    sym (c.loop-index.invariant ∙ repeats_next same held c.loop-index.index c.element-slot.result c.element-slot.ensures ∙ ap (λ z. z || repeats same (drop (c.loop-index.index + 1) held)) (sym c.is_among_from.ensures ∙ c.if-is_among_from.true))
+    sym (c.loop-index.invariant ∙ repeats_next same held c.loop-index.index c.element-slot.result c.element-slot.ensures ∙ ap (λ z. z || repeats same (drop (c.loop-index.index + 1) held)) (sym c.find_from.ensures ∙ sym c.is_some.ensures ∙ c.if-is_some.true))
 
 pub loop-index-preserved : goal.loop-index-preserved
 loop-index-preserved c =
     let l = lists_in c.args.lists in
     let same = same_slots l c.args.kind in
     let held = held_slots l c.args.pool.now c.args.source in
-    c.loop-index.invariant ∙ repeats_next same held c.loop-index.index c.element-slot.result c.element-slot.ensures ∙ ap (λ z. z || repeats same (drop (c.loop-index.index + 1) held)) (sym c.is_among_from.ensures ∙ c.if-is_among_from.false)
+    c.loop-index.invariant ∙ repeats_next same held c.loop-index.index c.element-slot.result c.element-slot.ensures ∙ ap (λ z. z || repeats same (drop (c.loop-index.index + 1) held)) (sym c.find_from.ensures ∙ sym c.is_some.ensures ∙ c.if-is_some.false)
 
 pub returns : goal.returns
 returns c =

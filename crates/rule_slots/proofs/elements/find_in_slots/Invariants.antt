@@ -1,0 +1,10 @@
+use Rattle.std.proofs.Common.{◌≡◌, drop}
+use Rattle.rule_slots.specs.Slots.{lists_in}
+use Rattle.ocl_base.specs.Lists.{is_among}
+use Rattle.rule_slots.specs.Compared.{same_slots}
+use Rattle.rule_slots.proofs.elements.find_in_slots.Given as goal
+
+-- what is among all is among those that are left
+abbrev pub invariant-loop-index : goal.invariant-loop-index
+invariant-loop-index l =
+    is_among (same_slots (lists_in l.lists) l.kind) l.slots l.slot ≡ is_among (same_slots (lists_in l.lists) l.kind) (drop l.index l.slots) l.slot
