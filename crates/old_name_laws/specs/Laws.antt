@@ -1,0 +1,27 @@
+-- What old names change: nothing, where present names are used.
+use Rattle.std.specs.Prelude.{◌≡◌}
+use Rattle.serde_json.specs.Data.{Data}
+use Rattle.imkl_model.specs.ClassModel.{Model, Renames}
+use Rattle.imkl_model.specs.WellFormed.{IsClassModel}
+use Rattle.imkl_delivery.specs.Loading.{describes_population}
+use Rattle.rule_code.specs.Content.{Content}
+use Rattle.rule_verify.specs.UnitRules.{check_unit}
+use Rattle.old_name_laws.specs.OldNames.{with_old_names, DifferInOldNames, described_with}
+use Rattle.old_name_laws.specs.UsedNames.{UsesPresentNames}
+
+-- ---- of class models
+
+-- a document describes one population, whatever old names its class model has
+abbrev pub DeliveriesStay : Type 0
+DeliveriesStay = (r : Renames) (m : Model) (d : Data) → describes_population (with_old_names r m) d ≡ described_with r (describes_population m d)
+
+-- two class models that differ in old names alone, and a unit whose symbols are all present names
+pub record IsStable (m n : Model) (u : Content) : Type 0 where
+  pub first : IsClassModel m
+  pub second : IsClassModel n
+  pub differ : DifferInOldNames m n
+  pub present : UsesPresentNames m u
+
+-- the unit is accepted in both, or has one first fault
+abbrev pub ChecksStay : Type 0
+ChecksStay = (m n : Model) (u : Content) → IsStable m n u → check_unit n u ≡ check_unit m u

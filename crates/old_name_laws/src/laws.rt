@@ -1,0 +1,17 @@
+//! Old names change nothing where present names are used, over the definitions alone. The functions do nothing.
+
+ghost use Rattle.old_name_laws.specs.Laws.{DeliveriesStay, ChecksStay};
+
+use rule_verify::laws::symbols;
+
+/// A document describes one population, whatever old names its class model has.
+pub fn deliveries()
+    ensures { DeliveriesStay }
+{}
+
+/// Code whose used symbols are all present names is accepted, or has one first fault, whatever old names there are.
+pub fn checks()
+    ensures { ChecksStay }
+{
+    symbols();
+}
