@@ -5,3 +5,5 @@ pub mod Rows
 pub mod Trees
 pub mod Checks
 pub mod Stable
+pub mod Accepted
+pub mod Costs

@@ -3,6 +3,8 @@ use Rattle.std.proofs.Common.{◌≡◌, ◌∙◌, ℕ, List, [], ◌∷◌, �
 use Rattle.std.specs.Prelude.{slice_get, option_and_then}
 use Rattle.std.proofs.lemmas.List.Elements.{All-head, All-tail, All-nil, All-cons, All-weaker}
 use Rattle.imkl_model.specs.ClassModel.{Model, Renames}
+use Rattle.imkl_population.specs.declared.object.Object.{Object}
+use Rattle.imkl_population.specs.Population.{Population}
 use Rattle.rule_code.specs.declared.symbol.Symbol.{Symbol}
 use Rattle.rule_code.specs.declared.instruction.Instr.{Instr}
 use Rattle.rule_code.specs.Content.{Content, RuleContent}
@@ -24,6 +26,13 @@ pub record Case : Type 0 where
 -- the class model with the other old names
 abbrev pub other : Case → Model
 other x = with_old_names x.renames x.model
+
+-- populations with the same objects, of the class model and of the other
+abbrev pub in_one : Case → List Object → Population
+in_one x objects = record { model = x.model; objects = objects }
+
+abbrev pub in_other : Case → List Object → Population
+in_other x objects = record { model = other x; objects = objects }
 
 -- a symbol names one thing in both
 abbrev pub Agrees : Case → ℕ → Type 0

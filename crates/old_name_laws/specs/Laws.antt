@@ -1,11 +1,14 @@
 -- What old names change: nothing, where present names are used.
-use Rattle.std.specs.Prelude.{◌≡◌}
+use Rattle.std.specs.Prelude.{◌≡◌, ℕ}
 use Rattle.serde_json.specs.Data.{Data}
 use Rattle.imkl_model.specs.ClassModel.{Model, Renames}
 use Rattle.imkl_model.specs.WellFormed.{IsClassModel}
+use Rattle.imkl_population.specs.Population.{Population}
+use Rattle.imkl_population.specs.Sizes.{sizes_of}
 use Rattle.imkl_delivery.specs.Loading.{describes_population}
 use Rattle.rule_code.specs.Content.{Content}
 use Rattle.rule_verify.specs.UnitRules.{check_unit}
+use Rattle.rule_cost.specs.Admission.{rule_step_bound, admission}
 use Rattle.old_name_laws.specs.OldNames.{with_old_names, DifferInOldNames, described_with}
 use Rattle.old_name_laws.specs.UsedNames.{UsesPresentNames}
 
@@ -25,3 +28,15 @@ pub record IsStable (m n : Model) (u : Content) : Type 0 where
 -- the unit is accepted in both, or has one first fault
 abbrev pub ChecksStay : Type 0
 ChecksStay = (m n : Model) (u : Content) → IsStable m n u → check_unit n u ≡ check_unit m u
+
+-- two populations of class models that differ in old names alone, with the same objects, and such a unit
+pub record IsStableOn (p q : Population) (u : Content) : Type 0 where
+  pub models : IsStable p.model q.model u
+  pub objects : q.objects ≡ p.objects
+
+-- each rule has the same bound, and so the same units are admitted
+abbrev pub BoundsStay : Type 0
+BoundsStay = (p q : Population) (u : Content) → IsStableOn p q u → (r : ℕ) → rule_step_bound u (sizes_of q) r ≡ rule_step_bound u (sizes_of p) r
+
+abbrev pub AdmissionsStay : Type 0
+AdmissionsStay = (p q : Population) (u : Content) → IsStableOn p q u → (budget : ℕ) → admission u (sizes_of q) budget ≡ admission u (sizes_of p) budget
