@@ -1,5 +1,5 @@
 -- Code that is accepted in a class model without old names uses present names alone.
-use Rattle.std.proofs.Common.{◌≡◌, ℕ, ◌+◌, Bool, true, false, List, [], ◌∷◌, ◌++◌, All, Option, Some, None, Result, Ok, is_some, refl, subst, option_and_then, append-nil, bytes_eq, sym, arith}
+use Rattle.std.proofs.Common.{◌≡◌, ℕ, ◌+◌, true, false, List, [], ◌∷◌, ◌++◌, All, Option, Some, None, Result, Ok, is_some, refl, subst, option_and_then, append-nil, bytes_eq, sym, arith}
 use Rattle.std.specs.List.{list_all}
 use Rattle.std.specs.Prelude.{slice_get}
 use Rattle.std.proofs.lemmas.Bool.{and_parts}
@@ -24,14 +24,11 @@ use Rattle.rule_verify.specs.UnitRules.{context_class, check_rule, check_rules, 
 use Rattle.old_name_laws.specs.OldNames.{with_old_names}
 use Rattle.old_name_laws.proofs.Symbols.{Case, Agrees, IsAlike, RuleAgrees, SymbolsStayIn, agrees}
 use Rattle.old_name_laws.proofs.Trees.{AllIn}
+use Rattle.old_name_laws.proofs.Present.{check_is}
 
 -- the class model without old names
 abbrev pub bare : Case → Model
 bare x = with_old_names no_renames x.model
-
-check_is : (b : Bool) (e : InstrFault) (y : Unit {0}) → check b e ≡ Ok y → b ≡ true
-check_is true e y h = refl
-check_is false e y h = cc
 
 class_there : (o : Option Named) (c : ℕ) → class_in o ≡ Some c → is_some o ≡ true
 class_there None c h = cc

@@ -4,6 +4,9 @@ pub mod Symbols
 pub mod Rows
 pub mod Trees
 pub mod Checks
-pub mod Stable
+pub mod Present
 pub mod Accepted
 pub mod Costs
+pub mod Steps
+pub mod Runs
+pub mod Stable

@@ -9,6 +9,7 @@ use Rattle.imkl_delivery.specs.Loading.{describes_population}
 use Rattle.rule_code.specs.Content.{Content}
 use Rattle.rule_verify.specs.UnitRules.{check_unit}
 use Rattle.rule_cost.specs.Admission.{rule_step_bound, admission}
+use Rattle.rule_machine.specs.Laws.{verdict_at}
 use Rattle.old_name_laws.specs.OldNames.{with_old_names, DifferInOldNames, described_with}
 use Rattle.old_name_laws.specs.UsedNames.{UsesPresentNames}
 
@@ -18,7 +19,7 @@ use Rattle.old_name_laws.specs.UsedNames.{UsesPresentNames}
 abbrev pub DeliveriesStay : Type 0
 DeliveriesStay = (r : Renames) (m : Model) (d : Data) → describes_population (with_old_names r m) d ≡ described_with r (describes_population m d)
 
--- two class models that differ in old names alone, and a unit whose symbols are all present names
+-- two class models that differ in old names alone, and a unit whose used symbols are all present names
 pub record IsStable (m n : Model) (u : Content) : Type 0 where
   pub first : IsClassModel m
   pub second : IsClassModel n
@@ -29,9 +30,9 @@ pub record IsStable (m n : Model) (u : Content) : Type 0 where
 abbrev pub ChecksStay : Type 0
 ChecksStay = (m n : Model) (u : Content) → IsStable m n u → check_unit n u ≡ check_unit m u
 
--- two populations of class models that differ in old names alone, with the same objects, and such a unit
+-- the same, and populations of both with the same objects
 pub record IsStableOn (p q : Population) (u : Content) : Type 0 where
-  pub models : IsStable p.model q.model u
+  pub unit : IsStable p.model q.model u
   pub objects : q.objects ≡ p.objects
 
 -- each rule has the same bound, and so the same units are admitted
@@ -40,3 +41,7 @@ BoundsStay = (p q : Population) (u : Content) → IsStableOn p q u → (r : ℕ)
 
 abbrev pub AdmissionsStay : Type 0
 AdmissionsStay = (p q : Population) (u : Content) → IsStableOn p q u → (budget : ℕ) → admission u (sizes_of q) budget ≡ admission u (sizes_of p) budget
+
+-- each rule has the same verdict for each object
+abbrev pub VerdictsStay : Type 0
+VerdictsStay = (p q : Population) (u : Content) → IsStableOn p q u → (r o : ℕ) → verdict_at u q r o ≡ verdict_at u p r o

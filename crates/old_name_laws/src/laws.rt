@@ -1,25 +1,36 @@
 //! Old names change nothing where present names are used, over the definitions alone. The functions do nothing.
+//!
+//! Each law is of two class models that differ at most in their old names. Code of present names is code of which each
+//! used symbol, as it is written, names something of them.
 
-ghost use Rattle.old_name_laws.specs.Laws.{DeliveriesStay, ChecksStay, BoundsStay, AdmissionsStay};
+ghost use Rattle.old_name_laws.specs.Laws.{DeliveriesStay, ChecksStay, BoundsStay, AdmissionsStay, VerdictsStay};
 
 use rule_verify::laws::symbols;
 
-/// A document describes one population, whatever old names its class model has.
+/// A document describes populations with the same objects, or has the same fault, of whatever models.
 pub fn deliveries()
     ensures { DeliveriesStay }
 {}
 
-/// Code whose used symbols are all present names is accepted, or has one first fault, whatever old names there are.
+/// Code of present names is accepted in both, or has the same first fault.
 pub fn checks()
     ensures { ChecksStay }
 {
     symbols();
 }
 
-/// Its rules have the same bounds, so it is admitted within the same budgets.
+/// The rules of code of present names have the same bounds on populations with the same objects, so the code is admitted
+/// within the same budgets.
 pub fn bounds()
     ensures bounds { BoundsStay }
     ensures admissions { AdmissionsStay }
+{
+    symbols();
+}
+
+/// Each rule of code of present names has the same verdict for each object.
+pub fn verdicts()
+    ensures { VerdictsStay }
 {
     symbols();
 }
