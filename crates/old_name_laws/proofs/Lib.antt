@@ -9,4 +9,5 @@ pub mod Accepted
 pub mod Costs
 pub mod Steps
 pub mod Runs
+pub mod Reports
 pub mod Stable

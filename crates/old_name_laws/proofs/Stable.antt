@@ -10,13 +10,15 @@ use Rattle.rule_verify.specs.Laws.{PresentSymbolsStay}
 use Rattle.rule_verify.specs.UnitRules.{check_unit}
 use Rattle.rule_cost.specs.Admission.{rule_step_bound, admission}
 use Rattle.rule_machine.specs.Laws.{verdict_at}
+use Rattle.rule_report.specs.Report.{report_of, summary_of}
 use Rattle.old_name_laws.specs.OldNames.{DifferInOldNames}
 use Rattle.old_name_laws.specs.UsedNames.{RuleUsesPresentNames, UsesPresentNames}
-use Rattle.old_name_laws.specs.Laws.{IsStable, IsStableOn, ChecksStay, BoundsStay, AdmissionsStay, VerdictsStay}
+use Rattle.old_name_laws.specs.Laws.{IsStable, IsStableOn, ChecksStay, BoundsStay, AdmissionsStay, VerdictsStay, ReportsStay}
 use Rattle.old_name_laws.proofs.Symbols.{Case, in_other, RuleAgrees, rule_agrees}
 use Rattle.old_name_laws.proofs.Checks.{unit_checked}
 use Rattle.old_name_laws.proofs.Costs.{rule_bound_alike, admission_alike}
 use Rattle.old_name_laws.proofs.Runs.{verdict_alike}
+use Rattle.old_name_laws.proofs.Reports.{report_alike, summary_alike}
 
 -- two models that differ in old names alone, in both of which present symbols stay, and a unit of these
 pub record Stands (m n : Model) (u : Content) : Type 0 where
@@ -61,6 +63,12 @@ module _ (p q : Population) (u : Content) (h : StandsOn p q u) where
   same_verdicts : (r o : ℕ) → verdict_at u q r o ≡ verdict_at u p r o
   same_verdicts r o = ap (λ (y : Population). verdict_at u y r o) same ∙ verdict_alike its agree p.objects r o
 
+  pub same_report : report_of u q ≡ report_of u p
+  same_report = ap (report_of u) same ∙ report_alike its agree p.objects
+
+  pub same_summary : summary_of u q ≡ summary_of u p
+  same_summary = ap (summary_of u) same ∙ summary_alike its agree p.objects
+
 -- ---- in class models present symbols stay
 
 abbrev pub SymbolsStay : Type 0
@@ -84,3 +92,6 @@ module _ (law : SymbolsStay) where
 
   pub verdicts_stay : VerdictsStay
   verdicts_stay p q u h = same_verdicts p q u (stands_on p q u h)
+
+  pub reports_stay : ReportsStay
+  reports_stay p q u h = (same_report p q u (stands_on p q u h), same_summary p q u (stands_on p q u h))

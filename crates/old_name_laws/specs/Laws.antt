@@ -10,6 +10,7 @@ use Rattle.rule_code.specs.Content.{Content}
 use Rattle.rule_verify.specs.UnitRules.{check_unit}
 use Rattle.rule_cost.specs.Admission.{rule_step_bound, admission}
 use Rattle.rule_machine.specs.Laws.{verdict_at}
+use Rattle.rule_report.specs.Report.{report_of, summary_of}
 use Rattle.old_name_laws.specs.OldNames.{with_old_names, DifferInOldNames, described_with}
 use Rattle.old_name_laws.specs.UsedNames.{UsesPresentNames}
 
@@ -45,3 +46,6 @@ AdmissionsStay = (p q : Population) (u : Content) → IsStableOn p q u → (budg
 -- each rule has the same verdict for each object
 abbrev pub VerdictsStay : Type 0
 VerdictsStay = (p q : Population) (u : Content) → IsStableOn p q u → (r o : ℕ) → verdict_at u q r o ≡ verdict_at u p r o
+
+abbrev pub ReportsStay : Type 0
+ReportsStay = (p q : Population) (u : Content) → IsStableOn p q u → (report_of u q ≡ report_of u p) × (summary_of u q ≡ summary_of u p)

@@ -3,7 +3,7 @@
 //! Each law is of two class models that differ at most in their old names. Code of present names is code of which each
 //! used symbol, as it is written, names something of them.
 
-ghost use Rattle.old_name_laws.specs.Laws.{DeliveriesStay, ChecksStay, BoundsStay, AdmissionsStay, VerdictsStay};
+ghost use Rattle.old_name_laws.specs.Laws.{DeliveriesStay, ChecksStay, BoundsStay, AdmissionsStay, VerdictsStay, ReportsStay};
 
 use rule_verify::laws::symbols;
 
@@ -31,6 +31,13 @@ pub fn bounds()
 /// Each rule of code of present names has the same verdict for each object.
 pub fn verdicts()
     ensures { VerdictsStay }
+{
+    symbols();
+}
+
+/// The report by code of present names has the same bytes and counts.
+pub fn reports()
+    ensures { ReportsStay }
 {
     symbols();
 }
