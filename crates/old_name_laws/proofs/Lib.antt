@@ -10,4 +10,10 @@ pub mod Costs
 pub mod Steps
 pub mod Runs
 pub mod Reports
+pub mod Jobs
+pub mod Desks
+pub mod Meanings
+pub mod Compiled
 pub mod Stable
+pub mod Answers
+pub mod Texts

@@ -11,6 +11,7 @@ use Rattle.rule_verify.specs.UnitRules.{check_unit}
 use Rattle.rule_cost.specs.Admission.{rule_step_bound, admission}
 use Rattle.rule_machine.specs.Laws.{verdict_at}
 use Rattle.rule_report.specs.Report.{report_of, summary_of}
+use Rattle.rule_desk.specs.Job.{charges_of, costs_of, lines_at}
 use Rattle.old_name_laws.specs.OldNames.{DifferInOldNames}
 use Rattle.old_name_laws.specs.UsedNames.{RuleUsesPresentNames, UsesPresentNames}
 use Rattle.old_name_laws.specs.Laws.{IsStable, IsStableOn, ChecksStay, BoundsStay, AdmissionsStay, VerdictsStay, ReportsStay}
@@ -19,6 +20,7 @@ use Rattle.old_name_laws.proofs.Checks.{unit_checked}
 use Rattle.old_name_laws.proofs.Costs.{rule_bound_alike, admission_alike}
 use Rattle.old_name_laws.proofs.Runs.{verdict_alike}
 use Rattle.old_name_laws.proofs.Reports.{report_alike, summary_alike}
+use Rattle.old_name_laws.proofs.Jobs.{charges_of_alike, costs_alike, lines_alike}
 
 -- two models that differ in old names alone, in both of which present symbols stay, and a unit of these
 pub record Stands (m n : Model) (u : Content) : Type 0 where
@@ -68,6 +70,15 @@ module _ (p q : Population) (u : Content) (h : StandsOn p q u) where
 
   pub same_summary : summary_of u q ≡ summary_of u p
   same_summary = ap (summary_of u) same ∙ summary_alike its agree p.objects
+
+  pub same_charges : charges_of u q ≡ charges_of u p
+  same_charges = ap (charges_of u) same ∙ charges_of_alike its agree p.objects
+
+  pub same_costs : costs_of u q ≡ costs_of u p
+  same_costs = ap (costs_of u) same ∙ costs_alike its agree p.objects
+
+  pub same_lines : lines_at u q ≡ lines_at u p
+  same_lines = ap (lines_at u) same ∙ lines_alike its agree p.objects
 
 -- ---- in class models present symbols stay
 
