@@ -15,6 +15,10 @@ const FEATURE: &str = r#"{"class":"Leidingdeel","old":"diepte","new":"diepteMm"}
 const NAMED_AS_ITS_CLASS: [u8; 75] =
     *b"OCLB\x00\x01\x00\x03\x00\x09diepteMin\x00\x0eKabelOfLeiding\x00\x06diepte\x00\x02\x01\x00\x01\x03\x00\x01\x00\x02\x00\x01\x00\x01\x00\x00\x00\x04\x01\x09\x00\x01\x03\x00\x00\x00\x00\x00\x00\x02\x58\x1c";
 
+/// The file of the rule `diepteMin` in present names.
+const IN_PRESENT_NAMES: [u8; 74] =
+    *b"OCLB\x00\x01\x00\x03\x00\x09diepteMin\x00\x0bLeidingdeel\x00\x08diepteMm\x00\x02\x01\x00\x01\x03\x00\x01\x00\x02\x00\x01\x00\x00\x00\x00\x00\x04\x01\x09\x00\x01\x03\x00\x00\x00\x00\x00\x00\x02\x58\x1c";
+
 /// The class model with its present names and these old ones.
 fn model_with(alloc: Global, renames: &str) -> Result<String, AllocError> {
     let classes = CATALOGUE.replace(alloc, "KabelOfLeiding", "Leidingdeel")?;
@@ -51,6 +55,16 @@ fn each_name_needs_an_entry(rt: HostRuntime) -> Result<(), Fail> {
     assert!(rt; judges_to(rt.alloc(), CLASS, &DEPTH, 2, "refused verify 1 0 1\n")?);
     assert!(rt; judges_to(rt.alloc(), FEATURE, &DEPTH, 2, "refused verify 1 0 0\n")?);
     assert!(rt; judges_to(rt.alloc(), "", &DEPTH, 2, "refused verify 1 0 0\n")?);
+    Ok(())
+}
+
+#[test]
+fn present_names_need_no_entry(rt: HostRuntime) -> Result<(), Fail> {
+    let both = format!(in rt.alloc(); "{CLASS},{FEATURE}")?;
+    let report =
+        "fail diepteMin E1\nrule diepteMin checked 1 holds 0 fails 1 undecided 0\ntotal fails 1 undecided 0\n";
+    assert!(rt; judges_to(rt.alloc(), "", &IN_PRESENT_NAMES, 1, report)?);
+    assert!(rt; judges_to(rt.alloc(), both.as_str(), &IN_PRESENT_NAMES, 1, report)?);
     Ok(())
 }
 
