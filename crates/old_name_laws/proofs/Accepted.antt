@@ -116,6 +116,7 @@ module _ (x : Case) (stable : SymbolsStayIn x) (as_written : SymbolsNameAsWritte
       let a = both_steps (check_rule (bare x) x.unit n r) _ tt h in
       All-cons (RuleAgrees x) r rs (one_agrees n r a.1) (all_agree (n + 1) rs a.2)
 
+  -- the symbols of a unit that is accepted without old names name one thing in both
   pub accepted_agrees : IsAcceptedUnit (bare x) x.unit → All (RuleAgrees x) x.unit.rules
   accepted_agrees h = all_agree 0 x.unit.rules h
 

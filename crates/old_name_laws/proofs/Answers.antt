@@ -41,6 +41,7 @@ read_symbols_stay : (d : Option Data) (m : Model) → model_by d ≡ Ok m → Pr
 read_symbols_stay None m is = cc
 read_symbols_stay (Some d) m is = described_symbols_stay d m is
 
+-- in both models of the bytes present symbols stay
 pub first_stays : (model other : List ℕ) (h : AreModels model other) → PresentSymbolsStay h.one
 first_stays model other h = read_symbols_stay (json_of model) h.one h.model_is
 
@@ -62,6 +63,7 @@ module _ (within : DescribedIn) (model other : List ℕ) (h : AreModels model ot
       ap (delivery_answer f) (ap (λ (m : Model). describes_population m d) h.differ ∙ described_alike h.two.renames h.one d)
       ∙ of_described (describes_population h.one d) (λ p is. within h.one d p is)
 
+  -- the answer by the other class model is that by the first
   pub answers_stay : (delivery : List ℕ) → inputs_answer f other delivery ≡ inputs_answer f model delivery
   answers_stay delivery =
       ap (λ (x : Result Model ModelFault). model_answer f x delivery) h.other_is ∙ of_tree (json_of delivery)

@@ -52,6 +52,7 @@ module _ (x : Case) (n c : ℕ) where
 
   -- ---- code
 
+  -- a tree leaves operands of the same kinds, or has the same first fault
   pub kinds_alike : (tree : CodeTree) → AllIn (IsAlike x) tree → (e : Enclosing) (at : ℕ) (ks : List Kind) → kinds_after t tree e at ks ≡ kinds_after s tree e at ks
   kinds_alike End h e at ks = refl
   kinds_alike (Plain i rest) h e at ks = λ j. plain_alike e i at ks h.0 j >>= λ after. kinds_alike rest h.1 e (at + 1) after j
@@ -87,6 +88,7 @@ module _ (x : Case) where
   all_checked n (r ∷ rs) h =
       λ j. one_checked n r (All-head (RuleAgrees x) r rs h) j >>= λ _. all_checked (n + 1) rs (All-tail (RuleAgrees x) r rs h) j
 
+  -- the unit is accepted in both, or has the same first fault
   pub unit_checked : All (RuleAgrees x) x.unit.rules → check_unit (other x) x.unit ≡ check_unit x.model x.unit
   unit_checked h = all_checked 0 x.unit.rules h
 

@@ -66,6 +66,7 @@ module _ (r : Renames) (m : Model) where
   first_alike all before [] = refl
   first_alike all before (x ∷ rs) = λ j. or_later (length before) (limit_alike all before x j) (first_alike all (before ++ x ∷ []) rs j)
 
+  -- rules are compiled to one unit, or pass the same limit
   pub compile_alike : (rs : List CheckedRule) → compile_of n rs ≡ compile_of m rs
   compile_alike rs = λ j. unless_passed (first_alike rs [] rs j) (translate_rules m rs)
 
@@ -75,11 +76,13 @@ module _ (r : Renames) (m : Model) where
   unfolding elaborate_rule elaborate elaborates declared_kind name_value literal_value prefix_of left_of binary_of property_of classes_of_arguments value_call call_of inner_scope iterate_of bound_value if_of accumulator_kind fold_of
   rule_alike x = refl
 
+  -- rules are typed as the same core rules, or have the same first fault
   pub rules_alike : (i : ℕ) (xs : List Rule) → elaborate_rules n i xs ≡ elaborate_rules m i xs
   rules_alike i [] = refl
   rules_alike i (x ∷ xs) = λ j. in_rule i (rule_alike x j) >>= λ y. rules_alike (suc i) xs j >>= λ ys. Ok (y ∷ ys)
 
   -- ---- texts
 
+  -- both of a text
   pub compiled_alike : (t : TextReading) → compiled_rules n t ≡ compiled_rules m t
   compiled_alike t = λ j. in_text t >>= λ rules. in_types (rules_alike 0 rules j) >>= λ typed. in_code typed (compile_alike typed j)

@@ -30,6 +30,7 @@ module _ (x : Case) (n c : ℕ) (z : Sizes) where
   lengths_alike vars (instrs.All a) ls h = ap (named_length x.model z) (All-head (Agrees x) a.0 [] h)
   lengths_alike vars i ls h = refl
 
+  -- a tree has the same charges, and leaves operands of the same lengths
   pub costs_alike : (tree : CodeTree) → AllIn (IsAlike x) tree → (vars ls : List ℕ) → cost_of t z tree vars ls ≡ cost_of s z tree vars ls
   costs_alike End h vars ls = refl
   costs_alike (Plain i rest) h vars ls =
@@ -66,6 +67,7 @@ module _ (x : Case) (h : All (RuleAgrees x) x.unit.rules) where
       ap (λ (z : Sizes). rule_step_bound x.unit z k) (sizes_alike x.renames (in_one x objects))
       ∙ bound_alike (sizes_of (in_one x objects)).counts (sizes_of (in_one x objects)).longest k
 
+  -- and so the unit is admitted within the same budgets
   pub admission_alike : (objects : List Object) (budget : ℕ) → admission x.unit (sizes_of (in_other x objects)) budget ≡ admission x.unit (sizes_of (in_one x objects)) budget
   admission_alike objects budget =
       λ j. refused_at (least (λ r. not (is_affordable budget (limited_bound (rule_bound_alike objects r j)))) (length x.unit.rules))

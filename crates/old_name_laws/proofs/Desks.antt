@@ -53,6 +53,7 @@ reply_by w (Grant k n) ss = granted w k n (slice_index_or ss k None)
 reply_by w (Withdraw k) ss = withdrawn k (slice_index_or ss k None)
 reply_by w (Lines k) ss = looked w (slice_index_or ss k None)
 
+-- what is replied to calls, by what is spent of the jobs before them
 abbrev pub replies_by : Decided → List Call → List (Option ℕ) → List ℕ
 replies_by w [] ss = []
 replies_by w (c ∷ cs) ss = reply_by w c ss ++ replies_by w cs (spent_after w c ss)
@@ -122,6 +123,7 @@ module _ (a : Admission) (p : Population) where
   replied_on (c ∷ cs) ss =
       λ j. replied c ss j ++ (ap (replies_from a p cs) (moved c ss) ∙ replied_on cs (spent_after decided c ss)) j
 
+  -- the replies to a script are by what decides them of its job
   pub script_is : (cs : List Call) → script_replies a p cs ≡ replies_by decided cs []
   script_is cs = replied_on cs []
 

@@ -76,11 +76,14 @@ module _ (x : Case) (h : All (RuleAgrees x) x.unit.rules) (objects : List Object
   pairs_alike : all_pairs x.unit two ≡ all_pairs x.unit one
   pairs_alike = pairs_below_alike (length x.unit.rules) (omega arith)
 
+  -- the job has the same charges
   pub charges_of_alike : charges_of x.unit two ≡ charges_of x.unit one
   charges_of_alike = λ j. flat_map (λ k. pair_charges_alike k j) (pairs_alike j)
 
+  -- its pairs have the same costs
   pub costs_alike : costs_of x.unit two ≡ costs_of x.unit one
   costs_alike = λ j. map (λ k. sum (pair_charges_alike k j)) (pairs_alike j)
 
+  -- and its lines are the same, whatever is spent
   pub lines_alike : lines_at x.unit two ≡ lines_at x.unit one
   lines_alike = λ j s. concat (take (suc (paid_for (costs_alike j) s)) (parts_alike j))

@@ -39,9 +39,11 @@ module _ (r : Renames) (p : Population) where
   meant_alike : meant_verdict q ≡ meant_verdict p
   meant_alike = λ j x o. verdict_of (meaning_alike x.tree (object_value o ∷ []) j)
 
+  -- rules have the same counts
   pub summary_meant_alike : (rs : List CheckedRule) → meant_summary q rs ≡ meant_summary p rs
   summary_meant_alike rs = λ j. counts_of (flat_map (λ x. map (λ o. Some (meant_alike j x o)) (instances p x.context)) rs)
 
+  -- and the same report
   pub report_meant_alike : (rs : List CheckedRule) → meant_report q rs ≡ meant_report p rs
   report_meant_alike rs =
       λ j. flat_map

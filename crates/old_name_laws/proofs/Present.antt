@@ -130,6 +130,7 @@ features_apart m free c f name lt is (Some i) old =
 
 -- ---- what a file describes
 
+-- a check that passed is true
 pub check_is : {E : Type 0} (b : Bool) (e : E) (y : Unit {0}) → check b e ≡ Ok y → b ≡ true
 check_is true e y h = refl
 check_is false e y h = cc

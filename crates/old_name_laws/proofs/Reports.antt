@@ -20,14 +20,17 @@ module _ (x : Case) (h : All (RuleAgrees x) x.unit.rules) (objects : List Object
   abbrev pub AreRules : ℕ → Type 0
   AreRules n = n ≤ length x.unit.rules
 
+  -- a rule is judged for the same objects
   pub contexts_alike : (r : ℕ) → r < length x.unit.rules → context_objects x.unit two r ≡ context_objects x.unit one r
   contexts_alike r lt = λ j. instances_of one (class_in ((h r empty_rule lt).context j))
 
+  -- with the same verdicts
   pub all_verdicts_alike : verdict_at x.unit two ≡ verdict_at x.unit one
   all_verdicts_alike = λ j r o. verdict_alike x h objects r o j
 
   -- ---- the report
 
+  -- also of the first rules together
   pub told_alike : (n : ℕ) → AreRules n → verdicts_below x.unit two (verdict_at x.unit two) n ≡ verdicts_below x.unit one (verdict_at x.unit one) n
   told_alike zero le = refl
   told_alike (suc r) le = λ j. told_alike r (omega arith) j ++ map (all_verdicts_alike j r) (contexts_alike r (omega arith) j)
@@ -40,11 +43,13 @@ module _ (x : Case) (h : All (RuleAgrees x) x.unit.rules) (objects : List Object
       λ j. before j ++ (flat_map (object_line x.unit one (all_verdicts_alike j) r) (objects_alike j)
       ++ rule_line_of (name_of x.unit r) (length (objects_alike j)) (counts_of (map (all_verdicts_alike j r) (objects_alike j))))
 
+  -- the report has the same bytes
   pub report_alike : report_of x.unit two ≡ report_of x.unit one
   report_alike =
       let lines : reports_below x.unit two (verdict_at x.unit two) (length x.unit.rules) ≡ reports_below x.unit one (verdict_at x.unit one) (length x.unit.rules) = lines_below_alike (length x.unit.rules) (omega arith) in
       let told : verdicts_below x.unit two (verdict_at x.unit two) (length x.unit.rules) ≡ verdicts_below x.unit one (verdict_at x.unit one) (length x.unit.rules) = told_alike (length x.unit.rules) (omega arith) in
       λ j. lines j ++ total_line (counts_of (told j))
 
+  -- and the same counts
   pub summary_alike : summary_of x.unit two ≡ summary_of x.unit one
   summary_alike = λ j. counts_of (told_alike (length x.unit.rules) (omega arith) j)

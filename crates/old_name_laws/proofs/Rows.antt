@@ -39,6 +39,7 @@ module _ (x : Case) (n c : ℕ) where
   all_named [] h = refl
   all_named (k ∷ ks) h = λ j. is_some (All-head (Agrees x) k ks h j) && all_named ks (All-tail (Agrees x) k ks h) j
 
+  -- its names are there in both, or in neither
   pub names_alike : (i : Instr) → IsAlike x i → has_names t i ≡ has_names s i
   names_alike i h = all_named (symbols_used i) h
 
@@ -66,6 +67,7 @@ module _ (x : Case) (n c : ℕ) where
 
   -- ---- rows
 
+  -- it takes the same operands
   pub operands_alike : (i : Instr) → IsAlike x i → operands_of t i ≡ operands_of s i
   operands_alike (instrs.Attr a) h = ap (λ (o : Option Named). Fitting (Scalar (owner_kind o)) ∷ []) (All-head (Agrees x) a.0 [] h)
   operands_alike (instrs.AsColl d k) h = ap (λ (z : ScalarKind). Fitting (Scalar z) ∷ []) (field_alike k h)
@@ -78,6 +80,7 @@ module _ (x : Case) (n c : ℕ) where
   operands_alike (instrs.Fold k a) h = ap (λ (z : ScalarKind). Fitting (Scalar z) ∷ AnyCollection ∷ []) (field_alike k h)
   operands_alike i h = refl
 
+  -- it gives the same
   pub results_alike : (vars : List Kind) (i : Instr) (ks : List Kind) → IsAlike x i → result_kind t vars i ks ≡ result_kind s vars i ks
   results_alike vars (instrs.Enum l) ks h = ap (λ (o : Option Named). Scalar (literal_kind o)) (All-head (Agrees x) l.0 [] h)
   results_alike vars (instrs.Attr a) ks h = ap (feature_read s.model) (All-head (Agrees x) a.0 [] h)
@@ -86,16 +89,19 @@ module _ (x : Case) (n c : ℕ) where
   results_alike vars (instrs.AsType a) ks h = ap (λ (o : Option Named). Scalar (class_kind o)) (All-head (Agrees x) a.0 [] h)
   results_alike vars i ks h = refl
 
+  -- its body sees the same variables
   pub bindings_alike : (i : Instr) (k : Kind) → IsAlike x i → binds t i k ≡ binds s i k
   bindings_alike (instrs.Fold w a) k h = ap (λ (z : ScalarKind). Scalar z ∷ an_element k) (field_alike w h)
   bindings_alike i k h = refl
 
+  -- its bodies end with the same
   pub ends_alike : (i : Instr) → IsAlike x i → ends_with t i ≡ ends_with s i
   ends_alike (instrs.If k a b) h = ap Fitting (kind_field_alike k h)
   ends_alike (instrs.IsUnique k a) h = ap (λ (z : ScalarKind). Fitting (Scalar z)) (field_alike k h)
   ends_alike (instrs.Fold k a) h = ap (λ (z : ScalarKind). Fitting (Scalar z)) (field_alike k h)
   ends_alike i h = refl
 
+  -- the block gives the same
   pub yields_alike : (i : Instr) (k r : Kind) → IsAlike x i → yields t i k r ≡ yields s i k r
   yields_alike (instrs.If w a b) k r h = kind_field_alike w h
   yields_alike (instrs.Fold w a) k r h = ap Scalar (field_alike w h)

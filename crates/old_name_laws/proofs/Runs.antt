@@ -24,6 +24,7 @@ module _ (x : Case) (objects : List Object) (n c d : ℕ) where
   abbrev pub CoveredNext : Option Configuration → Type 0
   CoveredNext o = InNext (IsAlike x) o
 
+  -- a step leaves code of present names pending
   pub next_stays : (q : Configuration) → Covered q → CoveredNext (step s q)
   next_stays q h = stays_in (IsAlike x) s q h
 
@@ -50,9 +51,11 @@ module _ (x : Case) (h : All (RuleAgrees x) x.unit.rules) (objects : List Object
   abbrev two : Population
   two = in_other x objects
 
+  -- a run begins with code of present names
   pub starts_covered : (r o : ℕ) → InPieces (IsAlike x) (start (tree_of_rule x.unit r) o).pending
   starts_covered r o = starts_in (IsAlike x) (tree_of_rule x.unit r) o (code_agrees x h r)
 
+  -- a rule has the same verdict for each object
   pub verdict_alike : (r o : ℕ) → verdict_at x.unit two r o ≡ verdict_at x.unit one r o
   verdict_alike r o =
       λ j. verdicts_alike x objects r (setting_of x.unit one r).context (setting_of x.unit two r).context (rule_bound_alike x h objects r j) (start (tree_of_rule x.unit r) o) (starts_covered r o) j

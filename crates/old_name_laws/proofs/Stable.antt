@@ -43,6 +43,7 @@ module _ (m n : Model) (u : Content) (h : Stands m n u) where
       All-weaker (RuleUsesPresentNames m u) (RuleAgrees case)
       (rule_agrees case (record { first = h.first; second = subst PresentSymbolsStay h.differ h.second })) u.rules h.present
 
+  -- the unit is accepted in both, or has the same first fault
   pub same_check : check_unit n u ≡ check_unit m u
   same_check = ap (λ (k : Model). check_unit k u) h.differ ∙ unit_checked case rules_agree
 
@@ -56,6 +57,7 @@ module _ (p q : Population) (u : Content) (h : StandsOn p q u) where
   same : q ≡ in_other its p.objects
   same = λ j. record { model = h.unit.differ j; objects = h.objects j }
 
+  -- its bounds, admission, report and counts are the same
   pub same_bounds : (r : ℕ) → rule_step_bound u (sizes_of q) r ≡ rule_step_bound u (sizes_of p) r
   same_bounds r = ap (λ (y : Population). rule_step_bound u (sizes_of y) r) same ∙ rule_bound_alike its agree p.objects r
 
@@ -71,6 +73,7 @@ module _ (p q : Population) (u : Content) (h : StandsOn p q u) where
   pub same_summary : summary_of u q ≡ summary_of u p
   same_summary = ap (summary_of u) same ∙ summary_alike its agree p.objects
 
+  -- so are the charges, the costs and the lines of its job
   pub same_charges : charges_of u q ≡ charges_of u p
   same_charges = ap (charges_of u) same ∙ charges_of_alike its agree p.objects
 

@@ -127,11 +127,13 @@ module _ (P : Instr → Type 0) where
     pub stays_in : (c : Configuration) → InPieces P c.pending → InNext P (step s c)
     stays_in c h = in_piece c.pending c.variables c.operands h
 
+  -- what is pending at the start is the tree's
   pub starts_in : (t : CodeTree) (o : ℕ) → AllIn P t → InPieces P (start t o).pending
   starts_in t o h = in_settled (Sequence t ∷ []) (h, tt)
 
 -- ---- steps
 
+-- what code is run over, by the index of a rule, its context class and a population
 abbrev pub setting : Case → ℕ → ℕ → Population → Setting
 setting x n c p = record { unit = x.unit; rule = n; context = c; population = p }
 
@@ -193,5 +195,6 @@ module _ (x : Case) (objects : List Object) (n c d : ℕ) where
       else None
   piece_alike (Skipped ∷ ps) vars os h = refl
 
+  -- a configuration of such code has the same step
   pub step_alike : (q : Configuration) → InPieces (IsAlike x) q.pending → step t q ≡ step s q
   step_alike q h = piece_alike q.pending q.variables q.operands h

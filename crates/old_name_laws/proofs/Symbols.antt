@@ -42,6 +42,7 @@ Agrees x k = named_at (other x) x.unit k ≡ named_at x.model x.unit k
 abbrev pub IsAlike : Case → Instr → Type 0
 IsAlike x i = All (Agrees x) (symbols_used i)
 
+-- in both a symbol of present names names what its names name
 pub record SymbolsStayIn (x : Case) : Type 0 where
   pub first : PresentSymbolsStay x.model
   pub second : PresentSymbolsStay (other x)
@@ -56,6 +57,7 @@ by_symbol : (x : Case) → SymbolsStayIn x → (o : Option Symbol) → IsSome (o
 by_symbol x stable None there = refl
 by_symbol x stable (Some s) there = by_name x stable s (named_in x.model (names_in x.unit.texts s)) refl there
 
+-- so such a symbol names one thing
 pub agrees : (x : Case) → SymbolsStayIn x → (k : ℕ) → IsSome (named_as_written x.model x.unit k) → Agrees x k
 agrees x stable k there = by_symbol x stable (slice_get x.unit.symbols k) there
 
@@ -83,6 +85,7 @@ pub record RuleAgrees (x : Case) (r : RuleContent) : Type 0 where
   pub context : Agrees x r.context
   pub code : AllIn (IsAlike x) (code_tree r.code)
 
+-- and so do the symbols of a rule that uses present names
 pub rule_agrees : (x : Case) → SymbolsStayIn x → (r : RuleContent) → RuleUsesPresentNames x.model x.unit r → RuleAgrees x r
 rule_agrees x stable r h =
     let all : All (Agrees x) (rule_symbols r) = All-weaker (λ k. IsSome (named_as_written x.model x.unit k)) (Agrees x) (agrees x stable) (rule_symbols r) h in

@@ -94,6 +94,7 @@ module _ (written : NamesAsWritten) (accepted : CompiledIsAccepted) where
       of_text : text_answer budget t q ≡ text_answer budget t p
       of_text = ap (rules_answer budget q) (compiled_alike r m t) ∙ of_rules (compiled_rules m t) refl
 
+  -- what is judged by a text
   pub judge_text_stays : DescribedIn → JudgeTextStays
   judge_text_stays described budget model other delivery t h well =
       answers_stay described model other h (text_answer budget t)

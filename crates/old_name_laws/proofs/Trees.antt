@@ -37,6 +37,7 @@ module _ (P : Instr → Type 0) where
   in_cut (suc levels) [] h = tt
   in_cut (suc levels) (i ∷ is) h = in_one (cut levels) (in_cut levels) i (shape_of i) is (All-head P i is h) (All-tail P i is h)
 
+  -- what holds of each instruction of code holds of each of its tree
   pub in_tree : (is : List Instr) → All P is → AllIn P (code_tree is)
   in_tree is h = in_cut (length is) is h
 

@@ -32,6 +32,7 @@ module _ (r : Renames) (p : Population) where
       then bounds_fault (feature_at p.model f) o f (length (values_alike o f j))
       else None
 
+  -- opposite ends have the same first fault
   pub ends_alike : first_object_fault end_fault (population_with r p) ≡ first_object_fault end_fault p
   ends_alike = λ j. first_below (λ o. first_below (λ f. end_alike o f j) (length p.model.features)) (length p.objects)
 
@@ -44,6 +45,7 @@ module _ (r : Renames) (p : Population) where
   longest_alike : (f : ℕ) → longest_of (population_with r p) f ≡ longest_of p f
   longest_alike f = λ j. if is_unbounded (feature_at p.model f) then longest_below_alike f (length p.objects) j else 0
 
+  -- the sizes are the same
   pub sizes_alike : sizes_of (population_with r p) ≡ record (sizes_of p) { model = with_old_names r p.model }
   sizes_alike =
       λ j. record {
@@ -54,6 +56,7 @@ module _ (r : Renames) (p : Population) where
 
   -- ---- reads
 
+  -- the same is read at a feature of an object
   pub read_alike : (f : ℕ) (v : Value) → value_read (population_with r p) f v ≡ value_read p f v
   read_alike f (value.Single (scalar.Object o)) =
       λ j. if belongs p.model (class_of p o) f then Some (feature_value (feature_at p.model f) (values_alike o f j)) else None

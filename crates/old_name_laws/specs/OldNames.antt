@@ -8,7 +8,7 @@ use Rattle.imkl_delivery.specs.declared.fault.DeliveryFault.{DeliveryFault}
 abbrev pub with_old_names : Renames → Model → Model
 with_old_names r m = record m { renames = r }
 
--- two class models differ at most in their old names
+-- two class models differ at most in their old names: the second is the first with its own
 abbrev pub DifferInOldNames : Model → Model → Type 0
 DifferInOldNames m n = n ≡ with_old_names n.renames m
 
