@@ -5,7 +5,7 @@ ghost use Rattle.std.specs.Prelude.{◌≡◌};
 use crate::costs::explain_cost;
 use crate::rules::unit_of_text;
 use desk_script::{ScriptFault, read_script};
-use explain_code::{explain_code_flaw, explain_verify_flaw};
+use explain_code::{Refused, explain_code_flaw, explain_verify_flaw};
 use explain_inputs::{explain_delivery, explain_model};
 use explain_notes::{Input, write_marked};
 use imkl_delivery::{DeliveryFault, load};
@@ -122,7 +122,8 @@ fn on_unit(
     match verify(alloc, population.model(), unit) {
         Ok(accepted) => on_accepted(alloc, out, asked, population, &accepted),
         Err((VerifyFault::At { flaw, rule, at }, unit)) => {
-            explain_verify_flaw(alloc, out, asked.rules, &unit, flaw, rule, at)
+            let refused = Refused { flaw, rule, at };
+            explain_verify_flaw(alloc, out, asked.rules, &unit, population.model(), refused)
         }
         Err((VerifyFault::OutOfMemory, _unit)) => Err(AllocError),
     }
@@ -280,7 +281,8 @@ fn on_code(
     match verify(alloc, model, unit) {
         Ok(_) => Ok(()),
         Err((VerifyFault::At { flaw, rule, at }, unit)) => {
-            explain_verify_flaw(alloc, out, code, &unit, flaw, rule, at)
+            let refused = Refused { flaw, rule, at };
+            explain_verify_flaw(alloc, out, code, &unit, model, refused)
         }
         Err((VerifyFault::OutOfMemory, _unit)) => Err(AllocError),
     }
