@@ -3,6 +3,7 @@
 
 mod answers;
 mod costs;
+mod faults;
 mod json;
 mod keeping;
 mod listing;

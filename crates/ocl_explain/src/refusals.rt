@@ -151,7 +151,20 @@ fn on_population(
     }
 }
 
-/// Writes why a delivery or rules are refused, if they are.
+/// Writes why rules are refused without a delivery, if they are.
+fn on_rules(
+    alloc: Global,
+    out: &mut String,
+    asked: Asked<'_>,
+    model: &ClassModel,
+) -> Result<(), AllocError> {
+    match asked.form {
+        RulesForm::Text => on_text(alloc, out, asked.rules, model),
+        RulesForm::Code => on_code(alloc, out, asked.rules, model),
+    }
+}
+
+/// Writes why a delivery and rules are refused, if they are.
 fn on_model(
     alloc: Global,
     out: &mut String,
@@ -161,7 +174,10 @@ fn on_model(
     match load(alloc, asked.delivery.bytes, model) {
         Ok(population) => on_population(alloc, out, asked, &population),
         Err(DeliveryFault::OutOfMemory) => Err(AllocError),
-        Err(fault) => explain_delivery(alloc, out, asked.delivery, model, &fault),
+        Err(fault) => {
+            explain_delivery(alloc, out, asked.delivery, model, &fault)?;
+            on_rules(alloc, out, asked, model)
+        }
     }
 }
 
