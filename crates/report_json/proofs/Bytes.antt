@@ -1,9 +1,9 @@
 -- The bytes of words, ids, names and numbers are above a space.
 use Rattle.std.proofs.Common.{◌≡◌, ℕ, zero, suc, ◌<◌, ◌≤◌, ◌/◌, ◌%◌, Bool, true, false, List, [], ◌∷◌, refl, ap, sym, ◌∙◌, arith, eqb}
-use Rattle.std.specs.Prelude.{◌&&◌, nat_lt, if◌then◌else◌}
+use Rattle.std.specs.Prelude.{◌&&◌, nat_lt, nat_le, not, length, if◌then◌else◌}
 use Rattle.std.specs.List.{AllByRecursion, list_all}
 use Rattle.std.specs.Fmt.{decimal, digits, digits_onto, digit_glyph}
-use Rattle.ocl_base.specs.Words.{is_name, is_identifier, begins_with_letter, is_letter_or_digit}
+use Rattle.ocl_base.specs.Words.{is_name, is_identifier, is_reserved, begins_with_letter, is_letter_or_digit}
 use Rattle.imkl_population.specs.Building.{is_id, is_id_byte}
 use Rattle.report_json.proofs.Words.{IsAbove}
 
@@ -22,11 +22,15 @@ pub above_literal : (w : List ℕ) → list_all (λ b. nat_lt 32 b) w ≡ true �
 above_literal w h = above_passed (λ b. nat_lt 32 b) (λ b t. grind arith) w h
 
 pub above_id : (id : List ℕ) → is_id id ≡ true → IsAbove 32 id
-above_id id h = above_passed is_id_byte (λ b t. grind arith) id (both _ _ (both _ _ h).1).1
+above_id id h =
+    let some = nat_lt 0 (length id) in let few = nat_le (length id) 128 in let each = list_all is_id_byte id in
+    above_passed is_id_byte (λ b t. grind arith) id (both (some && few) each h).1
 
 pub above_name : (name : List ℕ) → is_name name ≡ true → IsAbove 32 name
-unfolding is_name, is_identifier
-above_name name h = above_passed is_letter_or_digit (λ b t. grind arith) name (both _ _ (both _ _ h).0).1
+unfolding is_name is_identifier
+above_name name h =
+    let begins = begins_with_letter name in let each = list_all is_letter_or_digit name in
+    above_passed is_letter_or_digit (λ b t. grind arith) name (both begins each (both (begins && each) (not (is_reserved name)) h).0).1
 
 -- a number in decimal
 glyph_above : (d : ℕ) → 32 < digit_glyph false d

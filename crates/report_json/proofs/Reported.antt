@@ -1,6 +1,7 @@
 -- Reports are put together of their lines, and these are of words.
-use Rattle.std.proofs.Common.{◌≡◌, ℕ, zero, suc, ◌<◌, ◌≤◌, true, List, [], ◌∷◌, ◌++◌, length, map, get_or, Option, Some, refl, sym, ap, subst, ◌∙◌, append_assoc, append-nil, arith}
+use Rattle.std.proofs.Common.{◌≡◌, ℕ, zero, suc, ◌<◌, ◌≤◌, true, List, [], ◌∷◌, ◌++◌, length, map, get_or, Option, Some, refl, sym, ap, subst, ◌∙◌, append_assoc, append-nil, inl, inr, arith}
 use Rattle.std.specs.Prelude.{slice_get}
+use Rattle.std.proofs.lemmas.Bool.Decides.{leb_tells}
 use Rattle.std.specs.List.{AllByRecursion, flat_map}
 use Rattle.std.proofs.lemmas.Grind.{flat_map-append}
 use Rattle.std.proofs.lemmas.List.Folds.{flat_map-map}
@@ -22,7 +23,7 @@ use Rattle.report_json.specs.JsonLines.{json_of_report}
 use Rattle.report_json.specs.ReportLines.{ReportLine, OfObject, OfRule, OfAll, written_as_text, written_as_json, lines_of_rule, report_lines_below, report_lines, meant_lines_of_rule, meant_lines}
 use Rattle.report_json.proofs.Words.{IsAbove}
 use Rattle.report_json.proofs.Bytes.{above_id, above_name}
-use Rattle.report_json.proofs.Lines.{IsOfWords, lines_json}
+use Rattle.report_json.proofs.Rows.{IsOfWords, lines_json}
 
 -- objects' lines, and one line more
 texts_of : (f : ℕ → ReportLine) (os : List ℕ) (l : ReportLine)
