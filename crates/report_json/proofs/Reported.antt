@@ -31,10 +31,12 @@ texts_of : (f : ℕ → ReportLine) (os : List ℕ) (l : ReportLine)
 texts_of f os l = sym (flat_map-append written_as_text (map f os) (l ∷ []) ∙ ap (λ x. x ++ (written_as_text l ++ [])) (flat_map-map written_as_text f os)
     ∙ ap (λ x. flat_map (λ o. written_as_text (f o)) os ++ x) (append-nil (written_as_text l)))
 
+-- lines and one more
 one_more : (ls : List ReportLine) (l : ReportLine) (text : List ℕ) → text ≡ flat_map written_as_text ls → text ++ written_as_text l ≡ flat_map written_as_text (ls ++ l ∷ [])
 one_more ls l text e = ap (λ x. x ++ written_as_text l) e
     ∙ sym (flat_map-append written_as_text ls (l ∷ []) ∙ ap (λ x. flat_map written_as_text ls ++ x) (append-nil (written_as_text l)))
 
+-- what is reported of the first n rules
 below_text : (u : Content) (p : Population) (v : Verdicts) (n : ℕ) → reports_below u p v n ≡ flat_map written_as_text (report_lines_below u p v n)
 below_text u p v zero = refl
 below_text u p v (suc r) =
@@ -42,29 +44,34 @@ below_text u p v (suc r) =
     ∙ ap (λ x. flat_map written_as_text (report_lines_below u p v r) ++ x) (texts_of (λ o. OfObject (v r o) (name_of u r) (object_at p o).id) (context_objects u p r) (OfRule (name_of u r) (length (context_objects u p r)) (counts_of (rule_verdicts u p v r))))
     ∙ sym (flat_map-append written_as_text (report_lines_below u p v r) (lines_of_rule u p v r))
 
+-- the report
 pub report_text : (u : Content) (p : Population) (v : Verdicts) → report_by u p v ≡ flat_map written_as_text (report_lines u p v)
 report_text u p v = one_more (report_lines_below u p v (length u.rules)) (OfAll (counts_of (all_verdicts u p v))) _ (below_text u p v (length u.rules))
 
--- ids and names are words
+-- the id of any object, also of one that isn't there, whose id is empty
 id_above : (p : Population) (o : ℕ) → IsConsistent p → IsAbove 32 (object_at p o).id
 id_above p o h = elim (leb_tells (length p.objects) o) [
   | inl past ↦ subst (λ x. IsAbove 32 x.id) (sym (get_or_past p.objects o no_object past.1)) tt
   | inr here ↦ above_id (object_at p o).id (h.formed o here.1)
 ]
 
+-- the name of a rule of a unit
 name_above : (u : Content) (r : ℕ) → IsUnit u → r < length u.rules → IsAbove 32 (name_of u r)
 name_above u r h lt =
     let fits = EachFits-at (RuleFits u.version u.texts u.symbols) [] u.rules r (unit_rule u r) (slice_get-get_or u.rules r _ lt) h.rules in
     above_name (name_of u r) fits.1.is_name
 
+-- lines of words, put together
 all_append : (xs ys : List ReportLine) → AllByRecursion IsOfWords xs → AllByRecursion IsOfWords ys → AllByRecursion IsOfWords (xs ++ ys)
 all_append [] ys h k = k
 all_append (x ∷ xs) ys h k = (h.0, all_append xs ys h.1 k)
 
+-- a line for each object
 all_objects : (f : ℕ → ReportLine) (os : List ℕ) → ((o : ℕ) → IsOfWords (f o)) → AllByRecursion IsOfWords (map f os)
 all_objects f [] h = tt
 all_objects f (o ∷ os) h = (h o, all_objects f os h)
 
+-- the lines of the first n rules
 below_words : (u : Content) (p : Population) (v : Verdicts) (n : ℕ) → IsUnit u → IsConsistent p → n ≤ length u.rules → AllByRecursion IsOfWords (report_lines_below u p v n)
 below_words u p v zero unit whole within = tt
 below_words u p v (suc r) unit whole within =
@@ -72,6 +79,7 @@ below_words u p v (suc r) unit whole within =
     all_append (report_lines_below u p v r) (lines_of_rule u p v r) (below_words u p v r unit whole (omega (arith, within)))
     (all_append _ _ (all_objects (λ o. OfObject (v r o) (name_of u r) (object_at p o).id) (context_objects u p r) (λ o. (name, id_above p o whole))) (name, tt))
 
+-- the JSON of a report
 pub report_json : (u : Content) (p : Population) (v : Verdicts) → IsUnit u → IsConsistent p → json_of_report (report_by u p v) ≡ flat_map written_as_json (report_lines u p v)
 report_json u p v unit whole =
     ap json_of_report (report_text u p v)
@@ -79,6 +87,7 @@ report_json u p v unit whole =
 
 -- ---- the report that rules mean
 
+-- what is reported of all rules
 rules_text : (p : Population) (rs : List CheckedRule) → flat_map (meant_report_of_rule p) rs ≡ flat_map written_as_text (flat_map (meant_lines_of_rule p) rs)
 rules_text p [] = refl
 rules_text p (r ∷ rs) =
@@ -86,9 +95,11 @@ rules_text p (r ∷ rs) =
     ∙ ap (λ x. flat_map written_as_text (meant_lines_of_rule p r) ++ x) (rules_text p rs)
     ∙ sym (flat_map-append written_as_text (meant_lines_of_rule p r) (flat_map (meant_lines_of_rule p) rs))
 
+-- the report that they mean
 pub meant_text : (p : Population) (rs : List CheckedRule) → meant_report p rs ≡ flat_map written_as_text (meant_lines p rs)
 meant_text p rs = one_more (flat_map (meant_lines_of_rule p) rs) (OfAll (meant_summary p rs)) _ (rules_text p rs)
 
+-- the lines of all rules
 rules_words : (p : Population) (rs : List CheckedRule) → IsConsistent p → AllByRecursion (λ r. is_name r.name ≡ true) rs → AllByRecursion IsOfWords (flat_map (meant_lines_of_rule p) rs)
 rules_words p [] whole names = tt
 rules_words p (r ∷ rs) whole names =
@@ -97,6 +108,7 @@ rules_words p (r ∷ rs) whole names =
     (all_append _ _ (all_objects (λ o. OfObject (Some (meant_verdict p r o)) r.name (object_at p o).id) (instances p r.context) (λ o. (name, id_above p o whole))) (name, tt))
     (rules_words p rs whole names.1)
 
+-- its JSON
 pub meant_json : (p : Population) (rs : List CheckedRule) → IsConsistent p → AllByRecursion (λ r. is_name r.name ≡ true) rs → json_of_report (meant_report p rs) ≡ flat_map written_as_json (meant_lines p rs)
 meant_json p rs whole names =
     ap json_of_report (meant_text p rs)

@@ -21,11 +21,13 @@ IsOfWords (OfAll counts) = Unit {0}
 object_text : (word name id : List ℕ) → word ++ (32 ∷ (name ++ (32 ∷ (id ++ 10 ∷ [])))) ≡ join_with_byte 32 (word ∷ name ∷ id ∷ []) ++ 10 ∷ []
 object_text word name id = simp append_assoc refl
 
+-- the same of a rule's line, whose words and numbers these are
 rule_text : (a name b n c h d f e u : List ℕ)
     → a ++ (32 ∷ (name ++ (32 ∷ (b ++ (32 ∷ (n ++ (32 ∷ (c ++ (32 ∷ (h ++ (32 ∷ (d ++ (32 ∷ (f ++ (32 ∷ (e ++ (32 ∷ (u ++ 10 ∷ []))))))))))))))))))
     ≡ join_with_byte 32 (a ∷ name ∷ b ∷ n ∷ c ∷ h ∷ d ∷ f ∷ e ∷ u ∷ []) ++ 10 ∷ []
 rule_text a name b n c h d f e u = simp append_assoc refl
 
+-- and of the last line
 total_text : (a b f c u : List ℕ)
     → a ++ (32 ∷ (b ++ (32 ∷ (f ++ (32 ∷ (c ++ (32 ∷ (u ++ 10 ∷ [])))))))) ≡ join_with_byte 32 (a ∷ b ∷ f ∷ c ∷ u ∷ []) ++ 10 ∷ []
 total_text a b f c u = simp append_assoc refl
