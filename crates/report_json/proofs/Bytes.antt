@@ -1,7 +1,7 @@
 -- The bytes of words, ids, names and numbers are above a space.
-use Rattle.std.proofs.Common.{◌≡◌, ℕ, zero, suc, ◌<◌, ◌≤◌, ◌/◌, ◌%◌, Bool, true, false, List, [], ◌∷◌, refl, ap, sym, ◌∙◌, arith, eqb}
+use Rattle.std.proofs.Common.{◌≡◌, ℕ, zero, suc, ◌<◌, ◌/◌, ◌%◌, Bool, true, false, List, [], ◌∷◌, refl, arith, eqb}
 use Rattle.std.specs.Prelude.{◌&&◌, nat_lt, nat_le, not, length, if◌then◌else◌}
-use Rattle.std.specs.List.{AllByRecursion, list_all}
+use Rattle.std.specs.List.{list_all}
 use Rattle.std.specs.Fmt.{decimal, digits, digits_onto, digit_glyph}
 use Rattle.ocl_base.specs.Words.{is_name, is_identifier, is_reserved, begins_with_letter, is_letter_or_digit}
 use Rattle.imkl_population.specs.Building.{is_id, is_id_byte}

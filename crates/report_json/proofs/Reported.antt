@@ -1,6 +1,5 @@
 -- Reports are put together of their lines, and these are of words.
-use Rattle.std.proofs.Common.{◌≡◌, ℕ, zero, suc, ◌<◌, ◌≤◌, true, List, [], ◌∷◌, ◌++◌, length, map, get_or, Option, Some, refl, sym, ap, subst, ◌∙◌, append_assoc, append-nil, inl, inr, arith}
-use Rattle.std.specs.Prelude.{slice_get}
+use Rattle.std.proofs.Common.{◌≡◌, ℕ, zero, suc, ◌<◌, ◌≤◌, true, List, [], ◌∷◌, ◌++◌, length, map, Some, refl, sym, ap, subst, ◌∙◌, append-nil, inl, inr, arith}
 use Rattle.std.proofs.lemmas.Bool.Decides.{leb_tells}
 use Rattle.std.specs.List.{AllByRecursion, flat_map}
 use Rattle.std.proofs.lemmas.Grind.{flat_map-append}
@@ -14,11 +13,10 @@ use Rattle.rule_code.specs.Content.{Content}
 use Rattle.rule_code.specs.WellFormed.{IsUnit, RuleFits}
 use Rattle.rule_code.proofs.ForAbove.{EachFits-at}
 use Rattle.rule_verify.specs.UnitRules.{unit_rule}
-use Rattle.rule_machine.specs.declared.verdict.Verdict.{Verdict}
 use Rattle.ocl_core.specs.Core.{CheckedRule}
 use Rattle.ocl_compile.specs.Meaning.{meant_verdict}
-use Rattle.rule_report.specs.Report.{Verdicts, context_objects, rule_verdicts, all_verdicts, counts_of, name_of, object_line, rule_line, total_line, reports_below, report_of_rule, report_by}
-use Rattle.ocl_check.specs.MeantReport.{meant_verdicts, meant_summary, meant_report, meant_report_of_rule, meant_line}
+use Rattle.rule_report.specs.Report.{Verdicts, context_objects, rule_verdicts, all_verdicts, counts_of, name_of, reports_below, report_of_rule, report_by}
+use Rattle.ocl_check.specs.MeantReport.{meant_verdicts, meant_summary, meant_report, meant_report_of_rule}
 use Rattle.report_json.specs.JsonLines.{json_of_report}
 use Rattle.report_json.specs.ReportLines.{ReportLine, OfObject, OfRule, OfAll, written_as_text, written_as_json, lines_of_rule, report_lines_below, report_lines, meant_lines_of_rule, meant_lines}
 use Rattle.report_json.proofs.Words.{IsAbove}

@@ -1,12 +1,9 @@
 -- The lines of a report: each is words with spaces between them, so its JSON is that of these words.
-use Rattle.std.proofs.Common.{◌≡◌, ℕ, List, [], ◌∷◌, ◌++◌, length, codes, Option, Some, None, refl, sym, ap, ◌∙◌, append_assoc}
+use Rattle.std.proofs.Common.{◌≡◌, ℕ, List, [], ◌∷◌, ◌++◌, codes, Some, None, refl, ap, ◌∙◌, append_assoc}
 use Rattle.std.specs.List.{AllByRecursion, join_with_byte, flat_map}
 use Rattle.std.specs.Fmt.{decimal}
-use Rattle.std.specs.Bool.{⊤}
-use Rattle.rule_machine.specs.declared.verdict.Verdict.{Verdict}
 use Rattle.rule_machine.specs.declared.verdict.Verdict.TheVariants.{Holds, Fails, Undecided}
-use Rattle.rule_report.specs.declared.summary.Summary.{Summary}
-use Rattle.report_json.specs.JsonLines.{json_of_words, json_of_report}
+use Rattle.report_json.specs.JsonLines.{json_of_report}
 use Rattle.report_json.specs.ReportLines.{ReportLine, OfObject, OfRule, OfAll, written_as_text, written_as_json}
 use Rattle.report_json.proofs.Words.{IsAbove, line_first}
 use Rattle.report_json.proofs.Bytes.{above_literal, above_decimal}

@@ -1,6 +1,6 @@
 -- A report as JSON lines, for programs: each line of the report gives an object of JSON in a line of its own. Names of rules
 -- and ids of objects have only letters, digits and `. _ : -`, so nothing in them has to be escaped.
-use Rattle.std.specs.Prelude.{ℕ, List, [], ◌∷◌, ◌++◌, ◌==◌, length, codes, slice_index_or, bytes_eq, if◌then◌else◌}
+use Rattle.std.specs.Prelude.{ℕ, List, [], ◌++◌, ◌==◌, length, codes, slice_index_or, bytes_eq, if◌then◌else◌}
 use Rattle.std.specs.List.{slice_split, flat_map}
 
 -- ---- the lines of JSON
