@@ -24,6 +24,11 @@ def arguments(body, shared):
     return first + re.findall(named, flat) + re.findall(alone, flat)
 
 
+def optional_arguments(body):
+    """The arguments of a command that may be left out, each with what it is."""
+    return re.findall(r'Arg::new\(alloc, "(\w+)"\) ?\.help\("([^"]+)"\)', re.sub(r"\s+", " ", body))
+
+
 def options(body, functions):
     """The options of a command: how each is written, and what it does."""
     found = []
@@ -54,17 +59,20 @@ def manual(program, sources):
     """The page in the form of `man`, from the sources of the command line and of the commands."""
     said, bodies = texts(sources), functions(sources)
     about = lambda name: re.search(r'\.about\("([^"]+)"\)', bodies[name])[1]
-    commands = re.findall(r"\.subcommand\((\w+)\(alloc\)\?\)", bodies["command"])
+    # (a program may add options to a command that it shares with another)
+    commands = dict(re.findall(r"\.subcommand\((\w+)\(alloc\)\?((?:\s*\.arg\(\w+\(alloc\)\)\?)*)\s*\)", bodies["command"]))
     page = [f'.TH {program.upper()} 1 "" "{program} {said["VERSION"].split()[0]}"', ".SH NAME",
             f"{program} \\- {about('command')}", ".SH SYNOPSIS"]
     for name in commands:
-        chosen = [f"[\\fB{escaped(it)}\\fR]" for it, _ in options(bodies[name], bodies)]
+        chosen = [f"[\\fB{escaped(it)}\\fR]" for it, _ in options(bodies[name] + commands[name], bodies)]
         files = [f"\\fI{it}\\fR" for it, _ in arguments(bodies[name], bodies["on_delivery"])]
+        files += [f"[\\fI{it}\\fR]" for it, _ in optional_arguments(bodies[name])]
         page += [f"\\fB{program} {name}\\fR {' '.join([*chosen, *files])}", ".br"]
     page += [".SH DESCRIPTION", *paragraphs(said["HELP"])[1:], ".SH COMMANDS"]
     for name in commands:
         page += [f".SS {name}", escaped(about(name)) + "."]
-        for written, meaning in arguments(bodies[name], bodies["on_delivery"]) + options(bodies[name], bodies):
+        named = arguments(bodies[name], bodies["on_delivery"]) + optional_arguments(bodies[name])
+        for written, meaning in named + options(bodies[name] + commands[name], bodies):
             page += [".TP", f"\\fB{escaped(written)}\\fR", escaped(meaning)]
         page += paragraphs(said[name.upper()])
     return "\n".join(page) + "\n"

@@ -1,14 +1,17 @@
 //! Code files in words: a listing, which field of a file is wrong, and which instruction isn't accepted.
 #![tactic(auto)]
 
+mod beside;
 mod fields;
 mod flaws;
 mod instructions;
 mod listing;
+mod missing;
 mod symbols;
 mod verifying;
 
 pub use flaws::explain_code_flaw;
 pub use instructions::instruction_words;
 pub use listing::list_unit;
-pub use verifying::explain_verify_flaw;
+pub use symbols::symbol_words;
+pub use verifying::{Refused, explain_verify_flaw};

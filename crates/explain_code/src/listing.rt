@@ -1,7 +1,9 @@
 //! A unit in words: rule by rule, an instruction a line.
 
+use crate::beside::Beside;
 use crate::instructions::{bodies_of, instruction_words, length_of};
 use crate::symbols::{symbol_words, text_of};
+use imkl_model::ClassModel;
 use rule_code::{Instr, Rule, Symbol, Unit, Version};
 use std::alloc::{AllocError, Global};
 
@@ -65,22 +67,37 @@ fn opened(instruction: &Instr, index: usize) -> Option<Open> {
     })
 }
 
-/// Writes the instructions of a rule, the first of which begins at an offset; answers where they end.
+/// The line of an instruction at an offset, in so many open blocks.
+fn instruction_line(
+    alloc: Global,
+    unit: &Unit,
+    instruction: &Instr,
+    offset: usize,
+    depth: usize,
+) -> Result<String, AllocError> {
+    let words = instruction_words(alloc, unit, instruction)?;
+    let mut line = format!(in alloc; "{offset:6}  ")?;
+    indent(&mut line, depth)?;
+    line.push_str(words.as_str())?;
+    Ok(line)
+}
+
+/// Writes the instructions of a rule, the first of which begins at an offset, and the kinds beside them; answers where they
+/// end.
 fn list_code(
     alloc: Global,
     out: &mut String,
     unit: &Unit,
     code: &[Instr],
+    beside: &mut Beside<'_>,
     begin: usize,
 ) -> Result<usize, AllocError> {
     let mut offset = begin;
     let mut open = Vec::new(alloc);
     for (index, instruction) in code.iter().enumerate() {
         close(out, &mut open, index)?;
-        write!(out, "{offset:6}  ")?;
-        indent(out, open.len())?;
-        let words = instruction_words(alloc, unit, instruction)?;
-        writeln!(out, "{words}")?;
+        let line = instruction_line(alloc, unit, instruction, offset, open.len())?;
+        beside.write(alloc, out, line.as_str(), index, instruction)?;
         offset = offset.saturating_add(length_of(instruction));
         if let Some(block) = opened(instruction, index) {
             open.push(block)?;
@@ -95,6 +112,7 @@ fn list_rule(
     out: &mut String,
     unit: &Unit,
     rule: &Rule,
+    model: Option<&ClassModel>,
     begin: usize,
 ) -> Result<usize, AllocError> {
     let name = text_of(unit, rule.name);
@@ -104,12 +122,20 @@ fn list_rule(
         out,
         "rule {name}, context {context}, {count} instructions, at byte {begin}"
     )?;
-    list_code(alloc, out, unit, &rule.code, begin.saturating_add(6))
+    let mut beside = Beside::new(alloc, unit, model, rule)?;
+    let first = begin.saturating_add(6);
+    list_code(alloc, out, unit, &rule.code, &mut beside, first)
 }
 
 /// Writes a unit in words: its counts, and then for each rule a line and a line for each of its instructions, which begins
-/// with the offset in the file; the bodies of a block are indented.
-pub fn list_unit(alloc: Global, out: &mut String, unit: &Unit) -> Result<(), AllocError> {
+/// with the offset in the file; the bodies of a block are indented. With a class model the kinds of the operands that are
+/// on the stack before the instruction stand beside it, as far as the code is right.
+pub fn list_unit(
+    alloc: Global,
+    out: &mut String,
+    unit: &Unit,
+    model: Option<&ClassModel>,
+) -> Result<(), AllocError> {
     let version = match unit.version {
         Version::One => 1,
         Version::Two => 2,
@@ -121,7 +147,7 @@ pub fn list_unit(alloc: Global, out: &mut String, unit: &Unit) -> Result<(), All
     )?;
     let mut offset = rules_offset(unit);
     for rule in &unit.rules {
-        offset = list_rule(alloc, out, unit, rule, offset)?;
+        offset = list_rule(alloc, out, unit, rule, model, offset)?;
     }
     Ok(())
 }

@@ -13,7 +13,7 @@ pub(crate) fn text_of(unit: &Unit, number: TextNumber) -> &str {
 }
 
 /// What a symbol names, as OCL writes it: `C`, `E`, `C.f` or `E::l`.
-pub(crate) fn symbol_words(
+pub fn symbol_words(
     alloc: Global,
     unit: &Unit,
     number: SymbolNumber,

@@ -2,6 +2,7 @@
 #![tactic(auto)]
 
 mod conforming;
+mod fates;
 mod found;
 mod operations;
 mod reading;

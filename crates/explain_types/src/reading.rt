@@ -221,7 +221,7 @@ fn collected(left: Kind, one: Kind) -> Kind {
 }
 
 /// The type of an operator's value.
-fn operator_kind(operator: BinaryOperator) -> Kind {
+pub(crate) fn operator_kind(operator: BinaryOperator) -> Kind {
     match operator {
         BinaryOperator::Multiply
         | BinaryOperator::Divide
@@ -318,7 +318,10 @@ fn look_at_classes(
 }
 
 /// The class before a link that lists all of its objects.
-fn class_before<'t>(first: &'t Expression, links: &'t [Link]) -> Option<(&'t Name, usize)> {
+pub(crate) fn class_before<'t>(
+    first: &'t Expression,
+    links: &'t [Link],
+) -> Option<(&'t Name, usize)> {
     let Expression::Name { name, .. } = first else {
         return None;
     };
@@ -334,7 +337,7 @@ fn class_before<'t>(first: &'t Expression, links: &'t [Link]) -> Option<(&'t Nam
 }
 
 /// The type of all objects of a class.
-fn instances_kind(
+pub(crate) fn instances_kind(
     alloc: Global,
     reading: &Reading<'_>,
     class: &Name,
@@ -364,7 +367,7 @@ fn source_of(left: &Kind) -> (CollectionKind, ScalarKind) {
 }
 
 /// The type of an iteration's value.
-fn iteration_kind(iterator: IteratorKind, left: &Kind, body: &Kind) -> Kind {
+pub(crate) fn iteration_kind(iterator: IteratorKind, left: &Kind, body: &Kind) -> Kind {
     let (collection, element) = source_of(left);
     match iterator {
         IteratorKind::Select | IteratorKind::Reject => Kind::Collection(collection, element),
@@ -376,7 +379,7 @@ fn iteration_kind(iterator: IteratorKind, left: &Kind, body: &Kind) -> Kind {
 }
 
 /// Puts the variables of an iteration into the scope.
-fn push_variables<'t>(
+pub(crate) fn push_variables<'t>(
     alloc: Global,
     reading: &Reading<'_>,
     scope: &mut Scope<'t>,
@@ -584,7 +587,7 @@ pub(crate) fn kind_of<'t>(
 
 /// Puts a variable into the scope, once its type and its value were looked at.
 #[cycle(reading)]
-fn bind<'t>(
+pub(crate) fn bind<'t>(
     alloc: Global,
     reading: &Reading<'_>,
     scope: &mut Scope<'t>,
@@ -618,7 +621,7 @@ fn links_kind<'t>(
 
 /// The type of a link after what has a type.
 #[cycle(reading)]
-fn link_kind<'t>(
+pub(crate) fn link_kind<'t>(
     alloc: Global,
     reading: &Reading<'_>,
     scope: &mut Scope<'t>,

@@ -1,11 +1,12 @@
 //! Warnings of rules whose types are right.
 
+use crate::fates::{Fate, fate_of};
 use crate::reading::{Reading, kind_of};
 use crate::scope::{Scope, Unequal};
 use crate::type_names::a_type;
 use explain_notes::{Input, Note};
 use explain_text::length_of_token;
-use imkl_model::ClassModel;
+use imkl_model::{ClassModel, ClassNo};
 use ocl_kinds::{Kind, ScalarKind};
 use ocl_text::SurfaceRule;
 use ocl_types::TypeFlaw;
@@ -80,8 +81,58 @@ fn write_gathered(
     Ok(())
 }
 
-/// Writes the warnings of a rule whose types are right: comparisons that are true only of two nulls, and variables of a `let`
-/// that nothing reads.
+/// Writes a warning of a rule that no object can keep or break, if it is one.
+fn write_fate(
+    alloc: Global,
+    out: &mut String,
+    input: Input<'_>,
+    rule: &SurfaceRule,
+    fate: Fate,
+) -> Result<(), AllocError> {
+    let (what, label) = match (fate.may_hold, fate.may_fail) {
+        (true, true) => return Ok(()),
+        (false, true) => ("no object can keep", "by its types this is never true"),
+        (true, false) => ("no object can break", "by its types this is never false"),
+        (false, false) => (
+            "no object can keep or break",
+            "by its types this is never true or false",
+        ),
+    };
+    let name = rule.name.as_str();
+    let message = format!(in alloc; "{what} rule `{name}`")?;
+    let offset = rule.expression.offset();
+    let note = Note {
+        input,
+        offset,
+        length: length_of_token(alloc, input.bytes, offset),
+        message: message.as_str(),
+        fault: "warning",
+        label,
+        help: "",
+    };
+    note.write(alloc, out)
+}
+
+/// Writes a warning of a rule that no object of its context class can keep or break, by its types alone.
+fn warn_of_fate(
+    alloc: Global,
+    out: &mut String,
+    input: Input<'_>,
+    reading: &Reading<'_>,
+    class: ClassNo,
+    rule: &SurfaceRule,
+) -> Result<(), AllocError> {
+    let Ok(mut scope) = Scope::of_context(alloc, class) else {
+        return Err(AllocError);
+    };
+    match fate_of(alloc, reading, &mut scope, &rule.expression) {
+        Ok(fate) => write_fate(alloc, out, input, rule, fate),
+        Err(_) => Ok(()),
+    }
+}
+
+/// Writes the warnings of a rule whose types are right: comparisons that are true only of two nulls, variables of a `let`
+/// that nothing reads, and that no object can keep or break it.
 pub fn warn_of_rule(
     alloc: Global,
     out: &mut String,
@@ -103,7 +154,8 @@ pub fn warn_of_rule(
         rule_offset: rule.expression.offset(),
     };
     match kind_of(alloc, &reading, &mut scope, &rule.expression) {
-        Ok(_) => write_gathered(alloc, out, input, model, &scope),
-        Err(_) => Ok(()),
+        Ok(_) => write_gathered(alloc, out, input, model, &scope)?,
+        Err(_) => return Ok(()),
     }
+    warn_of_fate(alloc, out, input, &reading, class, rule)
 }

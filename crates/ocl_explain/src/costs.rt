@@ -2,13 +2,18 @@
 
 ghost use Rattle.std.specs.Prelude.{◌≡◌};
 
+use code_kinds::Names;
+use explain_costs::explain_charges;
 use explain_notes::Input;
 use imkl_population::Sizes;
 use rule_cost::{Bound, bound};
 use rule_verify::Accepted;
 use std::alloc::{AllocError, Global};
 
-/// Writes what a rule may be charged, and the budget that this is above.
+/// What a bound is cut at.
+const OVER: u64 = 9_223_372_036_854_775_808;
+
+/// Writes what a rule may be charged, the budget that this is above, and the iterations that make it.
 pub(crate) fn explain_cost(
     alloc: Global,
     out: &mut String,
@@ -25,19 +30,45 @@ pub(crate) fn explain_cost(
         return Ok(());
     }
     let name = accepted.rule_name(rule);
-    match bound(alloc, accepted, rule, sizes) {
-        Ok(Bound::Steps(charges)) => writeln!(
+    let charges = match bound(alloc, accepted, rule, sizes) {
+        Ok(Bound::Steps(charges)) => charges,
+        Ok(Bound::Over) => OVER,
+        Err(_) => return Err(AllocError),
+    };
+    if charges < OVER {
+        writeln!(
             out,
             "{path}: rule `{name}` may be charged {charges} for an object, and the budget is {budget} (cost 1)"
-        )?,
-        Ok(Bound::Over) => writeln!(
+        )?;
+    } else {
+        writeln!(
             out,
             "{path}: rule `{name}` may be charged 2^63 or more for an object, which no budget allows (cost 1)"
-        )?,
-        Err(_) => return Err(AllocError),
+        )?;
     }
+    write_iterations(alloc, out, accepted, sizes, rule, charges)?;
     writeln!(
         out,
         "  each iteration costs its body as often as there may be elements, and one inside another multiplies"
     )
+}
+
+/// Writes the iterations of a rule that has this bound.
+fn write_iterations(
+    alloc: Global,
+    out: &mut String,
+    accepted: &Accepted<'_>,
+    sizes: &Sizes<'_>,
+    rule: usize,
+    bound: u64,
+) -> Result<(), AllocError> {
+    let unit = accepted.unit();
+    let names = Names {
+        model: accepted.model(),
+        unit,
+    };
+    match unit.rules.get(rule) {
+        Some(rule) => explain_charges(alloc, out, names, sizes, rule, bound),
+        None => Ok(()),
+    }
 }

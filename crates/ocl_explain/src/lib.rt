@@ -3,6 +3,8 @@
 
 mod answers;
 mod costs;
+mod faults;
+mod json;
 mod keeping;
 mod listing;
 mod refusals;
@@ -10,6 +12,7 @@ mod rules;
 mod warnings;
 
 pub use answers::{answer_bound, answer_compile, answer_desk, answer_judge, answer_verify};
+pub use json::answer_judge_json;
 pub use keeping::Keeping;
 pub use listing::{Listing, list_code};
 pub use refusals::{explain_bound, explain_compile, explain_desk, explain_judge, explain_verify};

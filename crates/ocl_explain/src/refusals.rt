@@ -5,7 +5,7 @@ ghost use Rattle.std.specs.Prelude.{◌≡◌};
 use crate::costs::explain_cost;
 use crate::rules::unit_of_text;
 use desk_script::{ScriptFault, read_script};
-use explain_code::{explain_code_flaw, explain_verify_flaw};
+use explain_code::{Refused, explain_code_flaw, explain_verify_flaw};
 use explain_inputs::{explain_delivery, explain_model};
 use explain_notes::{Input, write_marked};
 use imkl_delivery::{DeliveryFault, load};
@@ -122,7 +122,8 @@ fn on_unit(
     match verify(alloc, population.model(), unit) {
         Ok(accepted) => on_accepted(alloc, out, asked, population, &accepted),
         Err((VerifyFault::At { flaw, rule, at }, unit)) => {
-            explain_verify_flaw(alloc, out, asked.rules, &unit, flaw, rule, at)
+            let refused = Refused { flaw, rule, at };
+            explain_verify_flaw(alloc, out, asked.rules, &unit, population.model(), refused)
         }
         Err((VerifyFault::OutOfMemory, _unit)) => Err(AllocError),
     }
@@ -150,7 +151,20 @@ fn on_population(
     }
 }
 
-/// Writes why a delivery or rules are refused, if they are.
+/// Writes why rules are refused without a delivery, if they are.
+fn on_rules(
+    alloc: Global,
+    out: &mut String,
+    asked: Asked<'_>,
+    model: &ClassModel,
+) -> Result<(), AllocError> {
+    match asked.form {
+        RulesForm::Text => on_text(alloc, out, asked.rules, model),
+        RulesForm::Code => on_code(alloc, out, asked.rules, model),
+    }
+}
+
+/// Writes why a delivery and rules are refused, if they are.
 fn on_model(
     alloc: Global,
     out: &mut String,
@@ -160,7 +174,10 @@ fn on_model(
     match load(alloc, asked.delivery.bytes, model) {
         Ok(population) => on_population(alloc, out, asked, &population),
         Err(DeliveryFault::OutOfMemory) => Err(AllocError),
-        Err(fault) => explain_delivery(alloc, out, asked.delivery, model, &fault),
+        Err(fault) => {
+            explain_delivery(alloc, out, asked.delivery, model, &fault)?;
+            on_rules(alloc, out, asked, model)
+        }
     }
 }
 
@@ -280,7 +297,8 @@ fn on_code(
     match verify(alloc, model, unit) {
         Ok(_) => Ok(()),
         Err((VerifyFault::At { flaw, rule, at }, unit)) => {
-            explain_verify_flaw(alloc, out, code, &unit, flaw, rule, at)
+            let refused = Refused { flaw, rule, at };
+            explain_verify_flaw(alloc, out, code, &unit, model, refused)
         }
         Err((VerifyFault::OutOfMemory, _unit)) => Err(AllocError),
     }

@@ -4,9 +4,9 @@ ghost use Rattle.std.specs.Prelude.{map};
 ghost use Rattle.ocl_text.specs.RuleText.{NamesDiffer};
 ghost use Rattle.ocl_text.specs.View.{rule_of};
 
+use crate::faults::{explain_unread, explain_untyped};
 use explain_notes::{Input, Note};
 use explain_text::explain_text_flaw;
-use explain_types::explain_type_flaw;
 use imkl_model::ClassModel;
 use ocl_compile::{CompileFault, Limit, compile};
 use ocl_text::{SurfaceRule, parse_rules};
@@ -93,8 +93,8 @@ fn unit_of_rules(
 {
     let typed = match check_rules(alloc, model, rules) {
         Ok(typed) => typed,
-        Err(RulesFault::At { flaw, rule, offset }) => {
-            explain_type_flaw(alloc, out, input, model, rules, flaw, rule, offset)?;
+        Err(RulesFault::At { .. }) => {
+            explain_untyped(alloc, out, input, model, rules)?;
             return Ok(None);
         }
         Err(RulesFault::OutOfMemory) => return Err(AllocError),
@@ -127,7 +127,7 @@ pub(crate) fn unit_of_text(
     match parse_rules(alloc, text) {
         Ok(rules) => unit_of_rules(alloc, out, input, model, &rules),
         Err(TextFault::At { flaw, offset }) => {
-            explain_text_flaw(alloc, out, input, flaw, offset)?;
+            explain_unread(alloc, out, input, model, text, flaw, offset)?;
             Ok(None)
         }
         Err(TextFault::OutOfMemory) => Err(AllocError),

@@ -8,6 +8,7 @@ mod requests;
 use clap::error::{Error, ErrorKind};
 use command_line::{Asked, read_words};
 use ocl_check::{CommandFault, Outcome};
+use ocl_programs::STANDARD_INPUT;
 use requests::{answer, list};
 use std::process::ExitCode;
 use std::{env, io};
@@ -32,6 +33,14 @@ fn refused(rt: &HostRuntime, error: &Error) -> ExitCode {
     ExitCode::from(if is_help { 0 } else { 2 })
 }
 
+/// Whether standard input is named for more than one input.
+fn shares_standard_input(asked: &Asked<'_>) -> bool {
+    match asked {
+        Asked::Answer(request, _) => request.shares_standard_input(),
+        Asked::List(files) => files.code == STANDARD_INPUT && files.model == Some(STANDARD_INPUT),
+    }
+}
+
 fn main(rt: HostRuntime) -> ExitCode {
     let args = match env::args(&rt) {
         Ok(args) => args,
@@ -47,12 +56,12 @@ fn main(rt: HostRuntime) -> ExitCode {
         return ended(&rt, Outcome::Failed(CommandFault::OutOfMemory));
     };
     match read_words(rt.alloc(), words.as_slice()) {
-        Ok(Asked::Answer(request)) if request.shares_standard_input() => {
+        Ok(asked) if shares_standard_input(&asked) => {
             let _ = rt.eprintln("error: standard input (-) may be named for one input only");
             ExitCode::from(2)
         }
-        Ok(Asked::Answer(request)) => ended(&rt, answer(&rt, request)),
-        Ok(Asked::List(path)) => ended(&rt, list(&rt, path)),
+        Ok(Asked::Answer(request, is_json)) => ended(&rt, answer(&rt, request, is_json)),
+        Ok(Asked::List(files)) => ended(&rt, list(&rt, files)),
         Err(error) => refused(&rt, &error),
     }
 }

@@ -1,12 +1,13 @@
 //! What is asked, answered over files: every input is read before the first is looked at.
 
-use crate::files::{Bytes, read_file, report_write};
+use crate::command_line::ListFiles;
+use crate::files::{read_file, report_write};
 use explain_notes::Input;
 use ocl_check::{CommandFault, JudgeOptions, Outcome, Telling};
 use ocl_explain::{
-    Keeping, Listing, answer_bound, answer_compile, answer_desk, answer_judge, answer_verify,
-    explain_bound, explain_compile, explain_desk, explain_judge, explain_verify, list_code,
-    warn_compile, warn_judge,
+    Keeping, Listing, answer_bound, answer_compile, answer_desk, answer_judge, answer_judge_json,
+    answer_verify, explain_bound, explain_compile, explain_desk, explain_judge, explain_verify,
+    list_code, warn_compile, warn_judge,
 };
 use ocl_programs::{CompileFiles, Creating, DeskFiles, Request, RuleFiles, VerifyFiles};
 use std::alloc::AllocError;
@@ -25,23 +26,42 @@ fn is_refusal(outcome: Outcome) -> bool {
     outcome == Outcome::Status(2)
 }
 
-fn judge_inputs<'i>(
-    rt: &HostRuntime,
+/// How a delivery is judged, and whether the report is printed as JSON.
+#[derive(Clone, Copy, Drop)]
+struct Judging {
     options: JudgeOptions,
+    is_json: bool,
+}
+
+/// Prints the report, or what is refused.
+fn print_report<'i>(
+    rt: &HostRuntime,
+    judging: Judging,
     model: Input<'i>,
     delivery: Input<'i>,
     rules: Input<'i>,
 ) -> Outcome {
     let mut sink = Telling::new(Keeping::new(io::writer(rt)));
-    let outcome = answer_judge(
-        rt.alloc(),
-        options,
-        model.bytes,
-        delivery.bytes,
-        rules.bytes,
-        &mut sink,
-    );
+    let options = judging.options;
+    let (model, delivery, rules) = (model.bytes, delivery.bytes, rules.bytes);
+    let outcome = if judging.is_json {
+        answer_judge_json(rt.alloc(), options, model, delivery, rules, &mut sink)
+    } else {
+        answer_judge(rt.alloc(), options, model, delivery, rules, &mut sink)
+    };
     report_write(rt, "standard output", sink.into_inner().error());
+    outcome
+}
+
+fn judge_inputs<'i>(
+    rt: &HostRuntime,
+    judging: Judging,
+    model: Input<'i>,
+    delivery: Input<'i>,
+    rules: Input<'i>,
+) -> Outcome {
+    let outcome = print_report(rt, judging, model, delivery, rules);
+    let options = judging.options;
     let words = match outcome {
         Outcome::Status(2) => explain_judge(rt.alloc(), options, model, delivery, rules),
         Outcome::Status(_) => warn_judge(rt.alloc(), options, model, delivery, rules),
@@ -54,12 +74,12 @@ fn judge_inputs<'i>(
 fn judge(
     rt: &HostRuntime,
     files: RuleFiles<'_>,
-    options: JudgeOptions,
+    judging: Judging,
 ) -> Result<Outcome, CommandFault> {
     let model = read_file(rt, files.model)?;
     let delivery = read_file(rt, files.delivery)?;
     let rules = read_file(rt, files.rules)?;
-    Ok(judge_inputs(rt, options, model.input(), delivery.input(), rules.input()))
+    Ok(judge_inputs(rt, judging, model.input(), delivery.input(), rules.input()))
 }
 
 fn bound_inputs<'i>(
@@ -164,10 +184,11 @@ fn compile(rt: &HostRuntime, files: CompileFiles<'_>) -> Result<Outcome, Command
     Ok(compile_inputs(rt, files.out, model.input(), rules.input()))
 }
 
-/// Answers a command of `ocl_check` as it does, and explains a refusal on standard error.
-pub fn answer(rt: &HostRuntime, request: Request<'_>) -> Outcome {
+/// Answers a command of `ocl_check` as it does, a report as JSON if this is wanted, and explains a refusal on standard
+/// error.
+pub fn answer(rt: &HostRuntime, request: Request<'_>, is_json: bool) -> Outcome {
     let answered = match request {
-        Request::Judge(files, options) => judge(rt, files, options),
+        Request::Judge(files, options) => judge(rt, files, Judging { options, is_json }),
         Request::Compile(files) => compile(rt, files),
         Request::Bound(files) => bound(rt, files),
         Request::Verify(files) => verify(rt, files),
@@ -179,28 +200,42 @@ pub fn answer(rt: &HostRuntime, request: Request<'_>) -> Outcome {
     }
 }
 
-/// Prints the listing of a code file that was read.
-fn print_listing(rt: &HostRuntime, code: &Bytes<'_>) -> Outcome {
-    match list_code(rt.alloc(), code.input()) {
-        Ok(Listing::Words(words)) => match rt.print(words.as_str()) {
-            Ok(()) => Outcome::Status(0),
-            Err(error) => {
-                report_write(rt, "standard output", Some(error));
-                Outcome::Failed(CommandFault::Write)
-            }
-        },
-        Ok(Listing::Refused(words)) => {
-            say(rt, Ok(words));
-            Outcome::Status(2)
-        }
+/// Prints a listing, and why something is refused, if it is.
+fn print_listing(rt: &HostRuntime, listing: Listing) -> Outcome {
+    if let Err(error) = rt.print(listing.words.as_str()) {
+        report_write(rt, "standard output", Some(error));
+        return Outcome::Failed(CommandFault::Write);
+    }
+    if listing.refusal.is_empty() {
+        return Outcome::Status(0);
+    }
+    say(rt, Ok(listing.refusal));
+    Outcome::Status(2)
+}
+
+/// Lists a code file that was read, with a class model if there is one.
+fn list_inputs(rt: &HostRuntime, code: Input<'_>, model: Option<Input<'_>>) -> Outcome {
+    match list_code(rt.alloc(), code, model) {
+        Ok(listing) => print_listing(rt, listing),
         Err(_) => Outcome::Failed(CommandFault::OutOfMemory),
     }
 }
 
-/// Lists the code file of a path.
-pub fn list(rt: &HostRuntime, path: &str) -> Outcome {
-    match read_file(rt, path) {
-        Ok(code) => print_listing(rt, &code),
+fn list_files(rt: &HostRuntime, files: ListFiles<'_>) -> Result<Outcome, CommandFault> {
+    let code = read_file(rt, files.code)?;
+    match files.model {
+        Some(path) => {
+            let model = read_file(rt, path)?;
+            Ok(list_inputs(rt, code.input(), Some(model.input())))
+        }
+        None => Ok(list_inputs(rt, code.input(), None)),
+    }
+}
+
+/// Lists a code file.
+pub fn list(rt: &HostRuntime, files: ListFiles<'_>) -> Outcome {
+    match list_files(rt, files) {
+        Ok(outcome) => outcome,
         Err(fault) => Outcome::Failed(fault),
     }
 }

@@ -2,9 +2,7 @@
 
 use crate::files::{BY_CODE, explains, input};
 use ocl_check::{JudgeOptions, RulesForm};
-use ocl_explain::{
-    Listing, explain_bound, explain_compile, explain_desk, explain_verify, list_code,
-};
+use ocl_explain::{explain_bound, explain_compile, explain_desk, explain_verify, list_code};
 use std::alloc::{AllocError, Global};
 use std::test::*;
 use test_support::{CATALOGUE, DEEP_CABLE, DUCT, DUCT_DEPTH, bytes_of, file_of_rule};
@@ -88,9 +86,9 @@ fn recognises_rule_texts(rt: HostRuntime) -> Result<(), Fail> {
     Ok(())
 }
 
-/// Whether these words say why the code of a rule r of KabelOfLeiding isn't accepted.
-fn explains_code(alloc: Global, code: &str, words: &str) -> Result<bool, AllocError> {
-    let code = file_of_rule(alloc, "KabelOfLeiding", code)?;
+/// Whether these words say why the code of a rule r of a class isn't accepted.
+fn explains_rule(alloc: Global, class: &str, code: &str, words: &str) -> Result<bool, AllocError> {
+    let code = file_of_rule(alloc, class, code)?;
     let said = explain_verify(
         alloc,
         input("model.json", CATALOGUE.as_bytes()),
@@ -104,45 +102,79 @@ fn explains_accepting(rt: HostRuntime) -> Result<(), Fail> {
     let cases = [
         (
             "self; int 1; add",
-            "r.code: rule `r`, instruction 2, ADD: an operand that it takes is of another kind (verify 3)\n",
+            "r.code: rule `r`, instruction 2, ADD: an operand that it takes is of another kind (verify 3)\n  on the stack: KabelOfLeiding, Integer\n  wanted: Integer, Integer\n",
         ),
         (
             "get 1",
-            "r.code: rule `r`, instruction 0, GET 1: it reads a variable that isn't there (verify 4)\n  variable 0 is the object, and each block binds the next for its body alone\n",
+            "r.code: rule `r`, instruction 0, GET 1: it reads a variable that isn't there (verify 4)\n  variables, from 0: KabelOfLeiding\n  variable 0 is the object, and each block binds the next for its body alone\n",
         ),
         (
             "true; true",
-            "r.code: rule `r`, at its end: a rule or a body doesn't end with exactly one value of its kind (verify 6)\n  a rule ends with one Boolean\n",
+            "r.code: rule `r`, at its end: a rule or a body doesn't end with exactly one value of its kind (verify 6)\n  on the stack: Boolean, Boolean\n  wanted: Boolean\n",
         ),
         (
-            "self; attr KabelOfLeiding.breedte; int 600; ge",
-            "r.code: rule `r`, instruction 1, ATTR KabelOfLeiding.breedte: it names what the class model doesn't have (verify 1)\n  the code was compiled for another class model, or the class model has changed since\n",
+            "all KabelOfLeiding; forall 2; true; true",
+            "r.code: rule `r`, instruction 1, FORALL 2: a rule or a body doesn't end with exactly one value of its kind (verify 6)\n  on the stack: Boolean, Boolean\n  wanted: Boolean\n",
+        ),
+        (
+            "self; attr KabelOfLeiding.diepe; int 600; ge",
+            "r.code: rule `r`, instruction 1, ATTR KabelOfLeiding.diepe: it names what the class model doesn't have (verify 1)\n  KabelOfLeiding has no feature `diepe`; did you mean `diepte`?\n  the code was compiled for another class model, or the class model has changed since\n",
         ),
         (
             "add",
-            "r.code: rule `r`, instruction 0, ADD: an operand that it takes isn't on the stack (verify 2)\n  a body begins with an empty stack: it can't take what stands below its block\n",
+            "r.code: rule `r`, instruction 0, ADD: an operand that it takes isn't on the stack (verify 2)\n  on the stack: nothing\n  wanted: Integer, Integer\n  a body begins with an empty stack: it can't take what stands below its block\n",
         ),
         (
             "all KabelOfLeiding; forall 5; true",
-            "r.code: rule `r`, instruction 1, FORALL 5: its bodies are longer than what is left (verify 5)\n  a body has its number of instructions within the body or rule that the block stands in\n",
+            "r.code: rule `r`, instruction 1, FORALL 5: its bodies are longer than what is left (verify 5)\n  instructions in its bodies: 5; left: 1\n  a body has its number of instructions within the body or rule that the block stands in\n",
         ),
         ("true", ""),
     ];
     for (code, words) in cases {
-        assert!(rt; explains_code(rt.alloc(), code, words)?, "{code}");
+        assert!(rt;
+            explains_rule(rt.alloc(), "KabelOfLeiding", code, words)?,
+            "{code}"
+        );
     }
     Ok(())
 }
 
 #[test]
-fn explains_costs(rt: HostRuntime) -> Result<(), Fail> {
+fn explains_context_classes(rt: HostRuntime) -> Result<(), Fail> {
+    let words =
+        "r.code: rule `r`, its context class KabelOfLeidin: the class model doesn't have it (verify 1)\n  there is no class `KabelOfLeidin`; did you mean `KabelOfLeiding`?\n  the code was compiled for another class model, or the class model has changed since\n";
+    assert!(rt; explains_rule(rt.alloc(), "KabelOfLeidin", "true", words)?);
+    Ok(())
+}
+
+/// Whether these words say why a rule of a text costs more than 18 over DUCT, where there are three cables, pipes and ducts.
+fn explains_cost(alloc: Global, rules: &str, words: &str) -> Result<bool, AllocError> {
     let options = JudgeOptions {
-        form: RulesForm::Code,
+        form: RulesForm::Text,
         budget: 18,
     };
-    let words =
-        "rules.ocl: rule `d` may be charged 19 for an object, and the budget is 18 (cost 1)\n  each iteration costs its body as often as there may be elements, and one inside another multiplies\n";
-    assert!(rt; explains(rt.alloc(), options, CATALOGUE, DUCT, DUCT_DEPTH, words)?);
+    explains(alloc, options, CATALOGUE, DUCT, rules.as_bytes(), words)
+}
+
+#[test]
+fn explains_costs(rt: HostRuntime) -> Result<(), Fail> {
+    let cases = [
+        (
+            "context Mantelbuis inv d: omvat->forAll(k | k.diepte >= 600)",
+            "rules.ocl: rule `d` may be charged 19 for an object, and the budget is 18 (cost 1)\n  instruction 2, FORALL 4, over Mantelbuis.omvat: at most 3 elements, 5 a turn, 17 in all\n  each iteration costs its body as often as there may be elements, and one inside another multiplies\n",
+        ),
+        (
+            "context Mantelbuis inv d: KabelOfLeiding.allInstances()->forAll(a | KabelOfLeiding.allInstances()->forAll(b | a = b))",
+            "rules.ocl: rule `d` may be charged 51 for an object, and the budget is 18 (cost 1)\n  instruction 1, FORALL 5, over KabelOfLeiding.allInstances(): at most 3 elements, 16 a turn, 50 in all\n    instruction 3, FORALL 3, over KabelOfLeiding.allInstances(): at most 3 elements, 4 a turn, 14 in all\n  each iteration costs its body as often as there may be elements, and one inside another multiplies\n",
+        ),
+        (
+            "context Mantelbuis inv d: omvat.diepte->sum() = 1200",
+            "rules.ocl: rule `d` may be charged 19 for an object, and the budget is 18 (cost 1)\n  instruction 2, COLLECT 2, over Mantelbuis.omvat: at most 3 elements, 3 a turn, 11 in all\n  instruction 5, SUM, goes over collections: 4 in all\n  each iteration costs its body as often as there may be elements, and one inside another multiplies\n",
+        ),
+    ];
+    for (rules, words) in cases {
+        assert!(rt; explains_cost(rt.alloc(), rules, words)?, "{rules}");
+    }
     Ok(())
 }
 
@@ -169,10 +201,15 @@ fn explains_scripts(rt: HostRuntime) -> Result<(), Fail> {
 
 /// Whether these words list a code file.
 fn lists(alloc: Global, code: &[u8], words: &str) -> Result<bool, AllocError> {
-    match list_code(alloc, input("r.code", code))? {
-        Listing::Words(said) => Ok(said.as_str() == words),
-        Listing::Refused(_) => Ok(false),
-    }
+    let listing = list_code(alloc, input("r.code", code), None)?;
+    Ok(listing.words.as_str() == words && listing.refusal.is_empty())
+}
+
+/// Whether these words list a code file with the class model, and say why it isn't accepted.
+fn lists_with(alloc: Global, code: &[u8], words: &str, refusal: &str) -> Result<bool, AllocError> {
+    let model = input("model.json", CATALOGUE.as_bytes());
+    let listing = list_code(alloc, input("r.code", code), Some(model))?;
+    Ok(listing.words.as_str() == words && listing.refusal.as_str() == refusal)
 }
 
 #[test]
@@ -183,6 +220,14 @@ fn lists_code(rt: HostRuntime) -> Result<(), Fail> {
     let duct =
         "version 1, texts 5, symbols 3, rules 1\nrule d, context Mantelbuis, 7 instructions, at byte 71\n    77  SELF\n    78  ATTR Mantelbuis.omvat\n    81  FORALL 4\n    84    GET 1\n    87    ATTR KabelOfLeiding.diepte\n    90    INT 600\n    99    GE\n";
     assert!(rt; lists(rt.alloc(), DUCT_DEPTH, duct)?);
+    Ok(())
+}
+
+#[test]
+fn lists_code_with_kinds(rt: HostRuntime) -> Result<(), Fail> {
+    let duct =
+        "version 1, texts 5, symbols 3, rules 1\nrule d, context Mantelbuis, 7 instructions, at byte 71\n    77  SELF\n    78  ATTR Mantelbuis.omvat                    Mantelbuis\n    81  FORALL 4                                 Set(KabelOfLeiding)\n    84    GET 1\n    87    ATTR KabelOfLeiding.diepte             KabelOfLeiding\n    90    INT 600                                Integer\n    99    GE                                     Integer, Integer\n";
+    assert!(rt; lists_with(rt.alloc(), DUCT_DEPTH, duct, "")?);
     Ok(())
 }
 

@@ -1,13 +1,13 @@
 //! Explanations of deliveries and class models, each whole.
 
-use crate::files::{BY_CODE, explains};
+use crate::files::{BY_CODE, BY_TEXT, explains};
 use std::alloc::{AllocError, Global};
 use std::test::*;
 use test_support::CATALOGUE;
 
 /// Whether these words say why a delivery is refused.
 fn explains_delivery(alloc: Global, delivery: &str, words: &str) -> Result<bool, AllocError> {
-    explains(alloc, BY_CODE, CATALOGUE, delivery, b"", words)
+    explains(alloc, BY_TEXT, CATALOGUE, delivery, b"", words)
 }
 
 /// Whether these words say why a class model is refused.

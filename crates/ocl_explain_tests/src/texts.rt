@@ -1,7 +1,8 @@
 //! Explanations of rule texts, each whole.
 
-use crate::files::explains_text;
+use crate::files::{BY_TEXT, explains, explains_text};
 use std::test::*;
+use test_support::CATALOGUE;
 
 #[test]
 fn explains_texts(rt: HostRuntime) -> Result<(), Fail> {
@@ -162,5 +163,37 @@ fn explains_more_types(rt: HostRuntime) -> Result<(), Fail> {
     for (rules, words) in cases {
         assert!(rt; explains_text(rt.alloc(), rules, words)?, "{rules}");
     }
+    Ok(())
+}
+
+/// Three rules, each with a fault of its own.
+const THREE: &str =
+    "context Mantelbuis inv a: self.diametr > 0\ncontext Mantelbuis inv b: diameter == 3\ncontext Mantelbuis inv c: self.diameter";
+
+/// What is said of them.
+const SAID: &str =
+    "rules.ocl:1:32: Mantelbuis has no feature `diametr` (types 1)\n  1 | context Mantelbuis inv a: self.diametr > 0\n    |                                ^^^^^^^ did you mean `diameter`?\nrules.ocl:2:37: `=` can't stand here (text 6)\n  2 | context Mantelbuis inv b: diameter == 3\n    |                                     ^ wanted: an expression\n  `=` alone says that two values are equal\nrules.ocl:3:32: a Boolean is wanted here (types 5)\n  3 | context Mantelbuis inv c: self.diameter\n    |                                ^^^^^^^^ this is an Integer\n  an invariant says of each object whether it holds; compare the value, as in `.. >= 600`\n";
+
+/// A delivery of one object, whose class isn't there.
+const MISSPELLED: &str =
+    "{\"model\":\"imkl-profile\",\"objects\":[\n{\"id\":\"E1\",\"class\":\"Elektriciteitskabl\",\"features\":{}}]}";
+
+#[test]
+fn explains_every_rule(rt: HostRuntime) -> Result<(), Fail> {
+    assert!(rt; explains_text(rt.alloc(), THREE, SAID)?);
+    let words = format!(in rt.alloc();
+        "delivery.json:2:1: object 0 (`E1`, Elektriciteitskabl): there is no class `Elektriciteitskabl`; did you mean `Elektriciteitskabel`? (delivery 4)\ndelivery.json: 1 fault\n{SAID}"
+    )?;
+    let rules = THREE.as_bytes();
+    assert!(rt;
+        explains(
+            rt.alloc(),
+            BY_TEXT,
+            CATALOGUE,
+            MISSPELLED,
+            rules,
+            words.as_str()
+        )?
+    );
     Ok(())
 }

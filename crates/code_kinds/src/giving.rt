@@ -1,0 +1,64 @@
+//! What instructions give.
+
+use crate::naming::Names;
+use imkl_model::CollectionKind;
+use ocl_kinds::{Kind, ScalarKind, collected_kind, elements_kind};
+use rule_code::Instr;
+
+/// What an instruction without a body gives whatever stands in it.
+fn plainly_given(instruction: Instr) -> ScalarKind {
+    match instruction {
+        Instr::Add | Instr::Sub | Instr::Mul | Instr::Div | Instr::Mod | Instr::Min | Instr::Max =>
+            ScalarKind::Integer,
+        Instr::Int(_) | Instr::Neg | Instr::Abs | Instr::TLen => ScalarKind::Integer,
+        Instr::Size | Instr::Count(_) | Instr::Sum => ScalarKind::Integer,
+        Instr::Text(_) | Instr::SubStr => ScalarKind::String,
+        Instr::Null | Instr::Invalid => ScalarKind::Void,
+        _ => ScalarKind::Boolean,
+    }
+}
+
+/// What an instruction without a body gives, by the variables and its lowest operand.
+pub(crate) fn given(
+    names: &Names<'_>,
+    variables: &[Kind],
+    instruction: Instr,
+    operand: &Kind,
+) -> Kind {
+    let nothing = Kind::Scalar(ScalarKind::Void);
+    match instruction {
+        Instr::SelfObject => variables.first().copied().unwrap_or(nothing),
+        Instr::Get(number) => variables
+            .get(usize::from(number))
+            .copied()
+            .unwrap_or(nothing),
+        Instr::Enum(symbol) | Instr::AsType(symbol) => Kind::Scalar(names.one_of(symbol)),
+        Instr::Attr(symbol) => names.feature(symbol),
+        Instr::All(symbol) => Kind::Collection(CollectionKind::Set, names.one_of(symbol)),
+        Instr::AsColl(collection, kind) => Kind::Collection(collection, names.scalar(&kind)),
+        Instr::AsSet(_) => Kind::Collection(CollectionKind::Set, elements_kind(operand)),
+        _ => Kind::Scalar(plainly_given(instruction)),
+    }
+}
+
+/// What is collected from a source.
+fn collected(source: &Kind) -> CollectionKind {
+    match source {
+        Kind::Scalar(_) => CollectionKind::Bag,
+        Kind::Collection(collection, _) => collected_kind(*collection),
+    }
+}
+
+/// What a block gives, by the operand that it works on and by what its body ended with.
+pub(crate) fn yielded(names: &Names<'_>, block: Instr, operand: &Kind, ended: &Kind) -> Kind {
+    match block {
+        Instr::Let(_) => *ended,
+        Instr::If(kind, _, _) => names.kind(&kind),
+        Instr::Select(_) | Instr::Reject(_) => *operand,
+        Instr::Collect(_) | Instr::CollectFlat(_) => {
+            Kind::Collection(collected(operand), elements_kind(ended))
+        }
+        Instr::Fold(kind, _) => Kind::Scalar(names.scalar(&kind)),
+        _ => Kind::Scalar(ScalarKind::Boolean),
+    }
+}

@@ -1,0 +1,10 @@
+//! Why a rule may be charged so much: its iterations, and the instructions that go over collections.
+#![tactic(auto)]
+
+mod charges;
+mod cut;
+mod lengths;
+mod parts;
+mod words;
+
+pub use words::explain_charges;

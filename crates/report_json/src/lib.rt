@@ -1,0 +1,7 @@
+//! The report as JSON lines, for programs.
+#![tactic(auto)]
+
+pub mod laws;
+mod lines;
+
+pub use lines::json_of_report;
