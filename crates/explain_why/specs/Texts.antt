@@ -1,0 +1,167 @@
+-- Core trees as short OCL. Variables are named by their numbers: variable 0 is `self`, the others `x1`, `x2` and so on.
+use Rattle.std.specs.Prelude.{ℕ, zero, suc, ◌+◌, Bool, true, false, List, [], ◌∷◌, ◌++◌, codes, if◌then◌else◌}
+use Rattle.std.specs.Fmt.{decimal}
+use Rattle.std.specs.Str.{chars}
+use Rattle.ocl_base.specs.declared.collection_kind.CollectionKind.{CollectionKind}
+use Rattle.imkl_model.specs.ClassModel.{Model, class_at, feature_at}
+use Rattle.ocl_core.specs.declared.operator.PlainOperator.{PlainOperator}
+use Rattle.ocl_core.specs.declared.operator.PlainOperator.TheVariants as plain
+use Rattle.ocl_core.specs.declared.operator.ClassOperator.{ClassOperator}
+use Rattle.ocl_core.specs.declared.operator.ClassOperator.TheVariants as of_class
+use Rattle.ocl_core.specs.declared.operator.ElementOperator.{ElementOperator}
+use Rattle.ocl_core.specs.declared.operator.ElementOperator.TheVariants as of_elements
+use Rattle.ocl_core.specs.declared.operator.Operator.{Operator}
+use Rattle.ocl_core.specs.declared.operator.Operator.TheVariants.{Plain, OfClass, OfElements, Equal}
+use Rattle.ocl_core.specs.declared.core_tree.Iteration.{Iteration}
+use Rattle.ocl_core.specs.declared.core_tree.Iteration.TheVariants as iteration
+use Rattle.ocl_core.specs.Core as tree
+use Rattle.ocl_core.specs.Core.{Constant, CoreTree, CoreTrees}
+use Rattle.explain_why.specs.Values.{truth_text, quoted_text, literal_text, kind_name}
+
+-- ---- names and constants
+
+abbrev pub variable_name : ℕ → List ℕ
+variable_name zero = codes "self"
+variable_name (suc n) = 120 ∷ decimal (suc n)
+
+abbrev pub constant_text : Model → Constant → List ℕ
+constant_text m (tree.Boolean b) = truth_text b
+constant_text m (tree.Integer n) = decimal n
+constant_text m (tree.Text t) = quoted_text (chars t)
+constant_text m (tree.Literal e l) = literal_text m e l
+constant_text m tree.Null = codes "null"
+constant_text m tree.Invalid = codes "invalid"
+
+-- ---- how operators are written
+
+-- between two operands, before one, or after it with what stands in parentheses
+pub data Form : Type 0 where
+  Between : List ℕ → Form
+  Before : List ℕ → Form
+  After : List ℕ → Form
+
+abbrev pub plain_form : PlainOperator → Form
+plain_form plain.Add = Between (codes " + ")
+plain_form plain.Subtract = Between (codes " - ")
+plain_form plain.Multiply = Between (codes " * ")
+plain_form plain.Divide = Between (codes " div ")
+plain_form plain.Modulo = Between (codes " mod ")
+plain_form plain.Minimum = After (codes ".min")
+plain_form plain.Maximum = After (codes ".max")
+plain_form plain.Negate = Before (codes "-")
+plain_form plain.Absolute = After (codes ".abs")
+plain_form plain.Less = Between (codes " < ")
+plain_form plain.LessEqual = Between (codes " <= ")
+plain_form plain.Greater = Between (codes " > ")
+plain_form plain.GreaterEqual = Between (codes " >= ")
+plain_form plain.CharacterCount = After (codes ".size")
+plain_form plain.Substring = After (codes ".substring")
+plain_form plain.Not = Before (codes "not ")
+plain_form plain.And = Between (codes " and ")
+plain_form plain.Or = Between (codes " or ")
+plain_form plain.Xor = Between (codes " xor ")
+plain_form plain.Implies = Between (codes " implies ")
+plain_form plain.IsUndefined = After (codes ".oclIsUndefined")
+plain_form plain.IsInvalid = After (codes ".oclIsInvalid")
+plain_form plain.BothNull = Between (codes " = ")
+plain_form plain.ElementCount = After (codes "->size")
+plain_form plain.IsEmpty = After (codes "->isEmpty")
+plain_form plain.Sum = After (codes "->sum")
+
+abbrev pub class_word : ClassOperator → List ℕ
+class_word of_class.IsKindOf = codes ".oclIsKindOf"
+class_word of_class.IsTypeOf = codes ".oclIsTypeOf"
+class_word of_class.AsType = codes ".oclAsType"
+
+abbrev pub element_word : ElementOperator → List ℕ
+element_word of_elements.Includes = codes "->includes"
+element_word of_elements.Occurrences = codes "->count"
+element_word of_elements.IncludesAll = codes "->includesAll"
+element_word of_elements.ExcludesAll = codes "->excludesAll"
+element_word of_elements.AsSet = codes "->asSet"
+
+abbrev pub operator_form : Operator → Form
+operator_form (Plain operator) = plain_form operator
+operator_form (OfClass operator c) = After (class_word operator)
+operator_form (OfElements operator k) = After (element_word operator)
+operator_form (Equal k) = Between (codes " = ")
+
+-- the class that an operator asks for
+abbrev pub class_asked : Model → Operator → List ℕ
+class_asked m (Plain operator) = []
+class_asked m (OfClass operator c) = (class_at m c).name
+class_asked m (OfElements operator k) = []
+class_asked m (Equal k) = []
+
+abbrev pub iteration_word : Iteration → List ℕ
+iteration_word iteration.ForAll = codes "->forAll("
+iteration_word iteration.Exists = codes "->exists("
+iteration_word iteration.One = codes "->one("
+iteration_word iteration.Select = codes "->select("
+iteration_word iteration.Reject = codes "->reject("
+iteration_word iteration.Collect = codes "->collect("
+iteration_word iteration.CollectFlat = codes "->collect("
+iteration_word (iteration.IsUnique k) = codes "->isUnique("
+
+-- ---- trees
+
+abbrev pub is_form_open : Form → Bool
+is_form_open (Between word) = true
+is_form_open (Before word) = true
+is_form_open (After word) = false
+
+-- what has to stand in parentheses as an operand
+abbrev pub is_open : CoreTree → Bool
+is_open (tree.Operation operator first others) = is_form_open (operator_form operator)
+is_open (tree.Let value body) = true
+is_open t = false
+
+abbrev pub wrapped : Bool → List ℕ → List ℕ
+wrapped true text = 40 ∷ (text ++ 41 ∷ [])
+wrapped false text = text
+
+abbrev pub operation_text : Form → List ℕ → List ℕ → List ℕ → List ℕ
+operation_text (Between word) asked first others = first ++ (word ++ others)
+operation_text (Before word) asked first others = word ++ (first ++ others)
+operation_text (After word) asked first others = first ++ (word ++ (40 ∷ (asked ++ (others ++ 41 ∷ []))))
+
+-- the text of a node by that of its first operand, and the text of a tree in which so many variables are seen
+module _ (m : Model) where
+  abbrev mutual
+    pub node_text : CoreTree → ℕ → List ℕ → List ℕ
+    node_text (tree.Feature source f) n first = first ++ (46 ∷ (feature_at m f).name)
+    node_text (tree.Operation operator source others) n first =
+        operation_text (operator_form operator) (class_asked m operator) first (others_text (is_form_open (operator_form operator)) others n)
+    node_text (tree.AsCollection c k source) n first = first ++ (codes "->as" ++ (kind_name c ++ codes "()"))
+    node_text (tree.Iterate i source body) n first =
+        first ++ (iteration_word i ++ (variable_name n ++ (codes " | " ++ (text_of body (suc n) ++ 41 ∷ []))))
+    node_text (tree.Fold k source start body) n first =
+        first ++ (codes "->iterate(" ++ (variable_name n ++ (codes "; " ++ (variable_name (suc n) ++ (codes " = " ++ (text_of start n ++ (codes " | " ++ (text_of body (suc (suc n)) ++ 41 ∷ []))))))))
+    node_text t n first = first
+
+    pub text_of : CoreTree → ℕ → List ℕ
+    text_of (tree.Value c) n = constant_text m c
+    text_of (tree.Variable v) n = variable_name v
+    text_of (tree.AllInstances c) n = (class_at m c).name ++ codes ".allInstances()"
+    text_of (tree.Let value body) n =
+        codes "let " ++ (variable_name n ++ (codes " = " ++ (text_of value n ++ (codes " in " ++ text_of body (suc n)))))
+    text_of (tree.If k condition first second) n =
+        codes "if " ++ (text_of condition n ++ (codes " then " ++ (text_of first n ++ (codes " else " ++ (text_of second n ++ codes " endif")))))
+    text_of (tree.Feature source f) n = node_text (tree.Feature source f) n (operand_text source n)
+    text_of (tree.Operation operator first others) n = node_text (tree.Operation operator first others) n (operand_text first n)
+    text_of (tree.AsCollection c k source) n = node_text (tree.AsCollection c k source) n (operand_text source n)
+    text_of (tree.Iterate i source body) n = node_text (tree.Iterate i source body) n (operand_text source n)
+    text_of (tree.Fold k source start body) n = node_text (tree.Fold k source start body) n (operand_text source n)
+
+    -- an operand, in parentheses where it needs them
+    pub operand_text : CoreTree → ℕ → List ℕ
+    operand_text t n = wrapped (is_open t) (text_of t n)
+
+    -- the operands after the first: one that is written between two, or those in parentheses
+    pub others_text : Bool → CoreTrees → ℕ → List ℕ
+    others_text b tree.no_core n = []
+    others_text b (tree.one_core first rest) n = wrapped (b && is_open first) (text_of first n) ++ more_others b rest n
+
+    pub more_others : Bool → CoreTrees → ℕ → List ℕ
+    more_others b tree.no_core n = []
+    more_others b (tree.one_core first rest) n = codes ", " ++ (wrapped (b && is_open first) (text_of first n) ++ more_others b rest n)
