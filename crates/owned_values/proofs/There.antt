@@ -1,5 +1,5 @@
 -- Everything is there in what operations and iterations give, where it is in what they are given.
-use Rattle.std.proofs.Common.{◌≡◌, ℕ, zero, suc, ◌<◌, ◌≤◌, ◌+◌, Bool, true, false, List, [], ◌∷◌, ◌++◌, length, map, Option, Some, None, refl, sym, ap, subst, ◌∙◌, inl, inr, arith, All, get_or}
+use Rattle.std.proofs.Common.{◌≡◌, ℕ, suc, ◌<◌, Bool, true, false, List, [], ◌∷◌, ◌++◌, length, map, Option, Some, None, refl, sym, ap, subst, inl, inr, arith, All}
 use Rattle.std.specs.Prelude.{ℤ, pos, negsuc, if◌then◌else◌}
 use Rattle.std.specs.List.{AllByRecursion, list_all, filter_map}
 use Rattle.std.specs.Option.{option_map}
@@ -7,13 +7,12 @@ use Rattle.std.proofs.lemmas.Bool.{false≢true, and_parts, eqb-true, ltb-true}
 use Rattle.std.proofs.lemmas.Bool.Decides.{leb_tells}
 use Rattle.std.proofs.lemmas.List.{get_or_past}
 use Rattle.ocl_base.specs.Lists.{is_among}
-use Rattle.ocl_base.specs.Numbers.{places}
 use Rattle.ocl_base.proofs.ForAbove.{places_below}
 use Rattle.ocl_base.specs.declared.collection_kind.CollectionKind.{CollectionKind}
 use Rattle.imkl_model.specs.declared.feature.ElementType.{ElementType}
 use Rattle.imkl_model.specs.declared.feature.ElementType.TheVariants as type
 use Rattle.imkl_model.specs.declared.feature.FeatureInfo.{FeatureInfo}
-use Rattle.imkl_model.specs.ClassModel.{Model, enumeration_at, no_enumeration, feature_at, belongs}
+use Rattle.imkl_model.specs.ClassModel.{enumeration_at, no_enumeration, feature_at, belongs}
 use Rattle.imkl_model.specs.Features.{is_attribute, is_single}
 use Rattle.imkl_population.specs.declared.scalar.Scalar.{Scalar}
 use Rattle.imkl_population.specs.declared.scalar.Scalar.TheVariants as scalar
@@ -21,7 +20,7 @@ use Rattle.imkl_population.specs.Population.{Population, class_of, values_of, in
 use Rattle.imkl_population.specs.Consistency.{IsConsistent}
 use Rattle.imkl_population.specs.Values.{is_integer, is_of_type, is_target_of}
 use Rattle.rule_values.specs.Value.{Element, Value, Invalid, Null, Single, Collection, truth_value, object_value, element_value, as_element, same_element}
-use Rattle.rule_values.specs.Operations.{integer_value, on_integers, on_integer, truth_known, unless_invalid, characters, substring, on_object, cast, single_value, feature_value, value_read, or_invalid, all_instances, as_collection, on_elements, on_element, sum_of, summation, distinct_after, distinct, as_set}
+use Rattle.rule_values.specs.Operations.{integer_value, on_integers, on_integer, truth_known, unless_invalid, characters, substring, on_object, single_value, feature_value, value_read, or_invalid, all_instances, as_collection, on_elements, on_element, sum_of, summation, distinct_after, as_set}
 use Rattle.rule_values.specs.Endings.{collection_elements, joined, kept_by}
 use Rattle.owned_values.specs.Meant.{IsScalarThere, IsElementThere, IsValueThere}
 

@@ -1,5 +1,5 @@
 -- What owned values stand for, and when everything in a value is there.
-use Rattle.std.specs.Prelude.{ℕ, ◌<◌, List, length, map, Some, None}
+use Rattle.std.specs.Prelude.{◌<◌, List, length, map, Some, None}
 use Rattle.std.specs.List.{AllByRecursion}
 use Rattle.std.specs.Str.{chars}
 use Rattle.imkl_model.specs.ClassModel.{enumeration_at}
