@@ -1,5 +1,5 @@
 -- Core trees as short OCL. Variables are named by their numbers: variable 0 is `self`, the others `x1`, `x2` and so on.
-use Rattle.std.specs.Prelude.{ℕ, zero, suc, ◌+◌, Bool, true, false, List, [], ◌∷◌, ◌++◌, codes, if◌then◌else◌}
+use Rattle.std.specs.Prelude.{ℕ, zero, suc, ◌&&◌, Bool, true, false, List, [], ◌∷◌, ◌++◌, codes, if◌then◌else◌}
 use Rattle.std.specs.Fmt.{decimal}
 use Rattle.std.specs.Str.{chars}
 use Rattle.ocl_base.specs.declared.collection_kind.CollectionKind.{CollectionKind}
@@ -16,7 +16,9 @@ use Rattle.ocl_core.specs.declared.core_tree.Iteration.{Iteration}
 use Rattle.ocl_core.specs.declared.core_tree.Iteration.TheVariants as iteration
 use Rattle.ocl_core.specs.Core as tree
 use Rattle.ocl_core.specs.Core.{Constant, CoreTree, CoreTrees}
-use Rattle.explain_why.specs.Values.{truth_text, quoted_text, literal_text, kind_name}
+use Rattle.explain_why.specs.declared.words.Form as words
+use Rattle.explain_why.specs.declared.words.Form.TheVariants as form
+use Rattle.explain_why.specs.Values.{truth_text, quoted_text, literal_text, kind_name, before_element}
 
 -- ---- names and constants
 
@@ -39,6 +41,11 @@ pub data Form : Type 0 where
   Between : List ℕ → Form
   Before : List ℕ → Form
   After : List ℕ → Form
+
+abbrev pub form_of : words.Form → Form
+form_of (form.Between word) = Between word.now
+form_of (form.Before word) = Before word.now
+form_of (form.After word) = After word.now
 
 abbrev pub plain_form : PlainOperator → Form
 plain_form plain.Add = Between (codes " + ")
@@ -125,13 +132,17 @@ operation_text (Between word) asked first others = first ++ (word ++ others)
 operation_text (Before word) asked first others = word ++ (first ++ others)
 operation_text (After word) asked first others = first ++ (word ++ (40 ∷ (asked ++ (others ++ 41 ∷ []))))
 
+-- what stands before the body of a `let`
+abbrev pub let_front : List ℕ → List ℕ → List ℕ
+let_front name value = codes "let " ++ (name ++ (codes " = " ++ (value ++ codes " in ")))
+
 -- the text of a node by that of its first operand, and the text of a tree in which so many variables are seen
 module _ (m : Model) where
   abbrev mutual
     pub node_text : CoreTree → ℕ → List ℕ → List ℕ
     node_text (tree.Feature source f) n first = first ++ (46 ∷ (feature_at m f).name)
     node_text (tree.Operation operator source others) n first =
-        operation_text (operator_form operator) (class_asked m operator) first (others_text (is_form_open (operator_form operator)) others n)
+        operation_text (operator_form operator) (class_asked m operator) first (others_text (is_form_open (operator_form operator)) 0 others n)
     node_text (tree.AsCollection c k source) n first = first ++ (codes "->as" ++ (kind_name c ++ codes "()"))
     node_text (tree.Iterate i source body) n first =
         first ++ (iteration_word i ++ (variable_name n ++ (codes " | " ++ (text_of body (suc n) ++ 41 ∷ []))))
@@ -143,8 +154,7 @@ module _ (m : Model) where
     text_of (tree.Value c) n = constant_text m c
     text_of (tree.Variable v) n = variable_name v
     text_of (tree.AllInstances c) n = (class_at m c).name ++ codes ".allInstances()"
-    text_of (tree.Let value body) n =
-        codes "let " ++ (variable_name n ++ (codes " = " ++ (text_of value n ++ (codes " in " ++ text_of body (suc n)))))
+    text_of (tree.Let value body) n = let_front (variable_name n) (text_of value n) ++ text_of body (suc n)
     text_of (tree.If k condition first second) n =
         codes "if " ++ (text_of condition n ++ (codes " then " ++ (text_of first n ++ (codes " else " ++ (text_of second n ++ codes " endif")))))
     text_of (tree.Feature source f) n = node_text (tree.Feature source f) n (operand_text source n)
@@ -157,11 +167,8 @@ module _ (m : Model) where
     pub operand_text : CoreTree → ℕ → List ℕ
     operand_text t n = wrapped (is_open t) (text_of t n)
 
-    -- the operands after the first: one that is written between two, or those in parentheses
-    pub others_text : Bool → CoreTrees → ℕ → List ℕ
-    others_text b tree.no_core n = []
-    others_text b (tree.one_core first rest) n = wrapped (b && is_open first) (text_of first n) ++ more_others b rest n
-
-    pub more_others : Bool → CoreTrees → ℕ → List ℕ
-    more_others b tree.no_core n = []
-    more_others b (tree.one_core first rest) n = codes ", " ++ (wrapped (b && is_open first) (text_of first n) ++ more_others b rest n)
+    -- the operands after the first, from the one of this number on: one that is written between two, or those in parentheses
+    pub others_text : Bool → ℕ → CoreTrees → ℕ → List ℕ
+    others_text b k tree.no_core n = []
+    others_text b k (tree.one_core first rest) n =
+        before_element k ++ (wrapped (b && is_open first) (text_of first n) ++ others_text b (suc k) rest n)

@@ -1,7 +1,7 @@
 //! The command line.
 
 use clap::{Arg, ArgMatches, Command, Error};
-use ocl_programs::{Request, VERSION, bound, compile, desk, judge, request_of, verify, word};
+use ocl_programs::{Request, RuleFiles, VERSION, bound, compile, desk, judge, request_of, verify, word};
 use std::alloc::{AllocError, Global};
 
 /// The end of the program's help.
@@ -19,6 +19,17 @@ byte at which it begins. For instance
 
 Status 0: printed. 2: the file is refused. 3: memory, a read or a write failed.";
 
+/// The end of the help of `why`.
+const WHY: &str = "\
+Prints the verdict of a rule for an object, and below it each part of the rule's expression with its
+value: of a part that is null or invalid why it is, of an iteration the elements that decide it. RULES
+is a rule text, RULE the name of one of its rules and ID the id of an object of its context class. For
+instance
+  ocl_explain why examples/catalogue.json examples/network.json examples/network.rules deepEnough E3
+
+Status 0: printed. 2: an input is refused, with the line that judge prints, or there is no such rule or
+object. 3: memory, a read or a write failed.";
+
 /// What is asked.
 #[derive(Clone, Copy, Drop)]
 pub enum Asked<'a> {
@@ -26,6 +37,19 @@ pub enum Asked<'a> {
     Answer(Request<'a>),
     /// To list the code file of a path.
     List(&'a str),
+    /// To explain a verdict.
+    Why(WhyWords<'a>),
+}
+
+/// The words of `why`.
+#[derive(Clone, Copy, Drop)]
+pub struct WhyWords<'a> {
+    /// The paths of the class model, the delivery and the rule text.
+    pub files: RuleFiles<'a>,
+    /// The name of the rule.
+    pub rule: &'a str,
+    /// The id of the object.
+    pub id: &'a str,
 }
 
 fn list<'a>(alloc: Global) -> Result<Command<'a>, AllocError> {
@@ -33,6 +57,17 @@ fn list<'a>(alloc: Global) -> Result<Command<'a>, AllocError> {
         .about("Lists a code file in words")
         .after_help(LIST)
         .arg(Arg::new(alloc, "CODE").required(true).help("The code file"))
+}
+
+fn why<'a>(alloc: Global) -> Result<Command<'a>, AllocError> {
+    Command::new(alloc, "why")
+        .about("Says why a rule has its verdict for an object")
+        .after_help(WHY)
+        .arg(Arg::new(alloc, "MODEL").required(true).help("The class model, a JSON file"))?
+        .arg(Arg::new(alloc, "DELIVERY").required(true).help("The delivery, a JSON file"))?
+        .arg(Arg::new(alloc, "RULES").required(true).help("The rule text"))?
+        .arg(Arg::new(alloc, "RULE").required(true).help("The name of the rule"))?
+        .arg(Arg::new(alloc, "ID").required(true).help("The id of the object"))
 }
 
 /// The program's commands and their arguments.
@@ -47,7 +82,21 @@ fn command<'a>(alloc: Global) -> Result<Command<'a>, AllocError> {
         .subcommand(verify(alloc)?)?
         .subcommand(bound(alloc)?)?
         .subcommand(desk(alloc)?)?
-        .subcommand(list(alloc)?)
+        .subcommand(list(alloc)?)?
+        .subcommand(why(alloc)?)
+}
+
+/// What the matches of `why` ask.
+fn why_words<'a>(matches: Option<&ArgMatches<'a>>) -> WhyWords<'a> {
+    WhyWords {
+        files: RuleFiles {
+            model: word(matches, "MODEL"),
+            delivery: word(matches, "DELIVERY"),
+            rules: word(matches, "RULES"),
+        },
+        rule: word(matches, "RULE"),
+        id: word(matches, "ID"),
+    }
 }
 
 /// What the matches of a command line ask.
@@ -55,6 +104,10 @@ fn asked_by<'a>(matches: &ArgMatches<'a>) -> Asked<'a> {
     let list = matches.subcommand_matches("list");
     if list.is_some() {
         return Asked::List(word(list, "CODE"));
+    }
+    let why = matches.subcommand_matches("why");
+    if why.is_some() {
+        return Asked::Why(why_words(why));
     }
     Asked::Answer(request_of(matches))
 }

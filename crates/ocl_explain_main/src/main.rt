@@ -4,11 +4,13 @@
 mod command_line;
 mod files;
 mod requests;
+mod whys;
 
 use clap::error::{Error, ErrorKind};
 use command_line::{Asked, read_words};
 use ocl_check::{CommandFault, Outcome};
 use requests::{answer, list};
+use whys::explain;
 use std::process::ExitCode;
 use std::{env, io};
 
@@ -53,6 +55,7 @@ fn main(rt: HostRuntime) -> ExitCode {
         }
         Ok(Asked::Answer(request)) => ended(&rt, answer(&rt, request)),
         Ok(Asked::List(path)) => ended(&rt, list(&rt, path)),
+        Ok(Asked::Why(words)) => ended(&rt, explain(&rt, words)),
         Err(error) => refused(&rt, &error),
     }
 }

@@ -5,7 +5,7 @@ use Rattle.std.specs.Prelude.{ℤ, pos, ◌*ℤ◌, neg_ℤ, int_lt, int_le, int
 use Rattle.std.specs.Int.{int_min, int_max}
 use Rattle.std.specs.Ordering.{int_eq}
 use Rattle.std.specs.List.{AllByRecursion, list_all, list_any}
-use Rattle.ocl_base.specs.Lists.{variable_at}
+use Rattle.ocl_base.specs.Lists.{is_among, variable_at}
 use Rattle.imkl_model.specs.ClassModel.{conforms}
 use Rattle.imkl_population.specs.declared.scalar.Scalar.TheVariants as scalar
 use Rattle.imkl_population.specs.Population.{Population, class_of}
@@ -24,7 +24,8 @@ use Rattle.ocl_core.specs.Core as tree
 use Rattle.ocl_core.specs.Core.{Constant, CoreTree, CoreTrees}
 use Rattle.ocl_core.specs.Typing.{IsConstantOf}
 use Rattle.ocl_compile.specs.Meaning.{constant_value, plain_value, class_value, element_operation, equality_value, operation_value, iteration_value, iterated, fold_over, folded, chosen, meaning, meanings}
-use Rattle.rule_values.specs.Value.{Element, Value, Invalid, Null, Single, Collection, truth_value, object_value, element_value}
+use Rattle.rule_values.specs.Value.{Element, Value, Invalid, Null, Single, Collection, truth_value, object_value, element_value, same_element}
+use Rattle.rule_values.specs.Equality.{occurrences}
 use Rattle.rule_values.specs.Operations.{integer_value, or_invalid, is_true, is_false, is_invalid}
 use Rattle.rule_values.specs.Endings.{Source, is_undecided, count_true, kept_by, for_all, exists}
 use Rattle.owned_values.specs.Meant.{IsElementThere, AreElementsThere, IsValueThere}
@@ -89,8 +90,8 @@ module _ (p : Population) where
   class_there of_class.AsType c v h = on_object_there p _ v (λ o there. if_there p (conforms p.model (class_of p o) c) (object_value o) Invalid there tt) h
 
   element_operation_there : (operator : ElementOperator) (v : Value) (ws : List Value) → There v → There (element_operation operator v ws)
-  element_operation_there of_elements.Includes v (w ∷ ws) h = on_elements_there p _ v (λ es there. on_element_there p _ w (λ e. tt)) h
-  element_operation_there of_elements.Occurrences v (w ∷ ws) h = on_elements_there p _ v (λ es there. on_element_there p _ w (λ e. integer_there p _)) h
+  element_operation_there of_elements.Includes v (w ∷ ws) h = on_elements_there p _ v (λ es there. on_element_there p (λ e. truth_value (is_among same_element es e)) w (λ e. tt {0})) h
+  element_operation_there of_elements.Occurrences v (w ∷ ws) h = on_elements_there p _ v (λ es there. on_element_there p (λ e. integer_value (pos (occurrences es e))) w (λ e. integer_there p (pos (occurrences es e)))) h
   element_operation_there of_elements.IncludesAll v (Collection c fs ∷ ws) h = on_elements_there p _ v (λ es there. tt) h
   element_operation_there of_elements.IncludesAll v (w ∷ ws) h = on_elements_there p _ v (λ es there. tt) h
   element_operation_there of_elements.ExcludesAll v (Collection c fs ∷ ws) h = on_elements_there p _ v (λ es there. tt) h

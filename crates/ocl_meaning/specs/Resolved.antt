@@ -1,6 +1,6 @@
--- What an evaluator is given: a tree of which each name is one of the class model, and variables.
-use Rattle.std.specs.Prelude.{ℕ, ◌<◌, List, length, map}
-use Rattle.std.specs.List.{AllByRecursion, reverse}
+-- What an evaluator is given: a tree of which each name is one of the class model, and variables in which everything is there.
+use Rattle.std.specs.Prelude.{◌<◌, List, length}
+use Rattle.std.specs.List.{AllByRecursion}
 use Rattle.imkl_model.specs.ClassModel.{Model}
 use Rattle.imkl_population.specs.Population.{Population}
 use Rattle.ocl_core.specs.declared.operator.Operator.{Operator}
@@ -8,8 +8,7 @@ use Rattle.ocl_core.specs.declared.operator.Operator.TheVariants.{Plain, OfClass
 use Rattle.ocl_core.specs.Core as tree
 use Rattle.ocl_core.specs.Core.{CoreTree, CoreTrees}
 use Rattle.ocl_core.specs.Typing.{IsConstantOf}
-use Rattle.owned_values.specs.declared.value.Value.{Value as Held}
-use Rattle.owned_values.specs.Meant.{meant, IsValueThere}
+use Rattle.owned_values.specs.Meant.{IsValueThere}
 use Rattle.rule_values.specs.Value.{Value}
 
 -- ---- names
@@ -42,10 +41,6 @@ module _ (m : Model) where
     AreResolved (tree.one_core first rest) = IsResolved first × AreResolved rest
 
 -- ---- variables
-
--- the values of variables, of which the newest stands last in memory, with the newest first
-abbrev pub variables_meant : List Held → List Value
-variables_meant vs = reverse (map meant vs)
 
 -- everything in the values of variables is there
 abbrev pub AreThere : Population → List Value → Type 0

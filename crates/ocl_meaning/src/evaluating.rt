@@ -6,13 +6,14 @@ ghost use Rattle.ocl_core.specs.CoreView.{core_view};
 ghost use Rattle.ocl_compile.specs.Meaning.{meaning, meanings, iterated, fold_over, folded};
 ghost use Rattle.rule_values.specs.Value.{element_value};
 ghost use Rattle.owned_values.specs.Meant.{meant, meant_item, meant_items, IsElementThere, AreElementsThere, IsValueThere};
-ghost use Rattle.ocl_meaning.specs.Resolved.{IsResolved, AreResolved, variables_meant, AreThere};
+ghost use Rattle.ocl_meaning.specs.Resolved.{IsResolved, AreResolved, AreThere};
 ghost use Rattle.ocl_meaning.specs.Evaluated.{IsLinkResolved, AreLinksResolved, link_value, links_value};
 
 use crate::constants::constant_value;
 use crate::iterations::iteration_value;
 use crate::operations::operation_value;
-use crate::variables::{bind, variable};
+use crate::variables::Variables;
+use crate::lists::push;
 use imkl_population::Population;
 use ocl_base::OutOfMemory;
 use ocl_core::{Core, CoreLink, Iteration};
@@ -30,18 +31,18 @@ pub fn evaluate<'a>(
     alloc: Global,
     population: &'a Population<'_>,
     core: &'a Core,
-    variables: &mut Vec<Value<'a>>,
+    variables: &mut Variables<'a>,
 ) -> Result<Value<'a>, OutOfMemory>
     requires resolved { IsResolved population.now.content.model (core_view core.now) }
-    requires there { AreThere population.now.content (variables_meant variables.old.items) }
+    requires there { AreThere population.now.content variables.old }
     ensures value { IfOk result (λ v. meant v ≡
-        meaning population.now.content (core_view core.now) (variables_meant variables.old.items)) }
+        meaning population.now.content (core_view core.now) variables.old) }
     ensures there { IfOk result (λ v. IsValueThere population.now.content (meant v)) }
-    ensures kept { OnOk result (variables.new.items ≡ variables.old.items) }
+    ensures kept { OnOk result (variables.new ≡ variables.old) }
 {
     match core {
         Core::Constant { value } => Ok(constant_value(value)),
-        Core::Variable { number } => variable(alloc, variables, *number),
+        Core::Variable { number } => variables.value(alloc, *number),
         Core::AllInstances { class } => all_instances(alloc, population, *class),
         Core::Spine { first, links } => {
             let value = evaluate(alloc, population, first, variables)?;
@@ -68,70 +69,69 @@ pub fn evaluate<'a>(
 
 /// Computes what values as variables of a body mean.
 #[cycle(evaluate)]
-fn evaluate_let<'a>(
+pub fn evaluate_let<'a>(
     alloc: Global,
     population: &'a Population<'_>,
     values: &'a [Core],
     body: &'a Core,
-    variables: &mut Vec<Value<'a>>,
+    variables: &mut Variables<'a>,
 ) -> Result<Value<'a>, OutOfMemory>
     requires resolved { IsResolved population.now.content.model
         (lets_of (map core_view values.now) (core_view body.now)) }
-    requires there { AreThere population.now.content (variables_meant variables.old.items) }
+    requires there { AreThere population.now.content variables.old }
     ensures value { IfOk result (λ v. meant v ≡ meaning population.now.content
         (lets_of (map core_view values.now) (core_view body.now))
-        (variables_meant variables.old.items)) }
+        variables.old) }
     ensures there { IfOk result (λ v. IsValueThere population.now.content (meant v)) }
-    ensures kept { OnOk result (variables.new.items ≡ variables.old.items) }
+    ensures kept { OnOk result (variables.new ≡ variables.old) }
 {
-    let depth = variables.len();
     'values: for value in values {
         let value = evaluate(alloc, population, value, variables)?;
-        bind(variables, value)?;
+        variables.bind(value)?;
     }
     let value = evaluate(alloc, population, body, variables)?;
-    variables.truncate(depth);
+    variables.forget(values.len());
     Ok(value)
 }
 
 /// Computes what several trees mean, in order.
 #[cycle(evaluate)]
-fn evaluate_all<'a>(
+pub fn evaluate_all<'a>(
     alloc: Global,
     population: &'a Population<'_>,
     cores: &'a [Core],
-    variables: &mut Vec<Value<'a>>,
+    variables: &mut Variables<'a>,
 ) -> Result<Vec<Value<'a>>, OutOfMemory>
     requires resolved { AreResolved population.now.content.model (cores_of (map core_view cores.now)) }
-    requires there { AreThere population.now.content (variables_meant variables.old.items) }
+    requires there { AreThere population.now.content variables.old }
     ensures values { IfOk result (λ vs. map meant vs.items ≡ meanings population.now.content
-        (cores_of (map core_view cores.now)) (variables_meant variables.old.items)) }
-    ensures kept { OnOk result (variables.new.items ≡ variables.old.items) }
+        (cores_of (map core_view cores.now)) variables.old) }
+    ensures kept { OnOk result (variables.new ≡ variables.old) }
 {
     let mut values = Vec::new(alloc);
     'cores: for core in cores {
         let value = evaluate(alloc, population, core, variables)?;
-        bind(&mut values, value)?;
+        push(&mut values, value)?;
     }
     Ok(values)
 }
 
 /// Computes what links make of the value of a first operand.
 #[cycle(evaluate)]
-fn evaluate_links<'a>(
+pub fn evaluate_links<'a>(
     alloc: Global,
     population: &'a Population<'_>,
     first: Value<'a>,
     links: &'a [CoreLink],
-    variables: &mut Vec<Value<'a>>,
+    variables: &mut Variables<'a>,
 ) -> Result<Value<'a>, OutOfMemory>
     requires first { IsValueThere population.now.content (meant first) }
     requires resolved { AreLinksResolved population.now.content.model links.now }
-    requires there { AreThere population.now.content (variables_meant variables.old.items) }
+    requires there { AreThere population.now.content variables.old }
     ensures value { IfOk result (λ v. meant v ≡ links_value population.now.content
-        (variables_meant variables.old.items) (meant first.entry) links.now) }
+        variables.old (meant first.entry) links.now) }
     ensures there { IfOk result (λ v. IsValueThere population.now.content (meant v)) }
-    ensures kept { OnOk result (variables.new.items ≡ variables.old.items) }
+    ensures kept { OnOk result (variables.new ≡ variables.old) }
 {
     let mut value = first;
     'links: for link in links {
@@ -143,20 +143,20 @@ fn evaluate_links<'a>(
 /// Computes what a link makes of the value of its first operand.
 #[cycle(evaluate)]
 #[tactic(auto, using(ocl_core::proofs::ForAbove::views))]
-fn evaluate_link<'a>(
+pub fn evaluate_link<'a>(
     alloc: Global,
     population: &'a Population<'_>,
     first: &Value<'a>,
     link: &'a CoreLink,
-    variables: &mut Vec<Value<'a>>,
+    variables: &mut Variables<'a>,
 ) -> Result<Value<'a>, OutOfMemory>
     requires first { IsValueThere population.now.content (meant first.now) }
     requires resolved { IsLinkResolved population.now.content.model link.now }
-    requires there { AreThere population.now.content (variables_meant variables.old.items) }
+    requires there { AreThere population.now.content variables.old }
     ensures value { IfOk result (λ v. meant v ≡ link_value population.now.content
-        (variables_meant variables.old.items) (meant first.now) link.now) }
+        variables.old (meant first.now) link.now) }
     ensures there { IfOk result (λ v. IsValueThere population.now.content (meant v)) }
-    ensures kept { OnOk result (variables.new.items ≡ variables.old.items) }
+    ensures kept { OnOk result (variables.new ≡ variables.old) }
 {
     match link {
         CoreLink::Feature { feature } => value_read(alloc, population, *feature, first),
@@ -183,15 +183,15 @@ fn evaluate_iteration<'a>(
     iteration: Iteration,
     source: &Value<'a>,
     body: &'a Core,
-    variables: &mut Vec<Value<'a>>,
+    variables: &mut Variables<'a>,
 ) -> Result<Value<'a>, OutOfMemory>
     requires source { IsValueThere population.now.content (meant source.now) }
     requires resolved { IsResolved population.now.content.model (core_view body.now) }
-    requires there { AreThere population.now.content (variables_meant variables.old.items) }
+    requires there { AreThere population.now.content variables.old }
     ensures value { IfOk result (λ v. meant v ≡ iterated iteration (meant source.now)
         (λ e. meaning population.now.content (core_view body.now)
-        (element_value e ∷ variables_meant variables.old.items))) }
-    ensures kept { OnOk result (variables.new.items ≡ variables.old.items) }
+        (element_value e ∷ variables.old))) }
+    ensures kept { OnOk result (variables.new ≡ variables.old) }
 {
     match source {
         Value::Collection(kind, elements) => {
@@ -209,20 +209,20 @@ pub fn evaluate_bodies<'a>(
     population: &'a Population<'_>,
     elements: &[Item<'a>],
     body: &'a Core,
-    variables: &mut Vec<Value<'a>>,
+    variables: &mut Variables<'a>,
 ) -> Result<Vec<Value<'a>>, OutOfMemory>
     requires elements { AreElementsThere population.now.content (meant_items elements.now) }
     requires resolved { IsResolved population.now.content.model (core_view body.now) }
-    requires there { AreThere population.now.content (variables_meant variables.old.items) }
+    requires there { AreThere population.now.content variables.old }
     ensures bodies { IfOk result (λ vs. map meant vs.items ≡ map
         (λ e. meaning population.now.content (core_view body.now)
-        (element_value e ∷ variables_meant variables.old.items)) (meant_items elements.now)) }
-    ensures kept { OnOk result (variables.new.items ≡ variables.old.items) }
+        (element_value e ∷ variables.old)) (meant_items elements.now)) }
+    ensures kept { OnOk result (variables.new ≡ variables.old) }
 {
     let mut bodies = Vec::new(alloc);
     'elements: for element in elements {
         let value = evaluate_with(alloc, population, item_value(element), body, variables)?;
-        bind(&mut bodies, value)?;
+        push(&mut bodies, value)?;
     }
     Ok(bodies)
 }
@@ -235,16 +235,16 @@ fn evaluate_fold<'a>(
     source: &Value<'a>,
     start: Value<'a>,
     body: &'a Core,
-    variables: &mut Vec<Value<'a>>,
+    variables: &mut Variables<'a>,
 ) -> Result<Value<'a>, OutOfMemory>
     requires source { IsValueThere population.now.content (meant source.now) }
     requires start { IsValueThere population.now.content (meant start) }
     requires resolved { IsResolved population.now.content.model (core_view body.now) }
-    requires there { AreThere population.now.content (variables_meant variables.old.items) }
+    requires there { AreThere population.now.content variables.old }
     ensures value { IfOk result (λ v. meant v ≡ folded (meant source.now) (meant start.entry)
         (λ e a. meaning population.now.content (core_view body.now)
-        (a ∷ element_value e ∷ variables_meant variables.old.items))) }
-    ensures kept { OnOk result (variables.new.items ≡ variables.old.items) }
+        (a ∷ element_value e ∷ variables.old))) }
+    ensures kept { OnOk result (variables.new ≡ variables.old) }
 {
     match source {
         Value::Collection(_, elements) => {
@@ -262,17 +262,17 @@ fn fold_elements<'a>(
     elements: &[Item<'a>],
     start: Value<'a>,
     body: &'a Core,
-    variables: &mut Vec<Value<'a>>,
+    variables: &mut Variables<'a>,
 ) -> Result<Value<'a>, OutOfMemory>
     requires elements { AreElementsThere population.now.content (meant_items elements.now) }
     requires start { IsValueThere population.now.content (meant start) }
     requires resolved { IsResolved population.now.content.model (core_view body.now) }
-    requires there { AreThere population.now.content (variables_meant variables.old.items) }
+    requires there { AreThere population.now.content variables.old }
     ensures value { IfOk result (λ v. meant v ≡ fold_over
         (λ e a. meaning population.now.content (core_view body.now)
-        (a ∷ element_value e ∷ variables_meant variables.old.items)) (meant start.entry)
+        (a ∷ element_value e ∷ variables.old)) (meant start.entry)
         (meant_items elements.now)) }
-    ensures kept { OnOk result (variables.new.items ≡ variables.old.items) }
+    ensures kept { OnOk result (variables.new ≡ variables.old) }
 {
     let mut accumulated = start;
     'elements: for element in elements {
@@ -289,21 +289,21 @@ fn fold_step<'a>(
     element: &Item<'a>,
     accumulated: Value<'a>,
     body: &'a Core,
-    variables: &mut Vec<Value<'a>>,
+    variables: &mut Variables<'a>,
 ) -> Result<Value<'a>, OutOfMemory>
     requires element { IsElementThere population.now.content (meant_item element.now) }
     requires accumulated { IsValueThere population.now.content (meant accumulated) }
     requires resolved { IsResolved population.now.content.model (core_view body.now) }
-    requires there { AreThere population.now.content (variables_meant variables.old.items) }
+    requires there { AreThere population.now.content variables.old }
     ensures value { IfOk result (λ v. meant v ≡ meaning population.now.content (core_view body.now)
         (meant accumulated.entry ∷ element_value (meant_item element.now)
-        ∷ variables_meant variables.old.items)) }
+        ∷ variables.old)) }
     ensures there { IfOk result (λ v. IsValueThere population.now.content (meant v)) }
-    ensures kept { OnOk result (variables.new.items ≡ variables.old.items) }
+    ensures kept { OnOk result (variables.new ≡ variables.old) }
 {
-    bind(variables, item_value(element))?;
+    variables.bind(item_value(element))?;
     let value = evaluate_with(alloc, population, accumulated, body, variables)?;
-    let _ = variables.pop();
+    variables.forget(1);
     Ok(value)
 }
 
@@ -314,18 +314,18 @@ fn evaluate_with<'a>(
     population: &'a Population<'_>,
     bound: Value<'a>,
     body: &'a Core,
-    variables: &mut Vec<Value<'a>>,
+    variables: &mut Variables<'a>,
 ) -> Result<Value<'a>, OutOfMemory>
     requires bound { IsValueThere population.now.content (meant bound) }
     requires resolved { IsResolved population.now.content.model (core_view body.now) }
-    requires there { AreThere population.now.content (variables_meant variables.old.items) }
+    requires there { AreThere population.now.content variables.old }
     ensures value { IfOk result (λ v. meant v ≡ meaning population.now.content (core_view body.now)
-        (meant bound.entry ∷ variables_meant variables.old.items)) }
+        (meant bound.entry ∷ variables.old)) }
     ensures there { IfOk result (λ v. IsValueThere population.now.content (meant v)) }
-    ensures kept { OnOk result (variables.new.items ≡ variables.old.items) }
+    ensures kept { OnOk result (variables.new ≡ variables.old) }
 {
-    bind(variables, bound)?;
+    variables.bind(bound)?;
     let value = evaluate(alloc, population, body, variables)?;
-    let _ = variables.pop();
+    variables.forget(1);
     Ok(value)
 }

@@ -4,8 +4,11 @@
 mod constants;
 mod evaluating;
 mod iterations;
+mod lists;
 mod operations;
 mod variables;
 
-pub use evaluating::evaluate;
+pub use evaluating::{
+    evaluate, evaluate_all, evaluate_bodies, evaluate_let, evaluate_link, evaluate_links,
+};
 pub use variables::Variables;

@@ -1,0 +1,373 @@
+//! Core trees as short OCL.
+
+ghost use Rattle.std.specs.Prelude.{◌≡◌, ◌++◌, ◌&&◌, suc, map, length, IfOk, OnOk, string_bytes};
+ghost use Rattle.ocl_core.specs.Core.{cores_of, lets_of};
+ghost use Rattle.ocl_core.specs.CoreView.{constant_of, core_view, core_link_of, core_spine};
+ghost use Rattle.ocl_core.specs.Typing.{IsConstantOf};
+ghost use Rattle.ocl_meaning.specs.Resolved.{IsOperatorOf, IsResolved, AreResolved};
+ghost use Rattle.ocl_meaning.specs.Evaluated.{on_null, IsLinkResolved, AreLinksResolved};
+ghost use Rattle.explain_why.specs.Texts.{variable_name, constant_text, class_asked, operation_text, form_of, is_form_open, is_open, wrapped, let_front, node_text, text_of, others_text, operator_form};
+
+use crate::pieces::{put, put_count};
+use crate::values::{put_before, put_literal, put_quoted};
+use crate::words::{Form, iteration_word, kind_name, operator_form};
+use imkl_model::ClassModel;
+use ocl_base::OutOfMemory;
+use ocl_core::{ConstantValue, Core, CoreLink, Operator};
+use std::alloc::Global;
+
+/// The number after a number. No memory holds so many variables or levels that there is none.
+pub(crate) fn next(number: usize) -> Result<usize, OutOfMemory>
+    ensures { IfOk result (λ n. n ≡ suc number) }
+{
+    match number.checked_add(1) {
+        Some(next) => Ok(next),
+        None => Err(OutOfMemory),
+    }
+}
+
+/// A tree's text, and whether it stands in parentheses as an operand.
+#[derive(Drop)]
+pub(crate) struct Text {
+    pub(crate) text: String,
+    pub(crate) open: bool,
+}
+
+/// Puts the name of a variable.
+pub(crate) fn put_variable(
+    alloc: Global,
+    out: &mut String,
+    number: usize,
+) -> Result<(), OutOfMemory>
+    ensures { OnOk result (string_bytes out.new ≡ string_bytes out.old ++ variable_name number) }
+{
+    if number == 0 {
+        return put(out, "self");
+    }
+    put(out, "x")?;
+    put_count(alloc, out, number)
+}
+
+/// Puts a constant.
+fn put_constant(
+    alloc: Global,
+    out: &mut String,
+    model: &ClassModel,
+    value: &ConstantValue,
+) -> Result<(), OutOfMemory>
+    requires { IsConstantOf model.now (constant_of value.now) }
+    ensures { OnOk result (string_bytes out.new ≡ string_bytes out.old ++
+        constant_text model.now (constant_of value.now)) }
+{
+    match value {
+        ConstantValue::Boolean(true) => put(out, "true"),
+        ConstantValue::Boolean(false) => put(out, "false"),
+        ConstantValue::Integer(number) => put_count(alloc, out, number.get() as usize),
+        ConstantValue::Text(text) => put_quoted(out, text),
+        ConstantValue::Literal(enumeration, literal) => {
+            put_literal(out, model, *enumeration, *literal)
+        }
+        ConstantValue::Null => put(out, "null"),
+        ConstantValue::Invalid => put(out, "invalid"),
+    }
+}
+
+/// Puts a text, in parentheses where it has to stand in them.
+fn put_wrapped(out: &mut String, open: bool, text: &str) -> Result<(), OutOfMemory>
+    ensures { OnOk result (string_bytes out.new ≡ string_bytes out.old ++ wrapped open text.now) }
+{
+    if !open {
+        return put(out, text);
+    }
+    put(out, "(")?;
+    put(out, text)?;
+    put(out, ")")
+}
+
+/// The class that an operator asks for, or nothing.
+fn class_asked(model: &ClassModel, operator: Operator) -> &str
+    requires { IsOperatorOf model.now operator }
+    ensures { result.now ≡ class_asked model.now operator }
+{
+    match operator {
+        Operator::OfClass(_, class) => model.class_name(class),
+        _ => "",
+    }
+}
+
+/// The text of a core tree in which so many variables are seen.
+#[cycle(text)]
+#[tactic(auto, using(ocl_core::proofs::ForAbove::views))]
+pub(crate) fn text_of(
+    alloc: Global,
+    model: &ClassModel,
+    core: &Core,
+    seen: usize,
+) -> Result<Text, OutOfMemory>
+    requires { IsResolved model.now (core_view core.now) }
+    ensures text { IfOk result (λ t. string_bytes t.text ≡ text_of model.now (core_view core.now) seen) }
+    ensures open { IfOk result (λ t. t.open ≡ is_open (core_view core.now)) }
+{
+    match core {
+        Core::Constant { value } => {
+            let mut text = String::new(alloc);
+            put_constant(alloc, &mut text, model, value)?;
+            Ok(Text { text, open: false })
+        }
+        Core::Variable { number } => {
+            let mut text = String::new(alloc);
+            put_variable(alloc, &mut text, *number)?;
+            Ok(Text { text, open: false })
+        }
+        Core::AllInstances { class } => {
+            let mut text = String::new(alloc);
+            put(&mut text, model.class_name(*class))?;
+            put(&mut text, ".allInstances()")?;
+            Ok(Text { text, open: false })
+        }
+        Core::Spine { first, links } => spine_text(alloc, model, first, links, seen),
+        Core::Let { values, body } => let_text(alloc, model, values, body, seen),
+        Core::If {
+            condition,
+            then_branch,
+            else_branch,
+            ..
+        } => {
+            let mut text = String::new(alloc);
+            put(&mut text, "if ")?;
+            put_text(alloc, &mut text, model, condition, seen)?;
+            put(&mut text, " then ")?;
+            put_text(alloc, &mut text, model, then_branch, seen)?;
+            put(&mut text, " else ")?;
+            put_text(alloc, &mut text, model, else_branch, seen)?;
+            put(&mut text, " endif")?;
+            Ok(Text { text, open: false })
+        }
+    }
+}
+
+/// Puts the text of a tree.
+#[cycle(text)]
+fn put_text(
+    alloc: Global,
+    out: &mut String,
+    model: &ClassModel,
+    core: &Core,
+    seen: usize,
+) -> Result<(), OutOfMemory>
+    requires { IsResolved model.now (core_view core.now) }
+    ensures { OnOk result (string_bytes out.new ≡ string_bytes out.old ++
+        text_of model.now (core_view core.now) seen) }
+{
+    let text = text_of(alloc, model, core, seen)?;
+    put(out, &text.text)
+}
+
+/// The text of values as variables of a body.
+#[cycle(text)]
+pub(crate) fn let_text(
+    alloc: Global,
+    model: &ClassModel,
+    values: &[Core],
+    body: &Core,
+    seen: usize,
+) -> Result<Text, OutOfMemory>
+    requires { IsResolved model.now (lets_of (map core_view values.now) (core_view body.now)) }
+    ensures text { IfOk result (λ t. string_bytes t.text ≡ text_of model.now
+        (lets_of (map core_view values.now) (core_view body.now)) seen) }
+    ensures open { IfOk result (λ t. t.open ≡
+        is_open (lets_of (map core_view values.now) (core_view body.now))) }
+{
+    let mut text = String::new(alloc);
+    let mut number = seen;
+    'values: for value in values {
+        put_let(alloc, &mut text, model, value, number)?;
+        number = next(number)?;
+    }
+    let inner = text_of(alloc, model, body, number)?;
+    put(&mut text, &inner.text)?;
+    let open = !values.is_empty() || inner.open;
+    Ok(Text { text, open })
+}
+
+/// Puts the first part of a `let`: its variable and its value.
+#[cycle(text)]
+fn put_let(
+    alloc: Global,
+    out: &mut String,
+    model: &ClassModel,
+    value: &Core,
+    number: usize,
+) -> Result<(), OutOfMemory>
+    requires { IsResolved model.now (core_view value.now) }
+    ensures { OnOk result (string_bytes out.new ≡ string_bytes out.old ++
+        let_front (variable_name number) (text_of model.now (core_view value.now) number)) }
+{
+    put(out, "let ")?;
+    put_variable(alloc, out, number)?;
+    put(out, " = ")?;
+    put_text(alloc, out, model, value, number)?;
+    put(out, " in ")
+}
+
+/// The text of a first operand with its links.
+#[cycle(text)]
+pub(crate) fn spine_text(
+    alloc: Global,
+    model: &ClassModel,
+    first: &Core,
+    links: &[CoreLink],
+    seen: usize,
+) -> Result<Text, OutOfMemory>
+    requires first { IsResolved model.now (core_view first.now) }
+    requires links { AreLinksResolved model.now links.now }
+    ensures text { IfOk result (λ t. string_bytes t.text ≡ text_of model.now
+        (core_spine (core_view first.now) (map core_link_of links.now)) seen) }
+    ensures open { IfOk result (λ t. t.open ≡
+        is_open (core_spine (core_view first.now) (map core_link_of links.now))) }
+{
+    let mut text = text_of(alloc, model, first, seen)?;
+    'links: for link in links {
+        text = link_text(alloc, model, link, seen, &text)?;
+    }
+    Ok(text)
+}
+
+/// The text of a link on a first operand.
+#[cycle(text)]
+pub(crate) fn link_text(
+    alloc: Global,
+    model: &ClassModel,
+    link: &CoreLink,
+    seen: usize,
+    first: &Text,
+) -> Result<Text, OutOfMemory>
+    requires { IsLinkResolved model.now link.now }
+    ensures text { IfOk result (λ t. string_bytes t.text ≡ node_text model.now (on_null link.now)
+        seen (wrapped first.now.open (string_bytes first.now.text))) }
+    ensures open { IfOk result (λ t. t.open ≡ is_open (on_null link.now)) }
+{
+    let mut text = String::new(alloc);
+    let open = match link {
+        CoreLink::Operation { operator, .. } => operator_form(*operator).is_open(),
+        _ => false,
+    };
+    put_link(alloc, &mut text, model, link, seen, first)?;
+    Ok(Text { text, open })
+}
+
+/// Puts a first operand with a link on it.
+#[cycle(text)]
+#[tactic(auto, using(ocl_core::proofs::ForAbove::views))]
+fn put_link(
+    alloc: Global,
+    out: &mut String,
+    model: &ClassModel,
+    link: &CoreLink,
+    seen: usize,
+    first: &Text,
+) -> Result<(), OutOfMemory>
+    requires { IsLinkResolved model.now link.now }
+    ensures { OnOk result (string_bytes out.new ≡ string_bytes out.old ++ node_text model.now
+        (on_null link.now) seen (wrapped first.now.open (string_bytes first.now.text))) }
+{
+    match link {
+        CoreLink::Feature { feature } => {
+            put_wrapped(out, first.open, &first.text)?;
+            put(out, ".")?;
+            put(out, model.feature_info(*feature).name.as_str())
+        }
+        CoreLink::Operation { operator, others } => {
+            put_operation(alloc, out, model, *operator, others, seen, first)
+        }
+        CoreLink::AsCollection { collection, .. } => {
+            put_wrapped(out, first.open, &first.text)?;
+            put(out, "->as")?;
+            put(out, kind_name(*collection))?;
+            put(out, "()")
+        }
+        CoreLink::Iterate { iteration, body } => {
+            put_wrapped(out, first.open, &first.text)?;
+            put(out, iteration_word(*iteration))?;
+            put_variable(alloc, out, seen)?;
+            put(out, " | ")?;
+            put_text(alloc, out, model, body, next(seen)?)?;
+            put(out, ")")
+        }
+        CoreLink::Fold { start, body, .. } => {
+            put_wrapped(out, first.open, &first.text)?;
+            put(out, "->iterate(")?;
+            put_variable(alloc, out, seen)?;
+            put(out, "; ")?;
+            put_variable(alloc, out, next(seen)?)?;
+            put(out, " = ")?;
+            put_text(alloc, out, model, start, seen)?;
+            put(out, " | ")?;
+            put_text(alloc, out, model, body, next(next(seen)?)?)?;
+            put(out, ")")
+        }
+    }
+}
+
+/// Puts an operation on a first operand.
+#[cycle(text)]
+fn put_operation(
+    alloc: Global,
+    out: &mut String,
+    model: &ClassModel,
+    operator: Operator,
+    others: &[Core],
+    seen: usize,
+    first: &Text,
+) -> Result<(), OutOfMemory>
+    requires operator { IsOperatorOf model.now operator }
+    requires others { AreResolved model.now (cores_of (map core_view others.now)) }
+    ensures { OnOk result (string_bytes out.new ≡ string_bytes out.old ++ operation_text
+        (operator_form operator) (class_asked model.now operator)
+        (wrapped first.now.open (string_bytes first.now.text))
+        (others_text model.now (is_form_open (operator_form operator)) 0
+        (cores_of (map core_view others.now)) seen)) }
+{
+    match operator_form(operator) {
+        Form::Between(word) => {
+            put_wrapped(out, first.open, &first.text)?;
+            put(out, word)?;
+            put_others(alloc, out, model, true, others, seen)
+        }
+        Form::Before(word) => {
+            put(out, word)?;
+            put_wrapped(out, first.open, &first.text)?;
+            put_others(alloc, out, model, true, others, seen)
+        }
+        Form::After(word) => {
+            put_wrapped(out, first.open, &first.text)?;
+            put(out, word)?;
+            put(out, "(")?;
+            put(out, class_asked(model, operator))?;
+            put_others(alloc, out, model, false, others, seen)?;
+            put(out, ")")
+        }
+    }
+}
+
+/// Puts the operands after the first.
+#[cycle(text)]
+fn put_others(
+    alloc: Global,
+    out: &mut String,
+    model: &ClassModel,
+    wraps: bool,
+    others: &[Core],
+    seen: usize,
+) -> Result<(), OutOfMemory>
+    requires { AreResolved model.now (cores_of (map core_view others.now)) }
+    ensures { OnOk result (string_bytes out.new ≡ string_bytes out.old ++
+        others_text model.now wraps 0 (cores_of (map core_view others.now)) seen) }
+{
+    'others: for index in 0..others.len() {
+        put_before(out, index)?;
+        let text = text_of(alloc, model, &others[index], seen)?;
+        put_wrapped(out, wraps && text.open, &text.text)?;
+    }
+    Ok(())
+}

@@ -1,0 +1,2 @@
+pub mod MeaningThere
+pub mod Nodes
