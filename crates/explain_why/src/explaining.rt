@@ -22,7 +22,7 @@ use imkl_population::{ObjectNo, Population};
 use ocl_base::OutOfMemory;
 use ocl_core::{Core, CoreLink, CoreRule, Iteration};
 use ocl_meaning::{
-    Variables, evaluate, evaluate_all, evaluate_bodies, evaluate_let, evaluate_link, evaluate_links,
+    Variables, evaluate, evaluate_all, evaluate_bodies, evaluate_link, evaluate_links,
 };
 use owned_values::{Item, Value, item_value, is_false, is_true};
 use std::alloc::Global;
@@ -90,7 +90,8 @@ fn explain<'a>(
             explain_spine(alloc, out, population, level, first, links, variables)
         }
         Core::Let { values, body } => {
-            explain_let(alloc, out, population, level, values, body, variables)
+            let whole = evaluate(alloc, population, core, variables)?;
+            explain_let(alloc, out, population, level, &whole, values, body, variables)
         }
         Core::If {
             condition,
@@ -122,6 +123,7 @@ fn explain_let<'a>(
     out: &mut String,
     population: &'a Population<'_>,
     level: usize,
+    whole: &Value<'a>,
     values: &'a [Core],
     body: &'a Core,
     variables: &mut Variables<'a>,
@@ -130,8 +132,7 @@ fn explain_let<'a>(
     for index in 0..values.len() {
         let left = &values[index..];
         let text = let_text(alloc, population.model(), left, body, variables.len())?;
-        let whole = evaluate_let(alloc, population, left, body, variables)?;
-        put_part(alloc, out, population, level, &text.text, &whole, "")?;
+        put_part(alloc, out, population, level, &text.text, whole, "")?;
         level = next(level)?;
         explain_bound(alloc, out, population, level, &values[index], variables)?;
     }

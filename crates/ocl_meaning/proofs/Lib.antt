@@ -1,2 +1,3 @@
 pub mod MeaningThere
 pub mod Nodes
+pub mod Bound

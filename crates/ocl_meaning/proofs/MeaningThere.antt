@@ -49,7 +49,8 @@ module _ (p : Population) where
   variable_by true v o h g = h
   variable_by false v o h g = g
 
-  variable_there : (vars : List Value) (n : ℕ) → AreThere p vars → There (or_invalid (variable_at vars n))
+  -- so it is in a variable
+  pub variable_there : (vars : List Value) (n : ℕ) → AreThere p vars → There (or_invalid (variable_at vars n))
   variable_there [] n h = tt
   variable_there (v ∷ vs) n h = variable_by (n == length vs) v (variable_at vs n) h.0 (variable_there vs n h.1)
 
@@ -103,7 +104,8 @@ module _ (p : Population) where
   equality_there v (w ∷ ws) = unless_there p v w _
   equality_there v [] = tt
 
-  operation_there : (operator : Operator) (v : Value) (ws : List Value) → There v → There (operation_value p operator v ws)
+  -- and in what an operation gives
+  pub operation_there : (operator : Operator) (v : Value) (ws : List Value) → There v → There (operation_value p operator v ws)
   operation_there (Plain operator) v ws h = plain_there operator v ws h
   operation_there (OfClass operator c) v ws h = class_there operator c v h
   operation_there (OfElements operator k) v ws h = element_operation_there operator v ws h
@@ -160,7 +162,7 @@ module _ (p : Population) where
     meaning_there (tree.Iterate i source body) vars h there =
         iterated_there i (meaning p source vars) (λ e. meaning p body (element_value e ∷ vars)) (λ e here. meaning_there body (element_value e ∷ vars) h.1 (element_there p e here, there)) (meaning_there source vars h.0 there)
     meaning_there (tree.Fold k source start body) vars h there =
-        folded_there (meaning p source vars) (meaning p start vars) (λ e a. meaning p body (a ∷ element_value e ∷ vars)) (λ e a here before. meaning_there body (a ∷ element_value e ∷ vars) h.1.1 (before, element_there p e here, there)) (meaning_there source vars h.0 there) (meaning_there start vars h.1.0 there)
+        folded_there (meaning p source vars) (meaning p start vars) (λ e a. meaning p body (a ∷ element_value e ∷ vars)) (λ e a here before. meaning_there body (a ∷ element_value e ∷ vars) h.1.1 (before, (element_there p e here, there))) (meaning_there source vars h.0 there) (meaning_there start vars h.1.0 there)
     meaning_there (tree.Let value body) vars h there =
         meaning_there body (meaning p value vars ∷ vars) h.1 (meaning_there value vars h.0 there, there)
     meaning_there (tree.If k condition first second) vars h there =
@@ -174,7 +176,7 @@ module _ (p : Population) where
     node_there (tree.Iterate i source body) vars v h there here =
         iterated_there i v (λ e. meaning p body (element_value e ∷ vars)) (λ e inside. meaning_there body (element_value e ∷ vars) h.1 (element_there p e inside, there)) here
     node_there (tree.Fold k source start body) vars v h there here =
-        folded_there v (meaning p start vars) (λ e a. meaning p body (a ∷ element_value e ∷ vars)) (λ e a inside before. meaning_there body (a ∷ element_value e ∷ vars) h.1.1 (before, element_there p e inside, there)) here (meaning_there start vars h.1.0 there)
+        folded_there v (meaning p start vars) (λ e a. meaning p body (a ∷ element_value e ∷ vars)) (λ e a inside before. meaning_there body (a ∷ element_value e ∷ vars) h.1.1 (before, (element_there p e inside, there))) here (meaning_there start vars h.1.0 there)
     node_there (tree.Value c) vars v h there here = here
     node_there (tree.Variable n) vars v h there here = here
     node_there (tree.AllInstances c) vars v h there here = here

@@ -1,5 +1,5 @@
 -- What the topmost node of a tree makes of the value of its first operand, and a chain of nodes of one value.
-use Rattle.std.specs.Prelude.{List, ◌∷◌, fold}
+use Rattle.std.specs.Prelude.{List, [], ◌∷◌, fold}
 use Rattle.std.specs.List.{AllByRecursion}
 use Rattle.imkl_model.specs.ClassModel.{Model}
 use Rattle.imkl_population.specs.Population.{Population}
@@ -33,6 +33,11 @@ module _ (p : Population) (vars : List Value) where
   -- links one after another
   abbrev pub links_value : Value → List CoreLink → Value
   links_value v links = fold link_value v links
+
+-- variables in which these values are bound, each seen by those after it
+abbrev pub bindings : Population → List CoreTree → List Value → List Value
+bindings p [] vars = vars
+bindings p (v ∷ vs) vars = bindings p vs (meaning p v vars ∷ vars)
 
 abbrev pub IsLinkResolved : Model → CoreLink → Type 0
 IsLinkResolved m link = IsResolved m (on_null link)

@@ -1,13 +1,14 @@
 //! The evaluator.
 
-ghost use Rattle.std.specs.Prelude.{◌≡◌, ◌∷◌, length, map, IfOk, OnOk};
-ghost use Rattle.ocl_core.specs.Core.{cores_of, lets_of};
+ghost use Rattle.std.specs.Prelude.{◌≡◌, ◌∷◌, length, map, drop, IfOk, OnOk};
+ghost use Rattle.std.specs.List.{AllByRecursion};
+ghost use Rattle.ocl_core.specs.Core.{cores_of};
 ghost use Rattle.ocl_core.specs.CoreView.{core_view};
 ghost use Rattle.ocl_compile.specs.Meaning.{meaning, meanings, iterated, fold_over, folded};
 ghost use Rattle.rule_values.specs.Value.{element_value};
 ghost use Rattle.owned_values.specs.Meant.{meant, meant_item, meant_items, IsElementThere, AreElementsThere, IsValueThere};
 ghost use Rattle.ocl_meaning.specs.Resolved.{IsResolved, AreResolved, AreThere};
-ghost use Rattle.ocl_meaning.specs.Evaluated.{IsLinkResolved, AreLinksResolved, link_value, links_value};
+ghost use Rattle.ocl_meaning.specs.Evaluated.{bindings, IsLinkResolved, AreLinksResolved, link_value, links_value};
 
 use crate::constants::constant_value;
 use crate::iterations::iteration_value;
@@ -40,6 +41,7 @@ pub fn evaluate<'a>(
     ensures there { IfOk result (λ v. IsValueThere population.now.content (meant v)) }
     ensures kept { OnOk result (variables.new ≡ variables.old) }
 {
+    population.consistent();
     match core {
         Core::Constant { value } => Ok(constant_value(value)),
         Core::Variable { number } => variables.value(alloc, *number),
@@ -48,7 +50,12 @@ pub fn evaluate<'a>(
             let value = evaluate(alloc, population, first, variables)?;
             evaluate_links(alloc, population, value, links, variables)
         }
-        Core::Let { values, body } => evaluate_let(alloc, population, values, body, variables),
+        Core::Let { values, body } => {
+            bind_all(alloc, population, values, variables)?;
+            let value = evaluate(alloc, population, body, variables)?;
+            variables.forget(values.len());
+            Ok(value)
+        }
         Core::If {
             condition,
             then_branch,
@@ -67,31 +74,27 @@ pub fn evaluate<'a>(
     }
 }
 
-/// Computes what values as variables of a body mean.
+/// Binds values as variables, each seen by those after it.
 #[cycle(evaluate)]
-pub fn evaluate_let<'a>(
+fn bind_all<'a>(
     alloc: Global,
     population: &'a Population<'_>,
     values: &'a [Core],
-    body: &'a Core,
     variables: &mut Variables<'a>,
-) -> Result<Value<'a>, OutOfMemory>
-    requires resolved { IsResolved population.now.content.model
-        (lets_of (map core_view values.now) (core_view body.now)) }
+) -> Result<(), OutOfMemory>
+    requires resolved { AllByRecursion (IsResolved population.now.content.model)
+        (map core_view values.now) }
     requires there { AreThere population.now.content variables.old }
-    ensures value { IfOk result (λ v. meant v ≡ meaning population.now.content
-        (lets_of (map core_view values.now) (core_view body.now))
-        variables.old) }
-    ensures there { IfOk result (λ v. IsValueThere population.now.content (meant v)) }
-    ensures kept { OnOk result (variables.new ≡ variables.old) }
+    ensures bound { OnOk result (variables.new ≡ bindings population.now.content
+        (map core_view values.now) variables.old) }
+    ensures there { OnOk result (AreThere population.now.content variables.new) }
+    ensures others { OnOk result (drop (length values.now) variables.new ≡ variables.old) }
 {
     'values: for value in values {
         let value = evaluate(alloc, population, value, variables)?;
         variables.bind(value)?;
     }
-    let value = evaluate(alloc, population, body, variables)?;
-    variables.forget(values.len());
-    Ok(value)
+    Ok(())
 }
 
 /// Computes what several trees mean, in order.
@@ -158,6 +161,7 @@ pub fn evaluate_link<'a>(
     ensures there { IfOk result (λ v. IsValueThere population.now.content (meant v)) }
     ensures kept { OnOk result (variables.new ≡ variables.old) }
 {
+    population.consistent();
     match link {
         CoreLink::Feature { feature } => value_read(alloc, population, *feature, first),
         CoreLink::Operation { operator, others } => {

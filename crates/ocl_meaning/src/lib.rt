@@ -9,6 +9,6 @@ mod operations;
 mod variables;
 
 pub use evaluating::{
-    evaluate, evaluate_all, evaluate_bodies, evaluate_let, evaluate_link, evaluate_links,
+    evaluate, evaluate_all, evaluate_bodies, evaluate_link, evaluate_links,
 };
 pub use variables::Variables;

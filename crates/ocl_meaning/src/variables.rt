@@ -63,9 +63,10 @@ impl<'a> Variables<'a> {
     pub(crate) fn value(&self, alloc: Global, number: usize) -> Result<Value<'a>, OutOfMemory>
         ensures { IfOk result (λ v. meant v ≡ or_invalid (variable_at self.now number)) }
     {
-        match self.values.get(number) {
-            Some(value) => copy_value(alloc, value),
-            None => Ok(Value::Invalid),
+        if number < self.values.len() {
+            copy_value(alloc, &self.values[number])
+        } else {
+            Ok(Value::Invalid)
         }
     }
 }
