@@ -145,7 +145,7 @@ module _ (p : Population) where
     explained (tree.Variable n) k vars = []
     explained (tree.AllInstances c) k vars = part_of (tree.AllInstances c) k vars []
     explained (tree.Let value body) k vars =
-        part_of (tree.Let value body) k vars [] ++ (indent (suc k) ++ (binding (length vars) (value_text p (meaning p value vars)) ++ (10 ∷ (explained value (suc (suc k)) vars ++ explained body (suc k) (meaning p value vars ∷ vars)))))
+        part_of (tree.Let value body) k vars [] ++ ((indent (suc k) ++ (binding (length vars) (value_text p (meaning p value vars)) ++ (10 ∷ explained value (suc (suc k)) vars))) ++ explained body (suc k) (meaning p value vars ∷ vars))
     explained (tree.If kind condition first second) k vars =
         part_of (tree.If kind condition first second) k vars (choice_reason (meaning p condition vars)) ++ (explained condition (suc k) vars ++ chosen_lines (meaning p condition vars) (explained first (suc k) vars) (explained second (suc k) vars))
     explained (tree.Feature source f) k vars =

@@ -25,9 +25,13 @@ sum_reason (Collection c es) = if list_any is_null_element es then codes ": an e
 sum_reason v = []
 
 -- a quotient that is no number, by the divisor
+abbrev pub divisor_reason : Value → List ℕ
+divisor_reason (Single (scalar.Int n)) = if int_eq n (pos 0) then codes ": division by zero" else codes ": out of range"
+divisor_reason w = []
+
 abbrev pub quotient_reason : List Value → List ℕ
-quotient_reason (Single (scalar.Int n) ∷ ws) = if int_eq n (pos 0) then codes ": division by zero" else codes ": out of range"
-quotient_reason ws = []
+quotient_reason [] = []
+quotient_reason (w ∷ ws) = divisor_reason w
 
 abbrev pub plain_reason : PlainOperator → Value → List Value → List ℕ
 plain_reason plain.Divide v ws = quotient_reason ws

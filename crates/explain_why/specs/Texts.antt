@@ -38,42 +38,57 @@ constant_text m tree.Invalid = codes "invalid"
 
 -- between two operands, before one, or after it with what stands in parentheses
 pub data Form : Type 0 where
-  Between : List ℕ → Form
-  Before : List ℕ → Form
-  After : List ℕ → Form
+  Between : Form
+  Before : Form
+  After : Form
 
 abbrev pub form_of : words.Form → Form
-form_of (form.Between word) = Between word.now
-form_of (form.Before word) = Before word.now
-form_of (form.After word) = After word.now
+form_of form.Between = Between
+form_of form.Before = Before
+form_of form.After = After
 
 abbrev pub plain_form : PlainOperator → Form
-plain_form plain.Add = Between (codes " + ")
-plain_form plain.Subtract = Between (codes " - ")
-plain_form plain.Multiply = Between (codes " * ")
-plain_form plain.Divide = Between (codes " div ")
-plain_form plain.Modulo = Between (codes " mod ")
-plain_form plain.Minimum = After (codes ".min")
-plain_form plain.Maximum = After (codes ".max")
-plain_form plain.Negate = Before (codes "-")
-plain_form plain.Absolute = After (codes ".abs")
-plain_form plain.Less = Between (codes " < ")
-plain_form plain.LessEqual = Between (codes " <= ")
-plain_form plain.Greater = Between (codes " > ")
-plain_form plain.GreaterEqual = Between (codes " >= ")
-plain_form plain.CharacterCount = After (codes ".size")
-plain_form plain.Substring = After (codes ".substring")
-plain_form plain.Not = Before (codes "not ")
-plain_form plain.And = Between (codes " and ")
-plain_form plain.Or = Between (codes " or ")
-plain_form plain.Xor = Between (codes " xor ")
-plain_form plain.Implies = Between (codes " implies ")
-plain_form plain.IsUndefined = After (codes ".oclIsUndefined")
-plain_form plain.IsInvalid = After (codes ".oclIsInvalid")
-plain_form plain.BothNull = Between (codes " = ")
-plain_form plain.ElementCount = After (codes "->size")
-plain_form plain.IsEmpty = After (codes "->isEmpty")
-plain_form plain.Sum = After (codes "->sum")
+plain_form plain.Minimum = After
+plain_form plain.Maximum = After
+plain_form plain.Negate = Before
+plain_form plain.Absolute = After
+plain_form plain.CharacterCount = After
+plain_form plain.Substring = After
+plain_form plain.Not = Before
+plain_form plain.IsUndefined = After
+plain_form plain.IsInvalid = After
+plain_form plain.ElementCount = After
+plain_form plain.IsEmpty = After
+plain_form plain.Sum = After
+plain_form operator = Between
+
+abbrev pub plain_word : PlainOperator → List ℕ
+plain_word plain.Add = codes " + "
+plain_word plain.Subtract = codes " - "
+plain_word plain.Multiply = codes " * "
+plain_word plain.Divide = codes " div "
+plain_word plain.Modulo = codes " mod "
+plain_word plain.Minimum = codes ".min"
+plain_word plain.Maximum = codes ".max"
+plain_word plain.Negate = codes "-"
+plain_word plain.Absolute = codes ".abs"
+plain_word plain.Less = codes " < "
+plain_word plain.LessEqual = codes " <= "
+plain_word plain.Greater = codes " > "
+plain_word plain.GreaterEqual = codes " >= "
+plain_word plain.CharacterCount = codes ".size"
+plain_word plain.Substring = codes ".substring"
+plain_word plain.Not = codes "not "
+plain_word plain.And = codes " and "
+plain_word plain.Or = codes " or "
+plain_word plain.Xor = codes " xor "
+plain_word plain.Implies = codes " implies "
+plain_word plain.IsUndefined = codes ".oclIsUndefined"
+plain_word plain.IsInvalid = codes ".oclIsInvalid"
+plain_word plain.BothNull = codes " = "
+plain_word plain.ElementCount = codes "->size"
+plain_word plain.IsEmpty = codes "->isEmpty"
+plain_word plain.Sum = codes "->sum"
 
 abbrev pub class_word : ClassOperator → List ℕ
 class_word of_class.IsKindOf = codes ".oclIsKindOf"
@@ -89,9 +104,15 @@ element_word of_elements.AsSet = codes "->asSet"
 
 abbrev pub operator_form : Operator → Form
 operator_form (Plain operator) = plain_form operator
-operator_form (OfClass operator c) = After (class_word operator)
-operator_form (OfElements operator k) = After (element_word operator)
-operator_form (Equal k) = Between (codes " = ")
+operator_form (OfClass operator c) = After
+operator_form (OfElements operator k) = After
+operator_form (Equal k) = Between
+
+abbrev pub operator_word : Operator → List ℕ
+operator_word (Plain operator) = plain_word operator
+operator_word (OfClass operator c) = class_word operator
+operator_word (OfElements operator k) = element_word operator
+operator_word (Equal k) = codes " = "
 
 -- the class that an operator asks for
 abbrev pub class_asked : Model → Operator → List ℕ
@@ -113,9 +134,9 @@ iteration_word (iteration.IsUnique k) = codes "->isUnique("
 -- ---- trees
 
 abbrev pub is_form_open : Form → Bool
-is_form_open (Between word) = true
-is_form_open (Before word) = true
-is_form_open (After word) = false
+is_form_open Between = true
+is_form_open Before = true
+is_form_open After = false
 
 -- what has to stand in parentheses as an operand
 abbrev pub is_open : CoreTree → Bool
@@ -127,10 +148,10 @@ abbrev pub wrapped : Bool → List ℕ → List ℕ
 wrapped true text = 40 ∷ (text ++ 41 ∷ [])
 wrapped false text = text
 
-abbrev pub operation_text : Form → List ℕ → List ℕ → List ℕ → List ℕ
-operation_text (Between word) asked first others = first ++ (word ++ others)
-operation_text (Before word) asked first others = word ++ (first ++ others)
-operation_text (After word) asked first others = first ++ (word ++ (40 ∷ (asked ++ (others ++ 41 ∷ []))))
+abbrev pub operation_text : Form → List ℕ → List ℕ → List ℕ → List ℕ → List ℕ
+operation_text Between word asked first others = first ++ (word ++ others)
+operation_text Before word asked first others = word ++ (first ++ others)
+operation_text After word asked first others = first ++ (word ++ (40 ∷ (asked ++ (others ++ 41 ∷ []))))
 
 -- what stands before the body of a `let`
 abbrev pub let_front : List ℕ → List ℕ → List ℕ
@@ -142,7 +163,7 @@ module _ (m : Model) where
     pub node_text : CoreTree → ℕ → List ℕ → List ℕ
     node_text (tree.Feature source f) n first = first ++ (46 ∷ (feature_at m f).name)
     node_text (tree.Operation operator source others) n first =
-        operation_text (operator_form operator) (class_asked m operator) first (others_text (is_form_open (operator_form operator)) 0 others n)
+        operation_text (operator_form operator) (operator_word operator) (class_asked m operator) first (others_text (is_form_open (operator_form operator)) 0 others n)
     node_text (tree.AsCollection c k source) n first = first ++ (codes "->as" ++ (kind_name c ++ codes "()"))
     node_text (tree.Iterate i source body) n first =
         first ++ (iteration_word i ++ (variable_name n ++ (codes " | " ++ (text_of body (suc n) ++ 41 ∷ []))))
@@ -157,15 +178,11 @@ module _ (m : Model) where
     text_of (tree.Let value body) n = let_front (variable_name n) (text_of value n) ++ text_of body (suc n)
     text_of (tree.If k condition first second) n =
         codes "if " ++ (text_of condition n ++ (codes " then " ++ (text_of first n ++ (codes " else " ++ (text_of second n ++ codes " endif")))))
-    text_of (tree.Feature source f) n = node_text (tree.Feature source f) n (operand_text source n)
-    text_of (tree.Operation operator first others) n = node_text (tree.Operation operator first others) n (operand_text first n)
-    text_of (tree.AsCollection c k source) n = node_text (tree.AsCollection c k source) n (operand_text source n)
-    text_of (tree.Iterate i source body) n = node_text (tree.Iterate i source body) n (operand_text source n)
-    text_of (tree.Fold k source start body) n = node_text (tree.Fold k source start body) n (operand_text source n)
-
-    -- an operand, in parentheses where it needs them
-    pub operand_text : CoreTree → ℕ → List ℕ
-    operand_text t n = wrapped (is_open t) (text_of t n)
+    text_of (tree.Feature source f) n = node_text (tree.Feature source f) n (wrapped (is_open source) (text_of source n))
+    text_of (tree.Operation operator first others) n = node_text (tree.Operation operator first others) n (wrapped (is_open first) (text_of first n))
+    text_of (tree.AsCollection c k source) n = node_text (tree.AsCollection c k source) n (wrapped (is_open source) (text_of source n))
+    text_of (tree.Iterate i source body) n = node_text (tree.Iterate i source body) n (wrapped (is_open source) (text_of source n))
+    text_of (tree.Fold k source start body) n = node_text (tree.Fold k source start body) n (wrapped (is_open source) (text_of source n))
 
     -- the operands after the first, from the one of this number on: one that is written between two, or those in parentheses
     pub others_text : Bool → ℕ → CoreTrees → ℕ → List ℕ

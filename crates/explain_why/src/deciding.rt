@@ -6,6 +6,7 @@ ghost use Rattle.rule_values.specs.Endings.{kept_by};
 ghost use Rattle.owned_values.specs.Meant.{meant, meant_item, meant_items};
 ghost use Rattle.explain_why.specs.Explanation.{deciding_of, decides, those_or_all, that_or_undecided, deciding, most_deciding, kept_element};
 
+use crate::pieces::push;
 use crate::values::MOST_SHOWN;
 use ocl_base::OutOfMemory;
 use ocl_core::Iteration;
@@ -87,7 +88,7 @@ fn that_or_undecided(that: Deciding, bodies: &[Value<'_>]) -> Deciding
 }
 
 /// Which bodies decide what an iteration gives.
-pub(crate) fn deciding(iteration: Iteration, bodies: &[Value<'_>]) -> Deciding
+pub(crate) fn bodies_that_decide(iteration: Iteration, bodies: &[Value<'_>]) -> Deciding
     ensures { deciding_of result ≡ deciding iteration (map meant bodies.now) }
 {
     match iteration {
@@ -108,7 +109,7 @@ fn keep_if<'a>(kept: &mut Vec<Item<'a>>, keep: bool, item: &Item<'a>) -> Result<
         kept_element keep (meant_item item.now)) }
 {
     if keep {
-        kept.push(copy_of(item))?;
+        push(kept, copy_of(item))?;
     }
     Ok(())
 }

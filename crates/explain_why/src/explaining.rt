@@ -1,19 +1,20 @@
 //! The explanation of a verdict, part by part.
 
-ghost use Rattle.std.specs.Prelude.{◌≡◌, ◌++◌, ◌∷◌, [], ◌<◌, length, map, take, IfOk, OnOk, string_bytes};
-ghost use Rattle.std.specs.List.{flat_map};
-ghost use Rattle.imkl_population.specs.Population.{object_at};
+ghost use Rattle.std.specs.Prelude.{◌≡◌, ◌++◌, ◌∷◌, ◌<◌, length, map, IfOk, OnOk, string_bytes};
+ghost use Rattle.std.specs.List.{AllByRecursion};
 ghost use Rattle.ocl_core.specs.Core.{cores_of, lets_of};
 ghost use Rattle.ocl_core.specs.CoreView.{core_view, core_link_of, core_spine, checked_rule_of};
 ghost use Rattle.ocl_compile.specs.Meaning.{meaning};
 ghost use Rattle.rule_machine.specs.Verdict.{verdict_of};
 ghost use Rattle.rule_values.specs.Value.{element_value};
-ghost use Rattle.owned_values.specs.Meant.{meant, meant_item, meant_items, IsElementThere, AreElementsThere, IsValueThere};
+ghost use Rattle.owned_values.specs.Meant.{meant, meant_item, IsElementThere, IsValueThere};
 ghost use Rattle.ocl_meaning.specs.Resolved.{IsResolved, AreResolved, AreThere};
 ghost use Rattle.ocl_meaning.specs.Evaluated.{on_null, link_value, IsLinkResolved, AreLinksResolved};
-ghost use Rattle.explain_why.specs.Explanation.{indent, part_line, binding, element_line, step_line, iteration_lines, accumulation_lines, elements_lines, chosen_lines, node_reason, part_of, explained, all_explained, verdict_word, explanation};
+ghost use Rattle.explain_why.specs.Values.{value_text};
+ghost use Rattle.explain_why.specs.Explanation.{part_line, binding, iteration_lines, accumulation_lines, node_reason, part_of, explained, all_explained, verdict_word, explanation};
+ghost use Rattle.explain_why.specs.Levels.{element_lines, step_lines, bound_lines, node_line, link_lines};
 
-use crate::deciding::{deciding, deciding_elements};
+use crate::deciding::{bodies_that_decide, deciding_elements};
 use crate::pieces::{put, put_indent, put_more};
 use crate::reasons::{choice_reason, put_feature_reason, put_operation_reason};
 use crate::texts::{Text, let_text, link_text, next, put_variable, spine_text, text_of};
@@ -36,7 +37,12 @@ fn put_part(
     part: &str,
     value: &Value<'_>,
     reason: &str,
-) -> Result<(), OutOfMemory> {
+) -> Result<(), OutOfMemory>
+    requires there { IsValueThere population.now.content (meant value.now) }
+    ensures text { OnOk result (string_bytes out.new ≡ string_bytes out.old ++
+        part_line level part.now
+        (value_text population.now.content (meant value.now)) reason.now) }
+{
     put_indent(out, level)?;
     put(out, part)?;
     put(out, " = ")?;
@@ -54,7 +60,14 @@ fn put_tree<'a>(
     core: &'a Core,
     reason: &str,
     variables: &mut Variables<'a>,
-) -> Result<(), OutOfMemory> {
+) -> Result<(), OutOfMemory>
+    requires resolved { IsResolved population.now.content.model (core_view core.now) }
+    requires there { AreThere population.now.content variables.old }
+    ensures text { OnOk result (string_bytes out.new ≡ string_bytes out.old ++
+        part_of population.now.content
+        (core_view core.now) level variables.old reason.now) }
+    ensures kept { OnOk result (variables.new ≡ variables.old) }
+{
     let text = text_of(alloc, population.model(), core, variables.len())?;
     let value = evaluate(alloc, population, core, variables)?;
     put_part(alloc, out, population, level, &text.text, &value, reason)
@@ -67,7 +80,12 @@ fn put_binding(
     population: &Population<'_>,
     number: usize,
     value: &Value<'_>,
-) -> Result<(), OutOfMemory> {
+) -> Result<(), OutOfMemory>
+    requires there { IsValueThere population.now.content (meant value.now) }
+    ensures text { OnOk result (string_bytes out.new ≡ string_bytes out.old ++
+        binding number
+        (value_text population.now.content (meant value.now))) }
+{
     put_variable(alloc, out, number)?;
     put(out, " = ")?;
     put_value(alloc, out, population, value)
@@ -82,7 +100,14 @@ fn explain<'a>(
     level: usize,
     core: &'a Core,
     variables: &mut Variables<'a>,
-) -> Result<(), OutOfMemory> {
+) -> Result<(), OutOfMemory>
+    requires resolved { IsResolved population.now.content.model (core_view core.now) }
+    requires there { AreThere population.now.content variables.old }
+    ensures text { OnOk result (string_bytes out.new ≡ string_bytes out.old ++
+        explained population.now.content
+        (core_view core.now) level variables.old) }
+    ensures kept { OnOk result (variables.new ≡ variables.old) }
+{
     match core {
         Core::Constant { .. } | Core::Variable { .. } => Ok(()),
         Core::AllInstances { .. } => put_tree(alloc, out, population, level, core, "", variables),
@@ -127,7 +152,18 @@ fn explain_let<'a>(
     values: &'a [Core],
     body: &'a Core,
     variables: &mut Variables<'a>,
-) -> Result<(), OutOfMemory> {
+) -> Result<(), OutOfMemory>
+    requires values { AllByRecursion (IsResolved population.now.content.model)
+        (map core_view values.now) }
+    requires body { IsResolved population.now.content.model (core_view body.now) }
+    requires there { AreThere population.now.content variables.old }
+    requires whole { meant whole.now ≡ meaning population.now.content
+        (lets_of (map core_view values.now) (core_view body.now)) variables.old }
+    ensures text { OnOk result (string_bytes out.new ≡ string_bytes out.old ++
+        explained population.now.content
+        (lets_of (map core_view values.now) (core_view body.now)) level variables.old) }
+    ensures kept { OnOk result (variables.new ≡ variables.old) }
+{
     let mut level = level;
     for index in 0..values.len() {
         let left = &values[index..];
@@ -150,7 +186,16 @@ fn explain_bound<'a>(
     level: usize,
     core: &'a Core,
     variables: &mut Variables<'a>,
-) -> Result<(), OutOfMemory> {
+) -> Result<(), OutOfMemory>
+    requires resolved { IsResolved population.now.content.model (core_view core.now) }
+    requires there { AreThere population.now.content variables.old }
+    ensures text { OnOk result (string_bytes out.new ≡ string_bytes out.old ++
+        bound_lines population.now.content
+        (core_view core.now) level variables.old) }
+    ensures bound { OnOk result (variables.new ≡
+        meaning population.now.content (core_view core.now) variables.old ∷ variables.old) }
+    ensures there { OnOk result (AreThere population.now.content variables.new) }
+{
     let value = evaluate(alloc, population, core, variables)?;
     put_indent(out, level)?;
     put_binding(alloc, out, population, variables.len(), &value)?;
@@ -166,7 +211,15 @@ fn spine_value<'a>(
     first: &'a Core,
     links: &'a [CoreLink],
     variables: &mut Variables<'a>,
-) -> Result<Value<'a>, OutOfMemory> {
+) -> Result<Value<'a>, OutOfMemory>
+    requires first { IsResolved population.now.content.model (core_view first.now) }
+    requires links { AreLinksResolved population.now.content.model links.now }
+    requires there { AreThere population.now.content variables.old }
+    ensures value { IfOk result (λ v. meant v ≡ meaning population.now.content
+        (core_spine (core_view first.now) (map core_link_of links.now)) variables.old) }
+    ensures there { IfOk result (λ v. IsValueThere population.now.content (meant v)) }
+    ensures kept { OnOk result (variables.new ≡ variables.old) }
+{
     let value = evaluate(alloc, population, first, variables)?;
     evaluate_links(alloc, population, value, links, variables)
 }
@@ -182,7 +235,15 @@ fn explain_spine<'a>(
     first: &'a Core,
     links: &'a [CoreLink],
     variables: &mut Variables<'a>,
-) -> Result<(), OutOfMemory> {
+) -> Result<(), OutOfMemory>
+    requires first { IsResolved population.now.content.model (core_view first.now) }
+    requires links { AreLinksResolved population.now.content.model links.now }
+    requires there { AreThere population.now.content variables.old }
+    ensures text { OnOk result (string_bytes out.new ≡ string_bytes out.old ++
+        explained population.now.content
+        (core_spine (core_view first.now) (map core_link_of links.now)) level variables.old) }
+    ensures kept { OnOk result (variables.new ≡ variables.old) }
+{
     let mut level = level;
     for index in (0..links.len()).rev() {
         let (before, link) = (&links[..index], &links[index]);
@@ -208,7 +269,16 @@ fn put_node<'a>(
     before: &'a [CoreLink],
     link: &'a CoreLink,
     variables: &mut Variables<'a>,
-) -> Result<(), OutOfMemory> {
+) -> Result<(), OutOfMemory>
+    requires first { IsResolved population.now.content.model (core_view first.now) }
+    requires before { AreLinksResolved population.now.content.model before.now }
+    requires link { IsLinkResolved population.now.content.model link.now }
+    requires there { AreThere population.now.content variables.old }
+    ensures text { OnOk result (string_bytes out.new ≡ string_bytes out.old ++
+        node_line population.now.content
+        link.now (core_spine (core_view first.now) (map core_link_of before.now)) level variables.old) }
+    ensures kept { OnOk result (variables.new ≡ variables.old) }
+{
     let seen = variables.len();
     let operand = spine_text(alloc, population.model(), first, before, seen)?;
     let text = link_text(alloc, population.model(), link, seen, &operand)?;
@@ -226,7 +296,16 @@ fn link_reason<'a>(
     source: &Value<'a>,
     gave: &Value<'a>,
     variables: &mut Variables<'a>,
-) -> Result<String, OutOfMemory> {
+) -> Result<String, OutOfMemory>
+    requires link { IsLinkResolved population.now.content.model link.now }
+    requires source { IsValueThere population.now.content (meant source.now) }
+    requires gave { meant gave.now ≡ link_value population.now.content variables.old
+        (meant source.now) link.now }
+    requires there { AreThere population.now.content variables.old }
+    ensures reason { IfOk result (λ s. string_bytes s ≡ node_reason population.now.content
+        (on_null link.now) (meant source.now) variables.old) }
+    ensures kept { OnOk result (variables.new ≡ variables.old) }
+{
     let mut reason = String::new(alloc);
     match link {
         CoreLink::Feature { feature } => {
@@ -252,14 +331,21 @@ fn explain_link<'a>(
     before: &'a [CoreLink],
     link: &'a CoreLink,
     variables: &mut Variables<'a>,
-) -> Result<(), OutOfMemory> {
+) -> Result<(), OutOfMemory>
+    requires first { IsResolved population.now.content.model (core_view first.now) }
+    requires before { AreLinksResolved population.now.content.model before.now }
+    requires link { IsLinkResolved population.now.content.model link.now }
+    requires there { AreThere population.now.content variables.old }
+    ensures text { OnOk result (string_bytes out.new ≡ string_bytes out.old ++
+        link_lines population.now.content link.now level variables.old
+        (meaning population.now.content (core_spine (core_view first.now)
+        (map core_link_of before.now)) variables.old)) }
+    ensures kept { OnOk result (variables.new ≡ variables.old) }
+{
     match link {
         CoreLink::Feature { .. } | CoreLink::AsCollection { .. } => Ok(()),
         CoreLink::Operation { others, .. } => {
-            for other in others {
-                explain(alloc, out, population, level, other, variables)?;
-            }
-            Ok(())
+            explain_all(alloc, out, population, level, others, variables)
         }
         CoreLink::Iterate { iteration, body } => {
             let source = spine_value(alloc, population, first, before, variables)?;
@@ -274,6 +360,30 @@ fn explain_link<'a>(
     }
 }
 
+/// Puts the parts of several trees.
+#[cycle(explain)]
+fn explain_all<'a>(
+    alloc: Global,
+    out: &mut String,
+    population: &'a Population<'_>,
+    level: usize,
+    cores: &'a [Core],
+    variables: &mut Variables<'a>,
+) -> Result<(), OutOfMemory>
+    requires resolved { AreResolved population.now.content.model
+        (cores_of (map core_view cores.now)) }
+    requires there { AreThere population.now.content variables.old }
+    ensures text { OnOk result (string_bytes out.new ≡ string_bytes out.old ++
+        all_explained population.now.content (cores_of (map core_view cores.now)) level
+        variables.old) }
+    ensures kept { OnOk result (variables.new ≡ variables.old) }
+{
+    'cores: for core in cores {
+        explain(alloc, out, population, level, core, variables)?;
+    }
+    Ok(())
+}
+
 /// Puts the elements that decide an iteration, each with the parts of its body.
 #[cycle(explain)]
 fn explain_iteration<'a>(
@@ -285,12 +395,22 @@ fn explain_iteration<'a>(
     source: &Value<'a>,
     body: &'a Core,
     variables: &mut Variables<'a>,
-) -> Result<(), OutOfMemory> {
+) -> Result<(), OutOfMemory>
+    requires source { IsValueThere population.now.content (meant source.now) }
+    requires body { IsResolved population.now.content.model (core_view body.now) }
+    requires there { AreThere population.now.content variables.old }
+    ensures text { OnOk result (string_bytes out.new ≡ string_bytes out.old ++
+        iteration_lines iteration
+        (element_lines population.now.content (core_view body.now) level variables.old)
+        (λ e. meaning population.now.content (core_view body.now)
+        (element_value e ∷ variables.old)) level (meant source.now)) }
+    ensures kept { OnOk result (variables.new ≡ variables.old) }
+{
     let Value::Collection(_, elements) = source else {
         return Ok(());
     };
     let bodies = evaluate_bodies(alloc, population, elements, body, variables)?;
-    let those = deciding(iteration, &bodies);
+    let those = bodies_that_decide(iteration, &bodies);
     let chosen = deciding_elements(alloc, those, elements, &bodies)?;
     let shown = chosen.len().min(those.most());
     for element in &chosen[..shown] {
@@ -309,7 +429,15 @@ fn explain_element<'a>(
     element: &Item<'a>,
     body: &'a Core,
     variables: &mut Variables<'a>,
-) -> Result<(), OutOfMemory> {
+) -> Result<(), OutOfMemory>
+    requires element { IsElementThere population.now.content (meant_item element.now) }
+    requires body { IsResolved population.now.content.model (core_view body.now) }
+    requires there { AreThere population.now.content variables.old }
+    ensures text { OnOk result (string_bytes out.new ≡ string_bytes out.old ++
+        element_lines population.now.content
+        (core_view body.now) level variables.old (meant_item element.now)) }
+    ensures kept { OnOk result (variables.new ≡ variables.old) }
+{
     let value = item_value(element);
     put_indent(out, level)?;
     put_binding(alloc, out, population, variables.len(), &value)?;
@@ -331,7 +459,18 @@ fn explain_fold<'a>(
     start: Value<'a>,
     body: &'a Core,
     variables: &mut Variables<'a>,
-) -> Result<(), OutOfMemory> {
+) -> Result<(), OutOfMemory>
+    requires source { IsValueThere population.now.content (meant source.now) }
+    requires start { IsValueThere population.now.content (meant start) }
+    requires body { IsResolved population.now.content.model (core_view body.now) }
+    requires there { AreThere population.now.content variables.old }
+    ensures text { OnOk result (string_bytes out.new ≡ string_bytes out.old ++
+        accumulation_lines
+        (step_lines population.now.content (core_view body.now) level variables.old)
+        (λ e a. meaning population.now.content (core_view body.now)
+        (a ∷ element_value e ∷ variables.old)) level (meant start.entry) (meant source.now)) }
+    ensures kept { OnOk result (variables.new ≡ variables.old) }
+{
     let Value::Collection(_, elements) = source else {
         return Ok(());
     };
@@ -356,7 +495,21 @@ fn explain_step<'a>(
     accumulated: Value<'a>,
     body: &'a Core,
     variables: &mut Variables<'a>,
-) -> Result<Value<'a>, OutOfMemory> {
+) -> Result<Value<'a>, OutOfMemory>
+    requires element { IsElementThere population.now.content (meant_item element.now) }
+    requires accumulated { IsValueThere population.now.content (meant accumulated) }
+    requires body { IsResolved population.now.content.model (core_view body.now) }
+    requires there { AreThere population.now.content variables.old }
+    ensures text { OnOk result (string_bytes out.new ≡ string_bytes out.old ++
+        step_lines population.now.content
+        (core_view body.now) level variables.old (meant_item element.now)
+        (meant accumulated.entry)) }
+    ensures value { IfOk result (λ v. meant v ≡ meaning population.now.content
+        (core_view body.now) (meant accumulated.entry ∷ element_value (meant_item element.now)
+        ∷ variables.old)) }
+    ensures there { IfOk result (λ v. IsValueThere population.now.content (meant v)) }
+    ensures kept { OnOk result (variables.new ≡ variables.old) }
+{
     let number = variables.len();
     let value = item_value(element);
     put_indent(out, level)?;
@@ -391,7 +544,12 @@ pub fn explain_verdict(
     population: &Population<'_>,
     rule: &CoreRule,
     object: ObjectNo,
-) -> Result<String, OutOfMemory> {
+) -> Result<String, OutOfMemory>
+    requires resolved { IsResolved population.now.content.model (core_view rule.now.tree) }
+    requires object { object < length population.now.content.objects }
+    ensures text { IfOk result (λ s. string_bytes s ≡
+        explanation population.now.content (checked_rule_of rule.now) object) }
+{
     let mut out = String::new(alloc);
     let mut variables = Variables::new(alloc);
     variables.bind(Value::Item(Item::Object(object)))?;

@@ -3,9 +3,9 @@
 ghost use Rattle.std.specs.Prelude.{◌≡◌, ◌++◌, ◌∷◌, ◌<◌, length, map, OnOk, string_bytes};
 ghost use Rattle.std.specs.List.{list_any};
 ghost use Rattle.rule_values.specs.Operations.{is_null, is_invalid};
-ghost use Rattle.owned_values.specs.Meant.{meant, meant_item, IsValueThere};
+ghost use Rattle.owned_values.specs.Meant.{meant, meant_item, meant_items, IsValueThere};
 ghost use Rattle.ocl_meaning.specs.Resolved.{IsOperatorOf};
-ghost use Rattle.explain_why.specs.Reasons.{is_null_element, sum_reason, quotient_reason, plain_reason, class_reason, own_reason, invalid_reason, operation_reason, absent_reason, feature_reason, choice_reason};
+ghost use Rattle.explain_why.specs.Reasons.{is_null_element, sum_reason, divisor_reason, quotient_reason, plain_reason, class_reason, own_reason, invalid_reason, operation_reason, absent_reason, feature_reason, choice_reason};
 
 use crate::pieces::put;
 use imkl_model::{ClassNo, FeatureNo};
@@ -21,14 +21,42 @@ fn is_null_item(item: &Item<'_>) -> bool
     matches!(item, Item::Null)
 }
 
+/// Whether one of the elements is null.
+fn is_any_null(items: &[Item<'_>]) -> bool
+    ensures { result ≡ list_any is_null_element (meant_items items.now) }
+{
+    for item in items {
+        if is_null_item(item) {
+            return true;
+        }
+    }
+    false
+}
+
 /// Why a sum is no number.
 fn sum_reason(v: &Value<'_>) -> &'static str
     ensures { result.now ≡ sum_reason (meant v.now) }
 {
     match v {
         Value::Collection(_, items) => {
-            if items.iter().any(is_null_item) {
+            if is_any_null(items) {
                 ": an element is null"
+            } else {
+                ": out of range"
+            }
+        }
+        _ => "",
+    }
+}
+
+/// Why there is no quotient, by its divisor.
+fn divisor_reason(divisor: &Value<'_>) -> &'static str
+    ensures { result.now ≡ divisor_reason (meant divisor.now) }
+{
+    match divisor {
+        Value::Item(Item::Int(number)) => {
+            if *number == 0 {
+                ": division by zero"
             } else {
                 ": out of range"
             }
@@ -42,14 +70,8 @@ fn quotient_reason(others: &[Value<'_>]) -> &'static str
     ensures { result.now ≡ quotient_reason (map meant others.now) }
 {
     match others {
-        [Value::Item(Item::Int(divisor)), ..] => {
-            if *divisor == 0 {
-                ": division by zero"
-            } else {
-                ": out of range"
-            }
-        }
-        _ => "",
+        [divisor, ..] => divisor_reason(divisor),
+        [] => "",
     }
 }
 
@@ -112,14 +134,30 @@ fn put_own_reason(
 fn any_invalid(v: &Value<'_>, others: &[Value<'_>]) -> bool
     ensures { result ≡ list_any is_invalid (meant v.now ∷ map meant others.now) }
 {
-    is_invalid(v) || others.iter().any(is_invalid)
+    if is_invalid(v) {
+        return true;
+    }
+    for other in others {
+        if is_invalid(other) {
+            return true;
+        }
+    }
+    false
 }
 
 /// Whether one of the operands is null.
 fn any_null(v: &Value<'_>, others: &[Value<'_>]) -> bool
     ensures { result ≡ list_any is_null (meant v.now ∷ map meant others.now) }
 {
-    is_null(v) || others.iter().any(is_null)
+    if is_null(v) {
+        return true;
+    }
+    for other in others {
+        if is_null(other) {
+            return true;
+        }
+    }
+    false
 }
 
 /// Puts why an operation has no result, by its operands and what it gave.

@@ -6,11 +6,11 @@ ghost use Rattle.ocl_core.specs.CoreView.{constant_of, core_view, core_link_of, 
 ghost use Rattle.ocl_core.specs.Typing.{IsConstantOf};
 ghost use Rattle.ocl_meaning.specs.Resolved.{IsOperatorOf, IsResolved, AreResolved};
 ghost use Rattle.ocl_meaning.specs.Evaluated.{on_null, IsLinkResolved, AreLinksResolved};
-ghost use Rattle.explain_why.specs.Texts.{variable_name, constant_text, class_asked, operation_text, form_of, is_form_open, is_open, wrapped, let_front, node_text, text_of, others_text, operator_form};
+ghost use Rattle.explain_why.specs.Texts.{variable_name, constant_text, class_asked, operation_text, form_of, is_form_open, is_open, wrapped, let_front, node_text, text_of, others_text, operator_form, operator_word};
 
 use crate::pieces::{put, put_count};
 use crate::values::{put_before, put_literal, put_quoted};
-use crate::words::{Form, iteration_word, kind_name, operator_form};
+use crate::words::{Form, iteration_word, kind_name, operator_form, operator_word};
 use imkl_model::ClassModel;
 use ocl_base::OutOfMemory;
 use ocl_core::{ConstantValue, Core, CoreLink, Operator};
@@ -30,7 +30,7 @@ pub(crate) fn next(number: usize) -> Result<usize, OutOfMemory>
 #[derive(Drop)]
 pub(crate) struct Text {
     pub(crate) text: String,
-    pub(crate) open: bool,
+    pub(crate) is_open: bool,
 }
 
 /// Puts the name of a variable.
@@ -73,10 +73,10 @@ fn put_constant(
 }
 
 /// Puts a text, in parentheses where it has to stand in them.
-fn put_wrapped(out: &mut String, open: bool, text: &str) -> Result<(), OutOfMemory>
-    ensures { OnOk result (string_bytes out.new ≡ string_bytes out.old ++ wrapped open text.now) }
+fn put_wrapped(out: &mut String, wraps: bool, text: &str) -> Result<(), OutOfMemory>
+    ensures { OnOk result (string_bytes out.new ≡ string_bytes out.old ++ wrapped wraps text.now) }
 {
-    if !open {
+    if !wraps {
         return put(out, text);
     }
     put(out, "(")?;
@@ -106,24 +106,24 @@ pub(crate) fn text_of(
 ) -> Result<Text, OutOfMemory>
     requires { IsResolved model.now (core_view core.now) }
     ensures text { IfOk result (λ t. string_bytes t.text ≡ text_of model.now (core_view core.now) seen) }
-    ensures open { IfOk result (λ t. t.open ≡ is_open (core_view core.now)) }
+    ensures wraps { IfOk result (λ t. t.is_open ≡ is_open (core_view core.now)) }
 {
     match core {
         Core::Constant { value } => {
             let mut text = String::new(alloc);
             put_constant(alloc, &mut text, model, value)?;
-            Ok(Text { text, open: false })
+            Ok(Text { text, is_open: false })
         }
         Core::Variable { number } => {
             let mut text = String::new(alloc);
             put_variable(alloc, &mut text, *number)?;
-            Ok(Text { text, open: false })
+            Ok(Text { text, is_open: false })
         }
         Core::AllInstances { class } => {
             let mut text = String::new(alloc);
             put(&mut text, model.class_name(*class))?;
             put(&mut text, ".allInstances()")?;
-            Ok(Text { text, open: false })
+            Ok(Text { text, is_open: false })
         }
         Core::Spine { first, links } => spine_text(alloc, model, first, links, seen),
         Core::Let { values, body } => let_text(alloc, model, values, body, seen),
@@ -141,7 +141,7 @@ pub(crate) fn text_of(
             put(&mut text, " else ")?;
             put_text(alloc, &mut text, model, else_branch, seen)?;
             put(&mut text, " endif")?;
-            Ok(Text { text, open: false })
+            Ok(Text { text, is_open: false })
         }
     }
 }
@@ -175,7 +175,7 @@ pub(crate) fn let_text(
     requires { IsResolved model.now (lets_of (map core_view values.now) (core_view body.now)) }
     ensures text { IfOk result (λ t. string_bytes t.text ≡ text_of model.now
         (lets_of (map core_view values.now) (core_view body.now)) seen) }
-    ensures open { IfOk result (λ t. t.open ≡
+    ensures wraps { IfOk result (λ t. t.is_open ≡
         is_open (lets_of (map core_view values.now) (core_view body.now))) }
 {
     let mut text = String::new(alloc);
@@ -186,8 +186,8 @@ pub(crate) fn let_text(
     }
     let inner = text_of(alloc, model, body, number)?;
     put(&mut text, &inner.text)?;
-    let open = !values.is_empty() || inner.open;
-    Ok(Text { text, open })
+    let is_open = !values.is_empty() || inner.is_open;
+    Ok(Text { text, is_open })
 }
 
 /// Puts the first part of a `let`: its variable and its value.
@@ -223,7 +223,7 @@ pub(crate) fn spine_text(
     requires links { AreLinksResolved model.now links.now }
     ensures text { IfOk result (λ t. string_bytes t.text ≡ text_of model.now
         (core_spine (core_view first.now) (map core_link_of links.now)) seen) }
-    ensures open { IfOk result (λ t. t.open ≡
+    ensures wraps { IfOk result (λ t. t.is_open ≡
         is_open (core_spine (core_view first.now) (map core_link_of links.now))) }
 {
     let mut text = text_of(alloc, model, first, seen)?;
@@ -244,16 +244,16 @@ pub(crate) fn link_text(
 ) -> Result<Text, OutOfMemory>
     requires { IsLinkResolved model.now link.now }
     ensures text { IfOk result (λ t. string_bytes t.text ≡ node_text model.now (on_null link.now)
-        seen (wrapped first.now.open (string_bytes first.now.text))) }
-    ensures open { IfOk result (λ t. t.open ≡ is_open (on_null link.now)) }
+        seen (wrapped first.now.is_open (string_bytes first.now.text))) }
+    ensures wraps { IfOk result (λ t. t.is_open ≡ is_open (on_null link.now)) }
 {
     let mut text = String::new(alloc);
-    let open = match link {
+    let is_open = match link {
         CoreLink::Operation { operator, .. } => operator_form(*operator).is_open(),
         _ => false,
     };
     put_link(alloc, &mut text, model, link, seen, first)?;
-    Ok(Text { text, open })
+    Ok(Text { text, is_open })
 }
 
 /// Puts a first operand with a link on it.
@@ -269,11 +269,11 @@ fn put_link(
 ) -> Result<(), OutOfMemory>
     requires { IsLinkResolved model.now link.now }
     ensures { OnOk result (string_bytes out.new ≡ string_bytes out.old ++ node_text model.now
-        (on_null link.now) seen (wrapped first.now.open (string_bytes first.now.text))) }
+        (on_null link.now) seen (wrapped first.now.is_open (string_bytes first.now.text))) }
 {
     match link {
         CoreLink::Feature { feature } => {
-            put_wrapped(out, first.open, &first.text)?;
+            put_wrapped(out, first.is_open, &first.text)?;
             put(out, ".")?;
             put(out, model.feature_info(*feature).name.as_str())
         }
@@ -281,13 +281,13 @@ fn put_link(
             put_operation(alloc, out, model, *operator, others, seen, first)
         }
         CoreLink::AsCollection { collection, .. } => {
-            put_wrapped(out, first.open, &first.text)?;
+            put_wrapped(out, first.is_open, &first.text)?;
             put(out, "->as")?;
             put(out, kind_name(*collection))?;
             put(out, "()")
         }
         CoreLink::Iterate { iteration, body } => {
-            put_wrapped(out, first.open, &first.text)?;
+            put_wrapped(out, first.is_open, &first.text)?;
             put(out, iteration_word(*iteration))?;
             put_variable(alloc, out, seen)?;
             put(out, " | ")?;
@@ -295,7 +295,7 @@ fn put_link(
             put(out, ")")
         }
         CoreLink::Fold { start, body, .. } => {
-            put_wrapped(out, first.open, &first.text)?;
+            put_wrapped(out, first.is_open, &first.text)?;
             put(out, "->iterate(")?;
             put_variable(alloc, out, seen)?;
             put(out, "; ")?;
@@ -323,24 +323,25 @@ fn put_operation(
     requires operator { IsOperatorOf model.now operator }
     requires others { AreResolved model.now (cores_of (map core_view others.now)) }
     ensures { OnOk result (string_bytes out.new ≡ string_bytes out.old ++ operation_text
-        (operator_form operator) (class_asked model.now operator)
-        (wrapped first.now.open (string_bytes first.now.text))
+        (operator_form operator) (operator_word operator) (class_asked model.now operator)
+        (wrapped first.now.is_open (string_bytes first.now.text))
         (others_text model.now (is_form_open (operator_form operator)) 0
         (cores_of (map core_view others.now)) seen)) }
 {
+    let word = operator_word(operator);
     match operator_form(operator) {
-        Form::Between(word) => {
-            put_wrapped(out, first.open, &first.text)?;
+        Form::Between => {
+            put_wrapped(out, first.is_open, &first.text)?;
             put(out, word)?;
             put_others(alloc, out, model, true, others, seen)
         }
-        Form::Before(word) => {
+        Form::Before => {
             put(out, word)?;
-            put_wrapped(out, first.open, &first.text)?;
+            put_wrapped(out, first.is_open, &first.text)?;
             put_others(alloc, out, model, true, others, seen)
         }
-        Form::After(word) => {
-            put_wrapped(out, first.open, &first.text)?;
+        Form::After => {
+            put_wrapped(out, first.is_open, &first.text)?;
             put(out, word)?;
             put(out, "(")?;
             put(out, class_asked(model, operator))?;
@@ -367,7 +368,7 @@ fn put_others(
     'others: for index in 0..others.len() {
         put_before(out, index)?;
         let text = text_of(alloc, model, &others[index], seen)?;
-        put_wrapped(out, wraps && text.open, &text.text)?;
+        put_wrapped(out, wraps && text.is_open, &text.text)?;
     }
     Ok(())
 }

@@ -1,6 +1,7 @@
 //! Values as OCL writes them.
 
-ghost use Rattle.std.specs.Prelude.{◌≡◌, ◌++◌, ◌<◌, length, take, OnOk, string_bytes};
+ghost use Rattle.std.specs.Prelude.{◌≡◌, ◌++◌, ◌<◌, length, OnOk, string_bytes};
+ghost use Rattle.std.specs.List.{flat_map};
 ghost use Rattle.std.specs.Str.{chars};
 ghost use Rattle.imkl_model.specs.ClassModel.{enumeration_at};
 ghost use Rattle.owned_values.specs.Meant.{meant, meant_item, meant_items, IsElementThere, AreElementsThere, IsValueThere};

@@ -2,7 +2,7 @@
 
 ghost use Rattle.std.specs.Prelude.{◌≡◌, string_bytes};
 ghost use Rattle.explain_why.specs.Values as value;
-ghost use Rattle.explain_why.specs.Texts.{form_of, plain_form, operator_form, class_word, element_word, iteration_word, is_form_open};
+ghost use Rattle.explain_why.specs.Texts.{form_of, plain_form, plain_word, operator_form, operator_word, class_word, element_word, iteration_word, is_form_open};
 
 use ocl_base::CollectionKind;
 use ocl_core::{ClassOperator, ElementOperator, Iteration, Operator, PlainOperator};
@@ -19,15 +19,15 @@ pub(crate) fn kind_name(kind: CollectionKind) -> &'static str
     }
 }
 
-/// How an operator is written: between two operands, before one, or after it with what stands in parentheses.
+/// How an operator is written.
 #[derive(Clone, Copy, Debug)]
 pub(crate) enum Form {
     /// Between two operands.
-    Between(&'static str),
+    Between,
     /// Before an operand.
-    Before(&'static str),
+    Before,
     /// After an operand, before parentheses.
-    After(&'static str),
+    After,
 }
 
 impl Form {
@@ -36,8 +36,8 @@ impl Form {
         ensures { result ≡ is_form_open (form_of self) }
     {
         match self {
-            Form::Between(_) | Form::Before(_) => true,
-            Form::After(_) => false,
+            Form::Between | Form::Before => true,
+            Form::After => false,
         }
     }
 }
@@ -47,32 +47,46 @@ fn plain_form(operator: PlainOperator) -> Form
     ensures { form_of result ≡ plain_form operator }
 {
     match operator {
-        PlainOperator::Add => Form::Between(" + "),
-        PlainOperator::Subtract => Form::Between(" - "),
-        PlainOperator::Multiply => Form::Between(" * "),
-        PlainOperator::Divide => Form::Between(" div "),
-        PlainOperator::Modulo => Form::Between(" mod "),
-        PlainOperator::Minimum => Form::After(".min"),
-        PlainOperator::Maximum => Form::After(".max"),
-        PlainOperator::Negate => Form::Before("-"),
-        PlainOperator::Absolute => Form::After(".abs"),
-        PlainOperator::Less => Form::Between(" < "),
-        PlainOperator::LessEqual => Form::Between(" <= "),
-        PlainOperator::Greater => Form::Between(" > "),
-        PlainOperator::GreaterEqual => Form::Between(" >= "),
-        PlainOperator::CharacterCount => Form::After(".size"),
-        PlainOperator::Substring => Form::After(".substring"),
-        PlainOperator::Not => Form::Before("not "),
-        PlainOperator::And => Form::Between(" and "),
-        PlainOperator::Or => Form::Between(" or "),
-        PlainOperator::Xor => Form::Between(" xor "),
-        PlainOperator::Implies => Form::Between(" implies "),
-        PlainOperator::IsUndefined => Form::After(".oclIsUndefined"),
-        PlainOperator::IsInvalid => Form::After(".oclIsInvalid"),
-        PlainOperator::BothNull => Form::Between(" = "),
-        PlainOperator::ElementCount => Form::After("->size"),
-        PlainOperator::IsEmpty => Form::After("->isEmpty"),
-        PlainOperator::Sum => Form::After("->sum"),
+        PlainOperator::Negate | PlainOperator::Not => Form::Before,
+        PlainOperator::Minimum | PlainOperator::Maximum | PlainOperator::Absolute => Form::After,
+        PlainOperator::CharacterCount | PlainOperator::Substring => Form::After,
+        PlainOperator::IsUndefined | PlainOperator::IsInvalid => Form::After,
+        PlainOperator::ElementCount | PlainOperator::IsEmpty | PlainOperator::Sum => Form::After,
+        _ => Form::Between,
+    }
+}
+
+/// The word of an operator that its name alone describes.
+fn plain_word(operator: PlainOperator) -> &'static str
+    ensures { result.now ≡ plain_word operator }
+{
+    match operator {
+        PlainOperator::Add => " + ",
+        PlainOperator::Subtract => " - ",
+        PlainOperator::Multiply => " * ",
+        PlainOperator::Divide => " div ",
+        PlainOperator::Modulo => " mod ",
+        PlainOperator::Minimum => ".min",
+        PlainOperator::Maximum => ".max",
+        PlainOperator::Negate => "-",
+        PlainOperator::Absolute => ".abs",
+        PlainOperator::Less => " < ",
+        PlainOperator::LessEqual => " <= ",
+        PlainOperator::Greater => " > ",
+        PlainOperator::GreaterEqual => " >= ",
+        PlainOperator::CharacterCount => ".size",
+        PlainOperator::Substring => ".substring",
+        PlainOperator::Not => "not ",
+        PlainOperator::And => " and ",
+        PlainOperator::Or => " or ",
+        PlainOperator::Xor => " xor ",
+        PlainOperator::Implies => " implies ",
+        PlainOperator::IsUndefined => ".oclIsUndefined",
+        PlainOperator::IsInvalid => ".oclIsInvalid",
+        PlainOperator::BothNull => " = ",
+        PlainOperator::ElementCount => "->size",
+        PlainOperator::IsEmpty => "->isEmpty",
+        PlainOperator::Sum => "->sum",
     }
 }
 
@@ -106,9 +120,20 @@ pub(crate) fn operator_form(operator: Operator) -> Form
 {
     match operator {
         Operator::Plain(plain) => plain_form(plain),
-        Operator::OfClass(of_class, _) => Form::After(class_word(of_class)),
-        Operator::OfElements(of_elements, _) => Form::After(element_word(of_elements)),
-        Operator::Equal(_) => Form::Between(" = "),
+        Operator::OfClass(_, _) | Operator::OfElements(_, _) => Form::After,
+        Operator::Equal(_) => Form::Between,
+    }
+}
+
+/// The word of an operator.
+pub(crate) fn operator_word(operator: Operator) -> &'static str
+    ensures { result.now ≡ operator_word operator }
+{
+    match operator {
+        Operator::Plain(plain) => plain_word(plain),
+        Operator::OfClass(of_class, _) => class_word(of_class),
+        Operator::OfElements(of_elements, _) => element_word(of_elements),
+        Operator::Equal(_) => " = ",
     }
 }
 

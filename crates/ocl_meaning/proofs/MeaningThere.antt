@@ -1,10 +1,10 @@
 -- Everything is there in what a tree means, where each name of the tree is one of the class model and everything in the
 -- values of its variables is there.
-use Rattle.std.proofs.Common.{◌≡◌, ℕ, ◌<◌, ◌==◌, ◌+ℤ◌, ◌-ℤ◌, Bool, true, false, List, [], ◌∷◌, length, map, Option, Some, None}
-use Rattle.std.specs.Prelude.{ℤ, pos, ◌*ℤ◌, neg_ℤ, int_lt, int_le, int_div, if◌then◌else◌}
+use Rattle.std.proofs.Common.{ℕ, ◌==◌, ◌+ℤ◌, ◌-ℤ◌, Bool, true, false, List, [], ◌∷◌, length, map, Option, Some}
+use Rattle.std.specs.Prelude.{pos, ◌*ℤ◌, neg_ℤ, int_div, if◌then◌else◌}
 use Rattle.std.specs.Int.{int_min, int_max}
 use Rattle.std.specs.Ordering.{int_eq}
-use Rattle.std.specs.List.{AllByRecursion, list_all, list_any}
+use Rattle.std.specs.List.{AllByRecursion, list_any}
 use Rattle.ocl_base.specs.Lists.{is_among, variable_at}
 use Rattle.imkl_model.specs.ClassModel.{conforms}
 use Rattle.imkl_population.specs.declared.scalar.Scalar.TheVariants as scalar
@@ -27,10 +27,10 @@ use Rattle.ocl_compile.specs.Meaning.{constant_value, plain_value, class_value, 
 use Rattle.rule_values.specs.Value.{Element, Value, Invalid, Null, Single, Collection, truth_value, object_value, element_value, same_element}
 use Rattle.rule_values.specs.Equality.{occurrences}
 use Rattle.rule_values.specs.Operations.{integer_value, or_invalid, is_true, is_false, is_invalid}
-use Rattle.rule_values.specs.Endings.{Source, is_undecided, count_true, kept_by, for_all, exists}
+use Rattle.rule_values.specs.Endings.{Source, is_undecided, count_true, kept_by}
 use Rattle.owned_values.specs.Meant.{IsElementThere, AreElementsThere, IsValueThere}
 use Rattle.owned_values.proofs.ForAbove.{each_there, if_there, known_there, integer_there, on_integers_there, on_integer_there, substring_there, unless_there, on_object_there, as_collection_there, on_elements_there, on_element_there, summation_there, as_set_there, element_there, kept_there, collected_there, joined_there, instances_there, read_there}
-use Rattle.ocl_meaning.specs.Resolved.{IsOperatorOf, IsResolved, AreResolved, AreThere}
+use Rattle.ocl_meaning.specs.Resolved.{IsResolved, AreThere}
 use Rattle.ocl_meaning.specs.Evaluated.{node_value}
 
 module _ (p : Population) where

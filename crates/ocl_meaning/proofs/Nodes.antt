@@ -1,9 +1,8 @@
 -- Nodes as they lie in memory: what a tree means by its parts, and what an evaluator is given of them.
-use Rattle.std.proofs.Common.{◌≡◌, ℕ, zero, suc, ◌+◌, ◌<◌, ◌≤◌, List, [], ◌∷◌, ◌++◌, map, length, drop, fold, refl, sym, ap, ◌∙◌, subst, rules, get_or, Box, Vec, Global, Result}
+use Rattle.std.proofs.Common.{◌≡◌, List, [], ◌∷◌, map, refl, sym, ap, ◌∙◌, subst, rules, Box, Vec, Global, Result}
 use Rattle.std.specs.Prelude.{IfOk}
 use Rattle.std.proofs.lemmas.Result.{IfOk-weaker}
 use Rattle.std.specs.List.{AllByRecursion}
-use Rattle.std.proofs.lemmas.List.{drop_more}
 use Rattle.imkl_model.specs.ClassModel.{Model}
 use Rattle.imkl_population.specs.Population.{Population}
 use Rattle.ocl_core.specs.declared.core_tree.Core.{Core, the_lemmas}
@@ -15,13 +14,13 @@ use Rattle.ocl_kinds.specs.declared.kind.ScalarKind.{ScalarKind}
 use Rattle.ocl_core.specs.Core as tree
 use Rattle.ocl_core.specs.Core.{CoreTree, CoreTrees, cores_of, lets_of}
 use Rattle.ocl_core.specs.CoreView.{core_view, core_link_of, core_spine}
-use Rattle.ocl_core.proofs.ForAbove.{core_view-Spine, core_view-Let, core_view-If, core_link_of-Iterate, core_link_of-Fold}
-use Rattle.ocl_compile.specs.Meaning.{meaning, meanings}
+use Rattle.ocl_core.proofs.ForAbove.{core_view-Spine, core_view-Let, core_link_of-Iterate, core_link_of-Fold}
+use Rattle.ocl_compile.specs.Meaning.{meaning}
 use Rattle.rule_values.specs.Value.{Value}
 use Rattle.owned_values.specs.declared.value.Value.{Value as Held}
 use Rattle.owned_values.specs.Meant.{meant, IsValueThere}
-use Rattle.ocl_meaning.specs.Resolved.{IsResolved, AreResolved}
-use Rattle.ocl_meaning.specs.Evaluated.{on_null, node_value, link_value, links_value, bindings, IsLinkResolved, AreLinksResolved}
+use Rattle.ocl_meaning.specs.Resolved.{IsResolved}
+use Rattle.ocl_meaning.specs.Evaluated.{on_null, link_value, links_value, bindings, IsLinkResolved, AreLinksResolved}
 
 -- ---- links
 

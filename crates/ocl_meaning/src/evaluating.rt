@@ -12,9 +12,9 @@ ghost use Rattle.ocl_meaning.specs.Evaluated.{bindings, IsLinkResolved, AreLinks
 
 use crate::constants::constant_value;
 use crate::iterations::iteration_value;
+use crate::lists::push;
 use crate::operations::operation_value;
 use crate::variables::Variables;
-use crate::lists::push;
 use imkl_population::Population;
 use ocl_base::OutOfMemory;
 use ocl_core::{Core, CoreLink, Iteration};

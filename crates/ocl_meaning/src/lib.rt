@@ -8,7 +8,5 @@ mod lists;
 mod operations;
 mod variables;
 
-pub use evaluating::{
-    evaluate, evaluate_all, evaluate_bodies, evaluate_link, evaluate_links,
-};
+pub use evaluating::{evaluate, evaluate_all, evaluate_bodies, evaluate_link, evaluate_links};
 pub use variables::Variables;

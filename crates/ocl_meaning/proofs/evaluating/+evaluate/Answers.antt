@@ -1,9 +1,9 @@
 use Rattle.std.proofs.Common.{ap, sym, ◌∙◌, rules}
-use Rattle.ocl_core.specs.declared.core_tree.Core.{Core, the_lemmas}
+use Rattle.ocl_core.specs.declared.core_tree.Core.{the_lemmas}
 use Rattle.ocl_core.specs.Core.{CoreTree}
 use Rattle.owned_values.specs.Meant.{meant}
 use Rattle.owned_values.proofs.ForAbove.{instances_there, read_there}
-use Rattle.ocl_meaning.specs.Evaluated.{on_null, node_value, link_value}
+use Rattle.ocl_meaning.specs.Evaluated.{on_null, node_value}
 use Rattle.ocl_meaning.proofs.MeaningThere.{variable_there, operation_there, node_there}
 use Rattle.ocl_meaning.proofs.Nodes.{spine_names, spine_is, let_names, let_is, iterate_is, fold_is, means_where, there_where}
 use Rattle.ocl_meaning.proofs.evaluating.+evaluate.Goals as goal
