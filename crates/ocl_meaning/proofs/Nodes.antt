@@ -67,7 +67,7 @@ module _ (core : Core) (first : Box Core Global) (links : Vec CoreLink Global) (
       sym (spine_meaning p vars links.items (core_view first.value)) ∙ ap (λ t. meaning p t vars) (sym (ap core_view is ∙ core_view-Spine first links))
 
 -- the names of values and of the body that sees them, and what they mean
-lets_resolved : (m : Model) (vs : List CoreTree) (body : CoreTree) → IsResolved m (lets_of vs body) → AllByRecursion (IsResolved m) vs × IsResolved m body
+pub lets_resolved : (m : Model) (vs : List CoreTree) (body : CoreTree) → IsResolved m (lets_of vs body) → AllByRecursion (IsResolved m) vs × IsResolved m body
 lets_resolved m [] body h = (tt, h)
 lets_resolved m (w ∷ ws) body h = let rest = lets_resolved m ws body h.1 in ((h.0, rest.0), rest.1)
 
