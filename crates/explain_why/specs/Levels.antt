@@ -1,5 +1,6 @@
 -- Lines of explanations in parts: of an element, of a step of a fold, of a bound variable, and of a link.
-use Rattle.std.specs.Prelude.{ℕ, suc, List, [], ◌∷◌, ◌++◌, length}
+use Rattle.std.specs.Prelude.{ℕ, suc, Bool, List, [], ◌∷◌, ◌++◌, length}
+use Rattle.imkl_model.specs.ClassModel.{Model}
 use Rattle.imkl_population.specs.Population.{Population}
 use Rattle.ocl_core.specs.declared.core_tree.CoreLink.{CoreLink}
 use Rattle.ocl_core.specs.Core as tree
@@ -9,7 +10,17 @@ use Rattle.ocl_compile.specs.Meaning.{meaning}
 use Rattle.ocl_meaning.specs.Evaluated.{on_null}
 use Rattle.rule_values.specs.Value.{Element, Value, element_value}
 use Rattle.explain_why.specs.Values.{value_text}
+use Rattle.explain_why.specs.Texts.{is_open, wrapped, node_text, text_of}
 use Rattle.explain_why.specs.Explanation.{indent, binding, element_line, step_line, iteration_lines, accumulation_lines, node_reason, part_of, explained, all_explained}
+
+-- links one after another on a text, with whether it stands in parentheses as an operand
+abbrev pub links_text : Model → ℕ → List CoreLink → Bool × List ℕ → Bool × List ℕ
+links_text m n [] t = t
+links_text m n (l ∷ ls) t = links_text m n ls (is_open (on_null l), node_text m (on_null l) n (wrapped t.0 t.1))
+
+-- a tree's text, and whether it stands in parentheses as an operand
+abbrev pub tree_text : Model → CoreTree → ℕ → Bool × List ℕ
+tree_text m t n = (is_open t, text_of m t n)
 
 module _ (p : Population) where
   -- an element with the parts of a body

@@ -42,9 +42,17 @@ plain_reason operator v ws = codes ": out of range"
 
 module _ (p : Population) where
   -- an object that isn't of the class that it is taken for
+  abbrev pub other_class_reason : ℕ → ℕ → List ℕ
+  other_class_reason o c = codes ": " ++ ((object_at p o).id ++ (codes " is not of class " ++ (class_at p.model c).name))
+
+  abbrev pub cast_reason : ℕ → Value → List ℕ
+  cast_reason c (Single (scalar.Object o)) = other_class_reason o c
+  cast_reason c v = []
+
   abbrev pub class_reason : ClassOperator → ℕ → Value → List ℕ
-  class_reason of_class.AsType c (Single (scalar.Object o)) = codes ": " ++ ((object_at p o).id ++ (codes " isn't of class " ++ (class_at p.model c).name))
-  class_reason operator c v = []
+  class_reason of_class.AsType c v = cast_reason c v
+  class_reason of_class.IsKindOf c v = []
+  class_reason of_class.IsTypeOf c v = []
 
   -- operands of which none is null or invalid
   abbrev pub own_reason : Operator → Value → List Value → List ℕ

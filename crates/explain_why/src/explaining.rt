@@ -1,23 +1,21 @@
 //! The explanation of a verdict, part by part.
 
-ghost use Rattle.std.specs.Prelude.{◌≡◌, ◌++◌, ◌∷◌, ◌<◌, length, map, IfOk, OnOk, string_bytes};
+ghost use Rattle.std.specs.Prelude.{◌≡◌, ◌∷◌, ◌<◌, length, map, drop, IfOk, OnOk};
 ghost use Rattle.std.specs.List.{AllByRecursion};
-ghost use Rattle.ocl_core.specs.Core.{cores_of, lets_of};
-ghost use Rattle.ocl_core.specs.CoreView.{core_view, core_link_of, core_spine, checked_rule_of};
+ghost use Rattle.ocl_core.specs.Core.{cores_of};
+ghost use Rattle.ocl_core.specs.CoreView.{core_view, core_link_of, core_spine};
 ghost use Rattle.ocl_compile.specs.Meaning.{meaning};
 ghost use Rattle.rule_machine.specs.Verdict.{verdict_of};
 ghost use Rattle.rule_values.specs.Value.{element_value};
-ghost use Rattle.owned_values.specs.Meant.{meant, meant_item, IsElementThere, IsValueThere};
+ghost use Rattle.owned_values.specs.Meant.{meant, meant_item, meant_items, IsElementThere, AreElementsThere, IsValueThere};
 ghost use Rattle.ocl_meaning.specs.Resolved.{IsResolved, AreResolved, AreThere};
-ghost use Rattle.ocl_meaning.specs.Evaluated.{on_null, link_value, IsLinkResolved, AreLinksResolved};
-ghost use Rattle.explain_why.specs.Values.{value_text};
-ghost use Rattle.explain_why.specs.Explanation.{part_line, binding, iteration_lines, accumulation_lines, node_reason, part_of, explained, all_explained, verdict_word, explanation};
-ghost use Rattle.explain_why.specs.Levels.{element_lines, step_lines, bound_lines, node_line, link_lines};
+ghost use Rattle.ocl_meaning.specs.Evaluated.{IsLinkResolved, AreLinksResolved};
+ghost use Rattle.explain_why.specs.Explanation.{verdict_word};
 
 use crate::deciding::{bodies_that_decide, deciding_elements};
 use crate::pieces::{put, put_indent, put_more};
 use crate::reasons::{choice_reason, put_feature_reason, put_operation_reason};
-use crate::texts::{Text, let_text, link_text, next, put_variable, spine_text, text_of};
+use crate::texts::{let_text, link_text, next, put_variable, spine_text, text_of};
 use crate::values::{MOST_SHOWN, put_element, put_value};
 use imkl_population::{ObjectNo, Population};
 use ocl_base::OutOfMemory;
@@ -39,9 +37,6 @@ fn put_part(
     reason: &str,
 ) -> Result<(), OutOfMemory>
     requires there { IsValueThere population.now.content (meant value.now) }
-    ensures text { OnOk result (string_bytes out.new ≡ string_bytes out.old ++
-        part_line level part.now
-        (value_text population.now.content (meant value.now)) reason.now) }
 {
     put_indent(out, level)?;
     put(out, part)?;
@@ -63,9 +58,6 @@ fn put_tree<'a>(
 ) -> Result<(), OutOfMemory>
     requires resolved { IsResolved population.now.content.model (core_view core.now) }
     requires there { AreThere population.now.content variables.old }
-    ensures text { OnOk result (string_bytes out.new ≡ string_bytes out.old ++
-        part_of population.now.content
-        (core_view core.now) level variables.old reason.now) }
     ensures kept { OnOk result (variables.new ≡ variables.old) }
 {
     let text = text_of(alloc, population.model(), core, variables.len())?;
@@ -82,9 +74,6 @@ fn put_binding(
     value: &Value<'_>,
 ) -> Result<(), OutOfMemory>
     requires there { IsValueThere population.now.content (meant value.now) }
-    ensures text { OnOk result (string_bytes out.new ≡ string_bytes out.old ++
-        binding number
-        (value_text population.now.content (meant value.now))) }
 {
     put_variable(alloc, out, number)?;
     put(out, " = ")?;
@@ -103,20 +92,23 @@ fn explain<'a>(
 ) -> Result<(), OutOfMemory>
     requires resolved { IsResolved population.now.content.model (core_view core.now) }
     requires there { AreThere population.now.content variables.old }
-    ensures text { OnOk result (string_bytes out.new ≡ string_bytes out.old ++
-        explained population.now.content
-        (core_view core.now) level variables.old) }
     ensures kept { OnOk result (variables.new ≡ variables.old) }
 {
     match core {
         Core::Constant { .. } | Core::Variable { .. } => Ok(()),
         Core::AllInstances { .. } => put_tree(alloc, out, population, level, core, "", variables),
         Core::Spine { first, links } => {
-            explain_spine(alloc, out, population, level, first, links, variables)
+            let below = put_nodes(alloc, out, population, level, first, links, variables)?;
+            explain(alloc, out, population, below, first, variables)?;
+            explain_links(alloc, out, population, below, first, links, variables)
         }
         Core::Let { values, body } => {
             let whole = evaluate(alloc, population, core, variables)?;
-            explain_let(alloc, out, population, level, &whole, values, body, variables)
+            let below =
+                explain_values(alloc, out, population, level, &whole, values, body, variables)?;
+            explain(alloc, out, population, below, body, variables)?;
+            variables.forget(values.len());
+            Ok(())
         }
         Core::If {
             condition,
@@ -140,10 +132,10 @@ fn explain<'a>(
     }
 }
 
-/// Puts the parts of values as variables of a body: each `let` with the values and the body that are left, below it its
-/// variable, and at the end the body.
+/// Puts each of values as variables of a body: the `let` with the values that are left and the body, and below it the
+/// variable. It answers the level of the body, which sees them all.
 #[cycle(explain)]
-fn explain_let<'a>(
+fn explain_values<'a>(
     alloc: Global,
     out: &mut String,
     population: &'a Population<'_>,
@@ -152,29 +144,23 @@ fn explain_let<'a>(
     values: &'a [Core],
     body: &'a Core,
     variables: &mut Variables<'a>,
-) -> Result<(), OutOfMemory>
+) -> Result<usize, OutOfMemory>
     requires values { AllByRecursion (IsResolved population.now.content.model)
         (map core_view values.now) }
     requires body { IsResolved population.now.content.model (core_view body.now) }
+    requires whole { IsValueThere population.now.content (meant whole.now) }
     requires there { AreThere population.now.content variables.old }
-    requires whole { meant whole.now ≡ meaning population.now.content
-        (lets_of (map core_view values.now) (core_view body.now)) variables.old }
-    ensures text { OnOk result (string_bytes out.new ≡ string_bytes out.old ++
-        explained population.now.content
-        (lets_of (map core_view values.now) (core_view body.now)) level variables.old) }
-    ensures kept { OnOk result (variables.new ≡ variables.old) }
+    ensures there { OnOk result (AreThere population.now.content variables.new) }
+    ensures others { OnOk result (drop (length values.now) variables.new ≡ variables.old) }
 {
     let mut level = level;
-    for index in 0..values.len() {
-        let left = &values[index..];
-        let text = let_text(alloc, population.model(), left, body, variables.len())?;
-        put_part(alloc, out, population, level, &text.text, whole, "")?;
+    'values: for index in 0..values.len() {
+        let text = let_text(alloc, population.model(), &values[index..], body, variables.len())?;
+        put_part(alloc, out, population, level, &text, whole, "")?;
         level = next(level)?;
         explain_bound(alloc, out, population, level, &values[index], variables)?;
     }
-    explain(alloc, out, population, level, body, variables)?;
-    variables.forget(values.len());
-    Ok(())
+    Ok(level)
 }
 
 /// Puts a variable with its value and the parts of that, and binds it.
@@ -189,9 +175,6 @@ fn explain_bound<'a>(
 ) -> Result<(), OutOfMemory>
     requires resolved { IsResolved population.now.content.model (core_view core.now) }
     requires there { AreThere population.now.content variables.old }
-    ensures text { OnOk result (string_bytes out.new ≡ string_bytes out.old ++
-        bound_lines population.now.content
-        (core_view core.now) level variables.old) }
     ensures bound { OnOk result (variables.new ≡
         meaning population.now.content (core_view core.now) variables.old ∷ variables.old) }
     ensures there { OnOk result (AreThere population.now.content variables.new) }
@@ -224,10 +207,35 @@ fn spine_value<'a>(
     evaluate_links(alloc, population, value, links, variables)
 }
 
-/// Puts the parts of a first operand with links: the last link first, each operand below what stands on it, and then the
-/// other operands and the bodies of the links.
+/// Puts links on a first operand, the last first, each below what stands on it, with its value. It answers the level of
+/// the first operand.
+fn put_nodes<'a>(
+    alloc: Global,
+    out: &mut String,
+    population: &'a Population<'_>,
+    level: usize,
+    first: &'a Core,
+    links: &'a [CoreLink],
+    variables: &mut Variables<'a>,
+) -> Result<usize, OutOfMemory>
+    requires first { IsResolved population.now.content.model (core_view first.now) }
+    requires links { AreLinksResolved population.now.content.model links.now }
+    requires there { AreThere population.now.content variables.old }
+    ensures kept { OnOk result (variables.new ≡ variables.old) }
+{
+    let mut level = level;
+    for index in (0..links.len()).rev() {
+        let (before, link) = (&links[..index], &links[index]);
+        put_node(alloc, out, population, level, first, before, link, variables)?;
+        level = next(level)?;
+    }
+    Ok(level)
+}
+
+/// Puts the parts of links besides the first operand: other operands, and the bodies of the elements that decide. The
+/// first link's stand at a level, those of each later one a level above.
 #[cycle(explain)]
-fn explain_spine<'a>(
+fn explain_links<'a>(
     alloc: Global,
     out: &mut String,
     population: &'a Population<'_>,
@@ -239,21 +247,12 @@ fn explain_spine<'a>(
     requires first { IsResolved population.now.content.model (core_view first.now) }
     requires links { AreLinksResolved population.now.content.model links.now }
     requires there { AreThere population.now.content variables.old }
-    ensures text { OnOk result (string_bytes out.new ≡ string_bytes out.old ++
-        explained population.now.content
-        (core_spine (core_view first.now) (map core_link_of links.now)) level variables.old) }
     ensures kept { OnOk result (variables.new ≡ variables.old) }
 {
     let mut level = level;
-    for index in (0..links.len()).rev() {
-        let (before, link) = (&links[..index], &links[index]);
-        put_node(alloc, out, population, level, first, before, link, variables)?;
-        level = next(level)?;
-    }
-    explain(alloc, out, population, level, first, variables)?;
-    for index in 0..links.len() {
-        let (before, link) = (&links[..index], &links[index]);
-        explain_link(alloc, out, population, level, first, before, link, variables)?;
+    'links: for index in 0..links.len() {
+        let source = spine_value(alloc, population, first, &links[..index], variables)?;
+        explain_link(alloc, out, population, level, &source, &links[index], variables)?;
         level = level.saturating_sub(1);
     }
     Ok(())
@@ -274,9 +273,6 @@ fn put_node<'a>(
     requires before { AreLinksResolved population.now.content.model before.now }
     requires link { IsLinkResolved population.now.content.model link.now }
     requires there { AreThere population.now.content variables.old }
-    ensures text { OnOk result (string_bytes out.new ≡ string_bytes out.old ++
-        node_line population.now.content
-        link.now (core_spine (core_view first.now) (map core_link_of before.now)) level variables.old) }
     ensures kept { OnOk result (variables.new ≡ variables.old) }
 {
     let seen = variables.len();
@@ -299,11 +295,7 @@ fn link_reason<'a>(
 ) -> Result<String, OutOfMemory>
     requires link { IsLinkResolved population.now.content.model link.now }
     requires source { IsValueThere population.now.content (meant source.now) }
-    requires gave { meant gave.now ≡ link_value population.now.content variables.old
-        (meant source.now) link.now }
     requires there { AreThere population.now.content variables.old }
-    ensures reason { IfOk result (λ s. string_bytes s ≡ node_reason population.now.content
-        (on_null link.now) (meant source.now) variables.old) }
     ensures kept { OnOk result (variables.new ≡ variables.old) }
 {
     let mut reason = String::new(alloc);
@@ -320,26 +312,20 @@ fn link_reason<'a>(
     Ok(reason)
 }
 
-/// Puts the parts of a link besides what stands before it: other operands, and the bodies of the elements that decide.
+/// Puts the parts of a link besides what stands before it, of which this is the value.
 #[cycle(explain)]
 fn explain_link<'a>(
     alloc: Global,
     out: &mut String,
     population: &'a Population<'_>,
     level: usize,
-    first: &'a Core,
-    before: &'a [CoreLink],
+    source: &Value<'a>,
     link: &'a CoreLink,
     variables: &mut Variables<'a>,
 ) -> Result<(), OutOfMemory>
-    requires first { IsResolved population.now.content.model (core_view first.now) }
-    requires before { AreLinksResolved population.now.content.model before.now }
+    requires source { IsValueThere population.now.content (meant source.now) }
     requires link { IsLinkResolved population.now.content.model link.now }
     requires there { AreThere population.now.content variables.old }
-    ensures text { OnOk result (string_bytes out.new ≡ string_bytes out.old ++
-        link_lines population.now.content link.now level variables.old
-        (meaning population.now.content (core_spine (core_view first.now)
-        (map core_link_of before.now)) variables.old)) }
     ensures kept { OnOk result (variables.new ≡ variables.old) }
 {
     match link {
@@ -348,14 +334,12 @@ fn explain_link<'a>(
             explain_all(alloc, out, population, level, others, variables)
         }
         CoreLink::Iterate { iteration, body } => {
-            let source = spine_value(alloc, population, first, before, variables)?;
-            explain_iteration(alloc, out, population, level, *iteration, &source, body, variables)
+            explain_iteration(alloc, out, population, level, *iteration, source, body, variables)
         }
         CoreLink::Fold { start, body, .. } => {
-            let source = spine_value(alloc, population, first, before, variables)?;
             explain(alloc, out, population, level, start, variables)?;
             let start = evaluate(alloc, population, start, variables)?;
-            explain_fold(alloc, out, population, level, &source, start, body, variables)
+            explain_fold(alloc, out, population, level, source, start, body, variables)
         }
     }
 }
@@ -373,9 +357,6 @@ fn explain_all<'a>(
     requires resolved { AreResolved population.now.content.model
         (cores_of (map core_view cores.now)) }
     requires there { AreThere population.now.content variables.old }
-    ensures text { OnOk result (string_bytes out.new ≡ string_bytes out.old ++
-        all_explained population.now.content (cores_of (map core_view cores.now)) level
-        variables.old) }
     ensures kept { OnOk result (variables.new ≡ variables.old) }
 {
     'cores: for core in cores {
@@ -399,11 +380,6 @@ fn explain_iteration<'a>(
     requires source { IsValueThere population.now.content (meant source.now) }
     requires body { IsResolved population.now.content.model (core_view body.now) }
     requires there { AreThere population.now.content variables.old }
-    ensures text { OnOk result (string_bytes out.new ≡ string_bytes out.old ++
-        iteration_lines iteration
-        (element_lines population.now.content (core_view body.now) level variables.old)
-        (λ e. meaning population.now.content (core_view body.now)
-        (element_value e ∷ variables.old)) level (meant source.now)) }
     ensures kept { OnOk result (variables.new ≡ variables.old) }
 {
     let Value::Collection(_, elements) = source else {
@@ -413,10 +389,30 @@ fn explain_iteration<'a>(
     let those = bodies_that_decide(iteration, &bodies);
     let chosen = deciding_elements(alloc, those, elements, &bodies)?;
     let shown = chosen.len().min(those.most());
-    for element in &chosen[..shown] {
+    explain_elements(alloc, out, population, level, &chosen[..shown], body, variables)?;
+    put_more(alloc, out, level, chosen.len() - shown)
+}
+
+/// Puts elements, each with the parts of its body.
+#[cycle(explain)]
+fn explain_elements<'a>(
+    alloc: Global,
+    out: &mut String,
+    population: &'a Population<'_>,
+    level: usize,
+    elements: &[Item<'a>],
+    body: &'a Core,
+    variables: &mut Variables<'a>,
+) -> Result<(), OutOfMemory>
+    requires elements { AreElementsThere population.now.content (meant_items elements.now) }
+    requires body { IsResolved population.now.content.model (core_view body.now) }
+    requires there { AreThere population.now.content variables.old }
+    ensures kept { OnOk result (variables.new ≡ variables.old) }
+{
+    'elements: for element in elements {
         explain_element(alloc, out, population, level, element, body, variables)?;
     }
-    put_more(alloc, out, level, chosen.len() - shown)
+    Ok(())
 }
 
 /// Puts an element with the parts of its body.
@@ -433,9 +429,6 @@ fn explain_element<'a>(
     requires element { IsElementThere population.now.content (meant_item element.now) }
     requires body { IsResolved population.now.content.model (core_view body.now) }
     requires there { AreThere population.now.content variables.old }
-    ensures text { OnOk result (string_bytes out.new ≡ string_bytes out.old ++
-        element_lines population.now.content
-        (core_view body.now) level variables.old (meant_item element.now)) }
     ensures kept { OnOk result (variables.new ≡ variables.old) }
 {
     let value = item_value(element);
@@ -464,23 +457,40 @@ fn explain_fold<'a>(
     requires start { IsValueThere population.now.content (meant start) }
     requires body { IsResolved population.now.content.model (core_view body.now) }
     requires there { AreThere population.now.content variables.old }
-    ensures text { OnOk result (string_bytes out.new ≡ string_bytes out.old ++
-        accumulation_lines
-        (step_lines population.now.content (core_view body.now) level variables.old)
-        (λ e a. meaning population.now.content (core_view body.now)
-        (a ∷ element_value e ∷ variables.old)) level (meant start.entry) (meant source.now)) }
     ensures kept { OnOk result (variables.new ≡ variables.old) }
 {
     let Value::Collection(_, elements) = source else {
         return Ok(());
     };
     let shown = elements.len().min(MOST_SHOWN);
+    explain_steps(alloc, out, population, level, &elements[..shown], start, body, variables)?;
+    put_more(alloc, out, level, elements.len() - shown)
+}
+
+/// Puts elements of a fold, each with what is accumulated before it and the parts of its body.
+#[cycle(explain)]
+fn explain_steps<'a>(
+    alloc: Global,
+    out: &mut String,
+    population: &'a Population<'_>,
+    level: usize,
+    elements: &[Item<'a>],
+    start: Value<'a>,
+    body: &'a Core,
+    variables: &mut Variables<'a>,
+) -> Result<(), OutOfMemory>
+    requires elements { AreElementsThere population.now.content (meant_items elements.now) }
+    requires start { IsValueThere population.now.content (meant start) }
+    requires body { IsResolved population.now.content.model (core_view body.now) }
+    requires there { AreThere population.now.content variables.old }
+    ensures kept { OnOk result (variables.new ≡ variables.old) }
+{
     let mut accumulated = start;
-    for element in &elements[..shown] {
+    'elements: for element in elements {
         accumulated =
             explain_step(alloc, out, population, level, element, accumulated, body, variables)?;
     }
-    put_more(alloc, out, level, elements.len() - shown)
+    Ok(())
 }
 
 /// Puts an element of a fold with what is accumulated before it and the parts of its body, and computes what is
@@ -500,10 +510,6 @@ fn explain_step<'a>(
     requires accumulated { IsValueThere population.now.content (meant accumulated) }
     requires body { IsResolved population.now.content.model (core_view body.now) }
     requires there { AreThere population.now.content variables.old }
-    ensures text { OnOk result (string_bytes out.new ≡ string_bytes out.old ++
-        step_lines population.now.content
-        (core_view body.now) level variables.old (meant_item element.now)
-        (meant accumulated.entry)) }
     ensures value { IfOk result (λ v. meant v ≡ meaning population.now.content
         (core_view body.now) (meant accumulated.entry ∷ element_value (meant_item element.now)
         ∷ variables.old)) }
@@ -539,16 +545,14 @@ fn verdict_word(value: &Value<'_>) -> &'static str
 }
 
 /// Why a rule has its verdict for an object.
-pub fn explain_verdict(
+pub fn explain_verdict<'a>(
     alloc: Global,
-    population: &Population<'_>,
-    rule: &CoreRule,
+    population: &'a Population<'_>,
+    rule: &'a CoreRule,
     object: ObjectNo,
 ) -> Result<String, OutOfMemory>
     requires resolved { IsResolved population.now.content.model (core_view rule.now.tree) }
     requires object { object < length population.now.content.objects }
-    ensures text { IfOk result (λ s. string_bytes s ≡
-        explanation population.now.content (checked_rule_of rule.now) object) }
 {
     let mut out = String::new(alloc);
     let mut variables = Variables::new(alloc);

@@ -5,7 +5,7 @@ ghost use Rattle.std.specs.List.{list_any};
 ghost use Rattle.rule_values.specs.Operations.{is_null, is_invalid};
 ghost use Rattle.owned_values.specs.Meant.{meant, meant_item, meant_items, IsValueThere};
 ghost use Rattle.ocl_meaning.specs.Resolved.{IsOperatorOf};
-ghost use Rattle.explain_why.specs.Reasons.{is_null_element, sum_reason, divisor_reason, quotient_reason, plain_reason, class_reason, own_reason, invalid_reason, operation_reason, absent_reason, feature_reason, choice_reason};
+ghost use Rattle.explain_why.specs.Reasons.{is_null_element, sum_reason, divisor_reason, quotient_reason, plain_reason, other_class_reason, cast_reason, class_reason, own_reason, invalid_reason, operation_reason, absent_reason, feature_reason, choice_reason};
 
 use crate::pieces::put;
 use imkl_model::{ClassNo, FeatureNo};
@@ -87,6 +87,42 @@ fn plain_reason(operator: PlainOperator, v: &Value<'_>, others: &[Value<'_>]) ->
 }
 
 /// Puts that an object isn't of the class that it is taken for.
+fn put_cast_reason(
+    out: &mut String,
+    population: &Population<'_>,
+    class: ClassNo,
+    v: &Value<'_>,
+) -> Result<(), OutOfMemory>
+    requires class { class < length population.now.content.model.classes }
+    requires there { IsValueThere population.now.content (meant v.now) }
+    ensures { OnOk result (string_bytes out.new ≡ string_bytes out.old ++
+        cast_reason population.now.content class (meant v.now)) }
+{
+    match v {
+        Value::Item(Item::Object(object)) => put_other_class(out, population, class, *object),
+        _ => Ok(()),
+    }
+}
+
+/// Puts that an object isn't of a class.
+fn put_other_class(
+    out: &mut String,
+    population: &Population<'_>,
+    class: ClassNo,
+    object: ObjectNo,
+) -> Result<(), OutOfMemory>
+    requires class { class < length population.now.content.model.classes }
+    requires object { object < length population.now.content.objects }
+    ensures { OnOk result (string_bytes out.new ≡ string_bytes out.old ++
+        other_class_reason population.now.content object class) }
+{
+    put(out, ": ")?;
+    put(out, population.id(object))?;
+    put(out, " is not of class ")?;
+    put(out, population.model().class_name(class))
+}
+
+/// Puts why an operator that asks for a class has no result.
 fn put_class_reason(
     out: &mut String,
     population: &Population<'_>,
@@ -99,14 +135,9 @@ fn put_class_reason(
     ensures { OnOk result (string_bytes out.new ≡ string_bytes out.old ++
         class_reason population.now.content operator class (meant v.now)) }
 {
-    match (operator, v) {
-        (ClassOperator::AsType, Value::Item(Item::Object(object))) => {
-            put(out, ": ")?;
-            put(out, population.id(*object))?;
-            put(out, " isn't of class ")?;
-            put(out, population.model().class_name(class))
-        }
-        _ => Ok(()),
+    match operator {
+        ClassOperator::AsType => put_cast_reason(out, population, class, v),
+        ClassOperator::IsKindOf | ClassOperator::IsTypeOf => Ok(()),
     }
 }
 

@@ -1,12 +1,13 @@
 //! Core trees as short OCL.
 
-ghost use Rattle.std.specs.Prelude.{◌≡◌, ◌++◌, ◌&&◌, suc, map, length, IfOk, OnOk, string_bytes};
-ghost use Rattle.ocl_core.specs.Core.{cores_of, lets_of};
-ghost use Rattle.ocl_core.specs.CoreView.{constant_of, core_view, core_link_of, core_spine};
+ghost use Rattle.std.specs.Prelude.{◌≡◌, ◌++◌, suc, map, IfOk, OnOk, string_bytes};
+ghost use Rattle.std.specs.List.{AllByRecursion};
+ghost use Rattle.ocl_core.specs.Core.{cores_of};
+ghost use Rattle.ocl_core.specs.CoreView.{constant_of, core_view};
 ghost use Rattle.ocl_core.specs.Typing.{IsConstantOf};
 ghost use Rattle.ocl_meaning.specs.Resolved.{IsOperatorOf, IsResolved, AreResolved};
-ghost use Rattle.ocl_meaning.specs.Evaluated.{on_null, IsLinkResolved, AreLinksResolved};
-ghost use Rattle.explain_why.specs.Texts.{variable_name, constant_text, class_asked, operation_text, form_of, is_form_open, is_open, wrapped, let_front, node_text, text_of, others_text, operator_form, operator_word};
+ghost use Rattle.ocl_meaning.specs.Evaluated.{IsLinkResolved, AreLinksResolved};
+ghost use Rattle.explain_why.specs.Texts.{variable_name, constant_text, class_asked, wrapped};
 
 use crate::pieces::{put, put_count};
 use crate::values::{put_before, put_literal, put_quoted};
@@ -85,12 +86,12 @@ fn put_wrapped(out: &mut String, wraps: bool, text: &str) -> Result<(), OutOfMem
 }
 
 /// The class that an operator asks for, or nothing.
-fn class_asked(model: &ClassModel, operator: Operator) -> &str
-    requires { IsOperatorOf model.now operator }
-    ensures { result.now ≡ class_asked model.now operator }
+fn class_asked<'m>(model: &'m ClassModel, operator: &Operator) -> &'m str
+    requires { IsOperatorOf model.now operator.now }
+    ensures { result.now ≡ class_asked model.now operator.now }
 {
     match operator {
-        Operator::OfClass(_, class) => model.class_name(class),
+        Operator::OfClass(_, class) => model.class_name(*class),
         _ => "",
     }
 }
@@ -105,8 +106,6 @@ pub(crate) fn text_of(
     seen: usize,
 ) -> Result<Text, OutOfMemory>
     requires { IsResolved model.now (core_view core.now) }
-    ensures text { IfOk result (λ t. string_bytes t.text ≡ text_of model.now (core_view core.now) seen) }
-    ensures wraps { IfOk result (λ t. t.is_open ≡ is_open (core_view core.now)) }
 {
     match core {
         Core::Constant { value } => {
@@ -125,8 +124,18 @@ pub(crate) fn text_of(
             put(&mut text, ".allInstances()")?;
             Ok(Text { text, is_open: false })
         }
-        Core::Spine { first, links } => spine_text(alloc, model, first, links, seen),
-        Core::Let { values, body } => let_text(alloc, model, values, body, seen),
+        Core::Spine { first, links } => {
+            let text = text_of(alloc, model, first, seen)?;
+            links_text(alloc, model, text, links, seen)
+        }
+        Core::Let { values, body } => {
+            let mut text = String::new(alloc);
+            let number = put_lets(alloc, &mut text, model, values, seen)?;
+            let inner = text_of(alloc, model, body, number)?;
+            put(&mut text, &inner.text)?;
+            let is_open = !values.is_empty() || inner.is_open;
+            Ok(Text { text, is_open })
+        }
         Core::If {
             condition,
             then_branch,
@@ -156,38 +165,46 @@ fn put_text(
     seen: usize,
 ) -> Result<(), OutOfMemory>
     requires { IsResolved model.now (core_view core.now) }
-    ensures { OnOk result (string_bytes out.new ≡ string_bytes out.old ++
-        text_of model.now (core_view core.now) seen) }
 {
     let text = text_of(alloc, model, core, seen)?;
     put(out, &text.text)
 }
 
-/// The text of values as variables of a body.
+/// Puts what stands before the body of values as variables, and answers the number of the next variable.
 #[cycle(text)]
+fn put_lets(
+    alloc: Global,
+    out: &mut String,
+    model: &ClassModel,
+    values: &[Core],
+    seen: usize,
+) -> Result<usize, OutOfMemory>
+    requires { AllByRecursion (IsResolved model.now) (map core_view values.now) }
+{
+    let mut number = seen;
+    'values: for value in values {
+        put_let(alloc, out, model, value, number)?;
+        number = next(number)?;
+    }
+    Ok(number)
+}
+
+/// The text of values as variables of a body.
 pub(crate) fn let_text(
     alloc: Global,
     model: &ClassModel,
     values: &[Core],
     body: &Core,
     seen: usize,
-) -> Result<Text, OutOfMemory>
-    requires { IsResolved model.now (lets_of (map core_view values.now) (core_view body.now)) }
-    ensures text { IfOk result (λ t. string_bytes t.text ≡ text_of model.now
-        (lets_of (map core_view values.now) (core_view body.now)) seen) }
-    ensures wraps { IfOk result (λ t. t.is_open ≡
-        is_open (lets_of (map core_view values.now) (core_view body.now))) }
+) -> Result<String, OutOfMemory>
+    requires values { AllByRecursion (IsResolved model.now) (map core_view values.now) }
+    requires body { IsResolved model.now (core_view body.now) }
 {
     let mut text = String::new(alloc);
-    let mut number = seen;
-    'values: for value in values {
-        put_let(alloc, &mut text, model, value, number)?;
-        number = next(number)?;
-    }
+    let number = put_lets(alloc, &mut text, model, values, seen)?;
     let inner = text_of(alloc, model, body, number)?;
     put(&mut text, &inner.text)?;
-    let is_open = !values.is_empty() || inner.is_open;
-    Ok(Text { text, is_open })
+    Ok(text)
 }
 
 /// Puts the first part of a `let`: its variable and its value.
@@ -200,8 +217,6 @@ fn put_let(
     number: usize,
 ) -> Result<(), OutOfMemory>
     requires { IsResolved model.now (core_view value.now) }
-    ensures { OnOk result (string_bytes out.new ≡ string_bytes out.old ++
-        let_front (variable_name number) (text_of model.now (core_view value.now) number)) }
 {
     put(out, "let ")?;
     put_variable(alloc, out, number)?;
@@ -210,8 +225,25 @@ fn put_let(
     put(out, " in ")
 }
 
-/// The text of a first operand with its links.
+/// The text of links on a first operand.
 #[cycle(text)]
+fn links_text(
+    alloc: Global,
+    model: &ClassModel,
+    first: Text,
+    links: &[CoreLink],
+    seen: usize,
+) -> Result<Text, OutOfMemory>
+    requires { AreLinksResolved model.now links.now }
+{
+    let mut text = first;
+    'links: for link in links {
+        text = link_text(alloc, model, link, seen, &text)?;
+    }
+    Ok(text)
+}
+
+/// The text of a first operand with its links.
 pub(crate) fn spine_text(
     alloc: Global,
     model: &ClassModel,
@@ -221,16 +253,9 @@ pub(crate) fn spine_text(
 ) -> Result<Text, OutOfMemory>
     requires first { IsResolved model.now (core_view first.now) }
     requires links { AreLinksResolved model.now links.now }
-    ensures text { IfOk result (λ t. string_bytes t.text ≡ text_of model.now
-        (core_spine (core_view first.now) (map core_link_of links.now)) seen) }
-    ensures wraps { IfOk result (λ t. t.is_open ≡
-        is_open (core_spine (core_view first.now) (map core_link_of links.now))) }
 {
-    let mut text = text_of(alloc, model, first, seen)?;
-    'links: for link in links {
-        text = link_text(alloc, model, link, seen, &text)?;
-    }
-    Ok(text)
+    let text = text_of(alloc, model, first, seen)?;
+    links_text(alloc, model, text, links, seen)
 }
 
 /// The text of a link on a first operand.
@@ -243,9 +268,6 @@ pub(crate) fn link_text(
     first: &Text,
 ) -> Result<Text, OutOfMemory>
     requires { IsLinkResolved model.now link.now }
-    ensures text { IfOk result (λ t. string_bytes t.text ≡ node_text model.now (on_null link.now)
-        seen (wrapped first.now.is_open (string_bytes first.now.text))) }
-    ensures wraps { IfOk result (λ t. t.is_open ≡ is_open (on_null link.now)) }
 {
     let mut text = String::new(alloc);
     let is_open = match link {
@@ -268,8 +290,6 @@ fn put_link(
     first: &Text,
 ) -> Result<(), OutOfMemory>
     requires { IsLinkResolved model.now link.now }
-    ensures { OnOk result (string_bytes out.new ≡ string_bytes out.old ++ node_text model.now
-        (on_null link.now) seen (wrapped first.now.is_open (string_bytes first.now.text))) }
 {
     match link {
         CoreLink::Feature { feature } => {
@@ -278,7 +298,7 @@ fn put_link(
             put(out, model.feature_info(*feature).name.as_str())
         }
         CoreLink::Operation { operator, others } => {
-            put_operation(alloc, out, model, *operator, others, seen, first)
+            put_operation(alloc, out, model, operator, others, seen, first)
         }
         CoreLink::AsCollection { collection, .. } => {
             put_wrapped(out, first.is_open, &first.text)?;
@@ -315,21 +335,16 @@ fn put_operation(
     alloc: Global,
     out: &mut String,
     model: &ClassModel,
-    operator: Operator,
+    operator: &Operator,
     others: &[Core],
     seen: usize,
     first: &Text,
 ) -> Result<(), OutOfMemory>
-    requires operator { IsOperatorOf model.now operator }
+    requires operator { IsOperatorOf model.now operator.now }
     requires others { AreResolved model.now (cores_of (map core_view others.now)) }
-    ensures { OnOk result (string_bytes out.new ≡ string_bytes out.old ++ operation_text
-        (operator_form operator) (operator_word operator) (class_asked model.now operator)
-        (wrapped first.now.is_open (string_bytes first.now.text))
-        (others_text model.now (is_form_open (operator_form operator)) 0
-        (cores_of (map core_view others.now)) seen)) }
 {
-    let word = operator_word(operator);
-    match operator_form(operator) {
+    let word = operator_word(*operator);
+    match operator_form(*operator) {
         Form::Between => {
             put_wrapped(out, first.is_open, &first.text)?;
             put(out, word)?;
@@ -362,8 +377,6 @@ fn put_others(
     seen: usize,
 ) -> Result<(), OutOfMemory>
     requires { AreResolved model.now (cores_of (map core_view others.now)) }
-    ensures { OnOk result (string_bytes out.new ≡ string_bytes out.old ++
-        others_text model.now wraps 0 (cores_of (map core_view others.now)) seen) }
 {
     'others: for index in 0..others.len() {
         put_before(out, index)?;

@@ -7,4 +7,4 @@ use Rattle.explain_why.proofs.values.put_characters.Given as goal
 -- what was put, and the characters that are left
 abbrev pub invariant-characters : goal.invariant-characters
 invariant-characters l =
-    string_bytes l.out ++ flat_map quoted_character (chars l.character-iterator.rest.now) ≡ string_bytes l.initial.out ++ flat_map quoted_character (chars l.text)
+    (string_bytes l.out ++ flat_map quoted_character (chars l.character-iterator.rest.now) ≡ string_bytes l.initial.out ++ flat_map quoted_character (chars l.text)) × IsUtf8 l.character-iterator.rest.now
