@@ -1,1 +1,1 @@
-pub mod Characters
+pub mod Left

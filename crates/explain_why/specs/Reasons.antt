@@ -43,7 +43,7 @@ plain_reason operator v ws = codes ": out of range"
 module _ (p : Population) where
   -- an object that isn't of the class that it is taken for
   abbrev pub other_class_reason : ℕ → ℕ → List ℕ
-  other_class_reason o c = codes ": " ++ ((object_at p o).id ++ (codes " is not of class " ++ (class_at p.model c).name))
+  other_class_reason o c = codes ": " ++ ((object_at p o).id ++ (codes " is no " ++ (class_at p.model c).name))
 
   abbrev pub cast_reason : ℕ → Value → List ℕ
   cast_reason c (Single (scalar.Object o)) = other_class_reason o c

@@ -100,7 +100,8 @@ fn explain<'a>(
         Core::Spine { first, links } => {
             let below = put_nodes(alloc, out, population, level, first, links, variables)?;
             explain(alloc, out, population, below, first, variables)?;
-            explain_links(alloc, out, population, below, first, links, variables)
+            let value = evaluate(alloc, population, first, variables)?;
+            explain_links(alloc, out, population, below, value, links, variables)
         }
         Core::Let { values, body } => {
             let whole = evaluate(alloc, population, core, variables)?;
@@ -232,27 +233,28 @@ fn put_nodes<'a>(
     Ok(level)
 }
 
-/// Puts the parts of links besides the first operand: other operands, and the bodies of the elements that decide. The
-/// first link's stand at a level, those of each later one a level above.
+/// Puts the parts of links on an operand of this value besides that operand: other operands, and the bodies of the elements
+/// that decide. The first link's stand at a level, those of each later one a level above.
 #[cycle(explain)]
 fn explain_links<'a>(
     alloc: Global,
     out: &mut String,
     population: &'a Population<'_>,
     level: usize,
-    first: &'a Core,
+    first: Value<'a>,
     links: &'a [CoreLink],
     variables: &mut Variables<'a>,
 ) -> Result<(), OutOfMemory>
-    requires first { IsResolved population.now.content.model (core_view first.now) }
+    requires first { IsValueThere population.now.content (meant first) }
     requires links { AreLinksResolved population.now.content.model links.now }
     requires there { AreThere population.now.content variables.old }
     ensures kept { OnOk result (variables.new ≡ variables.old) }
 {
     let mut level = level;
-    'links: for index in 0..links.len() {
-        let source = spine_value(alloc, population, first, &links[..index], variables)?;
-        explain_link(alloc, out, population, level, &source, &links[index], variables)?;
+    let mut value = first;
+    'links: for link in links {
+        explain_link(alloc, out, population, level, &value, link, variables)?;
+        value = evaluate_link(alloc, population, &value, link, variables)?;
         level = level.saturating_sub(1);
     }
     Ok(())

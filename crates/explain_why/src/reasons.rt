@@ -118,7 +118,7 @@ fn put_other_class(
 {
     put(out, ": ")?;
     put(out, population.id(object))?;
-    put(out, " is not of class ")?;
+    put(out, " is no ")?;
     put(out, population.model().class_name(class))
 }
 

@@ -1,6 +1,9 @@
 //! Why a rule of a text has its verdict for an object.
 
-ghost use Rattle.std.specs.Prelude.{map};
+ghost use Rattle.std.specs.Prelude.{◌<◌, length, map, IfSome};
+ghost use Rattle.std.specs.List.{AllByRecursion};
+ghost use Rattle.ocl_core.specs.CoreView.{checked_rule_of};
+ghost use Rattle.ocl_core.specs.Typing.{IsTypedRule};
 ghost use Rattle.ocl_text.specs.RuleText.{NamesDiffer};
 ghost use Rattle.ocl_text.specs.View.{rule_of};
 
@@ -85,13 +88,11 @@ fn refusal(alloc: Global, asked: WhyAsked<'_>) -> Result<Option<Vec<u8>>, AllocE
     }
 }
 
-/// The rule of a name.
-fn rule_named<'r>(rules: &'r [CoreRule], name: &str) -> Option<&'r CoreRule> {
-    rules.iter().find(|rule| rule.name.as_str() == name)
-}
-
 /// The object of an id.
-fn object_named(population: &Population<'_>, id: &str) -> Option<ObjectNo> {
+fn object_named(population: &Population<'_>, id: &str) -> Option<ObjectNo>
+    ensures { IfSome result (λ o. o < length population.now.content.objects) }
+{
+    population.consistent();
     for index in 0..population.objects() {
         let object = ObjectNo::new(index);
         if population.id(object) == id {
@@ -144,7 +145,10 @@ fn answer_object(
     population: &Population<'_>,
     rule: &CoreRule,
     object: ObjectNo,
-) -> Result<Why, AllocError> {
+) -> Result<Why, AllocError>
+    requires rule { IsTypedRule population.now.content.model (checked_rule_of rule.now) }
+    requires object { object < length population.now.content.objects }
+{
     let (model, class) = (population.model(), population.class_of(object));
     if model.conforms(class, rule.context) {
         return match explain_verdict(alloc, population, rule, object) {
@@ -156,20 +160,37 @@ fn answer_object(
     Ok(Why::Unknown(not_judged(alloc, asked, context, class)?))
 }
 
+/// What is answered of a rule and a population.
+fn answer_rule(
+    alloc: Global,
+    asked: WhyAsked<'_>,
+    population: &Population<'_>,
+    rule: &CoreRule,
+) -> Result<Why, AllocError>
+    requires { IsTypedRule population.now.content.model (checked_rule_of rule.now) }
+{
+    match object_named(population, asked.id) {
+        Some(object) => answer_object(alloc, asked, population, rule, object),
+        None => Ok(Why::Unknown(unknown_object(alloc, asked)?)),
+    }
+}
+
 /// What is answered of typed rules and a population.
 fn answer_rules(
     alloc: Global,
     asked: WhyAsked<'_>,
     population: &Population<'_>,
     rules: &[CoreRule],
-) -> Result<Why, AllocError> {
-    let Some(rule) = rule_named(rules, asked.rule) else {
-        return Ok(Why::Unknown(unknown_rule(alloc, asked, rules)?));
-    };
-    match object_named(population, asked.id) {
-        Some(object) => answer_object(alloc, asked, population, rule, object),
-        None => Ok(Why::Unknown(unknown_object(alloc, asked)?)),
+) -> Result<Why, AllocError>
+    requires { AllByRecursion (IsTypedRule population.now.content.model)
+        (map checked_rule_of rules.now) }
+{
+    'rules: for rule in rules {
+        if rule.name.as_str() == asked.rule {
+            return answer_rule(alloc, asked, population, rule);
+        }
     }
+    Ok(Why::Unknown(unknown_rule(alloc, asked, rules)?))
 }
 
 /// What is answered of the rules of a text that are read, and a population.

@@ -13,9 +13,11 @@ invariant-explain_values-values l =
     AllByRecursion (IsResolved l.population.content.model) (map core_view (drop l.index l.values))
     × (AreThere l.population.content l.variables × (drop l.index l.variables ≡ l.initial.variables))
 
--- the links that are left
+-- the value so far, and the links that are left
 abbrev pub invariant-explain_links-links : goal.invariant-explain_links-links
-invariant-explain_links-links l = AreLinksResolved l.population.content.model (drop l.index l.links) × (l.variables ≡ l.initial.variables)
+invariant-explain_links-links l =
+    IsValueThere l.population.content (meant l.value)
+    × (AreLinksResolved l.population.content.model (drop l.link-index l.links) × (l.variables ≡ l.initial.variables))
 
 -- the trees that are left
 abbrev pub invariant-explain_all-cores : goal.invariant-explain_all-cores

@@ -1,5 +1,5 @@
 use Rattle.explain_why.specs.Values.{quoted_character}
-use Rattle.explain_why.proofs.Characters.{character_put, all_put}
+use Rattle.explain_why.proofs.Left.{character_put, all_put}
 use Rattle.explain_why.proofs.values.put_characters.Goals as goal
 
 pub characters-preserved : goal.characters-preserved
