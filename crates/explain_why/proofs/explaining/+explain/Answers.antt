@@ -26,7 +26,10 @@ explain-explain-requires t c =
 pub explain-evaluate-requires : goal.explain-evaluate-requires
 explain-evaluate-requires t c =
     let p = spine_names c.args.core.now c.in-Spine.first c.in-Spine.links c.in-Spine.is c.args.population.now.content.model c.requires.resolved in
-    rw (c.deref-in-Spine-3.ensures, c.in_ok-explain-in-Spine.ensures.kept, c.in_ok-below-in-Spine.ensures.kept) (p.0, c.requires.there)
+    record {
+      resolved = rw c.deref-in-Spine-3.ensures p.0;
+      there = rw (c.in_ok-explain-in-Spine.ensures.kept, c.in_ok-below-in-Spine.ensures.kept) c.requires.there;
+    }
 
 pub explain-explain_links-requires : goal.explain-explain_links-requires
 explain-explain_links-requires t c =
