@@ -1,15 +1,12 @@
 -- What is left: characters of a text, the first elements of a list, and links.
-use Rattle.std.proofs.Common.{◌≡◌, ℕ, zero, suc, ◌+◌, ◌<◌, get_or, drop, List, [], ◌∷◌, ◌++◌, length, map, take, Option, Some, None, refl, sym, ap, ◌∙◌, subst, append_assoc}
-use Rattle.imkl_model.specs.ClassModel.{Model}
+use Rattle.std.proofs.Common.{◌≡◌, ℕ, zero, suc, List, [], ◌∷◌, ◌++◌, length, take, sym, ap, ◌∙◌, subst, append_assoc}
 use Rattle.imkl_population.specs.Population.{Population}
-use Rattle.ocl_core.specs.declared.core_tree.CoreLink.{CoreLink}
-use Rattle.ocl_meaning.specs.Evaluated.{IsLinkResolved, AreLinksResolved}
 use Rattle.std.specs.Prelude.{encode_utf8}
 use Rattle.std.specs.List.{flat_map}
 use Rattle.std.specs.List.{AllByRecursion}
 use Rattle.std.specs.Str.{chars, IsUtf8}
 use Rattle.std.proofs.lemmas.Str.{chars-nil, chars_past_char, IsUtf8-past_char}
-use Rattle.std.proofs.lemmas.List.{append-nil, nil_from_length, take-map, drop_more}
+use Rattle.std.proofs.lemmas.List.{append-nil, nil_from_length, take-map}
 use Rattle.owned_values.specs.declared.value.Item.{Item}
 use Rattle.owned_values.specs.Meant.{meant_item, meant_items, IsElementThere, AreElementsThere}
 

@@ -1,6 +1,6 @@
 -- Why a value is null or invalid, where that begins: which feature is absent, which operation had no result and why. Nothing
 -- is said where an operand is invalid already.
-use Rattle.std.specs.Prelude.{ℕ, pos, Bool, true, false, List, [], ◌∷◌, ◌++◌, codes, Option, Some, None, if◌then◌else◌}
+use Rattle.std.specs.Prelude.{ℕ, pos, Bool, true, false, List, [], ◌∷◌, ◌++◌, codes, Some, None, if◌then◌else◌}
 use Rattle.std.specs.Ordering.{int_eq}
 use Rattle.std.specs.List.{list_any}
 use Rattle.imkl_model.specs.ClassModel.{class_at, feature_at}
@@ -12,7 +12,7 @@ use Rattle.ocl_core.specs.declared.operator.ClassOperator.{ClassOperator}
 use Rattle.ocl_core.specs.declared.operator.ClassOperator.TheVariants as of_class
 use Rattle.ocl_core.specs.declared.operator.Operator.{Operator}
 use Rattle.ocl_core.specs.declared.operator.Operator.TheVariants.{Plain, OfClass, OfElements, Equal}
-use Rattle.rule_values.specs.Value.{Element, Value, Invalid, Null, Single, Collection}
+use Rattle.rule_values.specs.Value.{Element, Value, Null, Single, Collection}
 use Rattle.rule_values.specs.Operations.{is_null, is_invalid}
 
 abbrev pub is_null_element : Element → Bool

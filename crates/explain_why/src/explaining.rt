@@ -1,16 +1,16 @@
 //! The explanation of a verdict, part by part.
 
-ghost use Rattle.std.specs.Prelude.{◌≡◌, ◌∷◌, ◌<◌, length, map, drop, IfOk, OnOk};
+ghost use Rattle.std.specs.Prelude.{◌≡◌, ℕ, List, [], ◌∷◌, ◌++◌, ◌<◌, length, map, drop, IfOk, OnOk, string_bytes};
 ghost use Rattle.std.specs.List.{AllByRecursion};
 ghost use Rattle.ocl_core.specs.Core.{cores_of};
-ghost use Rattle.ocl_core.specs.CoreView.{core_view, core_link_of, core_spine};
+ghost use Rattle.ocl_core.specs.CoreView.{core_view, core_link_of, core_spine, checked_rule_of};
 ghost use Rattle.ocl_compile.specs.Meaning.{meaning};
 ghost use Rattle.rule_machine.specs.Verdict.{verdict_of};
-ghost use Rattle.rule_values.specs.Value.{element_value};
+ghost use Rattle.rule_values.specs.Value.{element_value, object_value};
 ghost use Rattle.owned_values.specs.Meant.{meant, meant_item, meant_items, IsElementThere, AreElementsThere, IsValueThere};
 ghost use Rattle.ocl_meaning.specs.Resolved.{IsResolved, AreResolved, AreThere};
 ghost use Rattle.ocl_meaning.specs.Evaluated.{IsLinkResolved, AreLinksResolved};
-ghost use Rattle.explain_why.specs.Explanation.{verdict_word};
+ghost use Rattle.explain_why.specs.Explanation.{verdict_word, verdict_line};
 
 use crate::deciding::{bodies_that_decide, deciding_elements};
 use crate::pieces::{put, put_indent, put_more};
@@ -23,7 +23,7 @@ use ocl_core::{Core, CoreLink, CoreRule, Iteration};
 use ocl_meaning::{
     Variables, evaluate, evaluate_all, evaluate_bodies, evaluate_link, evaluate_links,
 };
-use owned_values::{Item, Value, item_value, is_false, is_true};
+use owned_values::{Item, Value, is_false, is_true, item_value};
 use std::alloc::Global;
 
 /// Puts a part with its value, and why that is null or invalid.
@@ -105,8 +105,9 @@ fn explain<'a>(
         }
         Core::Let { values, body } => {
             let whole = evaluate(alloc, population, core, variables)?;
-            let below =
-                explain_values(alloc, out, population, level, &whole, values, body, variables)?;
+            let below = explain_values(
+                alloc, out, population, level, &whole, values, body, variables,
+            )?;
             explain(alloc, out, population, below, body, variables)?;
             variables.forget(values.len());
             Ok(())
@@ -156,7 +157,13 @@ fn explain_values<'a>(
 {
     let mut level = level;
     'values: for index in 0..values.len() {
-        let text = let_text(alloc, population.model(), &values[index..], body, variables.len())?;
+        let text = let_text(
+            alloc,
+            population.model(),
+            &values[index..],
+            body,
+            variables.len(),
+        )?;
         put_part(alloc, out, population, level, &text, whole, "")?;
         level = next(level)?;
         explain_bound(alloc, out, population, level, &values[index], variables)?;
@@ -227,7 +234,9 @@ fn put_nodes<'a>(
     let mut level = level;
     for index in (0..links.len()).rev() {
         let (before, link) = (&links[..index], &links[index]);
-        put_node(alloc, out, population, level, first, before, link, variables)?;
+        put_node(
+            alloc, out, population, level, first, before, link, variables,
+        )?;
         level = next(level)?;
     }
     Ok(level)
@@ -336,12 +345,16 @@ fn explain_link<'a>(
             explain_all(alloc, out, population, level, others, variables)
         }
         CoreLink::Iterate { iteration, body } => {
-            explain_iteration(alloc, out, population, level, *iteration, source, body, variables)
+            explain_iteration(
+                alloc, out, population, level, *iteration, source, body, variables,
+            )
         }
         CoreLink::Fold { start, body, .. } => {
             explain(alloc, out, population, level, start, variables)?;
             let start = evaluate(alloc, population, start, variables)?;
-            explain_fold(alloc, out, population, level, source, start, body, variables)
+            explain_fold(
+                alloc, out, population, level, source, start, body, variables,
+            )
         }
     }
 }
@@ -391,7 +404,15 @@ fn explain_iteration<'a>(
     let those = bodies_that_decide(iteration, &bodies);
     let chosen = deciding_elements(alloc, those, elements, &bodies)?;
     let shown = chosen.len().min(those.most());
-    explain_elements(alloc, out, population, level, &chosen[..shown], body, variables)?;
+    explain_elements(
+        alloc,
+        out,
+        population,
+        level,
+        &chosen[..shown],
+        body,
+        variables,
+    )?;
     put_more(alloc, out, level, chosen.len() - shown)
 }
 
@@ -465,7 +486,16 @@ fn explain_fold<'a>(
         return Ok(());
     };
     let shown = elements.len().min(MOST_SHOWN);
-    explain_steps(alloc, out, population, level, &elements[..shown], start, body, variables)?;
+    explain_steps(
+        alloc,
+        out,
+        population,
+        level,
+        &elements[..shown],
+        start,
+        body,
+        variables,
+    )?;
     put_more(alloc, out, level, elements.len() - shown)
 }
 
@@ -489,8 +519,16 @@ fn explain_steps<'a>(
 {
     let mut accumulated = start;
     'elements: for element in elements {
-        accumulated =
-            explain_step(alloc, out, population, level, element, accumulated, body, variables)?;
+        accumulated = explain_step(
+            alloc,
+            out,
+            population,
+            level,
+            element,
+            accumulated,
+            body,
+            variables,
+        )?;
     }
     Ok(())
 }
@@ -546,7 +584,30 @@ fn verdict_word(value: &Value<'_>) -> &'static str
     }
 }
 
-/// Why a rule has its verdict for an object.
+/// Puts the verdict of a rule for an object, by the value of its expression.
+fn put_verdict(
+    out: &mut String,
+    population: &Population<'_>,
+    rule: &CoreRule,
+    object: ObjectNo,
+    value: &Value<'_>,
+) -> Result<(), OutOfMemory>
+    requires object { object < length population.now.content.objects }
+    requires value { meant value.now ≡ meaning population.now.content (core_view rule.now.tree)
+        (object_value object ∷ []) }
+    ensures { OnOk result (string_bytes out.new ≡ string_bytes out.old ++
+        verdict_line population.now.content (checked_rule_of rule.now) object) }
+{
+    put(out, "rule ")?;
+    put(out, rule.name.as_str())?;
+    put(out, " ")?;
+    put(out, verdict_word(value))?;
+    put(out, " for ")?;
+    put(out, population.id(object))?;
+    put(out, "\n")
+}
+
+/// Why a rule has its verdict for an object: the verdict, and below it the parts of the rule's expression with their values.
 pub fn explain_verdict<'a>(
     alloc: Global,
     population: &'a Population<'_>,
@@ -555,18 +616,17 @@ pub fn explain_verdict<'a>(
 ) -> Result<String, OutOfMemory>
     requires resolved { IsResolved population.now.content.model (core_view rule.now.tree) }
     requires object { object < length population.now.content.objects }
+    ensures verdict { IfOk result (λ s. (parts : List ℕ) × (string_bytes s ≡
+        verdict_line population.entry.now.content (checked_rule_of rule.entry.now) object
+        ++ parts)) }
 {
     let mut out = String::new(alloc);
+    let mut parts = String::new(alloc);
     let mut variables = Variables::new(alloc);
     variables.bind(Value::Item(Item::Object(object)))?;
     let value = evaluate(alloc, population, &rule.tree, &mut variables)?;
-    put(&mut out, "rule ")?;
-    put(&mut out, rule.name.as_str())?;
-    put(&mut out, " ")?;
-    put(&mut out, verdict_word(&value))?;
-    put(&mut out, " for ")?;
-    put(&mut out, population.id(object))?;
-    put(&mut out, "\n")?;
-    explain(alloc, &mut out, population, 1, &rule.tree, &mut variables)?;
+    explain(alloc, &mut parts, population, 1, &rule.tree, &mut variables)?;
+    put_verdict(&mut out, population, rule, object, &value)?;
+    put(&mut out, &parts)?;
     Ok(out)
 }

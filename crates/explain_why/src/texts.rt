@@ -111,18 +111,27 @@ pub(crate) fn text_of(
         Core::Constant { value } => {
             let mut text = String::new(alloc);
             put_constant(alloc, &mut text, model, value)?;
-            Ok(Text { text, is_open: false })
+            Ok(Text {
+                text,
+                is_open: false,
+            })
         }
         Core::Variable { number } => {
             let mut text = String::new(alloc);
             put_variable(alloc, &mut text, *number)?;
-            Ok(Text { text, is_open: false })
+            Ok(Text {
+                text,
+                is_open: false,
+            })
         }
         Core::AllInstances { class } => {
             let mut text = String::new(alloc);
             put(&mut text, model.class_name(*class))?;
             put(&mut text, ".allInstances()")?;
-            Ok(Text { text, is_open: false })
+            Ok(Text {
+                text,
+                is_open: false,
+            })
         }
         Core::Spine { first, links } => {
             let text = text_of(alloc, model, first, seen)?;
@@ -150,7 +159,10 @@ pub(crate) fn text_of(
             put(&mut text, " else ")?;
             put_text(alloc, &mut text, model, else_branch, seen)?;
             put(&mut text, " endif")?;
-            Ok(Text { text, is_open: false })
+            Ok(Text {
+                text,
+                is_open: false,
+            })
         }
     }
 }

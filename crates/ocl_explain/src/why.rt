@@ -135,7 +135,9 @@ fn not_judged(
     class: &str,
 ) -> Result<String, AllocError> {
     let (path, rule, id) = (asked.rules.path, asked.rule, asked.id);
-    format!(in alloc; "{path}: rule `{rule}` judges objects of {context}, and `{id}` is of {class}\n")
+    format!(in alloc;
+        "{path}: rule `{rule}` judges objects of {context}, and `{id}` is of {class}\n"
+    )
 }
 
 /// What is answered of a rule and an object of a population.

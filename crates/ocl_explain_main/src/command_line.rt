@@ -1,7 +1,9 @@
 //! The command line.
 
 use clap::{Arg, ArgMatches, Command, Error};
-use ocl_programs::{Request, RuleFiles, VERSION, bound, compile, desk, judge, request_of, verify, word};
+use ocl_programs::{
+    Request, RuleFiles, VERSION, bound, compile, desk, judge, request_of, verify, word,
+};
 use std::alloc::{AllocError, Global};
 
 /// The end of the program's help.
@@ -63,11 +65,31 @@ fn why<'a>(alloc: Global) -> Result<Command<'a>, AllocError> {
     Command::new(alloc, "why")
         .about("Says why a rule has its verdict for an object")
         .after_help(WHY)
-        .arg(Arg::new(alloc, "MODEL").required(true).help("The class model, a JSON file"))?
-        .arg(Arg::new(alloc, "DELIVERY").required(true).help("The delivery, a JSON file"))?
-        .arg(Arg::new(alloc, "RULES").required(true).help("The rule text"))?
-        .arg(Arg::new(alloc, "RULE").required(true).help("The name of the rule"))?
-        .arg(Arg::new(alloc, "ID").required(true).help("The id of the object"))
+        .arg(
+            Arg::new(alloc, "MODEL")
+                .required(true)
+                .help("The class model, a JSON file"),
+        )?
+        .arg(
+            Arg::new(alloc, "DELIVERY")
+                .required(true)
+                .help("The delivery, a JSON file"),
+        )?
+        .arg(
+            Arg::new(alloc, "RULES")
+                .required(true)
+                .help("The rule text"),
+        )?
+        .arg(
+            Arg::new(alloc, "RULE")
+                .required(true)
+                .help("The name of the rule"),
+        )?
+        .arg(
+            Arg::new(alloc, "ID")
+                .required(true)
+                .help("The id of the object"),
+        )
 }
 
 /// The program's commands and their arguments.

@@ -10,9 +10,9 @@ use clap::error::{Error, ErrorKind};
 use command_line::{Asked, read_words};
 use ocl_check::{CommandFault, Outcome};
 use requests::{answer, list};
-use whys::explain;
 use std::process::ExitCode;
 use std::{env, io};
+use whys::explain;
 
 /// The exit status of an outcome; that memory ran out is reported here, every other failure where it is met.
 fn ended(rt: &HostRuntime, outcome: Outcome) -> ExitCode {

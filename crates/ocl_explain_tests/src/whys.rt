@@ -91,7 +91,10 @@ fn explains_cables(rt: HostRuntime) -> Result<(), Fail> {
         ),
     ];
     for (delivery, rules, words) in cases {
-        assert!(rt; explains(rt.alloc(), delivery, rules, "E1", words)?, "{rules}");
+        assert!(rt;
+            explains(rt.alloc(), delivery, rules, "E1", words)?,
+            "{rules}"
+        );
     }
     Ok(())
 }
@@ -131,7 +134,10 @@ fn explains_ducts(rt: HostRuntime) -> Result<(), Fail> {
         ),
     ];
     for (delivery, rules, words) in cases {
-        assert!(rt; explains(rt.alloc(), delivery, rules, "M1", words)?, "{rules}");
+        assert!(rt;
+            explains(rt.alloc(), delivery, rules, "M1", words)?,
+            "{rules}"
+        );
     }
     Ok(())
 }

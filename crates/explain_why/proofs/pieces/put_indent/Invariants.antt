@@ -1,4 +1,4 @@
-use Rattle.std.proofs.Common.{◌≡◌, ◌++◌, ◌-◌, string_bytes}
+use Rattle.std.proofs.Common.{◌≡◌, ◌++◌, string_bytes}
 use Rattle.explain_why.specs.Explanation.{indent}
 use Rattle.explain_why.proofs.pieces.put_indent.Given as goal
 
