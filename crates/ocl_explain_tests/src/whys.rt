@@ -77,7 +77,7 @@ fn explains_cables(rt: HostRuntime) -> Result<(), Fail> {
         (
             DEEP_CABLE,
             "context Elektriciteitskabel inv r: 1200 div (self.diepte - 600) > 0 or self.spanning > 1000",
-            "rule r is undecided for E1\n  (1200 div (self.diepte - 600) > 0) or (self.spanning > 1000) = invalid\n    1200 div (self.diepte - 600) > 0 = invalid\n      1200 div (self.diepte - 600) = invalid: division by zero\n        self.diepte - 600 = 0\n          self.diepte = 600\n    self.spanning > 1000 = false\n      self.spanning = 400\n",
+            "rule r is undecided for E1\n  ((1200 div (self.diepte - 600)) > 0) or (self.spanning > 1000) = invalid\n    (1200 div (self.diepte - 600)) > 0 = invalid\n      1200 div (self.diepte - 600) = invalid: division by zero\n        self.diepte - 600 = 0\n          self.diepte = 600\n    self.spanning > 1000 = false\n      self.spanning = 400\n",
         ),
         (
             DEEP_CABLE,
@@ -130,7 +130,7 @@ fn explains_ducts(rt: HostRuntime) -> Result<(), Fail> {
         (
             DUCT,
             "context Mantelbuis inv r: self.omvat.diepte->sum() > 0 and self.oclIsKindOf(KabelOfLeiding)",
-            "rule r holds for M1\n  (self.omvat->collect(x1 | x1.diepte)->sum() > 0) and self.oclIsKindOf(KabelOfLeiding) = true\n",
+            "rule r is undecided for M1\n  (self.omvat->collect(x1 | x1.diepte)->sum() > 0) and self.oclIsKindOf(KabelOfLeiding) = invalid\n    self.omvat->collect(x1 | x1.diepte)->sum() > 0 = invalid\n      self.omvat->collect(x1 | x1.diepte)->sum() = invalid: an element is null\n        self.omvat->collect(x1 | x1.diepte) = Bag{600, null}\n          self.omvat = Set{E1, E2}\n          x1 = E1\n            x1.diepte = 600\n          x1 = E2\n            x1.diepte = null: E2 has no diepte\n    self.oclIsKindOf(KabelOfLeiding) = true\n",
         ),
     ];
     for (delivery, rules, words) in cases {
@@ -139,5 +139,49 @@ fn explains_ducts(rt: HostRuntime) -> Result<(), Fail> {
             "{rules}"
         );
     }
+    Ok(())
+}
+
+#[test]
+fn explains_nets(rt: HostRuntime) -> Result<(), Fail> {
+    let rules =
+        "context Utiliteitsnet inv r: self.thema = Thema::riool or self.leidingen->one(p | p.identificatie = 'a\\'')";
+    let words =
+        "rule r fails for N1\n  (self.thema = Thema::riool) or self.leidingen->one(x1 | x1.identificatie = 'a\\'') = false\n    self.thema = Thema::riool = false\n      self.thema = Thema::water\n    self.leidingen->one(x1 | x1.identificatie = 'a\\'') = false\n      self.leidingen = Set{P1, P2}\n      x1 = P1\n        x1.identificatie = 'a\\'' = false\n          x1.identificatie = 'a'\n      x1 = P2\n        x1.identificatie = 'a\\'' = false\n          x1.identificatie = 'b'\n";
+    assert!(rt; explains(rt.alloc(), NETS, rules, "N1", words)?);
+    Ok(())
+}
+
+#[test]
+fn says_what_is_unknown(rt: HostRuntime) -> Result<(), Fail> {
+    let cases = [
+        (
+            "context Mantelbuis inv rr: true",
+            "M1",
+            "rules.ocl: no rule is named `r`; did you mean `rr`?\n",
+        ),
+        (
+            "context Mantelbuis inv r: true",
+            "M2",
+            "delivery.json: no object has the id `M2`\n",
+        ),
+        (
+            "context Mantelbuis inv r: true",
+            "E1",
+            "rules.ocl: rule `r` judges objects of Mantelbuis, and `E1` is of Elektriciteitskabel\n",
+        ),
+    ];
+    for (rules, id, words) in cases {
+        assert!(rt; says(rt.alloc(), DUCT, rules, id, words)?, "{words}");
+    }
+    Ok(())
+}
+
+#[test]
+fn refuses_inputs(rt: HostRuntime) -> Result<(), Fail> {
+    let rules = "context Mantelbuis inv r: self.omvat.diepte";
+    let words =
+        "rules.ocl:1:38: a Boolean is wanted here (types 5)\n  1 | context Mantelbuis inv r: self.omvat.diepte\n    |                                      ^^^^^^ this is a Bag(Integer)\n  an invariant says of each object whether it holds; ask something of the collection, as in `..->notEmpty()` or `..->forAll(x | ..)`\n";
+    assert!(rt; refuses(rt.alloc(), rules, "refused types 5 0 37\n", words)?);
     Ok(())
 }
