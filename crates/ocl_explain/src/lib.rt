@@ -10,6 +10,7 @@ mod listing;
 mod refusals;
 mod rules;
 mod warnings;
+mod why;
 
 pub use answers::{answer_bound, answer_compile, answer_desk, answer_judge, answer_verify};
 pub use json::answer_judge_json;
@@ -17,3 +18,4 @@ pub use keeping::Keeping;
 pub use listing::{Listing, list_code};
 pub use refusals::{explain_bound, explain_compile, explain_desk, explain_judge, explain_verify};
 pub use warnings::{warn_compile, warn_judge};
+pub use why::{Why, WhyAsked, why};

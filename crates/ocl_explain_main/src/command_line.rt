@@ -1,7 +1,9 @@
 //! The command line.
 
 use clap::{Arg, ArgAction, ArgMatches, Command, Error};
-use ocl_programs::{Request, VERSION, bound, compile, desk, judge, request_of, verify, word};
+use ocl_programs::{
+    Request, RuleFiles, VERSION, bound, compile, desk, judge, request_of, verify, word,
+};
 use std::alloc::{AllocError, Global};
 
 /// The end of the program's help.
@@ -21,6 +23,17 @@ instruction, and it is said why the code isn't accepted, if it isn't. For instan
 Status 0: printed. 2: the file or the class model is refused, or the code isn't accepted. 3: memory,
 a read or a write failed.";
 
+/// The end of the help of `why`.
+const WHY: &str = "\
+Prints the verdict of a rule for an object, and below it each part of the rule's expression with its
+value: of a part that is null or invalid why it is, of an iteration the elements that decide it. RULES
+is a rule text, RULE the name of one of its rules and ID the id of an object of its context class. For
+instance
+  ocl_explain why examples/catalogue.json examples/network.json examples/network.rules deepEnough E3
+
+Status 0: printed. 2: an input is refused, with the line that judge prints, or there is no such rule or
+object. 3: memory, a read or a write failed.";
+
 /// What is asked.
 #[derive(Clone, Copy, Drop)]
 pub enum Asked<'a> {
@@ -28,6 +41,8 @@ pub enum Asked<'a> {
     Answer(Request<'a>, bool),
     /// To list a code file.
     List(ListFiles<'a>),
+    /// To explain a verdict.
+    Why(WhyWords<'a>),
 }
 
 /// The files that `list` names.
@@ -37,6 +52,17 @@ pub struct ListFiles<'a> {
     pub code: &'a str,
     /// The path of the class model, if there is one.
     pub model: Option<&'a str>,
+}
+
+/// The words of `why`.
+#[derive(Clone, Copy, Drop)]
+pub struct WhyWords<'a> {
+    /// The paths of the class model, the delivery and the rule text.
+    pub files: RuleFiles<'a>,
+    /// The name of the rule.
+    pub rule: &'a str,
+    /// The id of the object.
+    pub id: &'a str,
 }
 
 /// The option of `judge` that prints JSON.
@@ -55,6 +81,37 @@ fn list<'a>(alloc: Global) -> Result<Command<'a>, AllocError> {
         .arg(Arg::new(alloc, "MODEL").help("The class model, a JSON file"))
 }
 
+fn why<'a>(alloc: Global) -> Result<Command<'a>, AllocError> {
+    Command::new(alloc, "why")
+        .about("Says why a rule has its verdict for an object")
+        .after_help(WHY)
+        .arg(
+            Arg::new(alloc, "MODEL")
+                .required(true)
+                .help("The class model, a JSON file"),
+        )?
+        .arg(
+            Arg::new(alloc, "DELIVERY")
+                .required(true)
+                .help("The delivery, a JSON file"),
+        )?
+        .arg(
+            Arg::new(alloc, "RULES")
+                .required(true)
+                .help("The rule text"),
+        )?
+        .arg(
+            Arg::new(alloc, "RULE")
+                .required(true)
+                .help("The name of the rule"),
+        )?
+        .arg(
+            Arg::new(alloc, "ID")
+                .required(true)
+                .help("The id of the object"),
+        )
+}
+
 /// The program's commands and their arguments.
 fn command<'a>(alloc: Global) -> Result<Command<'a>, AllocError> {
     Command::new(alloc, "ocl_explain")
@@ -67,7 +124,21 @@ fn command<'a>(alloc: Global) -> Result<Command<'a>, AllocError> {
         .subcommand(verify(alloc)?)?
         .subcommand(bound(alloc)?)?
         .subcommand(desk(alloc)?)?
-        .subcommand(list(alloc)?)
+        .subcommand(list(alloc)?)?
+        .subcommand(why(alloc)?)
+}
+
+/// What the matches of `why` ask.
+fn why_words<'a>(matches: Option<&ArgMatches<'a>>) -> WhyWords<'a> {
+    WhyWords {
+        files: RuleFiles {
+            model: word(matches, "MODEL"),
+            delivery: word(matches, "DELIVERY"),
+            rules: word(matches, "RULES"),
+        },
+        rule: word(matches, "RULE"),
+        id: word(matches, "ID"),
+    }
 }
 
 /// What the matches of a command line ask.
@@ -78,6 +149,10 @@ fn asked_by<'a>(matches: &ArgMatches<'a>) -> Asked<'a> {
             code: word(list, "CODE"),
             model: files.get_str("MODEL"),
         });
+    }
+    let why = matches.subcommand_matches("why");
+    if why.is_some() {
+        return Asked::Why(why_words(why));
     }
     let is_json = match matches.subcommand_matches("judge") {
         Some(judge) => judge.get_flag("json"),

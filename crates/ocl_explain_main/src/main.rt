@@ -4,14 +4,16 @@
 mod command_line;
 mod files;
 mod requests;
+mod whys;
 
 use clap::error::{Error, ErrorKind};
 use command_line::{Asked, read_words};
 use ocl_check::{CommandFault, Outcome};
-use ocl_programs::STANDARD_INPUT;
+use ocl_programs::{Request, STANDARD_INPUT};
 use requests::{answer, list};
 use std::process::ExitCode;
 use std::{env, io};
+use whys::explain;
 
 /// The exit status of an outcome; that memory ran out is reported here, every other failure where it is met.
 fn ended(rt: &HostRuntime, outcome: Outcome) -> ExitCode {
@@ -38,6 +40,7 @@ fn shares_standard_input(asked: &Asked<'_>) -> bool {
     match asked {
         Asked::Answer(request, _) => request.shares_standard_input(),
         Asked::List(files) => files.code == STANDARD_INPUT && files.model == Some(STANDARD_INPUT),
+        Asked::Why(words) => Request::Bound(words.files).shares_standard_input(),
     }
 }
 
@@ -62,6 +65,7 @@ fn main(rt: HostRuntime) -> ExitCode {
         }
         Ok(Asked::Answer(request, is_json)) => ended(&rt, answer(&rt, request, is_json)),
         Ok(Asked::List(files)) => ended(&rt, list(&rt, files)),
+        Ok(Asked::Why(words)) => ended(&rt, explain(&rt, words)),
         Err(error) => refused(&rt, &error),
     }
 }

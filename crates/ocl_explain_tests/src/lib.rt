@@ -13,3 +13,5 @@ mod inputs;
 mod texts;
 #[cfg(test)]
 mod warnings;
+#[cfg(test)]
+mod whys;

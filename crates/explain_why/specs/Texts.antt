@@ -1,0 +1,144 @@
+-- Words of OCL: constants, operators and iterations. Variables are named by their numbers: variable 0 is `self`, the others
+-- `x1`, `x2` and so on.
+use Rattle.std.specs.Prelude.{ℕ, zero, suc, Bool, true, false, List, [], ◌∷◌, ◌++◌, codes}
+use Rattle.std.specs.Fmt.{decimal}
+use Rattle.std.specs.Str.{chars}
+use Rattle.imkl_model.specs.ClassModel.{Model, class_at}
+use Rattle.ocl_core.specs.declared.operator.PlainOperator.{PlainOperator}
+use Rattle.ocl_core.specs.declared.operator.PlainOperator.TheVariants as plain
+use Rattle.ocl_core.specs.declared.operator.ClassOperator.{ClassOperator}
+use Rattle.ocl_core.specs.declared.operator.ClassOperator.TheVariants as of_class
+use Rattle.ocl_core.specs.declared.operator.ElementOperator.{ElementOperator}
+use Rattle.ocl_core.specs.declared.operator.ElementOperator.TheVariants as of_elements
+use Rattle.ocl_core.specs.declared.operator.Operator.{Operator}
+use Rattle.ocl_core.specs.declared.operator.Operator.TheVariants.{Plain, OfClass, OfElements, Equal}
+use Rattle.ocl_core.specs.declared.core_tree.Iteration.{Iteration}
+use Rattle.ocl_core.specs.declared.core_tree.Iteration.TheVariants as iteration
+use Rattle.ocl_core.specs.Core as tree
+use Rattle.ocl_core.specs.Core.{Constant}
+use Rattle.explain_why.specs.declared.words.Form as words
+use Rattle.explain_why.specs.declared.words.Form.TheVariants as form
+use Rattle.explain_why.specs.Values.{truth_text, quoted_text, literal_text}
+
+-- ---- names and constants
+
+abbrev pub variable_name : ℕ → List ℕ
+variable_name zero = codes "self"
+variable_name (suc n) = 120 ∷ decimal (suc n)
+
+abbrev pub constant_text : Model → Constant → List ℕ
+constant_text m (tree.Boolean b) = truth_text b
+constant_text m (tree.Integer n) = decimal n
+constant_text m (tree.Text t) = quoted_text (chars t)
+constant_text m (tree.Literal e l) = literal_text m e l
+constant_text m tree.Null = codes "null"
+constant_text m tree.Invalid = codes "invalid"
+
+-- ---- how operators are written
+
+-- between two operands, before one, or after it with what stands in parentheses
+pub data Form : Type 0 where
+  Between : Form
+  Before : Form
+  After : Form
+
+abbrev pub form_of : words.Form → Form
+form_of form.Between = Between
+form_of form.Before = Before
+form_of form.After = After
+
+abbrev pub plain_form : PlainOperator → Form
+plain_form plain.Minimum = After
+plain_form plain.Maximum = After
+plain_form plain.Negate = Before
+plain_form plain.Absolute = After
+plain_form plain.CharacterCount = After
+plain_form plain.Substring = After
+plain_form plain.Not = Before
+plain_form plain.IsUndefined = After
+plain_form plain.IsInvalid = After
+plain_form plain.ElementCount = After
+plain_form plain.IsEmpty = After
+plain_form plain.Sum = After
+plain_form operator = Between
+
+abbrev pub plain_word : PlainOperator → List ℕ
+plain_word plain.Add = codes " + "
+plain_word plain.Subtract = codes " - "
+plain_word plain.Multiply = codes " * "
+plain_word plain.Divide = codes " div "
+plain_word plain.Modulo = codes " mod "
+plain_word plain.Minimum = codes ".min"
+plain_word plain.Maximum = codes ".max"
+plain_word plain.Negate = codes "-"
+plain_word plain.Absolute = codes ".abs"
+plain_word plain.Less = codes " < "
+plain_word plain.LessEqual = codes " <= "
+plain_word plain.Greater = codes " > "
+plain_word plain.GreaterEqual = codes " >= "
+plain_word plain.CharacterCount = codes ".size"
+plain_word plain.Substring = codes ".substring"
+plain_word plain.Not = codes "not "
+plain_word plain.And = codes " and "
+plain_word plain.Or = codes " or "
+plain_word plain.Xor = codes " xor "
+plain_word plain.Implies = codes " implies "
+plain_word plain.IsUndefined = codes ".oclIsUndefined"
+plain_word plain.IsInvalid = codes ".oclIsInvalid"
+plain_word plain.BothNull = codes " = "
+plain_word plain.ElementCount = codes "->size"
+plain_word plain.IsEmpty = codes "->isEmpty"
+plain_word plain.Sum = codes "->sum"
+
+abbrev pub class_word : ClassOperator → List ℕ
+class_word of_class.IsKindOf = codes ".oclIsKindOf"
+class_word of_class.IsTypeOf = codes ".oclIsTypeOf"
+class_word of_class.AsType = codes ".oclAsType"
+
+abbrev pub element_word : ElementOperator → List ℕ
+element_word of_elements.Includes = codes "->includes"
+element_word of_elements.Occurrences = codes "->count"
+element_word of_elements.IncludesAll = codes "->includesAll"
+element_word of_elements.ExcludesAll = codes "->excludesAll"
+element_word of_elements.AsSet = codes "->asSet"
+
+abbrev pub operator_form : Operator → Form
+operator_form (Plain operator) = plain_form operator
+operator_form (OfClass operator c) = After
+operator_form (OfElements operator k) = After
+operator_form (Equal k) = Between
+
+abbrev pub operator_word : Operator → List ℕ
+operator_word (Plain operator) = plain_word operator
+operator_word (OfClass operator c) = class_word operator
+operator_word (OfElements operator k) = element_word operator
+operator_word (Equal k) = codes " = "
+
+-- the class that an operator asks for
+abbrev pub class_asked : Model → Operator → List ℕ
+class_asked m (Plain operator) = []
+class_asked m (OfClass operator c) = (class_at m c).name
+class_asked m (OfElements operator k) = []
+class_asked m (Equal k) = []
+
+abbrev pub iteration_word : Iteration → List ℕ
+iteration_word iteration.ForAll = codes "->forAll("
+iteration_word iteration.Exists = codes "->exists("
+iteration_word iteration.One = codes "->one("
+iteration_word iteration.Select = codes "->select("
+iteration_word iteration.Reject = codes "->reject("
+iteration_word iteration.Collect = codes "->collect("
+iteration_word iteration.CollectFlat = codes "->collect("
+iteration_word (iteration.IsUnique k) = codes "->isUnique("
+
+-- ---- operands
+
+abbrev pub is_form_open : Form → Bool
+is_form_open Between = true
+is_form_open Before = true
+is_form_open After = false
+
+-- a text, in parentheses where it needs them
+abbrev pub wrapped : Bool → List ℕ → List ℕ
+wrapped true text = 40 ∷ (text ++ 41 ∷ [])
+wrapped false text = text

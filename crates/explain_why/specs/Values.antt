@@ -1,0 +1,73 @@
+-- Values as OCL writes them: objects by their ids, of a collection at most ten elements and how many more there are.
+use Rattle.std.specs.Prelude.{ℕ, zero, suc, ◌-◌, ◌==◌, Bool, true, false, List, [], ◌∷◌, ◌++◌, length, take, codes, Some, None, slice_index_or, if◌then◌else◌, encode_utf8}
+use Rattle.std.specs.Fmt.{decimal, signed_decimal}
+use Rattle.std.specs.List.{flat_map}
+use Rattle.ocl_base.specs.declared.collection_kind.CollectionKind.{CollectionKind}
+use Rattle.ocl_base.specs.declared.collection_kind.CollectionKind.TheVariants as collection
+use Rattle.imkl_model.specs.ClassModel.{Model, enumeration_at}
+use Rattle.imkl_population.specs.declared.scalar.Scalar.{Scalar}
+use Rattle.imkl_population.specs.declared.scalar.Scalar.TheVariants as scalar
+use Rattle.imkl_population.specs.Population.{Population, object_at}
+use Rattle.rule_values.specs.Value.{Element, Value, Invalid, Null, Single, Collection}
+
+-- a literal, with the enumeration that it is of
+abbrev pub literal_text : Model → ℕ → ℕ → List ℕ
+literal_text m e l = (enumeration_at m e).name ++ (codes "::" ++ slice_index_or (enumeration_at m e).literals l [])
+
+-- a character within quotes: a quote, a backslash and what ends a line are written as OCL writes them
+abbrev pub quoted_character : ℕ → List ℕ
+quoted_character c =
+    if c == 39 then codes "\\'" else (if c == 92 then codes "\\\\" else (if c == 10 then codes "\\n" else (if c == 13 then codes "\\r" else (if c == 9 then codes "\\t" else encode_utf8 c))))
+
+-- a text, by its characters
+abbrev pub quoted_text : List ℕ → List ℕ
+quoted_text t = 39 ∷ (flat_map quoted_character t ++ 39 ∷ [])
+
+abbrev pub truth_text : Bool → List ℕ
+truth_text true = codes "true"
+truth_text false = codes "false"
+
+abbrev pub scalar_text : Population → Scalar → List ℕ
+scalar_text p (scalar.Bool b) = truth_text b
+scalar_text p (scalar.Int n) = signed_decimal n
+scalar_text p (scalar.Text t) = quoted_text t
+scalar_text p (scalar.Literal e l) = literal_text p.model e l
+scalar_text p (scalar.Object o) = (object_at p o).id
+
+abbrev pub element_text : Population → Element → List ℕ
+element_text p None = codes "null"
+element_text p (Some v) = scalar_text p v
+
+abbrev pub kind_name : CollectionKind → List ℕ
+kind_name collection.Set = codes "Set"
+kind_name collection.OrderedSet = codes "OrderedSet"
+kind_name collection.Bag = codes "Bag"
+kind_name collection.Sequence = codes "Sequence"
+
+-- so many elements are shown of a collection
+abbrev pub most_shown : ℕ
+most_shown = 10
+
+-- how many more there are, if there are more
+abbrev pub more_text : ℕ → List ℕ
+more_text n = if n == 0 then [] else (codes ", and " ++ (decimal n ++ codes " more"))
+
+-- what stands before an element, the first excepted
+abbrev pub before_element : ℕ → List ℕ
+before_element zero = []
+before_element (suc k) = codes ", "
+
+-- the first elements, from the one of this number on
+abbrev pub elements_text : Population → ℕ → List Element → List ℕ
+elements_text p k [] = []
+elements_text p k (e ∷ es) = before_element k ++ (element_text p e ++ elements_text p (suc k) es)
+
+abbrev pub collection_text : Population → CollectionKind → List Element → List ℕ
+collection_text p c es =
+    kind_name c ++ (123 ∷ (elements_text p 0 (take most_shown es) ++ (more_text (length es - most_shown) ++ 125 ∷ [])))
+
+abbrev pub value_text : Population → Value → List ℕ
+value_text p Invalid = codes "invalid"
+value_text p Null = codes "null"
+value_text p (Single v) = scalar_text p v
+value_text p (Collection c es) = collection_text p c es

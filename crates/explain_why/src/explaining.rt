@@ -1,0 +1,632 @@
+//! The explanation of a verdict, part by part.
+
+ghost use Rattle.std.specs.Prelude.{◌≡◌, ℕ, List, [], ◌∷◌, ◌++◌, ◌<◌, length, map, drop, IfOk, OnOk, string_bytes};
+ghost use Rattle.std.specs.List.{AllByRecursion};
+ghost use Rattle.ocl_core.specs.Core.{cores_of};
+ghost use Rattle.ocl_core.specs.CoreView.{core_view, core_link_of, core_spine, checked_rule_of};
+ghost use Rattle.ocl_compile.specs.Meaning.{meaning};
+ghost use Rattle.rule_machine.specs.Verdict.{verdict_of};
+ghost use Rattle.rule_values.specs.Value.{element_value, object_value};
+ghost use Rattle.owned_values.specs.Meant.{meant, meant_item, meant_items, IsElementThere, AreElementsThere, IsValueThere};
+ghost use Rattle.ocl_meaning.specs.Resolved.{IsResolved, AreResolved, AreThere};
+ghost use Rattle.ocl_meaning.specs.Evaluated.{IsLinkResolved, AreLinksResolved};
+ghost use Rattle.explain_why.specs.Explanation.{verdict_word, verdict_line};
+
+use crate::deciding::{bodies_that_decide, deciding_elements};
+use crate::pieces::{put, put_indent, put_more};
+use crate::reasons::{choice_reason, put_feature_reason, put_operation_reason};
+use crate::texts::{let_text, link_text, next, put_variable, spine_text, text_of};
+use crate::values::{MOST_SHOWN, put_element, put_value};
+use imkl_population::{ObjectNo, Population};
+use ocl_base::OutOfMemory;
+use ocl_core::{Core, CoreLink, CoreRule, Iteration};
+use ocl_meaning::{
+    Variables, evaluate, evaluate_all, evaluate_bodies, evaluate_link, evaluate_links,
+};
+use owned_values::{Item, Value, is_false, is_true, item_value};
+use std::alloc::Global;
+
+/// Puts a part with its value, and why that is null or invalid.
+fn put_part(
+    alloc: Global,
+    out: &mut String,
+    population: &Population<'_>,
+    level: usize,
+    part: &str,
+    value: &Value<'_>,
+    reason: &str,
+) -> Result<(), OutOfMemory>
+    requires there { IsValueThere population.now.content (meant value.now) }
+{
+    put_indent(out, level)?;
+    put(out, part)?;
+    put(out, " = ")?;
+    put_value(alloc, out, population, value)?;
+    put(out, reason)?;
+    put(out, "\n")
+}
+
+/// Puts a tree with its value, and why that is null or invalid.
+fn put_tree<'a>(
+    alloc: Global,
+    out: &mut String,
+    population: &'a Population<'_>,
+    level: usize,
+    core: &'a Core,
+    reason: &str,
+    variables: &mut Variables<'a>,
+) -> Result<(), OutOfMemory>
+    requires resolved { IsResolved population.now.content.model (core_view core.now) }
+    requires there { AreThere population.now.content variables.old }
+    ensures kept { OnOk result (variables.new ≡ variables.old) }
+{
+    let text = text_of(alloc, population.model(), core, variables.len())?;
+    let value = evaluate(alloc, population, core, variables)?;
+    put_part(alloc, out, population, level, &text.text, &value, reason)
+}
+
+/// Puts a variable with its value at a level: the next that is bound.
+fn put_binding(
+    alloc: Global,
+    out: &mut String,
+    population: &Population<'_>,
+    number: usize,
+    value: &Value<'_>,
+) -> Result<(), OutOfMemory>
+    requires there { IsValueThere population.now.content (meant value.now) }
+{
+    put_variable(alloc, out, number)?;
+    put(out, " = ")?;
+    put_value(alloc, out, population, value)
+}
+
+/// Puts the parts of a tree at a level, and below it.
+#[cycle(explain)]
+fn explain<'a>(
+    alloc: Global,
+    out: &mut String,
+    population: &'a Population<'_>,
+    level: usize,
+    core: &'a Core,
+    variables: &mut Variables<'a>,
+) -> Result<(), OutOfMemory>
+    requires resolved { IsResolved population.now.content.model (core_view core.now) }
+    requires there { AreThere population.now.content variables.old }
+    ensures kept { OnOk result (variables.new ≡ variables.old) }
+{
+    match core {
+        Core::Constant { .. } | Core::Variable { .. } => Ok(()),
+        Core::AllInstances { .. } => put_tree(alloc, out, population, level, core, "", variables),
+        Core::Spine { first, links } => {
+            let below = put_nodes(alloc, out, population, level, first, links, variables)?;
+            explain(alloc, out, population, below, first, variables)?;
+            let value = evaluate(alloc, population, first, variables)?;
+            explain_links(alloc, out, population, below, value, links, variables)
+        }
+        Core::Let { values, body } => {
+            let whole = evaluate(alloc, population, core, variables)?;
+            let below = explain_values(
+                alloc, out, population, level, &whole, values, body, variables,
+            )?;
+            explain(alloc, out, population, below, body, variables)?;
+            variables.forget(values.len());
+            Ok(())
+        }
+        Core::If {
+            condition,
+            then_branch,
+            else_branch,
+            ..
+        } => {
+            let chosen = evaluate(alloc, population, condition, variables)?;
+            let reason = choice_reason(&chosen);
+            put_tree(alloc, out, population, level, core, reason, variables)?;
+            let below = next(level)?;
+            explain(alloc, out, population, below, condition, variables)?;
+            if is_true(&chosen) {
+                explain(alloc, out, population, below, then_branch, variables)
+            } else if is_false(&chosen) {
+                explain(alloc, out, population, below, else_branch, variables)
+            } else {
+                Ok(())
+            }
+        }
+    }
+}
+
+/// Puts each of values as variables of a body: the `let` with the values that are left and the body, and below it the
+/// variable. It answers the level of the body, which sees them all.
+#[cycle(explain)]
+fn explain_values<'a>(
+    alloc: Global,
+    out: &mut String,
+    population: &'a Population<'_>,
+    level: usize,
+    whole: &Value<'a>,
+    values: &'a [Core],
+    body: &'a Core,
+    variables: &mut Variables<'a>,
+) -> Result<usize, OutOfMemory>
+    requires values { AllByRecursion (IsResolved population.now.content.model)
+        (map core_view values.now) }
+    requires body { IsResolved population.now.content.model (core_view body.now) }
+    requires whole { IsValueThere population.now.content (meant whole.now) }
+    requires there { AreThere population.now.content variables.old }
+    ensures there { OnOk result (AreThere population.now.content variables.new) }
+    ensures others { OnOk result (drop (length values.now) variables.new ≡ variables.old) }
+{
+    let mut level = level;
+    'values: for index in 0..values.len() {
+        let text = let_text(
+            alloc,
+            population.model(),
+            &values[index..],
+            body,
+            variables.len(),
+        )?;
+        put_part(alloc, out, population, level, &text, whole, "")?;
+        level = next(level)?;
+        explain_bound(alloc, out, population, level, &values[index], variables)?;
+    }
+    Ok(level)
+}
+
+/// Puts a variable with its value and the parts of that, and binds it.
+#[cycle(explain)]
+fn explain_bound<'a>(
+    alloc: Global,
+    out: &mut String,
+    population: &'a Population<'_>,
+    level: usize,
+    core: &'a Core,
+    variables: &mut Variables<'a>,
+) -> Result<(), OutOfMemory>
+    requires resolved { IsResolved population.now.content.model (core_view core.now) }
+    requires there { AreThere population.now.content variables.old }
+    ensures bound { OnOk result (variables.new ≡
+        meaning population.now.content (core_view core.now) variables.old ∷ variables.old) }
+    ensures there { OnOk result (AreThere population.now.content variables.new) }
+{
+    let value = evaluate(alloc, population, core, variables)?;
+    put_indent(out, level)?;
+    put_binding(alloc, out, population, variables.len(), &value)?;
+    put(out, "\n")?;
+    explain(alloc, out, population, next(level)?, core, variables)?;
+    variables.bind(value)
+}
+
+/// Computes the value of a first operand with links.
+fn spine_value<'a>(
+    alloc: Global,
+    population: &'a Population<'_>,
+    first: &'a Core,
+    links: &'a [CoreLink],
+    variables: &mut Variables<'a>,
+) -> Result<Value<'a>, OutOfMemory>
+    requires first { IsResolved population.now.content.model (core_view first.now) }
+    requires links { AreLinksResolved population.now.content.model links.now }
+    requires there { AreThere population.now.content variables.old }
+    ensures value { IfOk result (λ v. meant v ≡ meaning population.now.content
+        (core_spine (core_view first.now) (map core_link_of links.now)) variables.old) }
+    ensures there { IfOk result (λ v. IsValueThere population.now.content (meant v)) }
+    ensures kept { OnOk result (variables.new ≡ variables.old) }
+{
+    let value = evaluate(alloc, population, first, variables)?;
+    evaluate_links(alloc, population, value, links, variables)
+}
+
+/// Puts links on a first operand, the last first, each below what stands on it, with its value. It answers the level of
+/// the first operand.
+fn put_nodes<'a>(
+    alloc: Global,
+    out: &mut String,
+    population: &'a Population<'_>,
+    level: usize,
+    first: &'a Core,
+    links: &'a [CoreLink],
+    variables: &mut Variables<'a>,
+) -> Result<usize, OutOfMemory>
+    requires first { IsResolved population.now.content.model (core_view first.now) }
+    requires links { AreLinksResolved population.now.content.model links.now }
+    requires there { AreThere population.now.content variables.old }
+    ensures kept { OnOk result (variables.new ≡ variables.old) }
+{
+    let mut level = level;
+    for index in (0..links.len()).rev() {
+        let (before, link) = (&links[..index], &links[index]);
+        put_node(
+            alloc, out, population, level, first, before, link, variables,
+        )?;
+        level = next(level)?;
+    }
+    Ok(level)
+}
+
+/// Puts the parts of links on an operand of this value besides that operand: other operands, and the bodies of the elements
+/// that decide. The first link's stand at a level, those of each later one a level above.
+#[cycle(explain)]
+fn explain_links<'a>(
+    alloc: Global,
+    out: &mut String,
+    population: &'a Population<'_>,
+    level: usize,
+    first: Value<'a>,
+    links: &'a [CoreLink],
+    variables: &mut Variables<'a>,
+) -> Result<(), OutOfMemory>
+    requires first { IsValueThere population.now.content (meant first) }
+    requires links { AreLinksResolved population.now.content.model links.now }
+    requires there { AreThere population.now.content variables.old }
+    ensures kept { OnOk result (variables.new ≡ variables.old) }
+{
+    let mut level = level;
+    let mut value = first;
+    'links: for link in links {
+        explain_link(alloc, out, population, level, &value, link, variables)?;
+        value = evaluate_link(alloc, population, &value, link, variables)?;
+        level = level.saturating_sub(1);
+    }
+    Ok(())
+}
+
+/// Puts a link on what stands before it, with its value, and why that is null or invalid.
+fn put_node<'a>(
+    alloc: Global,
+    out: &mut String,
+    population: &'a Population<'_>,
+    level: usize,
+    first: &'a Core,
+    before: &'a [CoreLink],
+    link: &'a CoreLink,
+    variables: &mut Variables<'a>,
+) -> Result<(), OutOfMemory>
+    requires first { IsResolved population.now.content.model (core_view first.now) }
+    requires before { AreLinksResolved population.now.content.model before.now }
+    requires link { IsLinkResolved population.now.content.model link.now }
+    requires there { AreThere population.now.content variables.old }
+    ensures kept { OnOk result (variables.new ≡ variables.old) }
+{
+    let seen = variables.len();
+    let operand = spine_text(alloc, population.model(), first, before, seen)?;
+    let text = link_text(alloc, population.model(), link, seen, &operand)?;
+    let source = spine_value(alloc, population, first, before, variables)?;
+    let gave = evaluate_link(alloc, population, &source, link, variables)?;
+    let reason = link_reason(alloc, population, link, &source, &gave, variables)?;
+    put_part(alloc, out, population, level, &text.text, &gave, &reason)
+}
+
+/// Why what a link makes of a value is null or invalid.
+fn link_reason<'a>(
+    alloc: Global,
+    population: &'a Population<'_>,
+    link: &'a CoreLink,
+    source: &Value<'a>,
+    gave: &Value<'a>,
+    variables: &mut Variables<'a>,
+) -> Result<String, OutOfMemory>
+    requires link { IsLinkResolved population.now.content.model link.now }
+    requires source { IsValueThere population.now.content (meant source.now) }
+    requires there { AreThere population.now.content variables.old }
+    ensures kept { OnOk result (variables.new ≡ variables.old) }
+{
+    let mut reason = String::new(alloc);
+    match link {
+        CoreLink::Feature { feature } => {
+            put_feature_reason(&mut reason, population, *feature, source, gave)?;
+        }
+        CoreLink::Operation { operator, others } => {
+            let others = evaluate_all(alloc, population, others, variables)?;
+            put_operation_reason(&mut reason, population, *operator, source, &others, gave)?;
+        }
+        CoreLink::AsCollection { .. } | CoreLink::Iterate { .. } | CoreLink::Fold { .. } => {}
+    }
+    Ok(reason)
+}
+
+/// Puts the parts of a link besides what stands before it, of which this is the value.
+#[cycle(explain)]
+fn explain_link<'a>(
+    alloc: Global,
+    out: &mut String,
+    population: &'a Population<'_>,
+    level: usize,
+    source: &Value<'a>,
+    link: &'a CoreLink,
+    variables: &mut Variables<'a>,
+) -> Result<(), OutOfMemory>
+    requires source { IsValueThere population.now.content (meant source.now) }
+    requires link { IsLinkResolved population.now.content.model link.now }
+    requires there { AreThere population.now.content variables.old }
+    ensures kept { OnOk result (variables.new ≡ variables.old) }
+{
+    match link {
+        CoreLink::Feature { .. } | CoreLink::AsCollection { .. } => Ok(()),
+        CoreLink::Operation { others, .. } => {
+            explain_all(alloc, out, population, level, others, variables)
+        }
+        CoreLink::Iterate { iteration, body } => {
+            explain_iteration(
+                alloc, out, population, level, *iteration, source, body, variables,
+            )
+        }
+        CoreLink::Fold { start, body, .. } => {
+            explain(alloc, out, population, level, start, variables)?;
+            let start = evaluate(alloc, population, start, variables)?;
+            explain_fold(
+                alloc, out, population, level, source, start, body, variables,
+            )
+        }
+    }
+}
+
+/// Puts the parts of several trees.
+#[cycle(explain)]
+fn explain_all<'a>(
+    alloc: Global,
+    out: &mut String,
+    population: &'a Population<'_>,
+    level: usize,
+    cores: &'a [Core],
+    variables: &mut Variables<'a>,
+) -> Result<(), OutOfMemory>
+    requires resolved { AreResolved population.now.content.model
+        (cores_of (map core_view cores.now)) }
+    requires there { AreThere population.now.content variables.old }
+    ensures kept { OnOk result (variables.new ≡ variables.old) }
+{
+    'cores: for core in cores {
+        explain(alloc, out, population, level, core, variables)?;
+    }
+    Ok(())
+}
+
+/// Puts the elements that decide an iteration, each with the parts of its body.
+#[cycle(explain)]
+fn explain_iteration<'a>(
+    alloc: Global,
+    out: &mut String,
+    population: &'a Population<'_>,
+    level: usize,
+    iteration: Iteration,
+    source: &Value<'a>,
+    body: &'a Core,
+    variables: &mut Variables<'a>,
+) -> Result<(), OutOfMemory>
+    requires source { IsValueThere population.now.content (meant source.now) }
+    requires body { IsResolved population.now.content.model (core_view body.now) }
+    requires there { AreThere population.now.content variables.old }
+    ensures kept { OnOk result (variables.new ≡ variables.old) }
+{
+    let Value::Collection(_, elements) = source else {
+        return Ok(());
+    };
+    let bodies = evaluate_bodies(alloc, population, elements, body, variables)?;
+    let those = bodies_that_decide(iteration, &bodies);
+    let chosen = deciding_elements(alloc, those, elements, &bodies)?;
+    let shown = chosen.len().min(those.most());
+    explain_elements(
+        alloc,
+        out,
+        population,
+        level,
+        &chosen[..shown],
+        body,
+        variables,
+    )?;
+    put_more(alloc, out, level, chosen.len() - shown)
+}
+
+/// Puts elements, each with the parts of its body.
+#[cycle(explain)]
+fn explain_elements<'a>(
+    alloc: Global,
+    out: &mut String,
+    population: &'a Population<'_>,
+    level: usize,
+    elements: &[Item<'a>],
+    body: &'a Core,
+    variables: &mut Variables<'a>,
+) -> Result<(), OutOfMemory>
+    requires elements { AreElementsThere population.now.content (meant_items elements.now) }
+    requires body { IsResolved population.now.content.model (core_view body.now) }
+    requires there { AreThere population.now.content variables.old }
+    ensures kept { OnOk result (variables.new ≡ variables.old) }
+{
+    'elements: for element in elements {
+        explain_element(alloc, out, population, level, element, body, variables)?;
+    }
+    Ok(())
+}
+
+/// Puts an element with the parts of its body.
+#[cycle(explain)]
+fn explain_element<'a>(
+    alloc: Global,
+    out: &mut String,
+    population: &'a Population<'_>,
+    level: usize,
+    element: &Item<'a>,
+    body: &'a Core,
+    variables: &mut Variables<'a>,
+) -> Result<(), OutOfMemory>
+    requires element { IsElementThere population.now.content (meant_item element.now) }
+    requires body { IsResolved population.now.content.model (core_view body.now) }
+    requires there { AreThere population.now.content variables.old }
+    ensures kept { OnOk result (variables.new ≡ variables.old) }
+{
+    let value = item_value(element);
+    put_indent(out, level)?;
+    put_binding(alloc, out, population, variables.len(), &value)?;
+    put(out, "\n")?;
+    variables.bind(value)?;
+    explain(alloc, out, population, next(level)?, body, variables)?;
+    variables.forget(1);
+    Ok(())
+}
+
+/// Puts the first elements of a fold, each with what is accumulated before it and the parts of its body.
+#[cycle(explain)]
+fn explain_fold<'a>(
+    alloc: Global,
+    out: &mut String,
+    population: &'a Population<'_>,
+    level: usize,
+    source: &Value<'a>,
+    start: Value<'a>,
+    body: &'a Core,
+    variables: &mut Variables<'a>,
+) -> Result<(), OutOfMemory>
+    requires source { IsValueThere population.now.content (meant source.now) }
+    requires start { IsValueThere population.now.content (meant start) }
+    requires body { IsResolved population.now.content.model (core_view body.now) }
+    requires there { AreThere population.now.content variables.old }
+    ensures kept { OnOk result (variables.new ≡ variables.old) }
+{
+    let Value::Collection(_, elements) = source else {
+        return Ok(());
+    };
+    let shown = elements.len().min(MOST_SHOWN);
+    explain_steps(
+        alloc,
+        out,
+        population,
+        level,
+        &elements[..shown],
+        start,
+        body,
+        variables,
+    )?;
+    put_more(alloc, out, level, elements.len() - shown)
+}
+
+/// Puts elements of a fold, each with what is accumulated before it and the parts of its body.
+#[cycle(explain)]
+fn explain_steps<'a>(
+    alloc: Global,
+    out: &mut String,
+    population: &'a Population<'_>,
+    level: usize,
+    elements: &[Item<'a>],
+    start: Value<'a>,
+    body: &'a Core,
+    variables: &mut Variables<'a>,
+) -> Result<(), OutOfMemory>
+    requires elements { AreElementsThere population.now.content (meant_items elements.now) }
+    requires start { IsValueThere population.now.content (meant start) }
+    requires body { IsResolved population.now.content.model (core_view body.now) }
+    requires there { AreThere population.now.content variables.old }
+    ensures kept { OnOk result (variables.new ≡ variables.old) }
+{
+    let mut accumulated = start;
+    'elements: for element in elements {
+        accumulated = explain_step(
+            alloc,
+            out,
+            population,
+            level,
+            element,
+            accumulated,
+            body,
+            variables,
+        )?;
+    }
+    Ok(())
+}
+
+/// Puts an element of a fold with what is accumulated before it and the parts of its body, and computes what is
+/// accumulated after it.
+#[cycle(explain)]
+fn explain_step<'a>(
+    alloc: Global,
+    out: &mut String,
+    population: &'a Population<'_>,
+    level: usize,
+    element: &Item<'a>,
+    accumulated: Value<'a>,
+    body: &'a Core,
+    variables: &mut Variables<'a>,
+) -> Result<Value<'a>, OutOfMemory>
+    requires element { IsElementThere population.now.content (meant_item element.now) }
+    requires accumulated { IsValueThere population.now.content (meant accumulated) }
+    requires body { IsResolved population.now.content.model (core_view body.now) }
+    requires there { AreThere population.now.content variables.old }
+    ensures value { IfOk result (λ v. meant v ≡ meaning population.now.content
+        (core_view body.now) (meant accumulated.entry ∷ element_value (meant_item element.now)
+        ∷ variables.old)) }
+    ensures there { IfOk result (λ v. IsValueThere population.now.content (meant v)) }
+    ensures kept { OnOk result (variables.new ≡ variables.old) }
+{
+    let number = variables.len();
+    let value = item_value(element);
+    put_indent(out, level)?;
+    put_binding(alloc, out, population, number, &value)?;
+    put(out, ", ")?;
+    put_binding(alloc, out, population, next(number)?, &accumulated)?;
+    put(out, "\n")?;
+    variables.bind(value)?;
+    variables.bind(accumulated)?;
+    explain(alloc, out, population, next(level)?, body, variables)?;
+    let after = evaluate(alloc, population, body, variables)?;
+    variables.forget(2);
+    Ok(after)
+}
+
+/// The word for the verdict of a value.
+fn verdict_word(value: &Value<'_>) -> &'static str
+    ensures { result.now ≡ verdict_word (verdict_of (meant value.now)) }
+{
+    if is_true(value) {
+        "holds"
+    } else if is_false(value) {
+        "fails"
+    } else {
+        "is undecided"
+    }
+}
+
+/// Puts the verdict of a rule for an object, by the value of its expression.
+fn put_verdict(
+    out: &mut String,
+    population: &Population<'_>,
+    rule: &CoreRule,
+    object: ObjectNo,
+    value: &Value<'_>,
+) -> Result<(), OutOfMemory>
+    requires object { object < length population.now.content.objects }
+    requires value { meant value.now ≡ meaning population.now.content (core_view rule.now.tree)
+        (object_value object ∷ []) }
+    ensures { OnOk result (string_bytes out.new ≡ string_bytes out.old ++
+        verdict_line population.now.content (checked_rule_of rule.now) object) }
+{
+    put(out, "rule ")?;
+    put(out, rule.name.as_str())?;
+    put(out, " ")?;
+    put(out, verdict_word(value))?;
+    put(out, " for ")?;
+    put(out, population.id(object))?;
+    put(out, "\n")
+}
+
+/// Why a rule has its verdict for an object: the verdict, and below it the parts of the rule's expression with their values.
+pub fn explain_verdict<'a>(
+    alloc: Global,
+    population: &'a Population<'_>,
+    rule: &'a CoreRule,
+    object: ObjectNo,
+) -> Result<String, OutOfMemory>
+    requires resolved { IsResolved population.now.content.model (core_view rule.now.tree) }
+    requires object { object < length population.now.content.objects }
+    ensures verdict { IfOk result (λ s. (parts : List ℕ) × (string_bytes s ≡
+        verdict_line population.entry.now.content (checked_rule_of rule.entry.now) object
+        ++ parts)) }
+{
+    let mut out = String::new(alloc);
+    let mut parts = String::new(alloc);
+    let mut variables = Variables::new(alloc);
+    variables.bind(Value::Item(Item::Object(object)))?;
+    let value = evaluate(alloc, population, &rule.tree, &mut variables)?;
+    explain(alloc, &mut parts, population, 1, &rule.tree, &mut variables)?;
+    put_verdict(&mut out, population, rule, object, &value)?;
+    put(&mut out, &parts)?;
+    Ok(out)
+}

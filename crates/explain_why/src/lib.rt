@@ -1,0 +1,13 @@
+//! Why a rule has its verdict for an object: each part of its expression with its value, down to what is absent or has no
+//! result.
+#![tactic(auto)]
+
+mod deciding;
+mod explaining;
+mod pieces;
+mod reasons;
+mod texts;
+mod values;
+mod words;
+
+pub use explaining::explain_verdict;

@@ -1,0 +1,266 @@
+//! Why a value is null or invalid, where that begins.
+
+ghost use Rattle.std.specs.Prelude.{◌≡◌, ◌++◌, ◌∷◌, ◌<◌, length, map, OnOk, string_bytes};
+ghost use Rattle.std.specs.List.{list_any};
+ghost use Rattle.rule_values.specs.Operations.{is_null, is_invalid};
+ghost use Rattle.owned_values.specs.Meant.{meant, meant_item, meant_items, IsValueThere};
+ghost use Rattle.ocl_meaning.specs.Resolved.{IsOperatorOf};
+ghost use Rattle.explain_why.specs.Reasons.{is_null_element, sum_reason, divisor_reason, quotient_reason, plain_reason, other_class_reason, cast_reason, class_reason, own_reason, invalid_reason, operation_reason, absent_reason, feature_reason, choice_reason};
+
+use crate::pieces::put;
+use imkl_model::{ClassNo, FeatureNo};
+use imkl_population::{ObjectNo, Population};
+use ocl_base::OutOfMemory;
+use ocl_core::{ClassOperator, Operator, PlainOperator};
+use owned_values::{Item, Value, is_invalid, is_null};
+
+/// Whether an element is null.
+fn is_null_item(item: &Item<'_>) -> bool
+    ensures { result ≡ is_null_element (meant_item item.now) }
+{
+    matches!(item, Item::Null)
+}
+
+/// Whether one of the elements is null.
+fn is_any_null(items: &[Item<'_>]) -> bool
+    ensures { result ≡ list_any is_null_element (meant_items items.now) }
+{
+    for item in items {
+        if is_null_item(item) {
+            return true;
+        }
+    }
+    false
+}
+
+/// Why a sum is no number.
+fn sum_reason(v: &Value<'_>) -> &'static str
+    ensures { result.now ≡ sum_reason (meant v.now) }
+{
+    match v {
+        Value::Collection(_, items) => {
+            if is_any_null(items) {
+                ": an element is null"
+            } else {
+                ": out of range"
+            }
+        }
+        _ => "",
+    }
+}
+
+/// Why there is no quotient, by its divisor.
+fn divisor_reason(divisor: &Value<'_>) -> &'static str
+    ensures { result.now ≡ divisor_reason (meant divisor.now) }
+{
+    match divisor {
+        Value::Item(Item::Int(number)) => {
+            if *number == 0 {
+                ": division by zero"
+            } else {
+                ": out of range"
+            }
+        }
+        _ => "",
+    }
+}
+
+/// Why a quotient is no number.
+fn quotient_reason(others: &[Value<'_>]) -> &'static str
+    ensures { result.now ≡ quotient_reason (map meant others.now) }
+{
+    match others {
+        [divisor, ..] => divisor_reason(divisor),
+        [] => "",
+    }
+}
+
+fn plain_reason(operator: PlainOperator, v: &Value<'_>, others: &[Value<'_>]) -> &'static str
+    ensures { result.now ≡ plain_reason operator (meant v.now) (map meant others.now) }
+{
+    match operator {
+        PlainOperator::Divide | PlainOperator::Modulo => quotient_reason(others),
+        PlainOperator::Substring => ": there are no such characters",
+        PlainOperator::Sum => sum_reason(v),
+        _ => ": out of range",
+    }
+}
+
+/// Puts that an object isn't of the class that it is taken for.
+fn put_cast_reason(
+    out: &mut String,
+    population: &Population<'_>,
+    class: ClassNo,
+    v: &Value<'_>,
+) -> Result<(), OutOfMemory>
+    requires class { class < length population.now.content.model.classes }
+    requires there { IsValueThere population.now.content (meant v.now) }
+    ensures { OnOk result (string_bytes out.new ≡ string_bytes out.old ++
+        cast_reason population.now.content class (meant v.now)) }
+{
+    match v {
+        Value::Item(Item::Object(object)) => put_other_class(out, population, class, *object),
+        _ => Ok(()),
+    }
+}
+
+/// Puts that an object isn't of a class.
+fn put_other_class(
+    out: &mut String,
+    population: &Population<'_>,
+    class: ClassNo,
+    object: ObjectNo,
+) -> Result<(), OutOfMemory>
+    requires class { class < length population.now.content.model.classes }
+    requires object { object < length population.now.content.objects }
+    ensures { OnOk result (string_bytes out.new ≡ string_bytes out.old ++
+        other_class_reason population.now.content object class) }
+{
+    put(out, ": ")?;
+    put(out, population.id(object))?;
+    put(out, " is no ")?;
+    put(out, population.model().class_name(class))
+}
+
+/// Puts why an operator that asks for a class has no result.
+fn put_class_reason(
+    out: &mut String,
+    population: &Population<'_>,
+    operator: ClassOperator,
+    class: ClassNo,
+    v: &Value<'_>,
+) -> Result<(), OutOfMemory>
+    requires class { class < length population.now.content.model.classes }
+    requires there { IsValueThere population.now.content (meant v.now) }
+    ensures { OnOk result (string_bytes out.new ≡ string_bytes out.old ++
+        class_reason population.now.content operator class (meant v.now)) }
+{
+    match operator {
+        ClassOperator::AsType => put_cast_reason(out, population, class, v),
+        ClassOperator::IsKindOf | ClassOperator::IsTypeOf => Ok(()),
+    }
+}
+
+/// Puts why an operation on operands of which none is null or invalid has no result.
+fn put_own_reason(
+    out: &mut String,
+    population: &Population<'_>,
+    operator: Operator,
+    v: &Value<'_>,
+    others: &[Value<'_>],
+) -> Result<(), OutOfMemory>
+    requires operator { IsOperatorOf population.now.content.model operator }
+    requires there { IsValueThere population.now.content (meant v.now) }
+    ensures { OnOk result (string_bytes out.new ≡ string_bytes out.old ++
+        own_reason population.now.content operator (meant v.now) (map meant others.now)) }
+{
+    match operator {
+        Operator::Plain(plain) => put(out, plain_reason(plain, v, others)),
+        Operator::OfClass(of_class, class) => put_class_reason(out, population, of_class, class, v),
+        Operator::OfElements(_, _) | Operator::Equal(_) => Ok(()),
+    }
+}
+
+/// Whether one of the operands is invalid.
+fn any_invalid(v: &Value<'_>, others: &[Value<'_>]) -> bool
+    ensures { result ≡ list_any is_invalid (meant v.now ∷ map meant others.now) }
+{
+    if is_invalid(v) {
+        return true;
+    }
+    for other in others {
+        if is_invalid(other) {
+            return true;
+        }
+    }
+    false
+}
+
+/// Whether one of the operands is null.
+fn any_null(v: &Value<'_>, others: &[Value<'_>]) -> bool
+    ensures { result ≡ list_any is_null (meant v.now ∷ map meant others.now) }
+{
+    if is_null(v) {
+        return true;
+    }
+    for other in others {
+        if is_null(other) {
+            return true;
+        }
+    }
+    false
+}
+
+/// Puts why an operation has no result, by its operands and what it gave.
+pub(crate) fn put_operation_reason(
+    out: &mut String,
+    population: &Population<'_>,
+    operator: Operator,
+    v: &Value<'_>,
+    others: &[Value<'_>],
+    gave: &Value<'_>,
+) -> Result<(), OutOfMemory>
+    requires operator { IsOperatorOf population.now.content.model operator }
+    requires there { IsValueThere population.now.content (meant v.now) }
+    ensures { OnOk result (string_bytes out.new ≡ string_bytes out.old ++ operation_reason
+        population.now.content operator (meant v.now) (map meant others.now) (meant gave.now)) }
+{
+    if !is_invalid(gave) || any_invalid(v, others) {
+        return Ok(());
+    }
+    if any_null(v, others) {
+        return put(out, ": an operand is null");
+    }
+    put_own_reason(out, population, operator, v, others)
+}
+
+/// Puts that an object has nothing at a feature.
+fn put_absent(
+    out: &mut String,
+    population: &Population<'_>,
+    object: ObjectNo,
+    feature: FeatureNo,
+) -> Result<(), OutOfMemory>
+    requires object { object < length population.now.content.objects }
+    requires feature { feature < length population.now.content.model.features }
+    ensures { OnOk result (string_bytes out.new ≡ string_bytes out.old ++
+        absent_reason population.now.content object feature) }
+{
+    put(out, ": ")?;
+    put(out, population.id(object))?;
+    put(out, " has no ")?;
+    put(out, population.model().feature_info(feature).name.as_str())
+}
+
+/// Puts why a feature has no value, by what it was read of and what it gave.
+pub(crate) fn put_feature_reason(
+    out: &mut String,
+    population: &Population<'_>,
+    feature: FeatureNo,
+    v: &Value<'_>,
+    gave: &Value<'_>,
+) -> Result<(), OutOfMemory>
+    requires feature { feature < length population.now.content.model.features }
+    requires there { IsValueThere population.now.content (meant v.now) }
+    ensures { OnOk result (string_bytes out.new ≡ string_bytes out.old ++ feature_reason
+        population.now.content feature (meant v.now) (meant gave.now)) }
+{
+    match v {
+        Value::Item(Item::Null) => put(out, ": null has no features"),
+        Value::Item(Item::Object(object)) if is_null(gave) => {
+            put_absent(out, population, *object, feature)
+        }
+        _ => Ok(()),
+    }
+}
+
+/// Why an `if` has no value, by its condition.
+pub(crate) fn choice_reason(condition: &Value<'_>) -> &'static str
+    ensures { result.now ≡ choice_reason (meant condition.now) }
+{
+    if is_null(condition) {
+        ": the condition is null"
+    } else {
+        ""
+    }
+}

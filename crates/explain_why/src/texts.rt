@@ -1,0 +1,399 @@
+//! Core trees as short OCL.
+
+ghost use Rattle.std.specs.Prelude.{◌≡◌, ◌++◌, suc, map, IfOk, OnOk, string_bytes};
+ghost use Rattle.std.specs.List.{AllByRecursion};
+ghost use Rattle.ocl_core.specs.Core.{cores_of};
+ghost use Rattle.ocl_core.specs.CoreView.{constant_of, core_view};
+ghost use Rattle.ocl_core.specs.Typing.{IsConstantOf};
+ghost use Rattle.ocl_meaning.specs.Resolved.{IsOperatorOf, IsResolved, AreResolved};
+ghost use Rattle.ocl_meaning.specs.Evaluated.{IsLinkResolved, AreLinksResolved};
+ghost use Rattle.explain_why.specs.Texts.{variable_name, constant_text, class_asked, wrapped};
+
+use crate::pieces::{put, put_count};
+use crate::values::{put_before, put_literal, put_quoted};
+use crate::words::{Form, iteration_word, kind_name, operator_form, operator_word};
+use imkl_model::ClassModel;
+use ocl_base::OutOfMemory;
+use ocl_core::{ConstantValue, Core, CoreLink, Operator};
+use std::alloc::Global;
+
+/// The number after a number. No memory holds so many variables or levels that there is none.
+pub(crate) fn next(number: usize) -> Result<usize, OutOfMemory>
+    ensures { IfOk result (λ n. n ≡ suc number) }
+{
+    match number.checked_add(1) {
+        Some(next) => Ok(next),
+        None => Err(OutOfMemory),
+    }
+}
+
+/// A tree's text, and whether it stands in parentheses as an operand.
+#[derive(Drop)]
+pub(crate) struct Text {
+    pub(crate) text: String,
+    pub(crate) is_open: bool,
+}
+
+/// Puts the name of a variable.
+pub(crate) fn put_variable(
+    alloc: Global,
+    out: &mut String,
+    number: usize,
+) -> Result<(), OutOfMemory>
+    ensures { OnOk result (string_bytes out.new ≡ string_bytes out.old ++ variable_name number) }
+{
+    if number == 0 {
+        return put(out, "self");
+    }
+    put(out, "x")?;
+    put_count(alloc, out, number)
+}
+
+/// Puts a constant.
+fn put_constant(
+    alloc: Global,
+    out: &mut String,
+    model: &ClassModel,
+    value: &ConstantValue,
+) -> Result<(), OutOfMemory>
+    requires { IsConstantOf model.now (constant_of value.now) }
+    ensures { OnOk result (string_bytes out.new ≡ string_bytes out.old ++
+        constant_text model.now (constant_of value.now)) }
+{
+    match value {
+        ConstantValue::Boolean(true) => put(out, "true"),
+        ConstantValue::Boolean(false) => put(out, "false"),
+        ConstantValue::Integer(number) => put_count(alloc, out, number.get() as usize),
+        ConstantValue::Text(text) => put_quoted(out, text),
+        ConstantValue::Literal(enumeration, literal) => {
+            put_literal(out, model, *enumeration, *literal)
+        }
+        ConstantValue::Null => put(out, "null"),
+        ConstantValue::Invalid => put(out, "invalid"),
+    }
+}
+
+/// Puts a text, in parentheses where it has to stand in them.
+fn put_wrapped(out: &mut String, wraps: bool, text: &str) -> Result<(), OutOfMemory>
+    ensures { OnOk result (string_bytes out.new ≡ string_bytes out.old ++ wrapped wraps text.now) }
+{
+    if !wraps {
+        return put(out, text);
+    }
+    put(out, "(")?;
+    put(out, text)?;
+    put(out, ")")
+}
+
+/// The class that an operator asks for, or nothing.
+fn class_asked<'m>(model: &'m ClassModel, operator: &Operator) -> &'m str
+    requires { IsOperatorOf model.now operator.now }
+    ensures { result.now ≡ class_asked model.now operator.now }
+{
+    match operator {
+        Operator::OfClass(_, class) => model.class_name(*class),
+        _ => "",
+    }
+}
+
+/// The text of a core tree in which so many variables are seen.
+#[cycle(text)]
+#[tactic(auto, using(ocl_core::proofs::ForAbove::views))]
+pub(crate) fn text_of(
+    alloc: Global,
+    model: &ClassModel,
+    core: &Core,
+    seen: usize,
+) -> Result<Text, OutOfMemory>
+    requires { IsResolved model.now (core_view core.now) }
+{
+    match core {
+        Core::Constant { value } => {
+            let mut text = String::new(alloc);
+            put_constant(alloc, &mut text, model, value)?;
+            Ok(Text {
+                text,
+                is_open: false,
+            })
+        }
+        Core::Variable { number } => {
+            let mut text = String::new(alloc);
+            put_variable(alloc, &mut text, *number)?;
+            Ok(Text {
+                text,
+                is_open: false,
+            })
+        }
+        Core::AllInstances { class } => {
+            let mut text = String::new(alloc);
+            put(&mut text, model.class_name(*class))?;
+            put(&mut text, ".allInstances()")?;
+            Ok(Text {
+                text,
+                is_open: false,
+            })
+        }
+        Core::Spine { first, links } => {
+            let text = text_of(alloc, model, first, seen)?;
+            links_text(alloc, model, text, links, seen)
+        }
+        Core::Let { values, body } => {
+            let mut text = String::new(alloc);
+            let number = put_lets(alloc, &mut text, model, values, seen)?;
+            let inner = text_of(alloc, model, body, number)?;
+            put(&mut text, &inner.text)?;
+            let is_open = !values.is_empty() || inner.is_open;
+            Ok(Text { text, is_open })
+        }
+        Core::If {
+            condition,
+            then_branch,
+            else_branch,
+            ..
+        } => {
+            let mut text = String::new(alloc);
+            put(&mut text, "if ")?;
+            put_text(alloc, &mut text, model, condition, seen)?;
+            put(&mut text, " then ")?;
+            put_text(alloc, &mut text, model, then_branch, seen)?;
+            put(&mut text, " else ")?;
+            put_text(alloc, &mut text, model, else_branch, seen)?;
+            put(&mut text, " endif")?;
+            Ok(Text {
+                text,
+                is_open: false,
+            })
+        }
+    }
+}
+
+/// Puts the text of a tree.
+#[cycle(text)]
+fn put_text(
+    alloc: Global,
+    out: &mut String,
+    model: &ClassModel,
+    core: &Core,
+    seen: usize,
+) -> Result<(), OutOfMemory>
+    requires { IsResolved model.now (core_view core.now) }
+{
+    let text = text_of(alloc, model, core, seen)?;
+    put(out, &text.text)
+}
+
+/// Puts what stands before the body of values as variables, and answers the number of the next variable.
+#[cycle(text)]
+fn put_lets(
+    alloc: Global,
+    out: &mut String,
+    model: &ClassModel,
+    values: &[Core],
+    seen: usize,
+) -> Result<usize, OutOfMemory>
+    requires { AllByRecursion (IsResolved model.now) (map core_view values.now) }
+{
+    let mut number = seen;
+    'values: for value in values {
+        put_let(alloc, out, model, value, number)?;
+        number = next(number)?;
+    }
+    Ok(number)
+}
+
+/// The text of values as variables of a body.
+pub(crate) fn let_text(
+    alloc: Global,
+    model: &ClassModel,
+    values: &[Core],
+    body: &Core,
+    seen: usize,
+) -> Result<String, OutOfMemory>
+    requires values { AllByRecursion (IsResolved model.now) (map core_view values.now) }
+    requires body { IsResolved model.now (core_view body.now) }
+{
+    let mut text = String::new(alloc);
+    let number = put_lets(alloc, &mut text, model, values, seen)?;
+    let inner = text_of(alloc, model, body, number)?;
+    put(&mut text, &inner.text)?;
+    Ok(text)
+}
+
+/// Puts the first part of a `let`: its variable and its value.
+#[cycle(text)]
+fn put_let(
+    alloc: Global,
+    out: &mut String,
+    model: &ClassModel,
+    value: &Core,
+    number: usize,
+) -> Result<(), OutOfMemory>
+    requires { IsResolved model.now (core_view value.now) }
+{
+    put(out, "let ")?;
+    put_variable(alloc, out, number)?;
+    put(out, " = ")?;
+    put_text(alloc, out, model, value, number)?;
+    put(out, " in ")
+}
+
+/// The text of links on a first operand.
+#[cycle(text)]
+fn links_text(
+    alloc: Global,
+    model: &ClassModel,
+    first: Text,
+    links: &[CoreLink],
+    seen: usize,
+) -> Result<Text, OutOfMemory>
+    requires { AreLinksResolved model.now links.now }
+{
+    let mut text = first;
+    'links: for link in links {
+        text = link_text(alloc, model, link, seen, &text)?;
+    }
+    Ok(text)
+}
+
+/// The text of a first operand with its links.
+pub(crate) fn spine_text(
+    alloc: Global,
+    model: &ClassModel,
+    first: &Core,
+    links: &[CoreLink],
+    seen: usize,
+) -> Result<Text, OutOfMemory>
+    requires first { IsResolved model.now (core_view first.now) }
+    requires links { AreLinksResolved model.now links.now }
+{
+    let text = text_of(alloc, model, first, seen)?;
+    links_text(alloc, model, text, links, seen)
+}
+
+/// The text of a link on a first operand.
+#[cycle(text)]
+pub(crate) fn link_text(
+    alloc: Global,
+    model: &ClassModel,
+    link: &CoreLink,
+    seen: usize,
+    first: &Text,
+) -> Result<Text, OutOfMemory>
+    requires { IsLinkResolved model.now link.now }
+{
+    let mut text = String::new(alloc);
+    let is_open = match link {
+        CoreLink::Operation { operator, .. } => operator_form(*operator).is_open(),
+        _ => false,
+    };
+    put_link(alloc, &mut text, model, link, seen, first)?;
+    Ok(Text { text, is_open })
+}
+
+/// Puts a first operand with a link on it.
+#[cycle(text)]
+#[tactic(auto, using(ocl_core::proofs::ForAbove::views))]
+fn put_link(
+    alloc: Global,
+    out: &mut String,
+    model: &ClassModel,
+    link: &CoreLink,
+    seen: usize,
+    first: &Text,
+) -> Result<(), OutOfMemory>
+    requires { IsLinkResolved model.now link.now }
+{
+    match link {
+        CoreLink::Feature { feature } => {
+            put_wrapped(out, first.is_open, &first.text)?;
+            put(out, ".")?;
+            put(out, model.feature_info(*feature).name.as_str())
+        }
+        CoreLink::Operation { operator, others } => {
+            put_operation(alloc, out, model, operator, others, seen, first)
+        }
+        CoreLink::AsCollection { collection, .. } => {
+            put_wrapped(out, first.is_open, &first.text)?;
+            put(out, "->as")?;
+            put(out, kind_name(*collection))?;
+            put(out, "()")
+        }
+        CoreLink::Iterate { iteration, body } => {
+            put_wrapped(out, first.is_open, &first.text)?;
+            put(out, iteration_word(*iteration))?;
+            put_variable(alloc, out, seen)?;
+            put(out, " | ")?;
+            put_text(alloc, out, model, body, next(seen)?)?;
+            put(out, ")")
+        }
+        CoreLink::Fold { start, body, .. } => {
+            put_wrapped(out, first.is_open, &first.text)?;
+            put(out, "->iterate(")?;
+            put_variable(alloc, out, seen)?;
+            put(out, "; ")?;
+            put_variable(alloc, out, next(seen)?)?;
+            put(out, " = ")?;
+            put_text(alloc, out, model, start, seen)?;
+            put(out, " | ")?;
+            put_text(alloc, out, model, body, next(next(seen)?)?)?;
+            put(out, ")")
+        }
+    }
+}
+
+/// Puts an operation on a first operand.
+#[cycle(text)]
+fn put_operation(
+    alloc: Global,
+    out: &mut String,
+    model: &ClassModel,
+    operator: &Operator,
+    others: &[Core],
+    seen: usize,
+    first: &Text,
+) -> Result<(), OutOfMemory>
+    requires operator { IsOperatorOf model.now operator.now }
+    requires others { AreResolved model.now (cores_of (map core_view others.now)) }
+{
+    let word = operator_word(*operator);
+    match operator_form(*operator) {
+        Form::Between => {
+            put_wrapped(out, first.is_open, &first.text)?;
+            put(out, word)?;
+            put_others(alloc, out, model, true, others, seen)
+        }
+        Form::Before => {
+            put(out, word)?;
+            put_wrapped(out, first.is_open, &first.text)?;
+            put_others(alloc, out, model, true, others, seen)
+        }
+        Form::After => {
+            put_wrapped(out, first.is_open, &first.text)?;
+            put(out, word)?;
+            put(out, "(")?;
+            put(out, class_asked(model, operator))?;
+            put_others(alloc, out, model, false, others, seen)?;
+            put(out, ")")
+        }
+    }
+}
+
+/// Puts the operands after the first.
+#[cycle(text)]
+fn put_others(
+    alloc: Global,
+    out: &mut String,
+    model: &ClassModel,
+    wraps: bool,
+    others: &[Core],
+    seen: usize,
+) -> Result<(), OutOfMemory>
+    requires { AreResolved model.now (cores_of (map core_view others.now)) }
+{
+    'others: for index in 0..others.len() {
+        put_before(out, index)?;
+        let text = text_of(alloc, model, &others[index], seen)?;
+        put_wrapped(out, wraps && text.is_open, &text.text)?;
+    }
+    Ok(())
+}

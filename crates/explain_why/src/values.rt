@@ -1,0 +1,177 @@
+//! Values as OCL writes them.
+
+ghost use Rattle.std.specs.Prelude.{◌≡◌, ◌++◌, ◌<◌, length, OnOk, string_bytes};
+ghost use Rattle.std.specs.List.{flat_map};
+ghost use Rattle.std.specs.Str.{chars};
+ghost use Rattle.imkl_model.specs.ClassModel.{enumeration_at};
+ghost use Rattle.owned_values.specs.Meant.{meant, meant_item, meant_items, IsElementThere, AreElementsThere, IsValueThere};
+ghost use Rattle.explain_why.specs.Values.{literal_text, quoted_character, quoted_text, kind_name, element_text, before_element, elements_text, more_text, collection_text, value_text};
+
+use crate::pieces::{put, put_count, put_number};
+use crate::words::kind_name;
+use imkl_model::{ClassModel, EnumNo, LiteralNo};
+use imkl_population::Population;
+use ocl_base::{CollectionKind, OutOfMemory};
+use owned_values::{Item, Value};
+use std::alloc::Global;
+
+/// The greatest number of elements that are shown of a collection.
+pub(crate) const MOST_SHOWN: usize = 10;
+
+/// Puts a literal, with its enumeration.
+pub(crate) fn put_literal(
+    out: &mut String,
+    model: &ClassModel,
+    enumeration: EnumNo,
+    literal: LiteralNo,
+) -> Result<(), OutOfMemory>
+    requires enumeration { enumeration < length model.now.enumerations }
+    requires literal { literal < length (enumeration_at model.now enumeration).literals }
+    ensures { OnOk result (string_bytes out.new ≡ string_bytes out.old ++
+        literal_text model.now enumeration literal) }
+{
+    put(out, model.enum_name(enumeration))?;
+    put(out, "::")?;
+    put(out, model.literal_name(enumeration, literal))
+}
+
+/// Puts a character of a text within quotes.
+fn put_character(out: &mut String, character: char) -> Result<(), OutOfMemory>
+    ensures { OnOk result (string_bytes out.new ≡ string_bytes out.old ++
+        quoted_character character) }
+{
+    match character {
+        '\'' => put(out, "\\'"),
+        '\\' => put(out, "\\\\"),
+        '\n' => put(out, "\\n"),
+        '\r' => put(out, "\\r"),
+        '\t' => put(out, "\\t"),
+        _ => {
+            out.push(character)?;
+            Ok(())
+        }
+    }
+}
+
+/// Puts a text within quotes.
+pub(crate) fn put_quoted(out: &mut String, text: &str) -> Result<(), OutOfMemory>
+    ensures { OnOk result (string_bytes out.new ≡ string_bytes out.old ++
+        quoted_text (chars text.now)) }
+{
+    put(out, "'")?;
+    put_characters(out, text)?;
+    put(out, "'")
+}
+
+/// Puts the characters of a text as they stand within quotes.
+fn put_characters(out: &mut String, text: &str) -> Result<(), OutOfMemory>
+    ensures { OnOk result (string_bytes out.new ≡ string_bytes out.old ++
+        flat_map quoted_character (chars text.now)) }
+{
+    'characters: for character in text.chars() {
+        put_character(out, character)?;
+    }
+    Ok(())
+}
+
+/// Puts an element, or a single value.
+pub(crate) fn put_element(
+    alloc: Global,
+    out: &mut String,
+    population: &Population<'_>,
+    item: &Item<'_>,
+) -> Result<(), OutOfMemory>
+    requires { IsElementThere population.now.content (meant_item item.now) }
+    ensures { OnOk result (string_bytes out.new ≡ string_bytes out.old ++
+        element_text population.now.content (meant_item item.now)) }
+{
+    match item {
+        Item::Null => put(out, "null"),
+        Item::Bool(true) => put(out, "true"),
+        Item::Bool(false) => put(out, "false"),
+        Item::Int(number) => put_number(alloc, out, *number),
+        Item::Text(text) => put_quoted(out, text),
+        Item::Literal(enumeration, literal) => {
+            put_literal(out, population.model(), *enumeration, *literal)
+        }
+        Item::Object(object) => put(out, population.id(*object)),
+    }
+}
+
+/// Puts how many more elements there are, if there are more.
+fn put_more_elements(alloc: Global, out: &mut String, more: usize) -> Result<(), OutOfMemory>
+    ensures { OnOk result (string_bytes out.new ≡ string_bytes out.old ++ more_text more) }
+{
+    if more == 0 {
+        return Ok(());
+    }
+    put(out, ", and ")?;
+    put_count(alloc, out, more)?;
+    put(out, " more")
+}
+
+/// Puts what stands before an element: a comma, but for the first.
+pub(crate) fn put_before(out: &mut String, index: usize) -> Result<(), OutOfMemory>
+    ensures { OnOk result (string_bytes out.new ≡ string_bytes out.old ++ before_element index) }
+{
+    if index == 0 {
+        return Ok(());
+    }
+    put(out, ", ")
+}
+
+/// Puts elements with commas between them.
+fn put_elements(
+    alloc: Global,
+    out: &mut String,
+    population: &Population<'_>,
+    items: &[Item<'_>],
+) -> Result<(), OutOfMemory>
+    requires { AreElementsThere population.now.content (meant_items items.now) }
+    ensures { OnOk result (string_bytes out.new ≡ string_bytes out.old ++
+        elements_text population.now.content 0 (meant_items items.now)) }
+{
+    for index in 0..items.len() {
+        put_before(out, index)?;
+        put_element(alloc, out, population, &items[index])?;
+    }
+    Ok(())
+}
+
+/// Puts a collection, of which at most `MOST_SHOWN` elements are shown.
+fn put_collection(
+    alloc: Global,
+    out: &mut String,
+    population: &Population<'_>,
+    kind: CollectionKind,
+    items: &[Item<'_>],
+) -> Result<(), OutOfMemory>
+    requires { AreElementsThere population.now.content (meant_items items.now) }
+    ensures { OnOk result (string_bytes out.new ≡ string_bytes out.old ++
+        collection_text population.now.content kind (meant_items items.now)) }
+{
+    let shown = items.len().min(MOST_SHOWN);
+    put(out, kind_name(kind))?;
+    put(out, "{")?;
+    put_elements(alloc, out, population, &items[..shown])?;
+    put_more_elements(alloc, out, items.len() - shown)?;
+    put(out, "}")
+}
+
+/// Puts a value.
+pub(crate) fn put_value(
+    alloc: Global,
+    out: &mut String,
+    population: &Population<'_>,
+    value: &Value<'_>,
+) -> Result<(), OutOfMemory>
+    requires { IsValueThere population.now.content (meant value.now) }
+    ensures { OnOk result (string_bytes out.new ≡ string_bytes out.old ++
+        value_text population.now.content (meant value.now)) }
+{
+    match value {
+        Value::Invalid => put(out, "invalid"),
+        Value::Item(item) => put_element(alloc, out, population, item),
+        Value::Collection(kind, items) => put_collection(alloc, out, population, *kind, items),
+    }
+}

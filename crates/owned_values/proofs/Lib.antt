@@ -1,0 +1,4 @@
+pub mod Characters
+pub mod Bodies
+pub mod There
+pub mod ForAbove

@@ -1,0 +1,179 @@
+//! What iterations give that keep elements, or collect what their body gave.
+
+ghost use Rattle.std.specs.Prelude.{◌≡◌, ◌++◌, List, map, length, IfOk, OnOk};
+ghost use Rattle.std.specs.List.{list_any, filter_map};
+ghost use Rattle.ocl_base.specs.Lists.{repeats};
+ghost use Rattle.rule_values.specs.Value.{Element, as_element, same_element};
+ghost use Rattle.rule_values.specs.Operations.{is_invalid};
+ghost use Rattle.rule_values.specs.Endings.{select, reject, collection_elements, joined, collect, collect_flat, unique_bodies};
+ghost use Rattle.owned_values.specs.Meant.{meant, meant_items, source};
+ghost use Rattle.owned_values.specs.Walks.{element_list};
+
+use crate::elements::is_item_among;
+use crate::endings::{any_undecided, kept_items};
+use crate::memory::push;
+use crate::value::{Item, Value, copy_of, is_invalid};
+use ocl_base::{CollectionKind, OutOfMemory};
+use ocl_kinds::collected_kind;
+use std::alloc::Global;
+
+/// The elements whose body is true; invalid where a body is undecided.
+#[tactic(auto, using(crate::proofs::Bodies::any_bodies))]
+pub fn select<'a>(
+    alloc: Global,
+    kind: CollectionKind,
+    items: &[Item<'a>],
+    bodies: &[Value<'_>],
+) -> Result<Value<'a>, OutOfMemory>
+    requires { length bodies.now ≡ length items.now }
+    ensures { IfOk result (λ v. meant v ≡ select (source kind (meant_items items.now))
+        (map meant bodies.now)) }
+{
+    if any_undecided(bodies) {
+        return Ok(Value::Invalid);
+    }
+    let kept = kept_items(alloc, items, bodies, true)?;
+    Ok(Value::Collection(kind, kept))
+}
+
+/// The elements whose body is false; invalid where a body is undecided.
+#[tactic(auto, using(crate::proofs::Bodies::any_bodies))]
+pub fn reject<'a>(
+    alloc: Global,
+    kind: CollectionKind,
+    items: &[Item<'a>],
+    bodies: &[Value<'_>],
+) -> Result<Value<'a>, OutOfMemory>
+    requires { length bodies.now ≡ length items.now }
+    ensures { IfOk result (λ v. meant v ≡ reject (source kind (meant_items items.now))
+        (map meant bodies.now)) }
+{
+    if any_undecided(bodies) {
+        return Ok(Value::Invalid);
+    }
+    let kept = kept_items(alloc, items, bodies, false)?;
+    Ok(Value::Collection(kind, kept))
+}
+
+/// Whether a body is invalid.
+fn any_invalid(bodies: &[Value<'_>]) -> bool
+    ensures { result ≡ list_any (λ b. is_invalid (meant b)) bodies.now }
+{
+    bodies.iter().any(is_invalid)
+}
+
+/// Puts a body at a list's end, if it is an element.
+fn push_body<'a>(items: &mut Vec<Item<'a>>, body: &Value<'a>) -> Result<(), OutOfMemory>
+    ensures { OnOk result (meant_items items.new.items ≡ meant_items items.old.items ++
+        element_list (as_element (meant body.now))) }
+{
+    match body {
+        Value::Item(item) => push(items, copy_of(item)),
+        Value::Invalid => Ok(()),
+        Value::Collection(_, _) => Ok(()),
+    }
+}
+
+/// The bodies that are elements.
+fn collected_items<'a>(alloc: Global, bodies: &[Value<'a>]) -> Result<Vec<Item<'a>>, OutOfMemory>
+    ensures { IfOk result (λ v. meant_items v.items ≡
+        filter_map as_element (map meant bodies.now)) }
+{
+    let mut items = Vec::new(alloc);
+    for body in bodies {
+        push_body(&mut items, body)?;
+    }
+    Ok(items)
+}
+
+/// What the bodies give, one by one; invalid where one is invalid.
+#[tactic(auto, using(crate::proofs::Bodies::any_bodies))]
+pub fn collect<'a>(
+    alloc: Global,
+    kind: CollectionKind,
+    bodies: &[Value<'a>],
+) -> Result<Value<'a>, OutOfMemory>
+    ensures { IfOk result (λ v. (es : List Element) →
+        meant v ≡ collect (source kind es) (map meant bodies.now)) }
+{
+    if any_invalid(bodies) {
+        return Ok(Value::Invalid);
+    }
+    let collected = collected_items(alloc, bodies)?;
+    Ok(Value::Collection(collected_kind(kind), collected))
+}
+
+/// Puts copies of elements at a list's end.
+fn push_all<'a>(items: &mut Vec<Item<'a>>, more: &[Item<'a>]) -> Result<(), OutOfMemory>
+    ensures { OnOk result (meant_items items.new.items ≡ meant_items items.old.items ++
+        meant_items more.now) }
+{
+    for item in more {
+        push(items, copy_of(item))?;
+    }
+    Ok(())
+}
+
+/// Puts the elements of a body at a list's end.
+fn push_elements<'a>(items: &mut Vec<Item<'a>>, body: &Value<'a>) -> Result<(), OutOfMemory>
+    ensures { OnOk result (meant_items items.new.items ≡ meant_items items.old.items ++
+        collection_elements (meant body.now)) }
+{
+    match body {
+        Value::Collection(_, more) => push_all(items, more.as_slice()),
+        Value::Item(_) => Ok(()),
+        Value::Invalid => Ok(()),
+    }
+}
+
+/// The elements of all the bodies, in order.
+fn joined_items<'a>(alloc: Global, bodies: &[Value<'a>]) -> Result<Vec<Item<'a>>, OutOfMemory>
+    ensures { IfOk result (λ v. meant_items v.items ≡ joined (map meant bodies.now)) }
+{
+    let mut items = Vec::new(alloc);
+    for body in bodies {
+        push_elements(&mut items, body)?;
+    }
+    Ok(items)
+}
+
+/// The elements of what the bodies give; invalid where one is invalid.
+#[tactic(auto, using(crate::proofs::Bodies::any_bodies))]
+pub fn collect_flat<'a>(
+    alloc: Global,
+    kind: CollectionKind,
+    bodies: &[Value<'a>],
+) -> Result<Value<'a>, OutOfMemory>
+    ensures { IfOk result (λ v. (es : List Element) →
+        meant v ≡ collect_flat (source kind es) (map meant bodies.now)) }
+{
+    if any_invalid(bodies) {
+        return Ok(Value::Invalid);
+    }
+    let collected = joined_items(alloc, bodies)?;
+    Ok(Value::Collection(collected_kind(kind), collected))
+}
+
+/// Whether an element stands twice.
+fn repeats_item(items: &[Item<'_>]) -> bool
+    ensures { result ≡ repeats same_element (meant_items items.now) }
+{
+    for index in 0..items.len() {
+        if is_item_among(&items[index + 1..], &items[index]) {
+            return true;
+        }
+    }
+    false
+}
+
+/// Whether no two bodies are equal; invalid where one is invalid.
+#[tactic(auto, using(crate::proofs::Bodies::any_bodies))]
+pub fn unique_bodies<'a>(alloc: Global, bodies: &[Value<'_>]) -> Result<Value<'a>, OutOfMemory>
+    ensures { IfOk result (λ v. meant v ≡ unique_bodies (map meant bodies.now)) }
+{
+    if any_invalid(bodies) {
+        return Ok(Value::Invalid);
+    }
+    let items = collected_items(alloc, bodies)?;
+    Ok(Value::Item(Item::Bool(!repeats_item(items.as_slice()))))
+}
