@@ -37,13 +37,13 @@ abbrev pub word_at : List (List ℕ) → ℕ → List ℕ
 word_at words i = slice_index_or words i []
 
 -- `fail` or `undecided`, as a verdict
-abbrev pub verdict_word : List ℕ → List ℕ
-verdict_word word = if bytes_eq word (codes "fail") then codes "fails" else word
+abbrev pub json_verdict : List ℕ → List ℕ
+json_verdict word = if bytes_eq word (codes "fail") then codes "fails" else word
 
 -- The line of an object has three words, that of a rule ten, and the total five. What is no line gives nothing.
 abbrev pub json_of_words : List (List ℕ) → List ℕ
 json_of_words words =
-    if length words == 3 then json_of_object (word_at words 1) (word_at words 2) (verdict_word (word_at words 0))
+    if length words == 3 then json_of_object (word_at words 1) (word_at words 2) (json_verdict (word_at words 0))
     else (if length words == 10 then json_of_rule (word_at words 1) (word_at words 3) (word_at words 5) (word_at words 7) (word_at words 9)
     else (if length words == 5 then json_of_total (word_at words 2) (word_at words 4) else []))
 

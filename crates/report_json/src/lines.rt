@@ -1,13 +1,13 @@
 //! From the lines of a report to those of JSON.
 
 ghost use Rattle.std.specs.Prelude.{◌≡◌, ◌++◌, IfOk, OnOk, map};
-ghost use Rattle.report_json.specs.JsonLines.{json_of_object, json_of_counts, json_of_rule, json_of_total, json_of_line, json_of_report, lines_in, words_in, verdict_word};
+ghost use Rattle.report_json.specs.JsonLines.{json_of_object, json_of_counts, json_of_rule, json_of_total, json_of_line, json_of_report, lines_in, words_in, json_verdict};
 
 use std::alloc::{AllocError, Global};
 
 /// The verdict that the first word of an object's line stands for.
-fn verdict_word(word: &[u8]) -> &[u8]
-    ensures { result.now ≡ verdict_word word.now }
+fn json_verdict(word: &[u8]) -> &[u8]
+    ensures { result.now ≡ json_verdict word.now }
 {
     if word == b"fail".as_slice() {
         b"fails"
@@ -95,7 +95,7 @@ fn put_line(alloc: Global, out: &mut Vec<u8>, line: &[u8]) -> Result<(), AllocEr
 {
     let words = words_in(alloc, line)?;
     match words.len() {
-        3 => put_object(out, words[1], words[2], verdict_word(words[0])),
+        3 => put_object(out, words[1], words[2], json_verdict(words[0])),
         10 => {
             let counts = Counts {
                 objects: words[3],
