@@ -7,6 +7,7 @@ pub mod Equal
 pub mod Characters
 pub mod Loops
 pub mod InOrder
+pub mod SameWords
 pub mod Moved
 pub mod SlotOrder
 pub mod Choosing

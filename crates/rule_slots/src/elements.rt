@@ -235,6 +235,23 @@ fn find_in_list(
     }
 }
 
+/// Whether an element is one of a collection, of a kind that the compiler knows where it stands: so the loop over the
+/// collection is compiled for that kind alone.
+#[inline(always)]
+pub(crate) fn is_listed(
+    lists: Lists<'_>,
+    pool: &[Slot],
+    kind: WrittenScalar,
+    source: Slot,
+    slot: Slot,
+) -> bool
+    requires { IsInHome (lists_in lists) (length pool.now) source }
+    ensures { result ≡ is_among (same_slots (lists_in lists.entry) kind)
+        (held_slots (lists_in lists.entry) pool.now source) slot }
+{
+    find_in_list(lists, pool, kind, source, 0, slot).is_some()
+}
+
 /// Finds an element in a collection from an index on, and gives its place from there. (Kinds that are compared by the same
 /// word have loops of their own for it.)
 #[inline(never)]

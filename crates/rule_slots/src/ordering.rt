@@ -7,7 +7,7 @@ ghost use Rattle.rule_slots.specs.Slots.{lists_in, home_named, held_slots, IsInH
 ghost use Rattle.rule_slots.specs.Compared.{same_slots};
 ghost use Rattle.rule_slots.specs.Ordered.{compare_words, compare_slots, is_defined, may_precede, rises};
 
-use crate::elements::{is_slot_among, same_slots};
+use crate::elements::same_slots;
 use crate::lists::Lists;
 use crate::reading::{element, element_in};
 use crate::slot::{Home, Mark, Slot, home_named};
@@ -175,29 +175,5 @@ pub(crate) fn is_among_ordered(
         WrittenScalar::Enumeration(_) | WrittenScalar::Class(_) | WrittenScalar::AnyObject => {
             is_among_ordered_list(lists, pool, WrittenScalar::AnyObject, source, slot)
         }
-    }
-}
-
-/// Whether an element is one of a collection, which stands in order if `ordered` says so.
-#[inline(always)]
-pub(crate) fn is_among_known(
-    lists: Lists<'_>,
-    pool: &[Slot],
-    kind: WrittenScalar,
-    source: Slot,
-    ordered: bool,
-    slot: Slot,
-) -> bool
-    requires home { IsInHome (lists_in lists) (length pool.now) source }
-    requires order { ordered ≡ true → rises is_defined (λ a b.
-        may_precede false (compare_slots (lists_in lists) kind a b))
-        (held_slots (lists_in lists) pool.now source) ≡ true }
-    ensures { result ≡ is_among (same_slots (lists_in lists.entry) kind)
-        (held_slots (lists_in lists.entry) pool.now source) slot }
-{
-    if ordered {
-        is_among_ordered(lists, pool, kind, source, slot)
-    } else {
-        is_slot_among(lists, pool, kind, source, slot)
     }
 }

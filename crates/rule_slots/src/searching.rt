@@ -8,8 +8,9 @@ ghost use Rattle.rule_slots.specs.Compared.{same_slots};
 ghost use Rattle.rule_slots.specs.Ordered.{compare_slots, is_defined, may_precede, rises};
 ghost use Rattle.rule_slots.specs.Sorted.{IsCopyOf};
 
+use crate::elements::is_listed;
 use crate::lists::Lists;
-use crate::ordering::{is_among_known, is_in_order};
+use crate::ordering::{is_among_ordered, is_in_order};
 use crate::reading::element;
 use crate::slot::Slot;
 use crate::sorting::{has_room, push_sorted};
@@ -19,7 +20,7 @@ use rule_code::WrittenScalar;
 const SHORT: usize = 40;
 
 /// For so few elements that are looked for no copy is sorted: they are found sooner one by one.
-const FEW: usize = 64;
+const FEW: usize = 48;
 
 /// A collection in which so many elements are to be looked for, as it is best searched, and whether it stands in order:
 /// itself; or a sorted copy at the pool's end, if it is long, stands in no order, and there is room.
@@ -51,6 +52,112 @@ fn searchable(
     (copy, ordered)
 }
 
+/// Whether each element of the second collection is one of the first, each looked for among all elements of the first.
+#[inline(always)]
+fn are_all_of_kind(
+    lists: Lists<'_>,
+    pool: &[Slot],
+    kind: WrittenScalar,
+    source: Slot,
+    others: Slot,
+) -> bool
+    requires source { IsInHome (lists_in lists) (length pool.now) source }
+    requires others { IsInHome (lists_in lists) (length pool.now) others }
+    ensures { result ≡ list_all (is_among (same_slots (lists_in lists.entry) kind)
+        (held_slots (lists_in lists.entry) pool.now source))
+        (held_slots (lists_in lists.entry) pool.now others) }
+{
+    for index in 0..others.count {
+        let slot = element(lists, pool, others, index);
+        if !is_listed(lists, pool, kind, source, slot) {
+            return false;
+        }
+    }
+    true
+}
+
+/// Whether each element of the second collection is one of the first, each looked for among all elements of the first. (Kinds that are
+/// compared by the same word have loops of their own for it.)
+#[inline(never)]
+fn are_all_listed(
+    lists: Lists<'_>,
+    pool: &[Slot],
+    kind: WrittenScalar,
+    source: Slot,
+    others: Slot,
+) -> bool
+    requires source { IsInHome (lists_in lists) (length pool.now) source }
+    requires others { IsInHome (lists_in lists) (length pool.now) others }
+    ensures { result ≡ list_all (is_among (same_slots (lists_in lists.entry) kind)
+        (held_slots (lists_in lists.entry) pool.now source))
+        (held_slots (lists_in lists.entry) pool.now others) }
+{
+    match kind {
+        WrittenScalar::Void | WrittenScalar::Boolean | WrittenScalar::Integer => {
+            are_all_of_kind(lists, pool, WrittenScalar::Integer, source, others)
+        }
+        WrittenScalar::String => {
+            are_all_of_kind(lists, pool, WrittenScalar::String, source, others)
+        }
+        WrittenScalar::Enumeration(_) | WrittenScalar::Class(_) | WrittenScalar::AnyObject => {
+            are_all_of_kind(lists, pool, WrittenScalar::AnyObject, source, others)
+        }
+    }
+}
+
+/// Whether an element of the second collection is one of the first, each looked for among all elements of the first.
+#[inline(always)]
+fn is_any_of_kind(
+    lists: Lists<'_>,
+    pool: &[Slot],
+    kind: WrittenScalar,
+    source: Slot,
+    others: Slot,
+) -> bool
+    requires source { IsInHome (lists_in lists) (length pool.now) source }
+    requires others { IsInHome (lists_in lists) (length pool.now) others }
+    ensures { result ≡ list_any (is_among (same_slots (lists_in lists.entry) kind)
+        (held_slots (lists_in lists.entry) pool.now source))
+        (held_slots (lists_in lists.entry) pool.now others) }
+{
+    for index in 0..others.count {
+        let slot = element(lists, pool, others, index);
+        if is_listed(lists, pool, kind, source, slot) {
+            return true;
+        }
+    }
+    false
+}
+
+/// Whether an element of the second collection is one of the first, each looked for among all elements of the first. (Kinds that are
+/// compared by the same word have loops of their own for it.)
+#[inline(never)]
+fn is_any_listed(
+    lists: Lists<'_>,
+    pool: &[Slot],
+    kind: WrittenScalar,
+    source: Slot,
+    others: Slot,
+) -> bool
+    requires source { IsInHome (lists_in lists) (length pool.now) source }
+    requires others { IsInHome (lists_in lists) (length pool.now) others }
+    ensures { result ≡ list_any (is_among (same_slots (lists_in lists.entry) kind)
+        (held_slots (lists_in lists.entry) pool.now source))
+        (held_slots (lists_in lists.entry) pool.now others) }
+{
+    match kind {
+        WrittenScalar::Void | WrittenScalar::Boolean | WrittenScalar::Integer => {
+            is_any_of_kind(lists, pool, WrittenScalar::Integer, source, others)
+        }
+        WrittenScalar::String => {
+            is_any_of_kind(lists, pool, WrittenScalar::String, source, others)
+        }
+        WrittenScalar::Enumeration(_) | WrittenScalar::Class(_) | WrittenScalar::AnyObject => {
+            is_any_of_kind(lists, pool, WrittenScalar::AnyObject, source, others)
+        }
+    }
+}
+
 /// Whether each element of the second collection is one of the first, which stands in order if `ordered` says so.
 #[inline(never)]
 fn are_all_known(
@@ -70,9 +177,12 @@ fn are_all_known(
         (held_slots (lists_in lists.entry) pool.now source))
         (held_slots (lists_in lists.entry) pool.now others) }
 {
+    if !ordered {
+        return are_all_listed(lists, pool, kind, source, others);
+    }
     for index in 0..others.count {
         let slot = element(lists, pool, others, index);
-        if !is_among_known(lists, pool, kind, source, ordered, slot) {
+        if !is_among_ordered(lists, pool, kind, source, slot) {
             return false;
         }
     }
@@ -98,9 +208,12 @@ fn is_any_known(
         (held_slots (lists_in lists.entry) pool.now source))
         (held_slots (lists_in lists.entry) pool.now others) }
 {
+    if !ordered {
+        return is_any_listed(lists, pool, kind, source, others);
+    }
     for index in 0..others.count {
         let slot = element(lists, pool, others, index);
-        if is_among_known(lists, pool, kind, source, ordered, slot) {
+        if is_among_ordered(lists, pool, kind, source, slot) {
             return true;
         }
     }
