@@ -3,7 +3,7 @@
 use crate::command_line::WhyWords;
 use crate::files::{Bytes, read_file, report_write};
 use ocl_check::{CommandFault, Outcome};
-use ocl_explain::{Why, WhyAsked, why};
+use ocl_explain::{Why, WhyAsked, answer_why};
 use std::io::{self, Write};
 
 /// Prints bytes on standard output, with the status that they end with.
@@ -32,7 +32,7 @@ fn explain_inputs(
         rule: words.rule,
         id: words.id,
     };
-    match why(rt.alloc(), asked) {
+    match answer_why(rt.alloc(), asked) {
         Ok(Why::Explained(text)) => print(rt, text.as_bytes(), 0),
         Ok(Why::Refused(line, why)) => {
             let outcome = print(rt, &line, 2);

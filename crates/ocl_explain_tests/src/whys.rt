@@ -1,7 +1,7 @@
 //! Why verdicts are what they are, each explanation whole.
 
 use crate::files::input;
-use ocl_explain::{Why, WhyAsked, why};
+use ocl_explain::{Why, WhyAsked, answer_why};
 use std::alloc::{AllocError, Global};
 use std::test::*;
 use test_support::{
@@ -17,7 +17,7 @@ fn answered(alloc: Global, delivery: &str, rules: &str, id: &str) -> Result<Why,
         rule: "r",
         id,
     };
-    why(alloc, asked)
+    answer_why(alloc, asked)
 }
 
 /// Whether this is the explanation of the rule r of a text for an object.

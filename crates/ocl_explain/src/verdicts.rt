@@ -250,7 +250,7 @@ fn answer_inputs(alloc: Global, asked: WhyAsked<'_>) -> Result<Option<Why>, Allo
 }
 
 /// Why a rule has its verdict for an object, or why that isn't answered. Inputs are refused as `judge` refuses them.
-pub fn why(alloc: Global, asked: WhyAsked<'_>) -> Result<Why, AllocError> {
+pub fn answer_why(alloc: Global, asked: WhyAsked<'_>) -> Result<Why, AllocError> {
     let line = match refusal(alloc, asked)? {
         Some(line) => line,
         None => match answer_inputs(alloc, asked)? {

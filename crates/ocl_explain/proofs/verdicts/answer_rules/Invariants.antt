@@ -2,7 +2,7 @@ use Rattle.std.proofs.Common.{map, drop}
 use Rattle.std.specs.List.{AllByRecursion}
 use Rattle.ocl_core.specs.CoreView.{checked_rule_of}
 use Rattle.ocl_core.specs.Typing.{IsTypedRule}
-use Rattle.ocl_explain.proofs.why.answer_rules.Given as goal
+use Rattle.ocl_explain.proofs.verdicts.answer_rules.Given as goal
 
 -- the rules that are left
 abbrev pub invariant-rules : goal.invariant-rules
