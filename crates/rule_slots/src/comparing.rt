@@ -11,7 +11,7 @@ ghost use Rattle.rule_slots.specs.Slots.{lists_in, held_slots, plain_mark, IsInH
 ghost use Rattle.rule_slots.specs.Operands.{MakesOfTwo};
 ghost use Rattle.rule_slots.specs.Compared.{same_slots, stand_as_often, pairwise_same, same_unordered, same_collections, covers_kind, ComparesWithin, same_values};
 
-use crate::elements::{find_from, is_slot_among, same_slots, times_among};
+use crate::elements::{find_in_list, is_slot_among, same_slots, times_among};
 use crate::lists::Lists;
 use crate::ordering::is_in_order;
 use crate::reading::element;
@@ -111,8 +111,8 @@ fn told_by_order(
 
 /// Whether each element of the first collection is one of the second. Hints keep for elements of the second where one of
 /// the first was found to be the same.
-#[inline(never)]
-fn are_all_found(
+#[inline(always)]
+fn are_all_of_kind(
     lists: Lists<'_>,
     pool: &[Slot],
     kind: WrittenScalar,
@@ -128,12 +128,41 @@ fn are_all_found(
 {
     for index in 0..left.count {
         let slot = element(lists, pool, left, index);
-        match find_from(lists, pool, kind, right, 0, slot) {
+        match find_in_list(lists, pool, kind, right, 0, slot) {
             Some(place) => keep_hint(hints, place, index),
             None => return false,
         }
     }
     true
+}
+
+/// The same. (Kinds that are compared by the same word have loops of their own for it.)
+#[inline(never)]
+fn are_all_found(
+    lists: Lists<'_>,
+    pool: &[Slot],
+    kind: WrittenScalar,
+    left: Slot,
+    right: Slot,
+    hints: &mut [u8; FEW_IN_SET],
+) -> bool
+    requires left { IsInHome (lists_in lists) (length pool.now) left }
+    requires right { IsInHome (lists_in lists) (length pool.now) right }
+    ensures { result ≡ list_all (is_among (same_slots (lists_in lists.entry) kind)
+        (held_slots (lists_in lists.entry) pool.now right))
+        (held_slots (lists_in lists.entry) pool.now left) }
+{
+    match kind {
+        WrittenScalar::Void | WrittenScalar::Boolean | WrittenScalar::Integer => {
+            are_all_of_kind(lists, pool, WrittenScalar::Integer, left, right, hints)
+        }
+        WrittenScalar::String => {
+            are_all_of_kind(lists, pool, WrittenScalar::String, left, right, hints)
+        }
+        WrittenScalar::Enumeration(_) | WrittenScalar::Class(_) | WrittenScalar::AnyObject => {
+            are_all_of_kind(lists, pool, WrittenScalar::AnyObject, left, right, hints)
+        }
+    }
 }
 
 /// Keeps for an element of the second collection which one of the first is the same, if there is room for it.

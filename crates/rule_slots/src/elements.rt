@@ -204,7 +204,7 @@ fn find_in_slots(lists: Lists<'_>, kind: WrittenScalar, slots: &[Slot], slot: Sl
 
 /// Finds an element in a collection from an index on, with a loop for each list.
 #[inline(always)]
-fn find_in_list(
+pub(crate) fn find_in_list(
     lists: Lists<'_>,
     pool: &[Slot],
     kind: WrittenScalar,
@@ -255,7 +255,7 @@ pub(crate) fn is_listed(
 /// Finds an element in a collection from an index on, and gives its place from there. (Kinds that are compared by the same
 /// word have loops of their own for it.)
 #[inline(never)]
-pub(crate) fn find_from(
+fn find_from(
     lists: Lists<'_>,
     pool: &[Slot],
     kind: WrittenScalar,

@@ -3,7 +3,7 @@ use Rattle.std.specs.List.{list_all}
 use Rattle.ocl_base.specs.Lists.{is_among}
 use Rattle.rule_slots.specs.Slots.{lists_in, held_slots}
 use Rattle.rule_slots.specs.Compared.{same_slots}
-use Rattle.rule_slots.proofs.comparing.are_all_found.Given as goal
+use Rattle.rule_slots.proofs.comparing.are_all_of_kind.Given as goal
 
 -- it holds of those that are left where it holds of all
 abbrev pub invariant-loop-index : goal.invariant-loop-index
