@@ -11,7 +11,7 @@ import pathlib
 import random
 import struct
 
-WORK, MOST_RULES = 20_000_000, 200
+WORK, MAX_RULES = 20_000_000, 200
 SELF, ADD, LT, ISEMPTY, SUM = b"\x01", b"\x10", b"\x19", b"\x31", b"\x36"
 INTEGER, SET, BAG, SEQUENCE = b"\x02", b"\x12", b"\x32", b"\x42"
 FEATURES = ["numbers", "moved", "repeated", "shuffled", "listed", "backwards", "others"]
@@ -91,7 +91,7 @@ def main():
     given = parser.parse_args()
     code, charge = CASES[given.instruction](given.n)
     runs = max(1, WORK // charge)
-    rules = min(MOST_RULES, runs)
+    rules = min(MAX_RULES, runs)
     objects = runs // rules
     (given.folder / "model.json").write_text(json.dumps(class_model()))
     (given.folder / "delivery.json").write_text(json.dumps(delivery(objects, given.n, given.mixed)))

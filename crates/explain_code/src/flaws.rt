@@ -6,7 +6,7 @@ use rule_code::CodeFlaw;
 use std::alloc::{AllocError, Global};
 
 /// The most bytes that are shown.
-const MOST_SHOWN: usize = 8;
+const MAX_SHOWN: usize = 8;
 
 /// What is wrong with a field, in words.
 fn words_of(flaw: CodeFlaw) -> &'static str {
@@ -28,10 +28,10 @@ fn words_of(flaw: CodeFlaw) -> &'static str {
 fn digits_at(alloc: Global, bytes: &[u8], offset: usize) -> Result<String, AllocError> {
     let mut out = String::new(alloc);
     let rest = bytes.get(offset..).unwrap_or(&[]);
-    for byte in rest.iter().take(MOST_SHOWN) {
+    for byte in rest.iter().take(MAX_SHOWN) {
         write!(&mut out, " {byte:02x}")?;
     }
-    if rest.len() > MOST_SHOWN {
+    if rest.len() > MAX_SHOWN {
         out.push_str(" ..")?;
     }
     Ok(out)

@@ -6,10 +6,10 @@ use serde_json::Value;
 use std::alloc::{AllocError, Global};
 
 /// The greatest bound of a feature.
-const MOST_BOUND: u64 = 1_000_000;
+const MAX_BOUND: u64 = 1_000_000;
 
 /// The longest name, in characters.
-const LONGEST_NAME: usize = 128;
+const MAX_NAME_LENGTH: usize = 128;
 
 /// What a member is.
 #[derive(Clone, Copy)]
@@ -178,7 +178,7 @@ static END: [Member; 4] = [
 /// Whether a value is the name of something in a class model.
 fn is_model_name(value: &Value) -> bool {
     match value.as_str() {
-        Some(text) => is_name(text) && text.len() <= LONGEST_NAME,
+        Some(text) => is_name(text) && text.len() <= MAX_NAME_LENGTH,
         None => false,
     }
 }
@@ -193,14 +193,14 @@ fn are_names(value: &Value) -> bool {
 
 fn is_bound(value: &Value) -> bool {
     match value.as_u64() {
-        Some(bound) => bound <= MOST_BOUND,
+        Some(bound) => bound <= MAX_BOUND,
         None => false,
     }
 }
 
 fn is_title(value: &Value) -> bool {
     match value.as_str() {
-        Some(text) => !text.is_empty() && text.chars().count() <= LONGEST_NAME,
+        Some(text) => !text.is_empty() && text.chars().count() <= MAX_NAME_LENGTH,
         None => false,
     }
 }

@@ -4,7 +4,7 @@ use std::alloc::{AllocError, Global};
 use strsim::levenshtein;
 
 /// The longest name that is compared, in bytes.
-const MOST_COMPARED: usize = 128;
+const MAX_COMPARED: usize = 128;
 
 /// The nearest of the names that were offered.
 #[derive(Drop)]
@@ -27,7 +27,7 @@ impl<'a> Nearest<'a> {
 
     /// Offers a name: it is the nearest from now on where it is nearer than those before it.
     pub fn offer(&mut self, alloc: Global, name: &'a str) -> Result<(), AllocError> {
-        if self.wanted.len() > MOST_COMPARED || name.len() > MOST_COMPARED {
+        if self.wanted.len() > MAX_COMPARED || name.len() > MAX_COMPARED {
             return Ok(());
         }
         let distance = levenshtein(alloc, self.wanted, name)?;

@@ -6,7 +6,7 @@ use crate::showing::shown;
 use std::alloc::{AllocError, Global};
 
 /// The most characters of a line that are shown on either side of the fault.
-const MOST_SHOWN: usize = 80;
+const MAX_SHOWN: usize = 80;
 
 /// What is said of a part of a text.
 #[derive(Clone, Copy, Drop)]
@@ -46,10 +46,10 @@ impl Note<'_> {
 /// The last characters of a part of a line, with two dots before them where there are more.
 fn push_end(out: &mut String, text: &str) -> Result<(), AllocError> {
     let count = text.chars().count();
-    if count > MOST_SHOWN {
+    if count > MAX_SHOWN {
         out.push_str("..")?;
     }
-    for character in text.chars().skip(count.saturating_sub(MOST_SHOWN)) {
+    for character in text.chars().skip(count.saturating_sub(MAX_SHOWN)) {
         out.push(character)?;
     }
     Ok(())
@@ -57,10 +57,10 @@ fn push_end(out: &mut String, text: &str) -> Result<(), AllocError> {
 
 /// The first characters of a part of a line, with two dots after them where there are more.
 fn push_begin(out: &mut String, text: &str) -> Result<(), AllocError> {
-    for character in text.chars().take(MOST_SHOWN) {
+    for character in text.chars().take(MAX_SHOWN) {
         out.push(character)?;
     }
-    if text.chars().count() > MOST_SHOWN {
+    if text.chars().count() > MAX_SHOWN {
         out.push_str("..")?;
     }
     Ok(())

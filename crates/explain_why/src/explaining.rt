@@ -16,7 +16,7 @@ use crate::deciding::{bodies_that_decide, deciding_elements};
 use crate::pieces::{put, put_indent, put_more};
 use crate::reasons::{choice_reason, put_feature_reason, put_operation_reason};
 use crate::texts::{let_text, link_text, next, put_variable, spine_text, text_of};
-use crate::values::{MOST_SHOWN, put_element, put_value};
+use crate::values::{MAX_SHOWN, put_element, put_value};
 use imkl_population::{ObjectNo, Population};
 use ocl_base::OutOfMemory;
 use ocl_core::{Core, CoreLink, CoreRule, Iteration};
@@ -485,7 +485,7 @@ fn explain_fold<'a>(
     let Value::Collection(_, elements) = source else {
         return Ok(());
     };
-    let shown = elements.len().min(MOST_SHOWN);
+    let shown = elements.len().min(MAX_SHOWN);
     explain_steps(
         alloc,
         out,

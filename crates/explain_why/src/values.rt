@@ -16,7 +16,7 @@ use owned_values::{Item, Value};
 use std::alloc::Global;
 
 /// The greatest number of elements that are shown of a collection.
-pub(crate) const MOST_SHOWN: usize = 10;
+pub(crate) const MAX_SHOWN: usize = 10;
 
 /// Puts a literal, with its enumeration.
 pub(crate) fn put_literal(
@@ -138,7 +138,7 @@ fn put_elements(
     Ok(())
 }
 
-/// Puts a collection, of which at most `MOST_SHOWN` elements are shown.
+/// Puts a collection, of which at most `MAX_SHOWN` elements are shown.
 fn put_collection(
     alloc: Global,
     out: &mut String,
@@ -150,7 +150,7 @@ fn put_collection(
     ensures { OnOk result (string_bytes out.new ≡ string_bytes out.old ++
         collection_text population.now.content kind (meant_items items.now)) }
 {
-    let shown = items.len().min(MOST_SHOWN);
+    let shown = items.len().min(MAX_SHOWN);
     put(out, kind_name(kind))?;
     put(out, "{")?;
     put_elements(alloc, out, population, &items[..shown])?;

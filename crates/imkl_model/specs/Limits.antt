@@ -2,21 +2,21 @@
 use Rattle.std.specs.Prelude.{ℕ}
 
 -- the greatest number of characters of a name
-abbrev pub name_limit : ℕ
-name_limit = 128
+abbrev pub max_name_length : ℕ
+max_name_length = 128
 
 -- the greatest bound of a feature
-abbrev pub bound_limit : ℕ
-bound_limit = 1000000
+abbrev pub max_bound : ℕ
+max_bound = 1000000
 
 -- the greatest count of classes, of enumerations, and of literals of one enumeration
-abbrev pub type_limit : ℕ
-type_limit = 4096
+abbrev pub max_types : ℕ
+max_types = 4096
 
 -- the greatest count of features, both ends of each association among them
-abbrev pub feature_limit : ℕ
-feature_limit = 65535
+abbrev pub max_features : ℕ
+max_features = 65535
 
 -- the greatest count of old names
-abbrev pub rename_limit : ℕ
-rename_limit = 65535
+abbrev pub max_renames : ℕ
+max_renames = 65535

@@ -2,7 +2,7 @@
 
 ghost use Rattle.std.specs.Prelude.{◌≡◌, length, nat_le};
 ghost use Rattle.std.specs.List.{list_all};
-ghost use Rattle.imkl_model.specs.Limits.{type_limit};
+ghost use Rattle.imkl_model.specs.Limits.{max_types};
 ghost use Rattle.imkl_model.specs.Checks.{is_within_limits, is_multiplicity, has_multiplicity};
 ghost use Rattle.imkl_model.specs.WrittenFeatures.{written_features};
 
@@ -10,19 +10,19 @@ use crate::feature::FeatureInfo;
 use crate::written::{Written, WrittenEnumeration, WrittenFeature};
 
 /// The greatest count of classes, of enumerations, and of literals of one enumeration.
-const TYPE_LIMIT: usize = 4_096;
+const MAX_TYPES: usize = 4_096;
 
 /// The greatest count of features.
-const FEATURE_LIMIT: usize = 65_535;
+const MAX_FEATURES: usize = 65_535;
 
 /// The greatest count of old names.
-const RENAME_LIMIT: usize = 65_535;
+const MAX_RENAMES: usize = 65_535;
 
 fn few_literals(enumerations: &[WrittenEnumeration]) -> bool
-    ensures { result ≡ list_all (λ e. nat_le (length e.literals) type_limit) enumerations.now }
+    ensures { result ≡ list_all (λ e. nat_le (length e.literals) max_types) enumerations.now }
 {
     for enumeration in enumerations {
-        if enumeration.literals.as_slice().len() > TYPE_LIMIT {
+        if enumeration.literals.as_slice().len() > MAX_TYPES {
             return false;
         }
     }
@@ -39,11 +39,11 @@ pub(crate) fn is_within_limits(written: &Written, features: &[WrittenFeature]) -
     let enumerations = written.enumerations.as_slice();
     let old_classes = written.class_renames.as_slice();
     let old_features = written.feature_renames.as_slice();
-    classes.len() <= TYPE_LIMIT
-        && enumerations.len() <= TYPE_LIMIT
+    classes.len() <= MAX_TYPES
+        && enumerations.len() <= MAX_TYPES
         && few_literals(enumerations)
-        && features.len() <= FEATURE_LIMIT
-        && old_classes.len().saturating_add(old_features.len()) <= RENAME_LIMIT
+        && features.len() <= MAX_FEATURES
+        && old_classes.len().saturating_add(old_features.len()) <= MAX_RENAMES
 }
 
 fn is_multiplicity(lower: u32, upper: Option<u32>) -> bool

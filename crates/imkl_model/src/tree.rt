@@ -6,17 +6,17 @@ ghost use Rattle.serde_json.specs.View.{view, members_view};
 ghost use Rattle.serde_json.specs.Find.{get, as_str, as_bool};
 ghost use Rattle.ocl_base.specs.Steps.{Gives, found};
 ghost use Rattle.imkl_model.specs.declared.fault.ModelFault.TheVariants.{Shape};
-ghost use Rattle.imkl_model.specs.Limits.{bound_limit};
+ghost use Rattle.imkl_model.specs.Limits.{max_bound};
 ghost use Rattle.imkl_model.specs.Words.{is_title};
 ghost use Rattle.imkl_model.specs.WellFormed.{IsModelName};
 ghost use Rattle.imkl_model.specs.Faults.{model_fault};
 ghost use Rattle.imkl_model.specs.Json.{list_from, record_from, natural_from};
 ghost use Rattle.imkl_model.specs.Shape.{title_from, name_from, lower_from, upper_from, attribute_from, class_from, enumeration_from, end_from, association_from, class_rename_from, feature_rename_from, rename_from, renames_in, written_from};
 
-use crate::each::{Spelled, each_of};
 use crate::fault::ModelFault;
 use crate::items::Items;
 use crate::json::{list_of, member_count, record_of};
+use crate::lists::{Spelled, each_of};
 use crate::name::Name;
 use crate::renames::{class_renames, feature_renames};
 use crate::words::{is_model_name, is_title};
@@ -28,7 +28,7 @@ use serde_json::{Map, Value};
 use std::alloc::Global;
 
 /// The greatest bound of a feature.
-const BOUND_LIMIT: u64 = 1_000_000;
+const MAX_BOUND: u64 = 1_000_000;
 
 /// The members of a JSON object that has exactly this number of them; else the fault is `Shape`.
 fn record(value: &Value, members: usize) -> Result<&Map<String, Value>, ModelFault>
@@ -97,10 +97,10 @@ fn name_of(alloc: Global, value: &Value) -> Result<Name, ModelFault>
 #[tactic(auto, unfolding(crate::specs::Shape::lower_from))]
 fn lower_of(value: &Value) -> Result<u32, ModelFault>
     ensures tree { Gives model_fault (λ n. n) result (lower_from (view value.now)) }
-    ensures fits { IfOk result (λ n. n ≤ bound_limit) }
+    ensures fits { IfOk result (λ n. n ≤ max_bound) }
 {
     let bound = number(value)?;
-    if bound > BOUND_LIMIT {
+    if bound > MAX_BOUND {
         return Err(ModelFault::Shape);
     }
     Ok(bound as u32)
@@ -109,7 +109,7 @@ fn lower_of(value: &Value) -> Result<u32, ModelFault>
 #[tactic(auto, unfolding(crate::specs::Shape::upper_from))]
 fn upper_of(value: &Value) -> Result<Option<u32>, ModelFault>
     ensures tree { Gives model_fault (λ n. n) result (upper_from (view value.now)) }
-    ensures fits { IfOk result (λ upper. IfSome upper (λ u. u ≤ bound_limit)) }
+    ensures fits { IfOk result (λ upper. IfSome upper (λ u. u ≤ max_bound)) }
 {
     match value {
         Value::Null => Ok(None),

@@ -6,14 +6,14 @@ ghost use Rattle.imkl_model.specs.Words.{is_model_name, is_title, is_predefined}
 use ocl_base::is_name;
 
 /// The greatest number of characters of a name.
-const NAME_LIMIT: usize = 128;
+const MAX_NAME_LENGTH: usize = 128;
 
 /// Whether a text may name a class, an enumeration, a literal, a feature or an association.
 #[tactic(auto, unfolding(crate::specs::Words::is_model_name))]
 pub(crate) fn is_model_name(text: &str) -> bool
     ensures { result ≡ is_model_name text.now }
 {
-    text.len() <= NAME_LIMIT && is_name(text)
+    text.len() <= MAX_NAME_LENGTH && is_name(text)
 }
 
 /// Whether a text may name a class model: it has one or more characters, up to the limit.
@@ -22,7 +22,7 @@ pub(crate) fn is_title(text: &str) -> bool
     ensures { result ≡ is_title text.now }
 {
     let count = text.chars().count();
-    1 <= count && count <= NAME_LIMIT
+    1 <= count && count <= MAX_NAME_LENGTH
 }
 
 /// Whether a name is that of a predefined type.

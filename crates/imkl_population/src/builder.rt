@@ -11,7 +11,7 @@ ghost use Rattle.imkl_population.specs.declared.fault.PopulationFault.{Populatio
 ghost use Rattle.imkl_population.specs.Store.{maps_of, object_row};
 ghost use Rattle.imkl_population.specs.Layout.{stored_content};
 ghost use Rattle.imkl_population.specs.Adding.{AddsNew};
-ghost use Rattle.imkl_population.specs.Building.{BuilderAnswers, KeepsObjects, most_objects, object_fault, add_outcome, set_outcome, link_outcome, attribute_fault, list_fault, source_fault, targets_fault, with_values, as_objects};
+ghost use Rattle.imkl_population.specs.Building.{BuilderAnswers, KeepsObjects, max_objects, object_fault, add_outcome, set_outcome, link_outcome, attribute_fault, list_fault, source_fault, targets_fault, with_values, as_objects};
 
 use crate::checks::{are_of_type, bounds_fault, is_id};
 use crate::ends::opposite_ends;
@@ -24,10 +24,13 @@ use crate::object::{Head, Id};
 use crate::population::Population;
 use crate::repeats::repeats;
 use crate::scalar::Scalar;
-use crate::store::Store;
+use crate::store::{Cell, Store, StoreSize};
 use imkl_model::{ClassModel, ClassNo, ElementType, FeatureNo};
 use std::alloc::{AllocError, Global};
 use std::marker::Model;
+
+/// The most objects of a population.
+const MAX_OBJECTS: usize = 1_000_000;
 
 /// A population in the making. Contracts see the population of what was added so far.
 #[derive(Drop)]
@@ -77,7 +80,7 @@ impl<'m> PopulationBuilder<'m> {
     ) -> Result<PopulationBuilder<'m>, AllocError>
         ensures { IfOk result (λ b. b ≡ record { model = model.now; objects = [] }) }
     {
-        let objects = objects.min(1_000_000);
+        let objects = objects.min(MAX_OBJECTS);
         Ok(PopulationBuilder {
             alloc,
             model,
@@ -120,7 +123,7 @@ impl<'m> PopulationBuilder<'m> {
         if self.model.is_abstract(class) {
             return Some(PopulationFault::AbstractClass);
         }
-        if self.objects() >= 1_000_000 {
+        if self.objects() >= MAX_OBJECTS {
             return Some(PopulationFault::Limit);
         }
         None
@@ -142,7 +145,7 @@ impl<'m> PopulationBuilder<'m> {
 
     /// There are at most 1,000,000 objects.
     pub fn within_limit(&self)
-        ensures { length self.now.objects ≤ most_objects }
+        ensures { length self.now.objects ≤ max_objects }
     {
         let _heads = &self.heads;
     }
@@ -341,16 +344,15 @@ impl<'m> PopulationBuilder<'m> {
         ensures kept { KeepsObjects self.old self.new }
     {
         let mut values = values;
-        let features = self.model.feature_count();
-        let objects = self.objects();
-        self.written.put(
-            self.alloc,
-            features,
-            feature.index(),
-            objects,
-            object.index(),
-            &mut values,
-        )?;
+        let size = StoreSize {
+            objects: self.objects(),
+            features: self.model.feature_count(),
+        };
+        let cell = Cell {
+            object: object.index(),
+            feature: feature.index(),
+        };
+        self.written.put(self.alloc, size, cell, &mut values)?;
         Ok(())
     }
 

@@ -22,11 +22,14 @@ fn are_id_bytes(id: &[u8]) -> bool
     id.iter().all(|b| is_id_byte(*b))
 }
 
+/// The most characters of an id.
+const MAX_ID_LENGTH: usize = 128;
+
 /// Whether a text has the form of an id: 1 to 128 characters of `A-Z a-z 0-9 . _ : -`.
 pub(crate) fn is_id(id: &str) -> bool
     ensures { result ≡ is_id id.now }
 {
-    !id.is_empty() && id.len() <= 128 && are_id_bytes(id.as_bytes())
+    !id.is_empty() && id.len() <= MAX_ID_LENGTH && are_id_bytes(id.as_bytes())
 }
 
 /// Whether a value is a literal of an enumeration that has this number of literals.

@@ -218,7 +218,7 @@ impl<'m> Population<'m> {
 
     /// Of an attribute without upper bound the greatest length of its value over all objects, of
     /// every other feature 0.
-    fn longest_of(&self, feature: FeatureNo) -> u64
+    pub(crate) fn longest_of(&self, feature: FeatureNo) -> u64
         requires { feature < length self.now.content.model.features }
         ensures { result ≡ longest_of self.now.content feature }
     {

@@ -1,8 +1,7 @@
 //! How many objects the classes of a population have, and how many values an object has at most.
 
-ghost use Rattle.std.specs.Prelude.{◌≡◌, ◌<◌, true, length, slice_index, Decides};
-ghost use Rattle.imkl_population.specs.Sizes.{is_unbounded, list_below, count_of, longest_below, longest_of, sizes_of};
-ghost use Rattle.imkl_model.specs.ClassModel.{feature_at};
+ghost use Rattle.std.specs.Prelude.{◌≡◌, ◌<◌, length, slice_index, Decides};
+ghost use Rattle.imkl_population.specs.Sizes.{is_unbounded, list_below, count_of, longest_of, sizes_of};
 
 use crate::population::Population;
 use imkl_model::{ClassModel, ClassNo, FeatureInfo, FeatureNo};
@@ -93,42 +92,12 @@ impl<'m> Sizes<'m> {
     {
         for feature in 0..self.model.feature_count() {
             let feature_number = FeatureNo::new(feature);
-            if longest_of(population, feature_number) != self.longest(feature_number) {
+            if population.longest_of(feature_number) != self.longest(feature_number) {
                 return false;
             }
         }
         true
     }
-}
-
-/// Of an attribute without upper bound the greatest length of its value over all objects, of every
-/// other feature 0.
-fn longest_of(population: &Population<'_>, feature: FeatureNo) -> u64
-    requires { feature < length population.now.content.model.features }
-    ensures { result ≡ longest_of population.now.content feature }
-{
-    if is_unbounded(population.model().feature_info(feature)) {
-        longest_value(population, feature) as u64
-    } else {
-        0
-    }
-}
-
-/// The greatest length of the value of an attribute: only objects of its owner have one.
-fn longest_value(population: &Population<'_>, feature: FeatureNo) -> usize
-    requires feature { feature < length population.now.content.model.features }
-    requires attribute { is_unbounded (feature_at population.now.content.model feature) ≡ true }
-    ensures { result ≡ longest_below population.now.content feature
-        (length population.now.content.objects) }
-{
-    population.consistent();
-    population.model().well_formed();
-    let owner = population.model().feature_info(feature).owner;
-    let mut longest = 0;
-    for object in population.instances(owner) {
-        longest = longest.max(population.values(*object, feature).len());
-    }
-    longest
 }
 
 /// Whether a feature is an attribute without upper bound.

@@ -22,6 +22,20 @@ pub struct Segment {
     pub end: usize,
 }
 
+/// How many objects and features there are.
+#[derive(Clone, Copy)]
+pub(crate) struct StoreSize {
+    pub(crate) objects: usize,
+    pub(crate) features: usize,
+}
+
+/// An object, and a feature of it.
+#[derive(Clone, Copy)]
+pub(crate) struct Cell {
+    pub(crate) object: usize,
+    pub(crate) feature: usize,
+}
+
 /// A column of values for each of the first features. Contracts see the columns.
 #[derive(Drop)]
 pub struct Store {
@@ -129,23 +143,21 @@ impl Store {
     pub(crate) fn put(
         &mut self,
         alloc: Global,
-        features: usize,
-        feature: usize,
-        objects: usize,
-        object: usize,
+        size: StoreSize,
+        cell: Cell,
         values: &mut Vec<Scalar>,
     ) -> Result<(), AllocError>
-        requires { feature < features }
+        requires { cell.feature < size.features }
         ensures ok { OnOk result ((o : ℕ) → object_row (maps_of self.new) o ≡
-            (if o == object
-            then insert_entry nat_cmp (object_row (maps_of self.old) o) feature values.old.items
+            (if o == cell.object
+            then insert_entry nat_cmp (object_row (maps_of self.old) o) cell.feature values.old.items
             else object_row (maps_of self.old) o)) }
         ensures err { OnErr result ((o : ℕ) →
             object_row (maps_of self.new) o ≡ object_row (maps_of self.old) o) }
     {
-        self.grow(alloc, features)?;
-        self.make_room(feature, object, objects, values.len())?;
-        self.set(feature, object, values)
+        self.grow(alloc, size.features)?;
+        self.make_room(cell.feature, cell.object, size.objects, values.len())?;
+        self.set(cell.feature, cell.object, values)
     }
 
     /// Counts the entries of a column anew.

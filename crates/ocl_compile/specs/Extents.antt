@@ -2,12 +2,12 @@
 use Rattle.std.specs.Prelude.{ℕ, suc, ◌+◌, ◌||◌, max, min, Option, Some, None, nat_le, nat_lt, if◌then◌else◌}
 use Rattle.ocl_core.specs.Core as tree
 use Rattle.ocl_core.specs.Core.{CoreTree, CoreTrees}
-use Rattle.rule_code.specs.WellFormed.{most_rules}
-use Rattle.rule_verify.specs.KindRules.{operand_limit, block_limit}
+use Rattle.rule_code.specs.WellFormed.{max_rules}
+use Rattle.rule_verify.specs.KindRules.{max_operands, max_blocks}
 use Rattle.ocl_compile.specs.declared.extent.Extent.{Extent}
 use Rattle.ocl_compile.specs.declared.fault.Limit.{Limit}
 use Rattle.ocl_compile.specs.declared.fault.Limit.TheVariants as limits
-use Rattle.ocl_compile.specs.Compiling.{most_counted}
+use Rattle.ocl_compile.specs.Compiling.{max_counted, counting_end}
 
 -- instructions, the most operands at once beside those that lie below, and the most blocks in one another
 abbrev pub extent : ℕ → ℕ → ℕ → Extent
@@ -53,15 +53,15 @@ abbrev mutual
   extent_after below x tree.no_core = x
   extent_after below x (tree.one_core first rest) = extent_after (suc below) (then_above below x (extent_of first)) rest
 
--- with greater numbers than 65,536, which is above every limit, cut to it
+-- with numbers cut to where counting stops
 abbrev pub cut_extent : Extent → Extent
-cut_extent x = extent (min x.instructions 65536) (min x.operands 65536) (min x.blocks 65536)
+cut_extent x = extent (min x.instructions counting_end) (min x.operands counting_end) (min x.blocks counting_end)
 
 -- ---- limits by measures
 
 -- the limit that a rule of an index passes by the extent of its code, if a unit takes what it numbers
 abbrev pub limit_by : ℕ → Extent → Option Limit
 limit_by index x =
-    if nat_le most_rules index || nat_lt most_counted x.instructions then Some limits.Size else (
-    if nat_lt block_limit x.blocks then Some limits.Nesting else (
-    if nat_lt operand_limit x.operands then Some limits.Stack else None))
+    if nat_le max_rules index || nat_lt max_counted x.instructions then Some limits.Size else (
+    if nat_lt max_blocks x.blocks then Some limits.Nesting else (
+    if nat_lt max_operands x.operands then Some limits.Stack else None))

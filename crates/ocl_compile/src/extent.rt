@@ -1,11 +1,14 @@
 //! How large and how deep code is.
 
 ghost use Rattle.std.specs.Prelude.{◌≡◌, ◌+◌, min};
+ghost use Rattle.ocl_compile.specs.Compiling.{counting_end};
 ghost use Rattle.ocl_compile.specs.Extents as extents;
 ghost use Rattle.ocl_compile.specs.Extents.{cut_extent};
 
+use crate::limits::MAX_COUNTED;
+
 /// Where counting stops, above every limit of a unit.
-const COUNTED_UP_TO: usize = 65_536;
+const COUNTING_END: usize = MAX_COUNTED + 1;
 
 /// How large and how deep code is; numbers above 65,536 are 65,536.
 #[derive(Clone, Copy)]
@@ -20,16 +23,16 @@ pub(crate) struct Extent {
 
 /// A sum, or 65,536 where it is greater.
 fn sum(first: usize, second: usize) -> usize
-    ensures { result ≡ min (first + second) 65536 }
+    ensures { result ≡ min (first + second) counting_end }
 {
-    first.saturating_add(second).min(COUNTED_UP_TO)
+    first.saturating_add(second).min(COUNTING_END)
 }
 
 /// A number, or 65,536 where it is greater.
 fn cut(number: usize) -> usize
-    ensures { result ≡ min number 65536 }
+    ensures { result ≡ min number counting_end }
 {
-    number.min(COUNTED_UP_TO)
+    number.min(COUNTING_END)
 }
 
 impl Extent {

@@ -2,6 +2,7 @@
 
 ghost use Rattle.std.specs.Prelude.{◌≡◌, ◌<◌};
 ghost use Rattle.ocl_core.specs.CoreView.{constant_of};
+ghost use Rattle.ocl_compile.specs.Compiling.{counting_end};
 ghost use Rattle.ocl_compile.specs.Written.{IsWrittenConstant};
 ghost use Rattle.ocl_compile.specs.Translation as spec;
 
@@ -31,7 +32,7 @@ pub(crate) fn constant_instr(numbers: &Numbers, value: &ConstantValue) -> Instr
 
 /// The instruction that gives a variable. Variable 0 is the object that the rule is judged on.
 pub(crate) fn variable_instr(number: usize) -> Instr
-    requires { number < 65536 }
+    requires { number < counting_end }
     ensures { result ≡ spec.variable_instr number }
 {
     if number == 0 {

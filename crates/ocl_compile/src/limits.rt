@@ -5,29 +5,24 @@ ghost use Rattle.ocl_compile.specs.Extents.{limit_by};
 
 use crate::extent::Extent;
 use crate::fault::Limit;
+use rule_verify::{MAX_BLOCKS, MAX_OPERANDS};
 
 /// The most rules of a unit.
-const MOST_RULES: usize = 4_096;
+const MAX_RULES: usize = rule_code::MAX_RULES as usize;
 
 /// The most texts, the most symbols, and the most instructions of a rule.
-pub(crate) const MOST_COUNTED: usize = 65_535;
-
-/// The most blocks that enclose each other.
-const MOST_BLOCKS: usize = 64;
-
-/// The most operands at once.
-const MOST_OPERANDS: usize = 1_024;
+pub(crate) const MAX_COUNTED: usize = 65_535;
 
 /// The limit that the rule of an index passes by the extent of its code, if any. What it numbers is
 /// taken by the unit.
 pub(crate) fn limit_passed(index: usize, extent: Extent) -> Option<Limit>
     ensures { result ≡ limit_by index extent }
 {
-    if index >= MOST_RULES || extent.instructions > MOST_COUNTED {
+    if index >= MAX_RULES || extent.instructions > MAX_COUNTED {
         Some(Limit::Size)
-    } else if extent.blocks > MOST_BLOCKS {
+    } else if extent.blocks > MAX_BLOCKS {
         Some(Limit::Nesting)
-    } else if extent.operands > MOST_OPERANDS {
+    } else if extent.operands > MAX_OPERANDS {
         Some(Limit::Stack)
     } else {
         None

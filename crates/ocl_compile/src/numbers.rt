@@ -2,13 +2,14 @@
 
 ghost use Rattle.std.specs.Prelude.{◌≡◌, ◌<◌, Some, length, map, bytes_eq, slice_get, string_bytes};
 ghost use Rattle.ocl_compile.specs.Numbering.{UsedSymbol, no_numbers, once_more, same_named, with_texts, with_use, names_of_symbol, text_number, symbol_number};
+ghost use Rattle.ocl_compile.specs.Compiling.{counting_end};
 ghost use Rattle.ocl_compile.specs.CompileFaults.{compile_fault};
 ghost use Rattle.ocl_compile.specs.CompileWalk.{number_fault};
 ghost use Rattle.ocl_compile.specs.NumberWalk.{IsNamedIn, FitsUnit, NumbersTo};
 ghost use Rattle.ocl_compile.specs.declared.numbers.NumberFault.TheVariants.{OutOfMemory};
 
 use crate::fault::{CompileFault, Limit};
-use crate::limits::MOST_COUNTED;
+use crate::limits::MAX_COUNTED;
 use crate::symbols::Symbols;
 use crate::texts::Texts;
 use imkl_model::ClassModel;
@@ -17,7 +18,7 @@ use std::alloc::{AllocError, Global};
 use std::marker::Model;
 
 /// The most bytes of a text.
-const MOST_TEXT_BYTES: usize = 4_096;
+const MAX_TEXT_BYTES: usize = rule_code::MAX_TEXT_BYTES as usize;
 
 /// Why numbering stops.
 #[derive(Clone, Copy)]
@@ -87,13 +88,13 @@ impl Numbers {
           symbols = self.old.symbols;
         }) }
     {
-        if text.len() > MOST_TEXT_BYTES {
+        if text.len() > MAX_TEXT_BYTES {
             return Err(NumberFault::TooLarge);
         }
         if self.texts.number_of(text).is_some() {
             return Ok(());
         }
-        if self.texts.len() == MOST_COUNTED {
+        if self.texts.len() == MAX_COUNTED {
             return Err(NumberFault::TooLarge);
         }
         self.texts.push(alloc, text)?;
@@ -138,7 +139,7 @@ impl Numbers {
         if self.symbols.number_of(&symbol).is_some() {
             return Ok(());
         }
-        if self.symbols.len() == MOST_COUNTED {
+        if self.symbols.len() == MAX_COUNTED {
             return Err(NumberFault::TooLarge);
         }
         self.symbols.push(symbol)?;
@@ -170,7 +171,7 @@ impl Numbers {
     #[tactic(auto, using(crate::proofs::Counted::counted))]
     pub(crate) fn text_number(&self, text: &str) -> usize
         ensures number { result ≡ text_number self.now text.now }
-        ensures counted { result < 65536 }
+        ensures counted { result < counting_end }
     {
         self.texts.number_of(text).unwrap_or(0)
     }
@@ -179,7 +180,7 @@ impl Numbers {
     #[tactic(auto, using(crate::proofs::Counted::counted))]
     pub(crate) fn symbol_number(&self, symbol: Named) -> usize
         ensures number { result ≡ symbol_number self.now symbol }
-        ensures counted { result < 65536 }
+        ensures counted { result < counting_end }
     {
         self.symbols.number_of(&symbol).unwrap_or(0)
     }

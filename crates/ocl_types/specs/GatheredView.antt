@@ -1,5 +1,5 @@
 -- What the sources of arrows are.
-use Rattle.ocl_types.specs.declared.wanted.Gathered as declared
+use Rattle.ocl_types.specs.declared.requirements.Gathered as declared
 use Rattle.ocl_core.specs.CoreView.{core_view}
 use Rattle.ocl_types.specs.Elaboration.{Gathered, gathered}
 

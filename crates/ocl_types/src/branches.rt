@@ -10,8 +10,8 @@ ghost use Rattle.ocl_types.specs.Faults.{type_fault};
 
 use crate::fault::{TypeFault, TypeFlaw};
 use crate::nodes;
+use crate::requirements::{as_wanted, is_empty_for};
 use crate::typed::Typed;
-use crate::wanted::{as_wanted, is_empty_for};
 use imkl_model::ClassModel;
 use ocl_core::Core;
 use ocl_kinds::{Kind, wider_kind};

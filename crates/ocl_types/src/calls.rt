@@ -13,12 +13,12 @@ ghost use Rattle.ocl_types.specs.GatheredView.{gathered_view};
 ghost use Rattle.ocl_types.specs.Operators as table;
 ghost use Rattle.ocl_types.specs.TableView.{effect_of};
 
-use crate::collecting::collect_of;
 use crate::fault::{TypeFault, TypeFlaw};
+use crate::features::collect_of;
 use crate::nodes;
+use crate::requirements::{Gathered, is_of};
 use crate::table::{Effect, row_for};
 use crate::typed::Typed;
-use crate::wanted::{Gathered, is_of};
 use imkl_model::{ClassModel, ClassNo, CollectionKind};
 use ocl_core::{BasicType, ClassOperator, Core, ElementOperator, Operator};
 use ocl_kinds::{Kind, ScalarKind, common_kind, comparable, elements_kind};

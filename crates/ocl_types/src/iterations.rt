@@ -12,14 +12,14 @@ ghost use Rattle.ocl_types.specs.Faults.{type_fault};
 ghost use Rattle.ocl_types.specs.GatheredView.{gathered_view};
 ghost use Rattle.ocl_types.specs.ScopeView.{AreKnownVariables, Extends};
 
-use crate::collecting::collect_of;
 use crate::declared::declared_kind;
 use crate::fault::{TypeFault, TypeFlaw};
+use crate::features::collect_of;
 use crate::nodes;
+use crate::requirements::{Gathered, asks_truth};
 use crate::scope::Scope;
 use crate::table::{Turn, turn_of};
 use crate::typed::Typed;
-use crate::wanted::{Gathered, asks_truth};
 use imkl_model::ClassModel;
 use ocl_core::Iteration;
 use ocl_kinds::{Kind, ScalarKind, comparable, fits};

@@ -9,9 +9,9 @@ ghost use Rattle.ocl_types.specs.Faults.{type_fault};
 
 use crate::fault::{TypeFault, TypeFlaw};
 use crate::nodes;
+use crate::requirements::{asks_truth, is_of};
 use crate::table::{Binary, operands_of};
 use crate::typed::Typed;
-use crate::wanted::{asks_truth, is_of};
 use imkl_model::ClassModel;
 use ocl_core::{BasicType, Operator, PlainOperator};
 use ocl_kinds::{Kind, ScalarKind, common_kind, is_same_collection};

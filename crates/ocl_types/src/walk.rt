@@ -33,10 +33,10 @@ use crate::iterations::{declared_element, push_after_dot, push_variables};
 use crate::lets::let_of;
 use crate::names::{keyword_value, literal_value, name_value, number_value, text_value};
 use crate::operators::left_of;
+use crate::requirements::{asks_truth, bound_value, source_of_arrow};
 use crate::scope::Scope;
 use crate::table::class_operator;
 use crate::typed::Typed;
-use crate::wanted::{asks_truth, bound_value, source_of_arrow};
 use ocl_core::Core;
 use ocl_kinds::{Kind, ScalarKind};
 use ocl_text::{

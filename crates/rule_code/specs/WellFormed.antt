@@ -23,12 +23,12 @@ use Rattle.rule_code.specs.InstrRows.{FieldValue, integer_field, boolean_field, 
 -- ---- limits
 
 -- the greatest number of bytes in a text
-abbrev pub most_text_bytes : ℕ
-most_text_bytes = 4096
+abbrev pub max_text_bytes : ℕ
+max_text_bytes = 4096
 
 -- the greatest number of rules
-abbrev pub most_rules : ℕ
-most_rules = 4096
+abbrev pub max_rules : ℕ
+max_rules = 4096
 
 -- ---- what fits
 
@@ -37,9 +37,9 @@ abbrev pub EachFits : {A : Type 0} → (List A → A → Type 0) → List A → 
 EachFits Fits before [] = Unit {0}
 EachFits Fits before (x ∷ xs) = Fits before x × EachFits Fits (before ++ x ∷ []) xs
 
--- UTF-8, of at most `most_text_bytes` bytes
+-- UTF-8, of at most `max_text_bytes` bytes
 abbrev pub IsTextOfUnit : List ℕ → Type 0
-IsTextOfUnit bytes = (length bytes ≤ most_text_bytes) × (is_utf8 bytes ≡ true)
+IsTextOfUnit bytes = (length bytes ≤ max_text_bytes) × (is_utf8 bytes ≡ true)
 
 -- a symbol names texts that are there
 abbrev pub SymbolFits : ℕ → Symbol → Type 0
@@ -88,5 +88,5 @@ pub record IsUnit (u : Content) : Type 0 where
   pub texts : AllByRecursion IsTextOfUnit u.texts
   pub symbol_count : length u.symbols < 2 ^ 16
   pub symbols : AllByRecursion (SymbolFits (length u.texts)) u.symbols
-  pub rule_count : length u.rules ≤ most_rules
+  pub rule_count : length u.rules ≤ max_rules
   pub rules : EachFits (RuleFits u.version u.texts u.symbols) [] u.rules

@@ -4,7 +4,7 @@
 mod applying;
 mod charging;
 mod control;
-mod endings;
+mod iteration_results;
 mod keeping;
 pub mod laws;
 mod machine;

@@ -10,7 +10,7 @@ ghost use Rattle.rule_machine.specs.StandFor.{TellsDistinct, bound_slots, gives_
 ghost use Rattle.rule_machine.specs.Shown.{code_in, task_lists, IsTurnIn, LiesIn, BetweenIn, WentOn, TurnEnded, HasStep, IsFirstMark, Same, Stepped, Room};
 
 use crate::control::{Control, Turn};
-use crate::endings::{ending, kept_part, turn_after};
+use crate::iteration_results::{ending, kept_part, turn_after};
 use crate::keeping::keep;
 use crate::stack::ReservedStack;
 use crate::state::State;

@@ -23,7 +23,7 @@ use Rattle.rule_code.proofs.ForAbove.{is_symbol_of-lt}
 use Rattle.rule_verify.specs.declared.fault.VerifyFlaw.TheVariants as flaws
 use Rattle.rule_verify.specs.declared.fault.VerifyFault.{VerifyFault}
 use Rattle.rule_verify.specs.declared.fault.VerifyFault.TheVariants.{At, OutOfMemory}
-use Rattle.rule_verify.specs.declared.judged.RuleCode.{RuleCode}
+use Rattle.rule_verify.specs.declared.code.RuleCode.{RuleCode}
 use Rattle.rule_verify.specs.declared.depths.Depths.{Depths}
 use Rattle.rule_verify.specs.declared.place.Place.{Place}
 use Rattle.rule_verify.specs.CodeTree.{CodeTree, code_tree}

@@ -7,7 +7,7 @@ use Rattle.ocl_kinds.specs.declared.kind.Kind.{Kind}
 use Rattle.rule_code.specs.declared.instruction.Instr.{Instr}
 use Rattle.rule_verify.specs.declared.fault.VerifyFault.{VerifyFault}
 use Rattle.rule_verify.specs.declared.fault.VerifyFault.TheVariants.{At, OutOfMemory}
-use Rattle.rule_verify.specs.declared.judged.RuleCode.{RuleCode}
+use Rattle.rule_verify.specs.declared.code.RuleCode.{RuleCode}
 use Rattle.rule_verify.specs.declared.depths.Depths.{Depths}
 use Rattle.rule_verify.specs.declared.place.Place.{Place}
 use Rattle.rule_verify.specs.declared.shape.Shape.TheVariants.{OneBody, TwoBodies}

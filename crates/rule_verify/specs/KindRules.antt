@@ -34,12 +34,12 @@ abbrev pub in_block : Enclosing → List Kind → List Kind → Enclosing
 in_block e variables left = record { variables = variables; covered = e.covered + length left; open_blocks = e.open_blocks + 1 }
 
 -- at most 1,024 operands at once, those below open blocks too
-abbrev pub operand_limit : ℕ
-operand_limit = 1024
+abbrev pub max_operands : ℕ
+max_operands = 1024
 
 -- at most 64 blocks in one another
-abbrev pub block_limit : ℕ
-block_limit = 64
+abbrev pub max_blocks : ℕ
+max_blocks = 64
 
 -- ---- one instruction; the checks stand in the order of the faults
 
@@ -56,14 +56,14 @@ taken s variables i at ks = do
 abbrev pub after_plain : Surroundings → Enclosing → Instr → ℕ → List Kind → Result (List Kind) InstrFault
 after_plain s e i at ks = do
   left ← taken s e.variables i at ks
-  _ ← check (nat_le (e.covered + suc (length left)) operand_limit) (instr_fault flaws.StackLimit s.rule at)
+  _ ← check (nat_le (e.covered + suc (length left)) max_operands) (instr_fault flaws.StackLimit s.rule at)
   Ok (result_kind s e.variables i ks ∷ left)
 
 -- a block that nests is opened: the operands below
 abbrev pub opened : Surroundings → Enclosing → Instr → ℕ → List Kind → Result (List Kind) InstrFault
 opened s e i at ks = do
   left ← taken s e.variables i at ks
-  _ ← check (nat_lt e.open_blocks block_limit) (instr_fault flaws.NestLimit s.rule at)
+  _ ← check (nat_lt e.open_blocks max_blocks) (instr_fault flaws.NestLimit s.rule at)
   Ok left
 
 -- a body ends with exactly one value, which is what it may be; else the fault is that of the block

@@ -9,7 +9,7 @@ use Rattle.rule_code.specs.declared.symbol.SymbolNumber.{SymbolNumber}
 use Rattle.rule_code.specs.declared.instruction.Instr.{Instr}
 use Rattle.rule_code.specs.Content.{Content}
 use Rattle.rule_verify.specs.declared.fault.VerifyFault.{VerifyFault}
-use Rattle.rule_verify.specs.declared.judged.RuleCode.{RuleCode}
+use Rattle.rule_verify.specs.declared.code.RuleCode.{RuleCode}
 use Rattle.rule_verify.specs.declared.pattern.Pattern.{Pattern}
 use Rattle.rule_verify.specs.declared.pattern.Operands.{Operands}
 use Rattle.rule_verify.specs.declared.pattern.Operands.TheVariants.{Nothing, One, Two, Three}
@@ -21,7 +21,7 @@ use Rattle.rule_verify.specs.CodeTree.{code_tree}
 use Rattle.rule_verify.specs.CodeDepths.{deeper, deepest}
 use Rattle.rule_verify.specs.Faults.{verify_fault}
 use Rattle.rule_verify.specs.InstrKinds.{Surroundings, surroundings, symbols_used, block_operand, ends_with}
-use Rattle.rule_verify.specs.KindRules.{InstrFault, Enclosing, taken, ended_with, kinds_after, operand_limit, block_limit}
+use Rattle.rule_verify.specs.KindRules.{InstrFault, Enclosing, taken, ended_with, kinds_after, max_operands, max_blocks}
 use Rattle.rule_verify.specs.Known.{AreKnownKinds}
 use Rattle.rule_verify.specs.Patterns.{all_match, below}
 
@@ -68,8 +68,8 @@ pub record IsRuleCode (r : RuleCode) : Type 0 where
 pub record IsPlace (r : RuleCode) (variables : List Kind) (p : Place) (operands : List Kind) : Type 0 where
   pub before : p.at ≤ p.end
   pub within : p.end ≤ length r.code.now
-  pub room : p.covered + length operands ≤ operand_limit
-  pub nested : p.open_blocks ≤ block_limit
+  pub room : p.covered + length operands ≤ max_operands
+  pub nested : p.open_blocks ≤ max_blocks
   pub variables_known : AreKnownKinds r.linked.now.model variables
   pub operands_known : AreKnownKinds r.linked.now.model operands
 
@@ -123,7 +123,7 @@ pub record Opened (r : RuleCode) (variables : List Kind) (old : Depths) (p : Pla
   pub takes : taken (surroundings_of r) variables i p.at operands ≡ Ok after
   pub first : operand ≡ block_operand i operands
   pub nests : p.at + 1 + n ≤ p.end
-  pub shallow : p.open_blocks < block_limit
+  pub shallow : p.open_blocks < max_blocks
   pub kept : left ≡ variables
   pub depths : new ≡ deeper old (depth_at variables p operands)
   pub known : AreKnownKinds r.linked.now.model after

@@ -6,7 +6,7 @@ ghost use Rattle.rule_verify.specs.InstrKinds as spec;
 ghost use Rattle.rule_verify.specs.Walk.{surroundings_of, AreSymbols};
 
 use crate::block_instr::BlockInstr;
-use crate::judged::RuleCode;
+use crate::code::RuleCode;
 use crate::meant::{kind_meant, scalar_meant};
 use crate::pattern::Pattern;
 use crate::shape::Shape;

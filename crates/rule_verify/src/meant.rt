@@ -5,7 +5,7 @@ ghost use Rattle.rule_verify.specs.InstrKinds as spec;
 ghost use Rattle.rule_verify.specs.Symbols.{named_at};
 ghost use Rattle.rule_verify.specs.Walk.{surroundings_of, AreSymbols};
 
-use crate::judged::RuleCode;
+use crate::code::RuleCode;
 use crate::named::Named;
 use ocl_kinds::{Kind, ScalarKind, feature_kind};
 use rule_code::{SymbolNumber, WrittenKind, WrittenScalar};

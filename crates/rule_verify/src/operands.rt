@@ -8,7 +8,7 @@ ghost use Rattle.rule_verify.specs.Walk.{surroundings_of, operand_list, AreSymbo
 
 use crate::block_instr::BlockInstr;
 use crate::blocks::block_of;
-use crate::judged::RuleCode;
+use crate::code::RuleCode;
 use crate::meant::{kind_meant, owner_kind, scalar_meant};
 use crate::pattern::{Operands, Pattern};
 use ocl_kinds::{Kind, ScalarKind};

@@ -5,7 +5,7 @@ ghost use Rattle.ocl_kinds.specs.declared.kind.Kind.{Kind};
 ghost use Rattle.rule_verify.specs.InstrKinds as spec;
 ghost use Rattle.rule_verify.specs.Walk.{surroundings_of, AreSymbols};
 
-use crate::judged::RuleCode;
+use crate::code::RuleCode;
 use crate::meant::{class_kind, feature_read, literal_kind, scalar_meant};
 use imkl_model::CollectionKind;
 use ocl_base::Stack;

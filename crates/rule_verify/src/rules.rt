@@ -5,9 +5,9 @@ ghost use Rattle.ocl_base.specs.Steps.{Gives};
 ghost use Rattle.rule_verify.specs.Faults.{verify_fault};
 ghost use Rattle.rule_verify.specs.UnitRules as spec;
 
+use crate::code::RuleCode;
 use crate::depths::Depths;
 use crate::fault::{VerifyFault, VerifyFlaw};
-use crate::judged::RuleCode;
 use crate::linked::Linked;
 use crate::pattern::Pattern;
 use crate::place::{Place, Walk};

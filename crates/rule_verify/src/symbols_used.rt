@@ -4,7 +4,7 @@ ghost use Rattle.std.specs.Prelude.{◌≡◌};
 ghost use Rattle.rule_verify.specs.InstrKinds as spec;
 ghost use Rattle.rule_verify.specs.Walk.{symbol_list, surroundings_of, AreSymbols};
 
-use crate::judged::RuleCode;
+use crate::code::RuleCode;
 use rule_code::{Instr, SymbolNumber, WrittenKind, WrittenScalar};
 
 /// The symbol of the kind of a single value, if it has one.

@@ -8,8 +8,8 @@ ghost use Rattle.rule_verify.specs.Known.{AreKnownKinds};
 ghost use Rattle.rule_verify.specs.Patterns.{are_there, ArePatterns};
 ghost use Rattle.rule_verify.specs.Walk.{surroundings_of, operand_list, AreSymbols, AreTaken, Leads, IsRuleCode};
 
+use crate::code::RuleCode;
 use crate::fault::{VerifyFault, VerifyFlaw};
-use crate::judged::RuleCode;
 use crate::operands::{operand_count, operands_of};
 use crate::pattern::{Operands, Pattern, matches};
 use crate::symbols_used::has_names;

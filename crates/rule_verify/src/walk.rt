@@ -15,9 +15,10 @@ ghost use Rattle.rule_verify.specs.Walk as walks;
 ghost use Rattle.rule_verify.specs.Walk.{surroundings_of, AreSymbols, IsRuleCode, IsPlace, kinds_from, depth_at, Goes, IsBlock, Opens, body_ends, Walked};
 
 use crate::blocks::{bind, block_operand, ends_with, shape_of, unbind, yields};
+use crate::code::RuleCode;
 use crate::depths::Depths;
 use crate::fault::{VerifyFault, VerifyFlaw};
-use crate::judged::RuleCode;
+use crate::limits::{MAX_BLOCKS, MAX_OPERANDS};
 use crate::pattern::{Pattern, matches};
 use crate::place::{Place, Walk};
 use crate::results::result_kind;
@@ -27,12 +28,6 @@ use ocl_base::Stack;
 use ocl_kinds::{Kind, elements_kind};
 use rule_code::Instr;
 use std::alloc::Global;
-
-/// The most operands at once, those below open blocks too.
-const OPERAND_LIMIT: usize = 1024;
-
-/// The most blocks that are open at once.
-const BLOCK_LIMIT: usize = 64;
 
 /// The greater of each.
 fn deeper(depths: Depths, others: Depths) -> Depths
@@ -47,7 +42,7 @@ fn deeper(depths: Depths, others: Depths) -> Depths
 
 /// Notes how deep a place is.
 fn reach(walk: &mut Walk, place: Place, operands: &Stack<Kind>)
-    requires { place.covered + length operands.now ≤ spec.operand_limit }
+    requires { place.covered + length operands.now ≤ spec.max_operands }
     ensures variables { walk.new.variables ≡ walk.old.variables }
     ensures depths { walk.new.depths ≡ depth.deeper walk.old.depths
         (depth_at walk.old.variables place operands.now) }
@@ -104,7 +99,7 @@ fn plain(
     reach(walk, place, operands);
     let operand = topmost(operands);
     take(rule, &walk.variables, operands, instr, place.at)?;
-    if operands.len() >= OPERAND_LIMIT - place.covered {
+    if operands.len() >= MAX_OPERANDS - place.covered {
         return Err(rule.fault(VerifyFlaw::StackLimit, place.at));
     }
     put(
@@ -137,7 +132,7 @@ fn open_block(
     if length >= place.end - place.at {
         return Err(rule.fault(VerifyFlaw::BadNesting, place.at));
     }
-    if place.open_blocks >= BLOCK_LIMIT {
+    if place.open_blocks >= MAX_BLOCKS {
         return Err(rule.fault(VerifyFlaw::NestLimit, place.at));
     }
     Ok(operand)
@@ -145,8 +140,8 @@ fn open_block(
 
 /// A sequence of instructions inside a block that leaves operands below it.
 fn inside(place: Place, left: &Stack<Kind>, at: usize, end: usize) -> Place
-    requires room { place.covered + length left.now ≤ spec.operand_limit }
-    requires nested { place.open_blocks < spec.block_limit }
+    requires room { place.covered + length left.now ≤ spec.max_operands }
+    requires nested { place.open_blocks < spec.max_blocks }
     ensures { result ≡ walks.place_inside place left.now at end }
 {
     Place {

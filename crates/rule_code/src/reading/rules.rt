@@ -12,14 +12,12 @@ use super::code::code_from;
 use super::field::{count_from, symbol_number_from, text_number_from, wrong};
 use super::preamble::Preamble;
 use crate::fault::{CodeFlaw, FieldFault};
+use crate::limits::MAX_RULES;
 use crate::symbol::{SymbolTag, TextNumber};
 use crate::unit::{Rule, text_named};
 use ocl_base::is_name;
 use std::alloc::{AllocError, Global};
 use std::collections::BTreeSet;
-
-/// The greatest number of rules.
-const MOST_RULES: u16 = 4_096;
 
 /// Takes a name, and says whether it was free.
 fn take_name<'t>(taken: &mut BTreeSet<&'t str>, name: &'t str) -> Result<bool, AllocError>
@@ -117,6 +115,6 @@ pub(super) fn rules_from<'b>(
     ensures without_texts { length preamble.entry.texts.now ≡ 0
         → IfErr result (λ e. e ≢ FieldFault.OutOfMemory) }
 {
-    let (count, rest) = count_from(MOST_RULES, bytes)?;
+    let (count, rest) = count_from(MAX_RULES, bytes)?;
     many_rules(alloc, preamble, count, rest)
 }

@@ -8,10 +8,8 @@ ghost use Rattle.rule_code.specs.CodeFile.{texts_from, first_of, first_text_from
 
 use super::field::{count_from, text_bytes_from, u16_from};
 use crate::fault::FieldFault;
+use crate::limits::MAX_TEXT_BYTES;
 use std::alloc::Global;
-
-/// The greatest number of bytes in a text.
-const MOST_TEXT_BYTES: u16 = 4_096;
 
 #[tactic(auto, unfolding(crate::specs::Parts::text_from))]
 fn text_from(alloc: Global, bytes: &[u8]) -> Result<(String, &[u8]), FieldFault>
@@ -19,7 +17,7 @@ fn text_from(alloc: Global, bytes: &[u8]) -> Result<(String, &[u8]), FieldFault>
     ensures decided { IsErr (text_from bytes.now)
         → IfErr result (λ e. e ≢ FieldFault.OutOfMemory) }
 {
-    let (len, rest) = count_from(MOST_TEXT_BYTES, bytes)?;
+    let (len, rest) = count_from(MAX_TEXT_BYTES, bytes)?;
     let (text, after) = text_bytes_from(usize::from(len), rest)?;
     Ok((String::from_str(alloc, text)?, after))
 }

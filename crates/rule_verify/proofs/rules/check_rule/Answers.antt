@@ -7,7 +7,7 @@ use Rattle.ocl_kinds.specs.declared.kind.ScalarKind.TheVariants as element
 use Rattle.rule_code.specs.declared.instruction.Instr.{Instr}
 use Rattle.rule_code.specs.Content.{rule_content}
 use Rattle.rule_code.specs.View.{content}
-use Rattle.rule_verify.specs.declared.judged.RuleCode.{RuleCode}
+use Rattle.rule_verify.specs.declared.code.RuleCode.{RuleCode}
 use Rattle.rule_verify.specs.InstrKinds.{symbols_used}
 use Rattle.rule_verify.specs.Walk.{AreSymbols}
 use Rattle.rule_verify.proofs.CheckedRules.{symbols_there, code_wrong, end_wrong, rule_passes, rule_goes_deep}

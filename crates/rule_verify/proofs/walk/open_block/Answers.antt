@@ -18,9 +18,9 @@ returns-then-length-place c =
     (torn_fails c.args.rule.now c.args.walk.now.variables c.args.place c.args.operands.now c.args.instr c.requires.inside c.requires.place.within c.requires.here c.args.length c.take.new.operands c.requires.shape long
     (ap (λ (v : List Kind). taken (surroundings_of c.args.rule.now) v c.args.instr c.args.place.at c.args.operands.now) (sym c.reach.ensures.variables) ∙ c.in_ok-take.ensures.taken))
 
-pub returns-then-place-ge-BLOCK_LIMIT : goal.returns-then-place-ge-BLOCK_LIMIT
-returns-then-place-ge-BLOCK_LIMIT c =
+pub returns-then-place-ge-MAX_BLOCKS : goal.returns-then-place-ge-MAX_BLOCKS
+returns-then-place-ge-MAX_BLOCKS c =
     let nests : c.args.place.at + 1 + c.args.length ≤ c.args.place.end = omega (arith, c.if-length-place.false, c.requires.inside) in
-    rw c.fault-then-place-ge-BLOCK_LIMIT.ensures
-    (nest_fails c.args.rule.now c.args.walk.now.variables c.args.place c.args.operands.now c.args.instr c.requires.inside c.requires.place.within c.requires.here c.args.length c.take.new.operands c.requires.shape nests c.if-place-ge-BLOCK_LIMIT.true
+    rw c.fault-then-place-ge-MAX_BLOCKS.ensures
+    (nest_fails c.args.rule.now c.args.walk.now.variables c.args.place c.args.operands.now c.args.instr c.requires.inside c.requires.place.within c.requires.here c.args.length c.take.new.operands c.requires.shape nests c.if-place-ge-MAX_BLOCKS.true
     (ap (λ (v : List Kind). taken (surroundings_of c.args.rule.now) v c.args.instr c.args.place.at c.args.operands.now) (sym c.reach.ensures.variables) ∙ c.in_ok-take.ensures.taken))

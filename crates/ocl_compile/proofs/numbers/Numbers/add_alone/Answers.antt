@@ -15,12 +15,12 @@ returns-then-is_some c =
     ∙ ap (λ (xs : List Named). record { texts = old.texts; symbols = xs }) (sym (once_there same_named old.symbols symbol there))
     ∙ ap (λ (n : Numbering). record { texts = n.texts; symbols = once_more same_named n.symbols symbol }) c.self.view_is
 
-pub returns-then-len-eq-MOST_COUNTED : goal.returns-then-len-eq-MOST_COUNTED
-returns-then-len-eq-MOST_COUNTED c = λ fits.
+pub returns-then-len-eq-MAX_COUNTED : goal.returns-then-len-eq-MAX_COUNTED
+returns-then-len-eq-MAX_COUNTED c = λ fits.
     let symbol = c.args.symbol in
     let new = ap is_some (sym c.number_of.ensures) ∙ sym c.is_some.ensures ∙ c.if-is_some.false in
     let inside = subst (λ (n : Numbering). FitsUnit (record { texts = n.texts; symbols = once_more same_named n.symbols symbol })) (sym c.self.view_is) fits in
-    none_more same_named c.self.inside.symbols symbol new (sym c.len.ensures ∙ c.if-len-eq-MOST_COUNTED.true) inside.0.1
+    none_more same_named c.self.inside.symbols symbol new (sym c.len.ensures ∙ c.if-len-eq-MAX_COUNTED.true) inside.0.1
 
 pub returns : goal.returns
 returns c =

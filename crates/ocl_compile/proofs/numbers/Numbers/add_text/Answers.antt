@@ -8,11 +8,11 @@ use Rattle.ocl_compile.proofs.Added.{once_there, once_new, none_more, once_any}
 use Rattle.ocl_compile.proofs.numbers.Numbers.add_text.Goals as goal
 
 -- src/numbers.rt
-pub returns-then-text-gt-MOST_TEXT_BYTES : goal.returns-then-text-gt-MOST_TEXT_BYTES
-returns-then-text-gt-MOST_TEXT_BYTES c = λ fits.
+pub returns-then-text-gt-MAX_TEXT_BYTES : goal.returns-then-text-gt-MAX_TEXT_BYTES
+returns-then-text-gt-MAX_TEXT_BYTES c = λ fits.
     let old = c.args.self.now.texts in
     let text = c.args.text.now in
-    let long : is_long_text text ≡ true = lt-ltb 4096 (length text) c.if-text-gt-MOST_TEXT_BYTES.true in
+    let long : is_long_text text ≡ true = lt-ltb 4096 (length text) c.if-text-gt-MAX_TEXT_BYTES.true in
     true≢false (sym (once_any is_long_text old text ∙ or_right (list_any is_long_text old) (is_long_text text) long) ∙ fits.1)
 
 pub returns-then-is_some : goal.returns-then-is_some
@@ -24,12 +24,12 @@ returns-then-is_some c =
     ∙ ap (λ (ts : List (List ℕ)). record { texts = ts; symbols = old.symbols }) (sym (once_there bytes_eq old.texts text there))
     ∙ ap (λ (n : Numbering). record { texts = once_more bytes_eq n.texts text; symbols = n.symbols }) c.self.view_is
 
-pub returns-then-len-eq-MOST_COUNTED : goal.returns-then-len-eq-MOST_COUNTED
-returns-then-len-eq-MOST_COUNTED c = λ fits.
+pub returns-then-len-eq-MAX_COUNTED : goal.returns-then-len-eq-MAX_COUNTED
+returns-then-len-eq-MAX_COUNTED c = λ fits.
     let text = c.args.text.now in
     let new = ap is_some (sym c.number_of.ensures) ∙ sym c.is_some.ensures ∙ c.if-is_some.false in
     let inside = subst (λ (n : Numbering). FitsUnit (record { texts = once_more bytes_eq n.texts text; symbols = n.symbols })) (sym c.self.view_is) fits in
-    none_more bytes_eq c.self.inside.texts text new (sym c.len.ensures ∙ c.if-len-eq-MOST_COUNTED.true) inside.0.0
+    none_more bytes_eq c.self.inside.texts text new (sym c.len.ensures ∙ c.if-len-eq-MAX_COUNTED.true) inside.0.0
 
 pub invariant_of-self : goal.invariant_of-self
 invariant_of-self c =

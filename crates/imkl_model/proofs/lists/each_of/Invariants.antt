@@ -2,7 +2,7 @@ use Rattle.std.proofs.Common.{◌≡◌, map, drop, All}
 use Rattle.serde_json.specs.View.{view}
 use Rattle.ocl_base.specs.Steps.{each}
 use Rattle.ocl_base.proofs.ForAbove.{with_front}
-use Rattle.imkl_model.proofs.each.each_of.Given as goal
+use Rattle.imkl_model.proofs.lists.each_of.Given as goal
 
 abbrev pub invariant-loop-value : goal.invariant-loop-value
 invariant-loop-value g l = record {

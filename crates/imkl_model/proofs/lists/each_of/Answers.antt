@@ -5,7 +5,7 @@ use Rattle.serde_json.specs.View.{view}
 use Rattle.ocl_base.specs.Steps.{each}
 use Rattle.ocl_base.proofs.ForAbove.{goes_on, is_done, ends}
 use Rattle.imkl_model.specs.Faults.{model_fault}
-use Rattle.imkl_model.proofs.each.each_of.Goals as goal
+use Rattle.imkl_model.proofs.lists.each_of.Goals as goal
 
 pub returns-in_err-of-clause-trees : goal.returns-in_err-of-clause-trees
 returns-in_err-of-clause-trees g c =
