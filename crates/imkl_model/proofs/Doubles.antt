@@ -14,7 +14,7 @@ use Rattle.imkl_model.specs.Chains.{any_below, is_or_reaches}
 use Rattle.imkl_model.specs.ClassModel.{Model, supers, supers_in, feature_in, feature_at, no_feature, belongs, is_named, is_own_in, own_feature_number, feature_number, has_clash, IsClash}
 use Rattle.imkl_model.specs.Renames.{feature_rename_at, no_feature_rename, is_for, is_taken, renames_clash}
 use Rattle.imkl_model.specs.Held.{alias_of}
-use Rattle.imkl_model.specs.Groups.{model_with, group, named, is_shared, shares, begins_with, AreOwned, AreOfOneOwner}
+use Rattle.imkl_model.specs.Groups.{model_with, group, features_named, is_shared, shares, begins_with, AreOwned, AreOfOneOwner}
 use Rattle.imkl_model.proofs.Below.{any_found, found_any}
 use Rattle.imkl_model.proofs.ClashGroups.{any_of, of_any, in_group, begins, same_group}
 use Rattle.imkl_model.proofs.ClashLaws.{clash_found, joined, unequal}
@@ -254,13 +254,13 @@ module _ (m : Model) where
       let w = found_any (shares renamed present) (length aliases) e in
       let name = (feature_at renamed w.0).name in
       let p = and_parts (begins_with (group renamed w.0) w.0) (is_shared renamed present name) w.2 in
-      let v = found_any (λ c. list_any (belongs renamed c) (named renamed name) && list_any (belongs present c) (named present name)) (length m.classes) p.1 in
+      let v = found_any (λ c. list_any (belongs renamed c) (features_named renamed name) && list_any (belongs present c) (features_named present name)) (length m.classes) p.1 in
       let c = v.0 in
-      let q = and_parts (list_any (belongs renamed c) (named renamed name)) (list_any (belongs present c) (named present name)) v.2 in
-      let a = any_of (belongs renamed c) (named renamed name) q.0 in
-      let b = any_of (belongs present c) (named present name) q.1 in
-      let i = get_or (named renamed name) a.0 0 in
-      let f = get_or (named present name) b.0 0 in
+      let q = and_parts (list_any (belongs renamed c) (features_named renamed name)) (list_any (belongs present c) (features_named present name)) v.2 in
+      let a = any_of (belongs renamed c) (features_named renamed name) q.0 in
+      let b = any_of (belongs present c) (features_named present name) q.1 in
+      let i = get_or (features_named renamed name) a.0 0 in
+      let f = get_or (features_named present name) b.0 0 in
       let li : i < length m.renames.features = omega (arith, places_below (is_named renamed name) (length aliases) a.0 0 a.1, count) in
       let lf = places_below (is_named present name) (length m.features) b.0 0 b.1 in
       let entry_named = (bytes_eq-Decides name (feature_in aliases i).name).0 (places_pass (is_named renamed name) (length aliases) a.0 0 a.1) in
@@ -277,9 +277,9 @@ module _ (m : Model) where
       let some : 0 < length (group renamed i) = omega (arith, at_i.1) in
       let head = get_or (group renamed i) 0 0 in
       let a = in_group renamed i 0 some in
-      let entry = of_any (belongs renamed c) (named renamed name) at_i.0 at_i.1 (ap (belongs renamed c) at_i.2 ∙ for_class c i li ∙ for_i) in
-      let feature = of_any (belongs present c) (named present name) at_f.0 at_f.1 (ap (belongs present c) at_f.2 ∙ in_f) in
-      let shared : is_shared renamed present name ≡ true = any_found (λ k. list_any (belongs renamed k) (named renamed name) && list_any (belongs present k) (named present name)) (length m.classes) c lc (rw (entry, feature) refl) in
+      let entry = of_any (belongs renamed c) (features_named renamed name) at_i.0 at_i.1 (ap (belongs renamed c) at_i.2 ∙ for_class c i li ∙ for_i) in
+      let feature = of_any (belongs present c) (features_named present name) at_f.0 at_f.1 (ap (belongs present c) at_f.2 ∙ in_f) in
+      let shared : is_shared renamed present name ≡ true = any_found (λ k. list_any (belongs renamed k) (features_named renamed name) && list_any (belongs present k) (features_named present name)) (length m.classes) c lc (rw (entry, feature) refl) in
       let first_here : begins_with (group renamed head) head ≡ true = subst (λ (xs : List ℕ). begins_with xs head ≡ true) (same_group renamed i head a.1) (begins (group renamed i) some) in
       let shared_here : is_shared renamed present (feature_at renamed head).name ≡ true = subst (λ (n : List ℕ). is_shared renamed present n ≡ true) a.1 shared in
       any_found (shares renamed present) (length aliases) head a.0 (rw (first_here, shared_here) refl)

@@ -5,7 +5,7 @@ use Rattle.std.proofs.lemmas.Bool.{and_from}
 use Rattle.imkl_model.specs.Chains.{any_below}
 use Rattle.imkl_model.specs.ClassModel.{Model, belongs}
 use Rattle.imkl_model.specs.Tables.{has_mark}
-use Rattle.imkl_model.specs.Groups.{named, is_shared}
+use Rattle.imkl_model.specs.Groups.{features_named, is_shared}
 use Rattle.imkl_model.proofs.Below.{any_found, any_none}
 
 and_false : (b : Bool) → (b && false) ≡ false
@@ -13,8 +13,8 @@ and_false true = refl
 and_false false = refl
 
 -- a name of no feature of the second model is not shared
-pub not_shared : (a m : Model) (name : List ℕ) → named m name ≡ [] → is_shared a m name ≡ false
-not_shared a m name none = any_none (λ c. list_any (belongs a c) (named a name) && list_any (belongs m c) (named m name)) (length m.classes) (λ c lt. rw none (and_false (list_any (belongs a c) (named a name))))
+pub not_shared : (a m : Model) (name : List ℕ) → features_named m name ≡ [] → is_shared a m name ≡ false
+not_shared a m name none = any_none (λ c. list_any (belongs a c) (features_named a name) && list_any (belongs m c) (features_named m name)) (length m.classes) (λ c lt. rw none (and_false (list_any (belongs a c) (features_named a name))))
 
 -- two rows have a mark in common just where some number passes both tests
 pub common_passes : (p q : ℕ → Bool) (n : ℕ) (xs ys : List Bool) (o : Option ℕ) → ((c : ℕ) → c < n → has_mark xs c ≡ p c) → ((c : ℕ) → c < n → has_mark ys c ≡ q c)

@@ -49,13 +49,13 @@ abbrev pub group_meets : Model → ℕ → Bool
 group_meets m f = begins_with (group m f) f && any_below (λ c. meets m c (group m f)) (length m.classes)
 
 -- the features of this name
-abbrev pub named : Model → List ℕ → List ℕ
-named m name = places (is_named m name) (length m.features)
+abbrev pub features_named : Model → List ℕ → List ℕ
+features_named m name = places (is_named m name) (length m.features)
 
 -- a class has features of this name by both models
 abbrev pub is_shared : Model → Model → List ℕ → Bool
 is_shared a m name =
-    any_below (λ c. list_any (belongs a c) (named a name) && list_any (belongs m c) (named m name)) (length m.classes)
+    any_below (λ c. list_any (belongs a c) (features_named a name) && list_any (belongs m c) (features_named m name)) (length m.classes)
 
 -- the feature is the first of its name by the one model, and a class has features of that name by both
 abbrev pub shares : Model → Model → ℕ → Bool

@@ -2,7 +2,7 @@ use Rattle.std.proofs.Common.{◌≡◌, ◌∙◌, ◌<◌, ◌&&◌, ℕ, List
 use Rattle.std.specs.List.{list_any}
 use Rattle.imkl_model.specs.declared.feature.FeatureInfo.{FeatureInfo}
 use Rattle.imkl_model.specs.ClassModel.{feature_at, is_named_in, belongs}
-use Rattle.imkl_model.specs.Groups.{model_with, group, named, is_shared, begins_with}
+use Rattle.imkl_model.specs.Groups.{model_with, group, features_named, is_shared, begins_with}
 use Rattle.imkl_model.specs.Tables.{has_mark}
 use Rattle.ocl_base.proofs.ForAbove.{places_below}
 use Rattle.imkl_model.proofs.SharedNames.{not_shared, common_passes}
@@ -18,7 +18,7 @@ returns-in_default-group c =
     let m = model_with c.args.classes.now c.args.features.now in
     let name = (feature_at a c.args.alias).name in
     let is_name : c.as_str-name.result.now ≡ name = c.as_str-name.ensures ∙ ap (λ (f : FeatureInfo). f.name) c.at.ensures in
-    let none : named m name ≡ [] = ap (named m) (sym is_name) ∙ sym c.in_default-group.ensures.numbers in
+    let none : features_named m name ≡ [] = ap (features_named m) (sym is_name) ∙ sym c.in_default-group.ensures.numbers in
     sym (no_and (begins_with (group a c.args.alias) c.args.alias) (is_shared a m name) (not_shared a m name none))
 
 pub belonging-requires-clause-numbers : goal.belonging-requires-clause-numbers
@@ -34,11 +34,11 @@ returns c =
     let n = length c.args.classes.now in
     let name = (feature_at a c.args.alias).name in
     let is_name : c.as_str-name.result.now ≡ name = c.as_str-name.ensures ∙ ap (λ (f : FeatureInfo). f.name) c.at.ensures in
-    let old : c.numbers-2.result.now ≡ named a name = c.numbers-2.ensures ∙ c.in-Some.ensures.numbers ∙ ap (named a) is_name in
-    let present : c.numbers-3.result.now ≡ named m name = c.numbers-3.ensures ∙ c.in-Some-group.ensures.numbers ∙ ap (named m) is_name in
+    let old : c.numbers-2.result.now ≡ features_named a name = c.numbers-2.ensures ∙ c.in-Some.ensures.numbers ∙ ap (features_named a) is_name in
+    let present : c.numbers-3.result.now ≡ features_named m name = c.numbers-3.ensures ∙ c.in-Some-group.ensures.numbers ∙ ap (features_named m) is_name in
     let first : begins_with (group a c.args.alias) c.args.alias ≡ true = ap (λ (xs : List ℕ). begins_with xs c.args.alias) (sym old ∙ c.numbers-2.ensures ∙ sym c.numbers.ensures) ∙ sym c.if-not-begins_with.ensures in
     let shared : c.is_some.result ≡ is_shared a m name =
-    c.is_some.ensures ∙ common_passes (λ k. list_any (belongs a k) (named a name)) (λ k. list_any (belongs m k) (named m name)) n c.in_ok-renamed.renamed c.in_ok-named.named c.common.result
+    c.is_some.ensures ∙ common_passes (λ k. list_any (belongs a k) (features_named a name)) (λ k. list_any (belongs m k) (features_named m name)) n c.in_ok-renamed.renamed c.in_ok-named.named c.common.result
     (λ k lt. c.in_ok-renamed.ensures.1 k lt ∙ ap (list_any (belongs a k)) old) (λ k lt. c.in_ok-named.ensures.1 k lt ∙ ap (list_any (belongs m k)) present)
     (subst (λ (k : ℕ). IfSome c.common.result (λ j. (j < k) × (has_mark c.in_ok-renamed.renamed j ≡ true) × (has_mark c.in_ok-named.named j ≡ true))) c.in_ok-renamed.ensures.0 c.common.ensures.found) c.common.ensures.none in
     shared ∙ sym (ap (λ (b : Bool). b && is_shared a m name) first)
