@@ -26,7 +26,7 @@ any_of p (x ∷ xs) e =
       | inr later ↦ let w = any_of p xs later in (suc w.0, omega (arith, w.1), w.2)
     ]
 
-of_any : (p : ℕ → Bool) (xs : List ℕ) (k : ℕ) → k < length xs → p (get_or xs k 0) ≡ true → list_any p xs ≡ true
+pub of_any : (p : ℕ → Bool) (xs : List ℕ) (k : ℕ) → k < length xs → p (get_or xs k 0) ≡ true → list_any p xs ≡ true
 of_any p [] k lt e = absurd (omega (arith, lt))
 of_any p (x ∷ xs) zero lt e = rw e refl
 of_any p (x ∷ xs) (suc k) lt e = or_right (p x) (list_any p xs) (of_any p xs k (omega (arith, lt)) e)
@@ -63,7 +63,7 @@ is_found p (x ∷ xs) (suc k) lt e = some_found p x xs (p x) refl (λ b. is_foun
 
 -- ---- the features of one name
 
-in_group : (m : Model) (f k : ℕ) → k < length (group m f) → (get_or (group m f) k 0 < length m.features) × ((feature_at m f).name ≡ (feature_at m (get_or (group m f) k 0)).name)
+pub in_group : (m : Model) (f k : ℕ) → k < length (group m f) → (get_or (group m f) k 0 < length m.features) × ((feature_at m f).name ≡ (feature_at m (get_or (group m f) k 0)).name)
 in_group m f k lt =
     let name = (feature_at m f).name in
     let g = get_or (group m f) k 0 in
@@ -98,7 +98,7 @@ clash_in_group m f e =
 
 -- ---- and back
 
-begins : (xs : List ℕ) → 0 < length xs → begins_with xs (get_or xs 0 0) ≡ true
+pub begins : (xs : List ℕ) → 0 < length xs → begins_with xs (get_or xs 0 0) ≡ true
 begins [] lt = absurd (omega (arith, lt))
 begins (x ∷ xs) lt = elim (eqb_tells x x) [ inl h ↦ h.0 | inr h ↦ absurd (h.1 refl) ]
 
@@ -116,7 +116,7 @@ meets_at m c xs f g at_f at_g in_f in_g apart =
     ] in
     rw w.1 found
 
-same_group : (m : Model) (f h : ℕ) → (feature_at m f).name ≡ (feature_at m h).name → group m f ≡ group m h
+pub same_group : (m : Model) (f h : ℕ) → (feature_at m f).name ≡ (feature_at m h).name → group m f ≡ group m h
 same_group m f h e = ap (λ (name : List ℕ). places (is_named m name) (length m.features)) e
 
 grouped : (m : Model) (c f g : ℕ) → IsClash m c f g → any_below (group_meets m) (length m.features) ≡ true

@@ -1,21 +1,23 @@
 -- Features that have one name in a class, where old names count too.
-use Rattle.std.proofs.Common.{◌≡◌, ◌≢◌, ◌∙◌, ◌⊎◌, inl, inr, ℕ, zero, suc, ◌+◌, ◌<◌, ◌≤◌, ◌&&◌, ◌||◌, ◌++◌, Bool, true, false, List, length, map, eqb, Option, Some, None, is_some, IfSome, bytes_eq, if◌then◌else◌, refl, sym, ap, subst, arith}
+use Rattle.std.proofs.Common.{◌≡◌, ◌≢◌, ◌∙◌, ◌⊎◌, inl, inr, ℕ, zero, suc, ◌<◌, ◌≤◌, ◌&&◌, ◌||◌, Bool, true, false, List, length, map, get_or, eqb, Option, Some, None, is_some, IfSome, bytes_eq, if◌then◌else◌, refl, sym, ap, subst, arith}
 use Rattle.std.specs.Option.{option_or}
-use Rattle.std.proofs.lemmas.Bool.{false≢true, and_from, and_parts, or_cases, or_left, or_right}
+use Rattle.std.specs.List.{list_any}
+use Rattle.std.proofs.lemmas.Bool.{false≢true, and_from, and_parts, or_cases, or_right}
 use Rattle.std.proofs.lemmas.Bool.Decides.{eqb_tells, leb_tells, Decides-eqb}
-use Rattle.std.proofs.lemmas.List.{length-map, length-append, get_or-map, get_or_append_left, get_or-append-add}
+use Rattle.std.proofs.lemmas.List.{length-map, get_or-map}
 use Rattle.std.proofs.lemmas.Slice.Eq.{bytes_eq-Decides}
 use Rattle.ocl_base.specs.Numbers.{least}
-use Rattle.ocl_base.proofs.ForAbove.{least_passes, least_found}
+use Rattle.ocl_base.proofs.ForAbove.{least_passes, least_found, place_of, places_below, places_pass}
 use Rattle.imkl_model.specs.declared.entry.Class.{Class}
 use Rattle.imkl_model.specs.declared.feature.FeatureInfo.{FeatureInfo}
 use Rattle.imkl_model.specs.Chains.{any_below, is_or_reaches}
-use Rattle.imkl_model.specs.ClassModel.{Model, Renames, supers, supers_in, feature_in, feature_at, no_feature, belongs, is_named, is_own_in, own_feature_number, feature_number, has_clash, IsClash}
+use Rattle.imkl_model.specs.ClassModel.{Model, supers, supers_in, feature_in, feature_at, no_feature, belongs, is_named, is_own_in, own_feature_number, feature_number, has_clash, IsClash}
 use Rattle.imkl_model.specs.Renames.{feature_rename_at, no_feature_rename, is_for, is_taken, renames_clash}
 use Rattle.imkl_model.specs.Held.{alias_of}
-use Rattle.imkl_model.specs.Groups.{model_with, model_renaming, AreOwned, AreOfOneOwner}
-use Rattle.imkl_model.proofs.Below.{any_found, found_any, any_none}
-use Rattle.imkl_model.proofs.ClashLaws.{clash_found, found_clash, joined, unequal}
+use Rattle.imkl_model.specs.Groups.{model_with, group, features_named, is_shared, shares, begins_with, AreOwned, AreOfOneOwner}
+use Rattle.imkl_model.proofs.Below.{any_found, found_any}
+use Rattle.imkl_model.proofs.ClashGroups.{any_of, of_any, in_group, begins, same_group}
+use Rattle.imkl_model.proofs.ClashLaws.{clash_found, joined, unequal}
 use Rattle.imkl_model.proofs.Warshall.{is_or_reaches-decides}
 
 -- ---- the least number that passes
@@ -144,10 +146,6 @@ found_taken m e =
       ],
     )
 
--- without entries nothing is taken
-pub none_taken : (m : Model) → length m.renames.features ≡ 0 → renames_clash m ≡ false
-none_taken m none = any_none (λ c. any_below (is_taken m c) (length m.renames.features)) (length m.classes) (λ c lc. any_none (is_taken m c) (length m.renames.features) (λ i li. absurd (omega (arith, none, li))))
-
 -- ---- two features of one name in a class
 
 pub record IsDouble (cs : List Class) (fs : List FeatureInfo) (c f g : ℕ) : Type 0 where
@@ -203,165 +201,108 @@ double_cases m c f g h apart =
           (joined (is_named m (feature_at m f).name g) _ (belongs m c f) (belongs m c g) ((bytes_eq-Decides (feature_at m f).name (feature_at m g).name).1 h.one_name) (unequal (feature_at m f).owner (feature_at m g).owner differ.1) h.first_belongs h.second_belongs)
     ]
 
-same_truth : (a b : Bool) → (a ≡ true → b ≡ true) → (b ≡ true → a ≡ true) → a ≡ b
+-- two truths of which each gives the other
+pub same_truth : (a b : Bool) → (a ≡ true → b ≡ true) → (b ≡ true → a ≡ true) → a ≡ b
 same_truth true b f g = sym (f refl)
 same_truth false true f g = g refl
 same_truth false false f g = refl
 
--- ---- features by present names, then by old ones
+-- ---- entries as features of their classes
 
-module _ (cs : List Class) (fs : List FeatureInfo) (rs : Renames) where
-  count : length (fs ++ map alias_of rs.features) ≡ length fs + length rs.features
-  count = length-append fs (map alias_of rs.features) ∙ ap (λ (n : ℕ). length fs + n) (length-map rs.features alias_of)
+module _ (m : Model) where
+  abbrev pub aliases : List FeatureInfo
+  aliases = map alias_of m.renames.features
 
-  -- a place is that of a feature, or of an entry
-  place : (f : ℕ) → f < length (fs ++ map alias_of rs.features) → (f < length fs) ⊎ ((i : ℕ) × (i < length rs.features) × (f ≡ length fs + i))
-  place f lt =
-      elim (leb_tells (length fs) f) [
-        | inl le ↦ let w = over (length fs) f le.1 in inr (w.0, omega (arith, w.1, lt, count), w.1)
-        | inr less ↦ inl less.1
-      ]
-    where
-      over : (a b : ℕ) → a ≤ b → (i : ℕ) × (b ≡ a + i)
-      over zero b le = (b, omega arith)
-      over (suc a) zero le = absurd (omega (arith, le))
-      over (suc a) (suc b) le = let w = over a b (omega (arith, le)) in (w.0, omega (arith, w.1))
+  abbrev pub renamed : Model
+  renamed = model_with m.classes aliases
 
-  at_feature : (f : ℕ) → f < length fs → feature_in (fs ++ map alias_of rs.features) f ≡ feature_in fs f
-  at_feature f lt = get_or_append_left fs (map alias_of rs.features) no_feature f lt
+  abbrev pub present : Model
+  present = model_with m.classes m.features
 
-  at_entry : (i : ℕ) → i < length rs.features → feature_in (fs ++ map alias_of rs.features) (length fs + i) ≡ alias_of (feature_rename_at (model_renaming cs fs rs) i)
-  at_entry i lt = get_or-append-add fs (map alias_of rs.features) i no_feature ∙ get_or-map alias_of rs.features i no_feature_rename no_feature lt
+  count : length aliases ≡ length m.renames.features
+  count = length-map m.renames.features alias_of
 
-  pub both_owned : AreOwned cs fs → AreOwned cs (map alias_of rs.features) → AreOwned cs (fs ++ map alias_of rs.features)
-  both_owned here there f lt =
-      elim (place f lt) [
-        | inl feature ↦ subst (λ (x : FeatureInfo). x.owner < length cs) (sym (at_feature f feature)) (here f feature)
-        | inr entry ↦
-            let inside : entry.0 < length (map alias_of rs.features) = omega (arith, entry.1, length-map rs.features alias_of) in
-            let is : feature_in (fs ++ map alias_of rs.features) f ≡ feature_in (map alias_of rs.features) entry.0 = ap (feature_in (fs ++ map alias_of rs.features)) entry.2 ∙ get_or-append-add fs (map alias_of rs.features) entry.0 no_feature in
-            subst (λ (x : FeatureInfo). x.owner < length cs) (sym is) (there entry.0 inside)
-      ]
+  at_entry : (i : ℕ) → i < length m.renames.features → feature_in aliases i ≡ alias_of (feature_rename_at m i)
+  at_entry i lt = get_or-map alias_of m.renames.features i no_feature_rename no_feature lt
 
-  module _ (c : ℕ) (lc : c < length cs) where
-    here : (f : ℕ) (x : FeatureInfo) → feature_in (fs ++ map alias_of rs.features) f ≡ x → is_or_reaches (supers_in cs) c (feature_in (fs ++ map alias_of rs.features) f).owner ≡ true → is_or_reaches (supers_in cs) c x.owner ≡ true
-    here f x is e = subst (λ (y : FeatureInfo). is_or_reaches (supers_in cs) c y.owner ≡ true) is e
+  old_name : (i : ℕ) → i < length m.renames.features → (feature_in aliases i).name ≡ (feature_rename_at m i).old
+  old_name i lt = ap (λ (x : FeatureInfo). x.name) (at_entry i lt)
 
-    names : (f g : ℕ) (x y : FeatureInfo) → feature_in (fs ++ map alias_of rs.features) f ≡ x → feature_in (fs ++ map alias_of rs.features) g ≡ y → (feature_in (fs ++ map alias_of rs.features) f).name ≡ (feature_in (fs ++ map alias_of rs.features) g).name → x.name ≡ y.name
-    names f g x y a b e = ap (λ (z : FeatureInfo). z.name) (sym a) ∙ e ∙ ap (λ (z : FeatureInfo). z.name) b
+  for_class : (c i : ℕ) → i < length m.renames.features → is_or_reaches (supers m) c (feature_in aliases i).owner ≡ is_for m c i
+  for_class c i lt = ap (λ (x : FeatureInfo). is_or_reaches (supers m) c x.owner) (at_entry i lt)
 
-    entries_clash : (i j : ℕ) → i < length rs.features → j < length rs.features → i ≢ j → is_for (model_renaming cs fs rs) c i ≡ true → is_for (model_renaming cs fs rs) c j ≡ true
-        → (feature_rename_at (model_renaming cs fs rs) i).old ≡ (feature_rename_at (model_renaming cs fs rs) j).old → renames_clash (model_renaming cs fs rs) ≡ true
-    entries_clash i j li lj apart for_i for_j same =
-        elim (leb_tells i j) [
-          | inl le ↦ elim (eqb_tells i j) [
-            | inl one ↦ absurd (apart one.1)
-            | inr two ↦ taken_by_entry (model_renaming cs fs rs) c j i lc lj (omega (arith, le.1, two.1)) for_j for_i (sym same)
-          ]
-          | inr less ↦ taken_by_entry (model_renaming cs fs rs) c i j lc li less.1 for_i for_j same
+  entries_clash : (c i j : ℕ) → c < length m.classes → i < length m.renames.features → j < length m.renames.features → i ≢ j → is_for m c i ≡ true → is_for m c j ≡ true → (feature_rename_at m i).old ≡ (feature_rename_at m j).old → renames_clash m ≡ true
+  entries_clash c i j lc li lj apart for_i for_j same =
+      elim (leb_tells i j) [
+        | inl le ↦ elim (eqb_tells i j) [
+          | inl one ↦ absurd (apart one.1)
+          | inr two ↦ taken_by_entry m c j i lc lj (omega (arith, le.1, two.1)) for_j for_i (sym same)
         ]
-
-    -- two features of one name, of which one at least has it as an old one, are a clash of old names, and else a clash
-    pub clash_of_double : (f g : ℕ) → ((x y : ℕ) → AreOfOneOwner fs x y → ⊥) → IsDouble cs (fs ++ map alias_of rs.features) c f g → (has_clash (model_renaming cs fs rs) || renames_clash (model_renaming cs fs rs)) ≡ true
-    clash_of_double f g apart h =
-        let m = model_renaming cs fs rs in
-        elim (place f h.first) [
-          | inl a ↦ elim (place g h.second) [
-            | inl b ↦ or_left (has_clash m) (renames_clash m) (double_cases m c f g (record {
-              class = lc;
-              first = a;
-              second = b;
-              apart = h.apart;
-              one_name = names f g (feature_in fs f) (feature_in fs g) (at_feature f a) (at_feature g b) h.one_name;
-              first_belongs = here f (feature_in fs f) (at_feature f a) h.first_belongs;
-              second_belongs = here g (feature_in fs g) (at_feature g b) h.second_belongs;
-            }) apart)
-            | inr b ↦
-                let is = ap (feature_in (fs ++ map alias_of rs.features)) b.2 ∙ at_entry b.0 b.1 in
-                or_right (has_clash m) (renames_clash m) (taken_by_feature m c b.0 f lc b.1 a (here g _ is h.second_belongs) (here f (feature_in fs f) (at_feature f a) h.first_belongs) (names f g (feature_in fs f) _ (at_feature f a) is h.one_name))
-          ]
-          | inr a ↦
-              let is_a = ap (feature_in (fs ++ map alias_of rs.features)) a.2 ∙ at_entry a.0 a.1 in
-              elim (place g h.second) [
-                | inl b ↦ or_right (has_clash m) (renames_clash m) (taken_by_feature m c a.0 g lc a.1 b (here f _ is_a h.first_belongs) (here g (feature_in fs g) (at_feature g b) h.second_belongs) (sym (names f g _ (feature_in fs g) is_a (at_feature g b) h.one_name)))
-                | inr b ↦
-                    let is_b = ap (feature_in (fs ++ map alias_of rs.features)) b.2 ∙ at_entry b.0 b.1 in
-                    let differ : a.0 ≢ b.0 = λ e. h.apart (a.2 ∙ ap (λ (i : ℕ). length fs + i) e ∙ sym b.2) in
-                    or_right (has_clash m) (renames_clash m) (entries_clash a.0 b.0 a.1 b.1 differ (here f _ is_a h.first_belongs) (here g _ is_b h.second_belongs) (names f g _ _ is_a is_b h.one_name))
-              ]
-        ]
-
-  -- a clash is two features of one name
-  pub double_of_either : (has_clash (model_renaming cs fs rs) || renames_clash (model_renaming cs fs rs)) ≡ true → (c f g : ℕ) × IsDouble cs (fs ++ map alias_of rs.features) c f g
-  double_of_either e =
-      let m = model_renaming cs fs rs in
-      elim (or_cases (has_clash m) (renames_clash m) e) [
-        | inl clash ↦
-            let w = found_clash m clash in
-            let h = double_of_clash m w.0 w.1 w.2 w.3 in (
-              w.0,
-              w.1,
-              w.2,
-              record {
-                class = h.class;
-                first = omega (arith, h.first, count);
-                second = omega (arith, h.second, count);
-                apart = h.apart;
-                one_name = ap (λ (x : FeatureInfo). x.name) (at_feature w.1 h.first) ∙ h.one_name ∙ ap (λ (x : FeatureInfo). x.name) (sym (at_feature w.2 h.second));
-                first_belongs = ap (λ (x : FeatureInfo). is_or_reaches (supers_in cs) w.0 x.owner) (at_feature w.1 h.first) ∙ h.first_belongs;
-                second_belongs = ap (λ (x : FeatureInfo). is_or_reaches (supers_in cs) w.0 x.owner) (at_feature w.2 h.second) ∙ h.second_belongs;
-              },
-            )
-        | inr old ↦
-            let w = found_taken m old in
-            let c = w.0 in
-            let i = w.1 in
-            elim w.5 [
-              | inl h ↦ (
-                c,
-                length fs + i,
-                h.0,
-                record {
-                  class = w.2;
-                  first = omega (arith, w.3, count);
-                  second = omega (arith, h.1, count);
-                  apart = λ same. absurd (omega (arith, same, h.1));
-                  one_name = ap (λ (x : FeatureInfo). x.name) (at_entry i w.3) ∙ h.3 ∙ ap (λ (x : FeatureInfo). x.name) (sym (at_feature h.0 h.1));
-                  first_belongs = ap (λ (x : FeatureInfo). is_or_reaches (supers_in cs) c x.owner) (at_entry i w.3) ∙ w.4;
-                  second_belongs = ap (λ (x : FeatureInfo). is_or_reaches (supers_in cs) c x.owner) (at_feature h.0 h.1) ∙ h.2;
-                },
-              )
-              | inr h ↦
-                  let lj : h.0 < length rs.features = omega (arith, h.1, w.3) in (
-                    c,
-                    length fs + i,
-                    length fs + h.0,
-                    record {
-                      class = w.2;
-                      first = omega (arith, w.3, count);
-                      second = omega (arith, lj, count);
-                      apart = λ same. absurd (omega (arith, same, h.1));
-                      one_name = ap (λ (x : FeatureInfo). x.name) (at_entry i w.3) ∙ h.3 ∙ ap (λ (x : FeatureInfo). x.name) (sym (at_entry h.0 lj));
-                      first_belongs = ap (λ (x : FeatureInfo). is_or_reaches (supers_in cs) c x.owner) (at_entry i w.3) ∙ w.4;
-                      second_belongs = ap (λ (x : FeatureInfo). is_or_reaches (supers_in cs) c x.owner) (at_entry h.0 lj) ∙ h.2;
-                    },
-                  )
-            ]
+        | inr less ↦ taken_by_entry m c i j lc li less.1 for_i for_j same
       ]
 
-  -- among features of one owner none by another's name: the clash of both is that of either
-  pub both_clash : ((x y : ℕ) → AreOfOneOwner fs x y → ⊥) → ((x y : ℕ) → AreOfOneOwner (fs ++ map alias_of rs.features) x y → ⊥)
-      → has_clash (model_with cs (fs ++ map alias_of rs.features)) ≡ (has_clash (model_renaming cs fs rs) || renames_clash (model_renaming cs fs rs))
-  both_clash apart apart_all =
-      let m = model_renaming cs fs rs in
-      let all = model_with cs (fs ++ map alias_of rs.features) in
-      same_truth (has_clash all) (has_clash m || renames_clash m)
-      (λ e. let w = found_clash all e in let h = double_of_clash all w.0 w.1 w.2 w.3 in clash_of_double w.0 h.class w.1 w.2 apart h)
-      (λ e. let w = double_of_either e in double_cases all w.0 w.1 w.2 w.3 apart_all)
+  -- two entries of one old name for a class are a clash of old names
+  pub doubled_entries : (c i j : ℕ) → IsDouble m.classes aliases c i j → renames_clash m ≡ true
+  doubled_entries c i j h =
+      let li : i < length m.renames.features = omega (arith, h.first, count) in
+      let lj : j < length m.renames.features = omega (arith, h.second, count) in
+      entries_clash c i j h.class li lj h.apart (sym (for_class c i li) ∙ h.first_belongs) (sym (for_class c j lj) ∙ h.second_belongs) (sym (old_name i li) ∙ h.one_name ∙ old_name j lj)
 
-  -- and two of one owner among both are a clash of old names
-  pub owner_clash : ((x y : ℕ) → AreOfOneOwner fs x y → ⊥) → AreOwned cs fs → AreOwned cs (map alias_of rs.features) → (f g : ℕ) → AreOfOneOwner (fs ++ map alias_of rs.features) f g
-      → (has_clash (model_renaming cs fs rs) || renames_clash (model_renaming cs fs rs)) ≡ true
-  owner_clash apart owned owned_old f g h =
-      let w = double_of_owner cs (fs ++ map alias_of rs.features) (both_owned owned owned_old) f g h in
-      clash_of_double w.0 w.1.class f g apart w.1
+  -- a class with a feature and an entry of one name is a clash of old names
+  pub shared_entries : any_below (shares renamed present) (length aliases) ≡ true → renames_clash m ≡ true
+  shared_entries e =
+      let w = found_any (shares renamed present) (length aliases) e in
+      let name = (feature_at renamed w.0).name in
+      let p = and_parts (begins_with (group renamed w.0) w.0) (is_shared renamed present name) w.2 in
+      let v = found_any (λ c. list_any (belongs renamed c) (features_named renamed name) && list_any (belongs present c) (features_named present name)) (length m.classes) p.1 in
+      let c = v.0 in
+      let q = and_parts (list_any (belongs renamed c) (features_named renamed name)) (list_any (belongs present c) (features_named present name)) v.2 in
+      let a = any_of (belongs renamed c) (features_named renamed name) q.0 in
+      let b = any_of (belongs present c) (features_named present name) q.1 in
+      let i = get_or (features_named renamed name) a.0 0 in
+      let f = get_or (features_named present name) b.0 0 in
+      let li : i < length m.renames.features = omega (arith, places_below (is_named renamed name) (length aliases) a.0 0 a.1, count) in
+      let lf = places_below (is_named present name) (length m.features) b.0 0 b.1 in
+      let entry_named = (bytes_eq-Decides name (feature_in aliases i).name).0 (places_pass (is_named renamed name) (length aliases) a.0 0 a.1) in
+      let feature_named = (bytes_eq-Decides name (feature_at m f).name).0 (places_pass (is_named present name) (length m.features) b.0 0 b.1) in
+      taken_by_feature m c i f v.1 li lf (sym (for_class c i li) ∙ a.2) b.2 (sym feature_named ∙ entry_named ∙ old_name i li)
+
+  -- where an entry's old name is the name of a feature, both for one class, the walk over first entries finds it
+  pub found_shared : (c i f : ℕ) → c < length m.classes → i < length m.renames.features → f < length m.features → is_for m c i ≡ true → belongs m c f ≡ true → (feature_rename_at m i).old ≡ (feature_at m f).name → any_below (shares renamed present) (length aliases) ≡ true
+  found_shared c i f lc li lf for_i in_f same =
+      let inside : i < length aliases = omega (arith, li, count) in
+      let name = (feature_at renamed i).name in
+      let at_i = place_of (is_named renamed name) (length aliases) i inside ((bytes_eq-Decides name name).1 refl) in
+      let at_f = place_of (is_named present name) (length m.features) f lf ((bytes_eq-Decides name (feature_at m f).name).1 (old_name i li ∙ same)) in
+      let some : 0 < length (group renamed i) = omega (arith, at_i.1) in
+      let head = get_or (group renamed i) 0 0 in
+      let a = in_group renamed i 0 some in
+      let entry = of_any (belongs renamed c) (features_named renamed name) at_i.0 at_i.1 (ap (belongs renamed c) at_i.2 ∙ for_class c i li ∙ for_i) in
+      let feature = of_any (belongs present c) (features_named present name) at_f.0 at_f.1 (ap (belongs present c) at_f.2 ∙ in_f) in
+      let shared : is_shared renamed present name ≡ true = any_found (λ k. list_any (belongs renamed k) (features_named renamed name) && list_any (belongs present k) (features_named present name)) (length m.classes) c lc (rw (entry, feature) refl) in
+      let first_here : begins_with (group renamed head) head ≡ true = subst (λ (xs : List ℕ). begins_with xs head ≡ true) (same_group renamed i head a.1) (begins (group renamed i) some) in
+      let shared_here : is_shared renamed present (feature_at renamed head).name ≡ true = subst (λ (n : List ℕ). is_shared renamed present n ≡ true) a.1 shared in
+      any_found (shares renamed present) (length aliases) head a.0 (rw (first_here, shared_here) refl)
+
+  -- old names clash with names of today just where the walk finds one, if they don't clash with each other
+  pub old_names_clash : ((i j : ℕ) → AreOfOneOwner aliases i j → ⊥) → has_clash renamed ≡ false → any_below (shares renamed present) (length aliases) ≡ renames_clash m
+  old_names_clash apart none =
+      same_truth (any_below (shares renamed present) (length aliases)) (renames_clash m) shared_entries
+      (λ e.
+      let w = found_taken m e in
+      let c = w.0 in
+      let i = w.1 in
+      elim w.5 [
+        | inl h ↦ found_shared c i h.0 w.2 w.3 h.1 w.4 h.2 h.3
+        | inr h ↦
+            let lj : h.0 < length m.renames.features = omega (arith, h.1, w.3) in
+            absurd (false≢true (sym none ∙ double_cases renamed c i h.0 (record {
+              class = w.2;
+              first = omega (arith, w.3, count);
+              second = omega (arith, lj, count);
+              apart = λ same. absurd (omega (arith, same, h.1));
+              one_name = old_name i w.3 ∙ h.3 ∙ sym (old_name h.0 lj);
+              first_belongs = for_class c i w.3 ∙ w.4;
+              second_belongs = for_class c h.0 lj ∙ h.2;
+            }) apart))
+      ])

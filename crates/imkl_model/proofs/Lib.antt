@@ -15,6 +15,7 @@ pub mod ClashLaws
 pub mod ClashGroups
 pub mod ClashWalks
 pub mod Doubles
+pub mod SharedNames
 pub mod Parts
 pub mod Ends
 pub mod FeatureParts

@@ -30,7 +30,7 @@ use Rattle.imkl_model.specs.Chains as chains
 use Rattle.imkl_model.specs.ClassModel.{Model, Renames, supers, class_names, enumeration_names, names_of_enumerations, feature_at, no_feature, has_clash, belongs, is_named, conforms, is_own_in}
 use Rattle.imkl_model.specs.Renames.{class_rename_at, no_class_rename, feature_rename_at, no_feature_rename, old_class_names, is_for, renames_clash}
 use Rattle.imkl_model.specs.Held.{alias_of}
-use Rattle.imkl_model.specs.Groups.{AreOwned, AreOfOneOwner}
+use Rattle.imkl_model.specs.Groups.{AreOwned}
 use Rattle.imkl_model.specs.Features.{is_end, is_single}
 use Rattle.ocl_base.specs.CollectionKinds.{is_unique_kind}
 use Rattle.imkl_model.specs.WellFormed.{IsClassModel, ArePaired, IsFeature, IsFeatureRename, IsModelName, type_names}
@@ -314,12 +314,6 @@ module _ (w : Written) (m : Model) (limits : checks.is_within_limits w ≡ true)
             let clash = clash_found m c f g (class_known c f lf in_f) lf lg (joined (is_named m (feature_at m f).name g) (not (eqb (feature_at m f).owner (feature_at m g).owner)) (belongs m c f) (belongs m c g) ((bytes_eq-Decides (feature_at m f).name (feature_at m g).name).1 same) apart in_f in_g) in
             absurd (false≢true (sym free ∙ clash))
       ]
-
-  -- no two features of one owner have one name
-  pub owners_apart : (f g : ℕ) → AreOfOneOwner m.features f g → ⊥
-  owners_apart f g h =
-      let same : f ≡ g = one_of_owner f g h.1 (omega (arith, h.0, h.1)) h.3 h.2 in
-      absurd (omega (arith, same, h.0))
 
   module _ (free : renames_clash m ≡ false) where
     pub old_or_present : (c i f : ℕ) → IsFeatureRename m i → IsFeature m f → is_for m c i ≡ true → belongs m c f ≡ true → (feature_at m f).name ≡ (feature_rename_at m i).old → ⊥

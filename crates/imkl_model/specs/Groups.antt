@@ -48,6 +48,19 @@ meets m c numbers = meets_after m c numbers (find (belongs m c) numbers)
 abbrev pub group_meets : Model → ℕ → Bool
 group_meets m f = begins_with (group m f) f && any_below (λ c. meets m c (group m f)) (length m.classes)
 
+-- the features of this name
+abbrev pub features_named : Model → List ℕ → List ℕ
+features_named m name = places (is_named m name) (length m.features)
+
+-- a class has features of this name by both models
+abbrev pub is_shared : Model → Model → List ℕ → Bool
+is_shared a m name =
+    any_below (λ c. list_any (belongs a c) (features_named a name) && list_any (belongs m c) (features_named m name)) (length m.classes)
+
+-- the feature is the first of its name by the one model, and a class has features of that name by both
+abbrev pub shares : Model → Model → ℕ → Bool
+shares a m f = begins_with (group a f) f && is_shared a m (feature_at a f).name
+
 -- each feature's owner is a class
 abbrev pub AreOwned : List Class → List FeatureInfo → Type 0
 AreOwned classes features = (f : ℕ) → f < length features → (feature_in features f).owner < length classes

@@ -9,11 +9,11 @@ ghost use Rattle.imkl_model.specs.Held.{AreDescendants, alias_of};
 
 use crate::class_table::ClassTable;
 use crate::descendants::descendants;
-use crate::feature::FeatureInfo;
 use crate::feature_table::FeatureTable;
 use crate::numbers::FeatureNo;
 use crate::rename_table::RenameTable;
 use crate::row::Row;
+use crate::shared_names::any_shared;
 use std::alloc::{AllocError, Global};
 
 /// Whether two of some features have different owners and belong to one class. Each owner in turn is compared with all
@@ -52,7 +52,7 @@ fn meet_somewhere(
     Ok(false)
 }
 
-fn begins_with(numbers: &[FeatureNo], number: FeatureNo) -> bool
+pub(crate) fn begins_with(numbers: &[FeatureNo], number: FeatureNo) -> bool
     ensures { result ≡ begins_with numbers.now number }
 {
     match numbers {
@@ -92,13 +92,14 @@ fn has_clash(
     alloc: Global,
     classes: &ClassTable,
     features: &FeatureTable,
+    below: &[Row],
 ) -> Result<bool, AllocError>
-    requires { AreOwned classes.now features.now }
+    requires owners { AreOwned classes.now features.now }
+    requires below { AreDescendants classes.now below.now }
     ensures { IfOk result (λ b. b ≡ has_clash (model_with classes.now features.now)) }
 {
-    let below = descendants(alloc, classes)?;
     for number in 0..features.len() {
-        if group_meets(alloc, classes, features, &below, FeatureNo::new(number))? {
+        if group_meets(alloc, classes, features, below, FeatureNo::new(number))? {
             return Ok(true);
         }
     }
@@ -129,34 +130,8 @@ fn repeats_own(features: &FeatureTable) -> bool
     false
 }
 
-fn push_copies(
-    alloc: Global,
-    copies: &mut Vec<FeatureInfo>,
-    features: &[FeatureInfo],
-) -> Result<(), AllocError>
-    ensures { OnOk result (copies.new.items ≡ copies.old.items ++ features.now) }
-{
-    for feature in features {
-        copies.push(feature.copy(alloc)?)?;
-    }
-    Ok(())
-}
-
-/// The features by their present names, then by old ones.
-fn by_all_names(
-    alloc: Global,
-    features: &FeatureTable,
-    renames: &RenameTable,
-) -> Result<Vec<FeatureInfo>, AllocError>
-    ensures { IfOk result (λ v. v.items ≡ features.now ++ map alias_of renames.now.features) }
-{
-    let mut all = Vec::new(alloc);
-    push_copies(alloc, &mut all, features.entries())?;
-    push_copies(alloc, &mut all, renames.aliases().entries())?;
-    Ok(all)
-}
-
-/// Whether features clash, by their present names or by old ones.
+/// Whether features clash, by their present names or by old ones. An entry of old names is looked at as a feature of its
+/// class: such features are to clash neither with each other nor with those that have the name now.
 pub(crate) fn names_clash(
     alloc: Global,
     classes: &ClassTable,
@@ -165,17 +140,16 @@ pub(crate) fn names_clash(
 ) -> Result<bool, AllocError>
     requires features { AreOwned classes.now features.now }
     requires renames { AreOwned classes.now (map alias_of renames.now.features) }
-    requires distinct { (f g : ℕ) → AreOfOneOwner features.now f g → ⊥ }
     ensures { let m = model_renaming classes.now features.now renames.now in
         IfOk result (λ b. b ≡ (has_clash m || renames_clash m)) }
 {
-    if renames.features().len() == 0 {
-        return has_clash(alloc, classes, features);
-    }
-    let named = by_all_names(alloc, features, renames)?;
-    let all = FeatureTable::new(alloc, named, classes.len())?;
-    if repeats_own(&all) {
+    let below = descendants(alloc, classes)?;
+    let aliases = renames.aliases();
+    if has_clash(alloc, classes, features, &below)?
+        || repeats_own(aliases)
+        || has_clash(alloc, classes, aliases, &below)?
+    {
         return Ok(true);
     }
-    has_clash(alloc, classes, &all)
+    any_shared(alloc, classes, aliases, features, &below)
 }

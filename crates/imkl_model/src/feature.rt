@@ -1,12 +1,11 @@
 //! Features: attributes and association ends.
 
-ghost use Rattle.std.specs.Prelude.{◌≡◌, IfOk};
+ghost use Rattle.std.specs.Prelude.{◌≡◌};
 ghost use Rattle.imkl_model.specs.Features.{is_attribute, is_opposite, is_single, is_unique};
 
 use crate::name::Name;
 use crate::numbers::{ClassNo, EnumNo, FeatureNo};
 use ocl_base::CollectionKind;
-use std::alloc::{AllocError, Global};
 
 /// What one element of a feature's value is.
 #[derive(Clone, Copy, PartialEq, Eq, Debug)]
@@ -81,21 +80,6 @@ impl FeatureInfo {
         ensures { result ≡ is_single self.now.upper }
     {
         is_single(self.upper)
-    }
-
-    /// A second copy of the feature.
-    pub(crate) fn copy(&self, alloc: Global) -> Result<FeatureInfo, AllocError>
-        ensures { IfOk result (λ f. f ≡ self.now) }
-    {
-        Ok(FeatureInfo {
-            name: self.name.copy(alloc)?,
-            owner: self.owner,
-            element: self.element,
-            lower: self.lower,
-            upper: self.upper,
-            kind: self.kind,
-            role: self.role,
-        })
     }
 
     /// Whether it is a collection in which nothing may stand twice: an end, or an attribute of a unique kind.

@@ -30,6 +30,7 @@ mod rename_table;
 mod renames;
 mod row;
 mod same;
+mod shared_names;
 mod sorted_texts;
 mod tree;
 mod words;

@@ -1,6 +1,6 @@
 use Rattle.std.proofs.Common.{sym, ◌∙◌}
 use Rattle.imkl_model.specs.Drafts.{model_of_draft}
-use Rattle.imkl_model.proofs.Sound.{made_of, owned, renamed_owned, owners_apart, well_formed}
+use Rattle.imkl_model.proofs.Sound.{made_of, owned, renamed_owned, well_formed}
 use Rattle.imkl_model.proofs.model.ClassModel.new.Goals as goal
 
 pub names_clash-requires-clause-features : goal.names_clash-requires-clause-features
@@ -12,11 +12,6 @@ pub names_clash-requires-clause-renames : goal.names_clash-requires-clause-renam
 names_clash-requires-clause-renames c =
     let m = model_of_draft c.args.draft in
     renamed_owned c.requires.written m c.requires.limits c.requires.distinct (made_of c.requires.written m c.requires.numbered)
-
-pub names_clash-requires-clause-distinct : goal.names_clash-requires-clause-distinct
-names_clash-requires-clause-distinct c =
-    let m = model_of_draft c.args.draft in
-    owners_apart c.requires.written m c.requires.limits c.requires.distinct (made_of c.requires.written m c.requires.numbered)
 
 pub invariant_of-result : goal.invariant_of-result
 invariant_of-result c =
