@@ -9,8 +9,8 @@ use Rattle.serde_json.proofs.Views.{view-Array}
 use Rattle.ocl_base.specs.Steps.{◌>>=◌, found, each, Fails}
 use Rattle.ocl_base.proofs.ForAbove.{both_steps, found_is, ok_is, not_okay, fails_whole, each_at, each_length}
 use Rattle.imkl_model.specs.ClassModel.{Model}
-use Rattle.imkl_model.specs.Json.{list_from, record_from}
-use Rattle.imkl_model.proofs.ForAbove.{elements_of-view}
+use Rattle.imkl_json.specs.Json.{list_from, record_from}
+use Rattle.imkl_json.proofs.ForAbove.{elements_of-view}
 use Rattle.imkl_population.specs.Population.{Population}
 use Rattle.imkl_delivery.specs.declared.fault.DeliveryFault.{DeliveryFault}
 use Rattle.imkl_delivery.specs.declared.fault.DeliveryFault.TheVariants as fault

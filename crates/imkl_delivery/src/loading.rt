@@ -19,8 +19,8 @@ use crate::fault::DeliveryFault;
 use crate::features::{placed_fault, put_members};
 use crate::guesses::Guesses;
 use crate::taking::{features_of, objects_of};
+use imkl_json::tree;
 use imkl_model::ClassModel;
-use imkl_model::json::tree;
 use imkl_population::{
     ObjectNo, Population, PopulationBuilder, PopulationFault, RequiredFeatures, Side,
 };

@@ -1,5 +1,4 @@
--- What the crates above cite: what the public laws say, and the parts of a JSON tree beside the values that stand for it.
-pub use Rattle.imkl_model.proofs.Trees.{members_len-view, elements_of-view, trees}
+-- What the crates above cite: what the public laws say.
 pub use Rattle.imkl_model.proofs.Warshall.{is_or_reaches-decides}
 pub use Rattle.imkl_model.proofs.Cycles.{cyclic-decides}
 pub use Rattle.imkl_model.proofs.ClashLaws.{clash-decides}

@@ -1,5 +1,4 @@
 pub mod ForAbove
-pub mod Trees
 pub mod Below
 pub mod Warshall
 pub mod Cycles

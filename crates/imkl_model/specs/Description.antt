@@ -7,7 +7,7 @@ use Rattle.imkl_model.specs.declared.fault.ModelFault.TheVariants.{NotJson, Dupl
 use Rattle.imkl_model.specs.ClassModel.{Model, supers, has_clash}
 use Rattle.imkl_model.specs.Renames.{renames_clash}
 use Rattle.imkl_model.specs.Chains.{is_cyclic}
-use Rattle.imkl_model.specs.Json.{IsTree, IsNoTree}
+use Rattle.imkl_json.specs.Json.{IsTree, IsNoTree}
 use Rattle.ocl_base.specs.Steps.{◌>>=◌, check}
 use Rattle.imkl_model.specs.Shape.{written_from}
 use Rattle.imkl_model.specs.Checks.{is_within_limits, repeats_name, has_multiplicity}

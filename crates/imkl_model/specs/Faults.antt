@@ -1,8 +1,8 @@
 -- The faults of a class model: their numbers, and what each means where a function returns it.
 use Rattle.std.specs.Prelude.{ℕ}
 use Rattle.ocl_base.specs.Steps.{FaultMeaning, fault, out_of_memory, never}
-use Rattle.imkl_model.specs.declared.json.JsonFault.{JsonFault}
-use Rattle.imkl_model.specs.declared.json.JsonFault.TheVariants as json
+use Rattle.imkl_json.specs.declared.reading.JsonFault.{JsonFault}
+use Rattle.imkl_json.specs.declared.reading.JsonFault.TheVariants as json
 use Rattle.imkl_model.specs.declared.fault.ModelFault.{ModelFault}
 use Rattle.imkl_model.specs.declared.fault.ModelFault.TheVariants.{NotJson, Shape, DuplicateName, UnknownName, Cycle, FeatureClash, BadMultiplicity, Limit, OutOfMemory}
 

@@ -1,7 +1,6 @@
 -- Definitions: what contracts mean.
 pub mod Limits
 pub mod Words
-pub mod Json
 pub mod Faults
 pub mod Features
 pub mod Chains

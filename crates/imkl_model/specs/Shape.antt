@@ -18,7 +18,7 @@ use Rattle.imkl_model.specs.declared.written.Written.{Written}
 use Rattle.ocl_base.specs.Steps.{◌>>=◌, found, each}
 use Rattle.imkl_model.specs.Limits.{max_bound}
 use Rattle.imkl_model.specs.Words.{is_model_name, is_title}
-use Rattle.imkl_model.specs.Json.{record_from, list_from, natural_from, member_count}
+use Rattle.imkl_json.specs.Json.{record_from, list_from, natural_from, member_count}
 
 -- the class model's own name
 unfoldable pub title_from : Data → Result (List ℕ) ModelFault

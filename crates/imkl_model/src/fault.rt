@@ -4,7 +4,7 @@ ghost use Rattle.std.specs.Prelude.{◌≡◌};
 ghost use Rattle.imkl_model.specs.declared.fault.ModelFault.TheVariants.{OutOfMemory};
 ghost use Rattle.imkl_model.specs.Faults.{model_fault_number, json_model_fault};
 
-use crate::json::JsonFault;
+use imkl_json::JsonFault;
 use std::alloc::{AllocError, AllocFailed};
 use thiserror::Error;
 

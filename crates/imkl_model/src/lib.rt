@@ -17,7 +17,6 @@ mod feature_group;
 mod feature_list;
 mod feature_table;
 mod items;
-pub mod json;
 pub mod laws;
 mod lists;
 mod model;

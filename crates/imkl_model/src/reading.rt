@@ -10,9 +10,9 @@ use crate::draft::draft_of;
 use crate::duplicates::repeats_name;
 use crate::fault::ModelFault;
 use crate::feature_list::written_features;
-use crate::json::tree;
 use crate::model::ClassModel;
 use crate::tree::written_of;
+use imkl_json::tree;
 use serde_json::Value;
 use std::alloc::Global;
 

@@ -10,12 +10,11 @@ ghost use Rattle.imkl_model.specs.Limits.{max_bound};
 ghost use Rattle.imkl_model.specs.Words.{is_title};
 ghost use Rattle.imkl_model.specs.WellFormed.{IsModelName};
 ghost use Rattle.imkl_model.specs.Faults.{model_fault};
-ghost use Rattle.imkl_model.specs.Json.{list_from, record_from, natural_from};
+ghost use Rattle.imkl_json.specs.Json.{list_from, record_from, natural_from};
 ghost use Rattle.imkl_model.specs.Shape.{title_from, name_from, lower_from, upper_from, attribute_from, class_from, enumeration_from, end_from, association_from, class_rename_from, feature_rename_from, rename_from, renames_in, written_from};
 
 use crate::fault::ModelFault;
 use crate::items::Items;
-use crate::json::{list_of, member_count, record_of};
 use crate::lists::{Spelled, each_of};
 use crate::name::Name;
 use crate::renames::{class_renames, feature_renames};
@@ -24,6 +23,7 @@ use crate::written::{
     Written, WrittenAssociation, WrittenAttribute, WrittenClass, WrittenClassRename, WrittenEnd,
     WrittenEnumeration, WrittenFeatureRename, WrittenRename,
 };
+use imkl_json::{list_of, member_count, record_of};
 use serde_json::{Map, Value};
 use std::alloc::Global;
 

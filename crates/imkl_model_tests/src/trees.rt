@@ -1,6 +1,6 @@
 //! JSON trees, as other readers get them.
 
-use imkl_model::json::{JsonFault, list_of, member_count, record_of, tree};
+use imkl_json::{JsonFault, list_of, member_count, record_of, tree};
 use std::alloc::Global;
 use std::test::Fail;
 

@@ -4,7 +4,7 @@ use Rattle.std.specs.declared.alloc.Global.{Global}
 use Rattle.serde_json.specs.Events.{members_len}
 use Rattle.serde_json.specs.View.{view, items_view, members_view}
 use Rattle.serde_json.specs.declared.value.Value.{Value}
-use Rattle.imkl_model.specs.Json.{elements_of}
+use Rattle.imkl_json.specs.Json.{elements_of}
 
 -- the tree of a JSON object has as many members as the object has entries
 pub members_len-view : (es : List (String Global × Value)) → members_len (members_view es) ≡ length es

@@ -4,8 +4,8 @@ use Rattle.serde_json.specs.Data.{Data, Items, no_items, item, Members}
 use Rattle.serde_json.specs.Events.{members_len}
 use Rattle.serde_json.specs.Find.{get, as_array, as_object, as_number, as_u64}
 use Rattle.serde_json.specs.Read.{read}
-use Rattle.imkl_model.specs.declared.json.JsonFault.{JsonFault}
-use Rattle.imkl_model.specs.declared.json.JsonFault.TheVariants.{NotJson, OutOfMemory}
+use Rattle.imkl_json.specs.declared.reading.JsonFault.{JsonFault}
+use Rattle.imkl_json.specs.declared.reading.JsonFault.TheVariants.{NotJson, OutOfMemory}
 
 -- the bytes are the JSON text of this tree
 abbrev pub IsTree : List ℕ → Data → Type 0

@@ -1,8 +1,8 @@
-//! JSON trees, for readers with faults of their own: the tree of some bytes, JSON objects and lists.
+//! From bytes to a JSON tree, and from a tree to the parts that its readers ask for.
 
 ghost use Rattle.std.specs.Prelude.{◌≡◌, map, option_map, IfOk, IfErr};
 ghost use Rattle.serde_json.specs.View.{view, members_view};
-ghost use Rattle.imkl_model.specs.Json.{IsTree, IsJsonFault, list_from, record_from, member_count};
+ghost use Rattle.imkl_json.specs.Json.{IsTree, IsJsonFault, list_from, record_from, member_count};
 
 use serde_json::{Map, Value};
 use std::alloc::Global;
