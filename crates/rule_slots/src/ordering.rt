@@ -9,7 +9,7 @@ ghost use Rattle.rule_slots.specs.Ordered.{compare_words, compare_slots, is_defi
 
 use crate::elements::same_slots;
 use crate::lists::Lists;
-use crate::reading::{element, element_in};
+use crate::reading::element_in;
 use crate::slot::{Home, Mark, Slot, home_named};
 use crate::texts::slot_bytes;
 use rule_code::WrittenScalar;
@@ -56,7 +56,60 @@ fn may_precede(order: Ordering, strictly: bool) -> bool
     }
 }
 
-/// Whether the elements of a collection stand in order: strictly, where none stands twice.
+/// Whether the elements of a collection that is a part of this list stand in order: strictly, where none stands twice.
+#[inline(always)]
+fn is_in_order_in(
+    home: Home,
+    lists: Lists<'_>,
+    pool: &[Slot],
+    kind: WrittenScalar,
+    source: Slot,
+    strictly: bool,
+) -> bool
+    requires list { home_named source.list ≡ home }
+    requires home { IsInHome (lists_in lists) (length pool.now) source }
+    ensures { result ≡ rises is_defined (λ a b.
+        may_precede strictly (compare_slots (lists_in lists.entry) kind a b))
+        (held_slots (lists_in lists.entry) pool.now source) }
+{
+    for index in 0..source.count {
+        let slot = element_in(home, lists, pool, source, index);
+        if slot.is_invalid() {
+            return false;
+        }
+        if index + 1 < source.count {
+            let next = element_in(home, lists, pool, source, index + 1);
+            if !may_precede(compare_slots(lists, kind, slot, next), strictly) {
+                return false;
+            }
+        }
+    }
+    true
+}
+
+/// Whether the elements of a collection stand in order, with a loop for each list.
+#[inline(always)]
+fn is_in_order_list(
+    lists: Lists<'_>,
+    pool: &[Slot],
+    kind: WrittenScalar,
+    source: Slot,
+    strictly: bool,
+) -> bool
+    requires { IsInHome (lists_in lists) (length pool.now) source }
+    ensures { result ≡ rises is_defined (λ a b.
+        may_precede strictly (compare_slots (lists_in lists.entry) kind a b))
+        (held_slots (lists_in lists.entry) pool.now source) }
+{
+    match home_named(source.list) {
+        Home::Scalars => is_in_order_in(Home::Scalars, lists, pool, kind, source, strictly),
+        Home::Instances => is_in_order_in(Home::Instances, lists, pool, kind, source, strictly),
+        Home::Pool => is_in_order_in(Home::Pool, lists, pool, kind, source, strictly),
+    }
+}
+
+/// Whether the elements of a collection stand in order: strictly, where none stands twice. (Kinds that are compared by the
+/// same word have loops of their own for it.)
 #[inline(never)]
 pub(crate) fn is_in_order(
     lists: Lists<'_>,
@@ -70,19 +123,17 @@ pub(crate) fn is_in_order(
         may_precede strictly (compare_slots (lists_in lists.entry) kind a b))
         (held_slots (lists_in lists.entry) pool.now source) }
 {
-    for index in 0..source.count {
-        let slot = element(lists, pool, source, index);
-        if slot.is_invalid() {
-            return false;
+    match kind {
+        WrittenScalar::Void | WrittenScalar::Boolean | WrittenScalar::Integer => {
+            is_in_order_list(lists, pool, WrittenScalar::Integer, source, strictly)
         }
-        if index + 1 < source.count {
-            let next = element(lists, pool, source, index + 1);
-            if !may_precede(compare_slots(lists, kind, slot, next), strictly) {
-                return false;
-            }
+        WrittenScalar::String => {
+            is_in_order_list(lists, pool, WrittenScalar::String, source, strictly)
+        }
+        WrittenScalar::Enumeration(_) | WrittenScalar::Class(_) | WrittenScalar::AnyObject => {
+            is_in_order_list(lists, pool, WrittenScalar::AnyObject, source, strictly)
         }
     }
-    true
 }
 
 /// Whether an element is one of a collection that is a part of this list and stands in order.

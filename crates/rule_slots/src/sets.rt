@@ -211,8 +211,11 @@ fn repeats_in_pool(lists: Lists<'_>, pool: &mut Vec<Slot>, kind: WrittenScalar, 
         (held_slots (lists_in lists.entry) pool.old.items part) }
     ensures below { take part.start pool.new.items ≡ take part.start pool.old.items }
 {
-    if part.count <= SHORT || is_in_order(lists, pool, kind, part, true) {
+    if part.count <= SHORT {
         return repeats_slot(lists, pool, kind, part);
+    }
+    if is_in_order(lists, pool, kind, part, true) {
+        return false;
     }
     sort_part(lists, pool, kind, part);
     repeats_slot(lists, pool, kind, part)

@@ -1,7 +1,7 @@
 use Rattle.std.proofs.Common.{◌≡◌, drop}
 use Rattle.rule_slots.specs.Slots.{lists_in, held_slots}
 use Rattle.rule_slots.specs.Ordered.{compare_slots, is_defined, may_precede, rises}
-use Rattle.rule_slots.proofs.ordering.is_in_order.Given as goal
+use Rattle.rule_slots.proofs.ordering.is_in_order_in.Given as goal
 
 -- all stand in order where those do that are left
 abbrev pub invariant-loop-index : goal.invariant-loop-index
