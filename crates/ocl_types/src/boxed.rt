@@ -16,7 +16,7 @@ use crate::fault::TypeFault;
 use crate::folds::Start;
 use crate::requirements::{Gathered, source_of_arrow};
 use crate::typed::Typed;
-use crate::{branches, calls, collecting, folds, iterations, operators};
+use crate::{branches, calls, features, folds, iterations, operators};
 use imkl_model::ClassModel;
 use ocl_text::{BinaryOperator, IteratorKind, PrefixOperator, Variables};
 use std::alloc::Global;
@@ -80,7 +80,7 @@ pub(crate) fn property_of(
     ensures known { IfOk result (λ b. IsKindOf model.now b.value.kind) }
 {
     let source = Box::into_inner(source);
-    let value = collecting::property_of(alloc, model, number, source, name, offset)?;
+    let value = features::property_of(alloc, model, number, source, name, offset)?;
     Ok(Box::new(alloc, value)?)
 }
 
