@@ -1,6 +1,6 @@
 //! What the next step of a machine is charged. Charges are cut at 2^128-1.
 
-ghost use Rattle.std.specs.Prelude.{◌≡◌, ◌+◌, ◌*◌, ◌-◌, ◌^◌, min};
+ghost use Rattle.std.specs.Prelude.{◌≡◌, ℕ, List, false, ◌+◌, ◌*◌, ◌-◌, ◌^◌, min};
 ghost use Rattle.rule_cost.specs.Bounds as bound;
 ghost use Rattle.rule_machine.specs.Machine.{Configuration, step};
 ghost use Rattle.rule_machine.specs.Charges.{charge_of};
@@ -15,7 +15,8 @@ use rule_slots::Slot;
 use rule_verify::{BlockInstr, block_of};
 
 impl State {
-    /// The charge of the next step.
+    /// The charge of the next step. (Most instructions are charged their step alone, whatever their operands are.)
+    #[inline(always)]
     pub(crate) fn charge(&self, task: Task<'_>) -> u128
         requires task { IsTask task }
         requires place { LiesIn task self.now }
@@ -24,31 +25,48 @@ impl State {
             (setting_in task.entry) c) → result ≡ min (charge_of c) (2 ^ 128 - 1) }
     {
         if self.at < self.end {
-            return extra_charge(&self.operands, task.code()[self.at]).saturating_add(1);
+            let instr = &task.code()[self.at];
+            if !may_cost_more(*instr) {
+                return 1;
+            }
+            return extra_charge(&self.operands, instr).saturating_add(1);
         }
         match self.controls.top() {
-            Some(mark) => mark_charge(*mark, &self.operands),
+            Some(mark) => mark_charge(mark, &self.operands),
             None => unreachable!(),
         }
     }
 }
 
 /// The count with a charge more, at most 2^64-1.
+#[inline(always)]
 pub(crate) fn with_charge(count: u64, charge: u128) -> u64
     ensures { result ≡ min (count + charge) (2 ^ 64 - 1) }
 {
-    match u64::try_from(u128::from(count).saturating_add(charge)) {
-        Ok(sum) => sum,
+    match u64::try_from(charge) {
+        Ok(charge) => count.saturating_add(charge),
         Err(_) => u64::MAX,
     }
 }
 
-/// The charge of the step of a mark.
+/// Whether an instruction without a body may be charged more than its step.
 #[inline(always)]
-fn mark_charge(mark: Control, operands: &ReservedStack<Slot>) -> u128
-    ensures { result ≡ min (mark_charge_by mark (slot_lengths operands.now.0)) (2 ^ 128 - 1) }
+fn may_cost_more(instr: Instr) -> bool
+    ensures { result ≡ false → (ls : List ℕ) → bound.extra_charge instr ls ≡ 0 }
 {
-    match mark {
+    match instr {
+        Instr::Includes(_) | Instr::Count(_) | Instr::IncAll(_) | Instr::ExcAll(_) => true,
+        Instr::Eq(_) | Instr::Sum | Instr::AsSet(_) => true,
+        _ => false,
+    }
+}
+
+/// The charge of the step of a mark.
+#[inline(never)]
+fn mark_charge(mark: &Control, operands: &ReservedStack<Slot>) -> u128
+    ensures { result ≡ min (mark_charge_by mark.now (slot_lengths operands.now.0)) (2 ^ 128 - 1) }
+{
+    match *mark {
         Control::Opened(turn) => turn_charge(turn.instr, turn.source.count, 0).saturating_add(1),
         Control::Turning(turn) => {
             let taking = taking_charge(turn.instr, top_length(operands));
@@ -100,11 +118,12 @@ fn product(first: u64, second: u64) -> u128
 }
 
 /// What an instruction without a body is charged besides its step.
-fn extra_charge(operands: &ReservedStack<Slot>, instr: Instr) -> u128
-    ensures { result ≡ min (bound.extra_charge instr (slot_lengths operands.now.0)) (2 ^ 128 - 1) }
+#[inline(never)]
+fn extra_charge(operands: &ReservedStack<Slot>, instr: &Instr) -> u128
+    ensures { result ≡ min (bound.extra_charge instr.now (slot_lengths operands.now.0)) (2 ^ 128 - 1) }
 {
     let top = top_length(operands);
-    match instr {
+    match *instr {
         Instr::Includes(_) | Instr::Count(_) => u128::from(second_length(operands)),
         Instr::IncAll(_) | Instr::ExcAll(_) => product(second_length(operands), top),
         Instr::Eq(WrittenKind::Collection(_, _)) => product(second_length(operands), top),

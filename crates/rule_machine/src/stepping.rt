@@ -23,6 +23,7 @@ use rule_verify::{BlockInstr, Shape, block_of, operands_above, shape_of};
 
 impl State {
     /// One step. Where memory runs out, the machine stands before it; a rule that gathers nothing takes none.
+    #[inline(always)]
     pub(crate) fn step(&mut self, task: Task<'_>) -> Result<(), OutOfMemory>
         requires task { IsTask task }
         requires place { LiesIn task self.old }
@@ -42,6 +43,7 @@ impl State {
     }
 
     /// The step of an instruction.
+    #[inline(always)]
     fn instruct(&mut self, task: Task<'_>) -> Result<(), OutOfMemory>
         requires task { IsTask task }
         requires place { LiesIn task self.old }
@@ -53,21 +55,38 @@ impl State {
         ensures spare { takes_memory (unit_rule task.entry.accepted.now.unit task.entry.rule) ≡ false
             → IsOk result }
     {
-        let instr = task.code()[self.at];
-        match shape_of(instr) {
-            Shape::Single => self.carry_out(task, instr),
+        let instr = &task.code()[self.at];
+        match shape_of(*instr) {
+            Shape::Single => self.carry_out(task, *instr),
+            Shape::OneBody(_) | Shape::TwoBodies(_, _) => {
+                self.open(task, instr);
+                Ok(())
+            }
+        }
+    }
+
+    /// The step of an instruction with a body or with two. (It is kept out of the loop over steps, and the instruction is
+    /// lent, so that no step copies it.)
+    #[inline(never)]
+    fn open(&mut self, task: Task<'_>, instr: &Instr)
+        requires place { LiesIn task self.old }
+        requires before_end { self.old.at < self.old.end }
+        requires here { slice_get (code_in task) self.old.at ≡ Some instr.now }
+        requires bodies { shape_of instr.now ≢ Single }
+        requires goes { HasStep task self.old }
+        requires room { Room self.old }
+        ensures { Stepped task.entry self.old self.new }
+    {
+        match shape_of(*instr) {
+            Shape::Single => unreachable!(),
             Shape::OneBody(body) => {
-                if operands_above(instr) == 0 {
-                    self.open_block(task, instr, body);
+                if operands_above(*instr) == 0 {
+                    self.open_block(task, *instr, body);
                 } else {
-                    self.open_fold(task, instr, body);
+                    self.open_fold(task, *instr, body);
                 }
-                Ok(())
             }
-            Shape::TwoBodies(first, second) => {
-                self.branch(task, instr, first, second);
-                Ok(())
-            }
+            Shape::TwoBodies(first, second) => self.branch(task, *instr, first, second),
         }
     }
 
@@ -172,6 +191,7 @@ impl State {
     }
 
     /// The step of an instruction without a body.
+    #[inline(always)]
     fn carry_out(&mut self, task: Task<'_>, instr: Instr) -> Result<(), OutOfMemory>
         requires task { IsTask task }
         requires place { LiesIn task self.old }

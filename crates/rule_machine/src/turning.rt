@@ -23,6 +23,7 @@ use rule_verify::{BlockInstr, block_of, bound_count, operands_above};
 impl State {
     /// The step of the mark that comes after a sequence that is through. Where memory runs out, the machine stands
     /// before it; a rule that gathers nothing takes none.
+    #[inline(never)]
     pub(crate) fn pass(&mut self, task: Task<'_>) -> Result<(), OutOfMemory>
         requires place { LiesIn task self.old }
         requires at_end { self.old.at ≡ self.old.end }

@@ -14,20 +14,8 @@ carry_out-requires-clause-here c =
     let r = c.requires in
     instr_here c.args.task m.at m.end c.code.result.now r.before_end r.place.within c.code.ensures.code
 
-pub open_block-requires-clause-here : goal.open_block-requires-clause-here
-open_block-requires-clause-here c =
-    let m = c.args.self.now in
-    let r = c.requires in
-    instr_here c.args.task m.at m.end c.code.result.now r.before_end r.place.within c.code.ensures.code
-
-pub branch-self-requires-clause-here : goal.branch-self-requires-clause-here
-branch-self-requires-clause-here c =
-    let m = c.args.self.now in
-    let r = c.requires in
-    instr_here c.args.task m.at m.end c.code.result.now r.before_end r.place.within c.code.ensures.code
-
-pub open_fold-requires-clause-here : goal.open_fold-requires-clause-here
-open_fold-requires-clause-here c =
+pub open-requires-clause-here : goal.open-requires-clause-here
+open-requires-clause-here c =
     let m = c.args.self.now in
     let r = c.requires in
     instr_here c.args.task m.at m.end c.code.result.now r.before_end r.place.within c.code.ensures.code
