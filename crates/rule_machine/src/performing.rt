@@ -7,7 +7,7 @@ ghost use Rattle.rule_code.specs.declared.symbol.SymbolTag.TheVariants as tags;
 ghost use Rattle.rule_code.specs.WellFormed.{InstrFits};
 ghost use Rattle.rule_verify.specs.CodeTree.{shape_of};
 ghost use Rattle.ocl_base.specs.Lists.{variable_at};
-ghost use Rattle.rule_verify.specs.InstrKinds.{Surroundings, gathers, operands_of};
+ghost use Rattle.rule_verify.specs.InstrKinds.{gathers};
 ghost use Rattle.rule_verify.specs.Known.{IsKnownName};
 ghost use Rattle.rule_verify.specs.declared.shape.Shape.TheVariants.{Single};
 ghost use Rattle.rule_values.specs.Value.{Value};
@@ -30,7 +30,7 @@ use rule_slots::{
     Lists, Slot, all_instances, as_collection, as_set, cast, index_slot, invalid_slot, kind_test,
     null_slot, number_slot, substring, truth_slot, type_test, unit_text, value_read,
 };
-use rule_verify::Named;
+use rule_verify::{Named, operand_count};
 
 /// The topmost operand.
 #[inline(always)]
@@ -179,29 +179,6 @@ fn on_operands(
     }
 }
 
-/// How many operands an instruction takes. (It is `operand_count`, compiled into the step.)
-#[inline(always)]
-fn taken(instr: Instr) -> usize
-    ensures { (s : Surroundings) → result ≡ length (operands_of s instr) }
-{
-    match instr {
-        Instr::SelfObject | Instr::Get(_) | Instr::Int(_) | Instr::Bool(_) | Instr::Text(_) => 0,
-        Instr::Enum(_) | Instr::Null | Instr::Invalid | Instr::All(_) => 0,
-        Instr::Attr(_) | Instr::AsColl(_, _) | Instr::Sum | Instr::AsSet(_) => 1,
-        Instr::KindOf(_) | Instr::TypeOf(_) | Instr::AsType(_) => 1,
-        Instr::Neg | Instr::Abs | Instr::Not | Instr::Undef | Instr::IsInv | Instr::TLen => 1,
-        Instr::Size | Instr::IsEmpty | Instr::Let(_) | Instr::If(_, _, _) => 1,
-        Instr::ForAll(_) | Instr::Exists(_) | Instr::One(_) | Instr::Select(_) => 1,
-        Instr::Reject(_) | Instr::Collect(_) | Instr::CollectFlat(_) | Instr::IsUnique(_, _) => 1,
-        Instr::Add | Instr::Sub | Instr::Mul | Instr::Div | Instr::Mod => 2,
-        Instr::Min | Instr::Max | Instr::Lt | Instr::Le | Instr::Gt | Instr::Ge => 2,
-        Instr::And | Instr::Or | Instr::Xor | Instr::Implies | Instr::Eq(_) | Instr::Eqx => 2,
-        Instr::Includes(_) | Instr::Count(_) | Instr::IncAll(_) | Instr::ExcAll(_) => 2,
-        Instr::Fold(_, _) => 2,
-        Instr::SubStr => 3,
-    }
-}
-
 /// What an instruction gives that gathers nothing. The pool stays as it was.
 #[inline(always)]
 fn plain_result(
@@ -324,7 +301,7 @@ pub(crate) fn perform(
     ensures spare { gathers instr ≡ false → IsOk result }
 {
     let value = result_of(task, variables, operands, pool, instr)?;
-    operands.drop_top(taken(instr));
+    operands.drop_top(operand_count(instr));
     operands.push(value);
     Ok(())
 }

@@ -110,7 +110,8 @@ pub(crate) fn operands_of(rule: &RuleCode<'_, '_>, instr: Instr) -> Operands
     }
 }
 
-/// How many operands an instruction takes, whatever they may be.
+/// How many operands an instruction takes, whatever they may be. (It is compiled into a machine's step.)
+#[inline(always)]
 pub fn operand_count(instr: Instr) -> usize
     ensures { (s : Surroundings) → result ≡ length (spec.operands_of s instr) }
 {
