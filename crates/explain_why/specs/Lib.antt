@@ -3,3 +3,6 @@ pub mod Values
 pub mod Texts
 pub mod Reasons
 pub mod Explanation
+-- Bookkeeping: what only proofs and private contracts use.
+pub mod TextWalk
+pub mod PartWalk

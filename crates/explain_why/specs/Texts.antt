@@ -1,9 +1,9 @@
--- Words of OCL: constants, operators and iterations. Variables are named by their numbers: variable 0 is `self`, the others
--- `x1`, `x2` and so on.
-use Rattle.std.specs.Prelude.{ℕ, zero, suc, Bool, true, false, List, [], ◌∷◌, ◌++◌, codes}
+-- Core trees as short OCL. Variables are named by their numbers: variable 0 is `self`, the others `x1`, `x2` and so on.
+use Rattle.std.specs.Prelude.{ℕ, zero, suc, ◌&&◌, Bool, true, false, List, [], ◌∷◌, ◌++◌, codes}
 use Rattle.std.specs.Fmt.{decimal}
 use Rattle.std.specs.Str.{chars}
-use Rattle.imkl_model.specs.ClassModel.{Model, class_at}
+use Rattle.ocl_base.specs.declared.collection_kind.CollectionKind.{CollectionKind}
+use Rattle.imkl_model.specs.ClassModel.{Model, class_at, feature_at}
 use Rattle.ocl_core.specs.declared.operator.PlainOperator.{PlainOperator}
 use Rattle.ocl_core.specs.declared.operator.PlainOperator.TheVariants as plain
 use Rattle.ocl_core.specs.declared.operator.ClassOperator.{ClassOperator}
@@ -15,10 +15,10 @@ use Rattle.ocl_core.specs.declared.operator.Operator.TheVariants.{Plain, OfClass
 use Rattle.ocl_core.specs.declared.core_tree.Iteration.{Iteration}
 use Rattle.ocl_core.specs.declared.core_tree.Iteration.TheVariants as iteration
 use Rattle.ocl_core.specs.Core as tree
-use Rattle.ocl_core.specs.Core.{Constant}
+use Rattle.ocl_core.specs.Core.{Constant, CoreTree, CoreTrees}
 use Rattle.explain_why.specs.declared.words.Form as words
 use Rattle.explain_why.specs.declared.words.Form.TheVariants as form
-use Rattle.explain_why.specs.Values.{truth_text, quoted_text, literal_text}
+use Rattle.explain_why.specs.Values.{truth_text, quoted_text, literal_text, kind_name, before_element}
 
 -- ---- names and constants
 
@@ -138,7 +138,70 @@ is_form_open Between = true
 is_form_open Before = true
 is_form_open After = false
 
+-- what has to stand in parentheses as an operand
+abbrev pub is_open : CoreTree → Bool
+is_open (tree.Operation operator first others) = is_form_open (operator_form operator)
+is_open (tree.Let value body) = true
+is_open t = false
+
 -- a text, in parentheses where it needs them
 abbrev pub wrapped : Bool → List ℕ → List ℕ
 wrapped true text = 40 ∷ (text ++ 41 ∷ [])
 wrapped false text = text
+
+-- ---- trees, by the texts of their parts
+
+abbrev pub instances_text : Model → ℕ → List ℕ
+instances_text m c = (class_at m c).name ++ codes ".allInstances()"
+
+abbrev pub feature_text : Model → ℕ → List ℕ → List ℕ
+feature_text m f source = source ++ (46 ∷ (feature_at m f).name)
+
+abbrev pub operation_text : Form → List ℕ → List ℕ → List ℕ → List ℕ → List ℕ
+operation_text Between word asked first others = first ++ (word ++ others)
+operation_text Before word asked first others = word ++ (first ++ others)
+operation_text After word asked first others = first ++ (word ++ (40 ∷ (asked ++ (others ++ 41 ∷ []))))
+
+abbrev pub conversion_text : CollectionKind → List ℕ → List ℕ
+conversion_text c source = source ++ (codes "->as" ++ (kind_name c ++ codes "()"))
+
+abbrev pub iterate_text : Iteration → ℕ → List ℕ → List ℕ → List ℕ
+iterate_text i n source body = source ++ (iteration_word i ++ (variable_name n ++ (codes " | " ++ (body ++ 41 ∷ []))))
+
+-- the variables of a fold, up to the accumulator's first value
+abbrev pub fold_front : ℕ → List ℕ
+fold_front n = codes "->iterate(" ++ (variable_name n ++ (codes "; " ++ (variable_name (suc n) ++ codes " = ")))
+
+abbrev pub fold_text : ℕ → List ℕ → List ℕ → List ℕ → List ℕ
+fold_text n source start body = source ++ (fold_front n ++ (start ++ (codes " | " ++ (body ++ 41 ∷ []))))
+
+-- what stands before the body of a `let`
+abbrev pub let_front : List ℕ → List ℕ → List ℕ
+let_front name value = codes "let " ++ (name ++ (codes " = " ++ (value ++ codes " in ")))
+
+abbrev pub choice_text : List ℕ → List ℕ → List ℕ → List ℕ
+choice_text condition first second =
+    codes "if " ++ (condition ++ (codes " then " ++ (first ++ (codes " else " ++ (second ++ codes " endif")))))
+
+-- the text of a tree in which so many variables are seen
+module _ (m : Model) where
+  abbrev mutual
+    pub text_of : CoreTree → ℕ → List ℕ
+    text_of (tree.Value c) n = constant_text m c
+    text_of (tree.Variable v) n = variable_name v
+    text_of (tree.AllInstances c) n = instances_text m c
+    text_of (tree.Feature source f) n = feature_text m f (wrapped (is_open source) (text_of source n))
+    text_of (tree.Operation operator first others) n =
+        operation_text (operator_form operator) (operator_word operator) (class_asked m operator) (wrapped (is_open first) (text_of first n)) (others_text (is_form_open (operator_form operator)) 0 others n)
+    text_of (tree.AsCollection c k source) n = conversion_text c (wrapped (is_open source) (text_of source n))
+    text_of (tree.Iterate i source body) n = iterate_text i n (wrapped (is_open source) (text_of source n)) (text_of body (suc n))
+    text_of (tree.Fold k source start body) n =
+        fold_text n (wrapped (is_open source) (text_of source n)) (text_of start n) (text_of body (suc (suc n)))
+    text_of (tree.Let value body) n = let_front (variable_name n) (text_of value n) ++ text_of body (suc n)
+    text_of (tree.If k condition first second) n = choice_text (text_of condition n) (text_of first n) (text_of second n)
+
+    -- the operands after the first, from the one of this number on: one that is written between two, or those in parentheses
+    pub others_text : Bool → ℕ → CoreTrees → ℕ → List ℕ
+    others_text b k tree.no_core n = []
+    others_text b k (tree.one_core first rest) n =
+        before_element k ++ (wrapped (b && is_open first) (text_of first n) ++ others_text b (suc k) rest n)

@@ -1,16 +1,18 @@
 //! The explanation of a verdict, part by part.
 
-ghost use Rattle.std.specs.Prelude.{◌≡◌, ℕ, List, [], ◌∷◌, ◌++◌, ◌<◌, length, map, drop, IfOk, OnOk, string_bytes};
-ghost use Rattle.std.specs.List.{AllByRecursion};
-ghost use Rattle.ocl_core.specs.Core.{cores_of};
+ghost use Rattle.std.specs.Prelude.{◌≡◌, [], ◌∷◌, ◌++◌, ◌+◌, ◌<◌, length, map, drop, IfOk, OnOk, string_bytes};
+ghost use Rattle.std.specs.List.{AllByRecursion, flat_map};
+ghost use Rattle.ocl_core.specs.Core.{cores_of, lets_of};
 ghost use Rattle.ocl_core.specs.CoreView.{core_view, core_link_of, core_spine, checked_rule_of};
 ghost use Rattle.ocl_compile.specs.Meaning.{meaning};
 ghost use Rattle.rule_machine.specs.Verdict.{verdict_of};
 ghost use Rattle.rule_values.specs.Value.{element_value, object_value};
 ghost use Rattle.owned_values.specs.Meant.{meant, meant_item, meant_items, IsElementThere, AreElementsThere, IsValueThere};
 ghost use Rattle.ocl_meaning.specs.Resolved.{IsResolved, AreResolved, AreThere};
-ghost use Rattle.ocl_meaning.specs.Evaluated.{IsLinkResolved, AreLinksResolved};
-ghost use Rattle.explain_why.specs.Explanation.{verdict_word, verdict_line};
+ghost use Rattle.ocl_meaning.specs.Evaluated.{bindings, on_null, IsLinkResolved, AreLinksResolved};
+ghost use Rattle.explain_why.specs.Values.{value_text};
+ghost use Rattle.explain_why.specs.Explanation.{part_line, named_value, binding_line, bindings_line, iteration_lines, steps_lines, accumulation_lines, part_of, explained, all_explained, verdict_word, verdict_line, explanation};
+ghost use Rattle.explain_why.specs.PartWalk.{node_reason, node_line, nodes_lines, element_lines, step_lines, link_lines, links_lines, bound_lines, lets_lines};
 
 use crate::deciding::{bodies_that_decide, deciding_elements};
 use crate::pieces::{put, put_indent, put_more};
@@ -37,6 +39,8 @@ fn put_part(
     reason: &str,
 ) -> Result<(), OutOfMemory>
     requires there { IsValueThere population.now.content (meant value.now) }
+    ensures { OnOk result (string_bytes out.new ≡ string_bytes out.old ++ part_line level part.now
+        (value_text population.now.content (meant value.now)) reason.now) }
 {
     put_indent(out, level)?;
     put(out, part)?;
@@ -58,6 +62,8 @@ fn put_tree<'a>(
 ) -> Result<(), OutOfMemory>
     requires resolved { IsResolved population.now.content.model (core_view core.now) }
     requires there { AreThere population.now.content variables.old }
+    ensures text { OnOk result (string_bytes out.new ≡ string_bytes out.old ++ part_of
+        population.now.content (core_view core.now) level variables.old reason.now) }
     ensures kept { OnOk result (variables.new ≡ variables.old) }
 {
     let text = text_of(alloc, population.model(), core, variables.len())?;
@@ -65,7 +71,7 @@ fn put_tree<'a>(
     put_part(alloc, out, population, level, &text.text, &value, reason)
 }
 
-/// Puts a variable with its value at a level: the next that is bound.
+/// Puts a variable with its value.
 fn put_binding(
     alloc: Global,
     out: &mut String,
@@ -74,14 +80,58 @@ fn put_binding(
     value: &Value<'_>,
 ) -> Result<(), OutOfMemory>
     requires there { IsValueThere population.now.content (meant value.now) }
+    ensures { OnOk result (string_bytes out.new ≡ string_bytes out.old ++
+        named_value number (value_text population.now.content (meant value.now))) }
 {
     put_variable(alloc, out, number)?;
     put(out, " = ")?;
     put_value(alloc, out, population, value)
 }
 
+/// Puts a line with a variable and its value.
+fn put_binding_line(
+    alloc: Global,
+    out: &mut String,
+    population: &Population<'_>,
+    level: usize,
+    number: usize,
+    value: &Value<'_>,
+) -> Result<(), OutOfMemory>
+    requires there { IsValueThere population.now.content (meant value.now) }
+    ensures { OnOk result (string_bytes out.new ≡ string_bytes out.old ++ binding_line level number
+        (value_text population.now.content (meant value.now))) }
+{
+    put_indent(out, level)?;
+    put_binding(alloc, out, population, number, value)?;
+    put(out, "\n")
+}
+
+/// Puts a line with two variables that follow one another, and their values.
+fn put_bindings_line(
+    alloc: Global,
+    out: &mut String,
+    population: &Population<'_>,
+    level: usize,
+    number: usize,
+    first: &Value<'_>,
+    second: &Value<'_>,
+) -> Result<(), OutOfMemory>
+    requires first { IsValueThere population.now.content (meant first.now) }
+    requires second { IsValueThere population.now.content (meant second.now) }
+    ensures { OnOk result (string_bytes out.new ≡ string_bytes out.old ++ bindings_line level number
+        (value_text population.now.content (meant first.now))
+        (value_text population.now.content (meant second.now))) }
+{
+    put_indent(out, level)?;
+    put_binding(alloc, out, population, number, first)?;
+    put(out, ", ")?;
+    put_binding(alloc, out, population, next(number)?, second)?;
+    put(out, "\n")
+}
+
 /// Puts the parts of a tree at a level, and below it.
 #[cycle(explain)]
+#[tactic(auto, using(ocl_core::proofs::ForAbove::views))]
 fn explain<'a>(
     alloc: Global,
     out: &mut String,
@@ -92,6 +142,8 @@ fn explain<'a>(
 ) -> Result<(), OutOfMemory>
     requires resolved { IsResolved population.now.content.model (core_view core.now) }
     requires there { AreThere population.now.content variables.old }
+    ensures text { OnOk result (string_bytes out.new ≡ string_bytes out.old ++ explained
+        population.now.content (core_view core.now) level variables.old) }
     ensures kept { OnOk result (variables.new ≡ variables.old) }
 {
     match core {
@@ -152,6 +204,14 @@ fn explain_values<'a>(
     requires body { IsResolved population.now.content.model (core_view body.now) }
     requires whole { IsValueThere population.now.content (meant whole.now) }
     requires there { AreThere population.now.content variables.old }
+    requires value { meant whole.now ≡ meaning population.now.content
+        (lets_of (map core_view values.now) (core_view body.now)) variables.old }
+    ensures text { OnOk result (string_bytes out.new ≡ string_bytes out.old ++ lets_lines
+        population.now.content (map core_view values.now) (core_view body.now) level
+        variables.old) }
+    ensures level { IfOk result (λ n. n ≡ level + length values.now) }
+    ensures bound { OnOk result (variables.new ≡ bindings population.now.content
+        (map core_view values.now) variables.old) }
     ensures there { OnOk result (AreThere population.now.content variables.new) }
     ensures others { OnOk result (drop (length values.now) variables.new ≡ variables.old) }
 {
@@ -183,14 +243,14 @@ fn explain_bound<'a>(
 ) -> Result<(), OutOfMemory>
     requires resolved { IsResolved population.now.content.model (core_view core.now) }
     requires there { AreThere population.now.content variables.old }
+    ensures text { OnOk result (string_bytes out.new ≡ string_bytes out.old ++ bound_lines
+        population.now.content (core_view core.now) level variables.old) }
     ensures bound { OnOk result (variables.new ≡
         meaning population.now.content (core_view core.now) variables.old ∷ variables.old) }
     ensures there { OnOk result (AreThere population.now.content variables.new) }
 {
     let value = evaluate(alloc, population, core, variables)?;
-    put_indent(out, level)?;
-    put_binding(alloc, out, population, variables.len(), &value)?;
-    put(out, "\n")?;
+    put_binding_line(alloc, out, population, level, variables.len(), &value)?;
     explain(alloc, out, population, next(level)?, core, variables)?;
     variables.bind(value)
 }
@@ -229,6 +289,9 @@ fn put_nodes<'a>(
     requires first { IsResolved population.now.content.model (core_view first.now) }
     requires links { AreLinksResolved population.now.content.model links.now }
     requires there { AreThere population.now.content variables.old }
+    ensures text { OnOk result (string_bytes out.new ≡ string_bytes out.old ++ nodes_lines
+        population.now.content links.now (core_view first.now) level variables.old) }
+    ensures level { IfOk result (λ n. n ≡ level + length links.now) }
     ensures kept { OnOk result (variables.new ≡ variables.old) }
 {
     let mut level = level;
@@ -257,6 +320,8 @@ fn explain_links<'a>(
     requires first { IsValueThere population.now.content (meant first) }
     requires links { AreLinksResolved population.now.content.model links.now }
     requires there { AreThere population.now.content variables.old }
+    ensures text { OnOk result (string_bytes out.new ≡ string_bytes out.old ++ links_lines
+        population.now.content links.now level variables.old (meant first.entry)) }
     ensures kept { OnOk result (variables.new ≡ variables.old) }
 {
     let mut level = level;
@@ -284,6 +349,9 @@ fn put_node<'a>(
     requires before { AreLinksResolved population.now.content.model before.now }
     requires link { IsLinkResolved population.now.content.model link.now }
     requires there { AreThere population.now.content variables.old }
+    ensures text { OnOk result (string_bytes out.new ≡ string_bytes out.old ++ node_line
+        population.now.content link.now
+        (core_spine (core_view first.now) (map core_link_of before.now)) level variables.old) }
     ensures kept { OnOk result (variables.new ≡ variables.old) }
 {
     let seen = variables.len();
@@ -296,6 +364,7 @@ fn put_node<'a>(
 }
 
 /// Why what a link makes of a value is null or invalid.
+#[tactic(auto, using(ocl_core::proofs::ForAbove::views))]
 fn link_reason<'a>(
     alloc: Global,
     population: &'a Population<'_>,
@@ -307,6 +376,8 @@ fn link_reason<'a>(
     requires link { IsLinkResolved population.now.content.model link.now }
     requires source { IsValueThere population.now.content (meant source.now) }
     requires there { AreThere population.now.content variables.old }
+    ensures reason { IfOk result (λ s. string_bytes s ≡ node_reason population.now.content
+        (on_null link.now) variables.old (meant source.now) (meant gave.now)) }
     ensures kept { OnOk result (variables.new ≡ variables.old) }
 {
     let mut reason = String::new(alloc);
@@ -325,6 +396,7 @@ fn link_reason<'a>(
 
 /// Puts the parts of a link besides what stands before it, of which this is the value.
 #[cycle(explain)]
+#[tactic(auto, using(ocl_core::proofs::ForAbove::views))]
 fn explain_link<'a>(
     alloc: Global,
     out: &mut String,
@@ -337,6 +409,8 @@ fn explain_link<'a>(
     requires source { IsValueThere population.now.content (meant source.now) }
     requires link { IsLinkResolved population.now.content.model link.now }
     requires there { AreThere population.now.content variables.old }
+    ensures text { OnOk result (string_bytes out.new ≡ string_bytes out.old ++ link_lines
+        population.now.content link.now level variables.old (meant source.now)) }
     ensures kept { OnOk result (variables.new ≡ variables.old) }
 {
     match link {
@@ -372,6 +446,8 @@ fn explain_all<'a>(
     requires resolved { AreResolved population.now.content.model
         (cores_of (map core_view cores.now)) }
     requires there { AreThere population.now.content variables.old }
+    ensures text { OnOk result (string_bytes out.new ≡ string_bytes out.old ++ all_explained
+        population.now.content (cores_of (map core_view cores.now)) level variables.old) }
     ensures kept { OnOk result (variables.new ≡ variables.old) }
 {
     'cores: for core in cores {
@@ -395,6 +471,11 @@ fn explain_iteration<'a>(
     requires source { IsValueThere population.now.content (meant source.now) }
     requires body { IsResolved population.now.content.model (core_view body.now) }
     requires there { AreThere population.now.content variables.old }
+    ensures text { OnOk result (string_bytes out.new ≡ string_bytes out.old ++ iteration_lines
+        iteration
+        (element_lines population.now.content (core_view body.now) level variables.old)
+        (λ e. meaning population.now.content (core_view body.now)
+        (element_value e ∷ variables.old)) level (meant source.now)) }
     ensures kept { OnOk result (variables.new ≡ variables.old) }
 {
     let Value::Collection(_, elements) = source else {
@@ -430,6 +511,9 @@ fn explain_elements<'a>(
     requires elements { AreElementsThere population.now.content (meant_items elements.now) }
     requires body { IsResolved population.now.content.model (core_view body.now) }
     requires there { AreThere population.now.content variables.old }
+    ensures text { OnOk result (string_bytes out.new ≡ string_bytes out.old ++ flat_map
+        (element_lines population.now.content (core_view body.now) level variables.old)
+        (meant_items elements.now)) }
     ensures kept { OnOk result (variables.new ≡ variables.old) }
 {
     'elements: for element in elements {
@@ -452,12 +536,13 @@ fn explain_element<'a>(
     requires element { IsElementThere population.now.content (meant_item element.now) }
     requires body { IsResolved population.now.content.model (core_view body.now) }
     requires there { AreThere population.now.content variables.old }
+    ensures text { OnOk result (string_bytes out.new ≡ string_bytes out.old ++ element_lines
+        population.now.content (core_view body.now) level variables.old
+        (meant_item element.now)) }
     ensures kept { OnOk result (variables.new ≡ variables.old) }
 {
     let value = item_value(element);
-    put_indent(out, level)?;
-    put_binding(alloc, out, population, variables.len(), &value)?;
-    put(out, "\n")?;
+    put_binding_line(alloc, out, population, level, variables.len(), &value)?;
     variables.bind(value)?;
     explain(alloc, out, population, next(level)?, body, variables)?;
     variables.forget(1);
@@ -480,6 +565,10 @@ fn explain_fold<'a>(
     requires start { IsValueThere population.now.content (meant start) }
     requires body { IsResolved population.now.content.model (core_view body.now) }
     requires there { AreThere population.now.content variables.old }
+    ensures text { OnOk result (string_bytes out.new ≡ string_bytes out.old ++ accumulation_lines
+        (step_lines population.now.content (core_view body.now) level variables.old)
+        (λ e a. meaning population.now.content (core_view body.now)
+        (a ∷ element_value e ∷ variables.old)) level (meant start.entry) (meant source.now)) }
     ensures kept { OnOk result (variables.new ≡ variables.old) }
 {
     let Value::Collection(_, elements) = source else {
@@ -515,6 +604,10 @@ fn explain_steps<'a>(
     requires start { IsValueThere population.now.content (meant start) }
     requires body { IsResolved population.now.content.model (core_view body.now) }
     requires there { AreThere population.now.content variables.old }
+    ensures text { OnOk result (string_bytes out.new ≡ string_bytes out.old ++ steps_lines
+        (step_lines population.now.content (core_view body.now) level variables.old)
+        (λ e a. meaning population.now.content (core_view body.now)
+        (a ∷ element_value e ∷ variables.old)) (meant start.entry) (meant_items elements.now)) }
     ensures kept { OnOk result (variables.new ≡ variables.old) }
 {
     let mut accumulated = start;
@@ -550,6 +643,9 @@ fn explain_step<'a>(
     requires accumulated { IsValueThere population.now.content (meant accumulated) }
     requires body { IsResolved population.now.content.model (core_view body.now) }
     requires there { AreThere population.now.content variables.old }
+    ensures text { OnOk result (string_bytes out.new ≡ string_bytes out.old ++ step_lines
+        population.now.content (core_view body.now) level variables.old
+        (meant_item element.now) (meant accumulated.entry)) }
     ensures value { IfOk result (λ v. meant v ≡ meaning population.now.content
         (core_view body.now) (meant accumulated.entry ∷ element_value (meant_item element.now)
         ∷ variables.old)) }
@@ -558,11 +654,7 @@ fn explain_step<'a>(
 {
     let number = variables.len();
     let value = item_value(element);
-    put_indent(out, level)?;
-    put_binding(alloc, out, population, number, &value)?;
-    put(out, ", ")?;
-    put_binding(alloc, out, population, next(number)?, &accumulated)?;
-    put(out, "\n")?;
+    put_bindings_line(alloc, out, population, level, number, &value, &accumulated)?;
     variables.bind(value)?;
     variables.bind(accumulated)?;
     explain(alloc, out, population, next(level)?, body, variables)?;
@@ -616,17 +708,14 @@ pub fn explain_verdict<'a>(
 ) -> Result<String, OutOfMemory>
     requires resolved { IsResolved population.now.content.model (core_view rule.now.tree) }
     requires object { object < length population.now.content.objects }
-    ensures verdict { IfOk result (λ s. (parts : List ℕ) × (string_bytes s ≡
-        verdict_line population.entry.now.content (checked_rule_of rule.entry.now) object
-        ++ parts)) }
+    ensures { IfOk result (λ s. string_bytes s ≡ explanation population.entry.now.content
+        (checked_rule_of rule.entry.now) object) }
 {
     let mut out = String::new(alloc);
-    let mut parts = String::new(alloc);
     let mut variables = Variables::new(alloc);
     variables.bind(Value::Item(Item::Object(object)))?;
     let value = evaluate(alloc, population, &rule.tree, &mut variables)?;
-    explain(alloc, &mut parts, population, 1, &rule.tree, &mut variables)?;
     put_verdict(&mut out, population, rule, object, &value)?;
-    put(&mut out, &parts)?;
+    explain(alloc, &mut out, population, 1, &rule.tree, &mut variables)?;
     Ok(out)
 }

@@ -1,18 +1,19 @@
 //! Core trees as short OCL.
 
-ghost use Rattle.std.specs.Prelude.{◌≡◌, ◌++◌, suc, map, IfOk, OnOk, string_bytes};
+ghost use Rattle.std.specs.Prelude.{◌≡◌, ◌++◌, ◌+◌, ◌<◌, suc, length, map, IfOk, OnOk, string_bytes};
 ghost use Rattle.std.specs.List.{AllByRecursion};
-ghost use Rattle.ocl_core.specs.Core.{cores_of};
-ghost use Rattle.ocl_core.specs.CoreView.{constant_of, core_view};
+ghost use Rattle.ocl_core.specs.Core.{cores_of, lets_of};
+ghost use Rattle.ocl_core.specs.CoreView.{constant_of, core_view, core_link_of, core_spine};
 ghost use Rattle.ocl_core.specs.Typing.{IsConstantOf};
 ghost use Rattle.ocl_meaning.specs.Resolved.{IsOperatorOf, IsResolved, AreResolved};
-ghost use Rattle.ocl_meaning.specs.Evaluated.{IsLinkResolved, AreLinksResolved};
-ghost use Rattle.explain_why.specs.Texts.{variable_name, constant_text, class_asked, wrapped};
+ghost use Rattle.ocl_meaning.specs.Evaluated.{on_null, IsLinkResolved, AreLinksResolved};
+ghost use Rattle.explain_why.specs.Texts.{variable_name, constant_text, class_asked, operator_form, operator_word, is_form_open, is_open, wrapped, instances_text, operation_text, fold_front, let_front, text_of, others_text};
+ghost use Rattle.explain_why.specs.TextWalk.{written_text, tree_text, node_text, link_text, links_text, lets_front, are_lets_open};
 
 use crate::pieces::{put, put_count};
 use crate::values::{put_before, put_literal, put_quoted};
 use crate::words::{Form, iteration_word, kind_name, operator_form, operator_word};
-use imkl_model::ClassModel;
+use imkl_model::{ClassModel, ClassNo};
 use ocl_base::OutOfMemory;
 use ocl_core::{ConstantValue, Core, CoreLink, Operator};
 use std::alloc::Global;
@@ -96,6 +97,41 @@ fn class_asked<'m>(model: &'m ClassModel, operator: &Operator) -> &'m str
     }
 }
 
+/// Puts all instances of a class.
+fn put_all_instances(
+    out: &mut String,
+    model: &ClassModel,
+    class: ClassNo,
+) -> Result<(), OutOfMemory>
+    requires { class < length model.now.classes }
+    ensures { OnOk result (string_bytes out.new ≡ string_bytes out.old ++
+        instances_text model.now class) }
+{
+    put(out, model.class_name(class))?;
+    put(out, ".allInstances()")
+}
+
+/// Whether values as variables of a body stand in parentheses as an operand, by whether the body does.
+fn is_let_open(values: &[Core], is_open: bool) -> bool
+    ensures { result ≡ are_lets_open (map core_view values.now) is_open }
+{
+    match values {
+        [] => is_open,
+        _ => true,
+    }
+}
+
+/// Puts the variables of a fold: the element's, and the accumulator's up to its first value.
+fn put_fold_variables(alloc: Global, out: &mut String, seen: usize) -> Result<(), OutOfMemory>
+    ensures { OnOk result (string_bytes out.new ≡ string_bytes out.old ++ fold_front seen) }
+{
+    put(out, "->iterate(")?;
+    put_variable(alloc, out, seen)?;
+    put(out, "; ")?;
+    put_variable(alloc, out, next(seen)?)?;
+    put(out, " = ")
+}
+
 /// The text of a core tree in which so many variables are seen.
 #[cycle(text)]
 #[tactic(auto, using(ocl_core::proofs::ForAbove::views))]
@@ -106,6 +142,9 @@ pub(crate) fn text_of(
     seen: usize,
 ) -> Result<Text, OutOfMemory>
     requires { IsResolved model.now (core_view core.now) }
+    ensures text { IfOk result (λ t. string_bytes t.text ≡
+        text_of model.now (core_view core.now) seen) }
+    ensures wraps { IfOk result (λ t. t.is_open ≡ is_open (core_view core.now)) }
 {
     match core {
         Core::Constant { value } => {
@@ -126,8 +165,7 @@ pub(crate) fn text_of(
         }
         Core::AllInstances { class } => {
             let mut text = String::new(alloc);
-            put(&mut text, model.class_name(*class))?;
-            put(&mut text, ".allInstances()")?;
+            put_all_instances(&mut text, model, *class)?;
             Ok(Text {
                 text,
                 is_open: false,
@@ -142,7 +180,7 @@ pub(crate) fn text_of(
             let number = put_lets(alloc, &mut text, model, values, seen)?;
             let inner = text_of(alloc, model, body, number)?;
             put(&mut text, &inner.text)?;
-            let is_open = !values.is_empty() || inner.is_open;
+            let is_open = is_let_open(values, inner.is_open);
             Ok(Text { text, is_open })
         }
         Core::If {
@@ -152,12 +190,9 @@ pub(crate) fn text_of(
             ..
         } => {
             let mut text = String::new(alloc);
-            put(&mut text, "if ")?;
-            put_text(alloc, &mut text, model, condition, seen)?;
-            put(&mut text, " then ")?;
-            put_text(alloc, &mut text, model, then_branch, seen)?;
-            put(&mut text, " else ")?;
-            put_text(alloc, &mut text, model, else_branch, seen)?;
+            put_after(alloc, &mut text, model, "if ", condition, seen)?;
+            put_after(alloc, &mut text, model, " then ", then_branch, seen)?;
+            put_after(alloc, &mut text, model, " else ", else_branch, seen)?;
             put(&mut text, " endif")?;
             Ok(Text {
                 text,
@@ -177,9 +212,29 @@ fn put_text(
     seen: usize,
 ) -> Result<(), OutOfMemory>
     requires { IsResolved model.now (core_view core.now) }
+    ensures { OnOk result (string_bytes out.new ≡ string_bytes out.old ++
+        text_of model.now (core_view core.now) seen) }
 {
     let text = text_of(alloc, model, core, seen)?;
     put(out, &text.text)
+}
+
+/// Puts the text of a tree after a word.
+#[cycle(text)]
+fn put_after(
+    alloc: Global,
+    out: &mut String,
+    model: &ClassModel,
+    word: &str,
+    core: &Core,
+    seen: usize,
+) -> Result<(), OutOfMemory>
+    requires { IsResolved model.now (core_view core.now) }
+    ensures { OnOk result (string_bytes out.new ≡ string_bytes out.old ++ (word.now ++
+        text_of model.now (core_view core.now) seen)) }
+{
+    put(out, word)?;
+    put_text(alloc, out, model, core, seen)
 }
 
 /// Puts what stands before the body of values as variables, and answers the number of the next variable.
@@ -192,6 +247,9 @@ fn put_lets(
     seen: usize,
 ) -> Result<usize, OutOfMemory>
     requires { AllByRecursion (IsResolved model.now) (map core_view values.now) }
+    ensures text { OnOk result (string_bytes out.new ≡ string_bytes out.old ++
+        lets_front model.now (map core_view values.now) seen) }
+    ensures number { IfOk result (λ n. n ≡ seen + length values.now) }
 {
     let mut number = seen;
     'values: for value in values {
@@ -211,6 +269,8 @@ pub(crate) fn let_text(
 ) -> Result<String, OutOfMemory>
     requires values { AllByRecursion (IsResolved model.now) (map core_view values.now) }
     requires body { IsResolved model.now (core_view body.now) }
+    ensures { IfOk result (λ s. string_bytes s ≡ text_of model.now
+        (lets_of (map core_view values.now) (core_view body.now)) seen) }
 {
     let mut text = String::new(alloc);
     let number = put_lets(alloc, &mut text, model, values, seen)?;
@@ -229,6 +289,8 @@ fn put_let(
     number: usize,
 ) -> Result<(), OutOfMemory>
     requires { IsResolved model.now (core_view value.now) }
+    ensures { OnOk result (string_bytes out.new ≡ string_bytes out.old ++
+        let_front (variable_name number) (text_of model.now (core_view value.now) number)) }
 {
     put(out, "let ")?;
     put_variable(alloc, out, number)?;
@@ -247,6 +309,8 @@ fn links_text(
     seen: usize,
 ) -> Result<Text, OutOfMemory>
     requires { AreLinksResolved model.now links.now }
+    ensures { IfOk result (λ t. written_text t ≡
+        links_text model.now seen links.now (written_text first)) }
 {
     let mut text = first;
     'links: for link in links {
@@ -265,6 +329,8 @@ pub(crate) fn spine_text(
 ) -> Result<Text, OutOfMemory>
     requires first { IsResolved model.now (core_view first.now) }
     requires links { AreLinksResolved model.now links.now }
+    ensures { IfOk result (λ t. written_text t ≡ tree_text model.now
+        (core_spine (core_view first.now) (map core_link_of links.now)) seen) }
 {
     let text = text_of(alloc, model, first, seen)?;
     links_text(alloc, model, text, links, seen)
@@ -280,6 +346,8 @@ pub(crate) fn link_text(
     first: &Text,
 ) -> Result<Text, OutOfMemory>
     requires { IsLinkResolved model.now link.now }
+    ensures { IfOk result (λ t. written_text t ≡
+        link_text model.now seen link.now (written_text first.now)) }
 {
     let mut text = String::new(alloc);
     let is_open = match link {
@@ -302,6 +370,8 @@ fn put_link(
     first: &Text,
 ) -> Result<(), OutOfMemory>
     requires { IsLinkResolved model.now link.now }
+    ensures { OnOk result (string_bytes out.new ≡ string_bytes out.old ++ node_text model.now
+        (on_null link.now) seen (wrapped first.now.is_open (string_bytes first.now.text))) }
 {
     match link {
         CoreLink::Feature { feature } => {
@@ -328,11 +398,7 @@ fn put_link(
         }
         CoreLink::Fold { start, body, .. } => {
             put_wrapped(out, first.is_open, &first.text)?;
-            put(out, "->iterate(")?;
-            put_variable(alloc, out, seen)?;
-            put(out, "; ")?;
-            put_variable(alloc, out, next(seen)?)?;
-            put(out, " = ")?;
+            put_fold_variables(alloc, out, seen)?;
             put_text(alloc, out, model, start, seen)?;
             put(out, " | ")?;
             put_text(alloc, out, model, body, next(next(seen)?)?)?;
@@ -354,6 +420,12 @@ fn put_operation(
 ) -> Result<(), OutOfMemory>
     requires operator { IsOperatorOf model.now operator.now }
     requires others { AreResolved model.now (cores_of (map core_view others.now)) }
+    ensures { OnOk result (string_bytes out.new ≡ string_bytes out.old ++ operation_text
+        (operator_form operator.now) (operator_word operator.now)
+        (class_asked model.now operator.now)
+        (wrapped first.now.is_open (string_bytes first.now.text))
+        (others_text model.now (is_form_open (operator_form operator.now)) 0
+        (cores_of (map core_view others.now)) seen)) }
 {
     let word = operator_word(*operator);
     match operator_form(*operator) {
@@ -389,6 +461,8 @@ fn put_others(
     seen: usize,
 ) -> Result<(), OutOfMemory>
     requires { AreResolved model.now (cores_of (map core_view others.now)) }
+    ensures { OnOk result (string_bytes out.new ≡ string_bytes out.old ++
+        others_text model.now wraps 0 (cores_of (map core_view others.now)) seen) }
 {
     'others: for index in 0..others.len() {
         put_before(out, index)?;

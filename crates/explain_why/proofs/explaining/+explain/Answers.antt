@@ -1,9 +1,18 @@
-use Rattle.std.proofs.Common.{rules}
+use Rattle.std.proofs.Common.{◌≡◌, ◌∷◌, ◌++◌, length, map, string_bytes, refl, sym, ap, ◌∙◌, rules}
+use Rattle.std.specs.Prelude.{min}
+use Rattle.std.proofs.lemmas.Result.{on_ok_weaker}
 use Rattle.ocl_core.specs.declared.core_tree.Core.{the_lemmas}
-use Rattle.owned_values.specs.Meant.{meant_items, AreElementsThere}
+use Rattle.ocl_core.specs.CoreView.{core_view}
+use Rattle.ocl_compile.specs.Meaning.{meaning}
+use Rattle.rule_values.specs.Value.{element_value}
+use Rattle.owned_values.specs.Meant.{meant, meant_items, AreElementsThere}
 use Rattle.owned_values.proofs.ForAbove.{kept_there}
 use Rattle.ocl_meaning.proofs.ForAbove.{spine_names, let_names}
 use Rattle.explain_why.proofs.Left.{first_there}
+use Rattle.explain_why.specs.Values.{most_shown}
+use Rattle.explain_why.specs.Explanation.{deciding_of, steps_lines}
+use Rattle.explain_why.specs.PartWalk.{element_lines, step_lines}
+use Rattle.explain_why.proofs.PartNodes.{let_value, spine_parts, let_parts, first_parts, second_parts, no_parts, iterate_lines, fold_lines, shown_lines, iteration_shown, two_put, three_put}
 use Rattle.explain_why.proofs.explaining.+explain.Goals as goal
 
 -- ---- a first operand with its links
@@ -41,7 +50,8 @@ explain-explain_links-requires t c =
 pub explain-explain_values-requires : goal.explain-explain_values-requires
 explain-explain_values-requires t c =
     let p = let_names c.args.core.now c.in-Let.values c.in-Let.body c.in-Let.is c.args.population.now.content.model c.requires.resolved in
-    (search (rules, the_lemmas), (rw (c.deref-in-Let.ensures.value, c.deref-in-Let-2.ensures, c.in_ok-whole-in-Let.ensures.kept) (p.0, (p.1, (c.in_ok-whole-in-Let.ensures.there, c.requires.there)))))
+    let value = c.in_ok-whole-in-Let.ensures.value ∙ let_value c.args.core.now c.in-Let.values c.in-Let.body c.in-Let.is c.args.population.now.content c.args.variables.now in
+    (search (rules, the_lemmas), (rw (c.deref-in-Let.ensures.value, c.deref-in-Let-2.ensures, c.in_ok-whole-in-Let.ensures.kept) (p.0, (p.1, (c.in_ok-whole-in-Let.ensures.there, (c.requires.there, value))))))
 
 pub explain-explain-requires-in-Let : goal.explain-explain-requires-in-Let
 explain-explain-requires-in-Let t c =
@@ -60,3 +70,84 @@ pub explain_fold-explain_steps-requires : goal.explain_fold-explain_steps-requir
 explain_fold-explain_steps-requires t c =
     let there = rw c.in-Collection.is at c.requires.source in
     (search (rules, the_lemmas), (first_there c.args.population.now.content c.deref.result.now c.min-shown.result (rw c.deref.ensures.value there), (c.requires.start, (c.requires.body, c.requires.there))))
+
+-- ---- what is put
+
+pub explain-returns-in-Spine-clause-text : goal.explain-returns-in-Spine-clause-text
+explain-returns-in-Spine-clause-text t c =
+    let nodes = rw (c.deref.ensures, c.deref-in-Spine.ensures.value) at c.in_ok-below-in-Spine.ensures.text in
+    let deep = rw c.deref-in-Spine.ensures.value at c.in_ok-below-in-Spine.ensures.level in
+    let first = rw (c.deref-in-Spine-2.ensures, c.in_ok-below-in-Spine.ensures.kept) at c.in_ok-explain-in-Spine.ensures.text in
+    let value = rw (c.deref-in-Spine-3.ensures, c.in_ok-explain-in-Spine.ensures.kept, c.in_ok-below-in-Spine.ensures.kept) at c.in_ok-value-in-Spine.ensures.value in
+    let links = rw (c.deref-in-Spine-4.ensures.value, value, c.in_ok-value-in-Spine.ensures.kept, c.in_ok-explain-in-Spine.ensures.kept, c.in_ok-below-in-Spine.ensures.kept) at c.explain_links.ensures.text in
+    let whole = spine_parts c.args.core.now c.in-Spine.first c.in-Spine.links c.in-Spine.is c.args.population.now.content c.args.variables.now c.args.level c.in_ok-below-in-Spine.below deep in
+    on_ok_weaker c.explain_links.result (λ h. three_put _ _ _ _ _ _ _ _ nodes first h whole) links
+
+pub explain-returns-in-Let-clause-text : goal.explain-returns-in-Let-clause-text
+explain-returns-in-Let-clause-text t c =
+    let lets = rw (c.deref-in-Let.ensures.value, c.deref-in-Let-2.ensures, c.in_ok-whole-in-Let.ensures.kept) at c.in_ok-below-in-Let.ensures.text in
+    let deep = rw c.deref-in-Let.ensures.value at c.in_ok-below-in-Let.ensures.level in
+    let bound = rw (c.deref-in-Let.ensures.value, c.in_ok-whole-in-Let.ensures.kept) at c.in_ok-below-in-Let.ensures.bound in
+    let body = rw (c.deref-in-Let-3.ensures, bound) at c.in_ok-explain-in-Let.ensures.text in
+    let whole = let_parts c.args.core.now c.in-Let.values c.in-Let.body c.in-Let.is c.args.population.now.content c.args.variables.now c.args.level c.in_ok-below-in-Let.below deep in
+    two_put _ _ _ _ _ _ lets body whole
+
+pub explain-returns-then-is_true-clause-text : goal.explain-returns-then-is_true-clause-text
+explain-returns-then-is_true-clause-text t c =
+    let part = rw (c.choice_reason-reason.ensures, c.in_ok-chosen-in-If.ensures.kept) at c.in_ok-put_tree-in-If.ensures.text in
+    let condition = rw (c.deref-in-If-2.ensures, c.in_ok-below-in-If.ensures, c.in_ok-put_tree-in-If.ensures.kept, c.in_ok-chosen-in-If.ensures.kept) at c.in_ok-explain-in-If.ensures.text in
+    let branch = rw (c.deref-then-is_true.ensures, c.in_ok-below-in-If.ensures, c.in_ok-explain-in-If.ensures.kept, c.in_ok-put_tree-in-If.ensures.kept, c.in_ok-chosen-in-If.ensures.kept) at c.explain-then-is_true.ensures.text in
+    let chosen = rw c.deref-in-If.ensures at c.in_ok-chosen-in-If.ensures.value in
+    let whole = first_parts c.args.core.now c.in-If.kind c.in-If.condition c.in-If.then_branch c.in-If.else_branch c.in-If.is c.args.population.now.content c.args.level c.args.variables.now (meant c.in_ok-chosen-in-If.chosen) chosen (sym c.is_true.ensures ∙ c.if-is_true.true) in
+    on_ok_weaker c.explain-then-is_true.result (λ h. three_put _ _ _ _ _ _ _ _ part condition h whole) branch
+
+pub explain-returns-then-is_false-clause-text : goal.explain-returns-then-is_false-clause-text
+explain-returns-then-is_false-clause-text t c =
+    let part = rw (c.choice_reason-reason.ensures, c.in_ok-chosen-in-If.ensures.kept) at c.in_ok-put_tree-in-If.ensures.text in
+    let condition = rw (c.deref-in-If-2.ensures, c.in_ok-below-in-If.ensures, c.in_ok-put_tree-in-If.ensures.kept, c.in_ok-chosen-in-If.ensures.kept) at c.in_ok-explain-in-If.ensures.text in
+    let branch = rw (c.deref-then-is_false.ensures, c.in_ok-below-in-If.ensures, c.in_ok-explain-in-If.ensures.kept, c.in_ok-put_tree-in-If.ensures.kept, c.in_ok-chosen-in-If.ensures.kept) at c.explain-then-is_false.ensures.text in
+    let chosen = rw c.deref-in-If.ensures at c.in_ok-chosen-in-If.ensures.value in
+    let whole = second_parts c.args.core.now c.in-If.kind c.in-If.condition c.in-If.then_branch c.in-If.else_branch c.in-If.is c.args.population.now.content c.args.level c.args.variables.now (meant c.in_ok-chosen-in-If.chosen) chosen (sym c.is_true.ensures ∙ c.if-is_true.false) (sym c.is_false.ensures ∙ c.if-is_false.true) in
+    on_ok_weaker c.explain-then-is_false.result (λ h. three_put _ _ _ _ _ _ _ _ part condition h whole) branch
+
+pub explain-returns-clause-text : goal.explain-returns-clause-text
+explain-returns-clause-text t c =
+    let part = rw (c.choice_reason-reason.ensures, c.in_ok-chosen-in-If.ensures.kept) at c.in_ok-put_tree-in-If.ensures.text in
+    let condition = rw (c.deref-in-If-2.ensures, c.in_ok-below-in-If.ensures, c.in_ok-put_tree-in-If.ensures.kept, c.in_ok-chosen-in-If.ensures.kept) at c.in_ok-explain-in-If.ensures.text in
+    let chosen = rw c.deref-in-If.ensures at c.in_ok-chosen-in-If.ensures.value in
+    let whole = no_parts c.args.core.now c.in-If.kind c.in-If.condition c.in-If.then_branch c.in-If.else_branch c.in-If.is c.args.population.now.content c.args.level c.args.variables.now (meant c.in_ok-chosen-in-If.chosen) chosen (sym c.is_true.ensures ∙ c.if-is_true.false) (sym c.is_false.ensures ∙ c.if-is_false.false) in
+    two_put _ _ _ _ _ _ part condition whole
+
+pub explain_link-returns-in-Iterate-clause-text : goal.explain_link-returns-in-Iterate-clause-text
+explain_link-returns-in-Iterate-clause-text t c =
+    let lines = iterate_lines c.args.population.now.content c.args.link.now c.args.level c.args.variables.now (meant c.args.source.now) c.in-Iterate.iteration c.in-Iterate.body c.in-Iterate.is in
+    on_ok_weaker c.explain_iteration.result (λ h. h ∙ ap (λ xs. string_bytes c.args.out.now ++ xs) lines) c.explain_iteration.ensures.text
+
+pub explain_link-returns-in_ok-start-in-Fold-clause-text : goal.explain_link-returns-in_ok-start-in-Fold-clause-text
+explain_link-returns-in_ok-start-in-Fold-clause-text t c =
+    let parts = rw c.deref-in-Fold.ensures at c.in_ok-explain-in-Fold.ensures.text in
+    let value = rw (c.deref-in-Fold-2.ensures, c.in_ok-explain-in-Fold.ensures.kept) at c.in_ok-start-in-Fold.ensures.value in
+    let steps = rw (value, c.in_ok-start-in-Fold.ensures.kept, c.in_ok-explain-in-Fold.ensures.kept) at c.explain_fold.ensures.text in
+    let lines = fold_lines c.args.population.now.content c.args.link.now c.args.level c.args.variables.now (meant c.args.source.now) c.in-Fold.kind c.in-Fold.start c.in-Fold.body c.in-Fold.is in
+    on_ok_weaker c.explain_fold.result (λ h. two_put _ _ _ _ _ _ parts h lines) steps
+
+pub explain_fold-returns-clause-text : goal.explain_fold-returns-clause-text
+explain_fold-returns-clause-text t c =
+    let many : c.len-2.result ≡ length c.in-Collection.elements.items = search rules in
+    let shown : c.min-shown.result ≡ min (length c.in-Collection.elements.items) most_shown = search rules in
+    let steps = rw c.deref.ensures.value at c.in_ok-explain_steps.ensures.text in
+    let more = rw many at c.put_more.ensures in
+    let whole = shown_lines (steps_lines (step_lines c.args.population.now.content (core_view c.args.body.now) c.args.level c.args.variables.now) (λ e a. meaning c.args.population.now.content (core_view c.args.body.now) (a ∷ element_value e ∷ c.args.variables.now)) (meant c.args.start)) c.args.level most_shown c.min-shown.result c.in-Collection.elements.items (meant_items c.in-Collection.elements.items) refl shown in
+    rw c.in-Collection.is (on_ok_weaker c.put_more.result (λ h. two_put _ _ _ _ _ _ steps h whole) more)
+
+pub explain_iteration-returns-clause-text : goal.explain_iteration-returns-clause-text
+explain_iteration-returns-clause-text t c =
+    let bodies = rw c.deref.ensures.value at c.in_ok-bodies.ensures.bodies in
+    let which = rw c.deref-2.ensures.value at c.bodies_that_decide-those.ensures in
+    let held = rw (c.deref-3.ensures.value, c.deref-4.ensures.value) at c.in_ok-chosen.ensures in
+    let shown : c.min-shown.result ≡ min (length c.in_ok-chosen.chosen.items) c.most.result = search rules in
+    let many : c.len-2.result ≡ length c.in_ok-chosen.chosen.items = search rules in
+    let elements = rw (c.deref-5.ensures.value, c.in_ok-bodies.ensures.kept) at c.in_ok-explain_elements.ensures.text in
+    let more = rw many at c.put_more.ensures in
+    let whole = iteration_shown c.args.iteration (element_lines c.args.population.now.content (core_view c.args.body.now) c.args.level c.args.variables.now) (λ e. meaning c.args.population.now.content (core_view c.args.body.now) (element_value e ∷ c.args.variables.now)) c.args.level c.in-Collection.field-0 (meant_items c.in-Collection.elements.items) c.in_ok-chosen.chosen.items (map meant c.in_ok-bodies.bodies.items) (deciding_of c.bodies_that_decide-those.result) c.most.result c.min-shown.result bodies which c.most.ensures held shown in
+    rw c.in-Collection.is (on_ok_weaker c.put_more.result (λ h. two_put _ _ _ _ _ _ elements h whole) more)

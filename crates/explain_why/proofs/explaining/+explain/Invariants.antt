@@ -1,36 +1,54 @@
-use Rattle.std.proofs.Common.{◌≡◌, map, drop}
-use Rattle.std.specs.List.{AllByRecursion}
-use Rattle.ocl_core.specs.Core.{cores_of}
+use Rattle.std.proofs.Common.{◌≡◌, ◌∷◌, ◌+◌, ◌++◌, map, drop, string_bytes}
+use Rattle.std.specs.List.{AllByRecursion, flat_map}
+use Rattle.ocl_core.specs.Core.{cores_of, lets_of}
 use Rattle.ocl_core.specs.CoreView.{core_view}
+use Rattle.rule_values.specs.Value.{element_value}
 use Rattle.owned_values.specs.Meant.{meant, meant_items, IsValueThere, AreElementsThere}
+use Rattle.ocl_compile.specs.Meaning.{meaning}
 use Rattle.ocl_meaning.specs.Resolved.{IsResolved, AreResolved, AreThere}
-use Rattle.ocl_meaning.specs.Evaluated.{AreLinksResolved}
+use Rattle.ocl_meaning.specs.Evaluated.{bindings, AreLinksResolved}
+use Rattle.explain_why.specs.Explanation.{steps_lines, all_explained}
+use Rattle.explain_why.specs.PartWalk.{element_lines, step_lines, links_lines, lets_lines}
 use Rattle.explain_why.proofs.explaining.+explain.Given as goal
 
--- the values that are left, and the variables that are bound
+-- what was put, the values that are left, and the variables that are bound
 abbrev pub invariant-explain_values-values : goal.invariant-explain_values-values
 invariant-explain_values-values l =
-    AllByRecursion (IsResolved l.population.content.model) (map core_view (drop l.index l.values))
-    × (AreThere l.population.content l.variables × (drop l.index l.variables ≡ l.initial.variables))
+    (string_bytes l.out ++ lets_lines l.population.content (map core_view (drop l.index l.values)) (core_view l.body) l.level l.variables
+    ≡ string_bytes l.initial.out ++ lets_lines l.population.content (map core_view l.values) (core_view l.body) l.initial.level l.initial.variables)
+    × ((l.level ≡ l.initial.level + l.index)
+    × ((bindings l.population.content (map core_view (drop l.index l.values)) l.variables
+    ≡ bindings l.population.content (map core_view l.values) l.initial.variables)
+    × ((meant l.whole ≡ meaning l.population.content (lets_of (map core_view (drop l.index l.values)) (core_view l.body)) l.variables)
+    × (AllByRecursion (IsResolved l.population.content.model) (map core_view (drop l.index l.values))
+    × (AreThere l.population.content l.variables × (drop l.index l.variables ≡ l.initial.variables))))))
 
--- the value so far, and the links that are left
+-- what was put, the value so far, and the links that are left
 abbrev pub invariant-explain_links-links : goal.invariant-explain_links-links
 invariant-explain_links-links l =
-    IsValueThere l.population.content (meant l.value)
-    × (AreLinksResolved l.population.content.model (drop l.link-index l.links) × (l.variables ≡ l.initial.variables))
+    (string_bytes l.out ++ links_lines l.population.content (drop l.link-index l.links) l.level l.initial.variables (meant l.value)
+    ≡ string_bytes l.initial.out ++ links_lines l.population.content l.links l.initial.level l.initial.variables (meant l.fn.first))
+    × (IsValueThere l.population.content (meant l.value)
+    × (AreLinksResolved l.population.content.model (drop l.link-index l.links) × (l.variables ≡ l.initial.variables)))
 
--- the trees that are left
+-- what was put, and the trees that are left
 abbrev pub invariant-explain_all-cores : goal.invariant-explain_all-cores
 invariant-explain_all-cores l =
-    AreResolved l.population.content.model (cores_of (map core_view (drop l.core-index l.cores))) × (l.variables ≡ l.initial.variables)
+    (string_bytes l.out ++ all_explained l.population.content (cores_of (map core_view (drop l.core-index l.cores))) l.level l.initial.variables
+    ≡ string_bytes l.initial.out ++ all_explained l.population.content (cores_of (map core_view l.cores)) l.level l.initial.variables)
+    × (AreResolved l.population.content.model (cores_of (map core_view (drop l.core-index l.cores))) × (l.variables ≡ l.initial.variables))
 
--- the elements that are left
+-- what was put, and the elements that are left
 abbrev pub invariant-explain_elements-elements : goal.invariant-explain_elements-elements
 invariant-explain_elements-elements l =
-    AreElementsThere l.population.content (meant_items (drop l.element-index l.elements)) × (l.variables ≡ l.initial.variables)
+    (string_bytes l.out ++ flat_map (element_lines l.population.content (core_view l.body) l.level l.initial.variables) (meant_items (drop l.element-index l.elements))
+    ≡ string_bytes l.initial.out ++ flat_map (element_lines l.population.content (core_view l.body) l.level l.initial.variables) (meant_items l.elements))
+    × (AreElementsThere l.population.content (meant_items (drop l.element-index l.elements)) × (l.variables ≡ l.initial.variables))
 
--- what is accumulated, and the elements that are left
+-- what was put, what is accumulated, and the elements that are left
 abbrev pub invariant-explain_steps-elements : goal.invariant-explain_steps-elements
 invariant-explain_steps-elements l =
-    IsValueThere l.population.content (meant l.accumulated)
-    × (AreElementsThere l.population.content (meant_items (drop l.element-index l.elements)) × (l.variables ≡ l.initial.variables))
+    (string_bytes l.out ++ steps_lines (step_lines l.population.content (core_view l.body) l.level l.initial.variables) (λ e a. meaning l.population.content (core_view l.body) (a ∷ element_value e ∷ l.initial.variables)) (meant l.accumulated) (meant_items (drop l.element-index l.elements))
+    ≡ string_bytes l.initial.out ++ steps_lines (step_lines l.population.content (core_view l.body) l.level l.initial.variables) (λ e a. meaning l.population.content (core_view l.body) (a ∷ element_value e ∷ l.initial.variables)) (meant l.fn.start) (meant_items l.elements))
+    × (IsValueThere l.population.content (meant l.accumulated)
+    × (AreElementsThere l.population.content (meant_items (drop l.element-index l.elements)) × (l.variables ≡ l.initial.variables)))

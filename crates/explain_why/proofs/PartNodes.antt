@@ -1,0 +1,221 @@
+-- The parts of nodes as they lie in memory, by those of what they are made of.
+use Rattle.std.proofs.Common.{◌≡◌, ℕ, suc, ◌+◌, ◌-◌, ◌<◌, ◌≤◌, Bool, true, false, if◌then◌else◌, List, [], ◌∷◌, ◌++◌, length, get_or, map, refl, sym, ap, ◌∙◌, rules, arith, append_assoc, Box, Vec, Global}
+use Rattle.std.proofs.lemmas.Int.{clamps}
+use Rattle.std.proofs.lemmas.List.{append-nil, length-append, length-map, take_min, take_more, take-map}
+use Rattle.std.specs.Prelude.{min, take}
+use Rattle.imkl_population.specs.Population.{Population}
+use Rattle.ocl_core.specs.declared.core_tree.Core.{Core, the_lemmas}
+use Rattle.ocl_core.specs.declared.core_tree.Core.TheVariants as v
+use Rattle.ocl_core.specs.declared.core_tree.CoreLink.{CoreLink, Feature, Operation', AsCollection, Iterate, Fold'}
+use Rattle.ocl_core.specs.declared.core_tree.CoreLink.TheVariants as made
+use Rattle.ocl_core.specs.declared.core_tree.Iteration.{Iteration}
+use Rattle.ocl_base.specs.declared.collection_kind.CollectionKind.{CollectionKind}
+use Rattle.ocl_kinds.specs.declared.kind.ScalarKind.{ScalarKind}
+use Rattle.ocl_kinds.specs.declared.kind.Kind.{Kind}
+use Rattle.std.specs.List.{flat_map}
+use Rattle.ocl_core.specs.Core as tree
+use Rattle.ocl_core.specs.Core.{CoreTree, lets_of}
+use Rattle.ocl_core.specs.CoreView.{core_view, core_link_of, core_spine}
+use Rattle.ocl_core.proofs.ForAbove.{core_view-Spine, core_view-Let, core_view-If}
+use Rattle.ocl_compile.specs.Meaning.{meaning}
+use Rattle.rule_values.specs.Value.{Element, Value, Collection, element_value}
+use Rattle.rule_values.specs.Operations.{is_true, is_false}
+use Rattle.rule_values.specs.Endings.{kept_by}
+use Rattle.owned_values.specs.declared.value.Item.{Item}
+use Rattle.owned_values.specs.Meant.{meant_item, meant_items}
+use Rattle.ocl_meaning.specs.Evaluated.{bindings, on_null, link_value}
+use Rattle.ocl_meaning.proofs.ForAbove.{link_meaning, iterate_is, fold_is}
+use Rattle.explain_why.specs.Values.{value_text}
+use Rattle.explain_why.specs.Texts.{text_of}
+use Rattle.explain_why.specs.TextWalk.{tree_text, link_text}
+use Rattle.explain_why.proofs.TextNodes.{link_text_is}
+use Rattle.explain_why.specs.Reasons.{choice_reason}
+use Rattle.explain_why.specs.Explanation.{Deciding, decides, deciding, most_deciding, more_line, deciding_lines, chosen_lines, part_line, part_of, iteration_lines, accumulation_lines, explained}
+use Rattle.explain_why.specs.PartWalk.{node_reason, node_line, nodes_lines, element_lines, step_lines, rest_lines, link_lines, links_lines, bound_lines, lets_lines}
+
+module _ (p : Population) (vars : List Value) where
+  -- a link on a tree: the link, the tree, and what else the link has
+  pub link_explained : (link : CoreLink) (left : CoreTree) (k : ℕ) → node_line p link left k vars ++ (explained p left (suc k) vars ++ link_lines p link (suc k) vars (meaning p left vars)) ≡ explained p (core_link_of link left) k vars
+  link_explained (Feature feature) left k = search (rules, the_lemmas)
+  link_explained (Operation' operator others row) left k = search (rules, the_lemmas)
+  link_explained (AsCollection collection element) left k = search (rules, the_lemmas)
+  link_explained (Iterate iteration body) left k = search (rules, the_lemmas)
+  link_explained (Fold' kind start row body) left k = search (rules, the_lemmas)
+
+  -- lists of lines, grouped by nodes
+  regrouped : (a b c d e : List ℕ) → (a ++ b) ++ (c ++ (d ++ e)) ≡ a ++ ((b ++ (c ++ d)) ++ e)
+  regrouped a b c d e =
+      append_assoc a b (c ++ (d ++ e))
+      ∙ ap (λ xs. a ++ (b ++ xs)) (sym (append_assoc c d e))
+      ∙ ap (λ xs. a ++ xs) (sym (append_assoc b (c ++ d) e))
+
+  -- and so do links one after another
+  pub spine_explained : (links : List CoreLink) (first : CoreTree) (k : ℕ) → nodes_lines p links first k vars ++ (explained p first (k + length links) vars ++ links_lines p links (k + length links) vars (meaning p first vars)) ≡ explained p (core_spine first (map core_link_of links)) k vars
+  spine_explained [] first k =
+      let same : k + 0 ≡ k = omega arith in
+      append-nil (explained p first (k + 0) vars) ∙ ap (λ n. explained p first n vars) same
+  spine_explained (l ∷ ls) first k =
+      let j = k + length ls in
+      let v = meaning p first vars in
+      let up : k + suc (length ls) ≡ suc j = omega arith in
+      let down : suc j - 1 ≡ j = omega arith in
+      let above = links_lines p ls j vars (link_value p vars v l) in
+      ap (λ n. (nodes_lines p ls (core_link_of l first) k vars ++ node_line p l first j vars) ++ (explained p first n vars ++ (link_lines p l n vars v ++ links_lines p ls (n - 1) vars (link_value p vars v l)))) up
+      ∙ ap (λ n. (nodes_lines p ls (core_link_of l first) k vars ++ node_line p l first j vars) ++ (explained p first (suc j) vars ++ (link_lines p l (suc j) vars v ++ links_lines p ls n vars (link_value p vars v l)))) down
+      ∙ regrouped (nodes_lines p ls (core_link_of l first) k vars) (node_line p l first j vars) (explained p first (suc j) vars) (link_lines p l (suc j) vars v) above
+      ∙ ap (λ xs. nodes_lines p ls (core_link_of l first) k vars ++ (xs ++ above)) (link_explained l first j)
+      ∙ ap (λ w. nodes_lines p ls (core_link_of l first) k vars ++ (explained p (core_link_of l first) j vars ++ links_lines p ls j vars w)) (sym (link_meaning p vars l first))
+      ∙ spine_explained ls (core_link_of l first) k
+
+  -- the last link stands above the others
+  pub last_node : (ls : List CoreLink) (l : CoreLink) (first : CoreTree) (k : ℕ) → nodes_lines p (ls ++ l ∷ []) first k vars ≡ node_line p l (core_spine first (map core_link_of ls)) k vars ++ nodes_lines p ls first (suc k) vars
+  last_node [] l first k =
+      let same : k + 0 ≡ k = omega arith in
+      ap (λ n. node_line p l first n vars) same ∙ sym (append-nil (node_line p l first k vars))
+  last_node (h ∷ hs) l first k =
+      let longer : length (hs ++ l ∷ []) ≡ length hs + 1 = length-append hs (l ∷ []) in
+      let more : k + length (hs ++ l ∷ []) ≡ suc k + length hs = omega (arith, longer) in
+      ap (λ xs. xs ++ node_line p h first (k + length (hs ++ l ∷ [])) vars) (last_node hs l (core_link_of h first) k)
+      ∙ append_assoc (node_line p l (core_spine (core_link_of h first) (map core_link_of hs)) k vars) (nodes_lines p hs (core_link_of h first) (suc k) vars) (node_line p h first (k + length (hs ++ l ∷ [])) vars)
+      ∙ ap (λ n. node_line p l (core_spine (core_link_of h first) (map core_link_of hs)) k vars ++ (nodes_lines p hs (core_link_of h first) (suc k) vars ++ node_line p h first n vars)) more
+
+-- values as variables, and the body that sees them
+pub lets_explained : (p : Population) (vs : List CoreTree) (body : CoreTree) (k : ℕ) (vars : List Value) → lets_lines p vs body k vars ++ explained p body (k + length vs) (bindings p vs vars) ≡ explained p (lets_of vs body) k vars
+lets_explained p [] body k vars =
+    let same : k + 0 ≡ k = omega arith in
+    ap (λ n. explained p body n vars) same
+lets_explained p (w ∷ ws) body k vars =
+    let whole = part_of p (lets_of (w ∷ ws) body) k vars [] in
+    let bound = bound_lines p w (suc k) vars in
+    let inner = lets_lines p ws body (suc k) (meaning p w vars ∷ vars) in
+    let last = explained p body (k + suc (length ws)) (bindings p ws (meaning p w vars ∷ vars)) in
+    let up : k + suc (length ws) ≡ suc k + length ws = omega arith in
+    append_assoc whole (bound ++ inner) last
+    ∙ ap (λ xs. whole ++ xs) (append_assoc bound inner last)
+    ∙ ap (λ n. whole ++ (bound ++ (inner ++ explained p body n (bindings p ws (meaning p w vars ∷ vars))))) up
+    ∙ ap (λ xs. whole ++ (bound ++ xs)) (lets_explained p ws body (suc k) (meaning p w vars ∷ vars))
+
+-- ---- nodes in memory
+
+-- a first operand with its links
+module _ (core : Core) (first : Box Core Global) (links : Vec CoreLink Global) (is : core ≡ v.Spine first links) where
+  pub spine_parts : (p : Population) (vars : List Value) (k below : ℕ) → below ≡ k + length links.items → nodes_lines p links.items (core_view first.value) k vars ++ (explained p (core_view first.value) below vars ++ links_lines p links.items below vars (meaning p (core_view first.value) vars)) ≡ explained p (core_view core) k vars
+  spine_parts p vars k below deep =
+      ap (λ n. nodes_lines p links.items (core_view first.value) k vars ++ (explained p (core_view first.value) n vars ++ links_lines p links.items n vars (meaning p (core_view first.value) vars))) deep
+      ∙ spine_explained p vars links.items (core_view first.value) k
+      ∙ ap (λ t. explained p t k vars) (sym (ap core_view is ∙ core_view-Spine first links))
+
+-- values as variables, and the body that sees them
+module _ (core : Core) (values : Vec Core Global) (body : Box Core Global) (is : core ≡ v.Let values body) where
+  pub let_parts : (p : Population) (vars : List Value) (k below : ℕ) → below ≡ k + length values.items → lets_lines p (map core_view values.items) (core_view body.value) k vars ++ explained p (core_view body.value) below (bindings p (map core_view values.items) vars) ≡ explained p (core_view core) k vars
+  let_parts p vars k below deep =
+      ap (λ n. lets_lines p (map core_view values.items) (core_view body.value) k vars ++ explained p (core_view body.value) n (bindings p (map core_view values.items) vars)) (deep ∙ ap (λ n. k + n) (sym (length-map values.items core_view)))
+      ∙ lets_explained p (map core_view values.items) (core_view body.value) k vars
+      ∙ ap (λ t. explained p t k vars) (sym (ap core_view is ∙ core_view-Let values body))
+
+  -- and the value of the whole
+  pub let_value : (p : Population) (vars : List Value) → meaning p (core_view core) vars ≡ meaning p (lets_of (map core_view values.items) (core_view body.value)) vars
+  let_value p vars = ap (λ t. meaning p t vars) (ap core_view is ∙ core_view-Let values body)
+
+-- ---- links on what stands before them
+
+-- a line of a link has the text and the value of the link on the tree
+pub node_line_is : (p : Population) (link : CoreLink) (left : CoreTree) (k seen : ℕ) (vars : List Value) (operand text : Bool × List ℕ) (v gave : Value) (reason : List ℕ) → seen ≡ length vars → operand ≡ tree_text p.model left seen → text ≡ link_text p.model seen link operand → v ≡ meaning p left vars → gave ≡ link_value p vars v link → reason ≡ node_reason p (on_null link) vars v gave → part_line k text.1 (value_text p gave) reason ≡ node_line p link left k vars
+node_line_is p link left k seen vars operand text v gave reason many operand_is text_is v_is gave_is reason_is =
+    let whole : text ≡ tree_text p.model (core_link_of link left) (length vars) =
+    text_is ∙ ap (link_text p.model seen link) operand_is ∙ link_text_is p.model seen link left ∙ ap (tree_text p.model (core_link_of link left)) many in
+    let given : gave ≡ meaning p (core_link_of link left) vars =
+    gave_is ∙ ap (λ (w : Value). link_value p vars w link) v_is ∙ sym (link_meaning p vars link left) in
+    let why : reason ≡ node_reason p (on_null link) vars (meaning p left vars) (meaning p (core_link_of link left) vars) =
+    reason_is ∙ ap (λ (w : Value). node_reason p (on_null link) vars w gave) v_is ∙ ap (node_reason p (on_null link) vars (meaning p left vars)) given in
+    ap (λ (t : Bool × List ℕ). part_line k t.1 (value_text p gave) reason) whole
+    ∙ ap (λ (w : Value). part_line k (text_of p.model (core_link_of link left) (length vars)) (value_text p w) reason) given
+    ∙ ap (part_line k (text_of p.model (core_link_of link left) (length vars)) (value_text p (meaning p (core_link_of link left) vars))) why
+
+-- an iteration and a fold on a value have the lines of the nodes
+module _ (p : Population) (link : CoreLink) (k : ℕ) (vars : List Value) (v : Value) where
+  pub iterate_lines : (i : Iteration) (body : Core) → link ≡ made.Iterate i body → iteration_lines i (element_lines p (core_view body) k vars) (λ e. meaning p (core_view body) (element_value e ∷ vars)) k v ≡ link_lines p link k vars v
+  iterate_lines i body is = ap (λ (n : CoreTree). rest_lines p n k vars v) (sym (iterate_is link i body is))
+
+  pub fold_lines : (kind : ScalarKind) (start : Box Core Global) (body : Core) → link ≡ made.Fold kind start body → explained p (core_view start.value) k vars ++ accumulation_lines (step_lines p (core_view body) k vars) (λ e a. meaning p (core_view body) (a ∷ element_value e ∷ vars)) k (meaning p (core_view start.value) vars) v ≡ link_lines p link k vars v
+  fold_lines kind start body is = ap (λ (n : CoreTree). rest_lines p n k vars v) (sym (fold_is link kind start body is))
+
+-- a link comes off the end of those that are left
+pub last_taken : (ls : List CoreLink) (n : ℕ) (l : CoreLink) → 0 < n → n ≤ length ls → l ≡ get_or ls (n - 1) l → take n ls ≡ take (n - 1) ls ++ l ∷ []
+last_taken ls n l some within is =
+    let same : n ≡ (n - 1) + 1 = omega (arith, some) in
+    ap (λ m. take m ls) same ∙ take_more ls (n - 1) l (omega (arith, some, within)) ∙ ap (λ (x : CoreLink). take (n - 1) ls ++ x ∷ []) (sym is)
+
+-- the last of the links that are left is put, above the others
+pub node_put : (p : Population) (vars : List Value) (first : CoreTree) (all before : List CoreLink) (link : CoreLink) (k above : ℕ) (out more whole : List ℕ) → all ≡ before ++ link ∷ [] → above ≡ suc k → more ≡ out ++ node_line p link (core_spine first (map core_link_of before)) k vars → out ++ nodes_lines p all first k vars ≡ whole → more ++ nodes_lines p before first above vars ≡ whole
+node_put p vars first all before link k above out more whole last up put so_far =
+    ap (λ xs. xs ++ nodes_lines p before first above vars) put
+    ∙ ap (λ n. (out ++ node_line p link (core_spine first (map core_link_of before)) k vars) ++ nodes_lines p before first n vars) up
+    ∙ append_assoc out (node_line p link (core_spine first (map core_link_of before)) k vars) (nodes_lines p before first (suc k) vars)
+    ∙ ap (λ xs. out ++ xs) (sym (last_node p vars before link first k))
+    ∙ ap (λ ls. out ++ nodes_lines p ls first k vars) (sym last)
+    ∙ so_far
+
+-- the first of some elements, and how many more there are
+pub shown_lines : (f : List Element → List ℕ) (k most n : ℕ) (items : List Item) (es : List Element) → meant_items items ≡ es → n ≡ min (length items) most → f (meant_items (take n items)) ++ more_line k (length items - n) ≡ f (take most es) ++ more_line k (length es - most)
+shown_lines f k most n items es held is =
+    let long : length (meant_items items) ≡ length items = length-map items meant_item in
+    let same : n ≡ min most (length (meant_items items)) = omega (arith, clamps, is, long) in
+    let left : length items - n ≡ length (meant_items items) - most = omega (arith, clamps, is, long) in
+    ap (λ xs. f xs ++ more_line k (length items - n)) (sym (take-map meant_item n items) ∙ ap (λ m. take m (meant_items items)) same ∙ take_min most (meant_items items))
+    ∙ ap (λ m. f (take most (meant_items items)) ++ more_line k m) left
+    ∙ ap (λ (xs : List Element). f (take most xs) ++ more_line k (length xs - most)) held
+
+-- ---- what was put, one after another
+
+-- two texts were put, of which the whole is made
+pub two_put : (old mid new a b whole : List ℕ) → mid ≡ old ++ a → new ≡ mid ++ b → a ++ b ≡ whole → new ≡ old ++ whole
+two_put old mid new a b whole first second is =
+    second ∙ ap (λ xs. xs ++ b) first ∙ append_assoc old a b ∙ ap (λ xs. old ++ xs) is
+
+-- and three
+pub three_put : (old mid next new a b c whole : List ℕ) → mid ≡ old ++ a → next ≡ mid ++ b → new ≡ next ++ c → a ++ (b ++ c) ≡ whole → new ≡ old ++ whole
+three_put old mid next new a b c whole first second third is =
+    two_put old mid new a (b ++ c) whole first (two_put mid next new b c (b ++ c) second third refl) is
+
+-- ---- a choice
+
+module _ (core : Core) (kind : Kind) (condition then_branch else_branch : Box Core Global) (is : core ≡ v.If kind condition then_branch else_branch) (p : Population) (k : ℕ) (vars : List Value) (w : Value) (chosen : w ≡ meaning p (core_view condition.value) vars) where
+  -- its line, its condition, and the branch that is chosen
+  choice_is : part_of p (core_view core) k vars (choice_reason w) ++ (explained p (core_view condition.value) (suc k) vars ++ chosen_lines w (explained p (core_view then_branch.value) (suc k) vars) (explained p (core_view else_branch.value) (suc k) vars)) ≡ explained p (core_view core) k vars
+  choice_is =
+      let view = ap core_view is ∙ core_view-If kind condition then_branch else_branch in
+      ap (λ t. part_of p t k vars (choice_reason w) ++ (explained p (core_view condition.value) (suc k) vars ++ chosen_lines w (explained p (core_view then_branch.value) (suc k) vars) (explained p (core_view else_branch.value) (suc k) vars))) view
+      ∙ ap (λ (x : Value). part_of p (tree.If kind (core_view condition.value) (core_view then_branch.value) (core_view else_branch.value)) k vars (choice_reason x) ++ (explained p (core_view condition.value) (suc k) vars ++ chosen_lines x (explained p (core_view then_branch.value) (suc k) vars) (explained p (core_view else_branch.value) (suc k) vars))) chosen
+      ∙ ap (λ t. explained p t k vars) (sym view)
+
+  -- the first branch
+  pub first_parts : is_true w ≡ true → part_of p (core_view core) k vars (choice_reason w) ++ (explained p (core_view condition.value) (suc k) vars ++ explained p (core_view then_branch.value) (suc k) vars) ≡ explained p (core_view core) k vars
+  first_parts so =
+      ap (λ (b : Bool). part_of p (core_view core) k vars (choice_reason w) ++ (explained p (core_view condition.value) (suc k) vars ++ (if b then explained p (core_view then_branch.value) (suc k) vars else (if is_false w then explained p (core_view else_branch.value) (suc k) vars else [])))) (sym so)
+      ∙ choice_is
+
+  -- the second
+  pub second_parts : is_true w ≡ false → is_false w ≡ true → part_of p (core_view core) k vars (choice_reason w) ++ (explained p (core_view condition.value) (suc k) vars ++ explained p (core_view else_branch.value) (suc k) vars) ≡ explained p (core_view core) k vars
+  second_parts unlike so =
+      ap (λ (b : Bool). part_of p (core_view core) k vars (choice_reason w) ++ (explained p (core_view condition.value) (suc k) vars ++ (if b then explained p (core_view else_branch.value) (suc k) vars else []))) (sym so)
+      ∙ ap (λ (b : Bool). part_of p (core_view core) k vars (choice_reason w) ++ (explained p (core_view condition.value) (suc k) vars ++ (if b then explained p (core_view then_branch.value) (suc k) vars else (if is_false w then explained p (core_view else_branch.value) (suc k) vars else [])))) (sym unlike)
+      ∙ choice_is
+
+  -- neither
+  pub no_parts : is_true w ≡ false → is_false w ≡ false → part_of p (core_view core) k vars (choice_reason w) ++ explained p (core_view condition.value) (suc k) vars ≡ explained p (core_view core) k vars
+  no_parts unlike neither =
+      ap (λ xs. part_of p (core_view core) k vars (choice_reason w) ++ xs) (sym (append-nil (explained p (core_view condition.value) (suc k) vars)))
+      ∙ ap (λ (b : Bool). part_of p (core_view core) k vars (choice_reason w) ++ (explained p (core_view condition.value) (suc k) vars ++ (if b then explained p (core_view else_branch.value) (suc k) vars else []))) (sym neither)
+      ∙ ap (λ (b : Bool). part_of p (core_view core) k vars (choice_reason w) ++ (explained p (core_view condition.value) (suc k) vars ++ (if b then explained p (core_view then_branch.value) (suc k) vars else (if is_false w then explained p (core_view else_branch.value) (suc k) vars else [])))) (sym unlike)
+      ∙ choice_is
+
+-- ---- elements that decide
+
+-- of those that decide so many are shown, and how many more there are
+pub iteration_shown : (i : Iteration) (show : Element → List ℕ) (body : Element → Value) (k : ℕ) (c : CollectionKind) (es : List Element) (items : List Item) (bs : List Value) (those : Deciding) (most n : ℕ) → bs ≡ map body es → those ≡ deciding i bs → most ≡ most_deciding those → meant_items items ≡ kept_by (decides those) es bs → n ≡ min (length items) most → flat_map show (meant_items (take n items)) ++ more_line k (length items - n) ≡ iteration_lines i show body k (Collection c es)
+iteration_shown i show body k c es items bs those most n bodies which most_is held is =
+    shown_lines (flat_map show) k most n items (kept_by (decides those) es bs) held is
+    ∙ ap (λ m. deciding_lines show k m (kept_by (decides those) es bs)) most_is
+    ∙ ap (λ (d : Deciding). deciding_lines show k (most_deciding d) (kept_by (decides d) es bs)) which
+    ∙ ap (λ xs. deciding_lines show k (most_deciding (deciding i xs)) (kept_by (decides (deciding i xs)) es xs)) bodies

@@ -1,0 +1,64 @@
+-- Explanations in parts: of a link on what stands before it, of an element, of a variable, and of lists of them.
+use Rattle.std.specs.Prelude.{ℕ, suc, ◌+◌, ◌-◌, List, [], ◌∷◌, ◌++◌, length}
+use Rattle.imkl_population.specs.Population.{Population}
+use Rattle.ocl_core.specs.declared.core_tree.CoreLink.{CoreLink}
+use Rattle.ocl_core.specs.Core as tree
+use Rattle.ocl_core.specs.Core.{CoreTree, lets_of}
+use Rattle.ocl_core.specs.CoreView.{core_link_of}
+use Rattle.rule_values.specs.Value.{Element, Value, element_value}
+use Rattle.ocl_compile.specs.Meaning.{meaning, meanings}
+use Rattle.ocl_meaning.specs.Evaluated.{on_null, link_value}
+use Rattle.explain_why.specs.Reasons.{operation_reason, feature_reason}
+use Rattle.explain_why.specs.Explanation.{iteration_lines, accumulation_lines, part_of, next_line, step_line, explained, all_explained}
+
+module _ (p : Population) where
+  -- why what a node makes of the value of its first operand is null or invalid
+  abbrev pub node_reason : CoreTree → List Value → Value → Value → List ℕ
+  node_reason (tree.Feature source f) vars v gave = feature_reason p f v gave
+  node_reason (tree.Operation operator first others) vars v gave = operation_reason p operator v (meanings p others vars) gave
+  node_reason t vars v gave = []
+
+  -- a link on a tree, with its value
+  abbrev pub node_line : CoreLink → CoreTree → ℕ → List Value → List ℕ
+  node_line link left k vars =
+      part_of p (core_link_of link left) k vars (node_reason (on_null link) vars (meaning p left vars) (meaning p (core_link_of link left) vars))
+
+  -- links one after another on a tree, the last first
+  abbrev pub nodes_lines : List CoreLink → CoreTree → ℕ → List Value → List ℕ
+  nodes_lines [] first k vars = []
+  nodes_lines (l ∷ ls) first k vars = nodes_lines ls (core_link_of l first) k vars ++ node_line l first (k + length ls) vars
+
+  -- an element with the parts of a body
+  abbrev pub element_lines : CoreTree → ℕ → List Value → Element → List ℕ
+  element_lines body k vars e = next_line p k vars (element_value e) ++ explained p body (suc k) (element_value e ∷ vars)
+
+  -- an element and what is accumulated before it, with the parts of a body
+  abbrev pub step_lines : CoreTree → ℕ → List Value → Element → Value → List ℕ
+  step_lines body k vars e a = step_line p k vars e a ++ explained p body (suc k) (a ∷ element_value e ∷ vars)
+
+  -- the parts of a node besides its first operand, which has this value
+  abbrev pub rest_lines : CoreTree → ℕ → List Value → Value → List ℕ
+  rest_lines (tree.Operation operator first others) k vars v = all_explained p others k vars
+  rest_lines (tree.Iterate i source body) k vars v =
+      iteration_lines i (element_lines body k vars) (λ e. meaning p body (element_value e ∷ vars)) k v
+  rest_lines (tree.Fold kind source start body) k vars v =
+      explained p start k vars ++ accumulation_lines (step_lines body k vars) (λ e a. meaning p body (a ∷ element_value e ∷ vars)) k (meaning p start vars) v
+  rest_lines t k vars v = []
+
+  abbrev pub link_lines : CoreLink → ℕ → List Value → Value → List ℕ
+  link_lines link k vars v = rest_lines (on_null link) k vars v
+
+  -- and so of links one after another, each a level above the one before it
+  abbrev pub links_lines : List CoreLink → ℕ → List Value → Value → List ℕ
+  links_lines [] k vars v = []
+  links_lines (l ∷ ls) k vars v = link_lines l k vars v ++ links_lines ls (k - 1) vars (link_value p vars v l)
+
+  -- a variable that is bound to what a tree means, with the tree's parts
+  abbrev pub bound_lines : CoreTree → ℕ → List Value → List ℕ
+  bound_lines t k vars = next_line p k vars (meaning p t vars) ++ explained p t (suc k) vars
+
+  -- values as variables of a body, up to the body's own parts
+  abbrev pub lets_lines : List CoreTree → CoreTree → ℕ → List Value → List ℕ
+  lets_lines [] body k vars = []
+  lets_lines (w ∷ ws) body k vars =
+      part_of p (lets_of (w ∷ ws) body) k vars [] ++ (bound_lines w (suc k) vars ++ lets_lines ws body (suc k) (meaning p w vars ∷ vars))
