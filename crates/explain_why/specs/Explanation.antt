@@ -17,7 +17,7 @@ use Rattle.rule_values.specs.Endings.{is_undecided, kept_by}
 use Rattle.ocl_compile.specs.Meaning.{operation_value, meaning, meanings, meant_verdict}
 use Rattle.explain_why.specs.declared.deciding.Deciding as declared
 use Rattle.explain_why.specs.declared.deciding.Deciding.TheVariants as held
-use Rattle.explain_why.specs.Values.{most_shown, value_text}
+use Rattle.explain_why.specs.Values.{max_shown, value_text}
 use Rattle.explain_why.specs.Texts.{variable_name, text_of}
 use Rattle.explain_why.specs.Reasons.{operation_reason, feature_reason, choice_reason}
 
@@ -92,7 +92,7 @@ kept_element keep e = if keep then e ∷ [] else []
 abbrev pub most_deciding : Deciding → ℕ
 most_deciding True = 1
 most_deciding False = 1
-most_deciding d = most_shown
+most_deciding d = max_shown
 
 -- how many more there are, where there are more
 abbrev pub more_line : ℕ → ℕ → List ℕ
@@ -116,7 +116,7 @@ steps_lines show next a (e ∷ es) = show e a ++ steps_lines show next (next e a
 -- the lines of a fold over a collection, from what is accumulated at its start
 abbrev pub accumulation_lines : (Element → Value → List ℕ) → (Element → Value → Value) → ℕ → Value → Value → List ℕ
 accumulation_lines show next k start (value.Collection c es) =
-    steps_lines show next start (take most_shown es) ++ more_line k (length es - most_shown)
+    steps_lines show next start (take max_shown es) ++ more_line k (length es - max_shown)
 accumulation_lines show next k start v = []
 
 -- ---- parts

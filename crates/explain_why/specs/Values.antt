@@ -45,8 +45,8 @@ kind_name collection.Bag = codes "Bag"
 kind_name collection.Sequence = codes "Sequence"
 
 -- so many elements are shown of a collection
-abbrev pub most_shown : ℕ
-most_shown = 10
+abbrev pub max_shown : ℕ
+max_shown = 10
 
 -- how many more there are, if there are more
 abbrev pub more_text : ℕ → List ℕ
@@ -64,7 +64,7 @@ elements_text p k (e ∷ es) = before_element k ++ (element_text p e ++ elements
 
 abbrev pub collection_text : Population → CollectionKind → List Element → List ℕ
 collection_text p c es =
-    kind_name c ++ (123 ∷ (elements_text p 0 (take most_shown es) ++ (more_text (length es - most_shown) ++ 125 ∷ [])))
+    kind_name c ++ (123 ∷ (elements_text p 0 (take max_shown es) ++ (more_text (length es - max_shown) ++ 125 ∷ [])))
 
 abbrev pub value_text : Population → Value → List ℕ
 value_text p Invalid = codes "invalid"

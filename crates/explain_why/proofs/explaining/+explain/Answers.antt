@@ -9,7 +9,7 @@ use Rattle.owned_values.specs.Meant.{meant, meant_items, AreElementsThere}
 use Rattle.owned_values.proofs.ForAbove.{kept_there}
 use Rattle.ocl_meaning.proofs.ForAbove.{spine_names, let_names}
 use Rattle.explain_why.proofs.Left.{first_there}
-use Rattle.explain_why.specs.Values.{most_shown}
+use Rattle.explain_why.specs.Values.{max_shown}
 use Rattle.explain_why.specs.Explanation.{deciding_of, steps_lines}
 use Rattle.explain_why.specs.PartWalk.{element_lines, step_lines}
 use Rattle.explain_why.proofs.PartNodes.{let_value, spine_parts, let_parts, first_parts, second_parts, no_parts, iterate_lines, fold_lines, shown_lines, iteration_shown, two_put, three_put}
@@ -134,10 +134,10 @@ explain_link-returns-in_ok-start-in-Fold-clause-text t c =
 pub explain_fold-returns-clause-text : goal.explain_fold-returns-clause-text
 explain_fold-returns-clause-text t c =
     let many : c.len-2.result ≡ length c.in-Collection.elements.items = search rules in
-    let shown : c.min-shown.result ≡ min (length c.in-Collection.elements.items) most_shown = search rules in
+    let shown : c.min-shown.result ≡ min (length c.in-Collection.elements.items) max_shown = search rules in
     let steps = rw c.deref.ensures.value at c.in_ok-explain_steps.ensures.text in
     let more = rw many at c.put_more.ensures in
-    let whole = shown_lines (steps_lines (step_lines c.args.population.now.content (core_view c.args.body.now) c.args.level c.args.variables.now) (λ e a. meaning c.args.population.now.content (core_view c.args.body.now) (a ∷ element_value e ∷ c.args.variables.now)) (meant c.args.start)) c.args.level most_shown c.min-shown.result c.in-Collection.elements.items (meant_items c.in-Collection.elements.items) refl shown in
+    let whole = shown_lines (steps_lines (step_lines c.args.population.now.content (core_view c.args.body.now) c.args.level c.args.variables.now) (λ e a. meaning c.args.population.now.content (core_view c.args.body.now) (a ∷ element_value e ∷ c.args.variables.now)) (meant c.args.start)) c.args.level max_shown c.min-shown.result c.in-Collection.elements.items (meant_items c.in-Collection.elements.items) refl shown in
     rw c.in-Collection.is (on_ok_weaker c.put_more.result (λ h. two_put _ _ _ _ _ _ steps h whole) more)
 
 pub explain_iteration-returns-clause-text : goal.explain_iteration-returns-clause-text
