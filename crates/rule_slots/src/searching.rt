@@ -20,7 +20,7 @@ use rule_code::WrittenScalar;
 const SHORT: usize = 40;
 
 /// For so few elements that are looked for no copy is sorted: they are found sooner one by one.
-const FEW: usize = 128;
+const FEW: usize = 64;
 
 /// A collection in which so many elements are to be looked for, as it is best searched, and whether it stands in order:
 /// itself; or a sorted copy at the pool's end, if it is long, stands in no order, and there is room.
