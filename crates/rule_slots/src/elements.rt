@@ -1,6 +1,6 @@
 //! Elements of collections, compared as a kind says.
 
-ghost use Rattle.std.specs.Prelude.{◌≡◌, ◌+◌, ◌<◌, ◌≤◌, ◌^◌, length, drop, map, is_some, true, bytes_eq};
+ghost use Rattle.std.specs.Prelude.{◌≡◌, ℕ, ◌+◌, ◌<◌, ◌≤◌, ◌^◌, length, drop, map, is_some, true, false, bytes_eq};
 ghost use Rattle.ocl_base.specs.Lists.{is_among, repeats};
 ghost use Rattle.rule_slots.specs.Slots.{lists_in, home_named, plain_mark, scalar_slot, scalar_slots, index_slot, held_slots, IsInHome};
 ghost use Rattle.rule_slots.specs.Compared.{slot_bytes, same_words, same_slots, times_among};
@@ -64,16 +64,16 @@ fn same_as_scalar(
     same_slots(lists, kind, slot, scalar_slot(index, scalar))
 }
 
-/// The same of a slot that has a number. (It is lent, so that no loop copies it.)
+/// The same of a slot that has a number, wherever the value stands. (It is lent, so that no loop copies it.)
 #[inline(always)]
-fn same_as_number(lists: Lists<'_>, slot: &Slot, index: usize, scalar: &Scalar) -> bool
+fn same_as_number(lists: Lists<'_>, slot: &Slot, scalar: &Scalar) -> bool
     requires { plain_mark slot.now.mark ≡ true }
-    ensures { result ≡ same_slots (lists_in lists.entry) WrittenScalar.Integer slot.now
-        (scalar_slot index scalar.now) }
+    ensures { (index : ℕ) → result ≡ same_slots (lists_in lists.entry) WrittenScalar.Integer
+        slot.now (scalar_slot index scalar.now) }
 {
     match scalar {
         Scalar::Int(number) => slot.number == *number,
-        other => same_as_scalar(lists, WrittenScalar::Integer, *slot, index, other),
+        other => same_as_scalar(lists, WrittenScalar::Integer, *slot, 0, other),
     }
 }
 
@@ -90,16 +90,52 @@ fn same_as_object(lists: Lists<'_>, slot: &Slot, index: usize, scalar: &Scalar) 
     }
 }
 
-/// Finds a number among these values of the population, of which the first has this index.
+/// Finds a number among four of these values of the population, from an index on.
 #[inline(always)]
-fn find_number(lists: Lists<'_>, start: usize, scalars: &[Scalar], slot: Slot) -> Option<usize>
-    requires plain { plain_mark slot.mark ≡ true }
-    requires room { start + length scalars.now < 2 ^ 64 }
-    ensures { is_some result ≡ is_among (same_slots (lists_in lists.entry) WrittenScalar.Integer)
+fn find_in_four(lists: Lists<'_>, slot: &Slot, scalars: &[Scalar], index: usize) -> Option<usize>
+    requires plain { plain_mark slot.now.mark ≡ true }
+    requires four { index + 3 < length scalars.now }
+    ensures found { (start : ℕ) → is_some result ≡ true → is_among
+        (same_slots (lists_in lists.entry) WrittenScalar.Integer)
+        (drop index (scalar_slots start scalars.now)) slot.now ≡ true }
+    ensures none { (start : ℕ) → is_some result ≡ false → is_among
+        (same_slots (lists_in lists.entry) WrittenScalar.Integer)
+        (drop index (scalar_slots start scalars.now)) slot.now ≡ is_among
+        (same_slots (lists_in lists.entry) WrittenScalar.Integer)
+        (drop (index + 4) (scalar_slots start scalars.now)) slot.now }
+{
+    if same_as_number(lists, slot, &scalars[index]) {
+        return Some(index);
+    }
+    if same_as_number(lists, slot, &scalars[index + 1]) {
+        return Some(index + 1);
+    }
+    if same_as_number(lists, slot, &scalars[index + 2]) {
+        return Some(index + 2);
+    }
+    if same_as_number(lists, slot, &scalars[index + 3]) {
+        return Some(index + 3);
+    }
+    None
+}
+
+/// Finds a number among these values of the population, wherever they stand. (Four are looked at in a turn.)
+#[inline(always)]
+fn find_number(lists: Lists<'_>, scalars: &[Scalar], slot: Slot) -> Option<usize>
+    requires { plain_mark slot.mark ≡ true }
+    ensures { (start : ℕ) → is_some result ≡ is_among
+        (same_slots (lists_in lists.entry) WrittenScalar.Integer)
         (scalar_slots start scalars.now) slot }
 {
-    for index in 0..scalars.len() {
-        if same_as_number(lists, &slot, start + index, &scalars[index]) {
+    let fours = scalars.len() / 4;
+    for four in 0..fours {
+        let found = find_in_four(lists, &slot, scalars, 4 * four);
+        if found.is_some() {
+            return found;
+        }
+    }
+    for index in 4 * fours..scalars.len() {
+        if same_as_number(lists, &slot, &scalars[index]) {
             return Some(index);
         }
     }
@@ -163,7 +199,7 @@ fn find_in_scalars(
         (scalar_slots start scalars.now) slot }
 {
     match (kind, slot.is_plain()) {
-        (WrittenScalar::Integer, true) => find_number(lists, start, scalars, slot),
+        (WrittenScalar::Integer, true) => find_number(lists, scalars, slot),
         (WrittenScalar::AnyObject, true) => find_object(lists, start, scalars, slot),
         _ => find_scalar(lists, kind, start, scalars, slot),
     }

@@ -17,7 +17,7 @@ use crate::sorting::{has_room, push_sorted};
 use rule_code::WrittenScalar;
 
 /// In a collection of at most so many elements each is looked for among all, whatever its order.
-const SHORT: usize = 40;
+const SHORT: usize = 24;
 
 /// For so few elements that are looked for no copy is sorted: they are found sooner one by one.
 const FEW: usize = 64;
