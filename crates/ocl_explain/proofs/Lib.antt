@@ -1,1 +1,5 @@
 pub mod Known
+pub mod Named
+pub mod Told
+pub mod Judging
+pub mod Refusing

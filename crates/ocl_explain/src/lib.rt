@@ -5,6 +5,7 @@ mod answers;
 mod costs;
 mod faults;
 mod json;
+mod judged;
 mod keeping;
 mod listing;
 mod refusals;

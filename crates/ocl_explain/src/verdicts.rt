@@ -1,27 +1,35 @@
 //! Why a rule of a text has its verdict for an object.
 
-ghost use Rattle.std.specs.Prelude.{◌<◌, length, map, IfSome};
+ghost use Rattle.std.specs.Prelude.{◌≡◌, ◌⊎◌, ◌<◌, ℕ, [], List, Ok, length, map, IfOk, IfSome};
 ghost use Rattle.std.specs.List.{AllByRecursion};
-ghost use Rattle.ocl_core.specs.CoreView.{checked_rule_of};
-ghost use Rattle.ocl_core.specs.Typing.{IsTypedRule};
+ghost use Rattle.imkl_population.specs.Population.{object_number};
 ghost use Rattle.ocl_text.specs.RuleText.{NamesDiffer};
 ghost use Rattle.ocl_text.specs.View.{rule_of};
+ghost use Rattle.ocl_core.specs.Core.{CheckedRule, HaveOwnNames};
+ghost use Rattle.ocl_core.specs.CoreView.{checked_rule_of};
+ghost use Rattle.ocl_core.specs.Typing.{IsTypedRule};
+ghost use Rattle.ocl_types.specs.AllRules.{elaborate_rules};
+ghost use Rattle.ocl_check.specs.TextReading.{TextReading, ReadsAs};
+ghost use Rattle.ocl_check.specs.ThreeInputs.{delivery_answer, population_of};
+ghost use Rattle.ocl_check.specs.JudgeText.{meant_answer, text_answer, judge_text_answer, JudgeAnswers};
+ghost use Rattle.ocl_explain.specs.Judged.{typed_answer, IsFound};
+ghost use Rattle.ocl_explain.specs.WhyAnswers.{judged_text, object_text, why_text, IsToldBy, IsToldOf, IsToldIn, IsTold, WhyAnswers};
 
 use crate::answers::answer_judge;
+use crate::judged::is_judged;
 use crate::refusals::explain_judge;
 use explain_notes::{Input, Nearest};
 use explain_why::explain_verdict;
 use imkl_delivery::{DeliveryFault, load};
 use imkl_model::{ClassModel, ModelFault};
 use imkl_population::{ObjectNo, Population};
+use ocl_check::laws::{each_text_is_read, readings_are_determined};
 use ocl_check::{CommandFault, JudgeOptions, MAX_BUDGET, Outcome, RulesForm, Telling};
 use ocl_core::CoreRule;
 use ocl_text::{SurfaceRule, parse_rules};
 use ocl_tokens::TextFault;
 use ocl_types::{RulesFault, check_rules};
 use std::alloc::{AllocError, Global};
-use std::io;
-use std::io::{ErrorKind, Write};
 
 /// The rule and the object whose verdict is explained, and the inputs.
 #[derive(Clone, Copy, Drop)]
@@ -49,53 +57,38 @@ pub enum Why {
     Unknown(String),
 }
 
-/// What `judge` prints of inputs of which it refuses one. It takes no report.
-#[derive(Drop)]
-struct RefusalOnly {
-    line: Vec<u8>,
-}
-
-impl Write for RefusalOnly {
-    fn write(&mut self, bytes: &[u8]) -> io::Result<usize> {
-        if !bytes.starts_with(b"refused ") {
-            return Err(io::Error::from(ErrorKind::Other));
-        }
-        self.line.write(bytes)
-    }
-
-    fn flush(&mut self) -> io::Result<()> {
-        Ok(())
-    }
-}
-
 /// How the rules are judged that are explained.
 const OPTIONS: JudgeOptions = JudgeOptions {
     form: RulesForm::Text,
     budget: MAX_BUDGET,
 };
 
-/// The line by which `judge` refuses an input, if it refuses one.
-fn refusal(alloc: Global, asked: WhyAsked<'_>) -> Result<Option<Vec<u8>>, AllocError> {
-    let mut sink = Telling::new(RefusalOnly {
-        line: Vec::new(alloc),
-    });
+/// What `judge` prints of inputs of which it refuses one: nothing where it can't read one.
+fn refusal(alloc: Global, asked: WhyAsked<'_>) -> Result<Vec<u8>, AllocError>
+    ensures { IfOk result (λ line. (line.items ≡ []) ⊎ ((s : ℕ)
+        × JudgeAnswers OPTIONS asked.entry.model.bytes.now asked.entry.delivery.bytes.now
+        asked.entry.rules.bytes.now (line.items, s))) }
+{
+    let mut printed = Telling::new(Vec::new(alloc));
     let (model, delivery) = (asked.model.bytes, asked.delivery.bytes);
     let rules = asked.rules.bytes;
-    match answer_judge(alloc, OPTIONS, model, delivery, rules, &mut sink) {
-        Outcome::Status(2) => Ok(Some(sink.into_inner().line)),
-        Outcome::Failed(CommandFault::OutOfMemory) => Err(AllocError),
-        Outcome::Status(_) | Outcome::Failed(_) => Ok(None),
+    match answer_judge(alloc, OPTIONS, model, delivery, rules, &mut printed) {
+        Outcome::Status(_) => Ok(printed.into_inner()),
+        Outcome::Failed(CommandFault::Read) => Ok(Vec::new(alloc)),
+        // Memory takes all bytes that there is room for.
+        Outcome::Failed(_) => Err(AllocError),
     }
 }
 
 /// The object of an id.
 fn object_named(population: &Population<'_>, id: &str) -> Option<ObjectNo>
-    ensures { IfSome result (λ o. o < length population.now.content.objects) }
+    ensures number { result ≡ object_number population.now.content id.now }
+    ensures there { IfSome result (λ o. o < length population.now.content.objects) }
 {
     population.consistent();
     for index in 0..population.objects() {
         let object = ObjectNo::new(index);
-        if population.id(object) == id {
+        if id == population.id(object) {
             return Some(object);
         }
     }
@@ -150,6 +143,8 @@ fn answer_object(
 ) -> Result<Why, AllocError>
     requires rule { IsTypedRule population.now.content.model (checked_rule_of rule.now) }
     requires object { object < length population.now.content.objects }
+    ensures { IfOk result (IsToldBy (judged_text population.now.content (checked_rule_of rule.now)
+        object)) }
 {
     let (model, class) = (population.model(), population.class_of(object));
     if model.conforms(class, rule.context) {
@@ -170,6 +165,8 @@ fn answer_rule(
     rule: &CoreRule,
 ) -> Result<Why, AllocError>
     requires { IsTypedRule population.now.content.model (checked_rule_of rule.now) }
+    ensures { IfOk result (IsToldBy (object_text population.now.content (checked_rule_of rule.now)
+        (object_number population.now.content asked.entry.id.now))) }
 {
     match object_named(population, asked.id) {
         Some(object) => answer_object(alloc, asked, population, rule, object),
@@ -186,6 +183,8 @@ fn answer_rules(
 ) -> Result<Why, AllocError>
     requires { AllByRecursion (IsTypedRule population.now.content.model)
         (map checked_rule_of rules.now) }
+    ensures { IfOk result (IsToldBy (why_text population.now.content
+        (map checked_rule_of rules.now) asked.entry.rule.now asked.entry.id.now)) }
 {
     'rules: for rule in rules {
         if rule.name.as_str() == asked.rule {
@@ -195,7 +194,30 @@ fn answer_rules(
     Ok(Why::Unknown(unknown_rule(alloc, asked, rules)?))
 }
 
-/// What is answered of the rules of a text that are read, and a population.
+/// What is answered of typed rules and a population; nothing where `judge` refuses the rules.
+fn answer_typed(
+    alloc: Global,
+    asked: WhyAsked<'_>,
+    population: &Population<'_>,
+    rules: &[CoreRule],
+) -> Result<Option<Why>, AllocError>
+    requires typed { AllByRecursion (IsTypedRule population.now.content.model)
+        (map checked_rule_of rules.now) }
+    requires names { HaveOwnNames (map checked_rule_of rules.now) }
+    ensures { IfOk result (IsFound (λ why. (typed_answer population.now.content
+        (map checked_rule_of rules.now) ≡ meant_answer population.now.content
+        (map checked_rule_of rules.now)) × IsToldBy (why_text population.now.content
+        (map checked_rule_of rules.now) asked.entry.rule.now asked.entry.id.now) why)
+        ((typed_answer population.now.content (map checked_rule_of rules.now)).1 ≡ 2)) }
+{
+    if is_judged(alloc, population, rules)? {
+        Ok(Some(answer_rules(alloc, asked, population, rules)?))
+    } else {
+        Ok(None)
+    }
+}
+
+/// What is answered of the rules of a text that are read, and a population; nothing where `judge` refuses the rules.
 fn answer_surface(
     alloc: Global,
     asked: WhyAsked<'_>,
@@ -203,22 +225,34 @@ fn answer_surface(
     rules: &[SurfaceRule],
 ) -> Result<Option<Why>, AllocError>
     requires { NamesDiffer (map rule_of rules.now) }
+    ensures { IfOk result (IsFound (λ why. (rs : List CheckedRule)
+        × (elaborate_rules population.now.content.model 0 (map rule_of rules.now) ≡ Ok rs)
+        × (text_answer MAX_BUDGET (Ok (map rule_of rules.now)) population.now.content
+        ≡ meant_answer population.now.content rs)
+        × IsToldBy (why_text population.now.content rs asked.entry.rule.now asked.entry.id.now)
+        why) ((text_answer MAX_BUDGET (Ok (map rule_of rules.now)) population.now.content).1 ≡ 2)) }
 {
     match check_rules(alloc, population.model(), rules) {
-        Ok(typed) => Ok(Some(answer_rules(alloc, asked, population, &typed)?)),
+        Ok(typed) => answer_typed(alloc, asked, population, &typed),
         Err(RulesFault::At { .. }) => Ok(None),
         Err(RulesFault::OutOfMemory) => Err(AllocError),
     }
 }
 
-/// What is answered of the rules of a text and a population.
+/// What is answered of the rules of a text and a population; nothing where `judge` refuses the rules.
 fn answer_text(
     alloc: Global,
     asked: WhyAsked<'_>,
     population: &Population<'_>,
-) -> Result<Option<Why>, AllocError> {
-    let Ok(text) = str::from_utf8(asked.rules.bytes) else {
-        return Ok(None);
+) -> Result<Option<Why>, AllocError>
+    ensures { IfOk result (IsFound (IsToldOf population.now.content asked.entry.rules.bytes.now
+        asked.entry.rule.now asked.entry.id.now) ((t : TextReading)
+        × ReadsAs asked.entry.rules.bytes.now t
+        × ((text_answer MAX_BUDGET t population.now.content).1 ≡ 2))) }
+{
+    let text = match str::from_utf8(asked.rules.bytes) {
+        Ok(text) => text,
+        Err(_) => return Ok(None),
     };
     match parse_rules(alloc, text) {
         Ok(rules) => answer_surface(alloc, asked, population, &rules),
@@ -227,37 +261,62 @@ fn answer_text(
     }
 }
 
-/// What is answered of a delivery.
+/// What is answered of a delivery; nothing where `judge` refuses it or the rules.
 fn answer_delivery(
     alloc: Global,
     asked: WhyAsked<'_>,
     model: &ClassModel,
-) -> Result<Option<Why>, AllocError> {
+) -> Result<Option<Why>, AllocError>
+    ensures { IfOk result (IsFound (IsToldIn model.now asked.entry.delivery.bytes.now
+        asked.entry.rules.bytes.now asked.entry.rule.now asked.entry.id.now) ((t : TextReading)
+        × ReadsAs asked.entry.rules.bytes.now t × ((delivery_answer (text_answer MAX_BUDGET t)
+        (population_of model.now asked.entry.delivery.bytes.now)).1 ≡ 2))) }
+{
+    each_text_is_read();
     match load(alloc, asked.delivery.bytes, model) {
         Ok(population) => answer_text(alloc, asked, &population),
-        Err(DeliveryFault::OutOfMemory) => Err(AllocError),
-        Err(_) => Ok(None),
+        Err(fault) => match fault {
+            DeliveryFault::OutOfMemory => Err(AllocError),
+            _ => Ok(None),
+        },
     }
 }
 
-/// What is answered of inputs that `judge` doesn't refuse; nothing where they are refused.
-fn answer_inputs(alloc: Global, asked: WhyAsked<'_>) -> Result<Option<Why>, AllocError> {
+/// What is answered of inputs that `judge` doesn't refuse; nothing where it refuses one.
+fn answer_inputs(alloc: Global, asked: WhyAsked<'_>) -> Result<Option<Why>, AllocError>
+    ensures { IfOk result (IsFound (IsTold asked.entry.model.bytes.now
+        asked.entry.delivery.bytes.now asked.entry.rules.bytes.now asked.entry.rule.now
+        asked.entry.id.now) ((t : TextReading) × ReadsAs asked.entry.rules.bytes.now t
+        × ((judge_text_answer MAX_BUDGET asked.entry.model.bytes.now
+        asked.entry.delivery.bytes.now t).1 ≡ 2))) }
+{
+    each_text_is_read();
     match ClassModel::read(alloc, asked.model.bytes) {
         Ok(model) => answer_delivery(alloc, asked, &model),
-        Err(ModelFault::OutOfMemory) => Err(AllocError),
-        Err(_) => Ok(None),
+        Err(fault) => match fault {
+            ModelFault::OutOfMemory => Err(AllocError),
+            _ => Ok(None),
+        },
     }
 }
 
 /// Why a rule has its verdict for an object, or why that isn't answered. Inputs are refused as `judge` refuses them.
-pub fn answer_why(alloc: Global, asked: WhyAsked<'_>) -> Result<Why, AllocError> {
-    let line = match refusal(alloc, asked)? {
-        Some(line) => line,
-        None => match answer_inputs(alloc, asked)? {
-            Some(why) => return Ok(why),
-            None => Vec::new(alloc),
-        },
-    };
-    let words = explain_judge(alloc, OPTIONS, asked.model, asked.delivery, asked.rules)?;
-    Ok(Why::Refused(line, words))
+///
+/// `Explained` and `Unknown` are answered only of inputs that `judge` answers with a report: the explanation is of the
+/// rules and the population of that report. `Refused` has the line that `judge` prints with status 2, and no line only
+/// where it can't read an input, as one that is too long. How long inputs are isn't looked at here.
+pub fn answer_why(alloc: Global, asked: WhyAsked<'_>) -> Result<Why, AllocError>
+    ensures { IfOk result (WhyAnswers asked.entry.model.bytes.now asked.entry.delivery.bytes.now
+        asked.entry.rules.bytes.now asked.entry.rule.now asked.entry.id.now) }
+{
+    readings_are_determined();
+    let found = answer_inputs(alloc, asked)?;
+    match found {
+        Some(why) => Ok(why),
+        None => {
+            let line = refusal(alloc, asked)?;
+            let words = explain_judge(alloc, OPTIONS, asked.model, asked.delivery, asked.rules)?;
+            Ok(Why::Refused(line, words))
+        }
+    }
 }

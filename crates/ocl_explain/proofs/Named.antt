@@ -1,0 +1,28 @@
+-- The object of an id and the rule of a name are the first that a walk over them finds.
+use Rattle.std.proofs.Common.{◌≡◌, ℕ, ◌+◌, ◌<◌, ◌≤◌, Bool, List, length, drop, map, get_or, Some, None, refl, ap, ◌∙◌, add-one, drop-cons, bytes_eq, if◌then◌else◌}
+use Rattle.std.proofs.lemmas.List.{at_drop_all}
+use Rattle.imkl_population.specs.declared.object.Object.{Object}
+use Rattle.imkl_population.specs.Population.{no_object, object_number_in}
+use Rattle.ocl_core.specs.Core.{CheckedRule}
+use Rattle.ocl_explain.specs.WhyAnswers.{rule_named}
+
+-- the next object has the id, or the object of the id is looked for behind it
+pub next_object : (os : List Object) (i o : ℕ) (id here : List ℕ) (b : Bool) → i < length os → o ≡ i → here ≡ (get_or os o no_object).id → bytes_eq id here ≡ b
+    → object_number_in i (drop i os) id ≡ (if b then Some i else object_number_in (i + 1) (drop (i + 1) os) id)
+next_object os i o id here b lt number is test =
+    let same : here ≡ (get_or os i no_object).id = is ∙ ap (λ (n : ℕ). (get_or os n no_object).id) number in
+    rw (add-one, drop-cons os i no_object lt, ← same, test) refl
+
+-- where no object is left none has the id
+pub no_object_left : (os : List Object) (i : ℕ) (id : List ℕ) → length os ≤ i → object_number_in i (drop i os) id ≡ None
+no_object_left os i id le = at_drop_all (λ (rest : List Object). object_number_in i rest id) os i le
+
+module _ {X : Type 0} (rule : X → CheckedRule) where
+  -- the next rule has the name, or the rule of the name is looked for behind it
+  pub next_rule : (xs : List X) (i : ℕ) (x : X) (name : List ℕ) (b : Bool) → i < length xs → x ≡ get_or xs i x → bytes_eq (rule x).name name ≡ b
+      → rule_named (map rule (drop i xs)) name ≡ (if b then Some (rule x) else rule_named (map rule (drop (i + 1) xs)) name)
+  next_rule xs i x name b lt is test = rw (add-one, drop-cons xs i x lt, ← is, test) refl
+
+  -- where no rule is left none has the name
+  pub no_rule_left : (xs : List X) (i : ℕ) (name : List ℕ) → length xs ≤ i → rule_named (map rule (drop i xs)) name ≡ None
+  no_rule_left xs i name le = at_drop_all (λ (rest : List X). rule_named (map rule rest) name) xs i le

@@ -1,0 +1,36 @@
+-- What `judge` answers of a population and typed rules, the report of what they mean or a refusal; and what is told by that.
+use Rattle.std.specs.Prelude.{◌≡◌, ◌&&◌, Bool, true, false, List, Option, Some, None, is_ok}
+use Rattle.imkl_population.specs.Population.{Population}
+use Rattle.imkl_population.specs.Sizes.{sizes_of}
+use Rattle.ocl_core.specs.Core.{CheckedRule}
+use Rattle.rule_code.specs.Content.{Content}
+use Rattle.rule_verify.specs.UnitRules.{check_unit}
+use Rattle.rule_cost.specs.Admission.{admission}
+use Rattle.ocl_compile.specs.Compiling.{compile_of}
+use Rattle.ocl_check.specs.declared.commands.judge.TheConstants.{MAX_BUDGET}
+use Rattle.ocl_check.specs.Reply.{Answer}
+use Rattle.ocl_check.specs.CompiledRules.{in_code}
+use Rattle.ocl_check.specs.JudgeText.{meant_answer, rules_answer}
+use Rattle.ocl_explain.specs.declared.verdicts.Why.{Why}
+
+-- each rule of a unit is within the budget
+abbrev pub is_admitted : Population → Content → Bool
+is_admitted p u = is_ok (admission u (sizes_of p) MAX_BUDGET)
+
+-- and the unit is accepted
+abbrev pub is_accepted : Population → Content → Bool
+is_accepted p u = is_ok (check_unit p.model u) && is_admitted p u
+
+-- what is answered of typed rules
+abbrev pub typed_answer : Population → List CheckedRule → Answer
+typed_answer p rs = rules_answer MAX_BUDGET p (in_code rs (compile_of p.model rs))
+
+-- it is the report exactly where they are judged, else it refuses them
+abbrev pub IsJudged : Population → List CheckedRule → Bool → Type 0
+IsJudged p rs true = typed_answer p rs ≡ meant_answer p rs
+IsJudged p rs false = (typed_answer p rs).1 ≡ 2
+
+-- what is told of inputs that aren't refused; where nothing is told they are
+abbrev pub IsFound : (Why → Type 0) → Type 0 → Option Why → Type 0
+IsFound IsTold IsRefused (Some why) = IsTold why
+IsFound IsTold IsRefused None = IsRefused
