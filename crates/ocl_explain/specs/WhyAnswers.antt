@@ -43,17 +43,17 @@ module _ (p : Population) where
 -- ---- inputs
 
 -- the explanation is this one, and where there is none it is said in words
-abbrev pub IsToldBy : Option (List ℕ) → Why → Type 0
-IsToldBy text (Explained words) = text ≡ Some (string_bytes words)
-IsToldBy text (Unknown words) = text ≡ None
-IsToldBy text (Refused line words) = ⊥
+abbrev pub IsExplainedBy : Option (List ℕ) → Why → Type 0
+IsExplainedBy text (Explained words) = text ≡ Some (string_bytes words)
+IsExplainedBy text (Unknown words) = text ≡ None
+IsExplainedBy text (Refused line words) = ⊥
 
 -- What is told of a population and the bytes of a text: they are read as rules that have types, and the answer of `judge` is the
 -- report of what these mean of this population.
 abbrev pub IsToldOf : Population → List ℕ → List ℕ → List ℕ → Why → Type 0
 IsToldOf p rules name id why =
     (t : List Rule) × (rs : List CheckedRule) × ReadsAs rules (Ok t) × (elaborate_rules p.model 0 t ≡ Ok rs)
-    × (text_answer MAX_BUDGET (Ok t) p ≡ meant_answer p rs) × IsToldBy (why_text p rs name id) why
+    × (text_answer MAX_BUDGET (Ok t) p ≡ meant_answer p rs) × IsExplainedBy (why_text p rs name id) why
 
 -- what is told of a class model and the bytes of a delivery and a text: the delivery describes a population
 abbrev pub IsToldIn : Model → List ℕ → List ℕ → List ℕ → List ℕ → Why → Type 0

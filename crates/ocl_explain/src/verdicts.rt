@@ -13,7 +13,7 @@ ghost use Rattle.ocl_check.specs.TextReading.{TextReading, ReadsAs};
 ghost use Rattle.ocl_check.specs.ThreeInputs.{delivery_answer, population_of};
 ghost use Rattle.ocl_check.specs.JudgeText.{meant_answer, text_answer, judge_text_answer, JudgeAnswers};
 ghost use Rattle.ocl_explain.specs.Judged.{typed_answer, IsFound};
-ghost use Rattle.ocl_explain.specs.WhyAnswers.{judged_text, object_text, why_text, IsToldBy, IsToldOf, IsToldIn, IsTold, WhyAnswers};
+ghost use Rattle.ocl_explain.specs.WhyAnswers.{judged_text, object_text, why_text, IsExplainedBy, IsToldOf, IsToldIn, IsTold, WhyAnswers};
 
 use crate::answers::answer_judge;
 use crate::judged::is_judged;
@@ -143,7 +143,7 @@ fn answer_object(
 ) -> Result<Why, AllocError>
     requires rule { IsTypedRule population.now.content.model (checked_rule_of rule.now) }
     requires object { object < length population.now.content.objects }
-    ensures { IfOk result (IsToldBy (judged_text population.now.content (checked_rule_of rule.now)
+    ensures { IfOk result (IsExplainedBy (judged_text population.now.content (checked_rule_of rule.now)
         object)) }
 {
     let (model, class) = (population.model(), population.class_of(object));
@@ -165,7 +165,7 @@ fn answer_rule(
     rule: &CoreRule,
 ) -> Result<Why, AllocError>
     requires { IsTypedRule population.now.content.model (checked_rule_of rule.now) }
-    ensures { IfOk result (IsToldBy (object_text population.now.content (checked_rule_of rule.now)
+    ensures { IfOk result (IsExplainedBy (object_text population.now.content (checked_rule_of rule.now)
         (object_number population.now.content asked.entry.id.now))) }
 {
     match object_named(population, asked.id) {
@@ -183,7 +183,7 @@ fn answer_rules(
 ) -> Result<Why, AllocError>
     requires { AllByRecursion (IsTypedRule population.now.content.model)
         (map checked_rule_of rules.now) }
-    ensures { IfOk result (IsToldBy (why_text population.now.content
+    ensures { IfOk result (IsExplainedBy (why_text population.now.content
         (map checked_rule_of rules.now) asked.entry.rule.now asked.entry.id.now)) }
 {
     'rules: for rule in rules {
@@ -206,7 +206,7 @@ fn answer_typed(
     requires names { HaveOwnNames (map checked_rule_of rules.now) }
     ensures { IfOk result (IsFound (λ why. (typed_answer population.now.content
         (map checked_rule_of rules.now) ≡ meant_answer population.now.content
-        (map checked_rule_of rules.now)) × IsToldBy (why_text population.now.content
+        (map checked_rule_of rules.now)) × IsExplainedBy (why_text population.now.content
         (map checked_rule_of rules.now) asked.entry.rule.now asked.entry.id.now) why)
         ((typed_answer population.now.content (map checked_rule_of rules.now)).1 ≡ 2)) }
 {
@@ -229,7 +229,7 @@ fn answer_surface(
         × (elaborate_rules population.now.content.model 0 (map rule_of rules.now) ≡ Ok rs)
         × (text_answer MAX_BUDGET (Ok (map rule_of rules.now)) population.now.content
         ≡ meant_answer population.now.content rs)
-        × IsToldBy (why_text population.now.content rs asked.entry.rule.now asked.entry.id.now)
+        × IsExplainedBy (why_text population.now.content rs asked.entry.rule.now asked.entry.id.now)
         why) ((text_answer MAX_BUDGET (Ok (map rule_of rules.now)) population.now.content).1 ≡ 2)) }
 {
     match check_rules(alloc, population.model(), rules) {
