@@ -9,7 +9,7 @@ use rule_code::{Instr, Rule, Unit};
 use std::alloc::{AllocError, Global};
 
 /// The most parts that are written.
-const MOST_PARTS: usize = 20;
+const MAX_PARTS: usize = 20;
 
 /// What gives an operand, in words.
 fn source_words(
@@ -91,10 +91,10 @@ pub fn explain_charges(
     if reading.charges() != bound {
         return Ok(());
     }
-    for part in reading.parts.iter().take(MOST_PARTS) {
+    for part in reading.parts.iter().take(MAX_PARTS) {
         write_part(alloc, out, names.unit, rule, part)?;
     }
-    let more = reading.parts.len().saturating_sub(MOST_PARTS);
+    let more = reading.parts.len().saturating_sub(MAX_PARTS);
     if more > 0 {
         writeln!(out, "  and {more} more")?;
     }

@@ -4,7 +4,7 @@ use explain_notes::{Input, place_of, quoted};
 use std::alloc::{AllocError, Global};
 
 /// The most faults that are written.
-const MOST_FAULTS: usize = 100;
+const MAX_FAULTS: usize = 100;
 
 /// An object of which something is said.
 #[derive(Clone, Copy, Drop)]
@@ -44,7 +44,7 @@ impl<'a> Report<'a> {
 
     /// Whether more faults than these aren't written.
     pub(crate) fn is_full(&self) -> bool {
-        self.faults >= MOST_FAULTS
+        self.faults >= MAX_FAULTS
     }
 
     /// What is written.

@@ -8,7 +8,7 @@ use std::alloc::{AllocError, Global};
 use std::slice;
 
 /// The most literals that are listed.
-const MOST_LISTED: usize = 12;
+const MAX_LISTED: usize = 12;
 
 /// The values that a member lists: one stands for a list of one, null for none.
 pub(crate) fn values_of(value: &Value) -> &[Value] {
@@ -54,7 +54,7 @@ fn literals(alloc: Global, model: &ClassModel, element: ElementType) -> Result<S
         if index != 0 {
             names.push_str(", ")?;
         }
-        if index == MOST_LISTED {
+        if index == MAX_LISTED {
             names.push_str("..")?;
             return Ok(names);
         }

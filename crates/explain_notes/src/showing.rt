@@ -3,7 +3,7 @@
 use std::alloc::{AllocError, Global};
 
 /// The longest value that is quoted whole, in characters.
-const MOST_QUOTED: usize = 60;
+const MAX_QUOTED: usize = 60;
 
 /// What stands for a character: a space for a tab, a question mark for what a terminal would obey.
 fn harmless(character: char) -> char {
@@ -42,7 +42,7 @@ pub fn shown(alloc: Global, bytes: &[u8]) -> Result<String, AllocError> {
 /// A text as it is quoted in a message: what `shown` shows of it, cut after 60 characters.
 pub fn quoted(alloc: Global, text: &str) -> Result<String, AllocError> {
     let mut out = String::new(alloc);
-    let mut left = MOST_QUOTED;
+    let mut left = MAX_QUOTED;
     for character in text.chars() {
         if left == 0 {
             out.push_str("..")?;

@@ -5,7 +5,7 @@ use ocl_tokens::{TextFault, TextFlaw, Token, TokenKind};
 use std::alloc::{AllocError, Global};
 
 /// The longest part of a text that is parsed again, in bytes.
-const MOST_PARSED: usize = 20_000;
+const MAX_PARSED: usize = 20_000;
 
 /// Tokens that go on with something, each by itself.
 static MARKS: [&str; 11] = [
@@ -88,7 +88,7 @@ pub(crate) fn wanted_at(
     offset: usize,
 ) -> Result<String, AllocError> {
     match str::from_utf8(context_before(text, tokens, offset)) {
-        Ok(part) if part.len() <= MOST_PARSED => followers(alloc, part),
+        Ok(part) if part.len() <= MAX_PARSED => followers(alloc, part),
         _ => Ok(String::new(alloc)),
     }
 }

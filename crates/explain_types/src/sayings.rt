@@ -16,7 +16,7 @@ use ocl_text::{BinaryOperator, Navigation};
 use std::alloc::{AllocError, Global};
 
 /// The most names that are listed.
-const MOST_LISTED: usize = 12;
+const MAX_LISTED: usize = 12;
 
 fn found(message: String, label: String, help: String) -> Stop {
     Stop::Found(Found {
@@ -302,7 +302,7 @@ fn literal_names(
 ) -> Result<String, AllocError> {
     let mut names = String::new(alloc);
     for index in 0..literal_count(model, enumeration) {
-        if index == MOST_LISTED {
+        if index == MAX_LISTED {
             list(&mut names, "..")?;
             return Ok(names);
         }

@@ -9,7 +9,8 @@ use Rattle.ocl_check.specs.declared.outcome.CommandFault.TheVariants.{OutOfMemor
 use Rattle.ocl_check.specs.declared.outcome.Outcome.{Outcome}
 use Rattle.ocl_check.specs.declared.outcome.Outcome.TheVariants.{Status, Failed}
 use Rattle.ocl_check.specs.Reply.{Answer}
-use Rattle.ocl_check.specs.Answers.{IsWithin, KeepsSink, KeepsUnread, input_failure, is_read, is_write, most_bytes}
+use Rattle.ocl_check.specs.declared.input.TheConstants.{MAX_INPUT}
+use Rattle.ocl_check.specs.Answers.{IsWithin, KeepsSink, KeepsUnread, input_failure, is_read, is_write}
 use Rattle.ocl_check.specs.Ending.{IsEnding, KeepsBy}
 
 -- what came of reading inputs
@@ -25,7 +26,7 @@ pub ending_as : {S : Type 0} {contents : S → Option (List ℕ)} {has_failed : 
 ending_as {S} {contents} {has_failed} {is_whole} {a} {b} {old} {new} {o} same h = subst (λ (x : Answer). IsEnding contents has_failed is_whole x old o new) same h
 
 -- an input within the limit is within it however the command ends
-pub within : (o : Outcome) (xs : List ℕ) → length xs ≤ most_bytes → IsWithin o xs
+pub within : (o : Outcome) (xs : List ℕ) → length xs ≤ MAX_INPUT → IsWithin o xs
 within (Status s) xs h = h
 within (Failed fault) xs h = tt
 

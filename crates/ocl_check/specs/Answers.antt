@@ -5,16 +5,13 @@ use Rattle.ocl_check.specs.declared.outcome.Outcome.{Outcome}
 use Rattle.ocl_check.specs.declared.outcome.Outcome.TheVariants.{Status, Failed}
 use Rattle.ocl_check.specs.declared.outcome.CommandFault.{CommandFault}
 use Rattle.ocl_check.specs.declared.outcome.CommandFault.TheVariants.{OutOfMemory, Read, Write}
+use Rattle.ocl_check.specs.declared.input.TheConstants.{MAX_INPUT}
 use Rattle.ocl_check.specs.declared.input.InputFault.{InputFault}
 use Rattle.ocl_check.specs.declared.input.InputFault.TheVariants as input
 use Rattle.ocl_check.specs.Input.{ConsumesAtMost}
 use Rattle.ocl_check.specs.Reply.{Answer}
 
 -- ---- what is read
-
--- the greatest number of bytes in an input
-abbrev pub most_bytes : ℕ
-most_bytes = 268435456
 
 -- these are the bytes that a reader said it had left; one that doesn't say may have had any
 abbrev pub MayHave : Option (List ℕ) → List ℕ → Type 0
@@ -23,7 +20,7 @@ MayHave (Some ws) xs = xs ≡ ws
 
 -- where a command ended with a status, its inputs are within the limit
 abbrev pub IsWithin : Outcome → List ℕ → Type 0
-IsWithin (Status s) xs = length xs ≤ most_bytes
+IsWithin (Status s) xs = length xs ≤ MAX_INPUT
 IsWithin (Failed fault) xs = ⊤
 
 -- an input that a command read, or would have read, has this fact
@@ -32,8 +29,8 @@ ReadBy outcome known Fact = (xs : List ℕ) × MayHave known xs × IsWithin outc
 
 -- whatever a command answers, at most one byte more than the limit was read of an input, by at most as many reads
 pub record IsReadWithinLimits (old new : Option (List ℕ)) (reads : ℕ) : Type 0 where
-  pub bytes : ConsumesAtMost old new (most_bytes + 1)
-  pub few : reads ≤ most_bytes + 1
+  pub bytes : ConsumesAtMost old new (MAX_INPUT + 1)
+  pub few : reads ≤ MAX_INPUT + 1
 
 -- no read of an input was made, so none has failed
 abbrev pub IsUnread : Bool → ℕ → Type 0

@@ -3,8 +3,9 @@ use Rattle.std.specs.Prelude.{◌≡◌, ◌≤◌, ℕ, Bool, true, false, List
 use Rattle.ocl_check.specs.declared.outcome.Outcome.{Outcome}
 use Rattle.ocl_check.specs.declared.outcome.Outcome.TheVariants.{Status, Failed}
 use Rattle.ocl_check.specs.declared.outcome.CommandFault.TheVariants.{OutOfMemory, Read, Write}
+use Rattle.ocl_check.specs.declared.input.TheConstants.{MAX_INPUT}
 use Rattle.ocl_check.specs.Reply.{Answer}
-use Rattle.ocl_check.specs.Answers.{IsAnswered, MayHave, fails_read, fails_write, most_bytes}
+use Rattle.ocl_check.specs.Answers.{IsAnswered, MayHave, fails_read, fails_write}
 
 -- The sink is as it was where a read failed, and where memory ran out if the answer is put together whole before its
 -- first byte is written.
@@ -23,4 +24,4 @@ pub record IsEnding {S : Type 0} (contents : S → Option (List ℕ)) (has_faile
 
 -- these bytes were read whole, within the limit
 abbrev pub IsInput : Option (List ℕ) → List ℕ → Type 0
-IsInput known bytes = MayHave known bytes × (length bytes ≤ most_bytes)
+IsInput known bytes = MayHave known bytes × (length bytes ≤ MAX_INPUT)

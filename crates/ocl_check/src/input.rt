@@ -4,7 +4,7 @@ ghost use Rattle.std.specs.Prelude.{◌≡◌, ◌≤◌, ◌<◌, ◌+◌, ◌^
 ghost use Rattle.std.specs.Io.KnownBytes.{Consumes, IsAtEnd};
 ghost use Rattle.ocl_check.specs.declared.input.InputFault.TheVariants as fault;
 ghost use Rattle.ocl_check.specs.Input.{ConsumesAtMost, CantBeRead};
-ghost use Rattle.ocl_check.specs.Answers.{IsReadWithinLimits, IsUnread, most_bytes};
+ghost use Rattle.ocl_check.specs.Answers.{IsReadWithinLimits, IsUnread};
 ghost use Rattle.ocl_check.specs.Ending.{IsInput};
 
 use crate::source::Source;
@@ -12,7 +12,7 @@ use std::alloc::Global;
 use thiserror::Error;
 
 /// The greatest number of bytes in an input.
-pub(crate) const MOST_BYTES: u64 = 268_435_456;
+pub const MAX_INPUT: u64 = 268_435_456;
 
 /// Why an input could not be read.
 #[derive(Clone, Copy, Debug, PartialEq, Eq, Error)]
@@ -85,15 +85,15 @@ pub(crate) fn read_two<A: Source, B: Source>(
     ensures second_read { IsReadWithinLimits (B.remaining second.old) (B.remaining second.new)
         (B.reads second.new) }
     ensures read_fault { result ≡ Err fault.Read →
-        CantBeRead most_bytes (A.remaining first.old) (A.remaining first.new)
+        CantBeRead MAX_INPUT (A.remaining first.old) (A.remaining first.new)
         (A.has_failed first.new) (A.reads first.new)
-        ⊎ CantBeRead most_bytes (B.remaining second.old) (B.remaining second.new)
+        ⊎ CantBeRead MAX_INPUT (B.remaining second.old) (B.remaining second.new)
         (B.has_failed second.new) (B.reads second.new) }
     ensures failed { (A.has_failed first.new || B.has_failed second.new) ≡ true →
         result ≡ Err fault.Read }
     ensures second_waits { IsAtEnd (A.remaining first.new) ⊎ (second.new ≡ second.old) }
 {
-    let bytes = read_input(alloc, first, MOST_BYTES)?;
-    let more = read_input(alloc, second, MOST_BYTES)?;
+    let bytes = read_input(alloc, first, MAX_INPUT)?;
+    let more = read_input(alloc, second, MAX_INPUT)?;
     Ok((bytes, more))
 }

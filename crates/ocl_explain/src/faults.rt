@@ -10,7 +10,7 @@ use ocl_types::{RulesFault, check_rules};
 use std::alloc::{AllocError, Global};
 
 /// The most faults of a text that are said.
-const MOST_FAULTS: usize = 20;
+const MAX_FAULTS: usize = 20;
 
 /// What is looked for in a text, and how many faults were said already.
 #[derive(Drop)]
@@ -24,7 +24,7 @@ impl Search<'_> {
     /// Whether one more fault is said.
     fn says_one_more(&mut self) -> bool {
         self.said = self.said.saturating_add(1);
-        self.said <= MOST_FAULTS
+        self.said <= MAX_FAULTS
     }
 
     /// Writes the first fault of the types of each of these rules.

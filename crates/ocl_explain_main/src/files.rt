@@ -1,14 +1,11 @@
 //! Inputs that are read whole before any is looked at, outputs, and why one fails.
 
 use explain_notes::Input;
-use ocl_check::{CommandFault, Counting, InputFault, read_input};
+use ocl_check::{CommandFault, Counting, InputFault, MAX_INPUT, read_input};
 use ocl_explain::Keeping;
 use ocl_programs::STANDARD_INPUT;
 use std::fs;
 use std::io::{Error, Read};
-
-/// The greatest number of bytes in an input.
-const MOST_BYTES: u64 = 268_435_456;
 
 /// An input that was read.
 #[derive(Drop)]
@@ -48,13 +45,13 @@ fn read_whole<'a, R: Read + Drop>(
     reader: R,
 ) -> Result<Bytes<'a>, CommandFault> {
     let mut source = Counting::new(Keeping::new(reader));
-    match read_input(rt.alloc(), &mut source, MOST_BYTES) {
+    match read_input(rt.alloc(), &mut source, MAX_INPUT) {
         Ok(bytes) => Ok(Bytes { path, bytes }),
         Err(InputFault::OutOfMemory) => Err(CommandFault::OutOfMemory),
         Err(InputFault::Read) => {
             let _ = match source.into_inner().error() {
                 Some(error) => eprintln!(rt; "{path}: it can't be read: {error}"),
-                None => eprintln!(rt; "{path}: it has more than {MOST_BYTES} bytes"),
+                None => eprintln!(rt; "{path}: it has more than {MAX_INPUT} bytes"),
             };
             Err(CommandFault::Read)
         }

@@ -3,14 +3,14 @@
 ghost use Rattle.std.specs.Prelude.{◌≡◌, ◌⊎◌, ◌||◌, true, false, Err, IfOk, OnOk};
 ghost use Rattle.std.specs.Io.KnownBytes.{IsAtEnd};
 ghost use Rattle.ocl_check.specs.declared.input.InputFault.TheVariants as fault;
-ghost use Rattle.ocl_check.specs.Answers.{IsAnswered, IsReadWithinLimits, IsUnread, ReadBy, fails_read, fails_write, most_bytes};
+ghost use Rattle.ocl_check.specs.Answers.{IsAnswered, IsReadWithinLimits, IsUnread, ReadBy, fails_read, fails_write};
 ghost use Rattle.ocl_check.specs.Asking.{ReadingFor, answer_by, is_whole_asked};
 ghost use Rattle.ocl_check.specs.Ending.{IsEnding, IsInput, KeepsBy};
 ghost use Rattle.ocl_check.specs.Input.{CantBeRead};
 ghost use Rattle.ocl_check.specs.ThreeInputs.{delivery_answer, population_of, inputs_answer};
 
 use crate::commands::rules::{Asked, answer_rules};
-use crate::input::{InputFault, MOST_BYTES, read_input, read_two};
+use crate::input::{InputFault, MAX_INPUT, read_input, read_two};
 use crate::laws::each_text_is_read;
 use crate::outcome::{CommandFault, Outcome, answer};
 use crate::reply::{refused_delivery, refused_model};
@@ -97,11 +97,11 @@ pub(crate) fn read_inputs<M: Source, D: Source, R: Source>(
     ensures rules_read { IsReadWithinLimits (R.remaining rules.old) (R.remaining rules.new)
         (R.reads rules.new) }
     ensures read_fault { result ≡ Err fault.Read →
-        CantBeRead most_bytes (M.remaining model.old) (M.remaining model.new)
+        CantBeRead MAX_INPUT (M.remaining model.old) (M.remaining model.new)
         (M.has_failed model.new) (M.reads model.new)
-        ⊎ (CantBeRead most_bytes (D.remaining delivery.old) (D.remaining delivery.new)
+        ⊎ (CantBeRead MAX_INPUT (D.remaining delivery.old) (D.remaining delivery.new)
         (D.has_failed delivery.new) (D.reads delivery.new)
-        ⊎ CantBeRead most_bytes (R.remaining rules.old) (R.remaining rules.new)
+        ⊎ CantBeRead MAX_INPUT (R.remaining rules.old) (R.remaining rules.new)
         (R.has_failed rules.new) (R.reads rules.new)) }
     ensures failed { (M.has_failed model.new || D.has_failed delivery.new
         || R.has_failed rules.new) ≡ true → result ≡ Err fault.Read }
@@ -109,7 +109,7 @@ pub(crate) fn read_inputs<M: Source, D: Source, R: Source>(
     ensures rules_wait { IsAtEnd (D.remaining delivery.new) ⊎ (rules.new ≡ rules.old) }
 {
     let (model, delivery) = read_two(alloc, model, delivery)?;
-    let rules = read_input(alloc, rules, MOST_BYTES)?;
+    let rules = read_input(alloc, rules, MAX_INPUT)?;
     Ok(Inputs {
         model,
         delivery,
@@ -145,11 +145,11 @@ pub(crate) fn ask<M: Source, D: Source, R: Source, S: Sink>(
     ensures rules_read { IsReadWithinLimits (R.remaining rules.old) (R.remaining rules.new)
         (R.reads rules.new) }
     ensures read_fault { fails_read result ≡ true →
-        CantBeRead most_bytes (M.remaining model.old) (M.remaining model.new)
+        CantBeRead MAX_INPUT (M.remaining model.old) (M.remaining model.new)
         (M.has_failed model.new) (M.reads model.new)
-        ⊎ (CantBeRead most_bytes (D.remaining delivery.old) (D.remaining delivery.new)
+        ⊎ (CantBeRead MAX_INPUT (D.remaining delivery.old) (D.remaining delivery.new)
         (D.has_failed delivery.new) (D.reads delivery.new)
-        ⊎ CantBeRead most_bytes (R.remaining rules.old) (R.remaining rules.new)
+        ⊎ CantBeRead MAX_INPUT (R.remaining rules.old) (R.remaining rules.new)
         (R.has_failed rules.new) (R.reads rules.new)) }
     ensures failed { (M.has_failed model.new || D.has_failed delivery.new
         || R.has_failed rules.new) ≡ true → fails_read result ≡ true }

@@ -2,7 +2,8 @@
 
 ghost use Rattle.std.specs.Prelude.{◌≡◌, ◌⊎◌, ◌||◌, ◌++◌, true, false, IfOk, OnOk, string_bytes};
 ghost use Rattle.std.specs.Io.KnownBytes.{IsAtEnd};
-ghost use Rattle.ocl_check.specs.Answers.{IsAnswered, IsReadWithinLimits, IsUnread, KeepsSink, ReadBy, fails_read, fails_write, most_bytes};
+ghost use Rattle.ocl_check.specs.declared.input.TheConstants.{MAX_INPUT};
+ghost use Rattle.ocl_check.specs.Answers.{IsAnswered, IsReadWithinLimits, IsUnread, KeepsSink, ReadBy, fails_read, fails_write};
 ghost use Rattle.ocl_check.specs.Bound.{bound_line_of, bound_lines, bound_answer};
 ghost use Rattle.ocl_check.specs.Input.{CantBeRead};
 ghost use Rattle.ocl_check.specs.Reply.{said};
@@ -78,11 +79,11 @@ pub fn run_bound<M: Source, D: Source, C: Source, S: Sink>(
     ensures code_read { IsReadWithinLimits (C.remaining code.old) (C.remaining code.new)
         (C.reads code.new) }
     ensures read_fault { fails_read result ≡ true →
-        CantBeRead most_bytes (M.remaining model.old) (M.remaining model.new)
+        CantBeRead MAX_INPUT (M.remaining model.old) (M.remaining model.new)
         (M.has_failed model.new) (M.reads model.new)
-        ⊎ (CantBeRead most_bytes (D.remaining delivery.old) (D.remaining delivery.new)
+        ⊎ (CantBeRead MAX_INPUT (D.remaining delivery.old) (D.remaining delivery.new)
         (D.has_failed delivery.new) (D.reads delivery.new)
-        ⊎ CantBeRead most_bytes (C.remaining code.old) (C.remaining code.new)
+        ⊎ CantBeRead MAX_INPUT (C.remaining code.old) (C.remaining code.new)
         (C.has_failed code.new) (C.reads code.new)) }
     ensures failed { (M.has_failed model.new || D.has_failed delivery.new
         || C.has_failed code.new) ≡ true → fails_read result ≡ true }

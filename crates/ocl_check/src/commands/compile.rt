@@ -3,7 +3,8 @@
 ghost use Rattle.std.specs.Prelude.{◌≡◌, ◌⊎◌, ◌||◌, true, false, IfOk, IsOk};
 ghost use Rattle.std.specs.Io.KnownBytes.{IsAtEnd};
 ghost use Rattle.rule_code.specs.View.{content};
-ghost use Rattle.ocl_check.specs.Answers.{IsAnswered, IsReadWithinLimits, IsUnread, KeepsSink, ReadBy, fails_read, fails_write, most_bytes};
+ghost use Rattle.ocl_check.specs.declared.input.TheConstants.{MAX_INPUT};
+ghost use Rattle.ocl_check.specs.Answers.{IsAnswered, IsReadWithinLimits, IsUnread, KeepsSink, ReadBy, fails_read, fails_write};
 ghost use Rattle.ocl_check.specs.Compile.{CompileAnswer, compiled_code, compiled_answer, compile_answer, HasUnit, HasUnitFor, IsCodeWritten, IsOfUnit};
 ghost use Rattle.ocl_check.specs.Input.{CantBeRead};
 ghost use Rattle.ocl_check.specs.Reply.{said};
@@ -168,9 +169,9 @@ pub fn run_compile<M: Source, R: Source, O: Sink, S: Sink>(
     ensures rules_read { IsReadWithinLimits (R.remaining rules.old) (R.remaining rules.new)
         (R.reads rules.new) }
     ensures read_fault { fails_read result ≡ true →
-        CantBeRead most_bytes (M.remaining model.old) (M.remaining model.new)
+        CantBeRead MAX_INPUT (M.remaining model.old) (M.remaining model.new)
         (M.has_failed model.new) (M.reads model.new)
-        ⊎ CantBeRead most_bytes (R.remaining rules.old) (R.remaining rules.new)
+        ⊎ CantBeRead MAX_INPUT (R.remaining rules.old) (R.remaining rules.new)
         (R.has_failed rules.new) (R.reads rules.new) }
     ensures failed { (M.has_failed model.new || R.has_failed rules.new) ≡ true →
         fails_read result ≡ true }

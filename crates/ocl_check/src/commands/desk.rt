@@ -6,7 +6,7 @@ ghost use Rattle.imkl_population.specs.Sizes.{sizes_of};
 ghost use Rattle.rule_cost.specs.Admission.{Fits};
 ghost use Rattle.desk_script.specs.Script.{script_of};
 ghost use Rattle.ocl_check.specs.declared.input.InputFault.TheVariants as fault;
-ghost use Rattle.ocl_check.specs.Answers.{IsAnswered, IsReadWithinLimits, IsUnread, KeepsUnread, ReadBy, fails_read, fails_write, most_bytes};
+ghost use Rattle.ocl_check.specs.Answers.{IsAnswered, IsReadWithinLimits, IsUnread, KeepsUnread, ReadBy, fails_read, fails_write};
 ghost use Rattle.ocl_check.specs.Desk.{script_answer, calls_answer, desk_answer};
 ghost use Rattle.ocl_check.specs.Ending.{IsEnding, IsInput};
 ghost use Rattle.ocl_check.specs.Input.{CantBeRead};
@@ -14,7 +14,7 @@ ghost use Rattle.ocl_check.specs.Input.{CantBeRead};
 use crate::commands::asking::{Inputs, answer_inputs, read_inputs};
 use crate::commands::judge::MAX_BUDGET;
 use crate::commands::rules::{Asked, Question};
-use crate::input::{InputFault, MOST_BYTES, read_input};
+use crate::input::{InputFault, MAX_INPUT, read_input};
 use crate::outcome::{CommandFault, Outcome, answer};
 use crate::reply::{refused_cost, refused_script};
 use crate::source::Source;
@@ -114,13 +114,13 @@ fn read_all<M: Source, D: Source, C: Source, P: Source>(
     ensures script_read { IsReadWithinLimits (P.remaining script.old) (P.remaining script.new)
         (P.reads script.new) }
     ensures read_fault { result ≡ Err fault.Read →
-        CantBeRead most_bytes (M.remaining model.old) (M.remaining model.new)
+        CantBeRead MAX_INPUT (M.remaining model.old) (M.remaining model.new)
         (M.has_failed model.new) (M.reads model.new)
-        ⊎ (CantBeRead most_bytes (D.remaining delivery.old) (D.remaining delivery.new)
+        ⊎ (CantBeRead MAX_INPUT (D.remaining delivery.old) (D.remaining delivery.new)
         (D.has_failed delivery.new) (D.reads delivery.new)
-        ⊎ (CantBeRead most_bytes (C.remaining code.old) (C.remaining code.new)
+        ⊎ (CantBeRead MAX_INPUT (C.remaining code.old) (C.remaining code.new)
         (C.has_failed code.new) (C.reads code.new)
-        ⊎ CantBeRead most_bytes (P.remaining script.old) (P.remaining script.new)
+        ⊎ CantBeRead MAX_INPUT (P.remaining script.old) (P.remaining script.new)
         (P.has_failed script.new) (P.reads script.new))) }
     ensures failed { (M.has_failed model.new || D.has_failed delivery.new
         || C.has_failed code.new || P.has_failed script.new) ≡ true → result ≡ Err fault.Read }
@@ -129,7 +129,7 @@ fn read_all<M: Source, D: Source, C: Source, P: Source>(
     ensures script_waits { IsAtEnd (C.remaining code.new) ⊎ (script.new ≡ script.old) }
 {
     let inputs = read_inputs(alloc, model, delivery, code)?;
-    let script = read_input(alloc, script, MOST_BYTES)?;
+    let script = read_input(alloc, script, MAX_INPUT)?;
     Ok((inputs, script))
 }
 
@@ -168,13 +168,13 @@ pub fn run_desk<M: Source, D: Source, C: Source, P: Source, S: Sink>(
     ensures script_read { IsReadWithinLimits (P.remaining script.old) (P.remaining script.new)
         (P.reads script.new) }
     ensures read_fault { fails_read result ≡ true →
-        CantBeRead most_bytes (M.remaining model.old) (M.remaining model.new)
+        CantBeRead MAX_INPUT (M.remaining model.old) (M.remaining model.new)
         (M.has_failed model.new) (M.reads model.new)
-        ⊎ (CantBeRead most_bytes (D.remaining delivery.old) (D.remaining delivery.new)
+        ⊎ (CantBeRead MAX_INPUT (D.remaining delivery.old) (D.remaining delivery.new)
         (D.has_failed delivery.new) (D.reads delivery.new)
-        ⊎ (CantBeRead most_bytes (C.remaining code.old) (C.remaining code.new)
+        ⊎ (CantBeRead MAX_INPUT (C.remaining code.old) (C.remaining code.new)
         (C.has_failed code.new) (C.reads code.new)
-        ⊎ CantBeRead most_bytes (P.remaining script.old) (P.remaining script.new)
+        ⊎ CantBeRead MAX_INPUT (P.remaining script.old) (P.remaining script.new)
         (P.has_failed script.new) (P.reads script.new))) }
     ensures failed { (M.has_failed model.new || D.has_failed delivery.new
         || C.has_failed code.new || P.has_failed script.new) ≡ true → fails_read result ≡ true }

@@ -4,7 +4,8 @@ ghost use Rattle.std.specs.Prelude.{◌≡◌, ◌⊎◌, ◌||◌, ◌+◌, tru
 ghost use Rattle.std.specs.Io.KnownBytes.{IsAtEnd};
 ghost use Rattle.imkl_population.specs.Sizes.{sizes_of};
 ghost use Rattle.rule_cost.specs.Admission.{Fits};
-ghost use Rattle.ocl_check.specs.Answers.{IsAnsweredBy, IsReadWithinLimits, IsUnread, KeepsUnread, ReadBy, fails_read, fails_write, most_bytes};
+ghost use Rattle.ocl_check.specs.declared.input.TheConstants.{MAX_INPUT};
+ghost use Rattle.ocl_check.specs.Answers.{IsAnsweredBy, IsReadWithinLimits, IsUnread, KeepsUnread, ReadBy, fails_read, fails_write};
 ghost use Rattle.ocl_check.specs.Ending.{IsEnding};
 ghost use Rattle.ocl_check.specs.Input.{CantBeRead};
 ghost use Rattle.ocl_check.specs.Judge.{status_of, report_answer, budget_answer};
@@ -146,11 +147,11 @@ pub fn run_judge<M: Source, D: Source, R: Source, S: Sink>(
         (R.reads rules.new) }
     // A failed read is answered only where an input can't be read, and then it is, where a read failed.
     ensures read_fault { fails_read result ≡ true →
-        CantBeRead most_bytes (M.remaining model.old) (M.remaining model.new)
+        CantBeRead MAX_INPUT (M.remaining model.old) (M.remaining model.new)
         (M.has_failed model.new) (M.reads model.new)
-        ⊎ (CantBeRead most_bytes (D.remaining delivery.old) (D.remaining delivery.new)
+        ⊎ (CantBeRead MAX_INPUT (D.remaining delivery.old) (D.remaining delivery.new)
         (D.has_failed delivery.new) (D.reads delivery.new)
-        ⊎ CantBeRead most_bytes (R.remaining rules.old) (R.remaining rules.new)
+        ⊎ CantBeRead MAX_INPUT (R.remaining rules.old) (R.remaining rules.new)
         (R.has_failed rules.new) (R.reads rules.new)) }
     ensures failed { (M.has_failed model.new || D.has_failed delivery.new
         || R.has_failed rules.new) ≡ true → fails_read result ≡ true }

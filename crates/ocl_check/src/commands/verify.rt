@@ -6,7 +6,8 @@ ghost use Rattle.rule_code.specs.View.{content};
 ghost use Rattle.rule_code.specs.CodeFile.{unit_of};
 ghost use Rattle.rule_verify.specs.UnitRules.{check_unit};
 ghost use Rattle.ocl_check.specs.Reply.{said};
-ghost use Rattle.ocl_check.specs.Answers.{IsAnswered, IsReadWithinLimits, IsUnread, KeepsSink, ReadBy, fails_read, fails_write, most_bytes};
+ghost use Rattle.ocl_check.specs.declared.input.TheConstants.{MAX_INPUT};
+ghost use Rattle.ocl_check.specs.Answers.{IsAnswered, IsReadWithinLimits, IsUnread, KeepsSink, ReadBy, fails_read, fails_write};
 ghost use Rattle.ocl_check.specs.Input.{CantBeRead};
 ghost use Rattle.ocl_check.specs.Verify.{checked_answer, verify_code_answer, verify_answer};
 
@@ -77,9 +78,9 @@ pub fn run_verify<M: Source, C: Source, S: Sink>(
     ensures code_read { IsReadWithinLimits (C.remaining code.old) (C.remaining code.new)
         (C.reads code.new) }
     ensures read_fault { fails_read result ≡ true →
-        CantBeRead most_bytes (M.remaining model.old) (M.remaining model.new)
+        CantBeRead MAX_INPUT (M.remaining model.old) (M.remaining model.new)
         (M.has_failed model.new) (M.reads model.new)
-        ⊎ CantBeRead most_bytes (C.remaining code.old) (C.remaining code.new)
+        ⊎ CantBeRead MAX_INPUT (C.remaining code.old) (C.remaining code.new)
         (C.has_failed code.new) (C.reads code.new) }
     ensures failed { (M.has_failed model.new || C.has_failed code.new) ≡ true →
         fails_read result ≡ true }
