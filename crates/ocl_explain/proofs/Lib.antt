@@ -3,3 +3,4 @@ pub mod Named
 pub mod Told
 pub mod Judging
 pub mod Refusing
+pub mod Answering

@@ -1,5 +1,5 @@
 -- Where an input is refused each answer of `judge` has status 2.
-use Rattle.std.proofs.Common.{◌≡◌, ◌⊎◌, inl, inr, ◌∙◌, ℕ, true, List, [], Result, Ok, Err, refl, sym, ap}
+use Rattle.std.proofs.Common.{◌≡◌, ◌⊎◌, inl, inr, ◌∙◌, ℕ, true, List, Result, Ok, Err, refl, sym, ap}
 use Rattle.imkl_model.specs.declared.fault.ModelFault.{ModelFault}
 use Rattle.imkl_model.specs.ClassModel.{Model}
 use Rattle.imkl_population.specs.Population.{Population}
@@ -52,9 +52,6 @@ module _ (model bytes rules : List ℕ) where
       by (inl loose) = loose_refused model bytes u loose.1
       by (inr same) = ap (λ (x : TextReading). (judge_text_answer MAX_BUDGET model bytes x).1) (sym same) ∙ refused
 
-  -- the line that was printed, if one was, is that of a refusal
-  pub line_refuses : ReadingsAreDetermined → IsRefused → (line : List ℕ) → (line ≡ []) ⊎ ((s : ℕ) × JudgeAnswersBy Text MAX_BUDGET model bytes rules (line, s)) → (line ≡ []) ⊎ IsRefusedBy model bytes rules line
-  line_refuses determined refused line (inl none) = inl none
-  line_refuses determined refused line (inr (s, (u, reads, is))) =
-      let two : s ≡ 2 = ap (λ (a : Answer). a.1) is ∙ each_refused determined refused u reads in
-      inr (u, reads, ap (λ (n : ℕ). (line, n)) (sym two) ∙ is)
+  -- so an answer of `judge` is a refusal
+  pub answer_refuses : ReadingsAreDetermined → IsRefused → (answer : Answer) → JudgeAnswersBy Text MAX_BUDGET model bytes rules answer → IsRefusedBy model bytes rules answer
+  answer_refuses determined refused answer (u, reads, is) = ((u, reads, is), ap (λ (a : Answer). a.1) is ∙ each_refused determined refused u reads)

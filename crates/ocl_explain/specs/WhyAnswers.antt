@@ -1,6 +1,6 @@
--- What `why` answers of the bytes of its inputs, a rule's name and an object's id: the explanation of the rule's verdict, or that
--- there is none, or the line by which `judge` refuses an input.
-use Rattle.std.specs.Prelude.{◌≡◌, ◌⊎◌, ℕ, bytes_eq, List, [], ◌∷◌, Option, Some, None, Ok, string_bytes, if◌then◌else◌}
+-- What `why` prints of the bytes of its inputs, a rule's name and an object's id, and its status: the explanation of the rule's
+-- verdict; nothing, where there is none; or the line by which `judge` refuses an input.
+use Rattle.std.specs.Prelude.{◌≡◌, ◌⊎◌, ◌+◌, ℕ, bytes_eq, List, [], ◌∷◌, Option, Some, None, Ok, if◌then◌else◌}
 use Rattle.imkl_model.specs.ClassModel.{Model}
 use Rattle.imkl_population.specs.Population.{Population, is_instance, object_number}
 use Rattle.ocl_text.specs.Tree.{Rule}
@@ -8,12 +8,11 @@ use Rattle.ocl_core.specs.Core.{CheckedRule}
 use Rattle.ocl_types.specs.AllRules.{elaborate_rules}
 use Rattle.ocl_check.specs.declared.commands.judge.RulesForm.TheVariants.{Text}
 use Rattle.ocl_check.specs.declared.commands.judge.TheConstants.{MAX_BUDGET}
+use Rattle.ocl_check.specs.Reply.{Answer}
 use Rattle.ocl_check.specs.TextReading.{ReadsAs}
 use Rattle.ocl_check.specs.ThreeInputs.{model_of, population_of}
 use Rattle.ocl_check.specs.JudgeText.{meant_answer, text_answer, JudgeAnswersBy}
 use Rattle.explain_why.specs.Explanation.{explanation}
-use Rattle.ocl_explain.specs.declared.verdicts.Why.{Why}
-use Rattle.ocl_explain.specs.declared.verdicts.Why.TheVariants.{Explained, Refused, Unknown}
 
 -- ---- a population and rules
 
@@ -42,33 +41,30 @@ module _ (p : Population) where
 
 -- ---- inputs
 
--- the explanation is this one, and where there is none it is said in words
-abbrev pub IsExplainedBy : Option (List ℕ) → Why → Type 0
-IsExplainedBy text (Explained words) = text ≡ Some (string_bytes words)
-IsExplainedBy text (Unknown words) = text ≡ None
-IsExplainedBy text (Refused line words) = ⊥
+-- the explanation with status 0; nothing, with status 2, where there is none
+abbrev pub why_answer : Option (List ℕ) → Answer
+why_answer None = ([], 2)
+why_answer (Some text) = (text, 0)
 
 -- What is told of a population and the bytes of a text: they are read as rules that have types, and the answer of `judge` is the
 -- report of what these mean of this population.
-abbrev pub IsToldOf : Population → List ℕ → List ℕ → List ℕ → Why → Type 0
-IsToldOf p rules name id why =
+abbrev pub IsToldOf : Population → List ℕ → List ℕ → List ℕ → Answer → Type 0
+IsToldOf p rules name id answer =
     (t : List Rule) × (rs : List CheckedRule) × ReadsAs rules (Ok t) × (elaborate_rules p.model 0 t ≡ Ok rs)
-    × (text_answer MAX_BUDGET (Ok t) p ≡ meant_answer p rs) × IsExplainedBy (why_text p rs name id) why
+    × (text_answer MAX_BUDGET (Ok t) p ≡ meant_answer p rs) × (answer ≡ why_answer (why_text p rs name id))
 
 -- what is told of a class model and the bytes of a delivery and a text: the delivery describes a population
-abbrev pub IsToldIn : Model → List ℕ → List ℕ → List ℕ → List ℕ → Why → Type 0
-IsToldIn m delivery rules name id why = (p : Population) × (population_of m delivery ≡ Ok p) × IsToldOf p rules name id why
+abbrev pub IsToldIn : Model → List ℕ → List ℕ → List ℕ → List ℕ → Answer → Type 0
+IsToldIn m delivery rules name id answer = (p : Population) × (population_of m delivery ≡ Ok p) × IsToldOf p rules name id answer
 
 -- what is told of the bytes of inputs: the first describes a class model
-abbrev pub IsTold : List ℕ → List ℕ → List ℕ → List ℕ → List ℕ → Why → Type 0
-IsTold model delivery rules name id why = (m : Model) × (model_of model ≡ Ok m) × IsToldIn m delivery rules name id why
+abbrev pub IsTold : List ℕ → List ℕ → List ℕ → List ℕ → List ℕ → Answer → Type 0
+IsTold model delivery rules name id answer = (m : Model) × (model_of model ≡ Ok m) × IsToldIn m delivery rules name id answer
 
--- the answer of `judge` to inputs of which one is refused
-abbrev pub IsRefusedBy : List ℕ → List ℕ → List ℕ → List ℕ → Type 0
-IsRefusedBy model delivery rules line = JudgeAnswersBy Text MAX_BUDGET model delivery rules (line, 2)
+-- the answer of `judge` to inputs of which it refuses one
+abbrev pub IsRefusedBy : List ℕ → List ℕ → List ℕ → Answer → Type 0
+IsRefusedBy model delivery rules answer = JudgeAnswersBy Text MAX_BUDGET model delivery rules answer × (answer.1 ≡ 2)
 
--- What `why` may answer. Where an input is refused it is the line of `judge`, or nothing where that can't read an input.
-abbrev pub WhyAnswers : List ℕ → List ℕ → List ℕ → List ℕ → List ℕ → Why → Type 0
-WhyAnswers model delivery rules name id (Explained words) = IsTold model delivery rules name id (Explained words)
-WhyAnswers model delivery rules name id (Unknown words) = IsTold model delivery rules name id (Unknown words)
-WhyAnswers model delivery rules name id (Refused line words) = (line.items ≡ []) ⊎ IsRefusedBy model delivery rules line.items
+-- what `why` may answer: one answer, but where a text is refused as Syntax or TooDeep
+abbrev pub WhyAnswers : List ℕ → List ℕ → List ℕ → List ℕ → List ℕ → Answer → Type 0
+WhyAnswers model delivery rules name id answer = IsTold model delivery rules name id answer ⊎ IsRefusedBy model delivery rules answer

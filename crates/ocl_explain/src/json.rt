@@ -6,24 +6,10 @@ ghost use Rattle.ocl_check.specs.Reply.{Answer};
 ghost use Rattle.report_json.specs.JsonAnswers.{json_answer, JsonAnswers};
 
 use crate::answers::answer_judge;
+use crate::writing::write_answer;
 use ocl_check::{CommandFault, JudgeOptions, Outcome, Sink, Telling};
 use report_json::json_of_report;
-use rule_report::write_and_flush;
 use std::alloc::Global;
-
-/// Writes an answer that has this status.
-fn write_answer<S: Sink>(sink: &mut S, text: &[u8], status: u8) -> Outcome
-    requires { S.has_failed sink.old ≡ false }
-    ensures answered { IsAnswered (text.now, status) (S.contents sink.old)
-        (S.contents sink.new) result }
-    ensures sink { S.has_failed sink.new ≡ fails_write result }
-    ensures kept { KeepsSink result sink.old sink.new }
-{
-    match write_and_flush(sink, text) {
-        Ok(()) => Outcome::Status(status),
-        Err(_failed) => Outcome::Failed(CommandFault::Write),
-    }
-}
 
 /// Writes an answer of `judge` that has this status: a report as JSON, and of a refusal its line.
 fn write_json<S: Sink>(alloc: Global, sink: &mut S, text: &[u8], status: u8) -> Outcome

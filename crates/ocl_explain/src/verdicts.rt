@@ -1,6 +1,6 @@
-//! Why a rule of a text has its verdict for an object.
+//! What is told of a rule and an object: the explanation of the verdict, or that there is none.
 
-ghost use Rattle.std.specs.Prelude.{◌≡◌, ◌⊎◌, ◌<◌, ℕ, [], List, Ok, length, map, IfOk, IfSome};
+ghost use Rattle.std.specs.Prelude.{◌≡◌, ◌<◌, List, Ok, length, map, IfOk, IfSome};
 ghost use Rattle.std.specs.List.{AllByRecursion};
 ghost use Rattle.imkl_population.specs.Population.{object_number};
 ghost use Rattle.ocl_text.specs.RuleText.{NamesDiffer};
@@ -11,20 +11,18 @@ ghost use Rattle.ocl_core.specs.Typing.{IsTypedRule};
 ghost use Rattle.ocl_types.specs.AllRules.{elaborate_rules};
 ghost use Rattle.ocl_check.specs.TextReading.{TextReading, ReadsAs};
 ghost use Rattle.ocl_check.specs.ThreeInputs.{delivery_answer, population_of};
-ghost use Rattle.ocl_check.specs.JudgeText.{meant_answer, text_answer, judge_text_answer, JudgeAnswers};
-ghost use Rattle.ocl_explain.specs.Judged.{typed_answer, IsFound};
-ghost use Rattle.ocl_explain.specs.WhyAnswers.{judged_text, object_text, why_text, IsExplainedBy, IsToldOf, IsToldIn, IsTold, WhyAnswers};
+ghost use Rattle.ocl_check.specs.JudgeText.{meant_answer, text_answer, judge_text_answer};
+ghost use Rattle.ocl_explain.specs.Judged.{typed_answer, printed, IsExplainedBy, IsFound};
+ghost use Rattle.ocl_explain.specs.WhyAnswers.{judged_text, object_text, why_text, IsToldOf, IsToldIn, IsTold};
 
-use crate::answers::answer_judge;
 use crate::judged::is_judged;
-use crate::refusals::explain_judge;
 use explain_notes::{Input, Nearest};
 use explain_why::explain_verdict;
 use imkl_delivery::{DeliveryFault, load};
 use imkl_model::{ClassModel, ModelFault};
 use imkl_population::{ObjectNo, Population};
-use ocl_check::laws::{each_text_is_read, readings_are_determined};
-use ocl_check::{CommandFault, JudgeOptions, MAX_BUDGET, Outcome, RulesForm, Telling};
+use ocl_check::MAX_BUDGET;
+use ocl_check::laws::each_text_is_read;
 use ocl_core::CoreRule;
 use ocl_text::{SurfaceRule, parse_rules};
 use ocl_tokens::TextFault;
@@ -46,38 +44,13 @@ pub struct WhyAsked<'a> {
     pub id: &'a str,
 }
 
-/// What is answered.
+/// What is told of a rule and an object.
 #[derive(Drop)]
-pub enum Why {
+pub(crate) enum Why {
     /// The explanation.
     Explained(String),
-    /// An input is refused: the line that `judge` prints, and why, in words.
-    Refused(Vec<u8>, String),
     /// There is no such rule or object, or it isn't one that the rule judges, in words.
     Unknown(String),
-}
-
-/// How the rules are judged that are explained.
-const OPTIONS: JudgeOptions = JudgeOptions {
-    form: RulesForm::Text,
-    budget: MAX_BUDGET,
-};
-
-/// What `judge` prints of inputs of which it refuses one: nothing where it can't read one.
-fn refusal(alloc: Global, asked: WhyAsked<'_>) -> Result<Vec<u8>, AllocError>
-    ensures { IfOk result (λ line. (line.items ≡ []) ⊎ ((s : ℕ)
-        × JudgeAnswers OPTIONS asked.entry.model.bytes.now asked.entry.delivery.bytes.now
-        asked.entry.rules.bytes.now (line.items, s))) }
-{
-    let mut printed = Telling::new(Vec::new(alloc));
-    let (model, delivery) = (asked.model.bytes, asked.delivery.bytes);
-    let rules = asked.rules.bytes;
-    match answer_judge(alloc, OPTIONS, model, delivery, rules, &mut printed) {
-        Outcome::Status(_) => Ok(printed.into_inner()),
-        Outcome::Failed(CommandFault::Read) => Ok(Vec::new(alloc)),
-        // Memory takes all bytes that there is room for.
-        Outcome::Failed(_) => Err(AllocError),
-    }
 }
 
 /// The object of an id.
@@ -133,7 +106,7 @@ fn not_judged(
     )
 }
 
-/// What is answered of a rule and an object of a population.
+/// What is told of a rule and an object of a population.
 fn answer_object(
     alloc: Global,
     asked: WhyAsked<'_>,
@@ -157,7 +130,7 @@ fn answer_object(
     Ok(Why::Unknown(not_judged(alloc, asked, context, class)?))
 }
 
-/// What is answered of a rule and a population.
+/// What is told of a rule and a population.
 fn answer_rule(
     alloc: Global,
     asked: WhyAsked<'_>,
@@ -174,7 +147,7 @@ fn answer_rule(
     }
 }
 
-/// What is answered of typed rules and a population.
+/// What is told of typed rules and a population.
 fn answer_rules(
     alloc: Global,
     asked: WhyAsked<'_>,
@@ -194,7 +167,7 @@ fn answer_rules(
     Ok(Why::Unknown(unknown_rule(alloc, asked, rules)?))
 }
 
-/// What is answered of typed rules and a population; nothing where `judge` refuses the rules.
+/// What is told of typed rules and a population; nothing where `judge` refuses the rules.
 fn answer_typed(
     alloc: Global,
     asked: WhyAsked<'_>,
@@ -217,7 +190,7 @@ fn answer_typed(
     }
 }
 
-/// What is answered of the rules of a text that are read, and a population; nothing where `judge` refuses the rules.
+/// What is told of the rules of a text that are read, and a population; nothing where `judge` refuses the rules.
 fn answer_surface(
     alloc: Global,
     asked: WhyAsked<'_>,
@@ -239,14 +212,14 @@ fn answer_surface(
     }
 }
 
-/// What is answered of the rules of a text and a population; nothing where `judge` refuses the rules.
+/// What is told of the rules of a text and a population; nothing where `judge` refuses the rules.
 fn answer_text(
     alloc: Global,
     asked: WhyAsked<'_>,
     population: &Population<'_>,
 ) -> Result<Option<Why>, AllocError>
-    ensures { IfOk result (IsFound (IsToldOf population.now.content asked.entry.rules.bytes.now
-        asked.entry.rule.now asked.entry.id.now) ((t : TextReading)
+    ensures { IfOk result (IsFound (λ why. IsToldOf population.now.content asked.entry.rules.bytes.now
+        asked.entry.rule.now asked.entry.id.now (printed why)) ((t : TextReading)
         × ReadsAs asked.entry.rules.bytes.now t
         × ((text_answer MAX_BUDGET t population.now.content).1 ≡ 2))) }
 {
@@ -261,14 +234,14 @@ fn answer_text(
     }
 }
 
-/// What is answered of a delivery; nothing where `judge` refuses it or the rules.
+/// What is told of a delivery; nothing where `judge` refuses it or the rules.
 fn answer_delivery(
     alloc: Global,
     asked: WhyAsked<'_>,
     model: &ClassModel,
 ) -> Result<Option<Why>, AllocError>
-    ensures { IfOk result (IsFound (IsToldIn model.now asked.entry.delivery.bytes.now
-        asked.entry.rules.bytes.now asked.entry.rule.now asked.entry.id.now) ((t : TextReading)
+    ensures { IfOk result (IsFound (λ why. IsToldIn model.now asked.entry.delivery.bytes.now
+        asked.entry.rules.bytes.now asked.entry.rule.now asked.entry.id.now (printed why)) ((t : TextReading)
         × ReadsAs asked.entry.rules.bytes.now t × ((delivery_answer (text_answer MAX_BUDGET t)
         (population_of model.now asked.entry.delivery.bytes.now)).1 ≡ 2))) }
 {
@@ -282,11 +255,12 @@ fn answer_delivery(
     }
 }
 
-/// What is answered of inputs that `judge` doesn't refuse; nothing where it refuses one.
-fn answer_inputs(alloc: Global, asked: WhyAsked<'_>) -> Result<Option<Why>, AllocError>
-    ensures { IfOk result (IsFound (IsTold asked.entry.model.bytes.now
+/// What is told of inputs to which `judge` answers a report; nothing where it refuses one. How long they are isn't looked
+/// at here.
+pub(crate) fn find_why(alloc: Global, asked: WhyAsked<'_>) -> Result<Option<Why>, AllocError>
+    ensures { IfOk result (IsFound (λ why. IsTold asked.entry.model.bytes.now
         asked.entry.delivery.bytes.now asked.entry.rules.bytes.now asked.entry.rule.now
-        asked.entry.id.now) ((t : TextReading) × ReadsAs asked.entry.rules.bytes.now t
+        asked.entry.id.now (printed why)) ((t : TextReading) × ReadsAs asked.entry.rules.bytes.now t
         × ((judge_text_answer MAX_BUDGET asked.entry.model.bytes.now
         asked.entry.delivery.bytes.now t).1 ≡ 2))) }
 {
@@ -297,26 +271,5 @@ fn answer_inputs(alloc: Global, asked: WhyAsked<'_>) -> Result<Option<Why>, Allo
             ModelFault::OutOfMemory => Err(AllocError),
             _ => Ok(None),
         },
-    }
-}
-
-/// Why a rule has its verdict for an object, or why that isn't answered. Inputs are refused as `judge` refuses them.
-///
-/// `Explained` and `Unknown` are answered only of inputs that `judge` answers with a report: the explanation is of the
-/// rules and the population of that report. `Refused` has the line that `judge` prints with status 2, and no line only
-/// where it can't read an input, as one that is too long. How long inputs are isn't looked at here.
-pub fn answer_why(alloc: Global, asked: WhyAsked<'_>) -> Result<Why, AllocError>
-    ensures { IfOk result (WhyAnswers asked.entry.model.bytes.now asked.entry.delivery.bytes.now
-        asked.entry.rules.bytes.now asked.entry.rule.now asked.entry.id.now) }
-{
-    readings_are_determined();
-    let found = answer_inputs(alloc, asked)?;
-    match found {
-        Some(why) => Ok(why),
-        None => {
-            let line = refusal(alloc, asked)?;
-            let words = explain_judge(alloc, OPTIONS, asked.model, asked.delivery, asked.rules)?;
-            Ok(Why::Refused(line, words))
-        }
     }
 }

@@ -14,7 +14,7 @@ use std::alloc::AllocError;
 use std::io;
 
 /// Says on standard error why an input was refused, or what is hardly meant.
-fn say(rt: &HostRuntime, words: Result<String, AllocError>) {
+pub fn say(rt: &HostRuntime, words: Result<String, AllocError>) {
     let _ = match words {
         Ok(words) => rt.eprint(words.as_str()),
         Err(_) => rt.eprintln("memory ran out before it was explained"),

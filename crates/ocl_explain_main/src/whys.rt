@@ -1,50 +1,19 @@
 //! Why a rule has its verdict for an object, answered over files.
 
 use crate::command_line::WhyWords;
-use crate::files::{Bytes, read_file, report_write};
-use ocl_check::{CommandFault, Outcome};
-use ocl_explain::{Why, WhyAsked, answer_why};
-use std::io::{self, Write};
-
-/// Prints bytes on standard output, with the status that they end with.
-fn print(rt: &HostRuntime, bytes: &[u8], status: u8) -> Outcome {
-    match io::writer(rt).write_all(bytes) {
-        Ok(()) => Outcome::Status(status),
-        Err(error) => {
-            report_write(rt, "standard output", Some(error));
-            Outcome::Failed(CommandFault::Write)
-        }
-    }
-}
+use crate::files::{read_file, report_write};
+use crate::requests::say;
+use ocl_check::{CommandFault, Outcome, Telling};
+use ocl_explain::{Keeping, WhyAsked, answer_why};
+use std::io;
 
 /// Answers over inputs that were read.
-fn explain_inputs(
-    rt: &HostRuntime,
-    words: WhyWords<'_>,
-    model: &Bytes<'_>,
-    delivery: &Bytes<'_>,
-    rules: &Bytes<'_>,
-) -> Outcome {
-    let asked = WhyAsked {
-        model: model.input(),
-        delivery: delivery.input(),
-        rules: rules.input(),
-        rule: words.rule,
-        id: words.id,
-    };
-    match answer_why(rt.alloc(), asked) {
-        Ok(Why::Explained(text)) => print(rt, text.as_bytes(), 0),
-        Ok(Why::Refused(line, why)) => {
-            let outcome = print(rt, &line, 2);
-            let _ = rt.eprint(&why);
-            outcome
-        }
-        Ok(Why::Unknown(why)) => {
-            let _ = rt.eprint(&why);
-            Outcome::Status(2)
-        }
-        Err(_) => Outcome::Failed(CommandFault::OutOfMemory),
-    }
+fn explain_inputs(rt: &HostRuntime, asked: WhyAsked<'_>) -> Outcome {
+    let mut sink = Telling::new(Keeping::new(io::writer(rt)));
+    let ending = answer_why(rt.alloc(), asked, &mut sink);
+    report_write(rt, "standard output", sink.into_inner().error());
+    say(rt, ending.words);
+    ending.outcome
 }
 
 /// Reads the inputs, each whole, and then answers.
@@ -52,7 +21,14 @@ fn explain_files(rt: &HostRuntime, words: WhyWords<'_>) -> Result<Outcome, Comma
     let model = read_file(rt, words.files.model)?;
     let delivery = read_file(rt, words.files.delivery)?;
     let rules = read_file(rt, words.files.rules)?;
-    Ok(explain_inputs(rt, words, &model, &delivery, &rules))
+    let asked = WhyAsked {
+        model: model.input(),
+        delivery: delivery.input(),
+        rules: rules.input(),
+        rule: words.rule,
+        id: words.id,
+    };
+    Ok(explain_inputs(rt, asked))
 }
 
 /// Explains the verdict of a rule for an object.

@@ -1,23 +1,38 @@
 //! Why verdicts are what they are, each explanation whole.
 
 use crate::files::input;
-use ocl_explain::{Why, WhyAsked, answer_why};
+use ocl_check::{Outcome, Telling};
+use ocl_explain::{WhyAsked, answer_why};
 use std::alloc::{AllocError, Global};
 use std::test::*;
 use test_support::{
     CABLE_WITHOUT_DEPTH, CATALOGUE, DEEP_CABLE, DUCT, DUCT_WITH_SHALLOW, NETS, SHALLOW_CABLE,
 };
 
-/// What is answered of the rule r of a text and an object.
-fn answered(alloc: Global, delivery: &str, rules: &str, id: &str) -> Result<Why, AllocError> {
-    let asked = WhyAsked {
+/// What is asked of the rule r of a text and an object.
+fn asked<'a>(delivery: &'a str, rules: &'a str, id: &'a str) -> WhyAsked<'a> {
+    WhyAsked {
         model: input("model.json", CATALOGUE.as_bytes()),
         delivery: input("delivery.json", delivery.as_bytes()),
         rules: input("rules.ocl", rules.as_bytes()),
         rule: "r",
         id,
-    };
-    answer_why(alloc, asked)
+    }
+}
+
+/// Whether this is written, with this status, and these words said beside it.
+fn answers(
+    alloc: Global,
+    asked: WhyAsked<'_>,
+    written: &str,
+    status: u8,
+    words: &str,
+) -> Result<bool, AllocError> {
+    let mut sink = Telling::new(Vec::new(alloc));
+    let ending = answer_why(alloc, asked, &mut sink);
+    let said = ending.words?;
+    let is_written = sink.into_inner().as_slice() == written.as_bytes();
+    Ok(is_written && ending.outcome == Outcome::Status(status) && said.as_str() == words)
 }
 
 /// Whether this is the explanation of the rule r of a text for an object.
@@ -28,11 +43,7 @@ fn explains(
     id: &str,
     words: &str,
 ) -> Result<bool, AllocError> {
-    match answered(alloc, delivery, rules, id)? {
-        Why::Explained(said) => Ok(said.as_str() == words),
-        Why::Refused(_, _) => Ok(false),
-        Why::Unknown(_) => Ok(false),
-    }
+    answers(alloc, asked(delivery, rules, id), words, 0, "")
 }
 
 /// Whether it is said so that the rule r of a text doesn't judge an object.
@@ -43,22 +54,12 @@ fn says(
     id: &str,
     words: &str,
 ) -> Result<bool, AllocError> {
-    match answered(alloc, delivery, rules, id)? {
-        Why::Unknown(said) => Ok(said.as_str() == words),
-        Why::Refused(_, _) => Ok(false),
-        Why::Explained(_) => Ok(false),
-    }
+    answers(alloc, asked(delivery, rules, id), "", 2, words)
 }
 
 /// Whether an input is refused with this line and these words.
 fn refuses(alloc: Global, rules: &str, line: &str, words: &str) -> Result<bool, AllocError> {
-    match answered(alloc, DUCT, rules, "M1")? {
-        Why::Refused(printed, said) => {
-            Ok(printed.as_slice() == line.as_bytes() && said.as_str() == words)
-        }
-        Why::Explained(_) => Ok(false),
-        Why::Unknown(_) => Ok(false),
-    }
+    answers(alloc, asked(DUCT, rules, "M1"), line, 2, words)
 }
 
 #[test]

@@ -5,7 +5,7 @@ use Rattle.ocl_text.specs.declared.tree.SurfaceRule.{SurfaceRule}
 use Rattle.ocl_text.specs.View.{rule_of}
 use Rattle.ocl_check.specs.TextReading.{text_fault_at, ReadsAs}
 use Rattle.ocl_check.proofs.TextReadings.{text_read, text_refused, ill_formed_read}
-use Rattle.ocl_explain.proofs.Told.{found_as}
+use Rattle.ocl_explain.proofs.Told.{found_as, printed_is}
 use Rattle.ocl_explain.proofs.verdicts.answer_text.Goals as goal
 
 pub returns-in-Err : goal.returns-in-Err
@@ -23,7 +23,7 @@ returns-in-Ok-parse_rules c =
     let parsed = c.in-Ok-parse_rules.ensures in
     let read = text_read (λ v. map rule_of v.items) bytes c.in-Ok.text.now (Ok rules) here.0 here.1 parsed.spells parsed.names in
     let reads = subst (λ (xs : List SurfaceRule). ReadsAs bytes (Ok (map rule_of xs))) (sym c.deref.ensures.value) read in
-    found_as c.answer_surface.result c.answer_surface.ensures (λ why told. (t, told.0, reads, told.1, told.2, told.3)) (λ refused. (Ok t, reads, refused))
+    found_as c.answer_surface.result c.answer_surface.ensures (λ why told. (t, told.0, reads, told.1, told.2, printed_is _ why told.3)) (λ refused. (Ok t, reads, refused))
 
 pub returns-in-Err-At : goal.returns-in-Err-At
 returns-in-Err-At c =

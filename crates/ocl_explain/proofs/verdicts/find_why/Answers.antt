@@ -7,7 +7,7 @@ use Rattle.ocl_check.specs.ThreeInputs.{model_answer, delivery_answer, populatio
 use Rattle.ocl_check.specs.JudgeText.{text_answer, judge_text_answer}
 use Rattle.ocl_check.proofs.Described.{model_is, model_is_refused}
 use Rattle.ocl_explain.proofs.Told.{found_as, refused_as}
-use Rattle.ocl_explain.proofs.verdicts.answer_inputs.Goals as goal
+use Rattle.ocl_explain.proofs.verdicts.find_why.Goals as goal
 
 pub returns-in-Ok : goal.returns-in-Ok
 returns-in-Ok c =

@@ -1,8 +1,17 @@
-use Rattle.ocl_explain.proofs.Refusing.{line_refuses}
-use Rattle.ocl_explain.proofs.verdicts.answer_why.Goals as goal
+use Rattle.std.proofs.Common.{inl, inr}
+use Rattle.ocl_explain.proofs.Answering.{some_answer}
+use Rattle.ocl_explain.proofs.Refusing.{answer_refuses}
+use Rattle.ocl_explain.specs.Judged.{printed}
+use Rattle.ocl_explain.proofs.whys.answer_why.Goals as goal
 
-pub returns-in_ok-words-in-None : goal.returns-in_ok-words-in-None
-returns-in_ok-words-in-None c =
-    let refused = rw c.in-None.is at c.in_ok-found.ensures in
-    line_refuses c.args.asked.model.bytes.now c.args.asked.delivery.bytes.now c.args.asked.rules.bytes.now c.readings_are_determined.ensures refused
-    c.in_ok-line-in-None.line.items c.in_ok-line-in-None.ensures
+pub returns-in-Ok-Some-clause-answered : goal.returns-in-Ok-Some-clause-answered
+returns-in-Ok-Some-clause-answered g c = (printed c.in-Ok-Some.why, inl c.find_why.ensures, c.write_why.ensures.answered)
+
+pub returns-in-Ok-None-clause-answered : goal.returns-in-Ok-None-clause-answered
+returns-in-Ok-None-clause-answered g c =
+    let said = c.write_refusal.ensures.answered in
+    let refused = c.find_why.ensures in (
+      said.0,
+      inr (answer_refuses c.args.asked.model.bytes.now c.args.asked.delivery.bytes.now c.args.asked.rules.bytes.now c.readings_are_determined.ensures refused said.0 said.1),
+      said.2,
+    )

@@ -1,0 +1,98 @@
+//! The command `why`, of inputs that were read already.
+
+ghost use Rattle.std.specs.Prelude.{◌≡◌, false};
+ghost use Rattle.ocl_check.specs.Answers.{IsAnswered, IsAnsweredBy, KeepsUnread, fails_write};
+ghost use Rattle.ocl_check.specs.JudgeText.{JudgeAnswers};
+ghost use Rattle.ocl_explain.specs.Judged.{printed};
+ghost use Rattle.ocl_explain.specs.WhyAnswers.{WhyAnswers};
+
+use crate::answers::answer_judge;
+use crate::refusals::explain_judge;
+use crate::verdicts::{Why, WhyAsked, find_why};
+use crate::writing::write_answer;
+use ocl_check::laws::{each_text_is_read, readings_are_determined};
+use ocl_check::{CommandFault, JudgeOptions, MAX_BUDGET, Outcome, RulesForm, Sink};
+use std::alloc::{AllocError, Global};
+
+/// How `why` ended.
+#[derive(Drop)]
+pub struct WhyEnding {
+    /// The status, or what failed.
+    pub outcome: Outcome,
+    /// What is to be said beside the answer: why an input is refused, or why there is no explanation; else nothing.
+    pub words: Result<String, AllocError>,
+}
+
+/// How the rules are judged that are explained.
+const OPTIONS: JudgeOptions = JudgeOptions {
+    form: RulesForm::Text,
+    budget: MAX_BUDGET,
+};
+
+/// Writes the explanation, or nothing.
+fn write_why<S: Sink>(alloc: Global, sink: &mut S, why: Why) -> WhyEnding
+    requires { S.has_failed sink.old ≡ false }
+    ensures answered { IsAnswered (printed why) (S.contents sink.old) (S.contents sink.new)
+        result.outcome }
+    ensures sink { S.has_failed sink.new ≡ fails_write result.outcome }
+    ensures kept { KeepsUnread result.outcome sink.old sink.new }
+{
+    match why {
+        Why::Explained(text) => WhyEnding {
+            outcome: write_answer(sink, text.as_bytes(), 0),
+            words: Ok(String::new(alloc)),
+        },
+        Why::Unknown(words) => WhyEnding {
+            outcome: write_answer(sink, &[], 2),
+            words: Ok(words),
+        },
+    }
+}
+
+/// Writes what `judge` answers to inputs of which it refuses one.
+fn write_refusal<S: Sink>(alloc: Global, asked: WhyAsked<'_>, sink: &mut S) -> WhyEnding
+    requires { S.has_failed sink.old ≡ false }
+    ensures answered { IsAnsweredBy (JudgeAnswers OPTIONS asked.entry.model.bytes.now
+        asked.entry.delivery.bytes.now asked.entry.rules.bytes.now)
+        (S.contents sink.old) (S.contents sink.new) result.outcome }
+    ensures sink { S.has_failed sink.new ≡ fails_write result.outcome }
+    ensures kept { KeepsUnread result.outcome sink.old sink.new }
+{
+    let (model, delivery) = (asked.model.bytes, asked.delivery.bytes);
+    let rules = asked.rules.bytes;
+    let outcome = answer_judge(alloc, OPTIONS, model, delivery, rules, sink);
+    let words = match outcome {
+        Outcome::Status(_) => {
+            explain_judge(alloc, OPTIONS, asked.model, asked.delivery, asked.rules)
+        }
+        Outcome::Failed(_) => Ok(String::new(alloc)),
+    };
+    WhyEnding { outcome, words }
+}
+
+/// Explains why a rule has its verdict for an object: writes the explanation, with status 0. Where `judge` refuses an input
+/// it is refused likewise, with the line that `judge` prints. Else, where there is no such rule or object or the rule doesn't
+/// judge the object, nothing is written, with status 2.
+///
+/// An explanation is of the rules and the population whose report `judge` answers. `Failed(Read)`: an input that `judge`
+/// refuses is too long; the sink is as it was. `Failed(OutOfMemory)`: memory ran out. `Failed(Write)`: the sink has failed.
+/// In both the sink took a prefix of the answer.
+pub fn answer_why<S: Sink>(alloc: Global, asked: WhyAsked<'_>, sink: &mut S) -> WhyEnding
+    requires { S.has_failed sink.old ≡ false }
+    ensures answered { IsAnsweredBy (WhyAnswers asked.entry.model.bytes.now
+        asked.entry.delivery.bytes.now asked.entry.rules.bytes.now asked.entry.rule.now
+        asked.entry.id.now) (S.contents sink.old) (S.contents sink.new) result.outcome }
+    ensures sink { S.has_failed sink.new ≡ fails_write result.outcome }
+    ensures kept { KeepsUnread result.outcome sink.old sink.new }
+{
+    readings_are_determined();
+    each_text_is_read();
+    match find_why(alloc, asked) {
+        Ok(Some(why)) => write_why(alloc, sink, why),
+        Ok(None) => write_refusal(alloc, asked, sink),
+        Err(_) => WhyEnding {
+            outcome: Outcome::Failed(CommandFault::OutOfMemory),
+            words: Ok(String::new(alloc)),
+        },
+    }
+}
