@@ -50,7 +50,7 @@ module _ (rules name id : List ℕ) where
   typed_text_decided p t rs reads typed = by (typed_decided p rs)
     where
       by : (typed_answer p rs ≡ meant_answer p rs) ⊎ ((typed_answer p rs).1 ≡ 2) → IsTextDecided p (Ok t)
-      by (inl same) = inl (why_answer (why_text p rs name id), t, rs, reads, typed, text_is_typed p t rs typed ∙ same, refl)
+      by (inl same) = inl (why_answer (why_text p rs name id), (t, rs, reads, typed, text_is_typed p t rs typed ∙ same, refl))
       by (inr two) = inr (refused_as (text_answer MAX_BUDGET (Ok t) p) (typed_answer p rs) (text_is_typed p t rs typed) two)
 
   rules_decided : (p : Population) (t : List Rule) (o : Result (List CheckedRule) RulesFaultAt) → elaborate_rules p.model 0 t ≡ o → ReadsAs rules (Ok t) → IsTextDecided p (Ok t)
@@ -71,7 +71,7 @@ module _ (rules name id : List ℕ) where
     delivery_decided m (Ok p) is = by (text_decided p t reads)
       where
         by : IsTextDecided p t → IsDeliveryDecided m (Ok p)
-        by (inl told) = inl (told.0, p, is, told.1)
+        by (inl told) = inl (told.0, (p, is, told.1))
         by (inr two) = inr two
     delivery_decided m (Err fault) is = inr (delivery_refused fault)
 

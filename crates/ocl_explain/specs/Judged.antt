@@ -1,5 +1,5 @@
 -- What `judge` answers of a population and typed rules, the report of what they mean or a refusal; and what is told of these.
-use Rattle.std.specs.Prelude.{◌≡◌, ◌&&◌, ℕ, ◌+◌, Bool, true, false, List, [], Option, Some, None, is_ok, string_bytes}
+use Rattle.std.specs.Prelude.{◌≡◌, ◌&&◌, ℕ, Bool, true, false, List, [], Option, Some, None, is_ok, string_bytes}
 use Rattle.imkl_population.specs.Population.{Population}
 use Rattle.imkl_population.specs.Sizes.{sizes_of}
 use Rattle.ocl_core.specs.Core.{CheckedRule}

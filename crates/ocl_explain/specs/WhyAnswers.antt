@@ -1,6 +1,6 @@
 -- What `why` prints of the bytes of its inputs, a rule's name and an object's id, and its status: the explanation of the rule's
 -- verdict; nothing, where there is none; or the line by which `judge` refuses an input.
-use Rattle.std.specs.Prelude.{◌≡◌, ◌⊎◌, ◌+◌, ℕ, bytes_eq, List, [], ◌∷◌, Option, Some, None, Ok, if◌then◌else◌}
+use Rattle.std.specs.Prelude.{◌≡◌, ◌⊎◌, ℕ, bytes_eq, List, [], ◌∷◌, Option, Some, None, Ok, if◌then◌else◌}
 use Rattle.imkl_model.specs.ClassModel.{Model}
 use Rattle.imkl_population.specs.Population.{Population, is_instance, object_number}
 use Rattle.ocl_text.specs.Tree.{Rule}
