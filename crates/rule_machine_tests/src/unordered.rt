@@ -410,17 +410,17 @@ fn a_thousand_elements_are_compared(rt: HostRuntime) -> Result<(), Fail> {
 }
 
 #[test]
-fn four_thousand_numbers_are_compared(rt: HostRuntime) -> Result<(), Fail> {
+fn two_thousand_numbers_are_compared(rt: HostRuntime) -> Result<(), Fail> {
     let all = "14 rules; 9 rules; 3 rules; 9 rules; ";
     let tables = [ANY, SOME, MORE, NULLS];
-    assert_eq!(rt; of_numbers(rt.alloc(), 4_000, &tables)?.as_str(), all);
+    assert_eq!(rt; of_numbers(rt.alloc(), 2_000, &tables)?.as_str(), all);
     Ok(())
 }
 
 #[test]
-fn four_thousand_texts_are_compared(rt: HostRuntime) -> Result<(), Fail> {
+fn two_thousand_texts_are_compared(rt: HostRuntime) -> Result<(), Fail> {
     let all = "14 rules; 9 rules; 3 rules; ";
-    assert_eq!(rt; of_texts(rt.alloc(), 4_000, &EACH)?.as_str(), all);
+    assert_eq!(rt; of_texts(rt.alloc(), 2_000, &EACH)?.as_str(), all);
     Ok(())
 }
 
