@@ -42,7 +42,7 @@ pub(crate) fn given(
 }
 
 /// What is collected from a source.
-fn collected(source: &Kind) -> CollectionKind {
+fn collection_of(source: &Kind) -> CollectionKind {
     match source {
         Kind::Scalar(_) => CollectionKind::Bag,
         Kind::Collection(collection, _) => collected_kind(*collection),
@@ -50,13 +50,18 @@ fn collected(source: &Kind) -> CollectionKind {
 }
 
 /// What a block gives, by the operand that it works on and by what its body ended with.
-pub(crate) fn yielded(names: &Names<'_>, block: Instr, operand: &Kind, ended: &Kind) -> Kind {
+pub(crate) fn result_of_block(
+    names: &Names<'_>,
+    block: Instr,
+    operand: &Kind,
+    ended: &Kind,
+) -> Kind {
     match block {
         Instr::Let(_) => *ended,
         Instr::If(kind, _, _) => names.kind(&kind),
         Instr::Select(_) | Instr::Reject(_) => *operand,
         Instr::Collect(_) | Instr::CollectFlat(_) => {
-            Kind::Collection(collected(operand), elements_kind(ended))
+            Kind::Collection(collection_of(operand), elements_kind(ended))
         }
         Instr::Fold(kind, _) => Kind::Scalar(names.scalar(&kind)),
         _ => Kind::Scalar(ScalarKind::Boolean),

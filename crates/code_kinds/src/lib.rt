@@ -9,6 +9,6 @@ mod walk;
 mod words;
 
 pub use naming::Names;
-pub use taking::{Operands, body_ends_with, rule_ends_with, wanted};
+pub use taking::{Operands, body_ends_with, operands_of, rule_ends_with};
 pub use walk::{Stop, Walk};
 pub use words::{kind_list, wanted_list};

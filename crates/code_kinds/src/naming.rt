@@ -66,7 +66,7 @@ impl<'n> Names<'n> {
     }
 
     /// What a symbol names, if it is there.
-    pub fn named(&self, symbol: SymbolNumber) -> Option<Named> {
+    pub fn name_of(&self, symbol: SymbolNumber) -> Option<Named> {
         match self.unit.symbols.get(usize::from(symbol.0))? {
             Symbol::Class(name) => {
                 let class = self.model.linked_class(self.text(*name))?;
@@ -95,9 +95,9 @@ impl<'n> Names<'n> {
     }
 
     /// The symbol of an instruction that names nothing.
-    pub fn missing(&self, instruction: Instr) -> Option<SymbolNumber> {
+    pub fn missing_symbol(&self, instruction: Instr) -> Option<SymbolNumber> {
         let symbol = symbol_of(instruction)?;
-        match self.named(symbol) {
+        match self.name_of(symbol) {
             Some(_) => None,
             None => Some(symbol),
         }
@@ -105,7 +105,7 @@ impl<'n> Names<'n> {
 
     /// The kind of one value of what a symbol names: an object of a class, a literal, or an object that has a feature.
     pub(crate) fn one_of(&self, symbol: SymbolNumber) -> ScalarKind {
-        let Some(name) = self.named(symbol) else {
+        let Some(name) = self.name_of(symbol) else {
             return ScalarKind::Void;
         };
         match name {
@@ -119,7 +119,7 @@ impl<'n> Names<'n> {
     /// The kind of a feature's value.
     pub(crate) fn feature(&self, symbol: SymbolNumber) -> Kind {
         let nothing = Kind::Scalar(ScalarKind::Void);
-        let Some(name) = self.named(symbol) else {
+        let Some(name) = self.name_of(symbol) else {
             return nothing;
         };
         match name {

@@ -87,7 +87,7 @@ fn plainly_wanted(instruction: Instr) -> Operands {
 }
 
 /// What an instruction takes.
-pub fn wanted(names: &Names<'_>, instruction: Instr) -> Operands {
+pub fn operands_of(names: &Names<'_>, instruction: Instr) -> Operands {
     match instruction {
         Instr::Attr(symbol) => Operands::One(single(names.one_of(symbol))),
         Instr::AsColl(_, kind) => Operands::One(single(names.scalar(&kind))),

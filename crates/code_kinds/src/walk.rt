@@ -1,9 +1,9 @@
 //! A walk over the code of a rule that knows the kinds of the operands on the stack, as far as the code is right.
 
-use crate::giving::{given, yielded};
+use crate::giving::{given, result_of_block};
 use crate::matching::matches;
 use crate::naming::Names;
-use crate::taking::{Operands, body_ends_with, rule_ends_with, wanted};
+use crate::taking::{Operands, body_ends_with, operands_of, rule_ends_with};
 use ocl_kinds::{Kind, ScalarKind, elements_kind};
 use rule_code::{Instr, Rule};
 use rule_verify::{Pattern, Shape, shape_of};
@@ -115,8 +115,7 @@ impl<'n> Walk<'n> {
             return Ok(());
         }
         self.operands.extend_from_slice(&open.below)?;
-        self.operands
-            .push(yielded(&self.names, open.block, &open.operand, &kind))?;
+        self.operands.push(result_of_block(&self.names, open.block, &open.operand, &kind))?;
         self.variables.truncate(open.outside);
         Ok(())
     }
@@ -220,8 +219,8 @@ impl<'n> Walk<'n> {
         if self.stop.is_some() {
             return Ok(());
         }
-        let wanted = wanted(&self.names, instruction);
-        let can_take = self.names.missing(instruction).is_none()
+        let wanted = operands_of(&self.names, instruction);
+        let can_take = self.names.missing_symbol(instruction).is_none()
             && self.has_variable(instruction)
             && self.has_operands(&wanted)
             && body_length(instruction) < self.left(index);

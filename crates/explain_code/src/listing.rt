@@ -57,7 +57,7 @@ fn close(out: &mut String, open: &mut Vec<Open>, index: usize) -> Result<(), All
 }
 
 /// The block that an instruction at an index opens.
-fn opened(instruction: &Instr, index: usize) -> Option<Open> {
+fn open_block(instruction: &Instr, index: usize) -> Option<Open> {
     let (first, second) = bodies_of(instruction)?;
     let body = index.saturating_add(1);
     let middle = body.saturating_add(first);
@@ -99,7 +99,7 @@ fn list_code(
         let line = instruction_line(alloc, unit, instruction, offset, open.len())?;
         beside.write(alloc, out, line.as_str(), index, instruction)?;
         offset = offset.saturating_add(length_of(instruction));
-        if let Some(block) = opened(instruction, index) {
+        if let Some(block) = open_block(instruction, index) {
             open.push(block)?;
         }
     }

@@ -4,7 +4,8 @@ use crate::instructions::{bodies_of, instruction_words};
 use crate::missing::write_missing_symbol;
 use crate::symbols::{symbol_words, text_of};
 use code_kinds::{
-    Names, Operands, Stop, Walk, body_ends_with, kind_list, rule_ends_with, wanted, wanted_list,
+    Names, Operands, Stop, Walk, body_ends_with, kind_list, operands_of, rule_ends_with,
+    wanted_list,
 };
 use explain_notes::Input;
 use imkl_model::ClassModel;
@@ -133,12 +134,12 @@ fn write_found(
 ) -> Result<(), AllocError> {
     let model = names.model;
     match refused.flaw {
-        VerifyFlaw::NoSuchName => match names.missing(*instruction) {
+        VerifyFlaw::NoSuchName => match names.missing_symbol(*instruction) {
             Some(symbol) => write_missing_symbol(alloc, out, &names, symbol),
             None => Ok(()),
         },
         VerifyFlaw::MissingOperand | VerifyFlaw::WrongKind => {
-            write_operands(alloc, out, model, walk, &wanted(&names, *instruction))
+            write_operands(alloc, out, model, walk, &operands_of(&names, *instruction))
         }
         VerifyFlaw::BadVariable => write_variables(alloc, out, model, walk),
         VerifyFlaw::BadNesting => write_lengths(out, walk, instruction, refused.at),
@@ -209,7 +210,7 @@ pub fn explain_verify_flaw(
     let Some(rule) = unit.rules.get(refused.rule) else {
         return Ok(());
     };
-    if names.named(rule.context).is_none() {
+    if names.name_of(rule.context).is_none() {
         explain_context(alloc, out, input, &names, rule)?;
     } else {
         write_place(alloc, out, input, unit, rule, refused, words)?;

@@ -48,7 +48,7 @@ fn feature_length(sizes: &Sizes<'_>, feature: FeatureNo) -> u64 {
 
 /// The number of objects of the class that a symbol names, or the most members of the feature.
 pub(crate) fn named_length(names: &Names<'_>, sizes: &Sizes<'_>, symbol: SymbolNumber) -> u64 {
-    let Some(name) = names.named(symbol) else {
+    let Some(name) = names.name_of(symbol) else {
         return 0;
     };
     match name {

@@ -2,10 +2,10 @@
 
 use crate::entries::Entry;
 use crate::report::{Report, Subject};
-use crate::values::{is_of_type, values_of, wanted, written};
+use crate::values::{is_of_type, number_of, values_of, words_of_type, written};
 use explain_notes::{Nearest, quoted};
 use imkl_model::{ClassModel, ClassNo, ElementType, FeatureInfo, FeatureNo, Role};
-use imkl_population::PopulationFault;
+use imkl_population::{MAX_ID_LENGTH, PopulationFault};
 use model_names::{
     belongs, class_name, feature_info, feature_named, is_abstract, is_class_below, offer_classes,
     offer_features,
@@ -28,7 +28,7 @@ pub(crate) struct Document<'d, 'v> {
 /// Whether an id may be one.
 fn is_id(id: &str) -> bool {
     !id.is_empty()
-        && id.len() <= 128
+        && id.len() <= MAX_ID_LENGTH
         && id.bytes().all(|b| {
             matches!(b, b'A'..=b'Z' | b'a'..=b'z' | b'0'..=b'9' | b'-' | b'.' | b'_' | b':')
         })
@@ -183,7 +183,7 @@ fn look_at_types(
     for value in values {
         if !is_of_type(model, feature.element, value) {
             let value = written(alloc, value)?;
-            let wanted = wanted(alloc, model, feature.element)?;
+            let wanted = words_of_type(alloc, model, feature.element)?;
             let message = format!(in alloc; "`{name}` wants {wanted}, and not {value}")?;
             report.refuse(
                 alloc,
@@ -260,15 +260,23 @@ fn look_at_targets(
     Ok(is_wrong)
 }
 
-/// The first value that stands twice in a list.
-fn repeated(values: &[Value]) -> Option<&Value> {
-    for (index, value) in values.iter().enumerate() {
-        let before = values.get(..index).unwrap_or(&[]);
-        if before.iter().any(|other| other == value) {
-            return Some(value);
+/// The first value that stands twice in a list of values of one type.
+fn first_repeat<'v>(alloc: Global, values: &'v [Value]) -> Result<Option<&'v Value>, AllocError> {
+    let mut texts = BTreeMap::new(alloc);
+    let mut numbers = BTreeMap::new(alloc);
+    for value in values {
+        let earlier = if let Some(text) = value.as_str() {
+            texts.insert(text, ())?
+        } else if let Some(number) = number_of(value) {
+            numbers.insert(number, ())?
+        } else {
+            None
+        };
+        if earlier.is_some() {
+            return Ok(Some(value));
         }
     }
-    None
+    Ok(None)
 }
 
 /// Says what is wrong with the values of a feature, in the order in which they are checked: the first that is.
@@ -287,7 +295,7 @@ fn look_at_values(
         return Ok(());
     }
     if feature.is_unique()
-        && let Some(value) = repeated(values)
+        && let Some(value) = first_repeat(alloc, values)?
     {
         let value = written(alloc, value)?;
         let message = format!(in alloc; "`{name}` has {value} twice")?;

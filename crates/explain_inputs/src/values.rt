@@ -2,7 +2,7 @@
 
 use explain_notes::quoted;
 use imkl_model::{ClassModel, ElementType};
-use model_names::{class_name, enumeration_name, literal_count, literal_name};
+use model_names::{class_name, enumeration_name, is_literal, literal_count, literal_name};
 use serde_json::Value;
 use std::alloc::{AllocError, Global};
 use std::slice;
@@ -32,15 +32,17 @@ pub(crate) fn is_of_type(model: &ClassModel, element: ElementType, value: &Value
         ElementType::Integer => value.as_i64().is_some(),
         ElementType::String | ElementType::Class(_) => value.is_string(),
         ElementType::Enumeration(enumeration) => match value.as_str() {
-            Some(name) => {
-                (0..literal_count(model, enumeration)).any(|index| literal_name(
-                    model,
-                    enumeration,
-                    index,
-                ) == name)
-            }
+            Some(name) => is_literal(model, enumeration, name),
             None => false,
         },
+    }
+}
+
+/// A number for a whole number and for a truth value: values of one type are equal where their numbers are.
+pub(crate) fn number_of(value: &Value) -> Option<i64> {
+    match value.as_bool() {
+        Some(truth) => Some(i64::from(truth)),
+        None => value.as_i64(),
     }
 }
 
@@ -64,7 +66,7 @@ fn literals(alloc: Global, model: &ClassModel, element: ElementType) -> Result<S
 }
 
 /// What a value of an element type is, in words.
-pub(crate) fn wanted(
+pub(crate) fn words_of_type(
     alloc: Global,
     model: &ClassModel,
     element: ElementType,

@@ -36,7 +36,7 @@ impl Fate {
     }
 
     /// That of the opposite.
-    fn negated(self) -> Fate {
+    fn opposite(self) -> Fate {
         Fate {
             may_hold: self.may_fail,
             may_fail: self.may_hold,
@@ -51,7 +51,7 @@ impl Fate {
     }
 
     fn or(self, other: Fate) -> Fate {
-        self.negated().and(other.negated()).negated()
+        self.opposite().and(other.opposite()).opposite()
     }
 
     /// One of the two.
@@ -99,10 +99,10 @@ fn operator_part(operator: BinaryOperator, left: &Part, right: &Part) -> Part {
     let (one, other) = (left.fate, right.fate);
     let fate = match operator {
         BinaryOperator::Equal => equal_fate(left, right),
-        BinaryOperator::NotEqual => equal_fate(left, right).negated(),
+        BinaryOperator::NotEqual => equal_fate(left, right).opposite(),
         BinaryOperator::And => one.and(other),
         BinaryOperator::Or => one.or(other),
-        BinaryOperator::Implies => one.negated().or(other),
+        BinaryOperator::Implies => one.opposite().or(other),
         _ => Fate::open(),
     };
     Part {
@@ -190,7 +190,7 @@ fn part_of<'t>(
         } => {
             let part = part_of(alloc, reading, scope, operand)?;
             Ok(Part {
-                fate: part.fate.negated(),
+                fate: part.fate.opposite(),
                 ..part
             })
         }

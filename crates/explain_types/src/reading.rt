@@ -43,7 +43,7 @@ const STRING: Kind = Kind::Scalar(ScalarKind::String);
 const VOID: Kind = Kind::Scalar(ScalarKind::Void);
 
 /// The type of what stands at an offset; the fault may be that it isn't Boolean.
-fn checked(alloc: Global, reading: &Reading<'_>, kind: Kind, offset: usize) -> Result<Kind, Stop> {
+fn kind_at(alloc: Global, reading: &Reading<'_>, kind: Kind, offset: usize) -> Result<Kind, Stop> {
     if reading.is_fault(TypeFlaw::NotBoolean, offset) {
         let is_rule = offset == reading.rule_offset;
         return Err(sayings::not_boolean(alloc, reading.model, &kind, is_rule)?);
@@ -207,11 +207,11 @@ fn property_kind(
     let Some(own) = kind_of_feature(model, class, name) else {
         return Err(Stop::Lost);
     };
-    Ok(collected(left, own))
+    Ok(collection_of(left, own))
 }
 
 /// The type of what is asked after a dot of a value of a type, where one element gives a value of another.
-fn collected(left: Kind, one: Kind) -> Kind {
+fn collection_of(left: Kind, one: Kind) -> Kind {
     match left {
         Kind::Scalar(_) => one,
         Kind::Collection(collection, _) => {
@@ -283,7 +283,7 @@ fn call_kind(
         None => class_argument(model, arguments).ok_or(Stop::Lost)?,
     };
     Ok(match navigation {
-        Navigation::Dot => collected(left, one),
+        Navigation::Dot => collection_of(left, one),
         Navigation::Arrow => one,
     })
 }
@@ -458,7 +458,7 @@ fn prefix_kind(
             if reading.is_fault(TypeFlaw::WrongType, offset)
                 && !is_below(reading.model, &operand, &INTEGER)
             {
-                return Err(sayings::negated(alloc, reading.model, &operand)?);
+                return Err(sayings::no_integer(alloc, reading.model, &operand)?);
             }
             Ok(INTEGER)
         }
@@ -546,7 +546,7 @@ pub(crate) fn kind_of<'t>(
             return match class_before(first, links) {
                 Some((class, offset)) => {
                     let left = instances_kind(alloc, reading, class, first.offset(), offset)?;
-                    let left = checked(alloc, reading, left, offset)?;
+                    let left = kind_at(alloc, reading, left, offset)?;
                     links_kind(alloc, reading, scope, links, 1, left)
                 }
                 None => {
@@ -582,7 +582,7 @@ pub(crate) fn kind_of<'t>(
             branches_kind(alloc, reading, one, other, *offset)?
         }
     };
-    checked(alloc, reading, kind, expression.offset())
+    kind_at(alloc, reading, kind, expression.offset())
 }
 
 /// Puts a variable into the scope, once its type and its value were looked at.
@@ -614,7 +614,7 @@ fn links_kind<'t>(
     for index in from..links.len() {
         let link = &links[index];
         let kind = link_kind(alloc, reading, scope, link, value)?;
-        value = checked(alloc, reading, kind, link.offset())?;
+        value = kind_at(alloc, reading, kind, link.offset())?;
     }
     Ok(value)
 }

@@ -644,7 +644,11 @@ pub(crate) fn operands(
 }
 
 /// An operand of the sign that is no Integer.
-pub(crate) fn negated(alloc: Global, model: &ClassModel, kind: &Kind) -> Result<Stop, AllocError> {
+pub(crate) fn no_integer(
+    alloc: Global,
+    model: &ClassModel,
+    kind: &Kind,
+) -> Result<Stop, AllocError> {
     let name = a_type(alloc, model, kind)?;
     Ok(found(
         text(alloc, "`-` takes an Integer")?,

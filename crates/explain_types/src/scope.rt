@@ -36,7 +36,7 @@ pub(crate) struct Scope<'t> {
     variables: Vec<Variable<'t>>,
     /// Of each variable, whether something has read it.
     is_read: Vec<bool>,
-    /// The comparisons that are never true.
+    /// The comparisons that are true only of two nulls.
     pub(crate) unequal: Vec<Unequal>,
     /// Where the names of variables stand that nothing reads.
     pub(crate) unread: Vec<usize>,

@@ -163,7 +163,7 @@ fn is_feature(model: &ClassModel, class: ClassNo, feature: FeatureNo, name: &str
 }
 
 /// A guess of the feature that a class has of a name, if it is right.
-fn guessed(
+fn right_guess(
     model: &ClassModel,
     class: ClassNo,
     guess: Option<&FeatureNo>,
@@ -191,10 +191,10 @@ fn feature_of(
     ensures number { result ≡ feature_number model.now class name.now }
     ensures in_range { IfSome result (λ f. f < length model.now.features) }
 {
-    if let Some(feature) = guessed(model, class, guesses.get(place), name) {
+    if let Some(feature) = right_guess(model, class, guesses.get(place), name) {
         return Some(feature);
     }
-    if let Some(feature) = guessed(model, class, guesses.get(place.saturating_add(1)), name) {
+    if let Some(feature) = right_guess(model, class, guesses.get(place.saturating_add(1)), name) {
         return Some(feature);
     }
     model.feature(class, name)

@@ -116,7 +116,7 @@ fn finished_fault(fault: PopulationFault) -> DeliveryFault
 /// The objects of a document, added, or the first fault of the document, of its class model's name, or of an object's class
 /// or id.
 #[tactic(auto, unfolding(crate::specs::Taken::added_from))]
-fn added<'m>(
+fn add_objects<'m>(
     alloc: Global,
     value: &Value,
     model: &'m ClassModel,
@@ -169,7 +169,7 @@ fn described_of<'m>(
         (describes_population model.now (view value)) }
     ensures model { IfOk result (λ p. p.content.model ≡ model.now) }
 {
-    let builder = added(alloc, &value, model)?;
+    let builder = add_objects(alloc, &value, model)?;
     let Some(objects) = objects_of(value) else {
         return Err(DeliveryFault::Shape);
     };

@@ -30,7 +30,7 @@ use std::alloc::{AllocError, Global};
 use std::marker::Model;
 
 /// The most objects of a population.
-const MAX_OBJECTS: usize = 1_000_000;
+pub const MAX_OBJECTS: usize = 1_000_000;
 
 /// A population in the making. Contracts see the population of what was added so far.
 #[derive(Drop)]

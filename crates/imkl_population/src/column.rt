@@ -61,7 +61,7 @@ fn add_pairs(
 
 /// How many more items a list of `count` is expected to get, if the objects from this one on add as many each as those before
 /// it did. At most seven times as many as there are, so that a wrong guess costs little.
-fn expected(count: usize, object: usize, objects: usize) -> usize {
+fn expected_growth(count: usize, object: usize, objects: usize) -> usize {
     let left = objects.saturating_sub(object);
     let more = count.saturating_mul(left) / object.max(1);
     let spare = more / 16;
@@ -136,12 +136,12 @@ impl Column {
     {
         let scalars = self.scalars.len();
         if self.scalars.capacity().saturating_sub(scalars) < values {
-            let more = expected(scalars, object, objects);
+            let more = expected_growth(scalars, object, objects);
             self.scalars.reserve(more.max(values))?;
         }
         let entries = self.entries.len();
         if entries == self.entries.capacity() {
-            let more = expected(entries, object, objects);
+            let more = expected_growth(entries, object, objects);
             self.entries.reserve(more.max(1))?;
         }
         Ok(())

@@ -72,7 +72,7 @@ fn first_gap_of(
     ensures same { required.new ≡ required.old }
 {
     let class = builder.class_of(object);
-    if let Some(features) = required.listed(class) {
+    if let Some(features) = required.features_of(class) {
         return Ok(first_gap_at(builder, object, features));
     }
     let features = required.with_required(class, Vec::new(builder.alloc()))?;
@@ -203,7 +203,7 @@ fn first_end_fault_of(
 {
     let class = builder.class_of(object);
     if object.index() < crowded
-        && let Some(features) = required.listed(class)
+        && let Some(features) = required.features_of(class)
     {
         return Ok(first_end_fault_at(builder, ends, object, features));
     }

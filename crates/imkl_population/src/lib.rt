@@ -25,7 +25,8 @@ mod sharing;
 mod sizes;
 mod store;
 
-pub use builder::PopulationBuilder;
+pub use builder::{MAX_OBJECTS, PopulationBuilder};
+pub use checks::MAX_ID_LENGTH;
 pub use fault::PopulationFault;
 pub use numbers::ObjectNo;
 pub use population::Population;

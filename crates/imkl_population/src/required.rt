@@ -118,7 +118,7 @@ impl<'m> RequiredFeatures<'m> {
 
     /// The features that a class requires, in the model's order, once `with_required` has listed
     /// them.
-    pub(crate) fn listed(&self, class: ClassNo) -> Option<&[FeatureNo]>
+    pub(crate) fn features_of(&self, class: ClassNo) -> Option<&[FeatureNo]>
         ensures list { IfSome result (λ fs. fs.now ≡ required self.now class) }
         ensures known { IfSome result (λ fs. All (λ f. f < length self.now.model.features)
             fs.now) }
@@ -140,7 +140,7 @@ impl<'m> RequiredFeatures<'m> {
             required self.old class) }
         ensures same { self.new ≡ self.old }
     {
-        if let Some(list) = self.listed(class) {
+        if let Some(list) = self.features_of(class) {
             return features.extend_from_slice(list);
         }
         let list = self.required(class)?;

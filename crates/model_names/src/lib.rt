@@ -6,6 +6,6 @@ mod near;
 
 pub use names::{
     belongs, class_name, enumeration_name, feature_info, feature_named, is_abstract,
-    is_class_below, literal_count, literal_name,
+    is_class_below, is_literal, literal_count, literal_name,
 };
 pub use near::{offer_classes, offer_enumerations, offer_features, offer_literals};

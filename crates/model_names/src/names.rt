@@ -38,6 +38,11 @@ pub fn literal_name(model: &ClassModel, enumeration: EnumNo, index: usize) -> &s
     }
 }
 
+/// Whether an enumeration has a literal of this name.
+pub fn is_literal(model: &ClassModel, enumeration: EnumNo, name: &str) -> bool {
+    enumeration.index() < model.enumeration_count() && model.literal(enumeration, name).is_some()
+}
+
 /// A feature.
 pub fn feature_info(model: &ClassModel, feature: FeatureNo) -> Option<&FeatureInfo> {
     if feature.index() < model.feature_count() {

@@ -11,3 +11,4 @@ pub mod MeantReports
 pub mod TextReports
 pub mod Asked
 pub mod Compiling
+pub mod ForAbove

@@ -16,7 +16,7 @@ use std::process::ExitCode;
 use std::{env, io};
 
 /// The exit status of an outcome; a failure is reported on standard error.
-fn ended(rt: &impl Eprint, outcome: Outcome) -> ExitCode {
+fn exit_status(rt: &impl Eprint, outcome: Outcome) -> ExitCode {
     if let Outcome::Failed(fault) = outcome {
         let _ = rt.eprintln(fault.line());
     }
@@ -24,13 +24,13 @@ fn ended(rt: &impl Eprint, outcome: Outcome) -> ExitCode {
 }
 
 /// Reports why the command line was refused, with status 2. Help and the version come here too, with status 0.
-fn refused(rt: &HostRuntime, error: &Error) -> ExitCode {
+fn report_refusal(rt: &HostRuntime, error: &Error) -> ExitCode {
     if error.kind() == ErrorKind::OutOfMemory {
-        return ended(rt, Outcome::Failed(CommandFault::OutOfMemory));
+        return exit_status(rt, Outcome::Failed(CommandFault::OutOfMemory));
     }
     let is_help = error.exit_code() == 0;
     if error.print(rt).is_err() && is_help {
-        return ended(rt, Outcome::Failed(CommandFault::Write));
+        return exit_status(rt, Outcome::Failed(CommandFault::Write));
     }
     ExitCode::from(if is_help { 0 } else { 2 })
 }
@@ -90,7 +90,7 @@ fn main(rt: HostRuntime) -> ExitCode {
     let args = match env::args(&rt) {
         Ok(args) => args,
         Err(error) if error.kind() == io::ErrorKind::OutOfMemory => {
-            return ended(&rt, Outcome::Failed(CommandFault::OutOfMemory));
+            return exit_status(&rt, Outcome::Failed(CommandFault::OutOfMemory));
         }
         Err(_) => {
             let _ = rt.eprintln("error: an argument isn't UTF-8 text");
@@ -98,18 +98,18 @@ fn main(rt: HostRuntime) -> ExitCode {
         }
     };
     let Ok(words) = args.collect::<Vec<String>>(rt.alloc()) else {
-        return ended(&rt, Outcome::Failed(CommandFault::OutOfMemory));
+        return exit_status(&rt, Outcome::Failed(CommandFault::OutOfMemory));
     };
     match read_words(rt.alloc(), words.as_slice()) {
         Ok(request) if request.shares_standard_input() => {
             let _ = rt.eprintln("error: standard input (-) may be named for one input only");
             ExitCode::from(2)
         }
-        Ok(Request::Judge(files, options)) => ended(&rt, judge(&rt, files, options)),
-        Ok(Request::Compile(files)) => ended(&rt, compile(&rt, files)),
-        Ok(Request::Bound(files)) => ended(&rt, bound(&rt, files)),
-        Ok(Request::Verify(files)) => ended(&rt, verify(&rt, files)),
-        Ok(Request::Desk(files)) => ended(&rt, desk(&rt, files)),
-        Err(error) => refused(&rt, &error),
+        Ok(Request::Judge(files, options)) => exit_status(&rt, judge(&rt, files, options)),
+        Ok(Request::Compile(files)) => exit_status(&rt, compile(&rt, files)),
+        Ok(Request::Bound(files)) => exit_status(&rt, bound(&rt, files)),
+        Ok(Request::Verify(files)) => exit_status(&rt, verify(&rt, files)),
+        Ok(Request::Desk(files)) => exit_status(&rt, desk(&rt, files)),
+        Err(error) => report_refusal(&rt, &error),
     }
 }

@@ -6,12 +6,9 @@ use code_kinds::Names;
 use explain_costs::explain_charges;
 use explain_notes::Input;
 use imkl_population::Sizes;
-use rule_cost::{Bound, bound};
+use rule_cost::{Bound, STEP_LIMIT, bound};
 use rule_verify::Accepted;
 use std::alloc::{AllocError, Global};
-
-/// What a bound is cut at.
-const OVER: u64 = 9_223_372_036_854_775_808;
 
 /// Writes what a rule may be charged, the budget that this is above, and the iterations that make it.
 pub(crate) fn explain_cost(
@@ -32,10 +29,10 @@ pub(crate) fn explain_cost(
     let name = accepted.rule_name(rule);
     let charges = match bound(alloc, accepted, rule, sizes) {
         Ok(Bound::Steps(charges)) => charges,
-        Ok(Bound::Over) => OVER,
+        Ok(Bound::Over) => STEP_LIMIT,
         Err(_) => return Err(AllocError),
     };
-    if charges < OVER {
+    if charges < STEP_LIMIT {
         writeln!(
             out,
             "{path}: rule `{name}` may be charged {charges} for an object, and the budget is {budget} (cost 1)"

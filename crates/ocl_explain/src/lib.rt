@@ -1,11 +1,11 @@
 //! The commands of `ocl_check` over inputs that were read already, and why an input is refused, in words.
 #![tactic(auto)]
 
+mod admission;
 mod answers;
 mod costs;
 mod faults;
 mod json;
-mod judged;
 mod keeping;
 mod listing;
 mod refusals;

@@ -1,4 +1,5 @@
-//! Why a command refuses an input: the first that it refuses, in words; nothing where it refuses none.
+//! Why a command refuses an input, in words: the first that it refuses, and after a refused delivery the rules too; nothing
+//! where it refuses none.
 
 ghost use Rattle.std.specs.Prelude.{◌≡◌};
 

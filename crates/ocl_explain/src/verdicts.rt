@@ -15,7 +15,7 @@ ghost use Rattle.ocl_check.specs.JudgeText.{meant_answer, text_answer, judge_tex
 ghost use Rattle.ocl_explain.specs.Judged.{typed_answer, printed, IsExplainedBy, IsFound};
 ghost use Rattle.ocl_explain.specs.WhyAnswers.{judged_text, object_text, why_text, IsToldOf, IsToldIn, IsTold};
 
-use crate::judged::is_judged;
+use crate::admission::is_judged;
 use explain_notes::{Input, Nearest};
 use explain_why::explain_verdict;
 use imkl_delivery::{DeliveryFault, load};

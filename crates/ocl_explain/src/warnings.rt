@@ -90,8 +90,8 @@ fn warn_on_model(
     }
 }
 
-/// Warnings of the rule text of a `judge`: comparisons that are true only of two nulls, variables that nothing reads, and
-/// rules whose context class has no objects in the delivery.
+/// Warnings of the rule text of a `judge`: comparisons that are true only of two nulls, variables that nothing reads, rules
+/// that no object can keep or break, and rules whose context class has no objects in the delivery.
 pub fn warn_judge(
     alloc: Global,
     options: JudgeOptions,

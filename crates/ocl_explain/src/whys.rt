@@ -74,9 +74,9 @@ fn write_refusal<S: Sink>(alloc: Global, asked: WhyAsked<'_>, sink: &mut S) -> W
 /// it is refused likewise, with the line that `judge` prints. Else, where there is no such rule or object or the rule doesn't
 /// judge the object, nothing is written, with status 2.
 ///
-/// An explanation is of the rules and the population whose report `judge` answers. `Failed(Read)`: an input that `judge`
-/// refuses is too long; the sink is as it was. `Failed(OutOfMemory)`: memory ran out. `Failed(Write)`: the sink has failed.
-/// In both the sink took a prefix of the answer.
+/// An explanation is of the rules and the population whose report `judge` answers. `Failed(Read)`: an input is refused, and
+/// one is of more than 268,435,456 bytes; the sink is as it was. `Failed(OutOfMemory)`: memory ran out. `Failed(Write)`: the
+/// sink has failed. In both the sink took a prefix of the answer.
 pub fn answer_why<S: Sink>(alloc: Global, asked: WhyAsked<'_>, sink: &mut S) -> WhyEnding
     requires { S.has_failed sink.old ≡ false }
     ensures answered { IsAnsweredBy (WhyAnswers asked.entry.model.bytes.now

@@ -16,7 +16,7 @@ use std::{env, io};
 use whys::explain;
 
 /// The exit status of an outcome; that memory ran out is reported here, every other failure where it is met.
-fn ended(rt: &HostRuntime, outcome: Outcome) -> ExitCode {
+fn exit_status(rt: &HostRuntime, outcome: Outcome) -> ExitCode {
     if let Outcome::Failed(CommandFault::OutOfMemory) = outcome {
         let _ = rt.eprintln("memory ran out");
     }
@@ -24,13 +24,13 @@ fn ended(rt: &HostRuntime, outcome: Outcome) -> ExitCode {
 }
 
 /// Reports why the command line was refused, with status 2. Help and the version come here too, with status 0.
-fn refused(rt: &HostRuntime, error: &Error) -> ExitCode {
+fn report_refusal(rt: &HostRuntime, error: &Error) -> ExitCode {
     if error.kind() == ErrorKind::OutOfMemory {
-        return ended(rt, Outcome::Failed(CommandFault::OutOfMemory));
+        return exit_status(rt, Outcome::Failed(CommandFault::OutOfMemory));
     }
     let is_help = error.exit_code() == 0;
     if error.print(rt).is_err() && is_help {
-        return ended(rt, Outcome::Failed(CommandFault::Write));
+        return exit_status(rt, Outcome::Failed(CommandFault::Write));
     }
     ExitCode::from(if is_help { 0 } else { 2 })
 }
@@ -48,7 +48,7 @@ fn main(rt: HostRuntime) -> ExitCode {
     let args = match env::args(&rt) {
         Ok(args) => args,
         Err(error) if error.kind() == io::ErrorKind::OutOfMemory => {
-            return ended(&rt, Outcome::Failed(CommandFault::OutOfMemory));
+            return exit_status(&rt, Outcome::Failed(CommandFault::OutOfMemory));
         }
         Err(_) => {
             let _ = rt.eprintln("error: an argument isn't UTF-8 text");
@@ -56,16 +56,16 @@ fn main(rt: HostRuntime) -> ExitCode {
         }
     };
     let Ok(words) = args.collect::<Vec<String>>(rt.alloc()) else {
-        return ended(&rt, Outcome::Failed(CommandFault::OutOfMemory));
+        return exit_status(&rt, Outcome::Failed(CommandFault::OutOfMemory));
     };
     match read_words(rt.alloc(), words.as_slice()) {
         Ok(asked) if shares_standard_input(&asked) => {
             let _ = rt.eprintln("error: standard input (-) may be named for one input only");
             ExitCode::from(2)
         }
-        Ok(Asked::Answer(request, is_json)) => ended(&rt, answer(&rt, request, is_json)),
-        Ok(Asked::List(files)) => ended(&rt, list(&rt, files)),
-        Ok(Asked::Why(words)) => ended(&rt, explain(&rt, words)),
-        Err(error) => refused(&rt, &error),
+        Ok(Asked::Answer(request, is_json)) => exit_status(&rt, answer(&rt, request, is_json)),
+        Ok(Asked::List(files)) => exit_status(&rt, list(&rt, files)),
+        Ok(Asked::Why(words)) => exit_status(&rt, explain(&rt, words)),
+        Err(error) => report_refusal(&rt, &error),
     }
 }

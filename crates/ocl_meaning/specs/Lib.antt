@@ -1,4 +1,4 @@
 -- Definitions: what contracts mean.
 pub mod Resolved
--- Bookkeeping: what only proofs and private contracts use.
+-- Bookkeeping: how links are evaluated, one after another.
 pub mod Evaluated

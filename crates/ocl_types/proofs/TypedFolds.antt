@@ -13,7 +13,7 @@ use Rattle.ocl_types.specs.declared.fault.TypeFlaw.TheVariants.{WrongType}
 use Rattle.ocl_types.specs.Faults.{type_fault_at}
 use Rattle.ocl_core.specs.Core.{CoreTree}
 use Rattle.ocl_types.specs.TypedTrees.{TypedTree}
-use Rattle.ocl_types.specs.Elaboration.{Gathered, declared_kind, accumulated, accumulator_kind, fold_of}
+use Rattle.ocl_types.specs.Elaboration.{Gathered, declared_kind, accumulator_scalar, accumulator_kind, fold_of}
 use Rattle.ocl_types.proofs.TypedSteps.{chained, checked, there}
 use Rattle.ocl_types.proofs.TypedScopes.{Sound}
 use Rattle.ocl_types.proofs.TypedTypes.{declared_known, Fitting}
@@ -21,7 +21,7 @@ use Rattle.ocl_types.proofs.TypedIterations.{IsGathered, IsVariable}
 
 module _ (m : Model) where
   -- what may be accumulated is of the class model where its kind is
-  pub accumulated_known : (kind : Kind) → IsKindOf m kind → IfSome (accumulated kind) (IsScalarKindOf m)
+  pub accumulated_known : (kind : Kind) → IsKindOf m kind → IfSome (accumulator_scalar kind) (IsScalarKindOf m)
   accumulated_known (Scalar element.Void) h = tt
   accumulated_known (Scalar element.Boolean) h = tt
   accumulated_known (Scalar element.Integer) h = tt
@@ -36,7 +36,7 @@ module _ (m : Model) where
   unfolding accumulator_kind
   accumulator_known well declared =
       chained (IsKindOf m) (IsScalarKindOf m) (declared_kind m declared) _ (declared_known m well declared) (λ kind known.
-      there (IsScalarKindOf m) (accumulated kind) (type_fault_at WrongType (type_offset declared)) (accumulated_known kind known))
+      there (IsScalarKindOf m) (accumulator_scalar kind) (type_fault_at WrongType (type_offset declared)) (accumulated_known kind known))
 
   -- a fold, whose body sees an element of a wider kind and the accumulator
   pub fold_sound : (g : List Kind) (k : ScalarKind) (x : Gathered) (start : CoreTree) (wider : Kind) (y : TypedTree) (offset : ℕ)

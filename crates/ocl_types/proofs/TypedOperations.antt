@@ -34,7 +34,7 @@ use Rattle.ocl_core.specs.Core.{CoreTree, cores_of}
 use Rattle.ocl_types.specs.TypedTrees.{TypedTree, TypedTrees, typed}
 use Rattle.ocl_types.specs.Operators.{Effect, Plainly, OnElements, OperationRow, operations, is_source, is_row_for, row_for, element_parameters, accepts, binary}
 use Rattle.ocl_core.specs.OperatorKinds.{basic, basic_kind}
-use Rattle.ocl_types.specs.Elaboration.{Arguments, Classes, Values, asks_truth, plainly, negation_of, negated_if, prefix_of, left_by, left_of, equal_scalars, equal_collections, equality_operator, binary_by, binary_of, is_object, one_class, class_call, scalar_argument, collection_argument, common_with, compared_as, parameter_count, effect_on, negated_row_if, value_call, call_on}
+use Rattle.ocl_types.specs.Elaboration.{Arguments, Classes, Values, asks_truth, plainly, negation_of, negation_if, prefix_of, left_by, left_of, equal_scalars, equal_collections, equality_operator, binary_by, binary_of, is_object, one_class, class_call, scalar_argument, collection_argument, common_with, comparison_kind, parameter_count, effect_on, negated_row_if, value_call, call_on}
 use Rattle.ocl_core.specs.OperatorKinds.{truth_kind, class_result, element_result}
 use Rattle.ocl_core.specs.Typing.{Operand, Of, AnySingle, Many, ManyOf, is_operand, are_operands, plain_operands, plain_result, AreOthers, IsOperation, IsTyped, AreTyped}
 use Rattle.ocl_types.proofs.TypedSteps.{chained, checked, there, itself}
@@ -166,7 +166,7 @@ module _ (m : Model) where
   pub negation_sound : (g : List Kind) (core : CoreTree) (kind : Kind) → IsTyped m g core kind → fits m kind truth_kind ≡ true → Sound m g (typed (negation_of core) truth_kind)
   negation_sound g core kind p h = ((kind, [], p, refl, (one_fits kind type.Boolean h, refl)), tt)
 
-  negated_sound : (b : Bool) (g : List Kind) (core : CoreTree) → IsTyped m g core truth_kind → Sound m g (typed (negated_if b core) truth_kind)
+  negated_sound : (b : Bool) (g : List Kind) (core : CoreTree) → IsTyped m g core truth_kind → Sound m g (typed (negation_if b core) truth_kind)
   negated_sound true g core p = negation_sound g core truth_kind p refl
   negated_sound false g core p = (p, tt)
 
@@ -421,15 +421,15 @@ module _ (m : Model) where
       let w = both_fit_common m e d k common in
       (common_known e d k common known (argument_known (Collection b d) kinds is ps), (c, e, refl, w.0, rw is (others k w.1), refl))
 
-  elements_by : (operator : ElementOperator) (c : CollectionKind) (e : ScalarKind) (kinds : List Kind) → (length kinds == element_parameters operator) ≡ true → IsScalarKindOf m e → AllOf (IsKindOf m) kinds → IfSome (compared_as operator e kinds) (OnKinds operator c e kinds)
+  elements_by : (operator : ElementOperator) (c : CollectionKind) (e : ScalarKind) (kinds : List Kind) → (length kinds == element_parameters operator) ≡ true → IsScalarKindOf m e → AllOf (IsKindOf m) kinds → IfSome (comparison_kind operator e kinds) (OnKinds operator c e kinds)
   elements_by of.Includes c e kinds n known ps =
-      mapped _ (OnKinds of.Includes c e kinds) (compared_as of.Includes e kinds) (λ k w. one_scalar of.Includes c e w.0 k kinds (λ j f. f) w.1 w.2 known ps) (with_argument e (λ d. kinds ≡ Scalar d ∷ []) (scalar_argument kinds) (scalar_there kinds))
+      mapped _ (OnKinds of.Includes c e kinds) (comparison_kind of.Includes e kinds) (λ k w. one_scalar of.Includes c e w.0 k kinds (λ j f. f) w.1 w.2 known ps) (with_argument e (λ d. kinds ≡ Scalar d ∷ []) (scalar_argument kinds) (scalar_there kinds))
   elements_by of.Occurrences c e kinds n known ps =
-      mapped _ (OnKinds of.Occurrences c e kinds) (compared_as of.Occurrences e kinds) (λ k w. one_scalar of.Occurrences c e w.0 k kinds (λ j f. f) w.1 w.2 known ps) (with_argument e (λ d. kinds ≡ Scalar d ∷ []) (scalar_argument kinds) (scalar_there kinds))
+      mapped _ (OnKinds of.Occurrences c e kinds) (comparison_kind of.Occurrences e kinds) (λ k w. one_scalar of.Occurrences c e w.0 k kinds (λ j f. f) w.1 w.2 known ps) (with_argument e (λ d. kinds ≡ Scalar d ∷ []) (scalar_argument kinds) (scalar_there kinds))
   elements_by of.IncludesAll c e kinds n known ps =
-      mapped _ (OnKinds of.IncludesAll c e kinds) (compared_as of.IncludesAll e kinds) (λ k w. one_collection of.IncludesAll c w.1.0 e w.0 k kinds (λ j f. f) w.1.1 w.2 known ps) (with_argument e (λ d. (b : CollectionKind) × (kinds ≡ Collection b d ∷ [])) (collection_argument kinds) (collection_there kinds))
+      mapped _ (OnKinds of.IncludesAll c e kinds) (comparison_kind of.IncludesAll e kinds) (λ k w. one_collection of.IncludesAll c w.1.0 e w.0 k kinds (λ j f. f) w.1.1 w.2 known ps) (with_argument e (λ d. (b : CollectionKind) × (kinds ≡ Collection b d ∷ [])) (collection_argument kinds) (collection_there kinds))
   elements_by of.ExcludesAll c e kinds n known ps =
-      mapped _ (OnKinds of.ExcludesAll c e kinds) (compared_as of.ExcludesAll e kinds) (λ k w. one_collection of.ExcludesAll c w.1.0 e w.0 k kinds (λ j f. f) w.1.1 w.2 known ps) (with_argument e (λ d. (b : CollectionKind) × (kinds ≡ Collection b d ∷ [])) (collection_argument kinds) (collection_there kinds))
+      mapped _ (OnKinds of.ExcludesAll c e kinds) (comparison_kind of.ExcludesAll e kinds) (λ k w. one_collection of.ExcludesAll c w.1.0 e w.0 k kinds (λ j f. f) w.1.1 w.2 known ps) (with_argument e (λ d. (b : CollectionKind) × (kinds ≡ Collection b d ∷ [])) (collection_argument kinds) (collection_there kinds))
   elements_by of.AsSet c e kinds n known ps =
       (comparable_known e known, (c, e, refl, fits_comparable m e, rw (no_others kinds n) tt, refl))
 
@@ -443,7 +443,7 @@ module _ (m : Model) where
   elements_sound : (g : List Kind) (source : Source) (operator : ElementOperator) (is_negated : Bool) (core : CoreTree) (kind : Kind) (xs : TypedTrees) (offset : ℕ) → IsEffect source (OnElements operator) is_negated → is_source m source kind ≡ true → (length xs.kinds == element_parameters operator) ≡ true → Sound m g (typed core kind) → AreSound g xs → IfOk (effect_on m (OnElements operator) (typed core kind) xs offset) (IsGiven g is_negated)
   elements_sound g source operator is_negated core (Scalar e) xs offset is fit n p ps = absurd (let bad : false ≡ true = (rw is.0 at fit) in cc)
   elements_sound g source operator is_negated core (Collection c e) xs offset is fit n p ps =
-      chained (OnKinds operator c e xs.kinds) (IsGiven g is_negated) (found (compared_as operator e xs.kinds) (type_fault_at WrongType offset)) _ (there (OnKinds operator c e xs.kinds) (compared_as operator e xs.kinds) _ (elements_by operator c e xs.kinds n p.1 ps.1)) (λ k h.
+      chained (OnKinds operator c e xs.kinds) (IsGiven g is_negated) (found (comparison_kind operator e xs.kinds) (type_fault_at WrongType offset)) _ (there (OnKinds operator c e xs.kinds) (comparison_kind operator e xs.kinds) _ (elements_by operator c e xs.kinds n p.1 ps.1)) (λ k h.
       (((Collection c e, xs.kinds, p.0, ps.0, h), element_known operator e p.1), λ w. includes_gives operator e (is.1 w)))
 
   effect_sound : (g : List Kind) (source : Source) (effect : Effect) (is_negated : Bool) (x : TypedTree) (xs : TypedTrees) (offset : ℕ) → IsEffect source effect is_negated → is_source m source x.kind ≡ true → (length xs.kinds == parameter_count effect) ≡ true → Sound m g x → AreSound g xs → IfOk (effect_on m effect x xs offset) (IsGiven g is_negated)

@@ -154,9 +154,9 @@ plainly operator first others = tree.Operation operator first (cores_of others)
 abbrev pub negation_of : CoreTree → CoreTree
 negation_of core = plainly (Plain plain.Not) core []
 
-abbrev pub negated_if : Bool → CoreTree → CoreTree
-negated_if true core = negation_of core
-negated_if false core = core
+abbrev pub negation_if : Bool → CoreTree → CoreTree
+negation_if true core = negation_of core
+negation_if false core = core
 
 -- the operand of `not` is a truth value, and that of `-` a number
 unfoldable pub prefix_of : Model → PrefixOperator → TypedTree → ℕ → ℕ → Elaborated
@@ -201,7 +201,7 @@ binary_by m (Truths operator) x y right offset = do
   Ok (typed (plainly (Plain operator) x.core (y.core ∷ [])) truth_kind)
 binary_by m (Equality is_negated) x y right offset = do
   operator ← found (equality_operator x.kind y.kind) (type_fault_at WrongType offset)
-  Ok (typed (negated_if is_negated (plainly operator x.core (y.core ∷ []))) truth_kind)
+  Ok (typed (negation_if is_negated (plainly operator x.core (y.core ∷ []))) truth_kind)
 
 unfoldable pub binary_of : Model → BinaryOperator → TypedTree → TypedTree → ℕ → ℕ → Elaborated
 binary_of m operator x y right offset = binary_by m (binary operator) x y right offset
@@ -317,12 +317,12 @@ common_with e None = None
 common_with e (Some d) = common_kind e d
 
 -- the kind that the elements are compared as, where the arguments fit the operation
-abbrev pub compared_as : ElementOperator → ScalarKind → List Kind → Option ScalarKind
-compared_as of.Includes e kinds = common_with e (scalar_argument kinds)
-compared_as of.Occurrences e kinds = common_with e (scalar_argument kinds)
-compared_as of.IncludesAll e kinds = common_with e (collection_argument kinds)
-compared_as of.ExcludesAll e kinds = common_with e (collection_argument kinds)
-compared_as of.AsSet e kinds = Some (comparable e)
+abbrev pub comparison_kind : ElementOperator → ScalarKind → List Kind → Option ScalarKind
+comparison_kind of.Includes e kinds = common_with e (scalar_argument kinds)
+comparison_kind of.Occurrences e kinds = common_with e (scalar_argument kinds)
+comparison_kind of.IncludesAll e kinds = common_with e (collection_argument kinds)
+comparison_kind of.ExcludesAll e kinds = common_with e (collection_argument kinds)
+comparison_kind of.AsSet e kinds = Some (comparable e)
 
 abbrev pub parameter_count : Effect → ℕ
 parameter_count (Plainly operator parameters result) = length parameters
@@ -333,11 +333,11 @@ effect_on m (Plainly operator parameters result) x xs offset = do
   _ ← check (accepts m parameters xs.kinds) (type_fault_at WrongType offset)
   Ok (typed (plainly (Plain operator) x.core xs.cores) (basic result))
 effect_on m (OnElements operator) x xs offset = do
-  e ← found (compared_as operator (elements_kind x.kind) xs.kinds) (type_fault_at WrongType offset)
+  e ← found (comparison_kind operator (elements_kind x.kind) xs.kinds) (type_fault_at WrongType offset)
   Ok (typed (plainly (OfElements operator e) x.core xs.cores) (element_result operator (elements_kind x.kind)))
 
 abbrev pub negated_row_if : Bool → TypedTree → TypedTree
-negated_row_if is_negated x = typed (negated_if is_negated x.core) x.kind
+negated_row_if is_negated x = typed (negation_if is_negated x.core) x.kind
 
 -- an operation on values: the row of its name for such a source
 unfoldable pub value_call : Model → TypedTree → List ℕ → TypedTrees → ℕ → Elaborated
@@ -451,18 +451,18 @@ if_of m condition y z offset = do
 -- ---- folds
 
 -- an accumulator is a truth value, a number, a literal of an enumeration or an object
-abbrev pub accumulated : Kind → Option ScalarKind
-accumulated (Scalar element.Boolean) = Some element.Boolean
-accumulated (Scalar element.Integer) = Some element.Integer
-accumulated (Scalar (element.Enumeration e)) = Some (element.Enumeration e)
-accumulated (Scalar (element.Class c)) = Some (element.Class c)
-accumulated kind = None
+abbrev pub accumulator_scalar : Kind → Option ScalarKind
+accumulator_scalar (Scalar element.Boolean) = Some element.Boolean
+accumulator_scalar (Scalar element.Integer) = Some element.Integer
+accumulator_scalar (Scalar (element.Enumeration e)) = Some (element.Enumeration e)
+accumulator_scalar (Scalar (element.Class c)) = Some (element.Class c)
+accumulator_scalar kind = None
 
 -- the kind of an accumulator whose type is written so
 unfoldable pub accumulator_kind : Model → TypeTree → Result ScalarKind TypeFaultAt
 accumulator_kind m declared = do
   kind ← declared_kind m declared
-  found (accumulated kind) (type_fault_at WrongType (type_offset declared))
+  found (accumulator_scalar kind) (type_fault_at WrongType (type_offset declared))
 
 -- what the body of a fold sees: the element, then the accumulator, both by their names
 abbrev pub fold_scope : VariableScope → ScopeVariable → List ℕ → ScalarKind → VariableScope

@@ -143,12 +143,12 @@ fn common_with(element: &ScalarKind, argument: Option<ScalarKind>) -> Option<Sca
 }
 
 /// The kind that elements are compared as, where the arguments fit the operation.
-fn compared_as(
+fn comparison_kind(
     operator: ElementOperator,
     element: &ScalarKind,
     kinds: &[Kind],
 ) -> Option<ScalarKind>
-    ensures { result ≡ spec.compared_as operator element.now kinds.now }
+    ensures { result ≡ spec.comparison_kind operator element.now kinds.now }
 {
     match operator {
         ElementOperator::Includes | ElementOperator::Occurrences => {
@@ -216,7 +216,7 @@ fn effect_on(
         }
         Effect::OnElements(operator) => {
             let element = elements_kind(&source.kind);
-            let Some(common) = compared_as(*operator, &element, &values.kinds) else {
+            let Some(common) = comparison_kind(*operator, &element, &values.kinds) else {
                 return Err(refusal(TypeFlaw::WrongType, offset));
             };
             let of_elements = Operator::OfElements(*operator, common);
@@ -252,7 +252,7 @@ fn value_call(
     }
     let given = effect_on(alloc, model, &row.effect, source, values, offset)?;
     let Typed { core, kind } = given;
-    let core = nodes::negated_if(alloc, row.is_negated, core)?;
+    let core = nodes::negation_if(alloc, row.is_negated, core)?;
     Ok(Typed { core, kind })
 }
 

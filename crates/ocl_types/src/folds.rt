@@ -41,8 +41,8 @@ pub(crate) struct Begun {
 }
 
 /// The kind of an accumulator's values, where they may be accumulated.
-fn accumulated(kind: &Kind) -> Option<ScalarKind>
-    ensures { result ≡ spec.accumulated kind.now }
+fn accumulator_scalar(kind: &Kind) -> Option<ScalarKind>
+    ensures { result ≡ spec.accumulator_scalar kind.now }
 {
     match kind {
         Kind::Scalar(ScalarKind::Boolean) => Some(ScalarKind::Boolean),
@@ -65,7 +65,7 @@ pub(crate) fn accumulator_kind(
     ensures known { IfOk result (IsScalarKindOf model.now) }
 {
     let kind = declared_kind(model, declared)?;
-    match accumulated(&kind) {
+    match accumulator_scalar(&kind) {
         Some(scalar) => Ok(scalar),
         None => Err(TypeFault::At {
             flaw: TypeFlaw::WrongType,

@@ -3,7 +3,7 @@
 ghost use Rattle.std.specs.Prelude.{◌≡◌, IfOk, [], ◌∷◌, map};
 ghost use Rattle.ocl_core.specs.Core as tree;
 ghost use Rattle.ocl_core.specs.CoreView as spec;
-ghost use Rattle.ocl_types.specs.Elaboration.{plainly, negated_if};
+ghost use Rattle.ocl_types.specs.Elaboration.{plainly, negation_if};
 
 use imkl_model::{ClassNo, CollectionKind, FeatureNo};
 use ocl_core::{ConstantValue, Core, CoreLink, Iteration, Operator, PlainOperator};
@@ -33,7 +33,7 @@ pub(crate) fn all_instances(class: ClassNo) -> Core
 
 /// What stands left of a link, with the link.
 #[tactic(auto, using(ocl_core::proofs::ForAbove::views))]
-fn linked(alloc: Global, left: Core, link: CoreLink) -> Result<Core, AllocError>
+fn with_link(alloc: Global, left: Core, link: CoreLink) -> Result<Core, AllocError>
     ensures { IfOk result (λ c. spec.core_view c ≡ spec.core_link_of link (spec.core_view left)) }
 {
     match left {
@@ -55,7 +55,7 @@ fn linked(alloc: Global, left: Core, link: CoreLink) -> Result<Core, AllocError>
 pub(crate) fn feature(alloc: Global, source: Core, feature: FeatureNo) -> Result<Core, AllocError>
     ensures { IfOk result (λ c. spec.core_view c ≡ tree.Feature (spec.core_view source) feature) }
 {
-    linked(alloc, source, CoreLink::Feature { feature })
+    with_link(alloc, source, CoreLink::Feature { feature })
 }
 
 #[tactic(auto, using(ocl_core::proofs::ForAbove::views))]
@@ -68,7 +68,7 @@ pub(crate) fn operation(
     ensures { IfOk result (λ c. spec.core_view c
         ≡ plainly operator (spec.core_view first) (map spec.core_view others.items)) }
 {
-    linked(alloc, first, CoreLink::Operation { operator, others })
+    with_link(alloc, first, CoreLink::Operation { operator, others })
 }
 
 /// An operation on one operand.
@@ -94,8 +94,8 @@ pub(crate) fn binary(
 }
 
 /// The core, or its negation.
-pub(crate) fn negated_if(alloc: Global, is_negated: bool, core: Core) -> Result<Core, AllocError>
-    ensures { IfOk result (λ c. spec.core_view c ≡ negated_if is_negated (spec.core_view core)) }
+pub(crate) fn negation_if(alloc: Global, is_negated: bool, core: Core) -> Result<Core, AllocError>
+    ensures { IfOk result (λ c. spec.core_view c ≡ negation_if is_negated (spec.core_view core)) }
 {
     if is_negated {
         unary(alloc, Operator::Plain(PlainOperator::Not), core)
@@ -118,7 +118,7 @@ pub(crate) fn as_collection(
         collection,
         element,
     };
-    linked(alloc, source, link)
+    with_link(alloc, source, link)
 }
 
 #[tactic(auto, using(ocl_core::proofs::ForAbove::views))]
@@ -131,7 +131,7 @@ pub(crate) fn iterate(
     ensures { IfOk result (λ c. spec.core_view c
         ≡ tree.Iterate iteration (spec.core_view source) (spec.core_view body)) }
 {
-    linked(alloc, source, CoreLink::Iterate { iteration, body })
+    with_link(alloc, source, CoreLink::Iterate { iteration, body })
 }
 
 #[tactic(auto, using(ocl_core::proofs::ForAbove::views))]
@@ -146,7 +146,7 @@ pub(crate) fn fold(
         ≡ tree.Fold kind (spec.core_view source) (spec.core_view start) (spec.core_view body)) }
 {
     let start = Box::new(alloc, start)?;
-    linked(alloc, source, CoreLink::Fold { kind, start, body })
+    with_link(alloc, source, CoreLink::Fold { kind, start, body })
 }
 
 /// A body inside these values.

@@ -155,7 +155,7 @@ pub(crate) fn binary_of(
             };
             let equal = nodes::binary(alloc, operator, left.core, right.core)?;
             Ok(Typed {
-                core: nodes::negated_if(alloc, is_negated, equal)?,
+                core: nodes::negation_if(alloc, is_negated, equal)?,
                 kind: TRUTH,
             })
         }

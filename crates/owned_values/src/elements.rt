@@ -16,7 +16,7 @@ use ocl_base::{CollectionKind, OutOfMemory};
 use std::alloc::Global;
 
 /// Whether two elements are the same.
-pub fn same_item(a: &Item<'_>, b: &Item<'_>) -> bool
+pub(crate) fn same_item(a: &Item<'_>, b: &Item<'_>) -> bool
     ensures { result ≡ same_element (meant_item a.now) (meant_item b.now) }
 {
     match (a, b) {
@@ -33,7 +33,7 @@ pub fn same_item(a: &Item<'_>, b: &Item<'_>) -> bool
 }
 
 /// Whether an element is one of these.
-pub fn is_item_among(items: &[Item<'_>], item: &Item<'_>) -> bool
+pub(crate) fn is_item_among(items: &[Item<'_>], item: &Item<'_>) -> bool
     ensures { result ≡ is_among same_element (meant_items items.now) (meant_item item.now) }
 {
     for other in items {
@@ -45,7 +45,7 @@ pub fn is_item_among(items: &[Item<'_>], item: &Item<'_>) -> bool
 }
 
 /// A number as a value; invalid where it is too large for a whole number.
-pub fn count_value<'a>(n: usize) -> Value<'a>
+pub(crate) fn count_value<'a>(n: usize) -> Value<'a>
     ensures { meant result ≡ integer_value (pos n) }
 {
     match i64::try_from(n) {
@@ -121,7 +121,7 @@ fn same_text(a: &str, b: &str) -> bool
 }
 
 /// How often an element stands in a list.
-pub fn occurrences(items: &[Item<'_>], item: &Item<'_>) -> usize
+pub(crate) fn occurrences(items: &[Item<'_>], item: &Item<'_>) -> usize
     ensures { result ≡ occurrences (meant_items items.now) (meant_item item.now) }
 {
     let mut count = 0;
@@ -146,7 +146,7 @@ pub fn occurrence_count<'a>(v: &Value<'_>, w: &Value<'_>) -> Value<'a>
 }
 
 /// Whether each of some elements is one of others.
-pub fn are_items_among(items: &[Item<'_>], others: &[Item<'_>]) -> bool
+pub(crate) fn are_items_among(items: &[Item<'_>], others: &[Item<'_>]) -> bool
     ensures { result ≡ list_all (is_among same_element (meant_items items.now))
         (meant_items others.now) }
 {

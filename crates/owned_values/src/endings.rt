@@ -43,7 +43,7 @@ fn any_false(bodies: &[Value<'_>]) -> bool
     bodies.iter().any(is_false)
 }
 
-pub fn any_undecided(bodies: &[Value<'_>]) -> bool
+pub(crate) fn any_undecided(bodies: &[Value<'_>]) -> bool
     ensures { result ≡ list_any (λ b. is_undecided (meant b)) bodies.now }
 {
     bodies.iter().any(is_undecided)
@@ -101,7 +101,7 @@ fn keep_if<'a>(kept: &mut Vec<Item<'a>>, keep: bool, item: &Item<'a>) -> Result<
 }
 
 /// The elements whose body is true, or else those whose body is false.
-pub fn kept_items<'a>(
+pub(crate) fn kept_items<'a>(
     alloc: Global,
     items: &[Item<'a>],
     bodies: &[Value<'_>],

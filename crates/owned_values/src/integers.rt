@@ -28,7 +28,7 @@ fn integer(v: &Value<'_>) -> Option<i64>
 }
 
 /// The number that was computed, or invalid.
-fn checked<'a>(n: Option<i64>) -> Value<'a>
+fn number_or_invalid<'a>(n: Option<i64>) -> Value<'a>
     ensures { meant result ≡ checked_value n }
 {
     match n {
@@ -43,7 +43,7 @@ pub fn addition<'a>(v: &Value<'_>, w: &Value<'_>) -> Value<'a>
     let Some((a, b)) = integers(v, w) else {
         return Value::Invalid;
     };
-    checked(a.checked_add(b))
+    number_or_invalid(a.checked_add(b))
 }
 
 pub fn subtraction<'a>(v: &Value<'_>, w: &Value<'_>) -> Value<'a>
@@ -52,7 +52,7 @@ pub fn subtraction<'a>(v: &Value<'_>, w: &Value<'_>) -> Value<'a>
     let Some((a, b)) = integers(v, w) else {
         return Value::Invalid;
     };
-    checked(a.checked_sub(b))
+    number_or_invalid(a.checked_sub(b))
 }
 
 pub fn multiplication<'a>(v: &Value<'_>, w: &Value<'_>) -> Value<'a>
@@ -61,7 +61,7 @@ pub fn multiplication<'a>(v: &Value<'_>, w: &Value<'_>) -> Value<'a>
     let Some((a, b)) = integers(v, w) else {
         return Value::Invalid;
     };
-    checked(a.checked_mul(b))
+    number_or_invalid(a.checked_mul(b))
 }
 
 /// Towards zero; by zero it is invalid.
@@ -71,7 +71,7 @@ pub fn division<'a>(v: &Value<'_>, w: &Value<'_>) -> Value<'a>
     let Some((a, b)) = integers(v, w) else {
         return Value::Invalid;
     };
-    checked(a.checked_div(b))
+    number_or_invalid(a.checked_div(b))
 }
 
 /// What the quotient leaves; of -2^63 and -1 it is 0.
@@ -111,7 +111,7 @@ pub fn negative<'a>(v: &Value<'_>) -> Value<'a>
     let Some(a) = integer(v) else {
         return Value::Invalid;
     };
-    checked(a.checked_neg())
+    number_or_invalid(a.checked_neg())
 }
 
 pub fn absolute<'a>(v: &Value<'_>) -> Value<'a>
@@ -120,7 +120,7 @@ pub fn absolute<'a>(v: &Value<'_>) -> Value<'a>
     let Some(a) = integer(v) else {
         return Value::Invalid;
     };
-    checked(a.checked_abs())
+    number_or_invalid(a.checked_abs())
 }
 
 pub fn less_than<'a>(v: &Value<'_>, w: &Value<'_>) -> Value<'a>

@@ -102,7 +102,7 @@ pub fn is_invalid(value: &Value<'_>) -> bool
 }
 
 /// True where it is known to be true, false where it is known to be false, else invalid.
-pub fn truth_known<'a>(is_so: bool, is_not: bool) -> Value<'a>
+pub(crate) fn truth_known<'a>(is_so: bool, is_not: bool) -> Value<'a>
     ensures { meant result ≡ truth_known is_so is_not }
 {
     if is_so {

@@ -20,7 +20,7 @@ abbrev pub rule_surroundings : Content → Sizes → ℕ → Surroundings
 rule_surroundings u z r = surroundings z.model u r (unwrap_or (context_class z.model u (unit_rule u r)) 0)
 
 -- an upper limit on what the run of the rule of an index is charged for an object, in a population of these sizes; a run may
--- need fewer
+-- be charged less
 abbrev pub rule_step_bound : Content → Sizes → ℕ → ℕ
 rule_step_bound u z r = step_bound (rule_surroundings u z r) z (code_tree (unit_rule u r).code)
 

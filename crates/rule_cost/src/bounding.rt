@@ -16,7 +16,7 @@ use rule_verify::Accepted;
 use std::alloc::Global;
 
 /// The bound of a rule: an upper limit on what its run is charged for an object of its context class, in populations of
-/// these sizes. A run may need fewer. Refused only where memory runs out.
+/// these sizes. A run may be charged less. Refused only where memory runs out.
 pub fn bound(
     alloc: Global,
     accepted: &Accepted<'_>,

@@ -5,8 +5,8 @@ ghost use Rattle.rule_cost.specs.Limits.{capped, limited_bound};
 
 use std::marker::Model;
 
-/// From here on a bound is over.
-const STEP_LIMIT: u64 = 9_223_372_036_854_775_808;
+/// From here on a bound is over: 2^63.
+pub const STEP_LIMIT: u64 = 9_223_372_036_854_775_808;
 
 /// An upper limit on what a rule's run is charged for an object.
 #[derive(Clone, Copy, Debug, PartialEq, Eq)]

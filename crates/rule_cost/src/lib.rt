@@ -17,5 +17,5 @@ mod walk;
 pub use admission::admit;
 pub use admitted::Admitted;
 pub use bounding::bound;
-pub use cut::Bound;
+pub use cut::{Bound, STEP_LIMIT};
 pub use fault::CostFault;

@@ -37,7 +37,7 @@ IsStarted m = (r o : ℕ) × (c : Configuration) × (k : ℕ) × Represents m r 
 abbrev pub IsBegun : Seen → ℕ → ℕ → Seen → Type 0
 IsBegun old r o new = Represents new r o (beginning old r o) 0
 
--- as many steps are made as the grant g pays for (the argument `steps` of `run`), and the end isn't reached
+-- as many steps are made as the grant g pays for (the argument `grant` of `run`), and the end isn't reached
 abbrev pub IsPaused : Seen → ℕ → Seen → Type 0
 IsPaused old g new =
     (r o : ℕ) (c : Configuration) (k : ℕ) → Represents old r o c k

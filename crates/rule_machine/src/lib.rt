@@ -1,4 +1,4 @@
-//! The machine: values, steps and runs of accepted code.
+//! The machine: configurations, steps and runs of accepted code.
 #![tactic(auto)]
 
 mod applying;

@@ -69,7 +69,7 @@ fn variable(variables: &ReservedStack<Slot>, number: usize) -> Slot
 }
 
 /// What a symbol names.
-fn named(task: Task<'_>, symbol: SymbolNumber) -> Named
+fn resolve(task: Task<'_>, symbol: SymbolNumber) -> Named
     requires task { IsTask task }
     requires named { IsSome (symbol_named (setting_in task) symbol.0) }
     ensures name { symbol_named (setting_in task.entry) symbol.0 ≡ Some result }
@@ -89,7 +89,7 @@ fn class_named(task: Task<'_>, symbol: SymbolNumber) -> ClassNo
     ensures name { symbol_named (setting_in task.entry) symbol.0 ≡ Some (Named.Class result) }
     ensures known { result < length task.entry.population.now.content.model.classes }
 {
-    let Named::Class(class) = named(task, symbol) else {
+    let Named::Class(class) = resolve(task, symbol) else {
         unreachable!()
     };
     class
@@ -104,7 +104,7 @@ fn feature_named(task: Task<'_>, symbol: SymbolNumber) -> FeatureNo
         Some (Named.Feature class result)) }
     ensures known { result < length task.entry.population.now.content.model.features }
 {
-    let Named::Feature(_, feature) = named(task, symbol) else {
+    let Named::Feature(_, feature) = resolve(task, symbol) else {
         unreachable!()
     };
     feature
@@ -120,7 +120,7 @@ fn literal_slot(task: Task<'_>, symbol: SymbolNumber) -> Slot
         literal_named (symbol_named (setting_in task.entry) symbol.0) ≡ Some r →
         SlotIs (task_lists task.entry) pool (length pool) result r }
 {
-    let Named::Literal(_, literal) = named(task, symbol) else {
+    let Named::Literal(_, literal) = resolve(task, symbol) else {
         unreachable!()
     };
     index_slot(literal.index())

@@ -34,7 +34,7 @@ impl State {
     {
         let mut left = u128::from(grant);
         'steps: loop {
-            if let Some(verdict) = self.ended(task) {
+            if let Some(verdict) = self.verdict_at_end(task) {
                 return Ok(Progress::Done(verdict));
             }
             let charge = self.charge(task);
@@ -89,7 +89,7 @@ impl State {
         self.start(task, object);
         let (mut book, mut share) = blank.open::<L>();
         'steps: loop {
-            if let Some(verdict) = self.ended(task) {
+            if let Some(verdict) = self.verdict_at_end(task) {
                 return Ok(verdict);
             }
             let charge = self.charge(task);

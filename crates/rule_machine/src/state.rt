@@ -108,7 +108,7 @@ impl State {
     }
 
     /// The verdict, if the end is reached. Sequences that are through drop out.
-    pub(crate) fn ended(&mut self, task: Task<'_>) -> Option<Verdict>
+    pub(crate) fn verdict_at_end(&mut self, task: Task<'_>) -> Option<Verdict>
         requires place { LiesIn task self.old }
         requires goes { (c : Configuration) × CanGoOn task self.old c }
         ensures same { Same task.entry self.old self.new }

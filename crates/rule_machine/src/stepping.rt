@@ -114,7 +114,7 @@ impl State {
         };
         self.controls.push(Control::Rest(after, self.end));
         self.controls
-            .push(opened(instr, from, after, source, self.pool.len()));
+            .push(opening(instr, from, after, source, self.pool.len()));
         leave_start(&mut self.operands, source, start);
         self.at = after;
         self.end = after;
@@ -141,7 +141,7 @@ impl State {
         };
         self.controls.push(Control::Rest(after, self.end));
         if is_iteration(instr) {
-            let mark = opened(instr, from, after, value, self.pool.len());
+            let mark = opening(instr, from, after, value, self.pool.len());
             self.controls.push(mark);
             self.at = after;
             self.end = after;
@@ -257,7 +257,7 @@ fn choice(value: Slot) -> Option<bool>
 }
 
 /// An iteration over a collection, before its first turn; one over invalid is skipped.
-fn opened(instr: Instr, from: usize, end: usize, source: Slot, opened: usize) -> Control
+fn opening(instr: Instr, from: usize, end: usize, source: Slot, opened: usize) -> Control
     ensures { result ≡ opening_mark instr from end source opened }
 {
     if source.is_plain() {

@@ -15,7 +15,7 @@ use rule_machine::Verdict;
 use rule_verify::Accepted;
 
 /// So many verdicts, none of which is decided.
-fn undecided(count: usize) -> Summary
+fn all_undecided(count: usize) -> Summary
     ensures { result ≡ record { holds = 0; fails = 0; undecided = count } }
 {
     Summary {
@@ -55,7 +55,7 @@ fn undecided_rule_length(accepted: &Accepted<'_>, population: &Population<'_>, r
     let name = accepted.rule_name(rule);
     let objects = population.instances(accepted.context(rule));
     undecided_lines_length(population, name, objects)
-        + rule_line_length(name, objects.len(), undecided(objects.len()))
+        + rule_line_length(name, objects.len(), all_undecided(objects.len()))
 }
 
 /// How long the report is where no verdict is decided.
@@ -71,5 +71,5 @@ pub(crate) fn longest_length(accepted: &Accepted<'_>, population: &Population<'_
         length += undecided_rule_length(accepted, population, rule);
         pairs += population.instances(accepted.context(rule)).len();
     }
-    length + total_line_length(undecided(pairs))
+    length + total_line_length(all_undecided(pairs))
 }

@@ -29,7 +29,7 @@ pub(crate) fn if_both_plain(v: Slot, w: Slot, made: Slot) -> Slot
 }
 
 /// The number that was computed, or invalid.
-fn checked(n: Option<i64>) -> Slot
+fn number_or_invalid(n: Option<i64>) -> Slot
     ensures { result ≡ checked_slot n }
 {
     match n {
@@ -41,19 +41,19 @@ fn checked(n: Option<i64>) -> Slot
 fn sum(v: Slot, w: Slot) -> Slot
     ensures { result ≡ integer_slot (v.number +ℤ w.number) }
 {
-    checked(v.number.checked_add(w.number))
+    number_or_invalid(v.number.checked_add(w.number))
 }
 
 fn difference(v: Slot, w: Slot) -> Slot
     ensures { result ≡ integer_slot (v.number -ℤ w.number) }
 {
-    checked(v.number.checked_sub(w.number))
+    number_or_invalid(v.number.checked_sub(w.number))
 }
 
 fn product(v: Slot, w: Slot) -> Slot
     ensures { result ≡ integer_slot (v.number *ℤ w.number) }
 {
-    checked(v.number.checked_mul(w.number))
+    number_or_invalid(v.number.checked_mul(w.number))
 }
 
 /// Towards zero; by zero it is invalid.
@@ -61,7 +61,7 @@ fn quotient(v: Slot, w: Slot) -> Slot
     ensures { result ≡ (if int_eq w.number (pos 0) then invalid_slot else
         integer_slot (int_div v.number w.number)) }
 {
-    checked(v.number.checked_div(w.number))
+    number_or_invalid(v.number.checked_div(w.number))
 }
 
 /// What the quotient leaves; of -2^63 and -1 it is 0.
@@ -97,13 +97,13 @@ fn larger(v: Slot, w: Slot) -> Slot
 fn opposite(v: Slot) -> Slot
     ensures { result ≡ integer_slot (neg_ℤ v.number) }
 {
-    checked(v.number.checked_neg())
+    number_or_invalid(v.number.checked_neg())
 }
 
 fn size(v: Slot) -> Slot
     ensures { result ≡ integer_slot (int_max v.number (neg_ℤ v.number)) }
 {
-    checked(v.number.checked_abs())
+    number_or_invalid(v.number.checked_abs())
 }
 
 /// The sum of two whole numbers.

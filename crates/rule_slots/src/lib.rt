@@ -33,7 +33,7 @@ pub use reading::{element, scalar_slot};
 pub use sets::{are_distinct, as_collection, as_set};
 pub use slot::{
     Home, Mark, Slot, home_named, index_slot, invalid_slot, null_slot, number_slot, part_slot,
-    text_slot, truth_slot,
+    truth_slot,
 };
 pub use sorting::move_down;
 pub use sums::summation;

@@ -1,5 +1,4 @@
-//! Collections in order. Where their elements stand in order, they are compared and searched in one go; else each element
-//! is compared with each.
+//! Collections in order: whether their elements stand in order, and elements looked for by halving in one that does.
 
 ghost use Rattle.std.specs.Prelude.{◌≡◌, length, true, false};
 ghost use Rattle.ocl_base.specs.Lists.{is_among};

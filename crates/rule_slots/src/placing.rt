@@ -13,7 +13,7 @@ use rule_code::WrittenScalar;
 use std::cmp::Ordering;
 
 /// A slot that tells an index by a word that its kind has no use for.
-fn placed(kind: WrittenScalar, slot: Slot, index: usize) -> Slot {
+fn with_index(kind: WrittenScalar, slot: Slot, index: usize) -> Slot {
     match kind {
         WrittenScalar::Void | WrittenScalar::Boolean | WrittenScalar::Integer => {
             Slot { index, ..slot }
@@ -71,7 +71,7 @@ fn push_in_places(lists: Lists<'_>, pool: &mut Vec<Slot>, kind: WrittenScalar, s
 {
     for index in 0..source.count {
         let slot = element(lists, pool, source, index);
-        pool.push_reserved(placed(kind, slot, index));
+        pool.push_reserved(with_index(kind, slot, index));
     }
 }
 

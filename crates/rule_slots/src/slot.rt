@@ -113,7 +113,7 @@ pub fn index_slot(index: usize) -> Slot
 }
 
 /// A text: a range of the bytes of one that stands in a list.
-pub fn text_slot(list: u8, index: usize, start: usize, count: usize) -> Slot
+pub(crate) fn text_slot(list: u8, index: usize, start: usize, count: usize) -> Slot
     ensures { result ≡ text_slot list index start count }
 {
     slot_of(Mark::Plain, list, 0, index, start, count)

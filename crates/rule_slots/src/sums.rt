@@ -40,7 +40,7 @@ fn sum_of(lists: Lists<'_>, pool: &[Slot], source: Slot) -> Option<i128>
 
 /// The sum of a collection's elements; invalid where an element is null or the sum is out of range.
 #[inline(always)]
-fn summed(lists: Lists<'_>, pool: &[Slot], source: Slot) -> Slot
+fn sum_slot(lists: Lists<'_>, pool: &[Slot], source: Slot) -> Slot
     requires { IsInHome (lists_in lists) (length pool.now) source }
     ensures { result ≡ summed_slot
         (sum_of_slots (held_slots (lists_in lists.entry) pool.now source)) }
@@ -62,7 +62,7 @@ pub fn summation(lists: Lists<'_>, pool: &[Slot], v: Slot) -> Slot
         (is_elements_operand p Integer) summation v result }
 {
     if v.is_plain() {
-        summed(lists, pool, v)
+        sum_slot(lists, pool, v)
     } else {
         invalid_slot()
     }

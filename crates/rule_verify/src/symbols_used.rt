@@ -29,7 +29,7 @@ fn symbol_of_kind(kind: WrittenKind) -> Option<SymbolNumber>
 }
 
 /// The symbol that an instruction uses, if it uses one.
-pub fn symbol_used(instr: Instr) -> Option<SymbolNumber>
+pub(crate) fn symbol_used(instr: Instr) -> Option<SymbolNumber>
     ensures { symbol_list result ≡ spec.symbols_used instr }
 {
     match instr {

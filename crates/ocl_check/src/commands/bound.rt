@@ -8,8 +8,8 @@ ghost use Rattle.ocl_check.specs.Bound.{bound_line_of, bound_lines, bound_answer
 ghost use Rattle.ocl_check.specs.Input.{CantBeRead};
 ghost use Rattle.ocl_check.specs.Reply.{said};
 
-use crate::commands::asking::ask;
 use crate::commands::rules::{Asked, Question};
+use crate::commands::three_inputs::ask;
 use crate::outcome::Outcome;
 use crate::reply::Reply;
 use crate::source::Source;

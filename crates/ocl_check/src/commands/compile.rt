@@ -35,7 +35,7 @@ pub(crate) enum Compiled {
 }
 
 /// The result of compiling where an input is refused, if there was memory for the reply.
-fn refused(reply: Result<Reply, OutOfMemory>) -> Result<Compiled, OutOfMemory>
+fn refusal(reply: Result<Reply, OutOfMemory>) -> Result<Compiled, OutOfMemory>
     ensures { IsRefusalOf reply result }
 {
     match reply {
@@ -70,7 +70,7 @@ fn compile_rule_text(
             unit.well_formed();
             compiled_unit(alloc, &unit)
         }
-        Err(fault) => refused(refused_text(alloc, fault)),
+        Err(fault) => refusal(refused_text(alloc, fault)),
     }
 }
 
@@ -83,7 +83,7 @@ fn compile_inputs(alloc: Global, model: &[u8], text: &[u8]) -> Result<Compiled, 
     each_text_is_read();
     match ClassModel::read(alloc, model) {
         Ok(model) => compile_rule_text(alloc, &model, text),
-        Err(fault) => refused(refused_model(alloc, &fault)),
+        Err(fault) => refusal(refused_model(alloc, &fault)),
     }
 }
 

@@ -11,9 +11,9 @@ ghost use Rattle.ocl_check.specs.Desk.{script_answer, calls_answer, desk_answer}
 ghost use Rattle.ocl_check.specs.Ending.{IsEnding, IsInput};
 ghost use Rattle.ocl_check.specs.Input.{CantBeRead};
 
-use crate::commands::asking::{Inputs, answer_inputs, read_inputs};
 use crate::commands::judge::MAX_BUDGET;
 use crate::commands::rules::{Asked, Question};
+use crate::commands::three_inputs::{Inputs, answer_inputs, read_inputs};
 use crate::input::{InputFault, MAX_INPUT, read_input};
 use crate::outcome::{CommandFault, Outcome, answer};
 use crate::reply::{refused_cost, refused_script};

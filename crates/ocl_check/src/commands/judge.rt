@@ -12,8 +12,8 @@ ghost use Rattle.ocl_check.specs.Judge.{status_of, report_answer, budget_answer}
 ghost use Rattle.ocl_check.specs.JudgeText.{JudgeAnswers};
 ghost use Rattle.ocl_check.specs.Asking.{asked_by};
 
-use crate::commands::asking::ask;
 use crate::commands::rules::{Asked, Question};
+use crate::commands::three_inputs::ask;
 use crate::outcome::{CommandFault, Outcome, answer};
 use crate::reply::refused_cost;
 use crate::source::Source;

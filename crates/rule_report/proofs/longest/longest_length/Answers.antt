@@ -27,4 +27,4 @@ returns c =
     let p = c.args.population.now.content in
     let r = c.loop-rule.rule in
     longest_is u p r c.loop-rule.length c.loop-rule.pairs c.total_line_length.result (omega (arith, c.loop-rule-test.false, c.loop-rule.auto.rule-end, c.rules-rule-end.ensures)) c.loop-rule.invariant.so c.loop-rule.invariant.pairs
-    (c.total_line_length.ensures.length ∙ ap (λ s. length (total_line s)) c.undecided.ensures)
+    (c.total_line_length.ensures.length ∙ ap (λ s. length (total_line s)) c.all_undecided.ensures)

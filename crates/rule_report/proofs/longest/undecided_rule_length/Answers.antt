@@ -19,4 +19,4 @@ returns-clause-length c =
     let context = ap (λ m. context_class m u (unit_rule u r)) c.requires.one_model ∙ c.context.ensures.class in
     let objects : context_objects u p r ≡ os = ap (instances_of p) context ∙ sym c.instances-objects.ensures.objects in
     undecided_rule_is u p r name os c.undecided_lines_length.result c.rule_line_length.result c.rule_name-name.ensures objects c.undecided_lines_length.ensures.length
-    (c.rule_line_length.ensures.length ∙ ap (λ s. length (rule_line_of name (length os) s)) c.undecided.ensures)
+    (c.rule_line_length.ensures.length ∙ ap (λ s. length (rule_line_of name (length os) s)) c.all_undecided.ensures)

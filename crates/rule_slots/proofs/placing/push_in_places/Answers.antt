@@ -23,7 +23,7 @@ loop-index-preserved c =
     let old = c.args.pool.now.items in
     let i = c.loop-index.invariant in
     let p = c.loop-index.pool.items in
-    let s = c.placed.result in (
+    let s = c.with_index.result in (
       ap (take (length old)) c.push_reserved.ensures.items ∙ take-append-le (length old) p (s ∷ []) (omega (arith, i.1)) ∙ i.0,
       omega (arith, ap length c.push_reserved.ensures.items, length-append p (s ∷ []), i.1),
       c.push_reserved.ensures.capacity ∙ i.2,

@@ -30,7 +30,7 @@ returns-in-Err c =
     c.refused_model.ensures.said c.refused_model.ensures.refused in (
       t.0,
       t.1,
-      refusal_seen c.refused_model.result c.refused.result answer said c.refused.ensures,
-      refusal_keeps c.refused_model.result c.refused.result answer (HasUnitFor (model_of c.args.model.now) t.0)
-          (no_unit_for (model_of c.args.model.now) t.0) said c.refused.ensures,
+      refusal_seen c.refused_model.result c.refusal.result answer said c.refusal.ensures,
+      refusal_keeps c.refused_model.result c.refusal.result answer (HasUnitFor (model_of c.args.model.now) t.0)
+          (no_unit_for (model_of c.args.model.now) t.0) said c.refusal.ensures,
     )

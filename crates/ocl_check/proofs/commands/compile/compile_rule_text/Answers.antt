@@ -22,6 +22,6 @@ returns-in-Err c =
     let said = refusal_said c.refused_text.result (text_rules_fault c.in-Err.fault) x nothing_compiled compiled_answer (λ f. refl) h.3 c.refused_text.ensures in (
       h.0,
       h.1,
-      refusal_seen c.refused_text.result c.refused.result (compiled_answer x) said c.refused.ensures,
-      refusal_keeps c.refused_text.result c.refused.result (compiled_answer x) (HasUnit x) (no_unit x) said c.refused.ensures,
+      refusal_seen c.refused_text.result c.refusal.result (compiled_answer x) said c.refusal.ensures,
+      refusal_keeps c.refused_text.result c.refusal.result (compiled_answer x) (HasUnit x) (no_unit x) said c.refusal.ensures,
     )

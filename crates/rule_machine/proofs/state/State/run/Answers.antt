@@ -17,87 +17,87 @@ steps-init c =
       room = record { operands = refl; variables = refl; controls = refl };
     }
 
-pub ended-requires-clause-place : goal.ended-requires-clause-place
-ended-requires-clause-place c = c.steps.invariant.stands.3.stands.place
+pub verdict_at_end-requires-clause-place : goal.verdict_at_end-requires-clause-place
+verdict_at_end-requires-clause-place c = c.steps.invariant.stands.3.stands.place
 
-pub ended-requires-clause-goes : goal.ended-requires-clause-goes
-ended-requires-clause-goes c = somewhere_goes c.args.task c.steps.self c.steps.invariant.stands
+pub verdict_at_end-requires-clause-goes : goal.verdict_at_end-requires-clause-goes
+verdict_at_end-requires-clause-goes c = somewhere_goes c.args.task c.steps.self c.steps.invariant.stands
 
 pub returns-in-Some-clause-ran : goal.returns-in-Some-clause-ran
 returns-in-Some-clause-ran c =
-    is_done c.args.task c.args.self.now c.steps.self c.ended.new.self c.args.grant (c.args.grant - c.steps.left) c.in-Some.verdict c.requires.rule (omega arith) c.in-Some.ensures.same c.in-Some.ensures.outcome c.steps.invariant.came
+    is_done c.args.task c.args.self.now c.steps.self c.verdict_at_end.new.self c.args.grant (c.args.grant - c.steps.left) c.in-Some.verdict c.requires.rule (omega arith) c.in-Some.ensures.same c.in-Some.ensures.outcome c.steps.invariant.came
 
 pub returns-in-Some-clause-stands : goal.returns-in-Some-clause-stands
-returns-in-Some-clause-stands c = is_started c.args.task c.ended.new.self (somewhere_same c.args.task c.steps.self c.ended.new.self c.in-Some.ensures.same c.steps.invariant.stands)
+returns-in-Some-clause-stands c = is_started c.args.task c.verdict_at_end.new.self (somewhere_same c.args.task c.steps.self c.verdict_at_end.new.self c.in-Some.ensures.same c.steps.invariant.stands)
 
 pub returns-in-Some-clause-rule : goal.returns-in-Some-clause-rule
-returns-in-Some-clause-rule c = task_same c.args.task c.steps.self c.ended.new.self c.in-Some.ensures.same c.steps.invariant.rule
+returns-in-Some-clause-rule c = task_same c.args.task c.steps.self c.verdict_at_end.new.self c.in-Some.ensures.same c.steps.invariant.rule
 
 pub returns-in-Some-clause-room : goal.returns-in-Some-clause-room
-returns-in-Some-clause-room c = rooms_joined c.args.task c.args.self.now c.steps.self c.ended.new.self c.steps.invariant.room c.in-Some.ensures.same.kept.room
+returns-in-Some-clause-room c = rooms_joined c.args.task c.args.self.now c.steps.self c.verdict_at_end.new.self c.steps.invariant.room c.in-Some.ensures.same.kept.room
 
 pub returns-then-charge-left-clause-ran : goal.returns-then-charge-left-clause-ran
 returns-then-charge-left-clause-ran c =
-    is_paused c.args.task c.args.self.now c.steps.self c.ended.new.self c.args.grant (c.args.grant - c.steps.left) c.charge-charge.result c.requires.rule (omega arith) (omega (arith, c.steps.invariant.left, c.if-charge-left.true)) c.charge-charge.ensures c.in_default.ensures.front c.in_default.ensures.same c.steps.invariant.came
+    is_paused c.args.task c.args.self.now c.steps.self c.verdict_at_end.new.self c.args.grant (c.args.grant - c.steps.left) c.charge-charge.result c.requires.rule (omega arith) (omega (arith, c.steps.invariant.left, c.if-charge-left.true)) c.charge-charge.ensures c.in_default.ensures.front c.in_default.ensures.same c.steps.invariant.came
 
 pub returns-then-charge-left-clause-stands : goal.returns-then-charge-left-clause-stands
-returns-then-charge-left-clause-stands c = is_started c.args.task c.ended.new.self (somewhere_same c.args.task c.steps.self c.ended.new.self c.in_default.ensures.same c.steps.invariant.stands)
+returns-then-charge-left-clause-stands c = is_started c.args.task c.verdict_at_end.new.self (somewhere_same c.args.task c.steps.self c.verdict_at_end.new.self c.in_default.ensures.same c.steps.invariant.stands)
 
 pub returns-then-charge-left-clause-rule : goal.returns-then-charge-left-clause-rule
-returns-then-charge-left-clause-rule c = task_same c.args.task c.steps.self c.ended.new.self c.in_default.ensures.same c.steps.invariant.rule
+returns-then-charge-left-clause-rule c = task_same c.args.task c.steps.self c.verdict_at_end.new.self c.in_default.ensures.same c.steps.invariant.rule
 
 pub returns-then-charge-left-clause-room : goal.returns-then-charge-left-clause-room
-returns-then-charge-left-clause-room c = rooms_joined c.args.task c.args.self.now c.steps.self c.ended.new.self c.steps.invariant.room c.in_default.ensures.same.kept.room
+returns-then-charge-left-clause-room c = rooms_joined c.args.task c.args.self.now c.steps.self c.verdict_at_end.new.self c.steps.invariant.room c.in_default.ensures.same.kept.room
 
 pub step-requires-clause-goes : goal.step-requires-clause-goes
 step-requires-clause-goes c =
-    let s = somewhere_same c.args.task c.steps.self c.ended.new.self c.in_default.ensures.same c.steps.invariant.stands in
-    (s.1, s.3.stands.is, somewhere_steps c.args.task c.ended.new.self c.in_default.ensures.front s)
+    let s = somewhere_same c.args.task c.steps.self c.verdict_at_end.new.self c.in_default.ensures.same c.steps.invariant.stands in
+    (s.1, s.3.stands.is, somewhere_steps c.args.task c.verdict_at_end.new.self c.in_default.ensures.front s)
 
 pub step-requires-clause-room : goal.step-requires-clause-room
 step-requires-clause-room c =
     let t = c.args.task in
-    let s = somewhere_same t c.steps.self c.ended.new.self c.in_default.ensures.same c.steps.invariant.stands in
-    let room = rooms_joined t c.args.self.now c.steps.self c.ended.new.self c.steps.invariant.room c.in_default.ensures.same.kept.room in
-    somewhere_room t c.ended.new.self c.in_default.ensures.front (room_same t (depths_in t) c.args.self.now c.ended.new.self room c.requires.room) s
+    let s = somewhere_same t c.steps.self c.verdict_at_end.new.self c.in_default.ensures.same c.steps.invariant.stands in
+    let room = rooms_joined t c.args.self.now c.steps.self c.verdict_at_end.new.self c.steps.invariant.room c.in_default.ensures.same.kept.room in
+    somewhere_room t c.verdict_at_end.new.self c.in_default.ensures.front (room_same t (depths_in t) c.args.self.now c.verdict_at_end.new.self room c.requires.room) s
 
 pub returns-in_err-step-clause-ran : goal.returns-in_err-step-clause-ran
 returns-in_err-step-clause-ran c =
     let p = err_from_is_err_and c.from_residual.result c.from_residual.ensures.1 in
     let small : c.charge-charge.result < 2 ^ 128 - 1 = omega (arith, c.steps.invariant.left, c.if-charge-left.false, c.ranges.grant.fits) in
     rw p.1
-    (is_refused c.args.task c.args.self.now c.steps.self c.ended.new.self c.step.new.self c.args.grant (c.args.grant - c.steps.left) c.charge-charge.result c.requires.rule (omega (arith, c.steps.invariant.left, c.if-charge-left.false)) c.charge-charge.ensures small c.in_default.ensures.front c.in_default.ensures.same c.in_err-step.ensures.refused c.steps.invariant.came)
+    (is_refused c.args.task c.args.self.now c.steps.self c.verdict_at_end.new.self c.step.new.self c.args.grant (c.args.grant - c.steps.left) c.charge-charge.result c.requires.rule (omega (arith, c.steps.invariant.left, c.if-charge-left.false)) c.charge-charge.ensures small c.in_default.ensures.front c.in_default.ensures.same c.in_err-step.ensures.refused c.steps.invariant.came)
 
 pub returns-in_err-step-clause-spare : goal.returns-in_err-step-clause-spare
 returns-in_err-step-clause-spare c =
     let p = err_from_is_err_and c.from_residual.result c.from_residual.ensures.1 in
-    let s = somewhere_same c.args.task c.steps.self c.ended.new.self c.in_default.ensures.same c.steps.invariant.stands in
-    rw p.1 (omega (arith, c.steps.invariant.left, c.if-charge-left.false, some_charge c.args.task c.ended.new.self c.charge-charge.result c.charge-charge.ensures c.in_default.ensures.front s))
+    let s = somewhere_same c.args.task c.steps.self c.verdict_at_end.new.self c.in_default.ensures.same c.steps.invariant.stands in
+    rw p.1 (omega (arith, c.steps.invariant.left, c.if-charge-left.false, some_charge c.args.task c.verdict_at_end.new.self c.charge-charge.result c.charge-charge.ensures c.in_default.ensures.front s))
 
 pub returns-in_err-step-clause-stands : goal.returns-in_err-step-clause-stands
 returns-in_err-step-clause-stands c =
-    is_started c.args.task c.step.new.self (somewhere_same c.args.task c.ended.new.self c.step.new.self c.in_err-step.ensures.refused (somewhere_same c.args.task c.steps.self c.ended.new.self c.in_default.ensures.same c.steps.invariant.stands))
+    is_started c.args.task c.step.new.self (somewhere_same c.args.task c.verdict_at_end.new.self c.step.new.self c.in_err-step.ensures.refused (somewhere_same c.args.task c.steps.self c.verdict_at_end.new.self c.in_default.ensures.same c.steps.invariant.stands))
 
 pub returns-in_err-step-clause-rule : goal.returns-in_err-step-clause-rule
 returns-in_err-step-clause-rule c =
-    task_same c.args.task c.ended.new.self c.step.new.self c.in_err-step.ensures.refused (task_same c.args.task c.steps.self c.ended.new.self c.in_default.ensures.same c.steps.invariant.rule)
+    task_same c.args.task c.verdict_at_end.new.self c.step.new.self c.in_err-step.ensures.refused (task_same c.args.task c.steps.self c.verdict_at_end.new.self c.in_default.ensures.same c.steps.invariant.rule)
 
 pub returns-in_err-step-clause-room : goal.returns-in_err-step-clause-room
 returns-in_err-step-clause-room c =
     let t = c.args.task in
-    rooms_joined t c.args.self.now c.ended.new.self c.step.new.self (rooms_joined t c.args.self.now c.steps.self c.ended.new.self c.steps.invariant.room c.in_default.ensures.same.kept.room) c.in_err-step.ensures.refused.kept.room
+    rooms_joined t c.args.self.now c.verdict_at_end.new.self c.step.new.self (rooms_joined t c.args.self.now c.steps.self c.verdict_at_end.new.self c.steps.invariant.room c.in_default.ensures.same.kept.room) c.in_err-step.ensures.refused.kept.room
 
 pub steps-smaller : goal.steps-smaller
 steps-smaller c =
-    let s = somewhere_same c.args.task c.steps.self c.ended.new.self c.in_default.ensures.same c.steps.invariant.stands in
-    omega (arith, c.if-charge-left.false, some_charge c.args.task c.ended.new.self c.charge-charge.result c.charge-charge.ensures c.in_default.ensures.front s)
+    let s = somewhere_same c.args.task c.steps.self c.verdict_at_end.new.self c.in_default.ensures.same c.steps.invariant.stands in
+    omega (arith, c.if-charge-left.false, some_charge c.args.task c.verdict_at_end.new.self c.charge-charge.result c.charge-charge.ensures c.in_default.ensures.front s)
 
 pub steps-preserved : goal.steps-preserved
 steps-preserved c =
     let t = c.args.task in
     let i = c.steps.invariant in
     let m = c.steps.self in
-    let m1 = c.ended.new.self in
+    let m1 = c.verdict_at_end.new.self in
     let charge = c.charge-charge.result in
     let same = c.in_default.ensures.same in
     let front = c.in_default.ensures.front in

@@ -6,7 +6,7 @@ use Rattle.ocl_check.specs.ThreeInputs.{delivery_answer, population_of}
 use Rattle.ocl_check.proofs.Asked.{some_reading}
 use Rattle.ocl_check.proofs.Endings.{ending_as}
 use Rattle.ocl_check.proofs.Described.{population_is, population_is_refused, said_unless}
-use Rattle.ocl_check.proofs.commands.asking.answer_delivery.Goals as goal
+use Rattle.ocl_check.proofs.commands.three_inputs.answer_delivery.Goals as goal
 
 pub returns-in-Ok : goal.returns-in-Ok
 returns-in-Ok g c =

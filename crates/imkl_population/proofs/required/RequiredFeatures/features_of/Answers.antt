@@ -1,7 +1,7 @@
 use Rattle.std.proofs.Common.{◌≡◌, length, rules}
 use Rattle.imkl_population.specs.Required.{is_required, required}
 use Rattle.imkl_population.proofs.Orders.{places-small}
-use Rattle.imkl_population.proofs.required.RequiredFeatures.listed.Goals as goal
+use Rattle.imkl_population.proofs.required.RequiredFeatures.features_of.Goals as goal
 
 pub returns-in-Some-clause-known : goal.returns-in-Some-clause-known
 returns-in-Some-clause-known c =

@@ -5,7 +5,7 @@ use Rattle.ocl_check.specs.Asking.{is_whole_asked}
 use Rattle.ocl_check.proofs.Asked.{some_reading, ended_alike}
 use Rattle.ocl_check.proofs.Endings.{within, kept_untouched, no_write, failed_read, read_fails, was_read}
 use Rattle.ocl_check.proofs.Inputs.{known_bytes, has_known}
-use Rattle.ocl_check.proofs.commands.asking.ask.Goals as goal
+use Rattle.ocl_check.proofs.commands.three_inputs.ask.Goals as goal
 
 pub returns-in-Ok-clause-answered : goal.returns-in-Ok-clause-answered
 returns-in-Ok-clause-answered g c =

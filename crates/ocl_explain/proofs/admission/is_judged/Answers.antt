@@ -6,7 +6,7 @@ use Rattle.rule_code.specs.View.{content}
 use Rattle.ocl_compile.specs.Compiling.{compile_of}
 use Rattle.ocl_explain.proofs.Judging.{judged_is}
 use Rattle.ocl_explain.proofs.Told.{ok_as}
-use Rattle.ocl_explain.proofs.judged.is_judged.Goals as goal
+use Rattle.ocl_explain.proofs.admission.is_judged.Goals as goal
 
 pub returns-in-Ok : goal.returns-in-Ok
 returns-in-Ok c =

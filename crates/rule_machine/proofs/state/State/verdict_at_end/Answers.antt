@@ -4,7 +4,7 @@ use Rattle.rule_machine.specs.Shown.{code_in, setting_in, task_lists, AreControl
 use Rattle.rule_machine.proofs.Verdicts.{end_has_operand, end_is, rest_is, is_mark}
 use Rattle.rule_machine.proofs.Lies.{is_with, tail_taken}
 use Rattle.rule_machine.proofs.Rooms.{front_has_none}
-use Rattle.rule_machine.proofs.state.State.ended.Goals as goal
+use Rattle.rule_machine.proofs.state.State.verdict_at_end.Goals as goal
 
 pub unreachable-requires : goal.unreachable-requires
 unreachable-requires c =
