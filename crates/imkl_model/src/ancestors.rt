@@ -23,7 +23,7 @@ fn direct_row(alloc: Global, count: usize, supers: &[ClassNo]) -> Result<Row, Al
     Ok(row)
 }
 
-fn direct(alloc: Global, classes: &[Class]) -> Result<Vec<Row>, AllocError>
+fn direct_rows(alloc: Global, classes: &[Class]) -> Result<Vec<Row>, AllocError>
     requires { AreWithin (length classes.now) (supers_in classes.now) }
     ensures square { IfOk result (λ v. IsSquare (length classes.now) v.items) }
     ensures steps { IfOk result (λ v. (i j : ℕ) → i < length classes.now
@@ -75,7 +75,7 @@ pub(crate) fn ancestor_rows(alloc: Global, classes: &[Class]) -> Result<Vec<Row>
     ensures reaches { IfOk result (λ v. (i j : ℕ) → i < length classes.now
         → mark_at v.items i j ≡ reaches (supers_in classes.now) i j) }
 {
-    let mut rows = direct(alloc, classes)?;
+    let mut rows = direct_rows(alloc, classes)?;
     let mut middle = Row::new(alloc, classes.len())?;
     for k in 0..classes.len() {
         round(&mut rows, &mut middle, k);

@@ -32,7 +32,7 @@ pub(crate) fn first_belonging(
 }
 
 /// The feature of a group that a class has from a class above it. The class has none of its own.
-pub(crate) fn inherited(
+pub(crate) fn feature_above(
     classes: &ClassTable,
     features: &FeatureTable,
     class: ClassNo,
@@ -65,6 +65,6 @@ pub(crate) fn feature_of(
     let group = features.group(name)?;
     match group.own(class) {
         Some(own) => Some(own),
-        None => inherited(classes, features, class, group),
+        None => feature_above(classes, features, class, group),
     }
 }

@@ -7,17 +7,10 @@ ghost use Rattle.imkl_model.specs.Checks.{is_within_limits, is_multiplicity, has
 ghost use Rattle.imkl_model.specs.WrittenFeatures.{written_features};
 
 use crate::feature::FeatureInfo;
+use crate::limits::{MAX_FEATURES, MAX_RENAMES, MAX_TYPES};
 use crate::written::{Written, WrittenEnumeration, WrittenFeature};
 
-/// The greatest count of classes, of enumerations, and of literals of one enumeration.
-const MAX_TYPES: usize = 4_096;
-
-/// The greatest count of features.
-const MAX_FEATURES: usize = 65_535;
-
-/// The greatest count of old names.
-const MAX_RENAMES: usize = 65_535;
-
+/// Whether each enumeration has few enough literals.
 fn few_literals(enumerations: &[WrittenEnumeration]) -> bool
     ensures { result ≡ list_all (λ e. nat_le (length e.literals) max_types) enumerations.now }
 {

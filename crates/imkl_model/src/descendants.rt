@@ -11,7 +11,7 @@ use crate::numbers::ClassNo;
 use crate::row::Row;
 use std::alloc::{AllocError, Global};
 
-fn conforming(alloc: Global, classes: &ClassTable, class: ClassNo) -> Result<Row, AllocError>
+fn row_below(alloc: Global, classes: &ClassTable, class: ClassNo) -> Result<Row, AllocError>
     requires { class < length classes.now }
     ensures { IfOk result (λ r. (length r ≡ length classes.now) × ((c : ℕ) → c < length classes.now
         → has_mark r c ≡ is_or_reaches (supers_in classes.now) c class)) }
@@ -31,7 +31,7 @@ pub(crate) fn descendants(alloc: Global, classes: &ClassTable) -> Result<Vec<Row
 {
     let mut rows = Vec::new(alloc);
     for class in 0..classes.len() {
-        rows.push(conforming(alloc, classes, ClassNo::new(class))?)?;
+        rows.push(row_below(alloc, classes, ClassNo::new(class))?)?;
     }
     Ok(rows)
 }

@@ -13,23 +13,23 @@ use crate::enumeration_table::EnumerationTable;
 use crate::fault::ModelFault;
 use crate::feature_table::FeatureTable;
 use crate::items::Items;
-use crate::name::Name;
 use crate::numbering::{
     Scope, association_names, class_renames_of, classes_of, enumerations_of, feature_renames_of,
     features_of, scope_of,
 };
 use crate::rename_table::RenameTable;
 use crate::written::{Written, WrittenFeature};
+use ocl_base::Text;
 use std::alloc::Global;
 
 /// The parts of a class model, with numbers for names.
 #[derive(Drop)]
 pub(crate) struct Draft {
-    pub(crate) name: Name,
+    pub(crate) name: Text,
     pub(crate) enumerations: EnumerationTable,
     pub(crate) classes: ClassTable,
     pub(crate) features: FeatureTable,
-    pub(crate) associations: Items<Name>,
+    pub(crate) associations: Items<Text>,
     pub(crate) renames: RenameTable,
 }
 

@@ -8,13 +8,13 @@ ghost use Rattle.imkl_model.specs.Checks.{repeats_type, repeats_literal, repeats
 ghost use Rattle.imkl_model.specs.WrittenFeatures.{written_features};
 
 use crate::entry::ClassRename;
-use crate::name::Name;
 use crate::names::Names;
 use crate::words::is_predefined;
 use crate::written::{
     Written, WrittenAssociation, WrittenClass, WrittenClassRename, WrittenEnumeration,
     WrittenFeature,
 };
+use ocl_base::Text;
 use std::alloc::{AllocError, Global};
 
 /// What has a name of its own.
@@ -29,7 +29,7 @@ pub(crate) trait Named {
         ensures { IfOk result (λ text. string_bytes text ≡ label self.now) };
 }
 
-impl Named for Name {
+impl Named for Text {
     ghost label = { λ n. n };
 
     fn text(&self, alloc: Global) -> Result<String, AllocError> {

@@ -1,14 +1,14 @@
 //! What a class model lists beside its features.
 
 use crate::items::Items;
-use crate::name::Name;
 use crate::names::Names;
 use crate::numbers::{ClassNo, FeatureNo};
+use ocl_base::Text;
 
 /// An enumeration, with its literals as written.
 #[derive(Drop)]
 pub struct Enumeration {
-    pub name: Name,
+    pub name: Text,
     /// The names of its literals. A literal's number is the index of its name here.
     pub literals: Names,
 }
@@ -16,7 +16,7 @@ pub struct Enumeration {
 /// A class, with its direct superclasses as written.
 #[derive(Drop)]
 pub struct Class {
-    pub name: Name,
+    pub name: Text,
     /// Whether no object is directly of it.
     pub is_abstract: bool,
     /// The numbers of its direct superclasses.
@@ -27,7 +27,7 @@ pub struct Class {
 #[derive(Drop)]
 pub struct ClassRename {
     /// The name that the class had.
-    pub old: Name,
+    pub old: Text,
     pub class: ClassNo,
 }
 
@@ -37,6 +37,6 @@ pub struct FeatureRename {
     /// The feature's owner.
     pub class: ClassNo,
     /// The name that the feature had.
-    pub old: Name,
+    pub old: Text,
     pub feature: FeatureNo,
 }

@@ -3,9 +3,8 @@
 ghost use Rattle.std.specs.Prelude.{◌≡◌};
 ghost use Rattle.imkl_model.specs.Features.{is_attribute, is_opposite, is_single, is_unique};
 
-use crate::name::Name;
 use crate::numbers::{ClassNo, EnumNo, FeatureNo};
-use ocl_base::CollectionKind;
+use ocl_base::{CollectionKind, Text};
 
 /// What one element of a feature's value is.
 #[derive(Clone, Copy, PartialEq, Eq, Debug)]
@@ -59,7 +58,7 @@ impl Role {
 #[derive(Debug, Drop)]
 pub struct FeatureInfo {
     /// The feature's name.
-    pub name: Name,
+    pub name: Text,
     /// The class that owns the feature.
     pub owner: ClassNo,
     /// What one element of its value is.

@@ -4,14 +4,14 @@ ghost use Rattle.std.specs.Prelude.{◌≡◌, ◌+◌, ◌^◌, ◌<◌, ◌++�
 ghost use Rattle.imkl_model.specs.WrittenFeatures.{written_attribute_of, written_source_end, written_opposite_end, written_attributes, written_ends, written_features};
 
 use crate::feature::Role;
-use crate::name::Name;
 use crate::numbers::FeatureNo;
 use crate::written::{Written, WrittenAssociation, WrittenAttribute, WrittenClass, WrittenFeature};
+use ocl_base::Text;
 use std::alloc::{AllocError, Global};
 
 fn attribute(
     alloc: Global,
-    owner: &Name,
+    owner: &Text,
     attribute: &WrittenAttribute,
 ) -> Result<WrittenFeature, AllocError>
     ensures { IfOk result (λ f. f ≡ written_attribute_of owner.now attribute.now) }
@@ -78,7 +78,7 @@ fn opposite(
 fn push_attributes(
     alloc: Global,
     features: &mut Vec<WrittenFeature>,
-    owner: &Name,
+    owner: &Text,
     attributes: &[WrittenAttribute],
 ) -> Result<(), AllocError>
     ensures { OnOk result (features.new.items

@@ -19,11 +19,11 @@ use crate::fault::ModelFault;
 use crate::feature::FeatureInfo;
 use crate::feature_table::FeatureTable;
 use crate::items::Items;
-use crate::name::Name;
 use crate::numbers::{ClassNo, EnumNo, FeatureNo, LiteralNo};
 use crate::reading::read;
 use crate::rename_table::RenameTable;
 use crate::same::all_same;
+use ocl_base::Text;
 use std::alloc::Global;
 use std::marker::Model;
 
@@ -34,11 +34,11 @@ use std::marker::Model;
 /// No read takes memory.
 #[derive(Drop)]
 pub struct ClassModel {
-    name: Name,
+    name: Text,
     enumerations: EnumerationTable,
     classes: ClassTable,
     features: FeatureTable,
-    associations: Items<Name>,
+    associations: Items<Text>,
     renames: RenameTable,
 }
 

@@ -16,14 +16,13 @@ use crate::fault::ModelFault;
 use crate::feature::{ElementType, FeatureInfo, Role, is_single};
 use crate::feature_table::FeatureTable;
 use crate::items::Items;
-use crate::name::Name;
 use crate::names::Names;
 use crate::numbers::{ClassNo, EnumNo};
 use crate::written::{
     Written, WrittenAssociation, WrittenClass, WrittenClassRename, WrittenEnumeration,
     WrittenFeature, WrittenFeatureRename,
 };
-use ocl_base::CollectionKind;
+use ocl_base::{CollectionKind, Text};
 use std::alloc::{AllocError, Global};
 
 /// The names of a class model's classes and enumerations.
@@ -49,7 +48,7 @@ pub(crate) fn scope_of(alloc: Global, written: &Written) -> Result<Scope, AllocE
     })
 }
 
-fn number_in(names: &Names, name: &Name) -> Result<usize, ModelFault>
+fn number_in(names: &Names, name: &Text) -> Result<usize, ModelFault>
     ensures { Gives model_fault (λ n. n) result (number_in names.now name.now) }
 {
     names
@@ -57,7 +56,7 @@ fn number_in(names: &Names, name: &Name) -> Result<usize, ModelFault>
         .ok_or(ModelFault::UnknownName)
 }
 
-fn class_in(scope: &Scope, name: &Name) -> Result<ClassNo, ModelFault>
+fn class_in(scope: &Scope, name: &Text) -> Result<ClassNo, ModelFault>
     ensures { Gives model_fault (λ n. n) result (number_in scope.now.classes name.now) }
 {
     let index = number_in(&scope.classes, name)?;
@@ -65,7 +64,7 @@ fn class_in(scope: &Scope, name: &Name) -> Result<ClassNo, ModelFault>
 }
 
 #[tactic(auto, unfolding(crate::specs::Numbering::scalar_type))]
-fn scalar_type(scope: &Scope, name: &Name) -> Result<ElementType, ModelFault>
+fn scalar_type(scope: &Scope, name: &Text) -> Result<ElementType, ModelFault>
     ensures { Gives model_fault (λ e. e) result (scalar_type scope.now name.now) }
 {
     match name.as_str() {
@@ -80,7 +79,7 @@ fn scalar_type(scope: &Scope, name: &Name) -> Result<ElementType, ModelFault>
 }
 
 #[tactic(auto, unfolding(crate::specs::Numbering::element_type))]
-fn element_type(scope: &Scope, role: Role, name: &Name) -> Result<ElementType, ModelFault>
+fn element_type(scope: &Scope, role: Role, name: &Text) -> Result<ElementType, ModelFault>
     ensures { Gives model_fault (λ e. e) result (element_type scope.now role name.now) }
 {
     match role {
@@ -148,7 +147,7 @@ pub(crate) fn features_of(
     Ok(found)
 }
 
-fn supers_of(alloc: Global, scope: &Scope, supers: &[Name]) -> Result<Vec<ClassNo>, ModelFault>
+fn supers_of(alloc: Global, scope: &Scope, supers: &[Text]) -> Result<Vec<ClassNo>, ModelFault>
     ensures { Gives model_fault (λ v. v.items) result
         (each (number_in scope.now.classes) supers.now) }
 {
@@ -216,7 +215,7 @@ pub(crate) fn enumerations_of(
 pub(crate) fn association_names(
     alloc: Global,
     associations: &[WrittenAssociation],
-) -> Result<Vec<Name>, AllocError>
+) -> Result<Vec<Text>, AllocError>
     ensures { IfOk result (λ v. v.items ≡ map (λ a. a.name) associations.now) }
 {
     let mut found = Vec::new(alloc);

@@ -4,9 +4,9 @@ ghost use Rattle.std.specs.Prelude.{◌≡◌, Decides};
 
 use crate::entry::{Class, ClassRename, Enumeration, FeatureRename};
 use crate::feature::FeatureInfo;
-use crate::name::Name;
 use crate::names::Names;
 use crate::numbers::ClassNo;
+use ocl_base::Text;
 
 /// What has content to compare.
 pub(crate) trait Same {
@@ -31,8 +31,8 @@ pub(crate) fn all_same<T: Same>(left: &[T], right: &[T]) -> bool
     true
 }
 
-impl Same for Name {
-    fn is_same(&self, other: &Name) -> bool {
+impl Same for Text {
+    fn is_same(&self, other: &Text) -> bool {
         self.same_as(other)
     }
 }

@@ -16,7 +16,7 @@ use crate::row::Row;
 use std::alloc::{AllocError, Global};
 
 /// The classes that some of these features belong to, as marks.
-fn belonging(
+fn classes_with(
     alloc: Global,
     classes: &ClassTable,
     features: &FeatureTable,
@@ -64,8 +64,8 @@ fn shares(
     if !begins_with(old.numbers(), alias) {
         return Ok(false);
     }
-    let renamed = belonging(alloc, classes, aliases, below, old.numbers())?;
-    let named = belonging(alloc, classes, features, below, present.numbers())?;
+    let renamed = classes_with(alloc, classes, aliases, below, old.numbers())?;
+    let named = classes_with(alloc, classes, features, below, present.numbers())?;
     Ok(renamed.common(&named).is_some())
 }
 

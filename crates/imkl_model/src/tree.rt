@@ -15,8 +15,8 @@ ghost use Rattle.imkl_model.specs.Shape.{title_from, name_from, lower_from, uppe
 
 use crate::fault::ModelFault;
 use crate::items::Items;
+use crate::limits::MAX_BOUND;
 use crate::lists::{Spelled, each_of};
-use crate::name::Name;
 use crate::renames::{class_renames, feature_renames};
 use crate::words::{is_model_name, is_title};
 use crate::written::{
@@ -24,11 +24,9 @@ use crate::written::{
     WrittenEnumeration, WrittenFeatureRename, WrittenRename,
 };
 use imkl_json::{list_of, member_count, record_of};
+use ocl_base::Text;
 use serde_json::{Map, Value};
 use std::alloc::Global;
-
-/// The greatest bound of a feature.
-const MAX_BOUND: u64 = 1_000_000;
 
 /// The members of a JSON object that has exactly this number of them; else the fault is `Shape`.
 fn record(value: &Value, members: usize) -> Result<&Map<String, Value>, ModelFault>
@@ -71,7 +69,7 @@ fn list(value: &Value) -> Result<&[Value], ModelFault>
 }
 
 #[tactic(auto, unfolding(crate::specs::Shape::title_from))]
-fn title_of(alloc: Global, value: &Value) -> Result<Name, ModelFault>
+fn title_of(alloc: Global, value: &Value) -> Result<Text, ModelFault>
     ensures tree { Gives model_fault (λ n. n) result (title_from (view value.now)) }
     ensures fits { IfOk result (λ n. is_title n ≡ true) }
 {
@@ -79,11 +77,11 @@ fn title_of(alloc: Global, value: &Value) -> Result<Name, ModelFault>
     if !is_title(title) {
         return Err(ModelFault::Shape);
     }
-    Ok(Name::new(String::from_str(alloc, title)?))
+    Ok(Text::new(String::from_str(alloc, title)?))
 }
 
 #[tactic(auto, unfolding(crate::specs::Shape::name_from))]
-fn name_of(alloc: Global, value: &Value) -> Result<Name, ModelFault>
+fn name_of(alloc: Global, value: &Value) -> Result<Text, ModelFault>
     ensures tree { Gives model_fault (λ n. n) result (name_from (view value.now)) }
     ensures fits { IfOk result IsModelName }
 {
@@ -91,7 +89,7 @@ fn name_of(alloc: Global, value: &Value) -> Result<Name, ModelFault>
     if !is_model_name(name) {
         return Err(ModelFault::Shape);
     }
-    Ok(Name::new(String::from_str(alloc, name)?))
+    Ok(Text::new(String::from_str(alloc, name)?))
 }
 
 #[tactic(auto, unfolding(crate::specs::Shape::lower_from))]
@@ -147,7 +145,7 @@ fn class_of(alloc: Global, value: &Value) -> Result<WrittenClass, ModelFault>
     record(value, 4)?;
     let name = name_of(alloc, member(value, "name")?)?;
     let is_abstract = truth(member(value, "abstract")?)?;
-    let supers = each_of::<Name>(alloc, list(member(value, "supers")?)?)?;
+    let supers = each_of::<Text>(alloc, list(member(value, "supers")?)?)?;
     let attributes = each_of::<WrittenAttribute>(alloc, list(member(value, "attributes")?)?)?;
     Ok(WrittenClass {
         name,
@@ -164,7 +162,7 @@ fn enumeration_of(alloc: Global, value: &Value) -> Result<WrittenEnumeration, Mo
 {
     record(value, 2)?;
     let name = name_of(alloc, member(value, "name")?)?;
-    let literals = each_of::<Name>(alloc, list(member(value, "literals")?)?)?;
+    let literals = each_of::<Text>(alloc, list(member(value, "literals")?)?)?;
     Ok(WrittenEnumeration {
         name,
         literals: Items::new(literals),
@@ -255,7 +253,7 @@ fn renames_of(alloc: Global, value: &Value) -> Result<Vec<WrittenRename>, ModelF
     }
 }
 
-impl Spelled for Name {
+impl Spelled for Text {
     ghost use Rattle.imkl_model.specs.Shape.{name_from};
     ghost use Rattle.imkl_model.specs.WellFormed.{IsModelName};
 

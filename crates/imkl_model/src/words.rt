@@ -3,10 +3,8 @@
 ghost use Rattle.std.specs.Prelude.{◌≡◌};
 ghost use Rattle.imkl_model.specs.Words.{is_model_name, is_title, is_predefined};
 
+use crate::limits::MAX_NAME_LENGTH;
 use ocl_base::is_name;
-
-/// The greatest number of characters of a name.
-const MAX_NAME_LENGTH: usize = 128;
 
 /// Whether a text may name a class, an enumeration, a literal, a feature or an association.
 #[tactic(auto, unfolding(crate::specs::Words::is_model_name))]

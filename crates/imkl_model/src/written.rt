@@ -2,14 +2,14 @@
 
 use crate::feature::Role;
 use crate::items::Items;
-use crate::name::Name;
+use ocl_base::Text;
 
 /// An attribute, with the name of its type.
 #[derive(Debug, Drop)]
 pub struct WrittenAttribute {
-    pub name: Name,
+    pub name: Text,
     /// The name of its type: a predefined one, or an enumeration's.
-    pub element: Name,
+    pub element: Text,
     /// The least number of values.
     pub lower: u32,
     /// The greatest number of values, if there is one.
@@ -23,11 +23,11 @@ pub struct WrittenAttribute {
 /// A class, with the names of its direct superclasses.
 #[derive(Debug, Drop)]
 pub struct WrittenClass {
-    pub name: Name,
+    pub name: Text,
     /// Whether no object is directly of it.
     pub is_abstract: bool,
     /// The names of its direct superclasses.
-    pub supers: Items<Name>,
+    pub supers: Items<Text>,
     /// The attributes that it owns itself.
     pub attributes: Items<WrittenAttribute>,
 }
@@ -35,15 +35,15 @@ pub struct WrittenClass {
 /// An enumeration.
 #[derive(Debug, Drop)]
 pub struct WrittenEnumeration {
-    pub name: Name,
+    pub name: Text,
     /// The names of its literals.
-    pub literals: Items<Name>,
+    pub literals: Items<Text>,
 }
 
 /// One end of an association.
 #[derive(Debug, Drop)]
 pub struct WrittenEnd {
-    pub name: Name,
+    pub name: Text,
     /// The least number of objects that it holds.
     pub lower: u32,
     /// The greatest number of objects that it holds, if there is one.
@@ -55,11 +55,11 @@ pub struct WrittenEnd {
 /// An association from a class to a class: the class `from` owns `end`, the class `to` owns `opposite`.
 #[derive(Debug, Drop)]
 pub struct WrittenAssociation {
-    pub name: Name,
+    pub name: Text,
     /// The name of the class that owns `end`.
-    pub from: Name,
+    pub from: Text,
     /// The name of the class that owns `opposite`.
-    pub to: Name,
+    pub to: Text,
     /// The source end: it holds objects of `to`, and a delivery writes it.
     pub end: WrittenEnd,
     /// The opposite end: it holds objects of `from`, and follows from the source ends.
@@ -70,20 +70,20 @@ pub struct WrittenAssociation {
 #[derive(Debug, Drop)]
 pub struct WrittenClassRename {
     /// The name that the class had.
-    pub old: Name,
+    pub old: Text,
     /// The name of the class.
-    pub new: Name,
+    pub new: Text,
 }
 
 /// An old name of a feature.
 #[derive(Debug, Drop)]
 pub struct WrittenFeatureRename {
     /// The name of the class that owns the feature.
-    pub class: Name,
+    pub class: Text,
     /// The name that the feature had.
-    pub old: Name,
+    pub old: Text,
     /// The name of the feature.
-    pub new: Name,
+    pub new: Text,
 }
 
 /// An old name.
@@ -99,7 +99,7 @@ pub enum WrittenRename {
 #[derive(Debug, Drop)]
 pub struct Written {
     /// The class model's own name.
-    pub name: Name,
+    pub name: Text,
     pub enumerations: Items<WrittenEnumeration>,
     pub classes: Items<WrittenClass>,
     pub associations: Items<WrittenAssociation>,
@@ -113,10 +113,10 @@ pub struct Written {
 #[derive(Debug, Drop)]
 pub struct WrittenFeature {
     /// The name of the class that owns it.
-    pub owner: Name,
-    pub name: Name,
+    pub owner: Text,
+    pub name: Text,
     /// The name of its type; for an end, of the class whose objects it holds.
-    pub element: Name,
+    pub element: Text,
     /// The least number of elements.
     pub lower: u32,
     /// The greatest number of elements, if there is one.

@@ -6,8 +6,8 @@ use Rattle.ocl_base.proofs.ForAbove.{places_below}
 use Rattle.imkl_model.proofs.Lookup.{first_is, own_is, inherited_is}
 use Rattle.imkl_model.proofs.belonging.feature_of.Goals as goal
 
-pub inherited-requires-clause-numbers : goal.inherited-requires-clause-numbers
-inherited-requires-clause-numbers c =
+pub feature_above-requires-clause-numbers : goal.feature_above-requires-clause-numbers
+feature_above-requires-clause-numbers c =
     rw c.in_ok-group.ensures.numbers (places_below (is_named (model_with c.args.classes.now c.args.features.now) c.args.name.now) (length c.args.features.now))
 
 pub returns-in_err-group : goal.returns-in_err-group
@@ -19,4 +19,4 @@ returns-in-Some c =
 
 pub returns-in-None : goal.returns-in-None
 returns-in-None c =
-    inherited_is (model_with c.args.classes.now c.args.features.now) c.args.class c.args.name.now c.in_ok-group.group.now c.in_ok-group.ensures c.requires.distinct (sym c.own.ensures ∙ c.in-None.is) c.inherited.result c.inherited.ensures
+    inherited_is (model_with c.args.classes.now c.args.features.now) c.args.class c.args.name.now c.in_ok-group.group.now c.in_ok-group.ensures c.requires.distinct (sym c.own.ensures ∙ c.in-None.is) c.feature_above.result c.feature_above.ensures

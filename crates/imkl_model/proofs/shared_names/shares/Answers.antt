@@ -21,11 +21,11 @@ returns-in_default-group c =
     let none : features_named m name ≡ [] = ap (features_named m) (sym is_name) ∙ sym c.in_default-group.ensures.numbers in
     sym (no_and (begins_with (group a c.args.alias) c.args.alias) (is_shared a m name) (not_shared a m name none))
 
-pub belonging-requires-clause-numbers : goal.belonging-requires-clause-numbers
-belonging-requires-clause-numbers c = rw (c.numbers-2.ensures, c.in-Some.ensures.numbers) (places_below (is_named_in c.args.aliases.now c.as_str-name.result.now) (length c.args.aliases.now))
+pub classes_with-requires-clause-numbers : goal.classes_with-requires-clause-numbers
+classes_with-requires-clause-numbers c = rw (c.numbers-2.ensures, c.in-Some.ensures.numbers) (places_below (is_named_in c.args.aliases.now c.as_str-name.result.now) (length c.args.aliases.now))
 
-pub belonging-requires-2-clause-numbers : goal.belonging-requires-2-clause-numbers
-belonging-requires-2-clause-numbers c = rw (c.numbers-3.ensures, c.in-Some-group.ensures.numbers) (places_below (is_named_in c.args.features.now c.as_str-name.result.now) (length c.args.features.now))
+pub classes_with-requires-2-clause-numbers : goal.classes_with-requires-2-clause-numbers
+classes_with-requires-2-clause-numbers c = rw (c.numbers-3.ensures, c.in-Some-group.ensures.numbers) (places_below (is_named_in c.args.features.now c.as_str-name.result.now) (length c.args.features.now))
 
 pub returns : goal.returns
 returns c =

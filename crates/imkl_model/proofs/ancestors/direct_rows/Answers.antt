@@ -1,6 +1,6 @@
 use Rattle.std.proofs.Common.{length}
 use Rattle.imkl_model.proofs.Rows.{row_within}
-use Rattle.imkl_model.proofs.ancestors.direct.Goals as goal
+use Rattle.imkl_model.proofs.ancestors.direct_rows.Goals as goal
 
 pub direct_row-requires : goal.direct_row-requires
 direct_row-requires c =

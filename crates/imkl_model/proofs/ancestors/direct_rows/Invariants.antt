@@ -2,7 +2,7 @@ use Rattle.std.proofs.Common.{◌≡◌, ℕ, ◌<◌, length, get_or, []}
 use Rattle.imkl_model.specs.Tables.{mark_at}
 use Rattle.imkl_model.specs.Chains.{is_super}
 use Rattle.imkl_model.specs.ClassModel.{supers_in}
-use Rattle.imkl_model.proofs.ancestors.direct.Given as goal
+use Rattle.imkl_model.proofs.ancestors.direct_rows.Given as goal
 
 abbrev pub invariant-loop-class : goal.invariant-loop-class
 invariant-loop-class l = record {

@@ -2,7 +2,7 @@ use Rattle.std.proofs.Common.{◌≡◌, ◌<◌, ℕ, true, length, get_or}
 use Rattle.imkl_model.specs.ClassModel.{belongs}
 use Rattle.imkl_model.specs.Groups.{model_with}
 use Rattle.imkl_model.specs.Tables.{has_mark}
-use Rattle.imkl_model.proofs.shared_names.belonging.Given as goal
+use Rattle.imkl_model.proofs.shared_names.classes_with.Given as goal
 
 abbrev pub invariant-loop-number : goal.invariant-loop-number
 invariant-loop-number l = record {

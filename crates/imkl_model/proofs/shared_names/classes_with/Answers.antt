@@ -5,7 +5,7 @@ use Rattle.imkl_model.specs.Groups.{model_with}
 use Rattle.imkl_model.specs.Tables.{has_mark}
 use Rattle.imkl_model.proofs.ClashGroups.{any_of, of_any}
 use Rattle.imkl_model.proofs.Doubles.{same_truth}
-use Rattle.imkl_model.proofs.shared_names.belonging.Goals as goal
+use Rattle.imkl_model.proofs.shared_names.classes_with.Goals as goal
 
 pub returns : goal.returns
 returns c =

@@ -2,7 +2,7 @@ use Rattle.std.proofs.Common.{◌≡◌, ℕ, ◌<◌, ◌≤◌, false, length}
 use Rattle.imkl_model.specs.Tables.{has_mark}
 use Rattle.imkl_model.specs.Chains.{is_or_reaches}
 use Rattle.imkl_model.specs.ClassModel.{supers_in}
-use Rattle.imkl_model.proofs.descendants.conforming.Given as goal
+use Rattle.imkl_model.proofs.descendants.row_below.Given as goal
 
 abbrev pub invariant-loop-from : goal.invariant-loop-from
 invariant-loop-from l = record {
