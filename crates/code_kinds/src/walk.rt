@@ -1,9 +1,9 @@
 //! A walk over the code of a rule that knows the kinds of the operands on the stack, as far as the code is right.
 
-use crate::giving::{given, result_of_block};
 use crate::matching::matches;
 use crate::naming::Names;
-use crate::taking::{Operands, body_ends_with, operands_of, rule_ends_with};
+use crate::operands::{Operands, body_ends_with, operands_of, rule_ends_with};
+use crate::results::{result_of, result_of_block};
 use ocl_kinds::{Kind, ScalarKind, elements_kind};
 use rule_code::{Instr, Rule};
 use rule_verify::{Pattern, Shape, shape_of};
@@ -79,7 +79,7 @@ impl<'n> Walk<'n> {
     }
 
     /// How many instructions are left of the innermost open body, from an index on.
-    pub fn left(&self, index: usize) -> usize {
+    pub fn remaining(&self, index: usize) -> usize {
         self.end().saturating_sub(index)
     }
 
@@ -223,7 +223,7 @@ impl<'n> Walk<'n> {
         let can_take = self.names.missing_symbol(instruction).is_none()
             && self.has_variable(instruction)
             && self.has_operands(&wanted)
-            && body_length(instruction) < self.left(index);
+            && body_length(instruction) < self.remaining(index);
         if !can_take {
             self.stop = Some(Stop::Instruction(index));
             return Ok(());
@@ -247,7 +247,7 @@ impl<'n> Walk<'n> {
         };
         if let Shape::Single = shape_of(instruction) {
             self.operands.truncate(from);
-            let kind = given(&self.names, &self.variables, instruction, &lowest);
+            let kind = result_of(&self.names, &self.variables, instruction, &lowest);
             self.operands.push(kind)?;
             return Ok(());
         }

@@ -1,6 +1,6 @@
 //! Kinds in words.
 
-use crate::taking::Operands;
+use crate::operands::Operands;
 use imkl_model::ClassModel;
 use model_names::{class_name, enumeration_name};
 use ocl_kinds::{Kind, ScalarKind};

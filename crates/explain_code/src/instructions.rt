@@ -3,7 +3,7 @@
 ghost use Rattle.std.specs.Prelude.{◌≤◌};
 
 use crate::symbols::{kind_words, scalar_words, symbol_words, text_of};
-use explain_notes::quoted;
+use explain_notes::quote;
 use rule_code::{Instr, Unit, WrittenKind, WrittenScalar};
 use std::alloc::{AllocError, Global};
 
@@ -150,7 +150,7 @@ fn value_words(alloc: Global, unit: &Unit, instruction: &Instr) -> Result<String
         Instr::Int(number) => format!(in alloc; "{number}"),
         Instr::Bool(truth) => format!(in alloc; "{truth}"),
         Instr::Text(number) => {
-            let text = quoted(alloc, text_of(unit, *number))?;
+            let text = quote(alloc, text_of(unit, *number))?;
             format!(in alloc; "'{text}'")
         }
         Instr::Enum(symbol)

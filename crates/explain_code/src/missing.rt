@@ -1,7 +1,7 @@
 //! What a class model doesn't have that code names.
 
 use code_kinds::Names;
-use explain_notes::{Nearest, quoted};
+use explain_notes::{Nearest, quote};
 use imkl_model::{ClassModel, ClassNo, EnumNo};
 use model_names::{offer_classes, offer_enumerations, offer_features, offer_literals};
 use rule_code::{Symbol, SymbolNumber};
@@ -15,8 +15,8 @@ fn write_missing(
     name: &str,
     nearest: &Nearest<'_>,
 ) -> Result<(), AllocError> {
-    let name = quoted(alloc, name)?;
-    match nearest.found() {
+    let name = quote(alloc, name)?;
+    match nearest.name() {
         Some(near) => writeln!(out, "  {what} `{name}`; did you mean `{near}`?"),
         None => writeln!(out, "  {what} `{name}`"),
     }

@@ -1,6 +1,6 @@
 //! What the numbers of a unit name.
 
-use explain_notes::quoted;
+use explain_notes::quote;
 use rule_code::{Symbol, SymbolNumber, TextNumber, Unit, WrittenKind, WrittenScalar};
 use std::alloc::{AllocError, Global};
 
@@ -31,7 +31,7 @@ pub fn symbol_words(
         ) => (text_of(unit, *enumeration), "::", text_of(unit, *literal)),
         None => ("", "", ""),
     };
-    let (first, second) = (quoted(alloc, first)?, quoted(alloc, second)?);
+    let (first, second) = (quote(alloc, first)?, quote(alloc, second)?);
     format!(in alloc; "{first}{mark}{second}")
 }
 

@@ -6,7 +6,7 @@ use crate::objects::{Document, look_at_object};
 use crate::report::Report;
 use crate::shapes::delivery_shape;
 use crate::values::values_of;
-use explain_notes::{Input, quoted};
+use explain_notes::{Input, quote};
 use imkl_delivery::DeliveryFault;
 use imkl_model::{ClassModel, FeatureNo, Role};
 use model_names::{belongs, feature_info};
@@ -149,9 +149,9 @@ fn explain_other_model(
     document: &Value,
 ) -> Result<(), AllocError> {
     let path = input.path;
-    let wanted = quoted(alloc, model.name())?;
+    let wanted = quote(alloc, model.name())?;
     let given = match document.get("model").and_then(Value::as_str) {
-        Some(name) => quoted(alloc, name)?,
+        Some(name) => quote(alloc, name)?,
         None => String::new(alloc),
     };
     writeln!(

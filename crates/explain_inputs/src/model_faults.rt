@@ -1,7 +1,7 @@
 //! The faults of a class model that has the shape of one.
 
 use crate::drafts::{Draft, DraftClass, draft_of, items, text, texts};
-use explain_notes::{Nearest, quoted};
+use explain_notes::{Nearest, quote};
 use imkl_model::ModelFault;
 use serde_json::Value;
 use std::alloc::{AllocError, Global};
@@ -26,7 +26,7 @@ fn first_repeat<'v>(alloc: Global, names: &[&'v str]) -> Result<Option<&'v str>,
 fn repeat_flaw(alloc: Global, names: &[&str], what: &str) -> Result<Flaw, AllocError> {
     match first_repeat(alloc, names)? {
         Some(name) => {
-            let name = quoted(alloc, name)?;
+            let name = quote(alloc, name)?;
             Ok(Some(format!(in alloc; "{what} `{name}` stands twice")?))
         }
         None => Ok(None),
@@ -138,8 +138,8 @@ fn absent_flaw<'n>(
         }
         nearest.offer(alloc, *other)?;
     }
-    let written = quoted(alloc, name)?;
-    Ok(Some(match nearest.found() {
+    let written = quote(alloc, name)?;
+    Ok(Some(match nearest.name() {
         Some(near) => format!(in alloc; "{what} `{written}` isn't there; did you mean `{near}`?")?,
         None => format!(in alloc; "{what} `{written}` isn't there")?,
     }))
@@ -224,7 +224,7 @@ fn cycle_words<'v>(
     start: &'v str,
     before: &BTreeMap<&'v str, &'v str>,
 ) -> Result<String, AllocError> {
-    let mut words = quoted(alloc, start)?;
+    let mut words = quote(alloc, start)?;
     let mut name = start;
     for _ in 0..before.len() {
         let Some(below) = before.get(name) else {

@@ -2,8 +2,8 @@
 
 use crate::entries::Entry;
 use crate::report::{Report, Subject};
-use crate::values::{is_of_type, number_of, values_of, words_of_type, written};
-use explain_notes::{Nearest, quoted};
+use crate::values::{is_of_type, number_of, quote_value, values_of, words_of_type};
+use explain_notes::{Nearest, quote};
 use imkl_model::{ClassModel, ClassNo, ElementType, FeatureInfo, FeatureNo, Role};
 use imkl_population::{MAX_ID_LENGTH, PopulationFault};
 use model_names::{
@@ -35,8 +35,8 @@ fn is_id(id: &str) -> bool {
 }
 
 /// What is asked of a name that is near a wanted one.
-fn meant(alloc: Global, nearest: &Nearest<'_>) -> Result<String, AllocError> {
-    match nearest.found() {
+fn suggestion(alloc: Global, nearest: &Nearest<'_>) -> Result<String, AllocError> {
+    match nearest.name() {
         Some(name) => format!(in alloc; "; did you mean `{name}`?"),
         None => Ok(String::new(alloc)),
     }
@@ -78,8 +78,8 @@ fn look_at_class(
     let Some(class) = model.class(subject.class) else {
         let mut nearest = Nearest::to(subject.class);
         offer_classes(alloc, model, &mut nearest)?;
-        let name = quoted(alloc, subject.class)?;
-        let near = meant(alloc, &nearest)?;
+        let name = quote(alloc, subject.class)?;
+        let near = suggestion(alloc, &nearest)?;
         let message = format!(in alloc; "there is no class `{name}`{near}")?;
         report.say(alloc, subject, "delivery 4", message.as_str())?;
         return Ok(None);
@@ -110,8 +110,8 @@ fn look_at_members(
         if feature_named(model, class, name.as_str()).is_none() {
             let mut nearest = Nearest::to(name.as_str());
             offer_features(alloc, model, class, &mut nearest)?;
-            let near = meant(alloc, &nearest)?;
-            let written = quoted(alloc, name.as_str())?;
+            let near = suggestion(alloc, &nearest)?;
+            let written = quote(alloc, name.as_str())?;
             let owner = class_name(model, class);
             let message = format!(in alloc; "{owner} has no feature `{written}`{near}")?;
             report.say(alloc, subject, "delivery 5", message.as_str())?;
@@ -182,7 +182,7 @@ fn look_at_types(
     let name = feature.name.as_str();
     for value in values {
         if !is_of_type(model, feature.element, value) {
-            let value = written(alloc, value)?;
+            let value = quote_value(alloc, value)?;
             let wanted = words_of_type(alloc, model, feature.element)?;
             let message = format!(in alloc; "`{name}` wants {wanted}, and not {value}")?;
             report.refuse(
@@ -208,7 +208,7 @@ fn look_at_target(
     id: &str,
 ) -> Result<bool, AllocError> {
     let model = document.model;
-    let target = quoted(alloc, id)?;
+    let target = quote(alloc, id)?;
     let Some(index) = document.ids.get(id) else {
         let message = format!(in alloc; "`{name}` names `{target}`, and no object has that id")?;
         report.say(alloc, subject, "delivery 6", message.as_str())?;
@@ -297,7 +297,7 @@ fn look_at_values(
     if feature.is_unique()
         && let Some(value) = first_repeat(alloc, values)?
     {
-        let value = written(alloc, value)?;
+        let value = quote_value(alloc, value)?;
         let message = format!(in alloc; "`{name}` has {value} twice")?;
         return report.refuse(
             alloc,

@@ -1,6 +1,6 @@
 //! The faults of a delivery, written line by line.
 
-use explain_notes::{Input, place_of, quoted};
+use explain_notes::{Input, place_of, quote};
 use std::alloc::{AllocError, Global};
 
 /// The most faults that are written.
@@ -72,7 +72,7 @@ impl<'a> Report<'a> {
         let path = self.input.path;
         let place = place_of(self.input.bytes, subject.offset);
         let (line, column, index) = (place.line, place.column, subject.index);
-        let (id, class) = (quoted(alloc, subject.id)?, quoted(alloc, subject.class)?);
+        let (id, class) = (quote(alloc, subject.id)?, quote(alloc, subject.class)?);
         write!(&mut self.lines, "{path}:{line}:{column}: object {index} ")?;
         writeln!(&mut self.lines, "(`{id}`, {class}): {message} ({fault})")
     }

@@ -1,15 +1,10 @@
 //! What a JSON document has that it shouldn't, and what it lacks.
 
-use explain_notes::{Input, quoted};
+use explain_notes::{Input, quote};
+use imkl_model::{MAX_BOUND, MAX_NAME_LENGTH};
 use ocl_base::is_name;
 use serde_json::Value;
 use std::alloc::{AllocError, Global};
-
-/// The greatest bound of a feature.
-const MAX_BOUND: u64 = 1_000_000;
-
-/// The longest name, in characters.
-const MAX_NAME_LENGTH: usize = 128;
 
 /// What a member is.
 #[derive(Clone, Copy)]
@@ -267,7 +262,7 @@ fn record_flaw(
     }
     for (name, _) in map {
         if !members.iter().any(|member| member.name == name.as_str()) {
-            let name = quoted(alloc, name.as_str())?;
+            let name = quote(alloc, name.as_str())?;
             return Ok(Some(format!(in alloc;
                 "{what} has a member `{name}`, which it can't have"
             )?));
@@ -286,7 +281,7 @@ fn title_of(
 ) -> Result<String, AllocError> {
     match value.get(member).and_then(Value::as_str) {
         Some(name) => {
-            let name = quoted(alloc, name)?;
+            let name = quote(alloc, name)?;
             format!(in alloc; "{sort} {index} (`{name}`)")
         }
         None => format!(in alloc; "{sort} {index}"),

@@ -1,6 +1,6 @@
 //! The values of a feature as they are written, and what is said of them.
 
-use explain_notes::quoted;
+use explain_notes::quote;
 use imkl_model::{ClassModel, ElementType};
 use model_names::{class_name, enumeration_name, is_literal, literal_count, literal_name};
 use serde_json::Value;
@@ -20,9 +20,9 @@ pub(crate) fn values_of(value: &Value) -> &[Value] {
 }
 
 /// A value as it is written, cut where it is long.
-pub(crate) fn written(alloc: Global, value: &Value) -> Result<String, AllocError> {
+pub(crate) fn quote_value(alloc: Global, value: &Value) -> Result<String, AllocError> {
     let text = value.to_string(alloc)?;
-    quoted(alloc, text.as_str())
+    quote(alloc, text.as_str())
 }
 
 /// Whether a value is of an attribute's type, or for an end a text.

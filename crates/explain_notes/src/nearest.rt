@@ -39,7 +39,7 @@ impl<'a> Nearest<'a> {
     }
 
     /// The nearest name, where one was near.
-    pub fn found(&self) -> Option<&'a str> {
+    pub fn name(&self) -> Option<&'a str> {
         self.best
     }
 }

@@ -2,7 +2,7 @@
 
 use crate::input::Input;
 use crate::place::{before, place_of};
-use crate::showing::shown;
+use crate::showing::visible_text;
 use std::alloc::{AllocError, Global};
 
 /// The most characters of a line that are shown on either side of the fault.
@@ -119,10 +119,10 @@ fn shown_line(
     };
     push_end(
         &mut line.before,
-        shown(alloc, last_line(before(text, offset)))?.as_str(),
+        visible_text(alloc, last_line(before(text, offset)))?.as_str(),
     )?;
-    push_begin(&mut line.marked, shown(alloc, marked)?.as_str())?;
-    push_begin(&mut line.after, shown(alloc, after)?.trim_end())?;
+    push_begin(&mut line.marked, visible_text(alloc, marked)?.as_str())?;
+    push_begin(&mut line.after, visible_text(alloc, after)?.trim_end())?;
     Ok(line)
 }
 

@@ -18,7 +18,7 @@ fn harmless(character: char) -> char {
 
 /// A part of a line as it is shown, character by character. Where it isn't UTF-8, every byte that isn't ASCII is a
 /// question mark.
-pub fn shown(alloc: Global, bytes: &[u8]) -> Result<String, AllocError> {
+pub fn visible_text(alloc: Global, bytes: &[u8]) -> Result<String, AllocError> {
     let mut out = String::new(alloc);
     match str::from_utf8(bytes) {
         Ok(text) => {
@@ -39,8 +39,8 @@ pub fn shown(alloc: Global, bytes: &[u8]) -> Result<String, AllocError> {
     Ok(out)
 }
 
-/// A text as it is quoted in a message: what `shown` shows of it, cut after 60 characters.
-pub fn quoted(alloc: Global, text: &str) -> Result<String, AllocError> {
+/// A text as it is quoted in a message: what `visible_text` shows of it, cut after 60 characters.
+pub fn quote(alloc: Global, text: &str) -> Result<String, AllocError> {
     let mut out = String::new(alloc);
     let mut left = MAX_QUOTED;
     for character in text.chars() {

@@ -1,7 +1,7 @@
 //! Why a rule text doesn't spell rules.
 
 use crate::wanted::wanted_at;
-use explain_notes::{Input, Note, shown, write_marked};
+use explain_notes::{Input, Note, visible_text, write_marked};
 use ocl_tokens::{TextFault, TextFlaw, Token, TokenKind, tokens};
 use std::alloc::{AllocError, Global};
 
@@ -58,7 +58,7 @@ fn bad_character(alloc: Global, bytes: &[u8], offset: usize) -> Result<Saying, A
             help: "save the text as UTF-8; if it is a code file, leave --text out",
         });
     }
-    let written = shown(alloc, character.as_bytes())?;
+    let written = visible_text(alloc, character.as_bytes())?;
     Ok(Saying {
         length: character.len(),
         message: format!(in alloc; "`{written}` begins nothing here")?,
@@ -89,7 +89,7 @@ fn bad_escape(alloc: Global, bytes: &[u8], offset: usize) -> Result<Saying, Allo
         .get(offset..)
         .and_then(|rest| rest.get(1..))
         .unwrap_or(&[]);
-    let written = shown(alloc, first_character(after).as_bytes())?;
+    let written = visible_text(alloc, first_character(after).as_bytes())?;
     Ok(Saying {
         length: 2,
         message: format!(in alloc; "`\\{written}` is no escape")?,
@@ -145,7 +145,7 @@ fn syntax(
     let help = meant_by(text, offset);
     match token_at(tokens, offset) {
         Some(token) => {
-            let written = shown(alloc, token.text.as_bytes())?;
+            let written = visible_text(alloc, token.text.as_bytes())?;
             Ok(Saying {
                 length: token.text.len(),
                 message: format!(in alloc; "`{written}` can't stand here")?,

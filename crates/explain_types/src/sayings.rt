@@ -5,7 +5,7 @@ use crate::found::{Found, Stop};
 use crate::operations::{Argument, Operation, operation_on, operations};
 use crate::scope::{Scope, kind_of_feature};
 use crate::type_names::{a_type, type_name};
-use explain_notes::{Nearest, quoted};
+use explain_notes::{Nearest, quote};
 use imkl_model::{ClassModel, ClassNo, EnumNo};
 use model_names::{
     class_name, enumeration_name, is_class_below, literal_count, literal_name, offer_classes,
@@ -18,7 +18,7 @@ use std::alloc::{AllocError, Global};
 /// The most names that are listed.
 const MAX_LISTED: usize = 12;
 
-fn found(message: String, label: String, help: String) -> Stop {
+fn stop(message: String, label: String, help: String) -> Stop {
     Stop::Found(Found {
         message,
         label,
@@ -31,8 +31,8 @@ fn text(alloc: Global, text: &str) -> Result<String, AllocError> {
 }
 
 /// What is asked of a name that is near a wanted one; nothing where none is.
-fn meant(alloc: Global, nearest: &Nearest<'_>) -> Result<String, AllocError> {
-    match nearest.found() {
+fn suggestion(alloc: Global, nearest: &Nearest<'_>) -> Result<String, AllocError> {
+    match nearest.name() {
         Some(name) => format!(in alloc; "did you mean `{name}`?"),
         None => Ok(String::new(alloc)),
     }
@@ -83,7 +83,7 @@ pub(crate) fn not_boolean(
     } else {
         advice
     };
-    Ok(found(
+    Ok(stop(
         text(alloc, "a Boolean is wanted here")?,
         format!(in alloc; "this is {name}")?,
         help,
@@ -97,7 +97,7 @@ pub(crate) fn nested_body(
     kind: &Kind,
 ) -> Result<Stop, AllocError> {
     let name = a_type(alloc, model, kind)?;
-    Ok(found(
+    Ok(stop(
         text(alloc, "`isUnique` compares single values")?,
         format!(in alloc; "this is {name}")?,
         String::new(alloc),
@@ -116,24 +116,24 @@ pub(crate) fn unknown_type<'n>(
     }
     offer_classes(alloc, model, &mut nearest)?;
     offer_enumerations(alloc, model, &mut nearest)?;
-    let written = quoted(alloc, name)?;
+    let written = quote(alloc, name)?;
     let help = match name {
         "Set" | "OrderedSet" | "Bag" | "Sequence" => {
             "a collection's type has that of its elements in parentheses, as Set(Integer)"
         }
         _ => "the types are Boolean, Integer, String, the classes and the enumerations",
     };
-    Ok(found(
+    Ok(stop(
         format!(in alloc; "there is no type `{written}`")?,
-        meant(alloc, &nearest)?,
+        suggestion(alloc, &nearest)?,
         text(alloc, help)?,
     ))
 }
 
 /// A name before a type in parentheses that is no collection's.
 pub(crate) fn no_collection(alloc: Global, name: &str) -> Result<Stop, AllocError> {
-    let written = quoted(alloc, name)?;
-    Ok(found(
+    let written = quote(alloc, name)?;
+    Ok(stop(
         format!(in alloc; "`{written}` is no kind of collection")?,
         text(alloc, "these are Set, OrderedSet, Bag and Sequence")?,
         String::new(alloc),
@@ -142,7 +142,7 @@ pub(crate) fn no_collection(alloc: Global, name: &str) -> Result<Stop, AllocErro
 
 /// A type of collections of collections.
 pub(crate) fn nested_type(alloc: Global) -> Result<Stop, AllocError> {
-    Ok(found(
+    Ok(stop(
         text(alloc, "elements are never collections")?,
         text(alloc, "this is the type of the elements")?,
         String::new(alloc),
@@ -159,7 +159,7 @@ pub(crate) fn does_not_conform(
 ) -> Result<Stop, AllocError> {
     let given = a_type(alloc, model, kind)?;
     let wanted = a_type(alloc, model, declared)?;
-    Ok(found(
+    Ok(stop(
         format!(in alloc; "{what} is {given}, and not {wanted}")?,
         format!(in alloc; "{wanted} is declared")?,
         String::new(alloc),
@@ -173,7 +173,7 @@ pub(crate) fn no_accumulator(
     kind: &Kind,
 ) -> Result<Stop, AllocError> {
     let name = a_type(alloc, model, kind)?;
-    Ok(found(
+    Ok(stop(
         format!(in alloc; "an accumulator can't be {name}")?,
         String::new(alloc),
         text(
@@ -190,11 +190,11 @@ pub(crate) fn unknown_name<'n>(
     scope: &Scope<'n>,
     name: &'n str,
 ) -> Result<Stop, AllocError> {
-    let written = quoted(alloc, name)?;
+    let written = quote(alloc, name)?;
     let mut nearest = Nearest::to(name);
     scope.offer_names(alloc, model, &mut nearest)?;
     let context = type_name(alloc, model, &scope.context_kind())?;
-    let label = match nearest.found() {
+    let label = match nearest.name() {
         Some(near) => format!(in alloc; "did you mean `{near}`?")?,
         None => format!(in alloc; "this is no variable, and no feature of {context}")?,
     };
@@ -205,7 +205,7 @@ pub(crate) fn unknown_name<'n>(
     } else {
         String::new(alloc)
     };
-    Ok(found(
+    Ok(stop(
         format!(in alloc; "`{written}` is not known here")?,
         label,
         help,
@@ -253,15 +253,15 @@ fn unknown_of_class<'n>(
 ) -> Result<Stop, AllocError> {
     let mut nearest = Nearest::to(name);
     offer_features(alloc, model, class, &mut nearest)?;
-    let written = quoted(alloc, name)?;
+    let written = quote(alloc, name)?;
     let owner = class_name(model, class);
     let help = match class_with_feature(model, class, name) {
         Some(below) => below_advice(alloc, below, written.as_str())?,
         None => operation_advice(alloc, left, written.as_str())?,
     };
-    Ok(found(
+    Ok(stop(
         format!(in alloc; "{owner} has no feature `{written}`")?,
-        meant(alloc, &nearest)?,
+        suggestion(alloc, &nearest)?,
         help,
     ))
 }
@@ -277,9 +277,9 @@ pub(crate) fn unknown_feature<'n>(
     if let ScalarKind::Class(class) = element {
         return unknown_of_class(alloc, model, left, class, name);
     }
-    let written = quoted(alloc, name)?;
+    let written = quote(alloc, name)?;
     let owner = a_type(alloc, model, &Kind::Scalar(element))?;
-    Ok(found(
+    Ok(stop(
         format!(in alloc; "{owner} has no features, and none named `{written}`")?,
         String::new(alloc),
         operation_advice(alloc, left, written.as_str())?,
@@ -318,14 +318,14 @@ pub(crate) fn unknown_literal<'n>(
     enumeration: EnumNo,
     literal: &'n str,
 ) -> Result<Stop, AllocError> {
-    let written = quoted(alloc, literal)?;
+    let written = quote(alloc, literal)?;
     let mut nearest = Nearest::to(literal);
     offer_literals(alloc, model, enumeration, &mut nearest)?;
     let names = literal_names(alloc, model, enumeration)?;
     let owner = enumeration_name(model, enumeration);
-    Ok(found(
+    Ok(stop(
         format!(in alloc; "{owner} has no literal `{written}`")?,
-        meant(alloc, &nearest)?,
+        suggestion(alloc, &nearest)?,
         format!(in alloc; "its literals are {names}")?,
     ))
 }
@@ -336,12 +336,12 @@ pub(crate) fn unknown_enumeration<'n>(
     model: &'n ClassModel,
     name: &'n str,
 ) -> Result<Stop, AllocError> {
-    let written = quoted(alloc, name)?;
+    let written = quote(alloc, name)?;
     let mut nearest = Nearest::to(name);
     offer_enumerations(alloc, model, &mut nearest)?;
-    Ok(found(
+    Ok(stop(
         format!(in alloc; "there is no enumeration `{written}`")?,
-        meant(alloc, &nearest)?,
+        suggestion(alloc, &nearest)?,
         String::new(alloc),
     ))
 }
@@ -353,20 +353,20 @@ pub(crate) fn unknown_class<'n>(
     name: Option<&'n str>,
 ) -> Result<Stop, AllocError> {
     let Some(name) = name else {
-        return Ok(found(
+        return Ok(stop(
             text(alloc, "the name of a class is wanted here")?,
             text(alloc, "this is another expression")?,
             String::new(alloc),
         ));
     };
-    let written = quoted(alloc, name)?;
+    let written = quote(alloc, name)?;
     let mut nearest = Nearest::to(name);
     offer_classes(alloc, model, &mut nearest)?;
-    let title = quoted(alloc, model.name())?;
-    Ok(found(
+    let title = quote(alloc, model.name())?;
+    Ok(stop(
         format!(in alloc; "there is no class `{written}`")?,
-        meant(alloc, &nearest)?,
-        match nearest.found() {
+        suggestion(alloc, &nearest)?,
+        match nearest.name() {
             Some(_) => String::new(alloc),
             None => format!(in alloc; "the class model is `{title}`")?,
         },
@@ -427,11 +427,11 @@ pub(crate) fn unknown_operation<'n>(
             nearest.offer(alloc, operation.name)?;
         }
     }
-    let written = quoted(alloc, name)?;
+    let written = quote(alloc, name)?;
     let owner = a_type(alloc, model, on)?;
-    Ok(found(
+    Ok(stop(
         format!(in alloc; "{owner} has no operation `{written}`")?,
-        meant(alloc, &nearest)?,
+        suggestion(alloc, &nearest)?,
         call_advice(alloc, navigation, written.as_str(), left, on)?,
     ))
 }
@@ -448,7 +448,7 @@ pub(crate) fn argument_count(
         1 => "one argument",
         _ => "two arguments",
     };
-    Ok(found(
+    Ok(stop(
         format!(in alloc; "`{name}` takes {wanted}")?,
         match given {
             0 => text(alloc, "none is given")?,
@@ -461,7 +461,7 @@ pub(crate) fn argument_count(
 
 /// Arguments where none may be.
 pub(crate) fn no_arguments(alloc: Global, name: &str) -> Result<Stop, AllocError> {
-    Ok(found(
+    Ok(stop(
         format!(in alloc; "`{name}` takes no argument")?,
         String::new(alloc),
         String::new(alloc),
@@ -486,7 +486,7 @@ fn is_taken(model: &ClassModel, argument: Argument, on: &Kind, kind: &Kind) -> b
 }
 
 /// What an operation on values of a type takes, in words.
-fn taken(
+fn argument_in_words(
     alloc: Global,
     model: &ClassModel,
     argument: Argument,
@@ -516,14 +516,14 @@ fn wrong_argument(
     index: usize,
 ) -> Result<Stop, AllocError> {
     let name = operation.name;
-    let wanted = taken(alloc, model, argument, on)?;
+    let wanted = argument_in_words(alloc, model, argument, on)?;
     let given = a_type(alloc, model, kind)?;
     let which = match index {
         0 if operation.arguments.len() == 1 => "the argument",
         0 => "the first argument",
         _ => "the second argument",
     };
-    Ok(found(
+    Ok(stop(
         format!(in alloc; "`{name}` takes {wanted}")?,
         format!(in alloc; "{which} is {given}")?,
         String::new(alloc),
@@ -607,7 +607,7 @@ fn wrong_operands(
 ) -> Result<Stop, AllocError> {
     let name = operator_name(operator);
     let (one, other) = (a_type(alloc, model, left)?, a_type(alloc, model, right)?);
-    Ok(found(
+    Ok(stop(
         format!(in alloc; "`{name}` takes {wanted}")?,
         format!(in alloc; "{one} on its left, {other} on its right")?,
         text(alloc, help)?,
@@ -650,7 +650,7 @@ pub(crate) fn no_integer(
     kind: &Kind,
 ) -> Result<Stop, AllocError> {
     let name = a_type(alloc, model, kind)?;
-    Ok(found(
+    Ok(stop(
         text(alloc, "`-` takes an Integer")?,
         format!(in alloc; "it stands before {name}")?,
         text(alloc, integer_advice(kind))?,
@@ -665,7 +665,7 @@ pub(crate) fn no_common_type(
     other: &Kind,
 ) -> Result<Stop, AllocError> {
     let (one, other) = (a_type(alloc, model, one)?, a_type(alloc, model, other)?);
-    Ok(found(
+    Ok(stop(
         text(alloc, "the branches have no type in common")?,
         format!(in alloc; "`then` gives {one}, `else` gives {other}")?,
         String::new(alloc),

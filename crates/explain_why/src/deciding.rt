@@ -6,9 +6,8 @@ ghost use Rattle.rule_values.specs.Endings.{kept_by};
 ghost use Rattle.owned_values.specs.Meant.{meant, meant_item, meant_items};
 ghost use Rattle.explain_why.specs.Explanation.{deciding_of, decides, those_or_all, that_or_undecided, deciding, most_deciding, kept_element};
 
-use crate::pieces::push;
 use crate::values::MAX_SHOWN;
-use ocl_base::OutOfMemory;
+use ocl_base::{OutOfMemory, push};
 use ocl_core::Iteration;
 use owned_values::{Item, Value, copy_of, is_false, is_invalid, is_true};
 use std::alloc::Global;

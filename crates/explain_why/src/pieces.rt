@@ -1,19 +1,11 @@
 //! Pieces of text, one after another.
 
-ghost use Rattle.std.specs.Prelude.{◌≡◌, ◌++◌, ◌∷◌, [], OnOk, string_bytes};
+ghost use Rattle.std.specs.Prelude.{◌≡◌, ◌++◌, OnOk, string_bytes};
 ghost use Rattle.std.specs.Fmt.{decimal, signed_decimal};
 ghost use Rattle.explain_why.specs.Explanation.{indent, more_line};
 
 use ocl_base::OutOfMemory;
 use std::alloc::Global;
-
-/// Puts an item at a list's end.
-pub(crate) fn push<T: Drop>(items: &mut Vec<T>, item: T) -> Result<(), OutOfMemory>
-    ensures { OnOk result (items.new.items ≡ items.old.items ++ item ∷ []) }
-{
-    items.push(item)?;
-    Ok(())
-}
 
 /// Puts a text at the end.
 pub(crate) fn put(out: &mut String, text: &str) -> Result<(), OutOfMemory>

@@ -138,7 +138,7 @@ fn add_objects<'m>(
 
 /// The population of objects that were added, with what their entries write, or the first fault.
 #[tactic(auto, unfolding(crate::specs::Taken::finished_with))]
-fn written<'m>(
+fn finish_objects<'m>(
     alloc: Global,
     mut builder: PopulationBuilder<'m>,
     objects: Vec<Value>,
@@ -173,7 +173,7 @@ fn described_of<'m>(
     let Some(objects) = objects_of(value) else {
         return Err(DeliveryFault::Shape);
     };
-    written(alloc, builder, objects, model)
+    finish_objects(alloc, builder, objects, model)
 }
 
 /// The population that a delivery's bytes describe, or their first fault. Entries are checked in the order of

@@ -20,7 +20,7 @@ use crate::finishing::{first_end_fault, first_gap};
 use crate::id_index::IdIndex;
 use crate::layout::lay_out;
 use crate::numbers::ObjectNo;
-use crate::object::{Head, Id};
+use crate::object::Head;
 use crate::population::Population;
 use crate::repeats::repeats;
 use crate::scalar::Scalar;
@@ -138,7 +138,7 @@ impl<'m> PopulationBuilder<'m> {
         let number = self.objects();
         self.heads.reserve(1)?;
         self.ids.add(self.alloc, id.as_str(), number)?;
-        let id = Id::new(id);
+        let id = Text::new(id);
         self.heads.push_reserved(Head { id, class });
         Ok(ObjectNo::new(number))
     }
@@ -213,7 +213,7 @@ impl<'m> PopulationBuilder<'m> {
     }
 
     /// What is written at a feature of an object.
-    pub(crate) fn written(&self, object: ObjectNo, feature: FeatureNo) -> &[Scalar]
+    pub(crate) fn values_of(&self, object: ObjectNo, feature: FeatureNo) -> &[Scalar]
         requires { object < length self.now.objects }
         ensures { result.now ≡ written_at self.now object feature }
     {

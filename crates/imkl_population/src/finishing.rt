@@ -32,7 +32,7 @@ fn gap(
     let info = model.feature_info(feature);
     let is_gap = model.belongs(builder.class_of(object), feature)
         && !info.role.is_opposite()
-        && builder.written(object, feature).len() < info.lower as usize;
+        && builder.values_of(object, feature).len() < info.lower as usize;
     if is_gap {
         Some(PopulationFault::TooFew { object, feature })
     } else {

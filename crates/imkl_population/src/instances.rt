@@ -79,7 +79,7 @@ fn members(alloc: Global, builder: &PopulationBuilder<'_>) -> Result<Members, Al
 }
 
 /// The classes that have objects of their own.
-fn inhabited(alloc: Global, direct: &[Vec<ObjectNo>]) -> Result<Vec<ClassNo>, AllocError>
+fn inhabited_classes(alloc: Global, direct: &[Vec<ObjectNo>]) -> Result<Vec<ClassNo>, AllocError>
     ensures { IfOk result (λ v. v.items ≡ inhabited direct.now) }
 {
     let mut classes = Vec::new(alloc);
@@ -92,7 +92,7 @@ fn inhabited(alloc: Global, direct: &[Vec<ObjectNo>]) -> Result<Vec<ClassNo>, Al
 }
 
 /// Those of some classes that conform to a class.
-fn conforming(
+fn classes_below(
     alloc: Global,
     model: &ClassModel,
     classes: &[ClassNo],
@@ -121,11 +121,11 @@ pub(crate) fn instances(
         AreInstances builder.now r.0.items r.1.items (length builder.now.model.classes)) }
 {
     let members = members(alloc, builder)?;
-    let inhabited = inhabited(alloc, &members.direct)?;
+    let inhabited = inhabited_classes(alloc, &members.direct)?;
     let mut shared = no_lists(alloc);
     let mut ranges = Vec::new(alloc);
     for class in 0..builder.model().class_count() {
-        let sources = conforming(alloc, builder.model(), &inhabited, ClassNo::new(class))?;
+        let sources = classes_below(alloc, builder.model(), &inhabited, ClassNo::new(class))?;
         let range = range_of(&mut shared, builder, &members, sources)?;
         ranges.push(range)?;
     }

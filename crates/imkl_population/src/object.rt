@@ -1,44 +1,15 @@
 //! Objects: their ids, their classes, and what is written on them.
 
-ghost use Rattle.std.specs.Prelude.{◌≡◌, string_bytes};
-
 use crate::scalar::Scalar;
 use imkl_model::ClassNo;
+use ocl_base::Text;
 use std::marker::Model;
-
-/// An object's id. Contracts see its bytes.
-#[derive(Debug, Drop)]
-pub struct Id {
-    text: String,
-}
-
-impl Model for Id {
-    ghost use Rattle.std.specs.Prelude.{List, ℕ, string_bytes};
-
-    ghost Value = { List ℕ };
-
-    ghost view = { λ i. string_bytes i.text };
-}
-
-impl Id {
-    pub(crate) fn new(text: String) -> Id
-        ensures { result ≡ string_bytes text }
-    {
-        Id { text }
-    }
-
-    pub(crate) fn as_str(&self) -> &str
-        ensures { result.now ≡ self.now }
-    {
-        self.text.as_str()
-    }
-}
 
 /// An object's id and class.
 #[derive(Drop)]
 pub struct Head {
     /// The object's id.
-    pub id: Id,
+    pub id: Text,
     /// The class that it is directly of.
     pub class: ClassNo,
 }
@@ -63,7 +34,7 @@ impl Model for Written {
 #[derive(Drop)]
 pub struct Object {
     /// The object's id.
-    pub id: Id,
+    pub id: Text,
     /// The class that it is directly of.
     pub class: ClassNo,
     /// Its attributes and source ends, as far as they are set.

@@ -102,7 +102,7 @@ impl<'m> RequiredFeatures<'m> {
     }
 
     /// The features that a class requires.
-    fn required(&self, class: ClassNo) -> Result<Vec<FeatureNo>, AllocError>
+    fn list_required(&self, class: ClassNo) -> Result<Vec<FeatureNo>, AllocError>
         requires { class < length self.now.model.classes }
         ensures { IfOk result (λ v. v.items ≡ required self.now class) }
     {
@@ -143,7 +143,7 @@ impl<'m> RequiredFeatures<'m> {
         if let Some(list) = self.features_of(class) {
             return features.extend_from_slice(list);
         }
-        let list = self.required(class)?;
+        let list = self.list_required(class)?;
         features.extend_from_slice(&list)?;
         self.lists.insert(class.index(), FeatureList::new(list))?;
         Ok(())

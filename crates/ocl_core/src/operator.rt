@@ -1,4 +1,4 @@
-//! The operators of core trees, and what an operation must be given.
+//! The operators of core trees, and the types that every class model has.
 
 ghost use Rattle.std.specs.Prelude.{◌≡◌};
 ghost use Rattle.imkl_model.specs.ClassModel.{Model};

@@ -79,7 +79,7 @@ fn unknown_rule(
     for rule in rules {
         nearest.offer(alloc, rule.name.as_str())?;
     }
-    match nearest.found() {
+    match nearest.name() {
         Some(near) => {
             format!(in alloc; "{path}: no rule is named `{name}`; did you mean `{near}`?\n")
         }

@@ -12,11 +12,10 @@ ghost use Rattle.ocl_meaning.specs.Evaluated.{bindings, IsLinkResolved, AreLinks
 
 use crate::constants::constant_value;
 use crate::iterations::iteration_value;
-use crate::lists::push;
 use crate::operations::operation_value;
 use crate::variables::Variables;
 use imkl_population::Population;
-use ocl_base::OutOfMemory;
+use ocl_base::{OutOfMemory, push};
 use ocl_core::{Core, CoreLink, Iteration};
 use owned_values::{
     Item, Value, all_instances, as_collection, is_false, is_true, item_value, value_read,

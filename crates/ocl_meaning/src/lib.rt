@@ -4,7 +4,6 @@
 mod constants;
 mod evaluating;
 mod iterations;
-mod lists;
 mod operations;
 mod variables;
 

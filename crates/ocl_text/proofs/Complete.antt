@@ -17,7 +17,7 @@ use Rattle.ocl_text.specs.Tree.{TypeTree, VariableTree, Variables, Unnamed, Sing
 use Rattle.ocl_text.specs.Grammar as g
 use Rattle.ocl_text.specs.Grammar.{top, token, Ends, next_is, Next, NotNext, steps_on, opens, closes, separates, keyword_of, begins_variable, iterator_of, is_fold_name, takes_two, IsExpr, IsBind, IsBinds, MoreBinds, IsUnary, IsPrim, IsLevel, GoesOn, IsSteps, IsArguments, IsItems, MoreItems, IsIteration, IsFold, IsType, IsVariable, declares, begins_invariant, IsInvariant, IsInvariants, MoreInvariants, IsContexts}
 use Rattle.ocl_text.specs.Parse as p
-use Rattle.ocl_text.specs.Parse.{TokensFault, syntax, too_deep, Reading, Reader, begins, expect, identifier, link, link_by, on_link, chain, levels, unary, unary_over, unary_by, prim_by, expr, expr_over, post, prim, if_expression, step_list, one_step, dotted, arrowed, calling, called, applied_step, applied_by, a_fold, fold_in, fold_body, arguments, arguments_in, items, a_bind, let_expression, iteration, optional_variables, variables, variables_by, level_of, rule_name, invariant, invariant_at, invariants, context, placed_name, contexts}
+use Rattle.ocl_text.specs.Parse.{TokensFault, syntax, too_deep, Reading, Reader, begins, expect, identifier, link, link_by, on_link, chain, levels, unary, unary_over, unary_by, prim_by, expr, expr_over, post, prim, if_expression, step_list, one_step, after_dot, after_arrow, operation_call, called, applied_step, applied_by, a_fold, fold_in, fold_body, arguments, arguments_in, items, a_bind, let_expression, iteration, optional_variables, variables, variables_by, level_of, rule_name, invariant, invariant_at, invariants, context, placed_name, contexts}
 use Rattle.ocl_text.proofs.Turns.{expr_plain, steps_none, chain_none}
 
 -- ---- each part takes a token
@@ -179,11 +179,11 @@ name_is : (text : List ℕ) (at : ℕ) (ts : List Terminal) → NotNext g.qualif
 unfolding p.name_or_literal
 name_is text at ts h = rw h refl
 
-word_dot : (n : ℕ) (operand whole : Reader SurfaceTree) (source : SurfaceTree) (t : Terminal) (ts : List Terminal) → g.is_word_operator t.kind ≡ true → dotted n operand whole source (t ∷ ts) ≡ calling n operand whole source Dot t.text t.offset ts
-unfolding dotted
+word_dot : (n : ℕ) (operand whole : Reader SurfaceTree) (source : SurfaceTree) (t : Terminal) (ts : List Terminal) → g.is_word_operator t.kind ≡ true → after_dot n operand whole source (t ∷ ts) ≡ operation_call n operand whole source Dot t.text t.offset ts
+unfolding after_dot
 word_dot n operand whole source t ts h = by t.kind h
   where
-    by : (kind : TokenKind) → g.is_word_operator kind ≡ true → p.dotted_by n operand whole source kind t.text t.offset (t ∷ ts) ts ≡ calling n operand whole source Dot t.text t.offset ts
+    by : (kind : TokenKind) → g.is_word_operator kind ≡ true → p.after_dot_by n operand whole source kind t.text t.offset (t ∷ ts) ts ≡ operation_call n operand whole source Dot t.text t.offset ts
     by k.Div h = refl
     by k.Mod h = refl
     by (k.Number v) h = absurd (cc)
@@ -231,11 +231,11 @@ module _ (n : ℕ) (operand whole : Reader SurfaceTree) where
   unfolding called
   property_is source text at ts h = rw h refl
 
-  call_is : (source : SurfaceTree) (text : List ℕ) (at : ℕ) (ts : List Terminal) → Next opens ts → called n operand whole source text at ts ≡ calling n operand whole source Dot text at ts
+  call_is : (source : SurfaceTree) (text : List ℕ) (at : ℕ) (ts : List Terminal) → Next opens ts → called n operand whole source text at ts ≡ operation_call n operand whole source Dot text at ts
   unfolding called
   call_is source text at ts h = rw h refl
 
-  applied_call : (source : SurfaceTree) (text : List ℕ) (at : ℕ) (ts : List Terminal) → iterator_of text ≡ None → is_fold_name text ≡ false → applied_step n operand whole source text at ts ≡ calling n operand whole source Arrow text at ts
+  applied_call : (source : SurfaceTree) (text : List ℕ) (at : ℕ) (ts : List Terminal) → iterator_of text ≡ None → is_fold_name text ≡ false → applied_step n operand whole source text at ts ≡ operation_call n operand whole source Arrow text at ts
   unfolding applied_step
   applied_call source text at ts h f = rw f (ap (λ o. applied_by n operand whole o source text at ts) h)
 
@@ -289,7 +289,7 @@ after_type operand name s = expect m.Equal s.1 >>= operand >>= named name s.0
 -- ---- what the grammar says is read
 
 mutual
-  unfolding p.name_or_literal unary levels calling unary_over expr expr_over chain link step_list one_step dotted arrowed arguments arguments_in items a_bind let_expression iteration a_fold fold_in fold_body optional_variables variables expect identifier placed_name post prim if_expression variables_by
+  unfolding p.name_or_literal unary levels operation_call unary_over expr expr_over chain link step_list one_step after_dot after_arrow arguments arguments_in items a_bind let_expression iteration a_fold fold_in fold_body optional_variables variables expect identifier placed_name post prim if_expression variables_by
 
   -- each part of an expression that the grammar allows is read, under the same limits
   pub complete_expr : {c n : ℕ} {ts rest : List Terminal} {tree : SurfaceTree} → IsExpr c n ts tree rest → expr c n ts ≡ Ok (tree, rest)

@@ -4,7 +4,7 @@ use Rattle.std.proofs.Math.Utf8.{encode}
 use Rattle.std.proofs.lemmas.Bool.{cases_lt, ne_eqb}
 use Rattle.std.proofs.lemmas.Bool.Decides.{nat_tests}
 use Rattle.std.proofs.lemmas.Str.{encode_ascii, inside_one, length-encode, len_utf8_bounds}
-use Rattle.ocl_text.specs.Strings.{escaped, value_from}
+use Rattle.ocl_text.specs.Strings.{escape_value, value_from}
 
 -- every byte of a character that is not ASCII is above ASCII
 abbrev IsHigh : List ℕ → Type 0
@@ -16,11 +16,11 @@ encode_high c h k l = elim (cases_lt (get_or (encode c) k 0) 128) [
   | inr high ↦ high
 ]
 
-escaped_high : (c : ℕ) → 128 ≤ c → escaped c ≡ c
-escaped_high c h = rw (ne_eqb c 98 (λ e. omega arith), ne_eqb c 116 (λ e. omega arith), ne_eqb c 110 (λ e. omega arith), ne_eqb c 102 (λ e. omega arith), ne_eqb c 114 (λ e. omega arith)) refl
+escape_value_high : (c : ℕ) → 128 ≤ c → escape_value c ≡ c
+escape_value_high c h = rw (ne_eqb c 98 (λ e. omega arith), ne_eqb c 116 (λ e. omega arith), ne_eqb c 110 (λ e. omega arith), ne_eqb c 102 (λ e. omega arith), ne_eqb c 114 (λ e. omega arith)) refl
 
-escaped_low : (c : ℕ) → c < 128 → escaped c < 128
-escaped_low c h = grind (arith, nat_tests)
+escape_value_low : (c : ℕ) → c < 128 → escape_value c < 128
+escape_value_low c h = grind (arith, nat_tests)
 
 passes : (bs rest : List ℕ) → IsHigh bs → value_from false (bs ++ rest) ≡ bs ++ value_from false rest
 unfolding value_from
@@ -34,13 +34,13 @@ unfolding value_from
 passes_after [] rest n h = absurd (omega arith)
 passes_after (b ∷ bs) rest n h =
     let high : 128 ≤ b = h 0 (omega arith) in
-    rw (escaped_high b high) (ap (λ l. b ∷ l) (passes bs rest (λ k l. h (suc k) (omega (arith, l)))))
+    rw (escape_value_high b high) (ap (λ l. b ∷ l) (passes bs rest (λ k l. h (suc k) (omega (arith, l)))))
 
-character_after : (c : ℕ) (rest : List ℕ) → value_from true (encode c ++ rest) ≡ encode (escaped c) ++ value_from false rest
+character_after : (c : ℕ) (rest : List ℕ) → value_from true (encode c ++ rest) ≡ encode (escape_value c) ++ value_from false rest
 unfolding value_from
 character_after c rest = elim (cases_lt c 128) [
-  | inl low ↦ rw (encode_ascii c low, encode_ascii (escaped c) (escaped_low c low)) refl
-  | inr high ↦ rw (escaped_high c high) (passes_after (encode c) rest (omega (arith, length-encode c, len_utf8_bounds c)) (encode_high c high))
+  | inl low ↦ rw (encode_ascii c low, encode_ascii (escape_value c) (escape_value_low c low)) refl
+  | inr high ↦ rw (escape_value_high c high) (passes_after (encode c) rest (omega (arith, length-encode c, len_utf8_bounds c)) (encode_high c high))
 ]
 
 character_plain : (c : ℕ) (rest : List ℕ) → c ≢ 39 → c ≢ 92 → value_from false (encode c ++ rest) ≡ encode c ++ value_from false rest
@@ -60,8 +60,8 @@ module _ (out rest after whole : List ℕ) (c : ℕ) (is : rest ≡ encode c ++ 
   added next flag piece p s inv = rw p (append_assoc out piece (value_from false after) ∙ ap (λ l. out ++ l) (sym s ∙ ap (value_from flag) (sym is)) ∙ inv)
 
   -- after a backslash a character adds what it escapes to
-  pub after_escape : (next : List ℕ) → next ≡ out ++ encode (escaped c) → Value whole true out rest → Value whole false next after
-  after_escape next p = added next true (encode (escaped c)) p (character_after c after)
+  pub after_escape : (next : List ℕ) → next ≡ out ++ encode (escape_value c) → Value whole true out rest → Value whole false next after
+  after_escape next p = added next true (encode (escape_value c)) p (character_after c after)
 
   -- a character that is neither a quote nor a backslash adds itself
   pub after_plain : (next : List ℕ) → c ≢ 39 → c ≢ 92 → next ≡ out ++ encode c → Value whole false out rest → Value whole false next after

@@ -16,7 +16,7 @@ use Rattle.ocl_text.specs.Tree.{TypeTree, Bound, SurfaceTree, Number, String, Ke
 use Rattle.ocl_text.specs.RuleText.{Agrees}
 use Rattle.ocl_text.specs.Grammar.{is_mark, token, operator, next_is, Next, is_identifier_kind, opens, closes, separates, qualifies}
 use Rattle.ocl_text.specs.Parse as p
-use Rattle.ocl_text.specs.Parse.{TokensFault, syntax, too_deep, Reading, Reader, begins, begins_argument, expect, identifier, link, link_by, on_link, chain, levels, step_list, one_step, items, arguments_in, arguments, calling, called, a_bind, if_expression, prim, placed_name}
+use Rattle.ocl_text.specs.Parse.{TokensFault, syntax, too_deep, Reading, Reader, begins, begins_argument, expect, identifier, link, link_by, on_link, chain, levels, step_list, one_step, items, arguments_in, arguments, operation_call, called, a_bind, if_expression, prim, placed_name}
 use Rattle.ocl_text.proofs.Turns.{chain_none, chain_deep}
 use Rattle.ocl_text.proofs.Wider.{deeper, longer}
 use Rattle.ocl_text.proofs.Shut.{argument_shut}
@@ -225,9 +225,9 @@ module _ (operand operand' : Reader SurfaceTree) (sees : (ts : List Terminal) �
 
   module _ (a n : ℕ) (whole whole' : Reader SurfaceTree) where
     -- where the arguments of a call stop, the call can be completed
-    pub sees_calling : (source : SurfaceTree) (by : Navigation) (text : List ℕ) (at : ℕ) (ts : List Terminal) → Sees (calling n operand whole source by text at) (calling (deeper a n) operand' whole' source by text at) (May stops) (Next (is_mark m.Open)) ts
-    unfolding calling
-    sees_calling source by text at ts =
+    pub sees_operation_call : (source : SurfaceTree) (by : Navigation) (text : List ℕ) (at : ℕ) (ts : List Terminal) → Sees (operation_call n operand whole source by text at) (operation_call (deeper a n) operand' whole' source by text at) (May stops) (Next (is_mark m.Open)) ts
+    unfolding operation_call
+    sees_operation_call source by text at ts =
         bind (arguments operand n) (arguments operand' (deeper a n)) (λ all us. Ok (Call source by text (trees_of all) at, us)) (λ all us. Ok (Call source by text (trees_of all) at, us)) Any (May stops) (May stops) (Next (is_mark m.Open)) ts (λ us g. tt) (sees_arguments a n ts)
         (λ all us. pass (Call source by text (trees_of all) at) (May stops) us)
 
@@ -235,7 +235,7 @@ module _ (operand operand' : Reader SurfaceTree) (sees : (ts : List Terminal) �
     opened_call operand n source text at us = arguments_in operand n us >>= λ x. Ok (Call source Dot text (trees_of x.0) at, x.1)
 
     called_is : (operand whole : Reader SurfaceTree) (n : ℕ) (source : SurfaceTree) (text : List ℕ) (at : ℕ) (us : List Terminal) → called n operand whole source text at us ≡ (if next_is opens us then opened_call operand n source text at (drop 1 us) else Ok (Property source text at, us))
-    unfolding called calling arguments expect
+    unfolding called operation_call arguments expect
     called_is operand whole n source text at [] = refl
     called_is operand whole n source text at (t ∷ us) = by t.kind
       where

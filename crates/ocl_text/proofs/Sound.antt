@@ -14,7 +14,7 @@ use Rattle.ocl_text.specs.Tree.{TypeTree, VariableTree, Variables, Bound, Rule, 
 use Rattle.ocl_text.specs.Grammar as g
 use Rattle.ocl_text.specs.Grammar.{is_mark, operator, top, token, Ends, next_is, Next, NotNext, steps_on, opens, closes, separates, begins_variable, iterator_of, is_fold_name, takes_two, begins_invariant, IsExpr, IsBind, IsBinds, MoreBinds, IsUnary, IsPrim, IsLevel, GoesOn, IsSteps, IsArguments, IsItems, MoreItems, IsIteration, IsFold, IsType, IsVariable, declares, IsInvariant, IsInvariants, MoreInvariants, IsContexts}
 use Rattle.ocl_text.specs.Parse as p
-use Rattle.ocl_text.specs.Parse.{TokensFault, syntax, too_deep, Reading, Reader, too_deep_at, expect, identifier, identifier_by, Link, link, link_by, on_link, chain, levels, unary, unary_over, unary_by, expr, expr_over, expr_by, post, prim, prim_by, if_expression, step_list, one_step, step_by, dotted, dotted_by, arrowed, arrowed_by, called, calling, applied_step, applied_by, a_fold, fold_in, fold_body, arguments, arguments_in, items, a_bind, let_expression, iteration, optional_variables, variables, variables_by, has_second, level_of, rule_name, invariant, invariant_at, invariant_by, invariants, context, placed_name, placed_by, contexts, is_done}
+use Rattle.ocl_text.specs.Parse.{TokensFault, syntax, too_deep, Reading, Reader, too_deep_at, expect, identifier, identifier_by, Link, link, link_by, on_link, chain, levels, unary, unary_over, unary_by, expr, expr_over, expr_by, post, prim, prim_by, if_expression, step_list, one_step, step_by, after_dot, after_dot_by, after_arrow, after_arrow_by, called, operation_call, applied_step, applied_by, a_fold, fold_in, fold_body, arguments, arguments_in, items, a_bind, let_expression, iteration, optional_variables, variables, variables_by, has_second, level_of, rule_name, invariant, invariant_at, invariant_by, invariants, context, placed_name, placed_by, contexts, is_done}
 
 -- ---- how parts are put together
 
@@ -358,18 +358,18 @@ module _ (c n : ℕ) (operand whole : Reader SurfaceTree) (sound : Sound (IsLeve
   abbrev Extends : SurfaceTree → List Terminal → SurfaceTree × List Terminal → Type 0
   Extends source ts x = (l : ℕ) (tree : SurfaceTree) (rest : List Terminal) → IsSteps c n l x.0 x.1 tree rest → IsSteps c n (suc l) source ts tree rest
 
-  sound_calling : (source : SurfaceTree) (dot_at : ℕ) (dot_text : List ℕ) (at : ℕ) (text : List ℕ) (ts : List Terminal) → IfOk (calling n operand whole source Dot text at ts) (Extends source (token k.Dot dot_at dot_text ∷ token k.Identifier at text ∷ ts))
-  unfolding calling
-  sound_calling source dot_at dot_text at text ts = bind_ok (λ x. IsArguments c n ts x.0 x.1) _ (arguments operand n ts) _ (sound_arguments c n operand whole sound sound_whole ts) (λ x d. λ l tree rest e. g.dot_call d e)
+  sound_operation_call : (source : SurfaceTree) (dot_at : ℕ) (dot_text : List ℕ) (at : ℕ) (text : List ℕ) (ts : List Terminal) → IfOk (operation_call n operand whole source Dot text at ts) (Extends source (token k.Dot dot_at dot_text ∷ token k.Identifier at text ∷ ts))
+  unfolding operation_call
+  sound_operation_call source dot_at dot_text at text ts = bind_ok (λ x. IsArguments c n ts x.0 x.1) _ (arguments operand n ts) _ (sound_arguments c n operand whole sound sound_whole ts) (λ x d. λ l tree rest e. g.dot_call d e)
 
-  sound_dotted : (source : SurfaceTree) (dot_at : ℕ) (dot_text : List ℕ) (ts : List Terminal) → IfOk (dotted n operand whole source ts) (Extends source (token k.Dot dot_at dot_text ∷ ts))
-  unfolding dotted called calling
-  sound_dotted source dot_at dot_text [] = tt
-  sound_dotted source dot_at dot_text (t ∷ ts) = by t.kind t.offset t.text
+  sound_after_dot : (source : SurfaceTree) (dot_at : ℕ) (dot_text : List ℕ) (ts : List Terminal) → IfOk (after_dot n operand whole source ts) (Extends source (token k.Dot dot_at dot_text ∷ ts))
+  unfolding after_dot called operation_call
+  sound_after_dot source dot_at dot_text [] = tt
+  sound_after_dot source dot_at dot_text (t ∷ ts) = by t.kind t.offset t.text
     where
-      by : (kind : TokenKind) (at : ℕ) (text : List ℕ) → IfOk (dotted_by n operand whole source kind text at (t ∷ ts) ts) (Extends source (token k.Dot dot_at dot_text ∷ token kind at text ∷ ts))
+      by : (kind : TokenKind) (at : ℕ) (text : List ℕ) → IfOk (after_dot_by n operand whole source kind text at (t ∷ ts) ts) (Extends source (token k.Dot dot_at dot_text ∷ token kind at text ∷ ts))
       by k.Identifier at text = if_ok (Extends source (token k.Dot dot_at dot_text ∷ token k.Identifier at text ∷ ts)) (next_is opens ts) _ _
-          (λ h. sound_calling source dot_at dot_text at text ts)
+          (λ h. sound_operation_call source dot_at dot_text at text ts)
           (λ h. λ l tree rest e. g.dot h e)
       by k.Div at text = bind_ok (λ x. IsArguments c n ts x.0 x.1) _ (arguments operand n ts) _ (sound_arguments c n operand whole sound sound_whole ts) (λ x d. λ l tree rest e. g.dot_word refl d e)
       by k.Mod at text = bind_ok (λ x. IsArguments c n ts x.0 x.1) _ (arguments operand n ts) _ (sound_arguments c n operand whole sound sound_whole ts) (λ x d. λ l tree rest e. g.dot_word refl d e)
@@ -377,16 +377,16 @@ module _ (c n : ℕ) (operand whole : Reader SurfaceTree) (sound : Sound (IsLeve
       by _ at text = tt
 
   sound_applied : (source : SurfaceTree) (arrow_at : ℕ) (arrow_text : List ℕ) (at : ℕ) (text : List ℕ) (ts : List Terminal) → is_fold_name text ≡ false → (o : Option IteratorKind) → iterator_of text ≡ o → IfOk (applied_by n operand whole o source text at ts) (Extends source (token k.Arrow arrow_at arrow_text ∷ token k.Identifier at text ∷ ts))
-  unfolding calling
+  unfolding operation_call
   sound_applied source arrow_at arrow_text at text ts f None h = bind_ok (λ x. IsArguments c n ts x.0 x.1) _ (arguments operand n ts) _ (sound_arguments c n operand whole sound sound_whole ts) (λ x d. λ l tree rest e. g.arrow_call h f d e)
   sound_applied source arrow_at arrow_text at text ts f (Some kind) h = bind_ok (λ x. IsIteration c n (takes_two kind) ts x.0.0 x.0.1 x.1) _ (iteration n whole (takes_two kind) ts) _ (sound_iteration c n operand whole sound sound_whole (takes_two kind) ts (sound_variables c n (takes_two kind))) (λ x d. λ l tree rest e. g.arrow_iterate h d e)
 
-  sound_arrowed : (source : SurfaceTree) (arrow_at : ℕ) (arrow_text : List ℕ) (ts : List Terminal) → IfOk (arrowed n operand whole source ts) (Extends source (token k.Arrow arrow_at arrow_text ∷ ts))
-  unfolding arrowed applied_step
-  sound_arrowed source arrow_at arrow_text [] = tt
-  sound_arrowed source arrow_at arrow_text (t ∷ ts) = by t.kind t.offset t.text
+  sound_after_arrow : (source : SurfaceTree) (arrow_at : ℕ) (arrow_text : List ℕ) (ts : List Terminal) → IfOk (after_arrow n operand whole source ts) (Extends source (token k.Arrow arrow_at arrow_text ∷ ts))
+  unfolding after_arrow applied_step
+  sound_after_arrow source arrow_at arrow_text [] = tt
+  sound_after_arrow source arrow_at arrow_text (t ∷ ts) = by t.kind t.offset t.text
     where
-      by : (kind : TokenKind) (at : ℕ) (text : List ℕ) → IfOk (arrowed_by n operand whole source kind text at (t ∷ ts) ts) (Extends source (token k.Arrow arrow_at arrow_text ∷ token kind at text ∷ ts))
+      by : (kind : TokenKind) (at : ℕ) (text : List ℕ) → IfOk (after_arrow_by n operand whole source kind text at (t ∷ ts) ts) (Extends source (token k.Arrow arrow_at arrow_text ∷ token kind at text ∷ ts))
       by k.Identifier at text = if_ok (Extends source (token k.Arrow arrow_at arrow_text ∷ token k.Identifier at text ∷ ts)) (is_fold_name text) _ _
           (λ h. weaker (IsFolded c n source at ts) _ (a_fold n operand whole source at ts) (λ x (variable, accumulator, body, d, is). λ l tree rest e. g.arrow_fold h d (rw is at e)) (sound_fold c n operand whole sound sound_whole source at ts))
           (λ h. sound_applied source arrow_at arrow_text at text ts h (iterator_of text) refl)
@@ -399,8 +399,8 @@ module _ (c n : ℕ) (operand whole : Reader SurfaceTree) (sound : Sound (IsLeve
   sound_step source (t ∷ ts) = by t.kind t.offset t.text
     where
       by : (kind : TokenKind) (at : ℕ) (text : List ℕ) → IfOk (step_by n operand whole source kind (t ∷ ts) ts) (Extends source (token kind at text ∷ ts))
-      by k.Dot at text = sound_dotted source at text ts
-      by k.Arrow at text = sound_arrowed source at text ts
+      by k.Dot at text = sound_after_dot source at text ts
+      by k.Arrow at text = sound_after_arrow source at text ts
       by (k.Number v) at text = tt
       by _ at text = tt
 

@@ -14,7 +14,7 @@ use Rattle.ocl_text.specs.Tree.{VariableTree, Variables, Unnamed, Bound, Surface
 use Rattle.ocl_text.specs.RuleText.{Agrees}
 use Rattle.ocl_text.specs.Grammar.{is_mark, token, next_is, Next, is_identifier_kind, ends_variable, begins_variable, steps_on, declares, iterator_of, is_fold_name, takes_two, IsExpr}
 use Rattle.ocl_text.specs.Parse as p
-use Rattle.ocl_text.specs.Parse.{TokensFault, syntax, too_deep, Reading, Reader, begins, expect, level_of, expr, step_list, one_step, dotted, called, calling, arrowed, applied_step, applied_by, a_bind, a_fold, fold_in, fold_body, iteration, optional_variables, variables, variables_by}
+use Rattle.ocl_text.specs.Parse.{TokensFault, syntax, too_deep, Reading, Reader, begins, expect, level_of, expr, step_list, one_step, after_dot, called, operation_call, after_arrow, applied_step, applied_by, a_bind, a_fold, fold_in, fold_body, iteration, optional_variables, variables, variables_by}
 use Rattle.ocl_text.proofs.Complete.{no_variable_is, shorter_expr}
 use Rattle.ocl_text.proofs.Sound.{bind_ok, sound_expr}
 use Rattle.ocl_text.proofs.Shut.{fold_shut}
@@ -24,7 +24,7 @@ use Rattle.ocl_text.proofs.Prefixes.{Completes, Sees, Opens, Any, bind, default_
 use Rattle.ocl_text.proofs.Stops.{May, stops, may_not, next_not, mark_next, mark_may, mark_not, declared_after, sees_shut, sees_declared, sees_variable, sees_variables_by}
 use Rattle.ocl_text.proofs.Spelled.{name_word, mark_word, stop_steps, steps_done, name_expr}
 use Rattle.ocl_text.proofs.Lists.{Shortens}
-use Rattle.ocl_text.proofs.Parts.{counts, sees_bind, sees_called, sees_calling}
+use Rattle.ocl_text.proofs.Parts.{counts, sees_bind, sees_called, sees_operation_call}
 
 -- ---- iterations
 
@@ -255,24 +255,24 @@ module _ (a b c n : ℕ) (operand operand' : Reader SurfaceTree) (sees : (ts : L
   abbrev whole' : Reader SurfaceTree
   whole' = expr (longer b c) (deeper a n)
 
-  arguments_see : (source : SurfaceTree) (by : Navigation) (text : List ℕ) (at : ℕ) (ts : List Terminal) → Sees (calling n operand whole source by text at) (calling (deeper a n) operand' whole' source by text at) (May stops) (Next (is_mark m.Open)) ts
-  arguments_see source by text at ts = sees_calling operand operand' sees shortens shortens' empty shuts opened a n whole whole' source by text at ts
+  arguments_see : (source : SurfaceTree) (by : Navigation) (text : List ℕ) (at : ℕ) (ts : List Terminal) → Sees (operation_call n operand whole source by text at) (operation_call (deeper a n) operand' whole' source by text at) (May stops) (Next (is_mark m.Open)) ts
+  arguments_see source by text at ts = sees_operation_call operand operand' sees shortens shortens' empty shuts opened a n whole whole' source by text at ts
 
-  dot_default : (source : SurfaceTree) → Completes (dotted (deeper a n) operand' whole' source) (May stops) Any []
-  unfolding dotted
+  dot_default : (source : SurfaceTree) → Completes (after_dot (deeper a n) operand' whole' source) (May stops) Any []
+  unfolding after_dot
   dot_default source =
-      let (x, more, h) = default_of (calling n operand whole source Dot [] 0) (calling (deeper a n) operand' whole' source Dot [] 0) (May stops) (Next (is_mark m.Open)) (arguments_see source Dot [] 0 []) in
+      let (x, more, h) = default_of (operation_call n operand whole source Dot [] 0) (operation_call (deeper a n) operand' whole' source Dot [] 0) (May stops) (Next (is_mark m.Open)) (arguments_see source Dot [] 0 []) in
       (x, word_divide ∷ more, λ rest g. (tt, (h rest g).1))
 
-  sees_dotted : (source : SurfaceTree) (ts : List Terminal) → Sees (dotted n operand whole source) (dotted (deeper a n) operand' whole' source) (May stops) Any ts
-  unfolding dotted
-  sees_dotted source [] = stuck _ _ (May stops) Any [] (λ us is. rw is refl) (λ us is. rw is refl) (dot_default source)
-  sees_dotted source (t ∷ ts) = by t.kind
+  sees_after_dot : (source : SurfaceTree) (ts : List Terminal) → Sees (after_dot n operand whole source) (after_dot (deeper a n) operand' whole' source) (May stops) Any ts
+  unfolding after_dot
+  sees_after_dot source [] = stuck _ _ (May stops) Any [] (λ us is. rw is refl) (λ us is. rw is refl) (dot_default source)
+  sees_after_dot source (t ∷ ts) = by t.kind
     where
-      by : (kind : TokenKind) → Sees (dotted n operand whole source) (dotted (deeper a n) operand' whole' source) (May stops) Any (token kind t.offset t.text ∷ ts)
+      by : (kind : TokenKind) → Sees (after_dot n operand whole source) (after_dot (deeper a n) operand' whole' source) (May stops) Any (token kind t.offset t.text ∷ ts)
       by k.Identifier = skip (token k.Identifier t.offset t.text) ts _ _ (called n operand whole source t.text t.offset) (called (deeper a n) operand' whole' source t.text t.offset) (May stops) (May stops) Any (λ us. refl) (λ us. refl) (sees_called operand operand' sees shortens shortens' empty shuts opened a n whole whole' source t.text t.offset ts)
-      by k.Div = skip (token k.Div t.offset t.text) ts _ _ (calling n operand whole source Dot t.text t.offset) (calling (deeper a n) operand' whole' source Dot t.text t.offset) (May stops) (Next (is_mark m.Open)) Any (λ us. refl) (λ us. refl) (arguments_see source Dot t.text t.offset ts)
-      by k.Mod = skip (token k.Mod t.offset t.text) ts _ _ (calling n operand whole source Dot t.text t.offset) (calling (deeper a n) operand' whole' source Dot t.text t.offset) (May stops) (Next (is_mark m.Open)) Any (λ us. refl) (λ us. refl) (arguments_see source Dot t.text t.offset ts)
+      by k.Div = skip (token k.Div t.offset t.text) ts _ _ (operation_call n operand whole source Dot t.text t.offset) (operation_call (deeper a n) operand' whole' source Dot t.text t.offset) (May stops) (Next (is_mark m.Open)) Any (λ us. refl) (λ us. refl) (arguments_see source Dot t.text t.offset ts)
+      by k.Mod = skip (token k.Mod t.offset t.text) ts _ _ (operation_call n operand whole source Dot t.text t.offset) (operation_call (deeper a n) operand' whole' source Dot t.text t.offset) (May stops) (Next (is_mark m.Open)) Any (λ us. refl) (λ us. refl) (arguments_see source Dot t.text t.offset ts)
       by (k.Number v) = stuck _ _ (May stops) Any _ (λ us (more, is). rw is refl) (λ us (more, is). rw is refl) (dot_default source)
       by _ = stuck _ _ (May stops) Any _ (λ us (more, is). rw is refl) (λ us (more, is). rw is refl) (dot_default source)
 
@@ -287,18 +287,18 @@ module _ (a b c n : ℕ) (operand operand' : Reader SurfaceTree) (sees : (ts : L
   sees_by_name true o source text at ts = sees_fold a operand operand' whole whole' sees sees_whole source at n ts
   sees_by_name false o source text at ts = sees_applied o source text at ts
 
-  arrow_default : (source : SurfaceTree) → Completes (arrowed (deeper a n) operand' whole' source) (May stops) Any []
-  unfolding arrowed applied_step
+  arrow_default : (source : SurfaceTree) → Completes (after_arrow (deeper a n) operand' whole' source) (May stops) Any []
+  unfolding after_arrow applied_step
   arrow_default source =
-      let (x, more, h) = default_of (calling n operand whole source Arrow [] 0) (calling (deeper a n) operand' whole' source Arrow [] 0) (May stops) (Next (is_mark m.Open)) (arguments_see source Arrow [] 0 []) in
+      let (x, more, h) = default_of (operation_call n operand whole source Arrow [] 0) (operation_call (deeper a n) operand' whole' source Arrow [] 0) (May stops) (Next (is_mark m.Open)) (arguments_see source Arrow [] 0 []) in
       (x, name_word ∷ more, λ rest g. (tt, (h rest g).1))
 
-  sees_arrowed : (source : SurfaceTree) (ts : List Terminal) → Sees (arrowed n operand whole source) (arrowed (deeper a n) operand' whole' source) (May stops) Any ts
-  unfolding arrowed applied_step
-  sees_arrowed source [] = stuck _ _ (May stops) Any [] (λ us is. rw is refl) (λ us is. rw is refl) (arrow_default source)
-  sees_arrowed source (t ∷ ts) = by t.kind
+  sees_after_arrow : (source : SurfaceTree) (ts : List Terminal) → Sees (after_arrow n operand whole source) (after_arrow (deeper a n) operand' whole' source) (May stops) Any ts
+  unfolding after_arrow applied_step
+  sees_after_arrow source [] = stuck _ _ (May stops) Any [] (λ us is. rw is refl) (λ us is. rw is refl) (arrow_default source)
+  sees_after_arrow source (t ∷ ts) = by t.kind
     where
-      by : (kind : TokenKind) → Sees (arrowed n operand whole source) (arrowed (deeper a n) operand' whole' source) (May stops) Any (token kind t.offset t.text ∷ ts)
+      by : (kind : TokenKind) → Sees (after_arrow n operand whole source) (after_arrow (deeper a n) operand' whole' source) (May stops) Any (token kind t.offset t.text ∷ ts)
       by k.Identifier = skip (token k.Identifier t.offset t.text) ts _ _ (applied_step n operand whole source t.text t.offset) (applied_step (deeper a n) operand' whole' source t.text t.offset) (May stops) (Next (is_mark m.Open)) Any (λ us. refl) (λ us. refl) (sees_by_name (is_fold_name t.text) (iterator_of t.text) source t.text t.offset ts)
       by (k.Number v) = stuck _ _ (May stops) Any _ (λ us (more, is). rw is refl) (λ us (more, is). rw is refl) (arrow_default source)
       by _ = stuck _ _ (May stops) Any _ (λ us (more, is). rw is refl) (λ us (more, is). rw is refl) (arrow_default source)
@@ -338,15 +338,15 @@ module _ (a b c n : ℕ) (operand operand' : Reader SurfaceTree) (sees : (ts : L
   sees_steps zero source (t ∷ ts) = by t.kind
     where
       by : (kind : TokenKind) → Sees (step_list n operand whole zero source) (step_list (deeper a n) operand' whole' (suc b) source) (May stops) (May stops) (token kind t.offset t.text ∷ ts)
-      by k.Dot = last_step (token k.Dot t.offset t.text) refl source (dotted n operand whole source) (dotted (deeper a n) operand' whole' source) (λ us. refl) (λ us. refl) (sees_dotted source) ts
-      by k.Arrow = last_step (token k.Arrow t.offset t.text) refl source (arrowed n operand whole source) (arrowed (deeper a n) operand' whole' source) (λ us. refl) (λ us. refl) (sees_arrowed source) ts
+      by k.Dot = last_step (token k.Dot t.offset t.text) refl source (after_dot n operand whole source) (after_dot (deeper a n) operand' whole' source) (λ us. refl) (λ us. refl) (sees_after_dot source) ts
+      by k.Arrow = last_step (token k.Arrow t.offset t.text) refl source (after_arrow n operand whole source) (after_arrow (deeper a n) operand' whole' source) (λ us. refl) (λ us. refl) (sees_after_arrow source) ts
       by (k.Number v) = no_step_here zero source _ (λ us (more, is). rw is refl)
       by _ = no_step_here zero source _ (λ us (more, is). rw is refl)
   sees_steps (suc l) source (t ∷ ts) = by t.kind (sees_steps l)
     where
       by : (kind : TokenKind) → ((source : SurfaceTree) (ts : List Terminal) → Sees (step_list n operand whole l source) (step_list (deeper a n) operand' whole' (longer b l) source) (May stops) (May stops) ts)
           → Sees (step_list n operand whole (suc l) source) (step_list (deeper a n) operand' whole' (suc (longer b l)) source) (May stops) (May stops) (token kind t.offset t.text ∷ ts)
-      by k.Dot more = next_step (token k.Dot t.offset t.text) refl source (dotted n operand whole source) (dotted (deeper a n) operand' whole' source) (λ us. refl) (λ us. refl) (sees_dotted source) l more ts
-      by k.Arrow more = next_step (token k.Arrow t.offset t.text) refl source (arrowed n operand whole source) (arrowed (deeper a n) operand' whole' source) (λ us. refl) (λ us. refl) (sees_arrowed source) l more ts
+      by k.Dot more = next_step (token k.Dot t.offset t.text) refl source (after_dot n operand whole source) (after_dot (deeper a n) operand' whole' source) (λ us. refl) (λ us. refl) (sees_after_dot source) l more ts
+      by k.Arrow more = next_step (token k.Arrow t.offset t.text) refl source (after_arrow n operand whole source) (after_arrow (deeper a n) operand' whole' source) (λ us. refl) (λ us. refl) (sees_after_arrow source) l more ts
       by (k.Number v) more = no_step_here (suc l) source _ (λ us (more, is). rw is refl)
       by _ more = no_step_here (suc l) source _ (λ us (more, is). rw is refl)

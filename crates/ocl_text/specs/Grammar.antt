@@ -178,7 +178,7 @@ pub data IsVariable : ℕ → List Terminal → VariableTree → List Terminal �
   untyped : {n offset : ℕ} {text : List ℕ} {rest : List Terminal} → NotNext declares rest → IsVariable n (token k.Identifier offset text ∷ rest) (text, None) rest
   typed : {n offset colon_offset : ℕ} {text colon : List ℕ} {ts rest : List Terminal} {declared : TypeTree} → IsType n ts declared rest → IsVariable n (token k.Identifier offset text ∷ token k.Colon colon_offset colon ∷ ts) (text, Some declared) rest
 
--- ---- expressions, with offset most `chain` operators or steps in one chain
+-- ---- expressions, with at most `chain` operators or steps in one chain
 
 -- Every token of a construct but its first is inside it: a parenthesis, an `if`, a `let`, a prefix operator. Where a
 -- construct opens, n falls by one, and no token stands where it is zero.

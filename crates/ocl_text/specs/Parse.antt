@@ -184,45 +184,45 @@ let_expression (suc n) operand whole offset ts = items (a_bind (suc n) operand) 
 
 module _ (n : ℕ) (operand whole : Reader SurfaceTree) where
   -- a call, by its arguments
-  unfoldable pub calling : SurfaceTree → Navigation → List ℕ → ℕ → Reader SurfaceTree
-  calling source by text offset ts = arguments operand n ts >>= λ x. Ok (Call source by text (trees_of x.0) offset, x.1)
+  unfoldable pub operation_call : SurfaceTree → Navigation → List ℕ → ℕ → Reader SurfaceTree
+  operation_call source by text offset ts = arguments operand n ts >>= λ x. Ok (Call source by text (trees_of x.0) offset, x.1)
 
   -- a call, or a property where no parenthesis opens
   unfoldable pub called : SurfaceTree → List ℕ → ℕ → Reader SurfaceTree
-  called source text offset ts = if next_is opens ts then calling source Dot text offset ts else Ok (Property source text offset, ts)
+  called source text offset ts = if next_is opens ts then operation_call source Dot text offset ts else Ok (Property source text offset, ts)
 
-  abbrev pub dotted_by : SurfaceTree → TokenKind → List ℕ → ℕ → List Terminal → List Terminal → Reading SurfaceTree
-  dotted_by source k.Identifier text offset all ts = called source text offset ts
-  dotted_by source k.Div text offset all ts = calling source Dot text offset ts
-  dotted_by source k.Mod text offset all ts = calling source Dot text offset ts
-  dotted_by source _ text offset all ts = Err (syntax all)
+  abbrev pub after_dot_by : SurfaceTree → TokenKind → List ℕ → ℕ → List Terminal → List Terminal → Reading SurfaceTree
+  after_dot_by source k.Identifier text offset all ts = called source text offset ts
+  after_dot_by source k.Div text offset all ts = operation_call source Dot text offset ts
+  after_dot_by source k.Mod text offset all ts = operation_call source Dot text offset ts
+  after_dot_by source _ text offset all ts = Err (syntax all)
 
-  unfoldable pub dotted : SurfaceTree → Reader SurfaceTree
-  dotted source [] = Err (syntax [])
-  dotted source (t ∷ ts) = dotted_by source t.kind t.text t.offset (t ∷ ts) ts
+  unfoldable pub after_dot : SurfaceTree → Reader SurfaceTree
+  after_dot source [] = Err (syntax [])
+  after_dot source (t ∷ ts) = after_dot_by source t.kind t.text t.offset (t ∷ ts) ts
 
   unfoldable pub a_fold : SurfaceTree → ℕ → Reader SurfaceTree
   a_fold source offset ts = expect m.Open ts >>= fold_in n operand whole source offset
 
   -- an iteration, or a call by any other name
   abbrev pub applied_by : Option IteratorKind → SurfaceTree → List ℕ → ℕ → Reader SurfaceTree
-  applied_by None source text offset ts = calling source Arrow text offset ts
+  applied_by None source text offset ts = operation_call source Arrow text offset ts
   applied_by (Some kind) source text offset ts = iteration n whole (takes_two kind) ts >>= λ x. Ok (Iterate source kind x.0.0 x.0.1 offset, x.1)
 
   unfoldable pub applied_step : SurfaceTree → List ℕ → ℕ → Reader SurfaceTree
   applied_step source text offset ts = if is_fold_name text then a_fold source offset ts else applied_by (iterator_of text) source text offset ts
 
-  abbrev pub arrowed_by : SurfaceTree → TokenKind → List ℕ → ℕ → List Terminal → List Terminal → Reading SurfaceTree
-  arrowed_by source k.Identifier text offset all ts = applied_step source text offset ts
-  arrowed_by source _ text offset all ts = Err (syntax all)
+  abbrev pub after_arrow_by : SurfaceTree → TokenKind → List ℕ → ℕ → List Terminal → List Terminal → Reading SurfaceTree
+  after_arrow_by source k.Identifier text offset all ts = applied_step source text offset ts
+  after_arrow_by source _ text offset all ts = Err (syntax all)
 
-  unfoldable pub arrowed : SurfaceTree → Reader SurfaceTree
-  arrowed source [] = Err (syntax [])
-  arrowed source (t ∷ ts) = arrowed_by source t.kind t.text t.offset (t ∷ ts) ts
+  unfoldable pub after_arrow : SurfaceTree → Reader SurfaceTree
+  after_arrow source [] = Err (syntax [])
+  after_arrow source (t ∷ ts) = after_arrow_by source t.kind t.text t.offset (t ∷ ts) ts
 
   abbrev pub step_by : SurfaceTree → TokenKind → List Terminal → List Terminal → Reading SurfaceTree
-  step_by source k.Dot all ts = dotted source ts
-  step_by source k.Arrow all ts = arrowed source ts
+  step_by source k.Dot all ts = after_dot source ts
+  step_by source k.Arrow all ts = after_arrow source ts
   step_by source _ all ts = Err (syntax all)
 
   -- a step, which has begun

@@ -88,7 +88,7 @@ pub(crate) fn prefix(
 
 /// What stands left of a link, with the link.
 #[tactic(auto, using(crate::proofs::Views::views))]
-fn linked(alloc: Global, left: Expression, link: Link) -> Result<Expression, AllocError>
+fn with_link(alloc: Global, left: Expression, link: Link) -> Result<Expression, AllocError>
     ensures { IfOk result (λ e. spec.view e ≡ spec.link_of link (spec.view left)) }
 {
     match left {
@@ -122,7 +122,7 @@ pub(crate) fn binary(
         right,
         offset,
     };
-    linked(alloc, left, link)
+    with_link(alloc, left, link)
 }
 
 #[tactic(auto, using(crate::proofs::Views::views))]
@@ -136,7 +136,7 @@ pub(crate) fn property(
     ensures { IfOk result (λ e. spec.view e ≡ tree.Property (spec.view source) text.now offset) }
 {
     let name = Name::new(alloc, text)?;
-    linked(alloc, source, Link::Property { name, offset })
+    with_link(alloc, source, Link::Property { name, offset })
 }
 
 #[tactic(auto, using(crate::proofs::Views::views))]
@@ -160,7 +160,7 @@ pub(crate) fn call(
         arguments,
         offset,
     };
-    linked(alloc, source, link)
+    with_link(alloc, source, link)
 }
 
 #[tactic(auto, using(crate::proofs::Views::views))]
@@ -182,7 +182,7 @@ pub(crate) fn iterate(
         body,
         offset,
     };
-    linked(alloc, source, link)
+    with_link(alloc, source, link)
 }
 
 #[tactic(auto, using(crate::proofs::Views::views))]
@@ -205,7 +205,7 @@ pub(crate) fn fold(
         body,
         offset,
     };
-    linked(alloc, source, link)
+    with_link(alloc, source, link)
 }
 
 #[tactic(auto, using(crate::proofs::Views::views))]

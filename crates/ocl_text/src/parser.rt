@@ -181,7 +181,7 @@ fn post(
 
 /// A name at this offset in the text, alone or qualified.
 #[tactic(auto, unfolding(crate::specs::Parse::name_or_literal))]
-fn named(
+fn name_or_literal(
     alloc: Global,
     parser: &Parser<'_>,
     text: &str,
@@ -219,7 +219,7 @@ fn prim(
     let offset = t.span.start;
     match t.kind {
         TokenKind::Number(value) => Ok((nodes::number(value, offset), index + 1)),
-        TokenKind::Identifier => named(alloc, parser, t.text, offset, index + 1),
+        TokenKind::Identifier => name_or_literal(alloc, parser, t.text, offset, index + 1),
         TokenKind::String => Ok((nodes::string(alloc, t.text, offset)?, index + 1)),
         TokenKind::True => Ok((nodes::keyword(Keyword::True, offset), index + 1)),
         TokenKind::False => Ok((nodes::keyword(Keyword::False, offset), index + 1)),
@@ -329,16 +329,16 @@ fn step(
         return Err(ParseFault::Syntax(index));
     };
     match t.kind {
-        TokenKind::Dot => dotted(alloc, parser, depth, source, index + 1),
-        TokenKind::Arrow => arrowed(alloc, parser, depth, source, index + 1),
+        TokenKind::Dot => after_dot(alloc, parser, depth, source, index + 1),
+        TokenKind::Arrow => after_arrow(alloc, parser, depth, source, index + 1),
         _ => Err(ParseFault::Syntax(index)),
     }
 }
 
 /// A call of the operation of this name, by its arguments.
 #[cycle(parser)]
-#[tactic(auto, unfolding(crate::specs::Parse::calling))]
-fn calling(
+#[tactic(auto, unfolding(crate::specs::Parse::operation_call))]
+fn operation_call(
     alloc: Global,
     parser: &Parser<'_>,
     depth: usize,
@@ -349,7 +349,7 @@ fn calling(
 ) -> Result<(Expression, usize), ParseFault>
     requires { is_operation_name name.now.text.now ≡ true }
     ensures { Parses parser.now view result
-        (spec.calling depth (operand parser.now depth) (whole parser.now depth) (view source)
+        (spec.operation_call depth (operand parser.now depth) (whole parser.now depth) (view source)
         navigation name.now.text.now name.now.span.start (from parser.now index)) }
 {
     let (all, index) = arguments(alloc, parser, depth, index)?;
@@ -359,8 +359,8 @@ fn calling(
 
 /// The step after a dot.
 #[cycle(parser)]
-#[tactic(auto, unfolding(crate::specs::Parse::dotted, crate::specs::Parse::called), using(crate::proofs::Names::token_name, crate::proofs::Names::token_operation))]
-fn dotted(
+#[tactic(auto, unfolding(crate::specs::Parse::after_dot, crate::specs::Parse::called), using(crate::proofs::Names::token_name, crate::proofs::Names::token_operation))]
+fn after_dot(
     alloc: Global,
     parser: &Parser<'_>,
     depth: usize,
@@ -368,7 +368,7 @@ fn dotted(
     index: usize,
 ) -> Result<(Expression, usize), ParseFault>
     ensures { Parses parser.now view result
-        (spec.dotted depth (operand parser.now depth) (whole parser.now depth) (view source)
+        (spec.after_dot depth (operand parser.now depth) (whole parser.now depth) (view source)
         (from parser.now index)) }
 {
     let Some(t) = cursor::peek(parser, index) else {
@@ -377,14 +377,14 @@ fn dotted(
     match t.kind {
         TokenKind::Identifier => {
             if cursor::next_is(Mark::Open, parser, index + 1) {
-                calling(alloc, parser, depth, source, Navigation::Dot, &t, index + 1)
+                operation_call(alloc, parser, depth, source, Navigation::Dot, &t, index + 1)
             } else {
                 let node = nodes::property(alloc, source, t.text, t.span.start)?;
                 Ok((node, index + 1))
             }
         }
         TokenKind::Div | TokenKind::Mod => {
-            calling(alloc, parser, depth, source, Navigation::Dot, &t, index + 1)
+            operation_call(alloc, parser, depth, source, Navigation::Dot, &t, index + 1)
         }
         _ => Err(ParseFault::Syntax(index)),
     }
@@ -392,8 +392,8 @@ fn dotted(
 
 /// The step after an arrow: a fold or an iteration by its name, else a call.
 #[cycle(parser)]
-#[tactic(auto, unfolding(crate::specs::Parse::arrowed, crate::specs::Parse::applied_step), using(crate::proofs::Names::token_operation))]
-fn arrowed(
+#[tactic(auto, unfolding(crate::specs::Parse::after_arrow, crate::specs::Parse::applied_step), using(crate::proofs::Names::token_operation))]
+fn after_arrow(
     alloc: Global,
     parser: &Parser<'_>,
     depth: usize,
@@ -401,7 +401,7 @@ fn arrowed(
     index: usize,
 ) -> Result<(Expression, usize), ParseFault>
     ensures { Parses parser.now view result
-        (spec.arrowed depth (operand parser.now depth) (whole parser.now depth) (view source)
+        (spec.after_arrow depth (operand parser.now depth) (whole parser.now depth) (view source)
         (from parser.now index)) }
 {
     let Some(t) = cursor::peek(parser, index) else {
@@ -419,7 +419,7 @@ fn arrowed(
                 let node = nodes::iterate(alloc, source, iterator, variables, body, offset)?;
                 Ok((node, index))
             }
-            None => calling(
+            None => operation_call(
                 alloc,
                 parser,
                 depth,

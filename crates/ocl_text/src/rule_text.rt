@@ -8,7 +8,7 @@ ghost use Rattle.ocl_text.specs.Tree.{Rule};
 ghost use Rattle.ocl_text.specs.View.{rule_of};
 
 use crate::cursor::{ParseFault, Parser, peek};
-use crate::duplicates::repeated;
+use crate::duplicates::repeated_offset;
 use crate::rules::rules_of;
 use crate::tree::SurfaceRule;
 use ocl_tokens::{TextFault, TextFlaw, tokens};
@@ -70,7 +70,7 @@ pub fn parse_rules(alloc: Global, text: &str) -> Result<Vec<SurfaceRule>, TextFa
         Ok(rules) => rules,
         Err(fault) => return Err(text_fault(&parser, text.len(), fault)),
     };
-    match repeated(alloc, &rules)? {
+    match repeated_offset(alloc, &rules)? {
         None => Ok(rules),
         Some(offset) => Err(TextFault::At {
             flaw: TextFlaw::DuplicateRule,

@@ -6,8 +6,8 @@ ghost use Rattle.ocl_text.specs.Strings as spec;
 use std::alloc::{AllocError, Global};
 
 /// What stands after a backslash.
-fn escaped(character: char) -> char
-    ensures { result ≡ spec.escaped character }
+fn escape_value(character: char) -> char
+    ensures { result ≡ spec.escape_value character }
 {
     match character {
         'b' => '\x08',
@@ -27,7 +27,7 @@ pub(crate) fn string_value(alloc: Global, spelling: &str) -> Result<String, Allo
     let mut after_backslash = false;
     'characters: for character in spelling.chars() {
         if after_backslash {
-            value.push(escaped(character))?;
+            value.push(escape_value(character))?;
             after_backslash = false;
         } else if character == '\\' {
             after_backslash = true;

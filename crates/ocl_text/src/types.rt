@@ -15,7 +15,7 @@ use ocl_tokens::TokenKind;
 use std::alloc::{AllocError, Global};
 
 #[tactic(auto, using(crate::proofs::Views::type_views))]
-fn named(alloc: Global, text: &str, offset: usize) -> Result<DeclaredType, AllocError>
+fn type_by_name(alloc: Global, text: &str, offset: usize) -> Result<DeclaredType, AllocError>
     requires { is_name text.now ≡ true }
     ensures { IfOk result (λ t. view_type t ≡ Named text.now offset) }
 {
@@ -79,7 +79,7 @@ fn type_over(
                 let index = cursor::expect(Mark::Close, parser, index)?;
                 Ok((collection(alloc, t.text, inner, t.span.start)?, index))
             } else {
-                Ok((named(alloc, t.text, t.span.start)?, index + 1))
+                Ok((type_by_name(alloc, t.text, t.span.start)?, index + 1))
             }
         }
         _ => Err(ParseFault::Syntax(index)),

@@ -11,9 +11,8 @@ ghost use Rattle.owned_values.specs.Walks.{element_list};
 
 use crate::elements::is_item_among;
 use crate::endings::{any_undecided, kept_items};
-use crate::memory::push;
 use crate::value::{Item, Value, copy_of, is_invalid};
-use ocl_base::{CollectionKind, OutOfMemory};
+use ocl_base::{CollectionKind, OutOfMemory, push};
 use ocl_kinds::collected_kind;
 use std::alloc::Global;
 

@@ -10,9 +10,8 @@ ghost use Rattle.rule_values.specs.Operations.{integer_value, as_collection, col
 ghost use Rattle.owned_values.specs.Meant.{meant, meant_item, meant_items};
 ghost use Rattle.owned_values.specs.Walks.{with_new};
 
-use crate::memory::push;
 use crate::value::{Item, Value, copy_of};
-use ocl_base::{CollectionKind, OutOfMemory};
+use ocl_base::{CollectionKind, OutOfMemory, push};
 use std::alloc::Global;
 
 /// Whether two elements are the same.

@@ -7,9 +7,8 @@ ghost use Rattle.rule_values.specs.Endings.{for_all, exists, is_undecided, count
 ghost use Rattle.owned_values.specs.Meant.{meant, meant_item, meant_items};
 ghost use Rattle.owned_values.specs.Walks.{kept_one, is_wanted};
 
-use crate::memory::push;
 use crate::value::{Item, Value, copy_of, is_false, is_true, truth_known};
-use ocl_base::{CollectionKind, OutOfMemory};
+use ocl_base::{CollectionKind, OutOfMemory, push};
 use std::alloc::Global;
 
 /// Whether a body is neither true nor false.

@@ -6,7 +6,6 @@ mod elements;
 mod endings;
 mod equalities;
 mod integers;
-mod memory;
 mod objects;
 mod sums;
 mod texts;

@@ -7,11 +7,10 @@ ghost use Rattle.rule_values.specs.Operations.{kind_test, type_test, cast, or_in
 ghost use Rattle.owned_values.specs.Meant.{meant, meant_item, meant_items, IsValueThere};
 ghost use Rattle.owned_values.specs.Walks.{objects_meant};
 
-use crate::memory::push;
 use crate::value::{Item, Value};
 use imkl_model::{ClassNo, FeatureNo};
 use imkl_population::{ObjectNo, Population, Scalar};
-use ocl_base::{CollectionKind, OutOfMemory};
+use ocl_base::{CollectionKind, OutOfMemory, push};
 use std::alloc::Global;
 
 /// Whether an object's class is a class or a subclass of it.

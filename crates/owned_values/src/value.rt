@@ -5,10 +5,9 @@ ghost use Rattle.rule_values.specs.Value.{element_value};
 ghost use Rattle.rule_values.specs.Operations.{is_true, is_false, is_null, is_invalid, truth_known};
 ghost use Rattle.owned_values.specs.Meant.{meant, meant_item, meant_items};
 
-use crate::memory::push;
 use imkl_model::{EnumNo, LiteralNo};
 use imkl_population::ObjectNo;
-use ocl_base::{CollectionKind, OutOfMemory};
+use ocl_base::{CollectionKind, OutOfMemory, push};
 use std::alloc::Global;
 
 /// A single value or null, as collections have them. A text is borrowed from the unit or the population.

@@ -21,4 +21,4 @@ returns-clause-gives c =
     let there = added_there c.args.model.now (view c.args.value) c.in_ok-builder.builder c.in_ok-builder.ensures.gives in
     let same : map view c.in-Some.objects.items ≡ there.objects = (let whole : Some (map view c.in-Some.objects.items) ≡ Some there.objects = c.in-Some.ensures ∙ there.taken in cc) in
     let read = ap (each entry_from) same ∙ there.written in
-    rw there.whole (c.written.ensures.gives there.entries read)
+    rw there.whole (c.finish_objects.ensures.gives there.entries read)

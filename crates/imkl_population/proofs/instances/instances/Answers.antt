@@ -13,8 +13,8 @@ loop-class-init c = record {
   shared = c.no_lists-shared.ensures c.args.builder.now;
 }
 
-pub conforming-requires-clause-classes : goal.conforming-requires-clause-classes
-conforming-requires-clause-classes c =
+pub classes_below-requires-clause-classes : goal.classes_below-requires-clause-classes
+classes_below-requires-clause-classes c =
     let p = c.args.builder.now in
     let lists = c.in_ok-members.members.direct.items in
     let classes = c.deref-in-loop-class.result.now in

@@ -31,14 +31,14 @@ decreases-fold l = 40 * l.depth + 22
 abbrev pub decreases-fold_body : goal.decreases-fold_body
 decreases-fold_body l = 40 * l.depth + 21
 
-abbrev pub decreases-dotted : goal.decreases-dotted
-decreases-dotted l = 40 * l.depth + 24
+abbrev pub decreases-after_dot : goal.decreases-after_dot
+decreases-after_dot l = 40 * l.depth + 24
 
-abbrev pub decreases-calling : goal.decreases-calling
-decreases-calling l = 40 * l.depth + 23
+abbrev pub decreases-operation_call : goal.decreases-operation_call
+decreases-operation_call l = 40 * l.depth + 23
 
-abbrev pub decreases-arrowed : goal.decreases-arrowed
-decreases-arrowed l = 40 * l.depth + 24
+abbrev pub decreases-after_arrow : goal.decreases-after_arrow
+decreases-after_arrow l = 40 * l.depth + 24
 
 abbrev pub decreases-step : goal.decreases-step
 decreases-step l = 40 * l.depth + 25

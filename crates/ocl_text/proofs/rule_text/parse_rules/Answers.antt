@@ -56,4 +56,4 @@ returns-in-None-clause-only c =
 pub returns-clause-duplicate : goal.returns-clause-duplicate
 returns-clause-duplicate c =
     let lexes : Lexes c.args.text.now (terminals c.deref.result.now) = rw c.deref.ensures.value c.in_ok-all.ensures.tokens in
-    text_repeats MAX_NESTING MAX_CHAIN c.args.text.now (terminals c.deref.result.now) lexes (map rule_of c.in-Ok.rules.items) c.in-Some.offset c.in-Ok.ensures (rw (c.deref-2.ensures.value, c.in-Some.is) at c.in_ok-repeated.ensures)
+    text_repeats MAX_NESTING MAX_CHAIN c.args.text.now (terminals c.deref.result.now) lexes (map rule_of c.in-Ok.rules.items) c.in-Some.offset c.in-Ok.ensures (rw (c.deref-2.ensures.value, c.in-Some.is) at c.in_ok-repeated_offset.ensures)

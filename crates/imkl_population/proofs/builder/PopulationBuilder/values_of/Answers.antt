@@ -3,7 +3,7 @@ use Rattle.imkl_population.specs.Population.{Population, written_at}
 use Rattle.imkl_population.specs.Written.{written_in}
 use Rattle.imkl_population.specs.Store.{maps_of}
 use Rattle.imkl_population.proofs.Layouts.{length-content, written-column}
-use Rattle.imkl_population.proofs.builder.PopulationBuilder.written.Goals as goal
+use Rattle.imkl_population.proofs.builder.PopulationBuilder.values_of.Goals as goal
 
 pub returns : goal.returns
 returns c =

@@ -4,7 +4,7 @@ use Rattle.std.specs.Cmp.Lexicographic.{slice_cmp}
 use Rattle.std.specs.Ordering.{nat_cmp}
 use Rattle.ocl_text.specs.RuleText.{has_name, AreNamedApart, RepeatsAt}
 use Rattle.ocl_text.specs.View.{rule_of}
-use Rattle.ocl_text.proofs.duplicates.repeated.Given as goal
+use Rattle.ocl_text.proofs.duplicates.repeated_offset.Given as goal
 
 abbrev pub invariant-rules : goal.invariant-rules
 invariant-rules l = record {

@@ -55,7 +55,7 @@ fn two(kind: ScalarKind) -> Operands {
 }
 
 /// What an instruction without kinds takes.
-fn plainly_wanted(instruction: Instr) -> Operands {
+fn plain_operands(instruction: Instr) -> Operands {
     let integer = ScalarKind::Integer;
     match instruction {
         Instr::KindOf(_) | Instr::TypeOf(_) | Instr::AsType(_) => {
@@ -107,7 +107,7 @@ pub fn operands_of(names: &Names<'_>, instruction: Instr) -> Operands {
         Instr::Fold(kind, _) => {
             Operands::Two(Pattern::AnyCollection, single(names.scalar(&kind)))
         }
-        _ => plainly_wanted(instruction),
+        _ => plain_operands(instruction),
     }
 }
 

@@ -6,7 +6,7 @@ use ocl_kinds::{Kind, ScalarKind, collected_kind, elements_kind};
 use rule_code::Instr;
 
 /// What an instruction without a body gives whatever stands in it.
-fn plainly_given(instruction: Instr) -> ScalarKind {
+fn plain_result(instruction: Instr) -> ScalarKind {
     match instruction {
         Instr::Add | Instr::Sub | Instr::Mul | Instr::Div | Instr::Mod | Instr::Min | Instr::Max =>
             ScalarKind::Integer,
@@ -19,7 +19,7 @@ fn plainly_given(instruction: Instr) -> ScalarKind {
 }
 
 /// What an instruction without a body gives, by the variables and its lowest operand.
-pub(crate) fn given(
+pub(crate) fn result_of(
     names: &Names<'_>,
     variables: &[Kind],
     instruction: Instr,
@@ -37,7 +37,7 @@ pub(crate) fn given(
         Instr::All(symbol) => Kind::Collection(CollectionKind::Set, names.one_of(symbol)),
         Instr::AsColl(collection, kind) => Kind::Collection(collection, names.scalar(&kind)),
         Instr::AsSet(_) => Kind::Collection(CollectionKind::Set, elements_kind(operand)),
-        _ => Kind::Scalar(plainly_given(instruction)),
+        _ => Kind::Scalar(plain_result(instruction)),
     }
 }
 

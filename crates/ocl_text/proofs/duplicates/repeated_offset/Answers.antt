@@ -1,5 +1,5 @@
 use Rattle.ocl_text.proofs.Taken.{is_free, is_held, still_apart, still_repeated, still_seen, repeated_here}
-use Rattle.ocl_text.proofs.duplicates.repeated.Goals as goal
+use Rattle.ocl_text.proofs.duplicates.repeated_offset.Goals as goal
 
 pub returns-then-not-branch : goal.returns-then-not-branch
 returns-then-not-branch c =
