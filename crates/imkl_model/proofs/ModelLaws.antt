@@ -17,7 +17,7 @@ use Rattle.imkl_model.specs.declared.feature.ElementType.TheVariants as element
 use Rattle.imkl_model.specs.declared.feature.Role.{Role}
 use Rattle.imkl_model.specs.declared.feature.Role.TheVariants as role
 use Rattle.imkl_model.specs.Features.{is_attribute, is_single}
-use Rattle.imkl_model.specs.Limits.{max_bound}
+use Rattle.imkl_model.specs.declared.limits.TheConstants.{MAX_BOUND}
 use Rattle.imkl_model.specs.Words.{is_predefined}
 use Rattle.imkl_model.specs.ClassModel.{Model, supers, class_at, no_class, enumeration_at, no_enumeration, feature_at, class_names, enumeration_names, has_clash, IsClash}
 use Rattle.imkl_model.specs.WellFormed.{IsClassModel, IsModelName, type_names}
@@ -253,7 +253,7 @@ features_are_sound m well f lt =
       element = element_of m i.element (λ c e. well.known_classes f c lt e) (λ n e. well.known_enumerations f n lt e);
       scalar = λ r. scalar_of i.element (λ c e. well.scalar_attributes f c lt (attribute_role i.role r) e);
       lower = well.lower_bounds f lt;
-      upper = upper_of i.upper (λ u. (0 < u) × (i.lower ≤ u) × (u ≤ max_bound)) (λ u e. well.upper_bounds f u lt e);
+      upper = upper_of i.upper (λ u. (0 < u) × (i.lower ≤ u) × (u ≤ MAX_BOUND)) (λ u e. well.upper_bounds f u lt e);
       unique = λ e. well.unique_ends f lt e;
       single = λ e. well.single_values f lt (single_is i.upper e);
     }

@@ -19,7 +19,7 @@ use Rattle.imkl_model.specs.declared.written.WrittenFeature.{WrittenFeature}
 use Rattle.imkl_model.specs.declared.written.WrittenClassRename.{WrittenClassRename}
 use Rattle.imkl_model.specs.declared.written.WrittenFeatureRename.{WrittenFeatureRename}
 use Rattle.ocl_base.specs.Lists.{repeats}
-use Rattle.imkl_model.specs.Limits.{max_types, max_features, max_renames, max_bound}
+use Rattle.imkl_model.specs.declared.limits.TheConstants.{MAX_BOUND, MAX_FEATURES, MAX_RENAMES, MAX_TYPES}
 use Rattle.imkl_model.specs.Words.{is_title, is_predefined, qualified}
 use Rattle.ocl_base.specs.Steps.{◌>>=◌, each}
 use Rattle.imkl_model.specs.Checks as checks
@@ -102,28 +102,28 @@ made_of w m e =
 -- ---- counts
 
 pub record IsFew (w : Written) : Type 0 where
-  pub classes : length w.classes ≤ max_types
-  pub enumerations : length w.enumerations ≤ max_types
-  pub literals : list_all (λ e. nat_le (length e.literals) max_types) w.enumerations ≡ true
-  pub features : length (written_features w) ≤ max_features
-  pub renames : length w.class_renames + length w.feature_renames ≤ max_renames
+  pub classes : length w.classes ≤ MAX_TYPES
+  pub enumerations : length w.enumerations ≤ MAX_TYPES
+  pub literals : list_all (λ e. nat_le (length e.literals) MAX_TYPES) w.enumerations ≡ true
+  pub features : length (written_features w) ≤ MAX_FEATURES
+  pub renames : length w.class_renames + length w.feature_renames ≤ MAX_RENAMES
 
 few : (w : Written) → checks.is_within_limits w ≡ true → IsFew w
 unfolding checks.is_within_limits
 few w e =
-    let a = nat_le (length w.classes) max_types in
-    let b = nat_le (length w.enumerations) max_types in
-    let l = list_all (λ (e : WrittenEnumeration). nat_le (length e.literals) max_types) w.enumerations in
-    let z = and_parts (a && b && l && nat_le (length (written_features w)) max_features) (nat_le (length w.class_renames + length w.feature_renames) max_renames) e in
-    let p = and_parts (a && b && l) (nat_le (length (written_features w)) max_features) z.0 in
+    let a = nat_le (length w.classes) MAX_TYPES in
+    let b = nat_le (length w.enumerations) MAX_TYPES in
+    let l = list_all (λ (e : WrittenEnumeration). nat_le (length e.literals) MAX_TYPES) w.enumerations in
+    let z = and_parts (a && b && l && nat_le (length (written_features w)) MAX_FEATURES) (nat_le (length w.class_renames + length w.feature_renames) MAX_RENAMES) e in
+    let p = and_parts (a && b && l) (nat_le (length (written_features w)) MAX_FEATURES) z.0 in
     let q = and_parts (a && b) l p.0 in
     let r = and_parts a b q.0 in
     record {
-      classes = le_of (length w.classes) max_types r.0;
-      enumerations = le_of (length w.enumerations) max_types r.1;
+      classes = le_of (length w.classes) MAX_TYPES r.0;
+      enumerations = le_of (length w.enumerations) MAX_TYPES r.1;
       literals = q.1;
-      features = le_of (length (written_features w)) max_features p.1;
-      renames = le_of (length w.class_renames + length w.feature_renames) max_renames z.1;
+      features = le_of (length (written_features w)) MAX_FEATURES p.1;
+      renames = le_of (length w.class_renames + length w.feature_renames) MAX_RENAMES z.1;
     }
 
 -- each enumeration's literals
@@ -341,14 +341,14 @@ module _ (w : Written) (m : Model) (limits : checks.is_within_limits w ≡ true)
       let p = and_parts (nat_le lower u) (nat_lt 0 u) (rw h at e) in
       (le_of 1 u p.1, le_of lower u p.0)
 
-  small_upper : (upper : Option ℕ) (u : ℕ) → IfSome upper (λ x. x ≤ max_bound) → upper ≡ Some u → u ≤ max_bound
+  small_upper : (upper : Option ℕ) (u : ℕ) → IfSome upper (λ x. x ≤ MAX_BOUND) → upper ≡ Some u → u ≤ MAX_BOUND
   small_upper upper u e h = rw h at e
 
   module _ (spelled : AllOf IsSpelledWritten (written_features w)) (bounds : list_all checks.has_multiplicity m.features ≡ true) where
-    pub lower_bounds : (f : ℕ) → IsFeature m f → (feature_at m f).lower ≤ max_bound
-    lower_bounds f lt = subst (λ (n : ℕ). n ≤ max_bound) (sym (from f lt).lower) (all_at IsSpelledWritten (written_features w) spelled f no_written (within f lt)).1
+    pub lower_bounds : (f : ℕ) → IsFeature m f → (feature_at m f).lower ≤ MAX_BOUND
+    lower_bounds f lt = subst (λ (n : ℕ). n ≤ MAX_BOUND) (sym (from f lt).lower) (all_at IsSpelledWritten (written_features w) spelled f no_written (within f lt)).1
 
-    pub upper_bounds : (f u : ℕ) → IsFeature m f → (feature_at m f).upper ≡ Some u → (0 < u) × ((feature_at m f).lower ≤ u) × (u ≤ max_bound)
+    pub upper_bounds : (f u : ℕ) → IsFeature m f → (feature_at m f).upper ≡ Some u → (0 < u) × ((feature_at m f).lower ≤ u) × (u ≤ MAX_BOUND)
     upper_bounds f u lt e =
         let p = multiplicity (feature_at m f).lower (feature_at m f).upper u (AllPass-from_list_all checks.has_multiplicity m.features bounds f no_feature lt) e in
         let s = (all_at IsSpelledWritten (written_features w) spelled f no_written (within f lt)).2 in
@@ -375,8 +375,8 @@ well_formed m n acyclic no_clash bounds =
     record {
       few_classes = omega (arith, class_count w m n.limits n.distinct parts, counts.classes);
       few_enumerations = omega (arith, enumeration_count w m n.limits n.distinct parts, counts.enumerations);
-      few_literals = along (λ (e : Enumeration). length e.literals ≤ max_types) (map enumeration_as_written w.enumerations) m.enumerations parts.enumerations
-          (all_mapped (λ (e : WrittenEnumeration). nat_le (length e.literals) max_types ≡ true) (λ (e : Enumeration). length e.literals ≤ max_types) enumeration_as_written (λ e h. le_of (length e.literals) max_types h) w.enumerations (of_each (λ e. nat_le (length e.literals) max_types) w.enumerations counts.literals));
+      few_literals = along (λ (e : Enumeration). length e.literals ≤ MAX_TYPES) (map enumeration_as_written w.enumerations) m.enumerations parts.enumerations
+          (all_mapped (λ (e : WrittenEnumeration). nat_le (length e.literals) MAX_TYPES ≡ true) (λ (e : Enumeration). length e.literals ≤ MAX_TYPES) enumeration_as_written (λ e h. le_of (length e.literals) MAX_TYPES h) w.enumerations (of_each (λ e. nat_le (length e.literals) MAX_TYPES) w.enumerations counts.literals));
       few_features = omega (arith, feature_count w m n.limits n.distinct parts, counts.features);
       title = ap is_title parts.name ∙ n.spelled.0;
       named_types = along IsModelName (checks.written_enumeration_names w ++ checks.written_class_names w) (type_names m) (types_kept w m n.limits n.distinct parts)

@@ -3,7 +3,7 @@ use Rattle.std.specs.Prelude.{ℕ, ◌+◌, ◌&&◌, ◌||◌, List, ◌++◌, 
 use Rattle.std.specs.List.{list_all, list_any}
 use Rattle.imkl_model.specs.declared.written.Written.{Written}
 use Rattle.ocl_base.specs.Lists.{repeats}
-use Rattle.imkl_model.specs.Limits.{max_types, max_features, max_renames}
+use Rattle.imkl_model.specs.declared.limits.TheConstants.{MAX_FEATURES, MAX_RENAMES, MAX_TYPES}
 use Rattle.imkl_model.specs.Words.{is_predefined, qualified}
 use Rattle.imkl_model.specs.WrittenFeatures.{written_features}
 use Rattle.imkl_model.specs.declared.written.WrittenFeature.{WrittenFeature}
@@ -27,10 +27,10 @@ feature_names ds = map (λ d. qualified d.owner d.name) ds
 -- counts of classes, enumerations, literals of each enumeration, features, and old names
 unfoldable pub is_within_limits : Written → Bool
 is_within_limits w =
-    nat_le (length w.classes) max_types && nat_le (length w.enumerations) max_types
-    && list_all (λ e. nat_le (length e.literals) max_types) w.enumerations
-    && nat_le (length (written_features w)) max_features
-    && nat_le (length w.class_renames + length w.feature_renames) max_renames
+    nat_le (length w.classes) MAX_TYPES && nat_le (length w.enumerations) MAX_TYPES
+    && list_all (λ e. nat_le (length e.literals) MAX_TYPES) w.enumerations
+    && nat_le (length (written_features w)) MAX_FEATURES
+    && nat_le (length w.class_renames + length w.feature_renames) MAX_RENAMES
 
 -- two classes or enumerations of one name, or one with the name of a predefined type; a class's old name counts as the
 -- name of one more class

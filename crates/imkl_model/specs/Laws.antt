@@ -7,7 +7,7 @@ use Rattle.imkl_model.specs.declared.feature.FeatureInfo.{FeatureInfo}
 use Rattle.imkl_model.specs.declared.feature.Role.TheVariants as role
 use Rattle.imkl_model.specs.Features.{is_attribute, is_end, is_single}
 use Rattle.ocl_base.specs.CollectionKinds.{is_unique_kind}
-use Rattle.imkl_model.specs.Limits.{max_types, max_features, max_renames, max_bound}
+use Rattle.imkl_model.specs.declared.limits.TheConstants.{MAX_BOUND, MAX_FEATURES, MAX_RENAMES, MAX_TYPES}
 use Rattle.imkl_model.specs.Words.{is_title, is_predefined}
 use Rattle.imkl_model.specs.ClassModel.{Model, class_at, enumeration_at, feature_at, conforms, belongs, class_number, enumeration_number, literal_number, feature_number}
 use Rattle.imkl_model.specs.Renames.{renamed_class, renamed_feature, feature_by_names, linked_class, linked_feature, old_class_names, feature_rename_at}
@@ -132,11 +132,11 @@ pub record HasNames (m : Model) : Type 0 where
 -- ---- counts
 
 pub record IsWithinLimits (m : Model) : Type 0 where
-  pub classes : length m.classes ≤ max_types
-  pub enumerations : length m.enumerations ≤ max_types
-  pub literals : (e : ℕ) → e < length m.enumerations → length (literals_at m e) ≤ max_types
-  pub features : length m.features ≤ max_features
-  pub renames : length m.renames.classes + length m.renames.features ≤ max_renames
+  pub classes : length m.classes ≤ MAX_TYPES
+  pub enumerations : length m.enumerations ≤ MAX_TYPES
+  pub literals : (e : ℕ) → e < length m.enumerations → length (literals_at m e) ≤ MAX_TYPES
+  pub features : length m.features ≤ MAX_FEATURES
+  pub renames : length m.renames.classes + length m.renames.features ≤ MAX_RENAMES
 
 -- ---- features
 
@@ -154,8 +154,8 @@ pub record IsSound (m : Model) (f : FeatureInfo) : Type 0 where
   pub owner : f.owner < length m.classes
   pub element : IsElementOf m f.element
   pub scalar : is_attribute f.role ≡ true → IsScalar f.element
-  pub lower : f.lower ≤ max_bound
-  pub upper : IfSome f.upper (λ u. (0 < u) × (f.lower ≤ u) × (u ≤ max_bound))
+  pub lower : f.lower ≤ MAX_BOUND
+  pub upper : IfSome f.upper (λ u. (0 < u) × (f.lower ≤ u) × (u ≤ MAX_BOUND))
   pub unique : is_end f.role ≡ true → is_unique_kind f.kind ≡ true
   pub single : is_single f.upper ≡ true → f.kind ≡ kind.Set
 

@@ -1,5 +1,4 @@
 -- Definitions: what contracts mean.
-pub mod Limits
 pub mod Words
 pub mod Faults
 pub mod Features

@@ -16,7 +16,7 @@ use Rattle.imkl_model.specs.declared.written.WrittenRename.{WrittenRename}
 use Rattle.imkl_model.specs.declared.written.WrittenRename.TheVariants as renames
 use Rattle.imkl_model.specs.declared.written.Written.{Written}
 use Rattle.ocl_base.specs.Steps.{◌>>=◌, found, each}
-use Rattle.imkl_model.specs.Limits.{max_bound}
+use Rattle.imkl_model.specs.declared.limits.TheConstants.{MAX_BOUND}
 use Rattle.imkl_model.specs.Words.{is_model_name, is_title}
 use Rattle.imkl_json.specs.Json.{record_from, list_from, natural_from, member_count}
 
@@ -36,7 +36,7 @@ name_from d = do
 unfoldable pub lower_from : Data → Result ℕ ModelFault
 lower_from d = do
   n ← found (natural_from d) Shape
-  if nat_le n max_bound then Ok n else Err Shape
+  if nat_le n MAX_BOUND then Ok n else Err Shape
 
 -- an upper bound: the same, or null for none
 unfoldable pub upper_from : Data → Result (Option ℕ) ModelFault

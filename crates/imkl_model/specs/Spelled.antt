@@ -1,6 +1,6 @@
 -- What is known of a class model as it is written: names are names, and bounds are within the limit.
 use Rattle.std.specs.Prelude.{◌≡◌, ℕ, ◌≤◌, List, true, All, Option, IfSome}
-use Rattle.imkl_model.specs.Limits.{max_bound}
+use Rattle.imkl_model.specs.declared.limits.TheConstants.{MAX_BOUND}
 use Rattle.imkl_model.specs.Words.{is_title}
 use Rattle.imkl_model.specs.WellFormed.{IsModelName}
 use Rattle.imkl_model.specs.declared.written.WrittenAttribute.{WrittenAttribute}
@@ -15,11 +15,11 @@ use Rattle.imkl_model.specs.declared.written.WrittenRename.TheVariants as rename
 use Rattle.imkl_model.specs.declared.written.Written.{Written}
 
 abbrev pub IsSmallUpper : Option ℕ → Type 0
-IsSmallUpper upper = IfSome upper (λ u. u ≤ max_bound)
+IsSmallUpper upper = IfSome upper (λ u. u ≤ MAX_BOUND)
 
 -- a feature's name and bounds
 abbrev pub IsSpelledFeature : List ℕ → ℕ → Option ℕ → Type 0
-IsSpelledFeature name lower upper = IsModelName name × (lower ≤ max_bound) × IsSmallUpper upper
+IsSpelledFeature name lower upper = IsModelName name × (lower ≤ MAX_BOUND) × IsSmallUpper upper
 
 abbrev pub IsSpelledAttribute : WrittenAttribute → Type 0
 IsSpelledAttribute a = IsSpelledFeature a.name a.lower a.upper

@@ -5,7 +5,7 @@ use Rattle.ocl_base.specs.Lists.{repeats}
 use Rattle.imkl_model.specs.declared.feature.ElementType.TheVariants as element
 use Rattle.ocl_base.specs.declared.collection_kind.CollectionKind.TheVariants as kind
 use Rattle.imkl_model.specs.declared.feature.Role.TheVariants as role
-use Rattle.imkl_model.specs.Limits.{max_types, max_features, max_renames, max_bound}
+use Rattle.imkl_model.specs.declared.limits.TheConstants.{MAX_BOUND, MAX_FEATURES, MAX_RENAMES, MAX_TYPES}
 use Rattle.imkl_model.specs.Words.{is_model_name, is_title, is_predefined}
 use Rattle.imkl_model.specs.Chains.{is_cyclic}
 use Rattle.imkl_model.specs.Features.{is_end}
@@ -40,11 +40,11 @@ pub record ArePaired (m : Model) (source opposite : ℕ) : Type 0 where
 
 pub record IsClassModel (m : Model) : Type 0 where
   -- counts
-  pub few_classes : length m.classes ≤ max_types
-  pub few_enumerations : length m.enumerations ≤ max_types
-  pub few_literals : All (λ e. length e.literals ≤ max_types) m.enumerations
-  pub few_features : length m.features ≤ max_features
-  pub few_renames : length m.renames.classes + length m.renames.features ≤ max_renames
+  pub few_classes : length m.classes ≤ MAX_TYPES
+  pub few_enumerations : length m.enumerations ≤ MAX_TYPES
+  pub few_literals : All (λ e. length e.literals ≤ MAX_TYPES) m.enumerations
+  pub few_features : length m.features ≤ MAX_FEATURES
+  pub few_renames : length m.renames.classes + length m.renames.features ≤ MAX_RENAMES
   -- names are names
   pub title : is_title m.name ≡ true
   pub named_types : All IsModelName (type_names m)
@@ -69,9 +69,9 @@ pub record IsClassModel (m : Model) : Type 0 where
       → e < length m.enumerations
   pub scalar_attributes : (f c : ℕ) → IsFeature m f → (feature_at m f).role ≡ role.Attribute
       → (feature_at m f).element ≡ element.Class c → ⊥
-  pub lower_bounds : (f : ℕ) → IsFeature m f → (feature_at m f).lower ≤ max_bound
+  pub lower_bounds : (f : ℕ) → IsFeature m f → (feature_at m f).lower ≤ MAX_BOUND
   pub upper_bounds : (f u : ℕ) → IsFeature m f → (feature_at m f).upper ≡ Some u
-      → (0 < u) × ((feature_at m f).lower ≤ u) × (u ≤ max_bound)
+      → (0 < u) × ((feature_at m f).lower ≤ u) × (u ≤ MAX_BOUND)
   pub unique_ends : (f : ℕ) → IsFeature m f → is_end (feature_at m f).role ≡ true
       → is_unique_kind (feature_at m f).kind ≡ true
   pub single_values : (f : ℕ) → IsFeature m f → (feature_at m f).upper ≡ Some 1 → (feature_at m f).kind ≡ kind.Set

@@ -3,15 +3,15 @@ use Rattle.std.specs.Prelude.{ℕ, ◌&&◌, List, [], ◌∷◌, ◌++◌, leng
 use Rattle.std.specs.Str.{chars}
 use Rattle.ocl_base.specs.Lists.{is_among}
 use Rattle.ocl_base.specs.Words.{is_name}
-use Rattle.imkl_model.specs.Limits.{max_name_length}
+use Rattle.imkl_model.specs.declared.limits.TheConstants.{MAX_NAME_LENGTH}
 
 -- the name of a class, an enumeration, a literal, a feature or an association
 unfoldable pub is_model_name : List ℕ → Bool
-is_model_name name = nat_le (length name) max_name_length && is_name name
+is_model_name name = nat_le (length name) MAX_NAME_LENGTH && is_name name
 
 -- the class model's own name: any text of one or more characters, up to the limit
 unfoldable pub is_title : List ℕ → Bool
-is_title text = nat_le 1 (length (chars text)) && nat_le (length (chars text)) max_name_length
+is_title text = nat_le 1 (length (chars text)) && nat_le (length (chars text)) MAX_NAME_LENGTH
 
 -- the predefined types: no class and no enumeration has such a name
 abbrev pub predefined_types : List (List ℕ)

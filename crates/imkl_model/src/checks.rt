@@ -2,7 +2,6 @@
 
 ghost use Rattle.std.specs.Prelude.{◌≡◌, length, nat_le};
 ghost use Rattle.std.specs.List.{list_all};
-ghost use Rattle.imkl_model.specs.Limits.{max_types};
 ghost use Rattle.imkl_model.specs.Checks.{is_within_limits, is_multiplicity, has_multiplicity};
 ghost use Rattle.imkl_model.specs.WrittenFeatures.{written_features};
 
@@ -12,7 +11,7 @@ use crate::written::{Written, WrittenEnumeration, WrittenFeature};
 
 /// Whether each enumeration has few enough literals.
 fn few_literals(enumerations: &[WrittenEnumeration]) -> bool
-    ensures { result ≡ list_all (λ e. nat_le (length e.literals) max_types) enumerations.now }
+    ensures { result ≡ list_all (λ e. nat_le (length e.literals) MAX_TYPES) enumerations.now }
 {
     for enumeration in enumerations {
         if enumeration.literals.as_slice().len() > MAX_TYPES {

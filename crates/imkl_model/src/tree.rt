@@ -6,7 +6,6 @@ ghost use Rattle.serde_json.specs.View.{view, members_view};
 ghost use Rattle.serde_json.specs.Find.{get, as_str, as_bool};
 ghost use Rattle.ocl_base.specs.Steps.{Gives, found};
 ghost use Rattle.imkl_model.specs.declared.fault.ModelFault.TheVariants.{Shape};
-ghost use Rattle.imkl_model.specs.Limits.{max_bound};
 ghost use Rattle.imkl_model.specs.Words.{is_title};
 ghost use Rattle.imkl_model.specs.WellFormed.{IsModelName};
 ghost use Rattle.imkl_model.specs.Faults.{model_fault};
@@ -95,7 +94,7 @@ fn name_of(alloc: Global, value: &Value) -> Result<Text, ModelFault>
 #[tactic(auto, unfolding(crate::specs::Shape::lower_from))]
 fn lower_of(value: &Value) -> Result<u32, ModelFault>
     ensures tree { Gives model_fault (λ n. n) result (lower_from (view value.now)) }
-    ensures fits { IfOk result (λ n. n ≤ max_bound) }
+    ensures fits { IfOk result (λ n. n ≤ MAX_BOUND) }
 {
     let bound = number(value)?;
     if bound > MAX_BOUND {
@@ -107,7 +106,7 @@ fn lower_of(value: &Value) -> Result<u32, ModelFault>
 #[tactic(auto, unfolding(crate::specs::Shape::upper_from))]
 fn upper_of(value: &Value) -> Result<Option<u32>, ModelFault>
     ensures tree { Gives model_fault (λ n. n) result (upper_from (view value.now)) }
-    ensures fits { IfOk result (λ upper. IfSome upper (λ u. u ≤ max_bound)) }
+    ensures fits { IfOk result (λ upper. IfSome upper (λ u. u ≤ MAX_BOUND)) }
 {
     match value {
         Value::Null => Ok(None),
