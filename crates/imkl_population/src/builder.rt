@@ -19,6 +19,7 @@ use crate::fault::PopulationFault;
 use crate::finishing::{first_end_fault, first_gap};
 use crate::id_index::IdIndex;
 use crate::layout::lay_out;
+use crate::limits::MAX_OBJECTS;
 use crate::numbers::ObjectNo;
 use crate::object::Head;
 use crate::population::Population;
@@ -26,11 +27,9 @@ use crate::repeats::repeats;
 use crate::scalar::Scalar;
 use crate::store::{Cell, Store, StoreSize};
 use imkl_model::{ClassModel, ClassNo, ElementType, FeatureNo};
+use ocl_base::Text;
 use std::alloc::{AllocError, Global};
 use std::marker::Model;
-
-/// The most objects of a population.
-pub const MAX_OBJECTS: usize = 1_000_000;
 
 /// A population in the making. Contracts see the population of what was added so far.
 #[derive(Drop)]

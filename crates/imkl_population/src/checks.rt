@@ -22,9 +22,6 @@ fn are_id_bytes(id: &[u8]) -> bool
     id.iter().all(|b| is_id_byte(*b))
 }
 
-/// The most characters of an id.
-pub const MAX_ID_LENGTH: usize = 128;
-
 /// Whether a text has the form of an id: 1 to 128 characters of `A-Z a-z 0-9 . _ : -`.
 pub(crate) fn is_id(id: &str) -> bool
     ensures { result ≡ is_id id.now }

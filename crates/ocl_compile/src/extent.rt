@@ -5,10 +5,7 @@ ghost use Rattle.ocl_compile.specs.Compiling.{counting_end};
 ghost use Rattle.ocl_compile.specs.Extents as extents;
 ghost use Rattle.ocl_compile.specs.Extents.{cut_extent};
 
-use crate::limits::MAX_COUNTED;
-
-/// Where counting stops, above every limit of a unit.
-const COUNTING_END: usize = MAX_COUNTED + 1;
+use crate::limits::COUNTING_END;
 
 /// How large and how deep code is; numbers above 65,536 are 65,536.
 #[derive(Clone, Copy)]

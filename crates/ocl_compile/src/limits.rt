@@ -13,6 +13,9 @@ const MAX_RULES: usize = rule_code::MAX_RULES as usize;
 /// The most texts, the most symbols, and the most instructions of a rule.
 pub(crate) const MAX_COUNTED: usize = 65_535;
 
+/// Where counting stops, above every limit.
+pub(crate) const COUNTING_END: usize = MAX_COUNTED + 1;
+
 /// The limit that the rule of an index passes by the extent of its code, if any. What it numbers is
 /// taken by the unit.
 pub(crate) fn limit_passed(index: usize, extent: Extent) -> Option<Limit>
