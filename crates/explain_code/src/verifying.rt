@@ -1,12 +1,12 @@
 //! Why code isn't accepted for a class model.
 
+use crate::instructions::{bodies_of, instruction_words};
+use crate::missing::write_missing_symbol;
+use crate::symbols::{symbol_words, text_of};
 use code_kinds::{
     Names, Operands, Stop, Walk, body_ends_with, kind_list, operands_of, rule_ends_with,
     wanted_list,
 };
-use crate::instructions::{bodies_of, instruction_words};
-use crate::missing::write_missing_symbol;
-use crate::symbols::{symbol_words, text_of};
 use explain_notes::Input;
 use imkl_model::ClassModel;
 use rule_code::{Instr, Rule, Unit};

@@ -28,7 +28,8 @@ use Rattle.imkl_population.specs.declared.scalar.Scalar.TheVariants as scalar
 use Rattle.imkl_population.specs.Population.{Population, object_at, class_of, no_object, object_number}
 use Rattle.imkl_model.specs.Features.{is_attribute, is_opposite}
 use Rattle.imkl_population.specs.Values.{is_target_of, repeats_value}
-use Rattle.imkl_population.specs.Building.{is_id, bounds_fault, with_written, max_objects}
+use Rattle.imkl_population.specs.declared.limits.TheConstants.{MAX_OBJECTS}
+use Rattle.imkl_population.specs.Building.{is_id, bounds_fault, with_written}
 use Rattle.imkl_population.specs.Written.{IsMap}
 use Rattle.imkl_population.specs.Draft.{IsDraft, is_sound, entry_fault_by}
 use Rattle.imkl_population.proofs.Bools.{list_all-weaker, list_all-none}
@@ -106,7 +107,7 @@ module _ (m : Model) (os : List Object) (y : Object) where
         | inr less ↦ subst (P o) (sym (old_object o less.1)) (old o less.1)
       ]
 
-  pub draft-added : (ids new : List ℕ → Option ℕ) → IsDraft (of m os) ids → length os < max_objects → is_id y.id ≡ true → object_number (of m os) y.id ≡ None → y.class < length m.classes
+  pub draft-added : (ids new : List ℕ → Option ℕ) → IsDraft (of m os) ids → length os < MAX_OBJECTS → is_id y.id ≡ true → object_number (of m os) y.id ≡ None → y.class < length m.classes
       → (class_at m y.class).is_abstract ≡ false → y.written ≡ []
       → ((q : List ℕ) → new q ≡ cond (bytes_eq y.id q) (Some (length os)) (ids q))
       → IsDraft (of m (os ++ y ∷ [])) new
@@ -129,7 +130,7 @@ module _ (m : Model) (os : List Object) (y : Object) where
   }
 
 -- the same, reported by the equations that a call gives
-pub draft-pushed : (m : Model) (os new_os : List Object) (y : Object) (id : List ℕ) (n : ℕ) (ids new : List ℕ → Option ℕ) → IsDraft (of m os) ids → n < max_objects
+pub draft-pushed : (m : Model) (os new_os : List Object) (y : Object) (id : List ℕ) (n : ℕ) (ids new : List ℕ → Option ℕ) → IsDraft (of m os) ids → n < MAX_OBJECTS
     → new_os ≡ os ++ y ∷ [] → y.id ≡ id → n ≡ length os → ids id ≡ None
     → is_id id ≡ true → y.class < length m.classes → (class_at m y.class).is_abstract ≡ false → y.written ≡ []
     → ((q : List ℕ) → new q ≡ cond (bytes_eq id q) (Some n) (ids q)) → IsDraft (of m new_os) new

@@ -9,7 +9,8 @@ use Rattle.imkl_population.specs.declared.scalar.Scalar.{Scalar}
 use Rattle.imkl_population.specs.declared.fault.PopulationFault.TheVariants.{DuplicateId, AbstractClass, Limit, BadId}
 use Rattle.imkl_population.specs.declared.object.Object.{Object}
 use Rattle.imkl_population.specs.declared.object.Head.{Head}
-use Rattle.imkl_population.specs.Building.{is_id, max_objects, with_object, object_fault}
+use Rattle.imkl_population.specs.declared.limits.TheConstants.{MAX_OBJECTS}
+use Rattle.imkl_population.specs.Building.{is_id, with_object, object_fault}
 use Rattle.imkl_population.specs.Draft.{IsDraft, is_sound}
 use Rattle.imkl_population.specs.Population.{Population, object_number, no_object}
 use Rattle.imkl_population.specs.Store.{object_row, rows}
@@ -24,7 +25,7 @@ pub content-added : (m : Model) (hs new : List Head) (maps : Maps) (h : Head) �
 content-added m hs new maps h grown idle = ap (λ (os : List Object). record { model = m; objects = os }) (content-push hs new maps h grown idle)
 
 -- an object is added
-pub making-added : (m : Model) (hs new : List Head) (maps : Maps) (h : Head) (id : List ℕ) (n : ℕ) (ids after : List ℕ → Option ℕ) → IsInMaking m hs maps ids → n < max_objects
+pub making-added : (m : Model) (hs new : List Head) (maps : Maps) (h : Head) (id : List ℕ) (n : ℕ) (ids after : List ℕ → Option ℕ) → IsInMaking m hs maps ids → n < MAX_OBJECTS
     → new ≡ hs ++ h ∷ [] → h.id ≡ id → n ≡ length hs → ids id ≡ None
     → is_id id ≡ true → h.class < length m.classes → (class_at m h.class).is_abstract ≡ false
     → ((q : List ℕ) → after q ≡ cond (bytes_eq id q) (Some n) (ids q)) → IsInMaking m new maps after
@@ -71,7 +72,7 @@ pub record IsOpen (p : Population) (id : List ℕ) (c : ℕ) : Type 0 where
   pub formed : is_id id ≡ true
   pub absent : object_number p id ≡ None
   pub concrete : (class_at p.model c).is_abstract ≡ false
-  pub room : length p.objects < max_objects
+  pub room : length p.objects < MAX_OBJECTS
 
 open-tests : (formed : Bool) (known : Option ℕ) (abstract full : Bool)
     → (if not formed then Some BadId else (if is_some known then Some DuplicateId else (if abstract then Some AbstractClass else (if full then Some Limit else None)))) ≡ None
@@ -85,7 +86,7 @@ open-tests true None false false none = (refl, refl, refl, refl)
 -- where adding an object has no fault, its id is well formed and new, its class is concrete, and there is room
 pub object-open : (p : Population) (id : List ℕ) (c : ℕ) → object_fault p id c ≡ None → IsOpen p id c
 object-open p id c none =
-    let tests = open-tests (is_id id) (object_number p id) (class_at p.model c).is_abstract (nat_le max_objects (length p.objects)) none in
+    let tests = open-tests (is_id id) (object_number p id) (class_at p.model c).is_abstract (nat_le MAX_OBJECTS (length p.objects)) none in
     record { formed = tests.0; absent = tests.1; concrete = tests.2; room = grind (arith, nat_tests, tests.3) }
 
 -- where no id was added, the builder keeps what it kept

@@ -14,6 +14,7 @@ use Rattle.imkl_population.specs.declared.object.Object.{Object}
 use Rattle.imkl_population.specs.Population.{Population, object_at, class_of, object_number}
 use Rattle.imkl_model.specs.Features.{is_attribute, is_opposite, is_unique}
 use Rattle.imkl_population.specs.Values.{is_of_type, is_target_of, is_over, repeats_value}
+use Rattle.imkl_population.specs.declared.limits.TheConstants.{MAX_ID_LENGTH, MAX_OBJECTS}
 
 abbrev pub population_fault_number : PopulationFault → ℕ
 population_fault_number DuplicateId = 1
@@ -58,17 +59,9 @@ is_byte_between low high b = nat_le low b && nat_le b high
 abbrev pub is_id_byte : ℕ → Bool
 is_id_byte b = is_byte_between 65 90 b || is_byte_between 97 122 b || is_byte_between 48 57 b || is_byte_between 45 46 b || is_byte_between 95 95 b || is_byte_between 58 58 b
 
--- at most 128 characters of an id
-abbrev pub max_id_length : ℕ
-max_id_length = 128
-
 -- 1 to so many of these
 abbrev pub is_id : List ℕ → Bool
-is_id id = nat_lt 0 (length id) && nat_le (length id) max_id_length && list_all is_id_byte id
-
--- at most 1,000,000 objects
-abbrev pub max_objects : ℕ
-max_objects = 1000000
+is_id id = nat_lt 0 (length id) && nat_le (length id) MAX_ID_LENGTH && list_all is_id_byte id
 
 abbrev pub with_object : Population → List ℕ → ℕ → Population
 with_object p id c = record p { objects = p.objects ++ record { id = id; class = c; written = [] } ∷ [] }
@@ -79,7 +72,7 @@ object_fault p id c =
     if not (is_id id) then Some BadId
     else (if is_some (object_number p id) then Some DuplicateId
     else (if (class_at p.model c).is_abstract then Some AbstractClass
-    else (if nat_le max_objects (length p.objects) then Some Limit else None)))
+    else (if nat_le MAX_OBJECTS (length p.objects) then Some Limit else None)))
 
 abbrev pub add_outcome : Population → List ℕ → ℕ → Result Population PopulationFault
 add_outcome p id c = unless (object_fault p id c) (with_object p id c)

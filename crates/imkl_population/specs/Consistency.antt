@@ -6,11 +6,12 @@ use Rattle.imkl_population.specs.Population.{Population, object_at, class_of, va
 use Rattle.imkl_model.specs.Features.{is_attribute, is_opposite, is_unique}
 use Rattle.imkl_population.specs.Values.{is_of_type, is_target_of, repeats_value}
 use Rattle.imkl_population.specs.Written.{is_set, IsMap}
-use Rattle.imkl_population.specs.Building.{is_id, bounds_fault, max_objects}
+use Rattle.imkl_population.specs.declared.limits.TheConstants.{MAX_OBJECTS}
+use Rattle.imkl_population.specs.Building.{is_id, bounds_fault}
 
 pub record IsConsistent (p : Population) : Type 0 where
   -- there are at most 1,000,000 objects
-  pub limited : length p.objects ≤ max_objects
+  pub limited : length p.objects ≤ MAX_OBJECTS
   -- each object is of a class of the model, and none of an abstract one
   pub classed : (o : ℕ) → o < length p.objects → class_of p o < length p.model.classes
   pub concrete : (o : ℕ) → o < length p.objects → (class_at p.model (class_of p o)).is_abstract ≡ false

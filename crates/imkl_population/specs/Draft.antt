@@ -8,7 +8,8 @@ use Rattle.imkl_population.specs.declared.scalar.Scalar.{Scalar}
 use Rattle.imkl_population.specs.declared.fault.PopulationFault.{PopulationFault}
 use Rattle.imkl_population.specs.Population.{Population, object_at, class_of, object_number}
 use Rattle.imkl_model.specs.Features.{is_attribute}
-use Rattle.imkl_population.specs.Building.{is_id, value_fault, link_fault, max_objects}
+use Rattle.imkl_population.specs.declared.limits.TheConstants.{MAX_OBJECTS}
+use Rattle.imkl_population.specs.Building.{is_id, value_fault, link_fault}
 use Rattle.imkl_population.specs.Written.{IsMap}
 
 -- what is wrong with what is written at a feature
@@ -21,7 +22,7 @@ is_sound p o e = is_none (entry_fault_by (is_attribute (feature_at p.model e.0).
 
 pub record IsDraft (p : Population) (ids : List ℕ → Option ℕ) : Type 0 where
   pub found : (id : List ℕ) → ids id ≡ object_number p id
-  pub limited : length p.objects ≤ max_objects
+  pub limited : length p.objects ≤ MAX_OBJECTS
   pub classed : (o : ℕ) → o < length p.objects → class_of p o < length p.model.classes
   pub concrete : (o : ℕ) → o < length p.objects → (class_at p.model (class_of p o)).is_abstract ≡ false
   pub formed : (o : ℕ) → o < length p.objects → is_id (object_at p o).id ≡ true

@@ -13,7 +13,7 @@ use Rattle.imkl_population.specs.declared.sharing.SharedLists.{SharedLists}
 use Rattle.imkl_population.specs.declared.store.Segment.{Segment}
 use Rattle.imkl_population.specs.Population.{Population, class_of}
 use Rattle.imkl_population.specs.Required.{is_one_of}
-use Rattle.imkl_population.specs.Building.{max_objects}
+use Rattle.imkl_population.specs.declared.limits.TheConstants.{MAX_OBJECTS}
 use Rattle.imkl_population.specs.Sizes.{list_below}
 
 -- an object is directly of one class
@@ -34,7 +34,7 @@ pub record AreDirect (p : Population) (n : ℕ) (lists : List (Vec ℕ Global)) 
 pub record AreMembers (p : Population) (members : Members) : Type 0 where
   pub direct : AreDirect p (length p.objects) members.direct.items
   pub classes : members.classes.items ≡ list_below (class_of p) (length p.objects)
-  pub limited : length p.objects ≤ max_objects
+  pub limited : length p.objects ≤ MAX_OBJECTS
 
 -- of so many classes those are marked that are among some
 pub record AreMarks (count : ℕ) (cs : List ℕ) (marks : List Bool) : Type 0 where

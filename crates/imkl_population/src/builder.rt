@@ -11,7 +11,7 @@ ghost use Rattle.imkl_population.specs.declared.fault.PopulationFault.{Populatio
 ghost use Rattle.imkl_population.specs.Store.{maps_of, object_row};
 ghost use Rattle.imkl_population.specs.Layout.{stored_content};
 ghost use Rattle.imkl_population.specs.Adding.{AddsNew};
-ghost use Rattle.imkl_population.specs.Building.{BuilderAnswers, KeepsObjects, max_objects, object_fault, add_outcome, set_outcome, link_outcome, attribute_fault, list_fault, source_fault, targets_fault, with_values, as_objects};
+ghost use Rattle.imkl_population.specs.Building.{BuilderAnswers, KeepsObjects, object_fault, add_outcome, set_outcome, link_outcome, attribute_fault, list_fault, source_fault, targets_fault, with_values, as_objects};
 
 use crate::checks::{are_of_type, bounds_fault, is_id};
 use crate::ends::opposite_ends;
@@ -144,7 +144,7 @@ impl<'m> PopulationBuilder<'m> {
 
     /// There are at most 1,000,000 objects.
     pub fn within_limit(&self)
-        ensures { length self.now.objects ≤ max_objects }
+        ensures { length self.now.objects ≤ MAX_OBJECTS }
     {
         let _heads = &self.heads;
     }

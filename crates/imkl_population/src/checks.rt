@@ -6,6 +6,7 @@ ghost use Rattle.imkl_population.specs.Values.{is_literal_of, is_of_type, is_who
 ghost use Rattle.imkl_population.specs.Building.{is_id_byte, is_id, bounds_fault};
 
 use crate::fault::PopulationFault;
+use crate::limits::MAX_ID_LENGTH;
 use crate::numbers::ObjectNo;
 use crate::scalar::Scalar;
 use imkl_model::{ClassModel, ElementType, EnumNo, FeatureInfo, FeatureNo};

@@ -4,7 +4,7 @@ ghost use Rattle.std.specs.Prelude.{◌≡◌, ◌<◌, ◌≤◌, ℕ, List, []
 ghost use Rattle.std.specs.Map.{update};
 ghost use Rattle.std.specs.BTreeMap.{get_by_text};
 ghost use Rattle.imkl_population.specs.declared.object.Head.{Head};
-ghost use Rattle.imkl_population.specs.Building.{max_objects};
+ghost use Rattle.imkl_population.specs.declared.limits.TheConstants.{MAX_OBJECTS};
 ghost use Rattle.imkl_population.specs.IdIndex.{slot_of, has_id, number_found, IsGuarded, TakesSlot, IsOccupied, AddsId};
 
 use crate::object::Head;
@@ -103,7 +103,7 @@ impl IdIndex {
 
     /// Gives the id of the next object its number.
     pub(crate) fn add(&mut self, alloc: Global, id: &str, number: usize) -> Result<(), AllocError>
-        requires { number < max_objects }
+        requires { number < MAX_OBJECTS }
         ensures { AddsId result
             (number_found self.old.slots.items (get_by_text self.old.others)) id.now number
             (number_found self.new.slots.items (get_by_text self.new.others)) }
@@ -117,7 +117,7 @@ impl IdIndex {
 
     /// Gives an id's slot to a number, if no id has it, and answers whether it did.
     fn take_slot(&mut self, id: &str, number: usize) -> bool
-        requires { number < max_objects }
+        requires { number < MAX_OBJECTS }
         ensures taken { result ≡ true →
             TakesSlot self.old.slots.items id.now number self.new.slots.items }
         ensures others { result ≡ true → self.new.others ≡ self.old.others }

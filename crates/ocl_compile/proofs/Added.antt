@@ -10,7 +10,8 @@ use Rattle.ocl_base.specs.Lists.{is_among}
 use Rattle.imkl_model.specs.ClassModel.{Model}
 use Rattle.rule_verify.specs.declared.named.Named.{Named}
 use Rattle.ocl_compile.specs.Numbering.{Numbering, Use, UsedText, UsedSymbol, same_named, names_of_symbol, once_more, with_texts, with_use, with_uses}
-use Rattle.ocl_compile.specs.Compiling.{max_counted, is_long_text}
+use Rattle.ocl_compile.specs.declared.limits.TheConstants.{MAX_COUNTED}
+use Rattle.ocl_compile.specs.Compiling.{is_long_text}
 use Rattle.ocl_compile.specs.declared.numbers.NumberFault.{NumberFault}
 use Rattle.ocl_compile.specs.declared.numbers.NumberFault.TheVariants as faults
 use Rattle.ocl_compile.specs.NumberWalk.{FitsUnit, NumbersTo}
@@ -35,8 +36,8 @@ pub once_new : {A : Type 0} (same : A → A → Bool) (xs : List A) (x : A) → 
 once_new same xs x e = ap (λ (b : Bool). if b then xs else xs ++ x ∷ []) (sym (placed_is_among same xs x) ∙ e)
 
 -- nothing new can be added to as many as a unit takes
-pub none_more : {A : Type 0} (same : A → A → Bool) (xs : List A) (x : A) → is_some (position (same x) xs) ≡ false → length xs ≡ max_counted → length (once_more same xs x) ≤ max_counted → ⊥
-none_more same xs x e full le = omega (arith, length-append xs (x ∷ []), full, subst (λ ys. length ys ≤ max_counted) (once_new same xs x e) le)
+pub none_more : {A : Type 0} (same : A → A → Bool) (xs : List A) (x : A) → is_some (position (same x) xs) ≡ false → length xs ≡ MAX_COUNTED → length (once_more same xs x) ≤ MAX_COUNTED → ⊥
+none_more same xs x e full le = omega (arith, length-append xs (x ∷ []), full, subst (λ ys. length ys ≤ MAX_COUNTED) (once_new same xs x e) le)
 
 -- ---- long texts
 

@@ -21,7 +21,8 @@ use Rattle.rule_verify.specs.declared.fault.VerifyFlaw.TheVariants as flaws
 use Rattle.rule_verify.specs.CodeTree.{CodeTree, End, code_tree, instr_count}
 use Rattle.ocl_base.specs.Lists.{variable_at}
 use Rattle.rule_verify.specs.InstrKinds.{surroundings}
-use Rattle.rule_verify.specs.KindRules.{InstrFault, instr_fault, Enclosing, max_operands, max_blocks, ended_with, rule_ends}
+use Rattle.rule_verify.specs.declared.limits.TheConstants.{MAX_BLOCKS, MAX_OPERANDS}
+use Rattle.rule_verify.specs.KindRules.{InstrFault, instr_fault, Enclosing, ended_with, rule_ends}
 use Rattle.rule_verify.specs.Patterns.{a_boolean}
 use Rattle.rule_verify.specs.Symbols.{class_in}
 use Rattle.rule_verify.specs.UnitRules.{check_rule, check_rules, context_class, IsAcceptedUnit}
@@ -45,20 +46,20 @@ compiled_is None u v e = (refl, cc)
 -- ---- one rule
 
 -- no limit is passed: the depths are within theirs
-within_depths : (large : Bool) (blocks operands : ℕ) (a b c : Limit) → (if large then Some a else (if nat_lt max_blocks blocks then Some b else (if nat_lt max_operands operands then Some c else None))) ≡ None → (operands ≤ max_operands) × (blocks ≤ max_blocks)
+within_depths : (large : Bool) (blocks operands : ℕ) (a b c : Limit) → (if large then Some a else (if nat_lt MAX_BLOCKS blocks then Some b else (if nat_lt MAX_OPERANDS operands then Some c else None))) ≡ None → (operands ≤ MAX_OPERANDS) × (blocks ≤ MAX_BLOCKS)
 within_depths true blocks operands a b c e = cc
-within_depths false blocks operands a b c e = by_blocks (nat_lt max_blocks blocks) refl e
+within_depths false blocks operands a b c e = by_blocks (nat_lt MAX_BLOCKS blocks) refl e
   where
     not_less : (x y : ℕ) → nat_lt x y ≡ false → y ≤ x
     not_less x y h = omega (arith, ltb-false x y h)
 
-    by_operands : (t : Bool) → nat_lt max_operands operands ≡ t → (if t then Some c else None) ≡ None → operands ≤ max_operands
+    by_operands : (t : Bool) → nat_lt MAX_OPERANDS operands ≡ t → (if t then Some c else None) ≡ None → operands ≤ MAX_OPERANDS
     by_operands true h e = cc
-    by_operands false h e = not_less max_operands operands h
+    by_operands false h e = not_less MAX_OPERANDS operands h
 
-    by_blocks : (t : Bool) → nat_lt max_blocks blocks ≡ t → (if t then Some b else (if nat_lt max_operands operands then Some c else None)) ≡ None → (operands ≤ max_operands) × (blocks ≤ max_blocks)
+    by_blocks : (t : Bool) → nat_lt MAX_BLOCKS blocks ≡ t → (if t then Some b else (if nat_lt MAX_OPERANDS operands then Some c else None)) ≡ None → (operands ≤ MAX_OPERANDS) × (blocks ≤ MAX_BLOCKS)
     by_blocks true h e = cc
-    by_blocks false h e = (by_operands (nat_lt max_operands operands) refl e, not_less max_blocks blocks h)
+    by_blocks false h e = (by_operands (nat_lt MAX_OPERANDS operands) refl e, not_less MAX_BLOCKS blocks h)
 
 -- the code of a rule is the tree that it was translated to
 pub rule_code_is : (m : Model) (n : Numbering) (r : CheckedRule) → code_tree (translate_rule m n r).code ≡ rule_tree m n r

@@ -4,10 +4,10 @@ use Rattle.std.specs.Prelude.{unwrap_or}
 use Rattle.std.proofs.lemmas.List.Quantifiers.{position-Some}
 use Rattle.rule_verify.specs.declared.named.Named.{Named}
 use Rattle.ocl_compile.specs.Numbering.{Numbering, same_named, text_number, symbol_number}
-use Rattle.ocl_compile.specs.Compiling.{max_counted}
+use Rattle.ocl_compile.specs.declared.limits.TheConstants.{MAX_COUNTED}
 use Rattle.ocl_compile.specs.NumberWalk.{AreCounted}
 
-number_fits : {A : Type 0} (p : A → Bool) (xs : List A) (d : A) → length xs ≤ max_counted → unwrap_or (position p xs) 0 < 65536
+number_fits : {A : Type 0} (p : A → Bool) (xs : List A) (d : A) → length xs ≤ MAX_COUNTED → unwrap_or (position p xs) 0 < 65536
 number_fits p xs d few = by_place (position p xs) refl
   where
     by_place : (o : Option ℕ) → position p xs ≡ o → unwrap_or o 0 < 65536

@@ -22,7 +22,7 @@ use Rattle.rule_verify.specs.CodeTree as code
 use Rattle.rule_verify.specs.CodeTree.{CodeTree, instr_count}
 use Rattle.ocl_compile.specs.Numbering.{Numbering}
 use Rattle.ocl_compile.specs.Translation.{written_scalar, written_kind, operator_instr, iteration_instr, fold_block, let_block, if_block, translate, translate_all, instrs_of}
-use Rattle.ocl_compile.specs.Compiling.{max_counted}
+use Rattle.ocl_compile.specs.declared.limits.TheConstants.{MAX_COUNTED}
 use Rattle.ocl_compile.specs.Written.{IsWritten, AreWritten}
 use Rattle.ocl_compile.specs.EmitWalk.{KnownIn, KnownIn_all, VariablesBelow, VariablesBelow_all, code_of, codes_of, IsEmittable, AreEmittable, top_code, IsTopEmittable, link_node, links_code, lets_code, AreEmittableLinks}
 use Rattle.ocl_compile.proofs.Flat.{flat_count, translated_cut}
@@ -119,12 +119,12 @@ module _ (m : Model) (n : Numbering) where
   pub record LetsEmittable (vs : List CoreTree) (inner : CoreTree) : Type 0 where
     pub values : AllByRecursion (IsEmittable m n) vs
     pub body : IsEmittable m n inner
-    pub room : length (lets_code m n vs (code_of m n inner)) ≤ max_counted
+    pub room : length (lets_code m n vs (code_of m n inner)) ≤ MAX_COUNTED
 
   lets_emittable : (vs : List CoreTree) (body : CoreTree) → IsEmittable m n (lets_of vs body) → LetsEmittable vs body
   lets_emittable vs body h =
       let p = each_emittable vs body h in
-      record { values = p.0; body = p.1; room = subst (λ (is : List Instr). length is ≤ max_counted) (lets_are vs body) h.room }
+      record { values = p.0; body = p.1; room = subst (λ (is : List Instr). length is ≤ MAX_COUNTED) (lets_are vs body) h.room }
     where
       each_emittable : (ws : List CoreTree) (b : CoreTree) → IsEmittable m n (lets_of ws b) → AllByRecursion (IsEmittable m n) ws × IsEmittable m n b
       each_emittable [] b g = (tt, g)
@@ -150,7 +150,7 @@ module _ (m : Model) (n : Numbering) where
   pub operand_code : (first : CoreTree) (others : CoreTrees) → codes_of m n (tree.one_core first others) ≡ code_of m n first ++ codes_of m n others
   operand_code first others = code_then first (translate_all m n others code.End)
 
-  operands_emittable : (ts : CoreTrees) → KnownIn_all m ts → VariablesBelow_all 65536 ts → length (codes_of m n ts) ≤ max_counted → AreEmittable m n ts
+  operands_emittable : (ts : CoreTrees) → KnownIn_all m ts → VariablesBelow_all 65536 ts → length (codes_of m n ts) ≤ MAX_COUNTED → AreEmittable m n ts
   operands_emittable tree.no_core h v room = tt
   operands_emittable (tree.one_core first others) h v room =
       let l = ap length (operand_code first others) ∙ length-append (code_of m n first) (codes_of m n others) in (
@@ -255,11 +255,11 @@ module _ (m : Model) (n : Numbering) where
 
   -- ---- what `emit` asks, and nodes as they lie in memory
 
-  emittable : (t : CoreTree) → KnownIn m t → VariablesBelow 65536 t → instr_count (translate m n t code.End) ≤ max_counted → IsEmittable m n t
+  emittable : (t : CoreTree) → KnownIn m t → VariablesBelow 65536 t → instr_count (translate m n t code.End) ≤ MAX_COUNTED → IsEmittable m n t
   emittable t h v room = record { known = h; variables = v; room = omega (arith, code_count t, room) }
 
   -- what `emit` asks of a tree holds of each whose code can be written
-  pub asked : (t : CoreTree) → IsEmittable m n t → KnownIn m t × (VariablesBelow 65536 t × (instr_count (translate m n t code.End) ≤ max_counted))
+  pub asked : (t : CoreTree) → IsEmittable m n t → KnownIn m t × (VariablesBelow 65536 t × (instr_count (translate m n t code.End) ≤ MAX_COUNTED))
   asked t h = (h.known, (h.variables, omega (arith, code_count t, h.room)))
 
   -- nodes in memory, a spine, a LET and an IF: their code is that of their parts, which can be written where it can
@@ -267,11 +267,11 @@ module _ (m : Model) (n : Numbering) where
   spine_is core first links is =
       ap (code_of m n) (ap core_view is ∙ core_view-Spine first links) ∙ spine_code links.items (core_view first.value)
 
-  pub spine_parts : (core : Core) (first : Box Core Global) (links : Vec CoreLink Global) → core ≡ v.Spine first links → KnownIn m (core_view core) → VariablesBelow 65536 (core_view core) → instr_count (translate m n (core_view core) code.End) ≤ max_counted → IsEmittable m n (core_view first.value) × AreEmittableLinks m n links.items
+  pub spine_parts : (core : Core) (first : Box Core Global) (links : Vec CoreLink Global) → core ≡ v.Spine first links → KnownIn m (core_view core) → VariablesBelow 65536 (core_view core) → instr_count (translate m n (core_view core) code.End) ≤ MAX_COUNTED → IsEmittable m n (core_view first.value) × AreEmittableLinks m n links.items
   spine_parts core first links is h v room =
       spine_emittable links.items (core_view first.value) (subst (IsEmittable m n) (ap core_view is ∙ core_view-Spine first links) (emittable (core_view core) h v room))
 
-  pub lets_parts : (core : Core) (values : Vec Core Global) (body : Box Core Global) → core ≡ v.Let values body → KnownIn m (core_view core) → VariablesBelow 65536 (core_view core) → instr_count (translate m n (core_view core) code.End) ≤ max_counted → LetsEmittable (map core_view values.items) (core_view body.value)
+  pub lets_parts : (core : Core) (values : Vec Core Global) (body : Box Core Global) → core ≡ v.Let values body → KnownIn m (core_view core) → VariablesBelow 65536 (core_view core) → instr_count (translate m n (core_view core) code.End) ≤ MAX_COUNTED → LetsEmittable (map core_view values.items) (core_view body.value)
   lets_parts core values body is h v room =
       lets_emittable (map core_view values.items) (core_view body.value) (subst (IsEmittable m n) (lets_is core values body is) (emittable (core_view core) h v room))
 
@@ -279,7 +279,7 @@ module _ (m : Model) (n : Numbering) where
   if_is core k condition first second is =
       ap (code_of m n) (ap core_view is ∙ core_view-If k condition first second) ∙ if_code k (core_view condition.value) (core_view first.value) (core_view second.value)
 
-  pub if_parts : (core : Core) (k : Kind) (condition first second : Box Core Global) → core ≡ v.If k condition first second → KnownIn m (core_view core) → VariablesBelow 65536 (core_view core) → instr_count (translate m n (core_view core) code.End) ≤ max_counted → IsEmittable m n (core_view condition.value) × IsEmittable m n (core_view first.value) × IsEmittable m n (core_view second.value)
+  pub if_parts : (core : Core) (k : Kind) (condition first second : Box Core Global) → core ≡ v.If k condition first second → KnownIn m (core_view core) → VariablesBelow 65536 (core_view core) → instr_count (translate m n (core_view core) code.End) ≤ MAX_COUNTED → IsEmittable m n (core_view condition.value) × IsEmittable m n (core_view first.value) × IsEmittable m n (core_view second.value)
   if_parts core k condition first second is h v room =
       if_emittable k (core_view condition.value) (core_view first.value) (core_view second.value) (subst (IsEmittable m n) (ap core_view is ∙ core_view-If k condition first second) (emittable (core_view core) h v room))
 
@@ -303,13 +303,13 @@ module _ (m : Model) (n : Numbering) where
   -- ---- loops
 
   -- of values that can be written, the one before an index can, and so can a body inside those from the index on
-  pub value_here : (xs : List Core) (body : List Instr) (i : ℕ) (x : Core) → drop (i - 1) xs ≡ x ∷ drop i xs → AllByRecursion (IsEmittable m n) (map core_view xs) → length (lets_code m n (map core_view xs) body) ≤ max_counted → IsEmittable m n (core_view x) × (length (lets_code m n (map core_view (drop i xs)) body) ≤ max_counted)
+  pub value_here : (xs : List Core) (body : List Instr) (i : ℕ) (x : Core) → drop (i - 1) xs ≡ x ∷ drop i xs → AllByRecursion (IsEmittable m n) (map core_view xs) → length (lets_code m n (map core_view xs) body) ≤ MAX_COUNTED → IsEmittable m n (core_view x) × (length (lets_code m n (map core_view (drop i xs)) body) ≤ MAX_COUNTED)
   value_here xs body i x here h room =
-      let whole = subst (λ (ys : List Core). AllByRecursion (IsEmittable m n) (map core_view ys) × (length (lets_code m n (map core_view ys) body) ≤ max_counted)) here (values_from xs body (i - 1) h room) in
+      let whole = subst (λ (ys : List Core). AllByRecursion (IsEmittable m n) (map core_view ys) × (length (lets_code m n (map core_view ys) body) ≤ MAX_COUNTED)) here (values_from xs body (i - 1) h room) in
       let l = length-append (code_of m n (core_view x)) (instrs.Let (length (lets_code m n (map core_view (drop i xs)) body)) ∷ lets_code m n (map core_view (drop i xs)) body) in
       (whole.0.0, omega (arith, l, whole.1))
     where
-      values_from : (ys : List Core) (inner : List Instr) (k : ℕ) → AllByRecursion (IsEmittable m n) (map core_view ys) → length (lets_code m n (map core_view ys) inner) ≤ max_counted → AllByRecursion (IsEmittable m n) (map core_view (drop k ys)) × (length (lets_code m n (map core_view (drop k ys)) inner) ≤ max_counted)
+      values_from : (ys : List Core) (inner : List Instr) (k : ℕ) → AllByRecursion (IsEmittable m n) (map core_view ys) → length (lets_code m n (map core_view ys) inner) ≤ MAX_COUNTED → AllByRecursion (IsEmittable m n) (map core_view (drop k ys)) × (length (lets_code m n (map core_view (drop k ys)) inner) ≤ MAX_COUNTED)
       values_from ys inner zero g r = (g, r)
       values_from [] inner (suc k) g r = (g, r)
       values_from (y ∷ ys) inner (suc k) g r =

@@ -15,7 +15,8 @@ use Rattle.rule_verify.specs.CodeDepths.{deeper, past_instr, in_binding, in_bran
 use Rattle.ocl_base.specs.Lists.{variable_at}
 use Rattle.rule_verify.specs.InstrKinds.{Surroundings, has_names, has_variable, operands_of, result_kind, block_operand, binds, ends_with, yields}
 use Rattle.rule_verify.specs.Patterns.{matches, are_there, all_match, below}
-use Rattle.rule_verify.specs.KindRules.{InstrFault, instr_fault, Enclosing, in_block, max_operands, max_blocks, taken, after_plain, opened, ended_with, kinds_after}
+use Rattle.rule_verify.specs.declared.limits.TheConstants.{MAX_BLOCKS, MAX_OPERANDS}
+use Rattle.rule_verify.specs.KindRules.{InstrFault, instr_fault, Enclosing, in_block, taken, after_plain, opened, ended_with, kinds_after}
 
 -- ---- variables
 
@@ -59,22 +60,22 @@ pub record StandsDeep (d : Depths) (e : Enclosing) (ks : List Kind) : Type 0 whe
 
 -- code from a place on keeps within the limits
 pub record IsShallow (s : Surroundings) (t : CodeTree) (d : Depths) : Type 0 where
-  pub operands : (deepest s t d).operands ≤ max_operands
-  pub blocks : (deepest s t d).blocks ≤ max_blocks
+  pub operands : (deepest s t d).operands ≤ MAX_OPERANDS
+  pub blocks : (deepest s t d).blocks ≤ MAX_BLOCKS
 
 -- what is no deeper than the deeper of two is no deeper than each
 max_parts : (a b n : ℕ) → max a b ≤ n → (a ≤ n) × (b ≤ n)
 max_parts a b n h = (omega (arith, h), omega (arith, h))
 
-both_shallow : (c d : Depths) → (deeper c d).operands ≤ max_operands → (deeper c d).blocks ≤ max_blocks → (d.operands ≤ max_operands) × (d.blocks ≤ max_blocks)
-both_shallow c d h g = ((max_parts c.operands d.operands max_operands h).1, (max_parts c.blocks d.blocks max_blocks g).1)
+both_shallow : (c d : Depths) → (deeper c d).operands ≤ MAX_OPERANDS → (deeper c d).blocks ≤ MAX_BLOCKS → (d.operands ≤ MAX_OPERANDS) × (d.blocks ≤ MAX_BLOCKS)
+both_shallow c d h g = ((max_parts c.operands d.operands MAX_OPERANDS h).1, (max_parts c.blocks d.blocks MAX_BLOCKS g).1)
 
 -- where code is within the limits, so is its first place
-begins_shallow : (s : Surroundings) (t : CodeTree) (d : Depths) → IsShallow s t d → (d.operands ≤ max_operands) × (d.blocks ≤ max_blocks)
+begins_shallow : (s : Surroundings) (t : CodeTree) (d : Depths) → IsShallow s t d → (d.operands ≤ MAX_OPERANDS) × (d.blocks ≤ MAX_BLOCKS)
 begins_shallow s End d h = (h.operands, h.blocks)
-begins_shallow s (Plain i rest) d h = ((max_parts d.operands _ max_operands h.operands).0, (max_parts d.blocks _ max_blocks h.blocks).0)
-begins_shallow s (Block i body rest) d h = ((max_parts d.operands _ max_operands h.operands).0, (max_parts d.blocks _ max_blocks h.blocks).0)
-begins_shallow s (Branch i first second rest) d h = ((max_parts d.operands _ max_operands h.operands).0, (max_parts d.blocks _ max_blocks h.blocks).0)
+begins_shallow s (Plain i rest) d h = ((max_parts d.operands _ MAX_OPERANDS h.operands).0, (max_parts d.blocks _ MAX_BLOCKS h.blocks).0)
+begins_shallow s (Block i body rest) d h = ((max_parts d.operands _ MAX_OPERANDS h.operands).0, (max_parts d.blocks _ MAX_BLOCKS h.blocks).0)
+begins_shallow s (Branch i first second rest) d h = ((max_parts d.operands _ MAX_OPERANDS h.operands).0, (max_parts d.blocks _ MAX_BLOCKS h.blocks).0)
 begins_shallow s (Torn i left) d h = (h.operands, h.blocks)
 
 -- ---- one instruction
@@ -128,17 +129,17 @@ module _ (s : Surroundings) (e : Enclosing) (d : Depths) where
       let here = begins_shallow s rest after within in
       let result = result_kind s e.variables i stack in
       let counted = left_count s e.variables i stack left t in
-      let room : nat_le (e.covered + suc (length left)) max_operands ≡ true = le-leb (e.covered + suc (length left)) max_operands (omega (arith, here.0, stands.operands, counted)) in
+      let room : nat_le (e.covered + suc (length left)) MAX_OPERANDS ≡ true = le-leb (e.covered + suc (length left)) MAX_OPERANDS (omega (arith, here.0, stands.operands, counted)) in
       let given : after_plain s e i at stack ≡ Ok (result ∷ left) =
-      ap (λ (o : Result (List Kind) InstrFault). o >>= (λ l. check (nat_le (e.covered + suc (length l)) max_operands) (instr_fault flaws.StackLimit s.rule at) >>= (λ _. Ok (result ∷ l)))) (taken_is s e.variables i at stack left t)
+      ap (λ (o : Result (List Kind) InstrFault). o >>= (λ l. check (nat_le (e.covered + suc (length l)) MAX_OPERANDS) (instr_fault flaws.StackLimit s.rule at) >>= (λ _. Ok (result ∷ l)))) (taken_is s e.variables i at stack left t)
       ∙ ap (λ (b : Bool). check b (instr_fault flaws.StackLimit s.rule at) >>= (λ _. Ok (result ∷ left))) room in
       (after, ap (λ (o : Result (List Kind) InstrFault). o >>= kinds_after s rest e (at + 1)) given, record { operands = omega (arith, stands.operands, counted); blocks = stands.blocks }, within)
 
   -- a block that nests is opened
-  opened_is : (i : Instr) (at : ℕ) (stack left : List Kind) → TakesKinds s e.variables i stack left → e.open_blocks < max_blocks → opened s e i at stack ≡ Ok left
+  opened_is : (i : Instr) (at : ℕ) (stack left : List Kind) → TakesKinds s e.variables i stack left → e.open_blocks < MAX_BLOCKS → opened s e i at stack ≡ Ok left
   opened_is i at stack left t lt =
-      ap (λ (o : Result (List Kind) InstrFault). o >>= (λ l. check (nat_lt e.open_blocks max_blocks) (instr_fault flaws.NestLimit s.rule at) >>= (λ _. Ok l))) (taken_is s e.variables i at stack left t)
-      ∙ ap (λ (b : Bool). check b (instr_fault flaws.NestLimit s.rule at) >>= (λ _. Ok left)) (lt-ltb e.open_blocks max_blocks lt)
+      ap (λ (o : Result (List Kind) InstrFault). o >>= (λ l. check (nat_lt e.open_blocks MAX_BLOCKS) (instr_fault flaws.NestLimit s.rule at) >>= (λ _. Ok l))) (taken_is s e.variables i at stack left t)
+      ∙ ap (λ (b : Bool). check b (instr_fault flaws.NestLimit s.rule at) >>= (λ _. Ok left)) (lt-ltb e.open_blocks MAX_BLOCKS lt)
 
   -- past a block with one body, which ends with one operand
   pub past_block : (i : Instr) (body rest : CodeTree) (at : ℕ) (stack left : List Kind) (Ends : Kind → Type 0) → TakesKinds s e.variables i stack left
@@ -153,7 +154,7 @@ module _ (s : Surroundings) (e : Enclosing) (d : Depths) where
       let bodies = both_shallow d (deeper (deepest s body inside) (deepest s rest after)) shallow.operands shallow.blocks in
       let more = both_shallow (deepest s body inside) (deepest s rest after) bodies.0 bodies.1 in
       let in_body : IsShallow s body inside =
-      record { operands = (max_parts (deepest s body inside).operands (deepest s rest after).operands max_operands bodies.0).0; blocks = (max_parts (deepest s body inside).blocks (deepest s rest after).blocks max_blocks bodies.1).0 } in
+      record { operands = (max_parts (deepest s body inside).operands (deepest s rest after).operands MAX_OPERANDS bodies.0).0; blocks = (max_parts (deepest s body inside).blocks (deepest s rest after).blocks MAX_BLOCKS bodies.1).0 } in
       let here = begins_shallow s body inside in_body in
       let counted = left_count s e.variables i stack left t in
       let inner = in_block e (binds s i (block_operand i stack) ++ e.variables) left in
@@ -188,9 +189,9 @@ module _ (s : Surroundings) (e : Enclosing) (d : Depths) where
       let q = both_shallow (deepest s first inside) (deeper (deepest s second inside) (deepest s rest after)) p.0 p.1 in
       let r = both_shallow (deepest s second inside) (deepest s rest after) q.0 q.1 in
       let in_first : IsShallow s first inside =
-      record { operands = (max_parts (deepest s first inside).operands (deeper (deepest s second inside) (deepest s rest after)).operands max_operands p.0).0; blocks = (max_parts (deepest s first inside).blocks (deeper (deepest s second inside) (deepest s rest after)).blocks max_blocks p.1).0 } in
+      record { operands = (max_parts (deepest s first inside).operands (deeper (deepest s second inside) (deepest s rest after)).operands MAX_OPERANDS p.0).0; blocks = (max_parts (deepest s first inside).blocks (deeper (deepest s second inside) (deepest s rest after)).blocks MAX_BLOCKS p.1).0 } in
       let in_second : IsShallow s second inside =
-      record { operands = (max_parts (deepest s second inside).operands (deepest s rest after).operands max_operands q.0).0; blocks = (max_parts (deepest s second inside).blocks (deepest s rest after).blocks max_blocks q.1).0 } in
+      record { operands = (max_parts (deepest s second inside).operands (deepest s rest after).operands MAX_OPERANDS q.0).0; blocks = (max_parts (deepest s second inside).blocks (deepest s rest after).blocks MAX_BLOCKS q.1).0 } in
       let here = begins_shallow s first inside in_first in
       let counted = left_count s e.variables i stack left t in
       let stands_in : StandsDeep inside inner [] = record { operands = omega (arith, stands.operands, counted); blocks = ap (λ n. n + 1) stands.blocks } in

@@ -22,13 +22,14 @@ use Rattle.rule_verify.specs.declared.depths.Depths.{Depths}
 use Rattle.rule_verify.specs.CodeTree as code
 use Rattle.rule_verify.specs.CodeTree.{CodeTree, instr_count}
 use Rattle.rule_verify.specs.CodeDepths.{past_instr, in_binding, in_branch, deepest}
-use Rattle.rule_code.specs.WellFormed.{max_rules}
-use Rattle.rule_verify.specs.KindRules.{max_operands, max_blocks}
+use Rattle.rule_verify.specs.declared.limits.TheConstants.{MAX_BLOCKS, MAX_OPERANDS}
+use Rattle.rule_code.specs.declared.limits.TheConstants.{MAX_RULES}
+use Rattle.ocl_compile.specs.declared.limits.TheConstants.{MAX_COUNTED}
 use Rattle.rule_verify.specs.InstrKinds.{Surroundings, surroundings, operands_of}
 use Rattle.rule_verify.specs.declared.named.Named.TheVariants as named
 use Rattle.ocl_compile.specs.Numbering.{Numbering, owned_feature, rule_uses, numbering_of}
 use Rattle.ocl_compile.specs.Translation.{symbol_of_unit, written_scalar, written_kind, constant_instr, variable_instr, plain_instr, operator_instr, iteration_instr, translate_rules, iteration_block, fold_block, let_block, if_block, translate, translate_all}
-use Rattle.ocl_compile.specs.Compiling.{max_counted, has_long_text, numbering_so_far, compiled_tree, compiled_depths, is_too_large, limit_passed}
+use Rattle.ocl_compile.specs.Compiling.{has_long_text, numbering_so_far, compiled_tree, compiled_depths, is_too_large, limit_passed}
 use Rattle.ocl_compile.specs.declared.fault.Limit.{Limit}
 use Rattle.ocl_compile.specs.declared.fault.Limit.TheVariants as limits
 use Rattle.ocl_compile.proofs.Operating.{operand_count, operands_counted}
@@ -423,21 +424,21 @@ not_these false b = refl
 pub limit_is : (m : Model) (all before : List CheckedRule) (r : CheckedRule) → IsTypedRule m r → AreCounted (numbering_so_far m before r) → has_long_text m (rule_uses m r) ≡ false → limit_passed m all before r ≡ limit_by (length before) (cut_extent (extent_of r.tree))
 limit_is m all before r typed counted short =
     let n = numbering_so_far m before r in
-    let many = nat_le max_rules (length before) in
+    let many = nat_le MAX_RULES (length before) in
     let size : Bool → Bool → Bool → Bool → Bool = λ t s l i. many || t || s || l || i in
     let by : Bool → Bool → Bool → Option Limit = λ a b c. if a then Some limits.Size else (if b then Some limits.Nesting else (if c then Some limits.Stack else None)) in
     let x = extent_of r.tree in
     let d = compiled_depths m all before r in
-    let long = nat_lt max_counted (min x.instructions 65536) in
-    let a : nat_lt max_counted (instr_count (compiled_tree m all r)) ≡ long = ap (nat_lt max_counted) (rule_count_is m all before r) ∙ sym (cut_passes max_counted x.instructions (omega arith)) in
-    let b : nat_lt max_blocks d.blocks ≡ nat_lt max_blocks (min x.blocks 65536) = ap (nat_lt max_blocks) (rule_blocks_are m all before r) ∙ sym (cut_passes max_blocks x.blocks (omega arith)) in
-    let c : nat_lt max_operands d.operands ≡ nat_lt max_operands (min x.operands 65536) = ap (nat_lt max_operands) (rule_operands_are m all before r typed) ∙ sym (cut_passes max_operands x.operands (omega arith)) in
+    let long = nat_lt MAX_COUNTED (min x.instructions 65536) in
+    let a : nat_lt MAX_COUNTED (instr_count (compiled_tree m all r)) ≡ long = ap (nat_lt MAX_COUNTED) (rule_count_is m all before r) ∙ sym (cut_passes MAX_COUNTED x.instructions (omega arith)) in
+    let b : nat_lt MAX_BLOCKS d.blocks ≡ nat_lt MAX_BLOCKS (min x.blocks 65536) = ap (nat_lt MAX_BLOCKS) (rule_blocks_are m all before r) ∙ sym (cut_passes MAX_BLOCKS x.blocks (omega arith)) in
+    let c : nat_lt MAX_OPERANDS d.operands ≡ nat_lt MAX_OPERANDS (min x.operands 65536) = ap (nat_lt MAX_OPERANDS) (rule_operands_are m all before r typed) ∙ sym (cut_passes MAX_OPERANDS x.operands (omega arith)) in
     let large : is_too_large m all before r ≡ (many || long) =
-    ap (λ (t : Bool). size t (nat_lt max_counted (length n.symbols)) (has_long_text m (rule_uses m r)) (nat_lt max_counted (instr_count (compiled_tree m all r)))) (le-ltb max_counted (length n.texts) counted.0)
-    ∙ ap (λ (t : Bool). size false t (has_long_text m (rule_uses m r)) (nat_lt max_counted (instr_count (compiled_tree m all r)))) (le-ltb max_counted (length n.symbols) counted.1)
-    ∙ ap (λ (t : Bool). size false false t (nat_lt max_counted (instr_count (compiled_tree m all r)))) short
+    ap (λ (t : Bool). size t (nat_lt MAX_COUNTED (length n.symbols)) (has_long_text m (rule_uses m r)) (nat_lt MAX_COUNTED (instr_count (compiled_tree m all r)))) (le-ltb MAX_COUNTED (length n.texts) counted.0)
+    ∙ ap (λ (t : Bool). size false t (has_long_text m (rule_uses m r)) (nat_lt MAX_COUNTED (instr_count (compiled_tree m all r)))) (le-ltb MAX_COUNTED (length n.symbols) counted.1)
+    ∙ ap (λ (t : Bool). size false false t (nat_lt MAX_COUNTED (instr_count (compiled_tree m all r)))) short
     ∙ ap (size false false false) a
     ∙ not_these many long in
-    ap (λ (t : Bool). by t (nat_lt max_blocks d.blocks) (nat_lt max_operands d.operands)) large
-    ∙ ap (λ (t : Bool). by (many || long) t (nat_lt max_operands d.operands)) b
-    ∙ ap (λ (t : Bool). by (many || long) (nat_lt max_blocks (min x.blocks 65536)) t) c
+    ap (λ (t : Bool). by t (nat_lt MAX_BLOCKS d.blocks) (nat_lt MAX_OPERANDS d.operands)) large
+    ∙ ap (λ (t : Bool). by (many || long) t (nat_lt MAX_OPERANDS d.operands)) b
+    ∙ ap (λ (t : Bool). by (many || long) (nat_lt MAX_BLOCKS (min x.blocks 65536)) t) c

@@ -7,7 +7,7 @@ use Rattle.ocl_base.specs.Steps.{Means}
 use Rattle.imkl_model.specs.ClassModel.{Model}
 use Rattle.ocl_core.specs.Core.{CheckedRule}
 use Rattle.ocl_core.specs.Typing.{IsTypedRule}
-use Rattle.rule_verify.specs.KindRules.{max_operands, max_blocks}
+use Rattle.rule_verify.specs.declared.limits.TheConstants.{MAX_BLOCKS, MAX_OPERANDS}
 use Rattle.ocl_compile.specs.declared.fault.Limit.{Limit}
 use Rattle.ocl_compile.specs.declared.fault.Limit.TheVariants as limits
 use Rattle.ocl_compile.specs.Numbering.{Numbering, no_numbers, Use, UsedText, UsedSymbol, names_of_symbol, once_more, with_texts, with_use, with_uses, rule_uses, rules_uses, numbering_of}
@@ -92,8 +92,8 @@ module _ (m : Model) (all : List CheckedRule) where
     pub too_large : (FitsUnit new → ⊥) → limit_passed m all h.before r ≡ Some limits.Size
     too_large unfit =
         ap (λ (b : Bool). if b then Some limits.Size else (
-        if nat_lt max_blocks (compiled_depths m all h.before r).blocks then Some limits.Nesting else (
-        if nat_lt max_operands (compiled_depths m all h.before r).operands then Some limits.Stack else None))) (by_test (is_too_large m all h.before r) refl)
+        if nat_lt MAX_BLOCKS (compiled_depths m all h.before r).blocks then Some limits.Nesting else (
+        if nat_lt MAX_OPERANDS (compiled_depths m all h.before r).operands then Some limits.Stack else None))) (by_test (is_too_large m all h.before r) refl)
       where
         by_test : (b : Bool) → is_too_large m all h.before r ≡ b → is_too_large m all h.before r ≡ true
         by_test true e = e

@@ -12,14 +12,16 @@ use Rattle.imkl_model.specs.ClassModel.{Model, class_at, enumeration_at, feature
 use Rattle.ocl_core.specs.Core.{CheckedRule}
 use Rattle.ocl_core.specs.Typing.{IsTypedRule}
 use Rattle.rule_code.specs.Content.{Content, RuleContent, text_at, names_of}
-use Rattle.rule_code.specs.WellFormed.{max_text_bytes, max_rules, IsTextOfUnit, SymbolFits, EachFits, RuleFits, IsUnit}
+use Rattle.rule_code.specs.declared.limits.TheConstants.{MAX_RULES, MAX_TEXT_BYTES}
+use Rattle.ocl_compile.specs.declared.limits.TheConstants.{MAX_COUNTED}
+use Rattle.rule_code.specs.WellFormed.{IsTextOfUnit, SymbolFits, EachFits, RuleFits, IsUnit}
 use Rattle.rule_verify.specs.declared.named.Named.{Named}
 use Rattle.rule_verify.specs.declared.named.Named.TheVariants as named
 use Rattle.rule_verify.specs.CodeTree.{End, instr_count}
 use Rattle.ocl_compile.specs.declared.fault.Limit.{Limit}
 use Rattle.ocl_compile.specs.Numbering.{same_named, literal_name, names_of_symbol, Use, UsedText, UsedSymbol, rule_uses, rules_uses, Numbering, no_numbers, once_more, with_texts, with_use, with_uses, numbering_of}
 use Rattle.ocl_compile.specs.Translation.{rule_tree, translate_rule, translate_symbol, translate_rules}
-use Rattle.ocl_compile.specs.Compiling.{max_counted, is_long_text, texts_of_use, has_long_text, numbering_so_far, is_too_large, limit_passed, first_passed, compiled_tree}
+use Rattle.ocl_compile.specs.Compiling.{is_long_text, texts_of_use, has_long_text, numbering_so_far, is_too_large, limit_passed, first_passed, compiled_tree}
 use Rattle.ocl_compile.specs.Written.{IsWrittenRule}
 use Rattle.ocl_compile.proofs.Added.{or_parts}
 use Rattle.ocl_compile.proofs.Flat.{flat_count, translated_cut}
@@ -32,25 +34,25 @@ use Rattle.ocl_compile.proofs.Versions.{HasInstrs, version_has}
 
 -- a rule that isn't too large
 pub record IsRoomy (m : Model) (all before : List CheckedRule) (r : CheckedRule) : Type 0 where
-  pub rules : length before < max_rules
-  pub texts : length (numbering_so_far m before r).texts ≤ max_counted
-  pub symbols : length (numbering_so_far m before r).symbols ≤ max_counted
+  pub rules : length before < MAX_RULES
+  pub texts : length (numbering_so_far m before r).texts ≤ MAX_COUNTED
+  pub symbols : length (numbering_so_far m before r).symbols ≤ MAX_COUNTED
   pub short : has_long_text m (rule_uses m r) ≡ false
-  pub code : instr_count (compiled_tree m all r) ≤ max_counted
+  pub code : instr_count (compiled_tree m all r) ≤ MAX_COUNTED
 
 -- each rule that isn't is so
 pub is_roomy_rule : (m : Model) (all before : List CheckedRule) (r : CheckedRule) → is_too_large m all before r ≡ false → IsRoomy m all before r
 is_roomy_rule m all before r h =
-    let d = or_parts _ (nat_lt max_counted (instr_count (compiled_tree m all r))) h in
+    let d = or_parts _ (nat_lt MAX_COUNTED (instr_count (compiled_tree m all r))) h in
     let c = or_parts _ (has_long_text m (rule_uses m r)) d.0 in
-    let b = or_parts _ (nat_lt max_counted (length (numbering_so_far m before r).symbols)) c.0 in
-    let a = or_parts _ (nat_lt max_counted (length (numbering_so_far m before r).texts)) b.0 in
+    let b = or_parts _ (nat_lt MAX_COUNTED (length (numbering_so_far m before r).symbols)) c.0 in
+    let a = or_parts _ (nat_lt MAX_COUNTED (length (numbering_so_far m before r).texts)) b.0 in
     record {
-      rules = leb-false max_rules (length before) a.0;
-      texts = ltb-false max_counted (length (numbering_so_far m before r).texts) a.1;
-      symbols = ltb-false max_counted (length (numbering_so_far m before r).symbols) b.1;
+      rules = leb-false MAX_RULES (length before) a.0;
+      texts = ltb-false MAX_COUNTED (length (numbering_so_far m before r).texts) a.1;
+      symbols = ltb-false MAX_COUNTED (length (numbering_so_far m before r).symbols) b.1;
       short = c.1;
-      code = ltb-false max_counted (instr_count (compiled_tree m all r)) d.1;
+      code = ltb-false MAX_COUNTED (instr_count (compiled_tree m all r)) d.1;
     }
 
 -- as is each that passes no limit
@@ -63,9 +65,9 @@ is_roomy m all before r e = is_roomy_rule m all before r (not_first (is_too_larg
 
 -- rules of which none passes a limit have room for their texts and symbols
 pub record HasRoom (m : Model) (rs : List CheckedRule) : Type 0 where
-  pub rules : length rs ≤ max_rules
-  pub texts : length (numbering_of m rs).texts ≤ max_counted
-  pub symbols : length (numbering_of m rs).symbols ≤ max_counted
+  pub rules : length rs ≤ MAX_RULES
+  pub texts : length (numbering_of m rs).texts ≤ MAX_COUNTED
+  pub symbols : length (numbering_of m rs).symbols ≤ MAX_COUNTED
 
 -- rules that pass no limit have such room, after others that have it
 pub has_room : (m : Model) (all before rs : List CheckedRule) → first_passed m all before rs ≡ None → HasRoom m before → HasRoom m (before ++ rs)
@@ -91,13 +93,13 @@ with_texts_all P texts [] h g = h
 with_texts_all P texts (t ∷ ts) h g = with_texts_all P (once_more bytes_eq texts t) ts (once_more_all P bytes_eq texts t h g.0) g.1
 
 abbrev IsShort : List ℕ → Type 0
-IsShort t = length t ≤ max_text_bytes
+IsShort t = length t ≤ MAX_TEXT_BYTES
 
 texts_short : (ts : List (List ℕ)) → list_any is_long_text ts ≡ false → AllByRecursion IsShort ts
 texts_short [] e = tt
 texts_short (t ∷ ts) e =
     let p = or_parts (is_long_text t) (list_any is_long_text ts) e in
-    (ltb-false max_text_bytes (length t) p.0, texts_short ts p.1)
+    (ltb-false MAX_TEXT_BYTES (length t) p.0, texts_short ts p.1)
 
 use_short : (m : Model) (n : Numbering) (u : Use) → AllByRecursion IsShort n.texts → AllByRecursion IsShort (texts_of_use m u) → AllByRecursion IsShort (with_use m n u).texts
 use_short m n (UsedText t) h g = with_texts_all IsShort n.texts (t ∷ []) h g

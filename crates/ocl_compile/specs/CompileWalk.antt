@@ -14,7 +14,8 @@ use Rattle.ocl_compile.specs.declared.numbers.NumberFault.{NumberFault}
 use Rattle.ocl_compile.specs.declared.numbers.NumberFault.TheVariants.{TooLarge, OutOfMemory}
 use Rattle.ocl_compile.specs.Numbering.{Numbering, numbering_of}
 use Rattle.ocl_compile.specs.Translation.{is_fold, rule_tree}
-use Rattle.ocl_compile.specs.Compiling.{max_counted, LimitAt, limit_at, first_passed, unless_passed}
+use Rattle.ocl_compile.specs.declared.limits.TheConstants.{MAX_COUNTED}
+use Rattle.ocl_compile.specs.Compiling.{LimitAt, limit_at, first_passed, unless_passed}
 
 -- what rules use, numbered, or the first limit that a rule passes
 abbrev pub numbered_rules : Model → List CheckedRule → Result Numbering LimitAt
@@ -22,7 +23,7 @@ numbered_rules m rs = unless_passed (first_passed m rs [] rs) (numbering_of m rs
 
 -- a typed rule whose code is short enough
 abbrev pub IsCodable : Model → Numbering → CheckedRule → Type 0
-IsCodable m n r = IsTypedRule m r × (instr_count (rule_tree m n r) ≤ max_counted)
+IsCodable m n r = IsTypedRule m r × (instr_count (rule_tree m n r) ≤ MAX_COUNTED)
 
 -- where numbering stops, the rule passes a limit of size
 abbrev pub number_fault : ℕ → NumberFault → FaultMeaning LimitAt

@@ -4,27 +4,20 @@ use Rattle.std.specs.List.{list_any}
 use Rattle.imkl_model.specs.ClassModel.{Model}
 use Rattle.ocl_core.specs.Core.{CheckedRule}
 use Rattle.rule_code.specs.Content.{Content}
-use Rattle.rule_code.specs.WellFormed.{max_text_bytes, max_rules}
+use Rattle.rule_verify.specs.declared.limits.TheConstants.{MAX_BLOCKS, MAX_OPERANDS}
+use Rattle.rule_code.specs.declared.limits.TheConstants.{MAX_RULES, MAX_TEXT_BYTES}
+use Rattle.ocl_compile.specs.declared.limits.TheConstants.{MAX_COUNTED}
 use Rattle.rule_verify.specs.declared.depths.Depths.{Depths}
 use Rattle.rule_verify.specs.CodeTree.{CodeTree, instr_count}
 use Rattle.rule_verify.specs.CodeDepths.{rule_depths}
 use Rattle.rule_verify.specs.InstrKinds.{surroundings}
-use Rattle.rule_verify.specs.KindRules.{max_operands, max_blocks}
 use Rattle.ocl_compile.specs.declared.fault.Limit.{Limit}
 use Rattle.ocl_compile.specs.declared.fault.Limit.TheVariants as limits
 use Rattle.ocl_compile.specs.Numbering.{Numbering, Use, UsedText, UsedSymbol, names_of_symbol, rule_uses, numbering_of}
 use Rattle.ocl_compile.specs.Translation.{rule_tree, translate_rules}
 
--- the most texts, the most symbols, and the most instructions of a rule: what two bytes count
-abbrev pub max_counted : ℕ
-max_counted = 65535
-
--- where counting stops, above every limit
-abbrev pub counting_end : ℕ
-counting_end = 65536
-
 abbrev pub is_long_text : List ℕ → Bool
-is_long_text t = nat_lt max_text_bytes (length t)
+is_long_text t = nat_lt MAX_TEXT_BYTES (length t)
 
 abbrev pub texts_of_use : Model → Use → List (List ℕ)
 texts_of_use m (UsedText t) = t ∷ []
@@ -46,11 +39,11 @@ compiled_tree m all r = rule_tree m (numbering_of m all) r
 -- with it there are too many rules, texts or symbols, or a text that it uses is too long, or its code
 abbrev pub is_too_large : Model → List CheckedRule → List CheckedRule → CheckedRule → Bool
 is_too_large m all before r =
-    nat_le max_rules (length before)
-    || nat_lt max_counted (length (numbering_so_far m before r).texts)
-    || nat_lt max_counted (length (numbering_so_far m before r).symbols)
+    nat_le MAX_RULES (length before)
+    || nat_lt MAX_COUNTED (length (numbering_so_far m before r).texts)
+    || nat_lt MAX_COUNTED (length (numbering_so_far m before r).symbols)
     || has_long_text m (rule_uses m r)
-    || nat_lt max_counted (instr_count (compiled_tree m all r))
+    || nat_lt MAX_COUNTED (instr_count (compiled_tree m all r))
 
 -- the most operands, variables and open blocks that its code has at once
 abbrev pub compiled_depths : Model → List CheckedRule → List CheckedRule → CheckedRule → Depths
@@ -61,8 +54,8 @@ compiled_depths m all before r =
 abbrev pub limit_passed : Model → List CheckedRule → List CheckedRule → CheckedRule → Option Limit
 limit_passed m all before r =
     if is_too_large m all before r then Some limits.Size else (
-    if nat_lt max_blocks (compiled_depths m all before r).blocks then Some limits.Nesting else (
-    if nat_lt max_operands (compiled_depths m all before r).operands then Some limits.Stack else None))
+    if nat_lt MAX_BLOCKS (compiled_depths m all before r).blocks then Some limits.Nesting else (
+    if nat_lt MAX_OPERANDS (compiled_depths m all before r).operands then Some limits.Stack else None))
 
 -- ---- rules
 

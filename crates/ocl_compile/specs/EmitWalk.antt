@@ -11,7 +11,7 @@ use Rattle.rule_code.specs.declared.instruction.Instr.TheVariants as instrs
 use Rattle.rule_verify.specs.CodeTree as code
 use Rattle.rule_verify.specs.CodeTree.{instr_count}
 use Rattle.ocl_compile.specs.Numbering.{Numbering, owned_feature}
-use Rattle.ocl_compile.specs.Compiling.{max_counted, counting_end}
+use Rattle.ocl_compile.specs.declared.limits.TheConstants.{COUNTING_END, MAX_COUNTED}
 use Rattle.ocl_compile.specs.Translation.{symbol_of_unit, written_scalar, operator_instr, iteration_instr, translate, translate_all, instrs_of}
 
 -- each feature that a tree names is one of the class model
@@ -69,8 +69,8 @@ module _ (m : Model) (n : Numbering) where
   -- a tree that has code whose fields fit into two bytes
   pub record IsEmittable (t : CoreTree) : Type 0 where
     pub known : KnownIn m t
-    pub variables : VariablesBelow counting_end t
-    pub room : length (code_of t) ≤ max_counted
+    pub variables : VariablesBelow COUNTING_END t
+    pub room : length (code_of t) ≤ MAX_COUNTED
 
   abbrev pub AreEmittable : CoreTrees → Type 0
   AreEmittable tree.no_core = Unit {0}

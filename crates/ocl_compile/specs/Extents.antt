@@ -2,12 +2,12 @@
 use Rattle.std.specs.Prelude.{ℕ, suc, ◌+◌, ◌||◌, max, min, Option, Some, None, nat_le, nat_lt, if◌then◌else◌}
 use Rattle.ocl_core.specs.Core as tree
 use Rattle.ocl_core.specs.Core.{CoreTree, CoreTrees}
-use Rattle.rule_code.specs.WellFormed.{max_rules}
-use Rattle.rule_verify.specs.KindRules.{max_operands, max_blocks}
+use Rattle.rule_verify.specs.declared.limits.TheConstants.{MAX_BLOCKS, MAX_OPERANDS}
+use Rattle.rule_code.specs.declared.limits.TheConstants.{MAX_RULES}
+use Rattle.ocl_compile.specs.declared.limits.TheConstants.{COUNTING_END, MAX_COUNTED}
 use Rattle.ocl_compile.specs.declared.extent.Extent.{Extent}
 use Rattle.ocl_compile.specs.declared.fault.Limit.{Limit}
 use Rattle.ocl_compile.specs.declared.fault.Limit.TheVariants as limits
-use Rattle.ocl_compile.specs.Compiling.{max_counted, counting_end}
 
 -- instructions, the most operands at once beside those that lie below, and the most blocks in one another
 abbrev pub extent : ℕ → ℕ → ℕ → Extent
@@ -55,13 +55,13 @@ abbrev mutual
 
 -- with numbers cut to where counting stops
 abbrev pub cut_extent : Extent → Extent
-cut_extent x = extent (min x.instructions counting_end) (min x.operands counting_end) (min x.blocks counting_end)
+cut_extent x = extent (min x.instructions COUNTING_END) (min x.operands COUNTING_END) (min x.blocks COUNTING_END)
 
 -- ---- limits by measures
 
 -- the limit that a rule of an index passes by the extent of its code, if a unit takes what it numbers
 abbrev pub limit_by : ℕ → Extent → Option Limit
 limit_by index x =
-    if nat_le max_rules index || nat_lt max_counted x.instructions then Some limits.Size else (
-    if nat_lt max_blocks x.blocks then Some limits.Nesting else (
-    if nat_lt max_operands x.operands then Some limits.Stack else None))
+    if nat_le MAX_RULES index || nat_lt MAX_COUNTED x.instructions then Some limits.Size else (
+    if nat_lt MAX_BLOCKS x.blocks then Some limits.Nesting else (
+    if nat_lt MAX_OPERANDS x.operands then Some limits.Stack else None))

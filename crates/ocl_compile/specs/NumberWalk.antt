@@ -9,7 +9,8 @@ use Rattle.rule_verify.specs.declared.named.Named.TheVariants as named
 use Rattle.ocl_compile.specs.declared.numbers.NumberFault.{NumberFault}
 use Rattle.ocl_compile.specs.declared.numbers.NumberFault.TheVariants.{TooLarge, OutOfMemory}
 use Rattle.ocl_compile.specs.Numbering.{Numbering, Use, UsedText, UsedSymbol, tree_uses}
-use Rattle.ocl_compile.specs.Compiling.{max_counted, is_long_text}
+use Rattle.ocl_compile.specs.declared.limits.TheConstants.{MAX_COUNTED}
+use Rattle.ocl_compile.specs.Compiling.{is_long_text}
 use Rattle.ocl_compile.specs.EmitWalk.{link_node}
 
 abbrev pub IsNamedIn : Model → Named → Type 0
@@ -31,7 +32,7 @@ links_uses m links = flat_map (λ l. tree_uses m (link_node l)) links
 
 -- as many texts and symbols as a unit takes
 abbrev pub AreCounted : Numbering → Type 0
-AreCounted n = (length n.texts ≤ max_counted) × (length n.symbols ≤ max_counted)
+AreCounted n = (length n.texts ≤ MAX_COUNTED) × (length n.symbols ≤ MAX_COUNTED)
 
 -- and none too long
 abbrev pub FitsUnit : Numbering → Type 0

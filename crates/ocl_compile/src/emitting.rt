@@ -8,7 +8,7 @@ ghost use Rattle.rule_code.specs.declared.instruction.Instr.TheVariants.{Let};
 ghost use Rattle.rule_verify.specs.CodeTree.{End, instr_count};
 ghost use Rattle.ocl_compile.specs.Written.{IsWritten, AreWritten};
 ghost use Rattle.ocl_compile.specs.Translation.{translate, instrs_of};
-ghost use Rattle.ocl_compile.specs.Compiling.{max_counted, counting_end};
+ghost use Rattle.ocl_compile.specs.declared.limits.TheConstants.{COUNTING_END, MAX_COUNTED};
 ghost use Rattle.ocl_compile.specs.EmitWalk.{KnownIn, VariablesBelow, IsEmittable, AreEmittable, IsTopEmittable, AreEmittableLinks, code_of, codes_of, top_code, link_node, links_code, lets_code};
 
 use crate::fields::{body_length, feature_of_unit, symbol_of_unit, written_kind, written_scalar};
@@ -72,9 +72,9 @@ pub(crate) fn emit(
     code: &mut Vec<Instr>,
 ) -> Result<(), AllocError>
     requires known { KnownIn model.now (core_view core.now) }
-    requires variables { VariablesBelow counting_end (core_view core.now) }
+    requires variables { VariablesBelow COUNTING_END (core_view core.now) }
     requires room { instr_count (translate model.now numbers.now (core_view core.now) End)
-        ≤ max_counted }
+        ≤ MAX_COUNTED }
     ensures emitted { OnOk result (code.new.items ≡ code.old.items ++
         instrs_of (translate model.now numbers.now (core_view core.now) End)) }
     ensures written { OnOk result (IsWritten (core_view core.now)) }
@@ -143,7 +143,7 @@ fn code_of_lets(
     requires values { AllByRecursion (IsEmittable model.now numbers.now)
         (map core_view values.now) }
     requires room { length (lets_code model.now numbers.now (map core_view values.now) body.items)
-        ≤ max_counted }
+        ≤ MAX_COUNTED }
     ensures code { IfOk result (λ v. v.items ≡ lets_code model.now numbers.now
         (map core_view values.now) body.items) }
     ensures written { OnOk result (AllByRecursion IsWritten (map core_view values.now)) }
@@ -165,7 +165,7 @@ fn code_of_let(
     body: Vec<Instr>,
 ) -> Result<Vec<Instr>, AllocError>
     requires value { IsEmittable model.now numbers.now (core_view value.now) }
-    requires body { length body.items ≤ max_counted }
+    requires body { length body.items ≤ MAX_COUNTED }
     ensures code { IfOk result (λ v. v.items ≡ code_of model.now numbers.now
         (core_view value.now) ++ Let (length body.items) ∷ body.items) }
     ensures written { OnOk result (IsWritten (core_view value.now)) }

@@ -1,7 +1,6 @@
 //! How large and how deep code is.
 
 ghost use Rattle.std.specs.Prelude.{◌≡◌, ◌+◌, min};
-ghost use Rattle.ocl_compile.specs.Compiling.{counting_end};
 ghost use Rattle.ocl_compile.specs.Extents as extents;
 ghost use Rattle.ocl_compile.specs.Extents.{cut_extent};
 
@@ -20,14 +19,14 @@ pub(crate) struct Extent {
 
 /// A sum, or 65,536 where it is greater.
 fn sum(first: usize, second: usize) -> usize
-    ensures { result ≡ min (first + second) counting_end }
+    ensures { result ≡ min (first + second) COUNTING_END }
 {
     first.saturating_add(second).min(COUNTING_END)
 }
 
 /// A number, or 65,536 where it is greater.
 fn cut(number: usize) -> usize
-    ensures { result ≡ min number counting_end }
+    ensures { result ≡ min number COUNTING_END }
 {
     number.min(COUNTING_END)
 }

@@ -1,7 +1,7 @@
 //! The fields of instructions: what they name, by its number in the unit, and lengths.
 
 ghost use Rattle.std.specs.Prelude.{◌≡◌, ◌<◌, ◌≤◌, length};
-ghost use Rattle.ocl_compile.specs.Compiling.{max_counted};
+ghost use Rattle.ocl_compile.specs.declared.limits.TheConstants.{MAX_COUNTED};
 ghost use Rattle.ocl_compile.specs.Numbering.{owned_feature};
 ghost use Rattle.ocl_compile.specs.NumberWalk.{IsNamedIn};
 ghost use Rattle.ocl_compile.specs.Translation.{translate_symbol};
@@ -98,7 +98,7 @@ pub(crate) fn written_kind(numbers: &Numbers, kind: Kind) -> WrittenKind
 
 /// The field that has the length of a body, in instructions.
 pub(crate) fn body_length(body: &[Instr]) -> u16
-    requires { length body.now ≤ max_counted }
+    requires { length body.now ≤ MAX_COUNTED }
     ensures { result ≡ length body.now }
 {
     body.len() as u16

@@ -2,7 +2,7 @@
 
 ghost use Rattle.std.specs.Prelude.{◌≡◌, ◌<◌};
 ghost use Rattle.ocl_core.specs.CoreView.{constant_of};
-ghost use Rattle.ocl_compile.specs.Compiling.{counting_end};
+ghost use Rattle.ocl_compile.specs.declared.limits.TheConstants.{COUNTING_END};
 ghost use Rattle.ocl_compile.specs.Written.{IsWrittenConstant};
 ghost use Rattle.ocl_compile.specs.Translation as spec;
 
@@ -32,7 +32,7 @@ pub(crate) fn constant_instr(numbers: &Numbers, value: &ConstantValue) -> Instr
 
 /// The instruction that gives a variable. Variable 0 is the object that the rule is judged on.
 pub(crate) fn variable_instr(number: usize) -> Instr
-    requires { number < counting_end }
+    requires { number < COUNTING_END }
     ensures { result ≡ spec.variable_instr number }
 {
     if number == 0 {

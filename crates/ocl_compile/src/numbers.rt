@@ -2,7 +2,7 @@
 
 ghost use Rattle.std.specs.Prelude.{◌≡◌, ◌<◌, Some, length, map, bytes_eq, slice_get, string_bytes};
 ghost use Rattle.ocl_compile.specs.Numbering.{UsedSymbol, no_numbers, once_more, same_named, with_texts, with_use, names_of_symbol, text_number, symbol_number};
-ghost use Rattle.ocl_compile.specs.Compiling.{counting_end};
+ghost use Rattle.ocl_compile.specs.declared.limits.TheConstants.{COUNTING_END};
 ghost use Rattle.ocl_compile.specs.CompileFaults.{compile_fault};
 ghost use Rattle.ocl_compile.specs.CompileWalk.{number_fault};
 ghost use Rattle.ocl_compile.specs.NumberWalk.{IsNamedIn, FitsUnit, NumbersTo};
@@ -171,7 +171,7 @@ impl Numbers {
     #[tactic(auto, using(crate::proofs::Counted::counted))]
     pub(crate) fn text_number(&self, text: &str) -> usize
         ensures number { result ≡ text_number self.now text.now }
-        ensures counted { result < counting_end }
+        ensures counted { result < COUNTING_END }
     {
         self.texts.number_of(text).unwrap_or(0)
     }
@@ -180,7 +180,7 @@ impl Numbers {
     #[tactic(auto, using(crate::proofs::Counted::counted))]
     pub(crate) fn symbol_number(&self, symbol: Named) -> usize
         ensures number { result ≡ symbol_number self.now symbol }
-        ensures counted { result < counting_end }
+        ensures counted { result < COUNTING_END }
     {
         self.symbols.number_of(&symbol).unwrap_or(0)
     }

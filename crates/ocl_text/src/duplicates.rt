@@ -9,7 +9,10 @@ use std::alloc::{AllocError, Global};
 use std::collections::BTreeSet;
 
 /// The offset of the first rule whose name an earlier one has.
-pub(crate) fn repeated_offset(alloc: Global, rules: &[SurfaceRule]) -> Result<Option<usize>, AllocError>
+pub(crate) fn repeated_offset(
+    alloc: Global,
+    rules: &[SurfaceRule],
+) -> Result<Option<usize>, AllocError>
     ensures { IfOk result (λ found. MatchOption found (NamesDiffer (map rule_of rules.now))
         (λ offset. RepeatsAt [] (map rule_of rules.now) offset)) }
 {

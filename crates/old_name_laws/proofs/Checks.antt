@@ -13,7 +13,8 @@ use Rattle.rule_verify.specs.declared.pattern.Pattern.{Pattern}
 use Rattle.rule_verify.specs.CodeTree.{CodeTree, End, Plain, Block, Branch, Torn, instr_count, code_tree}
 use Rattle.rule_verify.specs.Patterns.{a_boolean, are_there, all_match, below}
 use Rattle.rule_verify.specs.InstrKinds.{Surroundings, has_variable, block_operand}
-use Rattle.rule_verify.specs.KindRules.{InstrFault, instr_fault, Enclosing, in_block, max_operands, max_blocks, taken, after_plain, opened, ended_with, kinds_after, rule_ends}
+use Rattle.rule_verify.specs.declared.limits.TheConstants.{MAX_BLOCKS, MAX_OPERANDS}
+use Rattle.rule_verify.specs.KindRules.{InstrFault, instr_fault, Enclosing, in_block, taken, after_plain, opened, ended_with, kinds_after, rule_ends}
 use Rattle.rule_verify.specs.Symbols.{class_in}
 use Rattle.rule_verify.specs.UnitRules.{empty_rule, unit_rule, check_rule, check_rules, check_unit}
 use Rattle.old_name_laws.proofs.Symbols.{Case, other, IsAlike, RuleAgrees}
@@ -43,12 +44,12 @@ module _ (x : Case) (n c : ℕ) where
 
   plain_alike : (e : Enclosing) (i : Instr) (at : ℕ) (ks : List Kind) → IsAlike x i → after_plain t e i at ks ≡ after_plain s e i at ks
   plain_alike e i at ks h =
-      λ j. taken_alike e.variables i at ks h j >>= λ left. check (nat_le (e.covered + suc (length left)) max_operands) (instr_fault flaws.StackLimit n at)
+      λ j. taken_alike e.variables i at ks h j >>= λ left. check (nat_le (e.covered + suc (length left)) MAX_OPERANDS) (instr_fault flaws.StackLimit n at)
       >>= λ _. Ok (results_alike x n c e.variables i ks h j ∷ left)
 
   opened_alike : (e : Enclosing) (i : Instr) (at : ℕ) (ks : List Kind) → IsAlike x i → opened t e i at ks ≡ opened s e i at ks
   opened_alike e i at ks h =
-      λ j. taken_alike e.variables i at ks h j >>= λ left. check (nat_lt e.open_blocks max_blocks) (instr_fault flaws.NestLimit n at) >>= λ _. Ok left
+      λ j. taken_alike e.variables i at ks h j >>= λ left. check (nat_lt e.open_blocks MAX_BLOCKS) (instr_fault flaws.NestLimit n at) >>= λ _. Ok left
 
   -- ---- code
 

@@ -13,7 +13,7 @@ use Rattle.rule_verify.specs.declared.depths.Depths.{Depths}
 use Rattle.rule_verify.specs.CodeTree.{CodeTree, End, Plain, Block, Branch, Torn}
 use Rattle.rule_verify.specs.CodeDepths.{deeper, deepest, rule_depths}
 use Rattle.rule_verify.specs.InstrKinds.{Surroundings, surroundings, operands_of, bound_count}
-use Rattle.rule_verify.specs.KindRules.{max_operands, max_blocks}
+use Rattle.rule_verify.specs.declared.limits.TheConstants.{MAX_BLOCKS, MAX_OPERANDS}
 use Rattle.ocl_compile.specs.declared.fault.Limit.TheVariants as limits
 use Rattle.ocl_compile.specs.Translation.{translate_rules}
 use Rattle.ocl_compile.specs.Compiling.{is_too_large, compiled_tree, compiled_depths, limit_passed, or_later, first_passed, unless_passed, compile_of}
@@ -59,8 +59,8 @@ module _ (r : Renames) (m : Model) where
   limit_alike : (all before : List CheckedRule) (x : CheckedRule) → limit_passed n all before x ≡ limit_passed m all before x
   limit_alike all before x =
       λ j. if is_too_large m all before x then Some limits.Size else (
-      if nat_lt max_blocks (compiled_depths_alike all before x j).blocks then Some limits.Nesting else (
-      if nat_lt max_operands (compiled_depths_alike all before x j).operands then Some limits.Stack else None))
+      if nat_lt MAX_BLOCKS (compiled_depths_alike all before x j).blocks then Some limits.Nesting else (
+      if nat_lt MAX_OPERANDS (compiled_depths_alike all before x j).operands then Some limits.Stack else None))
 
   first_alike : (all before rs : List CheckedRule) → first_passed n all before rs ≡ first_passed m all before rs
   first_alike all before [] = refl

@@ -11,7 +11,7 @@ use Rattle.rule_code.specs.declared.version.Version.{Version}
 use Rattle.rule_code.specs.declared.version.Version.TheVariants as versions
 use Rattle.rule_code.specs.Content.{RuleContent, Content}
 use Rattle.rule_code.specs.Preamble.{Preamble}
-use Rattle.rule_code.specs.WellFormed.{max_rules}
+use Rattle.rule_code.specs.declared.limits.TheConstants.{MAX_RULES}
 use Rattle.rule_code.specs.View.{content}
 use Rattle.rule_code.specs.Spelling.{magic}
 use Rattle.ocl_base.specs.Steps.{◌>>=◌}
@@ -56,7 +56,7 @@ symbols_from texts bytes = do
 -- how many rules, within the limit, then the rules
 unfoldable pub rules_from : Preamble → List ℕ → FieldRead (List RuleContent)
 rules_from p bytes = do
-  n ← count_from max_rules bytes
+  n ← count_from MAX_RULES bytes
   many_from (next_rule_from p) [] n.0 n.1
 
 -- nothing after the last rule

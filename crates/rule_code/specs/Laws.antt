@@ -3,12 +3,12 @@ use Rattle.std.specs.Prelude.{◌≡◌, ◌⊎◌, ◌≤◌, ◌<◌, ◌+◌,
 use Rattle.std.specs.Option.{option_map}
 use Rattle.rule_code.specs.declared.fault.CodeFlaw.{CodeFlaw}
 use Rattle.rule_code.specs.declared.fault.CodeFlaw.TheVariants as flaws
-use Rattle.rule_code.specs.WellFormed.{max_text_bytes}
+use Rattle.rule_code.specs.declared.limits.TheConstants.{MAX_TEXT_BYTES}
 use Rattle.rule_code.specs.CodeFile.{CodeFaultAt, first_code_fault}
 
 -- no field has more bytes
 abbrev pub most_field_bytes : ℕ
-most_field_bytes = max_text_bytes
+most_field_bytes = MAX_TEXT_BYTES
 
 -- a field may be wrong because the file ends within it
 abbrev pub may_be_cut : CodeFlaw → Bool

@@ -10,7 +10,7 @@ use Rattle.ocl_base.specs.Lists.{is_among}
 use Rattle.ocl_base.specs.Words.{is_name}
 use Rattle.rule_code.specs.Content.{RuleContent, text_at, names_of}
 use Rattle.rule_code.specs.Preamble.{Preamble}
-use Rattle.rule_code.specs.WellFormed.{max_text_bytes}
+use Rattle.rule_code.specs.declared.limits.TheConstants.{MAX_TEXT_BYTES}
 use Rattle.rule_code.specs.Opcodes.{instr_from}
 use Rattle.ocl_base.specs.Steps.{◌>>=◌}
 use Rattle.rule_code.specs.Reading.{FieldRead, wrong, number_from, count_from, text_number_from, symbol_number_from, text_bytes_from, many_from}
@@ -18,7 +18,7 @@ use Rattle.rule_code.specs.Reading.{FieldRead, wrong, number_from, count_from, t
 -- a length within the limit, then the bytes
 unfoldable pub text_from : List ℕ → FieldRead (List ℕ)
 text_from bytes = do
-  n ← count_from max_text_bytes bytes
+  n ← count_from MAX_TEXT_BYTES bytes
   text_bytes_from n.0 n.1
 
 -- one text that names a symbol

@@ -19,16 +19,7 @@ use Rattle.ocl_base.specs.Lists.{is_among}
 use Rattle.ocl_base.specs.Words.{is_name}
 use Rattle.rule_code.specs.Content.{RuleContent, Content, text_at, names_of}
 use Rattle.rule_code.specs.InstrRows.{FieldValue, integer_field, boolean_field, number_field, text_field, symbol_field, scalar_field, collection_field, kind_field, row_of}
-
--- ---- limits
-
--- the greatest number of bytes in a text
-abbrev pub max_text_bytes : ℕ
-max_text_bytes = 4096
-
--- the greatest number of rules
-abbrev pub max_rules : ℕ
-max_rules = 4096
+use Rattle.rule_code.specs.declared.limits.TheConstants.{MAX_RULES, MAX_TEXT_BYTES}
 
 -- ---- what fits
 
@@ -37,9 +28,9 @@ abbrev pub EachFits : {A : Type 0} → (List A → A → Type 0) → List A → 
 EachFits Fits before [] = Unit {0}
 EachFits Fits before (x ∷ xs) = Fits before x × EachFits Fits (before ++ x ∷ []) xs
 
--- UTF-8, of at most `max_text_bytes` bytes
+-- UTF-8, of at most `MAX_TEXT_BYTES` bytes
 abbrev pub IsTextOfUnit : List ℕ → Type 0
-IsTextOfUnit bytes = (length bytes ≤ max_text_bytes) × (is_utf8 bytes ≡ true)
+IsTextOfUnit bytes = (length bytes ≤ MAX_TEXT_BYTES) × (is_utf8 bytes ≡ true)
 
 -- a symbol names texts that are there
 abbrev pub SymbolFits : ℕ → Symbol → Type 0
@@ -88,5 +79,5 @@ pub record IsUnit (u : Content) : Type 0 where
   pub texts : AllByRecursion IsTextOfUnit u.texts
   pub symbol_count : length u.symbols < 2 ^ 16
   pub symbols : AllByRecursion (SymbolFits (length u.texts)) u.symbols
-  pub rule_count : length u.rules ≤ max_rules
+  pub rule_count : length u.rules ≤ MAX_RULES
   pub rules : EachFits (RuleFits u.version u.texts u.symbols) [] u.rules

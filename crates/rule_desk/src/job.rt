@@ -1,7 +1,7 @@
 //! One job: a report that is made step by step.
 
 ghost use Rattle.std.specs.Prelude.{◌≡◌, ◌+◌, ◌*◌, ◌^◌, ◌<◌, ◌≤◌, ◌↔◌, ℕ, true, false, IsTrue, IsSome, IsOk, length, vec_capacity, IfOk, OnOk, OnErr, Some};
-ghost use Rattle.imkl_population.specs.Building.{max_objects};
+ghost use Rattle.imkl_population.specs.declared.limits.TheConstants.{MAX_OBJECTS};
 ghost use Rattle.rule_cost.specs.Admission.{Fits};
 ghost use Rattle.rule_machine.specs.Contract.{SameTask};
 ghost use Rattle.rule_machine.specs.Laws.{rule_bound};
@@ -165,7 +165,7 @@ impl<'a> Job<'a> {
         ensures bound { result
             ≡ rule_bound self.now.job.admission.linked.unit self.now.job.population rule * length
             (context_objects self.now.job.admission.linked.unit self.now.job.population rule) }
-        ensures small { result ≤ 2 ^ 63 * max_objects }
+        ensures small { result ≤ 2 ^ 63 * MAX_OBJECTS }
     {
         let admitted = self.admitted;
         admitted.admitted();

@@ -11,7 +11,8 @@ use Rattle.rule_verify.specs.declared.fault.VerifyFlaw.TheVariants as flaws
 use Rattle.rule_verify.specs.CodeTree.{CodeTree, End, Plain, Block, Branch, Torn, instr_count}
 use Rattle.rule_verify.specs.Patterns.{matches, below}
 use Rattle.rule_verify.specs.InstrKinds.{Surroundings, operands_of, result_kind, topmost, operands_above, block_operand, bound_count, binds, ends_with, yields}
-use Rattle.rule_verify.specs.KindRules.{instr_fault, Enclosing, max_operands, max_blocks, taken, after_plain, opened, in_block, ended_with, kinds_after}
+use Rattle.rule_verify.specs.declared.limits.TheConstants.{MAX_BLOCKS, MAX_OPERANDS}
+use Rattle.rule_verify.specs.KindRules.{instr_fault, Enclosing, taken, after_plain, opened, in_block, ended_with, kinds_after}
 use Rattle.rule_verify.proofs.ForAbove.{Takes, takes_from}
 use Rattle.rule_cost.specs.Bounds.{Cost, cost_of, top_length, length_given, length_yielded, lengths_below, block_length, lengths_bound_by}
 use Rattle.rule_machine.specs.Machine.{Setting, judged_by}
@@ -23,13 +24,13 @@ use Rattle.rule_machine.specs.Places.{Place, kinds_of, lengths_of, sizes_in, giv
 pub plain_says : (s : Surroundings) (e : Enclosing) (i : Instr) (at : ℕ) (ks out : List Kind) → after_plain s e i at ks ≡ Ok out → (left : List Kind) × Takes s e.variables i ks left × (out ≡ result_kind s e.variables i ks ∷ left)
 plain_says s e i at ks out h =
     let a = both_steps (taken s e.variables i at ks) _ out h in
-    let b = both_steps (check (nat_le (e.covered + suc (length a.0)) max_operands) (instr_fault flaws.StackLimit s.rule at)) _ out a.2 in
+    let b = both_steps (check (nat_le (e.covered + suc (length a.0)) MAX_OPERANDS) (instr_fault flaws.StackLimit s.rule at)) _ out a.2 in
     (a.0, takes_from s e.variables i at ks a.0 a.1, sym (ok_is _ _ b.2))
 
 opened_says : (s : Surroundings) (e : Enclosing) (i : Instr) (at : ℕ) (ks out : List Kind) → opened s e i at ks ≡ Ok out → Takes s e.variables i ks out
 opened_says s e i at ks out h =
     let a = both_steps (taken s e.variables i at ks) _ out h in
-    let b = both_steps (check (nat_lt e.open_blocks max_blocks) (instr_fault flaws.NestLimit s.rule at)) _ out a.2 in
+    let b = both_steps (check (nat_lt e.open_blocks MAX_BLOCKS) (instr_fault flaws.NestLimit s.rule at)) _ out a.2 in
     subst (Takes s e.variables i ks) (ok_is _ _ b.2) (takes_from s e.variables i at ks a.0 a.1)
 
 -- a body ends with one operand, which its block's pattern matches

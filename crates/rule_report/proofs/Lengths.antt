@@ -11,10 +11,11 @@ use Rattle.std.proofs.lemmas.Fmt.{decimal-digits_of, decimal_nonempty, decimal_d
 use Rattle.std.proofs.lemmas.Int.Digits.{length-digits_of_step}
 use Rattle.std.proofs.lemmas.List.{length-map, length-take-le, take_all}
 use Rattle.imkl_population.specs.Population.{Population, object_at}
-use Rattle.imkl_population.specs.Building.{max_objects}
+use Rattle.rule_code.specs.declared.limits.TheConstants.{MAX_RULES}
+use Rattle.imkl_population.specs.declared.limits.TheConstants.{MAX_OBJECTS}
 use Rattle.imkl_population.specs.Consistency.{IsConsistent}
 use Rattle.rule_code.specs.Content.{Content}
-use Rattle.rule_code.specs.WellFormed.{IsUnit, max_rules}
+use Rattle.rule_code.specs.WellFormed.{IsUnit}
 use Rattle.rule_verify.specs.UnitRules.{context_class, unit_rule}
 use Rattle.rule_machine.specs.declared.verdict.Verdict.{Verdict}
 use Rattle.rule_machine.specs.declared.verdict.Verdict.TheVariants.{Holds, Fails, Undecided}
@@ -81,10 +82,10 @@ all_below_undecided u p (suc r) =
       pairs_of_rule u p r,
     )
 
-few_objects : (u : Content) (p : Population) (r : ℕ) → IsConsistent p → length (context_objects u p r) ≤ max_objects
+few_objects : (u : Content) (p : Population) (r : ℕ) → IsConsistent p → length (context_objects u p r) ≤ MAX_OBJECTS
 few_objects u p r consistent = few_instances p (context_class p.model u (unit_rule u r)) consistent
 
-few_pairs : (u : Content) (p : Population) (n : ℕ) → IsConsistent p → length (pairs_of_rules u p n) ≤ n * max_objects
+few_pairs : (u : Content) (p : Population) (n : ℕ) → IsConsistent p → length (pairs_of_rules u p n) ≤ n * MAX_OBJECTS
 few_pairs u p zero consistent = omega arith
 few_pairs u p (suc r) consistent = omega (arith, few_pairs u p r consistent, few_objects u p r consistent, pairs_of_rule u p r)
 
@@ -235,7 +236,7 @@ reports_save u p v (suc r) consistent =
     )
 
 -- as many pairs as verdicts, of which there are few
-undecided_many : (u : Content) (p : Population) (n : ℕ) → IsConsistent p → n ≤ max_rules → length (verdicts_below u p all_undecided n) < 2 ^ 64
+undecided_many : (u : Content) (p : Population) (n : ℕ) → IsConsistent p → n ≤ MAX_RULES → length (verdicts_below u p all_undecided n) < 2 ^ 64
 undecided_many u p n consistent l = omega (arith, as_many_pairs u p all_undecided n, few_pairs u p n consistent, l)
 
 pub no_report_is_longer : (u : Content) (p : Population) (v : Verdicts) → IsUnit u → IsConsistent p → length (report_by u p v) ≤ longest_report u p
@@ -301,7 +302,7 @@ until_within u p v n l =
     let whole : n + (length (all_pairs u p) - n) ≡ length (all_pairs u p) = omega (arith, l) in
     omega (arith, until_grows u p v n (length (all_pairs u p) - n) (omega (arith, l)), ap (λ k. length (report_until u p v k)) whole, ap length (until_end u p v))
 
-module _ (c : CursorSeen) (v : Verdicts) (w : Verdict) (placed : StandsWithin c) (consistent : IsConsistent c.population) (few : length c.unit.rules ≤ max_rules) (within : c.rule < length c.unit.rules) (told : IsToldBy c v) where
+module _ (c : CursorSeen) (v : Verdicts) (w : Verdict) (placed : StandsWithin c) (consistent : IsConsistent c.population) (few : length c.unit.rules ≤ MAX_RULES) (within : c.rule < length c.unit.rules) (told : IsToldBy c v) where
   there : c.at < length (objects_due c)
   there = placed.some within
 

@@ -8,7 +8,7 @@ use Rattle.std.proofs.lemmas.List.{append-nil, append_cancel_left, get_or_append
 use Rattle.std.proofs.lemmas.Option.{slice_get-get_or, slice_get_past}
 use Rattle.std.proofs.Math.Nat.{eq-or-lt_of_le}
 use Rattle.imkl_population.specs.Population.{Population, object_at}
-use Rattle.imkl_population.specs.Building.{max_objects}
+use Rattle.imkl_population.specs.declared.limits.TheConstants.{MAX_OBJECTS}
 use Rattle.imkl_population.specs.Consistency.{IsConsistent}
 use Rattle.rule_code.specs.Content.{Content}
 use Rattle.rule_verify.specs.UnitRules.{context_class, unit_rule}
@@ -324,7 +324,7 @@ counted_one s Holds = omega arith
 counted_one s Fails = omega arith
 counted_one s Undecided = omega arith
 
-few_due : (c : CursorSeen) → IsConsistent c.population → length (objects_due c) ≤ max_objects
+few_due : (c : CursorSeen) → IsConsistent c.population → length (objects_due c) ≤ MAX_OBJECTS
 few_due c consistent = few_instances c.population (context_class c.population.model c.unit (unit_rule c.unit c.rule)) consistent
 
 pub placed_here : (c : CursorSeen) (w : Verdict) → StandsWithin c → c.rule < length c.unit.rules → c.at + 1 < length (objects_due c) → StandsWithin (told_here c w)
@@ -343,7 +343,7 @@ joined_all s t = omega arith
 pub placed_last : (c : CursorSeen) (w : Verdict) → StandsWithin c → IsConsistent c.population → c.rule < length c.unit.rules → c.at + 1 ≡ length (objects_due c) → StandsWithin (told_last c w)
 placed_last c w placed consistent within last =
     let is = next_is c.unit c.population (c.rule + 1) (omega (arith, within)) in
-    let above = mul-le (c.rule + 1) max_objects (next_rule c.unit c.population (c.rule + 1)) max_objects is.above (omega arith) in
+    let above = mul-le (c.rule + 1) MAX_OBJECTS (next_rule c.unit c.population (c.rule + 1)) MAX_OBJECTS is.above (omega arith) in
     record {
       within = omega (arith, is.within, within);
       some = λ h. is.some (omega (arith, h, within));
@@ -366,7 +366,7 @@ placed_first u p =
     }
 
 -- no count is large
-pub few_here : (c : CursorSeen) → StandsWithin c → IsConsistent c.population → c.rule < length c.unit.rules → all_counted c.here < max_objects
+pub few_here : (c : CursorSeen) → StandsWithin c → IsConsistent c.population → c.rule < length c.unit.rules → all_counted c.here < MAX_OBJECTS
 few_here c placed consistent within = omega (arith, placed.few_here, placed.some within, few_due c consistent)
 
 -- ---- the end

@@ -3,7 +3,7 @@
 use Rattle.std.specs.Prelude.{◌≡◌, ℕ, zero, suc, ◌+◌, ◌-◌, ◌*◌, ◌<◌, ◌≤◌, ◌==◌, List, [], ◌++◌, Option, Some, None, length, map, take, max, nat_lt, slice_get, slice_index_or, if◌then◌else◌}
 use Rattle.std.specs.List.{concat}
 use Rattle.imkl_population.specs.Population.{Population, object_at}
-use Rattle.imkl_population.specs.Building.{max_objects}
+use Rattle.imkl_population.specs.declared.limits.TheConstants.{MAX_OBJECTS}
 use Rattle.rule_code.specs.Content.{Content}
 use Rattle.rule_machine.specs.declared.verdict.Verdict.{Verdict}
 use Rattle.rule_machine.specs.declared.verdict.Verdict.TheVariants.{Holds, Fails, Undecided}
@@ -122,6 +122,6 @@ pub record StandsWithin (c : CursorSeen) : Type 0 where
   pub some : c.rule < length c.unit.rules → c.at < length (objects_due c)
   pub none : c.rule ≡ length c.unit.rules → c.at ≡ 0
   pub few_here : all_counted c.here ≤ c.at
-  pub few_before : all_counted c.before ≤ c.rule * max_objects
+  pub few_before : all_counted c.before ≤ c.rule * MAX_OBJECTS
   -- at the end all counts are those before
   pub end_here : c.rule ≡ length c.unit.rules → c.here ≡ counts_of []

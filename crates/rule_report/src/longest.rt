@@ -3,8 +3,8 @@
 ghost use Rattle.std.specs.Prelude.{◌≡◌, ◌+◌, ◌*◌, ◌<◌, ◌≤◌, All, length, Some};
 ghost use Rattle.std.specs.List.{flat_map};
 ghost use Rattle.imkl_population.specs.Population.{object_at};
-ghost use Rattle.imkl_population.specs.Building.{max_objects};
-ghost use Rattle.rule_code.specs.WellFormed.{max_text_bytes};
+ghost use Rattle.rule_code.specs.declared.limits.TheConstants.{MAX_TEXT_BYTES};
+ghost use Rattle.imkl_population.specs.declared.limits.TheConstants.{MAX_OBJECTS};
 ghost use Rattle.rule_machine.specs.declared.verdict.Verdict.TheVariants.{Undecided};
 ghost use Rattle.rule_report.specs.Report.{all_undecided, context_objects, line_of, longest_report, report_of_rule};
 
@@ -27,12 +27,12 @@ fn all_undecided(count: usize) -> Summary
 
 /// How long the lines of some objects are where a rule of this name is undecided for each.
 fn undecided_lines_length(population: &Population<'_>, name: &str, objects: &[ObjectNo]) -> usize
-    requires name { length name.now ≤ max_text_bytes }
+    requires name { length name.now ≤ MAX_TEXT_BYTES }
     requires objects { All (λ o. o < length population.now.content.objects) objects.now }
-    requires few { length objects.now ≤ max_objects }
+    requires few { length objects.now ≤ MAX_OBJECTS }
     ensures length { result ≡ length (flat_map (λ o. line_of (Some Undecided) name.now
         (object_at population.now.content o).id) objects.now) }
-    ensures short { result ≤ 5000 * max_objects }
+    ensures short { result ≤ 5000 * MAX_OBJECTS }
 {
     population.consistent();
     let mut length = 0;
@@ -48,7 +48,7 @@ fn undecided_rule_length(accepted: &Accepted<'_>, population: &Population<'_>, r
     requires rule { rule < length accepted.now.unit.rules }
     ensures length { result ≡ length
         (report_of_rule accepted.now.unit population.now.content all_undecided rule) }
-    ensures short { result ≤ 5001 * max_objects }
+    ensures short { result ≤ 5001 * MAX_OBJECTS }
 {
     accepted.unit().well_formed();
     population.consistent();

@@ -20,7 +20,8 @@ use Rattle.rule_verify.specs.CodeTree.{CodeTree, End, Plain, Block, Branch, shap
 use Rattle.rule_verify.specs.CodeDepths.{deeper, past_instr, in_binding, in_branch, deepest}
 use Rattle.rule_verify.specs.Faults.{verify_fault}
 use Rattle.rule_verify.specs.InstrKinds.{Surroundings, has_names, has_variable, operands_of, result_kind, block_operand, binds, bound_count, ends_with, yields}
-use Rattle.rule_verify.specs.KindRules.{InstrFault, instr_fault, Enclosing, in_block, taken, opened, ended_with, kinds_after, max_operands, max_blocks}
+use Rattle.rule_verify.specs.declared.limits.TheConstants.{MAX_BLOCKS, MAX_OPERANDS}
+use Rattle.rule_verify.specs.KindRules.{InstrFault, instr_fault, Enclosing, in_block, taken, opened, ended_with, kinds_after}
 use Rattle.rule_verify.specs.Known.{AreKnownKinds}
 use Rattle.rule_verify.specs.Patterns.{are_there, all_match, below}
 use Rattle.rule_verify.specs.Walk.{surroundings_of, IsPlace, enclosing, kinds_from, depth_at, depths_from, moved, place_inside, Gone, Goes, IsBlock, body_ends, Walked}
@@ -157,11 +158,11 @@ module _ (r : RuleCode) (vars : List Kind) (p : Place) (ks : List Kind) (i : Ins
       by_shape (TwoBodies l m) is b = by_tree _ (tree_torn_branch r.code.now p.at p.end i lt le here l m is (omega arith)) ∙ rw takes refl
 
   -- too many open blocks
-  pub nest_fails : (n : ℕ) (left : List Kind) → IsBlock (shape_of i) n → p.at + 1 + n ≤ p.end → max_blocks ≤ p.open_blocks → taken (surroundings_of r) vars i p.at ks ≡ Ok left → kinds_from r vars p ks ≡ Err (instr_fault flaws.NestLimit r.index p.at)
+  pub nest_fails : (n : ℕ) (left : List Kind) → IsBlock (shape_of i) n → p.at + 1 + n ≤ p.end → MAX_BLOCKS ≤ p.open_blocks → taken (surroundings_of r) vars i p.at ks ≡ Ok left → kinds_from r vars p ks ≡ Err (instr_fault flaws.NestLimit r.index p.at)
   nest_fails n left block nests deep takes = by_shape (shape_of i) refl block
     where
-      test : nat_lt p.open_blocks max_blocks ≡ false
-      test = le-ltb p.open_blocks max_blocks deep
+      test : nat_lt p.open_blocks MAX_BLOCKS ≡ false
+      test = le-ltb p.open_blocks MAX_BLOCKS deep
 
       by_shape : (shape : Shape) → shape_of i ≡ shape → IsBlock shape n → kinds_from r vars p ks ≡ Err (instr_fault flaws.NestLimit r.index p.at)
       by_shape Single is b = absurd b
@@ -192,16 +193,16 @@ module _ (r : RuleCode) (vars : List Kind) (p : Place) (ks : List Kind) (i : Ins
     plain_tree is = tree_plain r.code.now p.at p.end i lt le here is
 
     -- an instruction without a body, at the limit of operands, is refused
-    pub stack_fails : shape_of i ≡ Single → max_operands ≤ p.covered + length left → kinds_from r vars p ks ≡ Err (instr_fault flaws.StackLimit r.index p.at)
+    pub stack_fails : shape_of i ≡ Single → MAX_OPERANDS ≤ p.covered + length left → kinds_from r vars p ks ≡ Err (instr_fault flaws.StackLimit r.index p.at)
     stack_fails is full =
-        let test : nat_le (p.covered + suc (length left)) max_operands ≡ false = lt-leb (p.covered + suc (length left)) max_operands (omega arith) in
+        let test : nat_le (p.covered + suc (length left)) MAX_OPERANDS ≡ false = lt-leb (p.covered + suc (length left)) MAX_OPERANDS (omega arith) in
         by_tree _ (plain_tree is) ∙ rw (takes, test) refl
 
     -- the walk goes past an instruction without a body that has room for its result
-    pub plain_goes : (old new : Depths) (after kept : List Kind) (y : Kind) → shape_of i ≡ Single → p.covered + length left < max_operands → AreKnownKinds r.linked.now.model (y ∷ left)
+    pub plain_goes : (old new : Depths) (after kept : List Kind) (y : Kind) → shape_of i ≡ Single → p.covered + length left < MAX_OPERANDS → AreKnownKinds r.linked.now.model (y ∷ left)
         → y ≡ result_kind (surroundings_of r) vars i ks → after ≡ y ∷ left → kept ≡ vars → new ≡ deeper old (depth_at vars p ks) → Gone r vars old p ks (p.at + 1) kept new after
     plain_goes old new after kept y is room known gives pushed same deep =
-        let test : nat_le (p.covered + suc (length left)) max_operands ≡ true = le-leb (p.covered + suc (length left)) max_operands (omega arith) in
+        let test : nat_le (p.covered + suc (length left)) MAX_OPERANDS ≡ true = le-leb (p.covered + suc (length left)) MAX_OPERANDS (omega arith) in
         let rest = code_tree (slice_range r.code.now (p.at + 1) p.end) in
         subst (λ (l : List Kind). Gone r vars old p ks (p.at + 1) kept new l) (sym pushed)
         (record {
@@ -217,9 +218,9 @@ module _ (r : RuleCode) (vars : List Kind) (p : Place) (ks : List Kind) (i : Ins
 
     -- ---- a block with one body
 
-    module _ (n : ℕ) (is : shape_of i ≡ OneBody n) (nests : p.at + 1 + n ≤ p.end) (shallow : p.open_blocks < max_blocks) where
+    module _ (n : ℕ) (is : shape_of i ≡ OneBody n) (nests : p.at + 1 + n ≤ p.end) (shallow : p.open_blocks < MAX_BLOCKS) where
       is_open : opened (surroundings_of r) (enclosing vars p) i p.at ks ≡ Ok left
-      is_open = let test : nat_lt p.open_blocks max_blocks ≡ true = lt-ltb p.open_blocks max_blocks shallow in rw (takes, test) refl
+      is_open = let test : nat_lt p.open_blocks MAX_BLOCKS ≡ true = lt-ltb p.open_blocks MAX_BLOCKS shallow in rw (takes, test) refl
 
       block_tree : code_tree (slice_range r.code.now p.at p.end) ≡ Block i (code_tree (slice_range r.code.now (p.at + 1) (p.at + 1 + n))) (code_tree (slice_range r.code.now (p.at + 1 + n) p.end))
       block_tree = tree_block r.code.now p.at p.end i lt le here n is nests
@@ -274,9 +275,9 @@ module _ (r : RuleCode) (vars : List Kind) (p : Place) (ks : List Kind) (i : Ins
 
     -- ---- a block with two bodies
 
-    module _ (n m : ℕ) (is : shape_of i ≡ TwoBodies n m) (nests : p.at + 1 + (n + m) ≤ p.end) (shallow : p.open_blocks < max_blocks) where
+    module _ (n m : ℕ) (is : shape_of i ≡ TwoBodies n m) (nests : p.at + 1 + (n + m) ≤ p.end) (shallow : p.open_blocks < MAX_BLOCKS) where
       opens : opened (surroundings_of r) (enclosing vars p) i p.at ks ≡ Ok left
-      opens = let test : nat_lt p.open_blocks max_blocks ≡ true = lt-ltb p.open_blocks max_blocks shallow in rw (takes, test) refl
+      opens = let test : nat_lt p.open_blocks MAX_BLOCKS ≡ true = lt-ltb p.open_blocks MAX_BLOCKS shallow in rw (takes, test) refl
 
       branch_tree : code_tree (slice_range r.code.now p.at p.end)
           ≡ Branch i (code_tree (slice_range r.code.now (p.at + 1) (p.at + 1 + n))) (code_tree (slice_range r.code.now (p.at + 1 + n) (p.at + 1 + n + m))) (code_tree (slice_range r.code.now (p.at + 1 + n + m) p.end))

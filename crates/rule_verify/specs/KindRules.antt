@@ -11,6 +11,7 @@ use Rattle.rule_verify.specs.CodeTree.{CodeTree, End, Plain, Block, Branch, Torn
 use Rattle.rule_verify.specs.declared.pattern.Pattern.{Pattern}
 use Rattle.rule_verify.specs.Patterns.{matches, a_boolean, are_there, all_match, below}
 use Rattle.rule_verify.specs.InstrKinds.{Surroundings, has_names, has_variable, operands_of, result_kind, block_operand, binds, ends_with, yields}
+use Rattle.rule_verify.specs.declared.limits.TheConstants.{MAX_BLOCKS, MAX_OPERANDS}
 
 -- a fault of the instruction at an index of a rule
 pub record InstrFault : Type 0 where
@@ -33,14 +34,6 @@ pub record Enclosing : Type 0 where
 abbrev pub in_block : Enclosing → List Kind → List Kind → Enclosing
 in_block e variables left = record { variables = variables; covered = e.covered + length left; open_blocks = e.open_blocks + 1 }
 
--- at most 1,024 operands at once, those below open blocks too
-abbrev pub max_operands : ℕ
-max_operands = 1024
-
--- at most 64 blocks in one another
-abbrev pub max_blocks : ℕ
-max_blocks = 64
-
 -- ---- one instruction; the checks stand in the order of the faults
 
 -- its names, its variable and its operands are there and right: the operands below
@@ -56,14 +49,14 @@ taken s variables i at ks = do
 abbrev pub after_plain : Surroundings → Enclosing → Instr → ℕ → List Kind → Result (List Kind) InstrFault
 after_plain s e i at ks = do
   left ← taken s e.variables i at ks
-  _ ← check (nat_le (e.covered + suc (length left)) max_operands) (instr_fault flaws.StackLimit s.rule at)
+  _ ← check (nat_le (e.covered + suc (length left)) MAX_OPERANDS) (instr_fault flaws.StackLimit s.rule at)
   Ok (result_kind s e.variables i ks ∷ left)
 
 -- a block that nests is opened: the operands below
 abbrev pub opened : Surroundings → Enclosing → Instr → ℕ → List Kind → Result (List Kind) InstrFault
 opened s e i at ks = do
   left ← taken s e.variables i at ks
-  _ ← check (nat_lt e.open_blocks max_blocks) (instr_fault flaws.NestLimit s.rule at)
+  _ ← check (nat_lt e.open_blocks MAX_BLOCKS) (instr_fault flaws.NestLimit s.rule at)
   Ok left
 
 -- a body ends with exactly one value, which is what it may be; else the fault is that of the block

@@ -21,7 +21,8 @@ use Rattle.rule_verify.specs.CodeTree.{code_tree}
 use Rattle.rule_verify.specs.CodeDepths.{deeper, deepest}
 use Rattle.rule_verify.specs.Faults.{verify_fault}
 use Rattle.rule_verify.specs.InstrKinds.{Surroundings, surroundings, symbols_used, block_operand, ends_with}
-use Rattle.rule_verify.specs.KindRules.{InstrFault, Enclosing, taken, ended_with, kinds_after, max_operands, max_blocks}
+use Rattle.rule_verify.specs.declared.limits.TheConstants.{MAX_BLOCKS, MAX_OPERANDS}
+use Rattle.rule_verify.specs.KindRules.{InstrFault, Enclosing, taken, ended_with, kinds_after}
 use Rattle.rule_verify.specs.Known.{AreKnownKinds}
 use Rattle.rule_verify.specs.Patterns.{all_match, below}
 
@@ -68,8 +69,8 @@ pub record IsRuleCode (r : RuleCode) : Type 0 where
 pub record IsPlace (r : RuleCode) (variables : List Kind) (p : Place) (operands : List Kind) : Type 0 where
   pub before : p.at ≤ p.end
   pub within : p.end ≤ length r.code.now
-  pub room : p.covered + length operands ≤ max_operands
-  pub nested : p.open_blocks ≤ max_blocks
+  pub room : p.covered + length operands ≤ MAX_OPERANDS
+  pub nested : p.open_blocks ≤ MAX_BLOCKS
   pub variables_known : AreKnownKinds r.linked.now.model variables
   pub operands_known : AreKnownKinds r.linked.now.model operands
 
@@ -123,7 +124,7 @@ pub record Opened (r : RuleCode) (variables : List Kind) (old : Depths) (p : Pla
   pub takes : taken (surroundings_of r) variables i p.at operands ≡ Ok after
   pub first : operand ≡ block_operand i operands
   pub nests : p.at + 1 + n ≤ p.end
-  pub shallow : p.open_blocks < max_blocks
+  pub shallow : p.open_blocks < MAX_BLOCKS
   pub kept : left ≡ variables
   pub depths : new ≡ deeper old (depth_at variables p operands)
   pub known : AreKnownKinds r.linked.now.model after

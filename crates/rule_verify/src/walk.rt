@@ -42,7 +42,7 @@ fn deeper(depths: Depths, others: Depths) -> Depths
 
 /// Notes how deep a place is.
 fn reach(walk: &mut Walk, place: Place, operands: &Stack<Kind>)
-    requires { place.covered + length operands.now ≤ spec.max_operands }
+    requires { place.covered + length operands.now ≤ MAX_OPERANDS }
     ensures variables { walk.new.variables ≡ walk.old.variables }
     ensures depths { walk.new.depths ≡ depth.deeper walk.old.depths
         (depth_at walk.old.variables place operands.now) }
@@ -140,8 +140,8 @@ fn open_block(
 
 /// A sequence of instructions inside a block that leaves operands below it.
 fn inside(place: Place, left: &Stack<Kind>, at: usize, end: usize) -> Place
-    requires room { place.covered + length left.now ≤ spec.max_operands }
-    requires nested { place.open_blocks < spec.max_blocks }
+    requires room { place.covered + length left.now ≤ MAX_OPERANDS }
+    requires nested { place.open_blocks < MAX_BLOCKS }
     ensures { result ≡ walks.place_inside place left.now at end }
 {
     Place {

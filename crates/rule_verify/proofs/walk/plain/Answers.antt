@@ -2,7 +2,8 @@ use Rattle.std.proofs.Common.{◌∙◌, ap, sym, List, arith, ◌≡◌, ◌≤
 use Rattle.std.proofs.lemmas.Result.{err_from_is_err_and}
 use Rattle.ocl_kinds.specs.declared.kind.Kind.{Kind}
 use Rattle.rule_verify.specs.InstrKinds.{result_kind}
-use Rattle.rule_verify.specs.KindRules.{taken, max_operands}
+use Rattle.rule_verify.specs.declared.limits.TheConstants.{MAX_OPERANDS}
+use Rattle.rule_verify.specs.KindRules.{taken}
 use Rattle.rule_verify.specs.Walk.{surroundings_of}
 use Rattle.rule_verify.proofs.KnownKinds.{result_known}
 use Rattle.rule_verify.proofs.Walking.{take_wrong, stack_fails, plain_goes}
@@ -15,7 +16,7 @@ returns-in_err-take c =
 
 pub returns-then-len-place : goal.returns-then-len-place
 returns-then-len-place c =
-    let full : max_operands ≤ c.args.place.covered + length c.take.new.operands = omega (arith, c.if-len-place.true, c.len.ensures) in
+    let full : MAX_OPERANDS ≤ c.args.place.covered + length c.take.new.operands = omega (arith, c.if-len-place.true, c.len.ensures) in
     rw c.fault.ensures
     (stack_fails c.args.rule.now c.args.walk.now.variables c.args.place c.args.operands.now c.args.instr c.requires.inside c.requires.place.within c.requires.here c.take.new.operands c.requires.place
     (ap (λ (v : List Kind). taken (surroundings_of c.args.rule.now) v c.args.instr c.args.place.at c.args.operands.now) (sym c.reach.ensures.variables) ∙ c.in_ok-take.ensures.taken) c.requires.shape full)
@@ -23,7 +24,7 @@ returns-then-len-place c =
 pub returns : goal.returns
 returns c =
     let s = surroundings_of c.args.rule.now in
-    let room : c.args.place.covered + length c.take.new.operands < max_operands = omega (arith, c.if-len-place.false, c.len.ensures, c.requires.place.room) in
+    let room : c.args.place.covered + length c.take.new.operands < MAX_OPERANDS = omega (arith, c.if-len-place.false, c.len.ensures, c.requires.place.room) in
     let gives : c.result_kind.result ≡ result_kind s c.args.walk.now.variables c.args.instr c.args.operands.now = c.result_kind.ensures c.args.operands.now c.topmost-operand.ensures ∙ ap (λ (v : List Kind). result_kind s v c.args.instr c.args.operands.now) c.reach.ensures.variables in
     let known = result_known s c.requires.rule.model c.requires.rule.context c.args.walk.now.variables c.args.instr c.args.operands.now c.requires.place.variables_known c.requires.place.operands_known in (
       plain_goes c.args.rule.now c.args.walk.now.variables c.args.place c.args.operands.now c.args.instr c.requires.inside c.requires.place.within c.requires.here c.take.new.operands c.requires.place
