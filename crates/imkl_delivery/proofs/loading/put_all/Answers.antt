@@ -8,7 +8,7 @@ use Rattle.imkl_delivery.specs.declared.fault.DeliveryFault.{DeliveryFault}
 use Rattle.imkl_delivery.specs.Document.{entry_from}
 use Rattle.imkl_delivery.specs.Loading.{entry_at, put_members}
 use Rattle.imkl_delivery.proofs.Runs.{begins, goes_on_by, stops_by}
-use Rattle.imkl_delivery.proofs.Taken.{features_at, next_left, none_left}
+use Rattle.imkl_delivery.proofs.Taken.{features_at, next_left, none_left, ok_there}
 use Rattle.imkl_delivery.proofs.loading.put_all.Goals as goal
 
 pub loop-object-init : goal.loop-object-init
@@ -23,13 +23,16 @@ loop-object-init c =
       made = λ ws read. begins (λ o. put_members o (entry_at ws o).features) c.args.builder.now;
     }
 
-pub returns-in_default-clause-leaves : goal.returns-in_default-clause-leaves
-returns-in_default-clause-leaves c = λ ws read.
+-- each object is an entry, so it has features
+pub unreachable-requires : goal.unreachable-requires
+unreachable-requires c =
     let vs = c.args.objects.items in
     let v = c.in-Some.object in
+    let (ws, read) = ok_there (each entry_from (map view vs)) c.requires.entries in
     let next = next_left vs c.loop-object.place v (into_iter_items c.next.new.self) (c.loop-object.invariant.left ∙ c.in-Some.ensures.steps.0) in
     let there = features_at vs ws c.loop-object.place v read next.within next.here in
-    absurd (let bad : None ≡ Some (entry_at ws c.loop-object.place).features = c.in_default.ensures ∙ there in cc)
+    let bad : None ≡ Some (entry_at ws c.loop-object.place).features = c.in_default.ensures ∙ there in
+    cc
 
 -- an object's place in the document is its number
 pub new-requires : goal.new-requires
