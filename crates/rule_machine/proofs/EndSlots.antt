@@ -23,7 +23,7 @@ use Rattle.rule_machine.specs.Machine.{Setting, judged_by, is_what}
 use Rattle.rule_slots.specs.declared.slot.Slot.{Slot}
 use Rattle.rule_slots.specs.declared.slot.Mark.{Mark}
 use Rattle.rule_slots.specs.declared.slot.Mark.TheVariants as mark
-use Rattle.rule_machine.specs.declared.control.Turn.{Turn}
+use Rattle.rule_machine.specs.declared.piece.Turn.{Turn}
 use Rattle.rule_slots.specs.Slots.{Lists, ElementIs, ElementsAre, PartIs, SlotIs, plain_mark, invalid_mark, held_slots, truth_slot, invalid_slot, truth_number}
 use Rattle.rule_slots.specs.Operands.{is_number}
 use Rattle.rule_slots.proofs.ForAbove.{truth_by, known_is, truth_operand}

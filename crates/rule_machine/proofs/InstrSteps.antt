@@ -24,8 +24,8 @@ use Rattle.std.specs.Ordering.{int_eq}
 use Rattle.rule_machine.proofs.Blocks.{block_takes_one, branch_takes, none_opened, iteration_opens}
 use Rattle.rule_slots.specs.declared.slot.Slot.{Slot}
 use Rattle.rule_slots.specs.declared.slot.Mark.TheVariants as mark
-use Rattle.rule_machine.specs.declared.control.Control.{Control}
-use Rattle.rule_machine.specs.declared.control.Control.TheVariants as control
+use Rattle.rule_machine.specs.declared.piece.Piece.{Piece as Pending}
+use Rattle.rule_machine.specs.declared.piece.Piece.TheVariants as piece
 use Rattle.rule_slots.specs.Slots.{Lists, ElementsAre, PartIs, SlotIs, SlotsAre, plain_mark, invalid_slot}
 use Rattle.rule_machine.specs.Counts.{Balanced, LeavesOne}
 use Rattle.rule_machine.specs.StandFor.{IsNoCollection, KeepsStart, TurnIs, StandsFor, TopStandsFor, IsAt, GivesSlot, CanPerform, StepsTo, kept_elements, opening_turn, opening_mark, choice_slot}
@@ -53,16 +53,16 @@ module _ (s : Setting) (i : Instr) (go : Value → List Value → Option Configu
 
 module _ (s : Setting) (l : Lists) (code : List Instr) where
   -- what stands without an iteration on top stands
-  pub top_of : (p : List Slot) (v n : ℕ) (cs : List Control) (vs os : List Slot) (ps : List Piece) (vars ops : List Value) → StandsFor s l code p (length p) v n cs vs os ps vars ops → TopStandsFor s l code p v n cs vs os ps vars ops
+  pub top_of : (p : List Slot) (v n : ℕ) (cs : List Pending) (vs os : List Slot) (ps : List Piece) (vars ops : List Value) → StandsFor s l code p (length p) v n cs vs os ps vars ops → TopStandsFor s l code p v n cs vs os ps vars ops
   top_of p v n [] vs os ps vars ops h = h
-  top_of p v n (control.Rest a b ∷ cs) vs os ps vars ops h = h
-  top_of p v n (control.LetEnd ∷ cs) vs os ps vars ops h = h
-  top_of p v n (control.Skipped ∷ cs) vs os ps vars ops h = h
-  top_of p v n (control.Turning t ∷ cs) vs os ps vars ops h = h
-  top_of p v n (control.Opened t ∷ cs) vs os ps vars ops h = absurd h
+  top_of p v n (piece.Rest a b ∷ cs) vs os ps vars ops h = h
+  top_of p v n (piece.LetEnd ∷ cs) vs os ps vars ops h = h
+  top_of p v n (piece.Skipped ∷ cs) vs os ps vars ops h = h
+  top_of p v n (piece.Turning t ∷ cs) vs os ps vars ops h = h
+  top_of p v n (piece.Opened t ∷ cs) vs os ps vars ops h = absurd h
 
   -- a place with code before its end
-  abbrev pub is_at : (p : List Slot) (at end : ℕ) (cs : List Control) (vs os : List Slot) (ps : List Piece) (vars ops : List Value) (v n : ℕ) (t : CodeTree) → t ≡ code_tree (slice_range code at end) → LeavesOne s (Sequence t ∷ ps) v n → StandsFor s l code p (length p) v n cs vs os ps vars ops → IsAt s l code p at end cs vs os (configuration (Sequence t ∷ ps) vars ops)
+  abbrev pub is_at : (p : List Slot) (at end : ℕ) (cs : List Pending) (vs os : List Slot) (ps : List Piece) (vars ops : List Value) (v n : ℕ) (t : CodeTree) → t ≡ code_tree (slice_range code at end) → LeavesOne s (Sequence t ∷ ps) v n → StandsFor s l code p (length p) v n cs vs os ps vars ops → IsAt s l code p at end cs vs os (configuration (Sequence t ∷ ps) vars ops)
   is_at p at end cs vs os ps vars ops v n t e ends h =
       record {
         pieces = ps;
@@ -77,7 +77,7 @@ module _ (s : Setting) (l : Lists) (code : List Instr) where
       }
 
   -- a place at the end of its sequence
-  abbrev pub is_past : (p : List Slot) (at end : ℕ) (cs : List Control) (vs os : List Slot) (ps : List Piece) (vars ops : List Value) (v n : ℕ) → at ≡ end → LeavesOne s ps v n → TopStandsFor s l code p v n cs vs os ps vars ops → IsAt s l code p at end cs vs os (configuration ps vars ops)
+  abbrev pub is_past : (p : List Slot) (at end : ℕ) (cs : List Pending) (vs os : List Slot) (ps : List Piece) (vars ops : List Value) (v n : ℕ) → at ≡ end → LeavesOne s ps v n → TopStandsFor s l code p v n cs vs os ps vars ops → IsAt s l code p at end cs vs os (configuration ps vars ops)
   is_past p at end cs vs os ps vars ops v n e ends h =
       let none : slice_range code at end ≡ [] = stretch_none code at end (omega arith) in
       record {
@@ -93,12 +93,12 @@ module _ (s : Setting) (l : Lists) (code : List Instr) where
       }
 
   -- what is known there
-  abbrev pub Past : List Slot → List Control → List Slot → List Slot → Configuration → Type 0
+  abbrev pub Past : List Slot → List Pending → List Slot → List Slot → Configuration → Type 0
   Past p cs vs os c =
       (ps : List Piece) × (vars : List Value) × (ops : List Value) × (v : ℕ) × (n : ℕ) × (c ≡ configuration ps vars ops) × LeavesOne s ps v n × TopStandsFor s l code p v n cs vs os ps vars ops
 
   -- what is known of a machine at the end of its sequence
-  pub past : (p : List Slot) (at end : ℕ) (cs : List Control) (vs os : List Slot) (c : Configuration) → at ≡ end → IsAt s l code p at end cs vs os c → Past p cs vs os c
+  pub past : (p : List Slot) (at end : ℕ) (cs : List Pending) (vs os : List Slot) (c : Configuration) → at ≡ end → IsAt s l code p at end cs vs os c → Past p cs vs os c
   past p at end cs vs os c e h =
       let none : slice_range code at end ≡ [] = stretch_none code at end (omega arith) in
       let ends : LeavesOne s (Sequence End ∷ h.pieces) h.v h.n = subst (λ x. LeavesOne s (Sequence (code_tree x) ∷ h.pieces) h.v h.n) none h.ends in (
@@ -149,7 +149,7 @@ module _ (s : Setting) (l : Lists) (code : List Instr) where
       by_parts true false r eb er h p = absurd h
       by_parts false b r eb er h p = absurd h
 
-  module _ (p : List Slot) (at end : ℕ) (cs : List Control) (vs os : List Slot) (i : Instr) (c : Configuration) (lt : at < end) (le : end ≤ length code) (here : slice_get code at ≡ Some i) (h : IsAt s l code p at end cs vs os c) (goes : HasNext (step s c)) where
+  module _ (p : List Slot) (at end : ℕ) (cs : List Pending) (vs os : List Slot) (i : Instr) (c : Configuration) (lt : at < end) (le : end ≤ length code) (here : slice_get code at ≡ Some i) (h : IsAt s l code p at end cs vs os c) (goes : HasNext (step s c)) where
     at_tree : (x : CodeTree) → code_tree (slice_range code at end) ≡ x → step s c ≡ step s (configuration (Sequence x ∷ h.pieces) h.vars h.ops)
     at_tree x e = ap (step s) h.same ∙ ap (λ y. step s (configuration (Sequence y ∷ h.pieces) h.vars h.ops)) e
 
@@ -269,7 +269,7 @@ module _ (s : Setting) (l : Lists) (code : List Instr) where
           record { k = b.1.0; m = b.0; operand = r.0; left = r.1; body_ends = b.1.2; rest_ends = b.1.3; later = b.2 }
 
       -- a LET binds its operand and enters its body
-      pub let_steps : operands_above i ≡ 0 → (y : ℕ) → i ≡ instrs.Let y → at + 1 + n ≤ end → (o : Slot) (os1 : List Slot) → os ≡ o ∷ os1 → StepsTo s l code p (at + 1) (at + 1 + n) (control.LetEnd ∷ control.Rest (at + 1 + n) end ∷ cs) (o ∷ vs) os1 c
+      pub let_steps : operands_above i ≡ 0 → (y : ℕ) → i ≡ instrs.Let y → at + 1 + n ≤ end → (o : Slot) (os1 : List Slot) → os ≡ o ∷ os1 → StepsTo s l code p (at + 1) (at + 1 + n) (piece.LetEnd ∷ piece.Rest (at + 1 + n) end ∷ cs) (o ∷ vs) os1 c
       let_steps above y is nests o os1 e =
           let t = block_taken above nests o os1 e in
           let b = below above nests o os1 t.value t.rest_values e t.are in
@@ -277,7 +277,7 @@ module _ (s : Setting) (l : Lists) (code : List Instr) where
           record {
             next = configuration (Sequence body ∷ LetEnd ∷ after) (t.value ∷ h.vars) t.rest_values;
             made = t.made ∙ ap (λ j. block_opened j body (t.value ∷ t.rest_values) after h.vars t.rest_values) is;
-            stands = is_at p (at + 1) (at + 1 + n) (control.LetEnd ∷ control.Rest (at + 1 + n) end ∷ cs) (o ∷ vs) os1 (LetEnd ∷ after) (t.value ∷ h.vars) t.rest_values (suc h.v) b.k body refl
+            stands = is_at p (at + 1) (at + 1 + n) (piece.LetEnd ∷ piece.Rest (at + 1 + n) end ∷ cs) (o ∷ vs) os1 (LetEnd ∷ after) (t.value ∷ h.vars) t.rest_values (suc h.v) b.k body refl
                 (suc b.k, body_above s body b.k b.body_ends, (h.v, refl, (b.m, b.rest_ends, b.later))) (refl, pushed);
           }
 
@@ -300,11 +300,11 @@ module _ (s : Setting) (l : Lists) (code : List Instr) where
           record { same_instr = refl; same_body = refl; part = part; rest = refl; above = omega arith; keeps = keeps; trues = λ q. refl; falses = λ q. refl; invalids = refl; fitting = tt }
 
       -- its mark says that it is opened, and over invalid that it is skipped
-      opened_mark : (o : Slot) → o.mark ≡ mark.Plain → opening_mark i (at + 1) (at + 1 + n) o (length p) ≡ control.Opened (opening_turn i (at + 1) (at + 1 + n) o (length p))
-      opened_mark o e = ap (λ m. if plain_mark m then control.Opened (opening_turn i (at + 1) (at + 1 + n) o (length p)) else control.Skipped) e
+      opened_mark : (o : Slot) → o.mark ≡ mark.Plain → opening_mark i (at + 1) (at + 1 + n) o (length p) ≡ piece.Opened (opening_turn i (at + 1) (at + 1 + n) o (length p))
+      opened_mark o e = ap (λ m. if plain_mark m then piece.Opened (opening_turn i (at + 1) (at + 1 + n) o (length p)) else piece.Skipped) e
 
-      skipped_mark : (o : Slot) → o.mark ≡ mark.Invalid → opening_mark i (at + 1) (at + 1 + n) o (length p) ≡ control.Skipped
-      skipped_mark o e = ap (λ m. if plain_mark m then control.Opened (opening_turn i (at + 1) (at + 1 + n) o (length p)) else control.Skipped) e
+      skipped_mark : (o : Slot) → o.mark ≡ mark.Invalid → opening_mark i (at + 1) (at + 1 + n) o (length p) ≡ piece.Skipped
+      skipped_mark o e = ap (λ m. if plain_mark m then piece.Opened (opening_turn i (at + 1) (at + 1 + n) o (length p)) else piece.Skipped) e
 
       -- an iteration that keeps no start value leaves none
       nothing_started : (j : Instr) (os1 : List Slot) → operands_above j ≡ 0 → KeepsStart l p j os1 []
@@ -313,7 +313,7 @@ module _ (s : Setting) (l : Lists) (code : List Instr) where
 
       -- an iteration puts a mark that it is opened, or skipped over invalid
       pub iteration_steps : operands_above i ≡ 0 → is_iteration i ≡ true → at + 1 + n ≤ end → (o : Slot) (os1 : List Slot) → os ≡ o ∷ os1
-          → StepsTo s l code p (at + 1 + n) (at + 1 + n) (opening_mark i (at + 1) (at + 1 + n) o (length p) ∷ control.Rest (at + 1 + n) end ∷ cs) vs os1 c
+          → StepsTo s l code p (at + 1 + n) (at + 1 + n) (opening_mark i (at + 1) (at + 1 + n) o (length p) ∷ piece.Rest (at + 1 + n) end ∷ cs) vs os1 c
       iteration_steps above it nests o os1 e =
           let t = block_taken above nests o os1 e in
           let b = below above nests o os1 t.value t.rest_values e t.are in
@@ -321,7 +321,7 @@ module _ (s : Setting) (l : Lists) (code : List Instr) where
           by_value t.value t.rest_values b first (subst HasNext first goes)
         where
           by_value : (x : Value) (ops1 : List Value) → Below o os1 x ops1 → step s c ≡ opened_over i body x [] after h.vars ops1 → HasNext (opened_over i body x [] after h.vars ops1)
-              → StepsTo s l code p (at + 1 + n) (at + 1 + n) (opening_mark i (at + 1) (at + 1 + n) o (length p) ∷ control.Rest (at + 1 + n) end ∷ cs) vs os1 c
+              → StepsTo s l code p (at + 1 + n) (at + 1 + n) (opening_mark i (at + 1) (at + 1 + n) o (length p) ∷ piece.Rest (at + 1 + n) end ∷ cs) vs os1 c
           by_value (value.Collection k es) ops1 b first g =
               let source : Source = record { kind = k; elements = es } in
               let t = opening_turn i (at + 1) (at + 1 + n) o (length p) in
@@ -330,15 +330,15 @@ module _ (s : Setting) (l : Lists) (code : List Instr) where
               record {
                 next = configuration (Opened i body source [] ∷ after) h.vars ops1;
                 made = first;
-                stands = subst (λ m. IsAt s l code p (at + 1 + n) (at + 1 + n) (m ∷ control.Rest (at + 1 + n) end ∷ cs) vs os1 (configuration (Opened i body source [] ∷ after) h.vars ops1)) (sym (opened_mark o b.operand.0))
-                    (is_past p (at + 1 + n) (at + 1 + n) (control.Opened t ∷ control.Rest (at + 1 + n) end ∷ cs) vs os1 (Opened i body source [] ∷ after) h.vars ops1 h.v b.k refl (b.body_ends, (b.m, b.rest_ends, b.later)) (refl, start, opened_turn o k es b.operand.1, (refl, left), refl, b.body_ends));
+                stands = subst (λ m. IsAt s l code p (at + 1 + n) (at + 1 + n) (m ∷ piece.Rest (at + 1 + n) end ∷ cs) vs os1 (configuration (Opened i body source [] ∷ after) h.vars ops1)) (sym (opened_mark o b.operand.0))
+                    (is_past p (at + 1 + n) (at + 1 + n) (piece.Opened t ∷ piece.Rest (at + 1 + n) end ∷ cs) vs os1 (Opened i body source [] ∷ after) h.vars ops1 h.v b.k refl (b.body_ends, (b.m, b.rest_ends, b.later)) (refl, start, opened_turn o k es b.operand.1, (refl, left), refl, b.body_ends));
               }
           by_value value.Invalid ops1 b first g =
               record {
                 next = configuration (Skipped ∷ after) h.vars ops1;
                 made = first;
-                stands = subst (λ m. IsAt s l code p (at + 1 + n) (at + 1 + n) (m ∷ control.Rest (at + 1 + n) end ∷ cs) vs os1 (configuration (Skipped ∷ after) h.vars ops1)) (sym (skipped_mark o b.operand))
-                    (is_past p (at + 1 + n) (at + 1 + n) (control.Skipped ∷ control.Rest (at + 1 + n) end ∷ cs) vs os1 (Skipped ∷ after) h.vars ops1 h.v b.k refl (b.m, b.rest_ends, b.later) (refl, b.left));
+                stands = subst (λ m. IsAt s l code p (at + 1 + n) (at + 1 + n) (m ∷ piece.Rest (at + 1 + n) end ∷ cs) vs os1 (configuration (Skipped ∷ after) h.vars ops1)) (sym (skipped_mark o b.operand))
+                    (is_past p (at + 1 + n) (at + 1 + n) (piece.Skipped ∷ piece.Rest (at + 1 + n) end ∷ cs) vs os1 (Skipped ∷ after) h.vars ops1 h.v b.k refl (b.m, b.rest_ends, b.later) (refl, b.left));
               }
           by_value x ops1 b first g = absurd g
 
@@ -429,7 +429,7 @@ module _ (s : Setting) (l : Lists) (code : List Instr) where
 
       -- FOLD puts a mark that it is opened, and leaves its start value; or that it is skipped over invalid
       pub fold_steps : (operands_above i ≡ 0 → ⊥) → at + 1 + n ≤ end → (a o : Slot) (os1 : List Slot) → os ≡ a ∷ o ∷ os1
-          → StepsTo s l code p (at + 1 + n) (at + 1 + n) (opening_mark i (at + 1) (at + 1 + n) o (length p) ∷ control.Rest (at + 1 + n) end ∷ cs) vs (if plain_mark o.mark then a ∷ os1 else os1) c
+          → StepsTo s l code p (at + 1 + n) (at + 1 + n) (opening_mark i (at + 1) (at + 1 + n) o (length p) ∷ piece.Rest (at + 1 + n) end ∷ cs) vs (if plain_mark o.mark then a ∷ os1 else os1) c
       fold_steps above nests a o os1 e =
           let t = fold_taken above nests a o os1 e in
           by_value t.source t t.source_is t.made t.goes_on
@@ -439,7 +439,7 @@ module _ (s : Setting) (l : Lists) (code : List Instr) where
           start_left j above x is none = absurd (above refl)
 
           by_value : (x : Value) → (t : FoldTaken a o os1) → SlotIs l p (length p) o x → step s c ≡ opened_over i body x (t.start ∷ []) after h.vars t.rest_values → HasNext (opened_over i body x (t.start ∷ []) after h.vars t.rest_values)
-              → StepsTo s l code p (at + 1 + n) (at + 1 + n) (opening_mark i (at + 1) (at + 1 + n) o (length p) ∷ control.Rest (at + 1 + n) end ∷ cs) vs (if plain_mark o.mark then a ∷ os1 else os1) c
+              → StepsTo s l code p (at + 1 + n) (at + 1 + n) (opening_mark i (at + 1) (at + 1 + n) o (length p) ∷ piece.Rest (at + 1 + n) end ∷ cs) vs (if plain_mark o.mark then a ∷ os1 else os1) c
           by_value (value.Collection k es) b is first g =
               let source : Source = record { kind = k; elements = es } in
               let t = opening_turn i (at + 1) (at + 1 + n) o (length p) in
@@ -450,9 +450,9 @@ module _ (s : Setting) (l : Lists) (code : List Instr) where
               record {
                 next = d;
                 made = first;
-                stands = subst (λ z. IsAt s l code p (at + 1 + n) (at + 1 + n) (opening_mark i (at + 1) (at + 1 + n) o (length p) ∷ control.Rest (at + 1 + n) end ∷ cs) vs z d) (sym slots) (
-                    subst (λ z. IsAt s l code p (at + 1 + n) (at + 1 + n) (z ∷ control.Rest (at + 1 + n) end ∷ cs) vs (a ∷ os1) d) (sym (opened_mark o is.0))
-                    (is_past p (at + 1 + n) (at + 1 + n) (control.Opened t ∷ control.Rest (at + 1 + n) end ∷ cs) vs (a ∷ os1) (Opened i body source (b.start ∷ []) ∷ after) h.vars b.rest_values h.v b.k refl (b.body_ends, (b.m, b.rest_ends, b.later)) (refl, start.0, opened_turn o k es is.1, (refl, left), refl, b.body_ends)));
+                stands = subst (λ z. IsAt s l code p (at + 1 + n) (at + 1 + n) (opening_mark i (at + 1) (at + 1 + n) o (length p) ∷ piece.Rest (at + 1 + n) end ∷ cs) vs z d) (sym slots) (
+                    subst (λ z. IsAt s l code p (at + 1 + n) (at + 1 + n) (z ∷ piece.Rest (at + 1 + n) end ∷ cs) vs (a ∷ os1) d) (sym (opened_mark o is.0))
+                    (is_past p (at + 1 + n) (at + 1 + n) (piece.Opened t ∷ piece.Rest (at + 1 + n) end ∷ cs) vs (a ∷ os1) (Opened i body source (b.start ∷ []) ∷ after) h.vars b.rest_values h.v b.k refl (b.body_ends, (b.m, b.rest_ends, b.later)) (refl, start.0, opened_turn o k es is.1, (refl, left), refl, b.body_ends)));
               }
           by_value value.Invalid b is first g =
               let d = configuration (Skipped ∷ after) h.vars b.rest_values in
@@ -460,9 +460,9 @@ module _ (s : Setting) (l : Lists) (code : List Instr) where
               record {
                 next = d;
                 made = first;
-                stands = subst (λ z. IsAt s l code p (at + 1 + n) (at + 1 + n) (opening_mark i (at + 1) (at + 1 + n) o (length p) ∷ control.Rest (at + 1 + n) end ∷ cs) vs z d) (sym slots) (
-                    subst (λ z. IsAt s l code p (at + 1 + n) (at + 1 + n) (z ∷ control.Rest (at + 1 + n) end ∷ cs) vs os1 d) (sym (skipped_mark o is))
-                    (is_past p (at + 1 + n) (at + 1 + n) (control.Skipped ∷ control.Rest (at + 1 + n) end ∷ cs) vs os1 (Skipped ∷ after) h.vars b.rest_values h.v b.k refl (b.m, b.rest_ends, b.later) (refl, b.left)));
+                stands = subst (λ z. IsAt s l code p (at + 1 + n) (at + 1 + n) (opening_mark i (at + 1) (at + 1 + n) o (length p) ∷ piece.Rest (at + 1 + n) end ∷ cs) vs z d) (sym slots) (
+                    subst (λ z. IsAt s l code p (at + 1 + n) (at + 1 + n) (z ∷ piece.Rest (at + 1 + n) end ∷ cs) vs os1 d) (sym (skipped_mark o is))
+                    (is_past p (at + 1 + n) (at + 1 + n) (piece.Skipped ∷ piece.Rest (at + 1 + n) end ∷ cs) vs os1 (Skipped ∷ after) h.vars b.rest_values h.v b.k refl (b.m, b.rest_ends, b.later) (refl, b.left)));
               }
           by_value x b is first g = absurd g
 
@@ -498,8 +498,8 @@ module _ (s : Setting) (l : Lists) (code : List Instr) where
 
       -- where a condition leads
       abbrev pub BranchSteps : List Slot → Option Bool → Type 0
-      BranchSteps os1 (Some true) = StepsTo s l code p (at + 1) (at + 1 + n) (control.Rest (at + 1 + n + m) end ∷ cs) vs os1 c
-      BranchSteps os1 (Some false) = StepsTo s l code p (at + 1 + n) (at + 1 + n + m) (control.Rest (at + 1 + n + m) end ∷ cs) vs os1 c
+      BranchSteps os1 (Some true) = StepsTo s l code p (at + 1) (at + 1 + n) (piece.Rest (at + 1 + n + m) end ∷ cs) vs os1 c
+      BranchSteps os1 (Some false) = StepsTo s l code p (at + 1 + n) (at + 1 + n + m) (piece.Rest (at + 1 + n + m) end ∷ cs) vs os1 c
       BranchSteps os1 None = StepsTo s l code p (at + 1 + n + m) end cs vs (invalid_slot ∷ os1) c
 
       -- an IF goes where its condition leads
@@ -529,7 +529,7 @@ module _ (s : Setting) (l : Lists) (code : List Instr) where
               subst (BranchSteps os1) (sym choice) (record {
                 next = configuration (Sequence first ∷ Sequence last ∷ h.pieces) h.vars ops1;
                 made = e;
-                stands = is_at p (at + 1) (at + 1 + n) (control.Rest (at + 1 + n + m) end ∷ cs) vs os1 (Sequence last ∷ h.pieces) h.vars ops1 h.v b.1.0 first refl
+                stands = is_at p (at + 1) (at + 1 + n) (piece.Rest (at + 1 + n + m) end ∷ cs) vs os1 (Sequence last ∷ h.pieces) h.vars ops1 h.v b.1.0 first refl
                     (suc b.1.0, body_above s first b.1.0 b.1.2, (b.0, b.1.4, b.2)) (refl, r.1);
               })
           by_value (value.Single (scalar.Bool false)) ops1 b r e g =
@@ -537,7 +537,7 @@ module _ (s : Setting) (l : Lists) (code : List Instr) where
               subst (BranchSteps os1) (sym choice) (record {
                 next = configuration (Sequence second ∷ Sequence last ∷ h.pieces) h.vars ops1;
                 made = e;
-                stands = is_at p (at + 1 + n) (at + 1 + n + m) (control.Rest (at + 1 + n + m) end ∷ cs) vs os1 (Sequence last ∷ h.pieces) h.vars ops1 h.v b.1.0 second refl
+                stands = is_at p (at + 1 + n) (at + 1 + n + m) (piece.Rest (at + 1 + n + m) end ∷ cs) vs os1 (Sequence last ∷ h.pieces) h.vars ops1 h.v b.1.0 second refl
                     (suc b.1.0, body_above s second b.1.0 b.1.3, (b.0, b.1.4, b.2)) (refl, r.1);
               })
           by_value value.Null ops1 b r e g =

@@ -7,28 +7,28 @@ use Rattle.rule_verify.specs.InstrKinds.{gathers}
 use Rattle.rule_machine.specs.Live.{is_iteration}
 use Rattle.rule_machine.specs.Machine.{Setting, Configuration}
 use Rattle.rule_slots.specs.declared.slot.Slot.{Slot}
-use Rattle.rule_machine.specs.declared.control.Control.TheVariants as control
-use Rattle.rule_machine.specs.declared.control.Control.{Control}
+use Rattle.rule_machine.specs.declared.piece.Piece.TheVariants as piece
+use Rattle.rule_machine.specs.declared.piece.Piece.{Piece as Pending}
 use Rattle.rule_slots.specs.Slots.{Lists, plain_mark}
 use Rattle.rule_machine.specs.StandFor.{IsAt, opening_turn, opening_mark}
-use Rattle.rule_machine.specs.declared.control.Turn.{Turn}
+use Rattle.rule_machine.specs.declared.piece.Turn.{Turn}
 use Rattle.rule_machine.specs.declared.state.State.{State}
 use Rattle.rule_machine.specs.declared.task.Task.{Task}
-use Rattle.rule_machine.specs.Shown.{IsControlIn, Kept, HasStep, BetweenIn, TurnEnded, WentOn, Stepped}
+use Rattle.rule_machine.specs.Shown.{IsPieceIn, Kept, HasStep, BetweenIn, TurnEnded, WentOn, Stepped}
 
 -- a place stays where its stacks are equal to others
-pub is_with : (s : Setting) (l : Lists) (code : List Instr) (p : List Slot) (at end : ℕ) (cs cs' : List Control) (vs vs' os os' : List Slot) (d : Configuration) → cs' ≡ cs → vs' ≡ vs → os' ≡ os → IsAt s l code p at end cs vs os d → IsAt s l code p at end cs' vs' os' d
+pub is_with : (s : Setting) (l : Lists) (code : List Instr) (p : List Slot) (at end : ℕ) (cs cs' : List Pending) (vs vs' os os' : List Slot) (d : Configuration) → cs' ≡ cs → vs' ≡ vs → os' ≡ os → IsAt s l code p at end cs vs os d → IsAt s l code p at end cs' vs' os' d
 is_with s l code p at end cs cs' vs vs' os os' d ec ev eo h =
     subst (λ x. IsAt s l code p at end x vs' os' d) (sym ec) (subst (λ x. IsAt s l code p at end cs x os' d) (sym ev) (subst (λ x. IsAt s l code p at end cs vs x d) (sym eo) h))
 
 -- and where its pool is equal to another
-pub is_under : (s : Setting) (l : Lists) (code : List Instr) (p p' : List Slot) (at end : ℕ) (cs : List Control) (vs os : List Slot) (d : Configuration) → p' ≡ p → IsAt s l code p at end cs vs os d → IsAt s l code p' at end cs vs os d
+pub is_under : (s : Setting) (l : Lists) (code : List Instr) (p p' : List Slot) (at end : ℕ) (cs : List Pending) (vs os : List Slot) (d : Configuration) → p' ≡ p → IsAt s l code p at end cs vs os d → IsAt s l code p' at end cs vs os d
 is_under s l code p p' at end cs vs os d e h = subst (λ x. IsAt s l code x at end cs vs os d) (sym e) h
 
 -- what is kept from one state to the next, and from that to another
 pub kept_joined : (m m' m'' : State) → Kept m m' → Kept m' m'' → Kept m m''
 kept_joined m m' m'' h k =
-    record { started = k.started ∙ h.started; count = k.count ∙ h.count; room = record { operands = k.room.operands ∙ h.room.operands; variables = k.room.variables ∙ h.room.variables; controls = k.room.controls ∙ h.room.controls } }
+    record { started = k.started ∙ h.started; count = k.count ∙ h.count; room = record { operands = k.room.operands ∙ h.room.operands; variables = k.room.variables ∙ h.room.variables; pieces = k.room.pieces ∙ h.room.pieces } }
 
 -- a machine whose turn ended, and which then went on, has made a step
 pub turn_made : (t : Task) (u : Turn) (last : Slot) (m m' m'' : State) → TurnEnded t u last m m' → WentOn t u last m' m'' → Stepped t m m''
@@ -76,9 +76,9 @@ gathers_none code i listed none = by_bool (gathers i) refl
     by_bool true e = let bad = sym none ∙ listed e in cc
 
 -- the mark of an opening lies in the code
-pub mark_in : (code : List Instr) (i : Instr) (from end : ℕ) (source : Slot) (opened : ℕ) → is_iteration i ≡ true → from ≤ end → end ≤ length code → (at : ℕ) → slice_get code at ≡ Some i → IsControlIn code (opening_mark i from end source opened)
+pub mark_in : (code : List Instr) (i : Instr) (from end : ℕ) (source : Slot) (opened : ℕ) → is_iteration i ≡ true → from ≤ end → end ≤ length code → (at : ℕ) → slice_get code at ≡ Some i → IsPieceIn code (opening_mark i from end source opened)
 mark_in code i from end source opened it order within at here = by_mark (plain_mark source.mark)
   where
-    by_mark : (b : Bool) → IsControlIn code (if b then control.Opened (opening_turn i from end source opened) else control.Skipped)
+    by_mark : (b : Bool) → IsPieceIn code (if b then piece.Opened (opening_turn i from end source opened) else piece.Skipped)
     by_mark true = record { iterates = it; order = order; within = within; next = omega arith; listed = λ g. listed code at i here g }
     by_mark false = tt

@@ -15,9 +15,9 @@ use Rattle.rule_values.specs.Endings.{Source, ending}
 use Rattle.rule_machine.specs.Machine.{Setting, judged_by, is_what, Piece, Sequence, LetEnd, Opened, Turning, Skipped, Configuration, configuration, bound_values, keeping, turned, step}
 use Rattle.rule_machine.specs.Shown.{HasNext}
 use Rattle.rule_slots.specs.declared.slot.Slot.{Slot}
-use Rattle.rule_machine.specs.declared.control.Turn.{Turn}
-use Rattle.rule_machine.specs.declared.control.Control.{Control}
-use Rattle.rule_machine.specs.declared.control.Control.TheVariants as control
+use Rattle.rule_machine.specs.declared.piece.Turn.{Turn}
+use Rattle.rule_machine.specs.declared.piece.Piece.{Piece as Pending}
+use Rattle.rule_machine.specs.declared.piece.Piece.TheVariants as piece
 use Rattle.rule_slots.specs.Slots.{Lists, ElementsAre, SlotIs, SlotsAre, invalid_slot, held_slots}
 use Rattle.rule_machine.specs.Counts.{Balanced, LeavesOne}
 use Rattle.rule_machine.specs.StandFor.{Keeps, KeepsLast, KeepsStart, TurnIs, TurnKeeps, Cut, bound_slots, StandsFor, TopStandsFor, IsAt, StepsTo, Between, kept_elements, gives_truths, following_turn, count_passing}
@@ -31,12 +31,12 @@ module _ (s : Setting) (l : Lists) (code : List Instr) (p : List Slot) where
   -- ---- the end of a LET
 
   -- the end of a LET drops its variable
-  pub let_end_steps : (at end : ℕ) (cs : List Control) (o : Slot) (vs os : List Slot) (c : Configuration) → at ≡ end → IsAt s l code p at end (control.LetEnd ∷ cs) (o ∷ vs) os c → StepsTo s l code p at end cs vs os c
+  pub let_end_steps : (at end : ℕ) (cs : List Pending) (o : Slot) (vs os : List Slot) (c : Configuration) → at ≡ end → IsAt s l code p at end (piece.LetEnd ∷ cs) (o ∷ vs) os c → StepsTo s l code p at end cs vs os c
   let_end_steps at end cs o vs os c e h =
-      let f = past s l code p at end (control.LetEnd ∷ cs) (o ∷ vs) os c e h in
+      let f = past s l code p at end (piece.LetEnd ∷ cs) (o ∷ vs) os c e h in
       by_pieces f.0 f.1 f.2 f.3 f.4 f.5 f.6 f.7
     where
-      by_pieces : (ps : List Piece) (vars ops : List Value) (v n : ℕ) → c ≡ configuration ps vars ops → LeavesOne s ps v n → TopStandsFor s l code p v n (control.LetEnd ∷ cs) (o ∷ vs) os ps vars ops → StepsTo s l code p at end cs vs os c
+      by_pieces : (ps : List Piece) (vars ops : List Value) (v n : ℕ) → c ≡ configuration ps vars ops → LeavesOne s ps v n → TopStandsFor s l code p v n (piece.LetEnd ∷ cs) (o ∷ vs) os ps vars ops → StepsTo s l code p at end cs vs os c
       by_pieces (LetEnd ∷ q) [] ops v n same ends h = absurd (all_vars s l code p (length p) v n cs (o ∷ vs) os q [] ops h)
       by_pieces (LetEnd ∷ q) (x ∷ vars) ops v n same ends h =
           let r = vars_pop s l code p (length p) ends.0 n cs o vs os q x vars ops (subst (λ m. StandsFor s l code p (length p) m n cs (o ∷ vs) os q (x ∷ vars) ops) ends.1 h) in
@@ -48,12 +48,12 @@ module _ (s : Setting) (l : Lists) (code : List Instr) (p : List Slot) where
       by_pieces ps vars ops v n same ends h = absurd h
 
   -- a LET's end finds its variable
-  pub let_end_has_variable : (at end : ℕ) (cs : List Control) (os : List Slot) (c : Configuration) → at ≡ end → IsAt s l code p at end (control.LetEnd ∷ cs) [] os c → HasNext (step s c) → ⊥
+  pub let_end_has_variable : (at end : ℕ) (cs : List Pending) (os : List Slot) (c : Configuration) → at ≡ end → IsAt s l code p at end (piece.LetEnd ∷ cs) [] os c → HasNext (step s c) → ⊥
   let_end_has_variable at end cs os c e h g =
-      let f = past s l code p at end (control.LetEnd ∷ cs) [] os c e h in
+      let f = past s l code p at end (piece.LetEnd ∷ cs) [] os c e h in
       by_pieces f.0 f.1 f.2 f.3 f.4 f.5 f.7
     where
-      by_pieces : (ps : List Piece) (vars ops : List Value) (v n : ℕ) → c ≡ configuration ps vars ops → TopStandsFor s l code p v n (control.LetEnd ∷ cs) [] os ps vars ops → ⊥
+      by_pieces : (ps : List Piece) (vars ops : List Value) (v n : ℕ) → c ≡ configuration ps vars ops → TopStandsFor s l code p v n (piece.LetEnd ∷ cs) [] os ps vars ops → ⊥
       by_pieces (LetEnd ∷ q) [] ops v n same h = subst HasNext (ap (step s) same) g
       by_pieces (LetEnd ∷ q) (x ∷ vars) ops v n same h = all_vars s l code p (length p) v n cs [] os q (x ∷ vars) ops h
       by_pieces ps vars ops v n same h = absurd h
@@ -61,12 +61,12 @@ module _ (s : Setting) (l : Lists) (code : List Instr) (p : List Slot) where
   -- ---- an iteration over invalid
 
   -- it gives invalid
-  pub skip_steps : (at end : ℕ) (cs : List Control) (vs os : List Slot) (c : Configuration) → at ≡ end → IsAt s l code p at end (control.Skipped ∷ cs) vs os c → StepsTo s l code p at end cs vs (invalid_slot ∷ os) c
+  pub skip_steps : (at end : ℕ) (cs : List Pending) (vs os : List Slot) (c : Configuration) → at ≡ end → IsAt s l code p at end (piece.Skipped ∷ cs) vs os c → StepsTo s l code p at end cs vs (invalid_slot ∷ os) c
   skip_steps at end cs vs os c e h =
-      let f = past s l code p at end (control.Skipped ∷ cs) vs os c e h in
+      let f = past s l code p at end (piece.Skipped ∷ cs) vs os c e h in
       by_pieces f.0 f.1 f.2 f.3 f.4 f.5 f.6 f.7
     where
-      by_pieces : (ps : List Piece) (vars ops : List Value) (v n : ℕ) → c ≡ configuration ps vars ops → LeavesOne s ps v n → TopStandsFor s l code p v n (control.Skipped ∷ cs) vs os ps vars ops → StepsTo s l code p at end cs vs (invalid_slot ∷ os) c
+      by_pieces : (ps : List Piece) (vars ops : List Value) (v n : ℕ) → c ≡ configuration ps vars ops → LeavesOne s ps v n → TopStandsFor s l code p v n (piece.Skipped ∷ cs) vs os ps vars ops → StepsTo s l code p at end cs vs (invalid_slot ∷ os) c
       by_pieces (Skipped ∷ q) vars ops v n same ends h =
           record {
             next = configuration q vars (value.Invalid ∷ ops);
@@ -90,7 +90,7 @@ module _ (s : Setting) (l : Lists) (code : List Instr) (p : List Slot) where
   kept_in_turn i last bodies kept k = k
 
   -- its next turn begins
-  pub turn_begins : (t : Turn) (last : Slot) (cs : List Control) (vs os : List Slot) (d : Configuration) (e : Slot) → Between s l code p t last cs vs os d → slice_get (held_slots l p t.source) t.next ≡ Some e → IsAt s l code p t.from t.end (control.Turning (following_turn t) ∷ cs) (bound_slots t.instr e last ++ vs) os d
+  pub turn_begins : (t : Turn) (last : Slot) (cs : List Pending) (vs os : List Slot) (d : Configuration) (e : Slot) → Between s l code p t last cs vs os d → slice_get (held_slots l p t.source) t.next ≡ Some e → IsAt s l code p t.from t.end (piece.Turning (following_turn t) ∷ cs) (bound_slots t.instr e last ++ vs) os d
   turn_begins t last cs vs os d e b g =
       let x = element_next l (held_slots l p t.source) b.source.elements t.next e b.turn.part.elements g in
       let left1 = drop (suc t.next) b.source.elements in
@@ -114,13 +114,13 @@ module _ (s : Setting) (l : Lists) (code : List Instr) (p : List Slot) where
       let are = turn_bound b.i e last x.0 b.bodies b.kept b.keeps (element_slot l p (length p) e x.0 x.2) in
       let bound : Cut l p (length p) (bound_count b.i) (bound_slots b.i e last ++ vs) (bound_values b.i x.0 b.kept ++ b.vars) =
       record { here = bound_slots b.i e last; below = vs; here_values = bound_values b.i x.0 b.kept; below_values = b.vars; slots = refl; values = refl; are = are.0; long = are.1 } in
-      let here : StandsFor s l code p (length p) (bound_count b.i) 0 (control.Turning (following_turn t) ∷ cs) (bound_slots b.i e last ++ vs) os (Turning b.i b.body b.source left1 b.kept ∷ b.q) (bound_values b.i x.0 b.kept ++ b.vars) b.ops =
+      let here : StandsFor s l code p (length p) (bound_count b.i) 0 (piece.Turning (following_turn t) ∷ cs) (bound_slots b.i e last ++ vs) os (Turning b.i b.body b.source left1 b.kept ∷ b.q) (bound_values b.i x.0 b.kept ++ b.vars) b.ops =
       (bound, cut_empty l p (length p) os b.ops, keeps, b.body_ends, b.w, b.m, b.later, b.stand) in
       let ed : d ≡ configuration (Sequence b.body ∷ Turning b.i b.body b.source left1 b.kept ∷ b.q) (bound_values b.i x.0 b.kept ++ b.vars) b.ops =
       b.same ∙ ap (λ y. turned b.i b.body b.source y b.kept b.q b.vars b.ops) left in
-      let at = is_at s l code p t.from t.end (control.Turning (following_turn t) ∷ cs) (bound_slots b.i e last ++ vs) os (Turning b.i b.body b.source left1 b.kept ∷ b.q) (bound_values b.i x.0 b.kept ++ b.vars) b.ops (bound_count b.i) 0 b.body b.turn.same_body (1, b.body_ends, (refl, refl)) here in
-      subst (λ j. IsAt s l code p t.from t.end (control.Turning (following_turn t) ∷ cs) (bound_slots j e last ++ vs) os d) b.turn.same_instr
-      (subst (IsAt s l code p t.from t.end (control.Turning (following_turn t) ∷ cs) (bound_slots b.i e last ++ vs) os) (sym ed) at)
+      let at = is_at s l code p t.from t.end (piece.Turning (following_turn t) ∷ cs) (bound_slots b.i e last ++ vs) os (Turning b.i b.body b.source left1 b.kept ∷ b.q) (bound_values b.i x.0 b.kept ++ b.vars) b.ops (bound_count b.i) 0 b.body b.turn.same_body (1, b.body_ends, (refl, refl)) here in
+      subst (λ j. IsAt s l code p t.from t.end (piece.Turning (following_turn t) ∷ cs) (bound_slots j e last ++ vs) os d) b.turn.same_instr
+      (subst (IsAt s l code p t.from t.end (piece.Turning (following_turn t) ∷ cs) (bound_slots b.i e last ++ vs) os) (sym ed) at)
 
   -- the start value of FOLD is the topmost operand; of every other iteration no slot is asked
   abbrev pub StartIs : Instr → List Slot → Slot → Type 0
@@ -135,13 +135,13 @@ module _ (s : Setting) (l : Lists) (code : List Instr) (p : List Slot) where
   start_kept i os start kept k top = k
 
   -- the step of an iteration that was opened leads to before its first turn, or its end
-  pub open_steps : (at end : ℕ) (t : Turn) (start : Slot) (cs : List Control) (vs os : List Slot) (c : Configuration) → at ≡ end → StartIs t.instr os start → IsAt s l code p at end (control.Opened t ∷ cs) vs os c
+  pub open_steps : (at end : ℕ) (t : Turn) (start : Slot) (cs : List Pending) (vs os : List Slot) (c : Configuration) → at ≡ end → StartIs t.instr os start → IsAt s l code p at end (piece.Opened t ∷ cs) vs os c
       → (d : Configuration) × (step s c ≡ Some d) × Between s l code p t start cs vs (drop (operands_above t.instr) os) d
   open_steps at end t start cs vs os c e top h =
-      let f = past s l code p at end (control.Opened t ∷ cs) vs os c e h in
+      let f = past s l code p at end (piece.Opened t ∷ cs) vs os c e h in
       by_pieces f.0 f.1 f.2 f.3 f.4 f.5 f.6 f.7
     where
-      by_pieces : (ps : List Piece) (vars ops : List Value) (v n : ℕ) → c ≡ configuration ps vars ops → LeavesOne s ps v n → TopStandsFor s l code p v n (control.Opened t ∷ cs) vs os ps vars ops → (d : Configuration) × (step s c ≡ Some d) × Between s l code p t start cs vs (drop (operands_above t.instr) os) d
+      by_pieces : (ps : List Piece) (vars ops : List Value) (v n : ℕ) → c ≡ configuration ps vars ops → LeavesOne s ps v n → TopStandsFor s l code p v n (piece.Opened t ∷ cs) vs os ps vars ops → (d : Configuration) × (step s c ≡ Some d) × Between s l code p t start cs vs (drop (operands_above t.instr) os) d
       by_pieces (Opened i body source kept ∷ q) vars ops v n same ends h = (
         turned i body source source.elements kept q vars ops,
         ap (step s) same,
@@ -169,21 +169,21 @@ module _ (s : Setting) (l : Lists) (code : List Instr) (p : List Slot) where
       by_pieces ps vars ops v n same ends h = absurd h
 
   -- an iteration that was opened with its start value finds it on the operands
-  pub start_there : (at end : ℕ) (t : Turn) (cs : List Control) (vs os : List Slot) (c : Configuration) → at ≡ end → IsAt s l code p at end (control.Opened t ∷ cs) vs os c → (operands_above t.instr ≡ 0 → ⊥) → os ≡ [] → ⊥
+  pub start_there : (at end : ℕ) (t : Turn) (cs : List Pending) (vs os : List Slot) (c : Configuration) → at ≡ end → IsAt s l code p at end (piece.Opened t ∷ cs) vs os c → (operands_above t.instr ≡ 0 → ⊥) → os ≡ [] → ⊥
   start_there at end t cs vs os c e h above none =
-      let f = past s l code p at end (control.Opened t ∷ cs) vs os c e h in
+      let f = past s l code p at end (piece.Opened t ∷ cs) vs os c e h in
       by_pieces f.0 f.1 f.2 f.3 f.4 f.7
     where
       by_instr : (i : Instr) (kept : List Value) → i ≡ t.instr → KeepsStart l p i os kept → ⊥
       by_instr (instrs.Fold w n) kept is k = let bad : k.0 ∷ k.1 ≡ [] = sym k.3 ∙ none in cc
       by_instr i kept is k = above (sym (ap operands_above is))
 
-      by_pieces : (ps : List Piece) (vars ops : List Value) (v n : ℕ) → TopStandsFor s l code p v n (control.Opened t ∷ cs) vs os ps vars ops → ⊥
+      by_pieces : (ps : List Piece) (vars ops : List Value) (v n : ℕ) → TopStandsFor s l code p v n (piece.Opened t ∷ cs) vs os ps vars ops → ⊥
       by_pieces (Opened i body source kept ∷ q) vars ops v n h = by_instr i kept h.2.same_instr h.1
       by_pieces ps vars ops v n h = absurd h
 
   -- a turn's end: what its body gave, and what stands below
-  pub record Leaving (t : Turn) (cs : List Control) (vs : List Slot) (y : Slot) (os : List Slot) (c : Configuration) : Type 0 where
+  pub record Leaving (t : Turn) (cs : List Pending) (vs : List Slot) (y : Slot) (os : List Slot) (c : Configuration) : Type 0 where
     pub i : Instr
     pub body : CodeTree
     pub source : Source
@@ -209,9 +209,9 @@ module _ (s : Setting) (l : Lists) (code : List Instr) (p : List Slot) where
     pub turns : length bodies + 1 ≡ t.next
 
   -- the step of an iteration in a turn takes the value of its body
-  pub leaves : (at end : ℕ) (t : Turn) (cs : List Control) (vs : List Slot) (y : Slot) (os : List Slot) (c : Configuration) → at ≡ end → IsAt s l code p at end (control.Turning t ∷ cs) vs (y ∷ os) c → HasNext (step s c) → Leaving t cs (drop (bound_count t.instr) vs) y os c
+  pub leaves : (at end : ℕ) (t : Turn) (cs : List Pending) (vs : List Slot) (y : Slot) (os : List Slot) (c : Configuration) → at ≡ end → IsAt s l code p at end (piece.Turning t ∷ cs) vs (y ∷ os) c → HasNext (step s c) → Leaving t cs (drop (bound_count t.instr) vs) y os c
   leaves at end t cs vs y os c e h g =
-      let f = past s l code p at end (control.Turning t ∷ cs) vs (y ∷ os) c e h in
+      let f = past s l code p at end (piece.Turning t ∷ cs) vs (y ∷ os) c e h in
       by_pieces f.0 f.1 f.2 f.3 f.4 f.5 f.6 f.7 (subst HasNext (ap (step s) f.5) g)
     where
       both : (a b : Bool) (d : Configuration) → HasNext (if a && b then Some d else None) → b ≡ true
@@ -219,9 +219,9 @@ module _ (s : Setting) (l : Lists) (code : List Instr) (p : List Slot) where
       both true false d g = absurd g
       both false b d g = absurd g
 
-      by_pieces : (ps : List Piece) (vars ops : List Value) (v n : ℕ) → c ≡ configuration ps vars ops → LeavesOne s ps v n → TopStandsFor s l code p v n (control.Turning t ∷ cs) vs (y ∷ os) ps vars ops → HasNext (step s (configuration ps vars ops)) → Leaving t cs (drop (bound_count t.instr) vs) y os c
+      by_pieces : (ps : List Piece) (vars ops : List Value) (v n : ℕ) → c ≡ configuration ps vars ops → LeavesOne s ps v n → TopStandsFor s l code p v n (piece.Turning t ∷ cs) vs (y ∷ os) ps vars ops → HasNext (step s (configuration ps vars ops)) → Leaving t cs (drop (bound_count t.instr) vs) y os c
       by_pieces (Turning i body source left kept ∷ q) vars [] v n same ends h g =
-          absurd (omega (arith, ends.1, ops_there s l code p (length p) v n (control.Turning t ∷ cs) vs (y ∷ os) (Turning i body source left kept ∷ q) vars [] h))
+          absurd (omega (arith, ends.1, ops_there s l code p (length p) v n (piece.Turning t ∷ cs) vs (y ∷ os) (Turning i body source left kept ∷ q) vars [] h))
       by_pieces (Turning i body source left kept ∷ q) vars (z ∷ ops) v n same ends h g =
           let count = bound_count i in
           let b = cut_pop l p (length p) n 0 (omega (arith, ends.1)) y os z ops h.1 in
@@ -279,7 +279,7 @@ turn_keeping t n a b c = record t { kept = t.kept + n; trues = a; falses = b; in
 
 module _ (s : Setting) (l : Lists) (code : List Instr) (p p2 : List Slot) where
   -- with what its body gave, and the pool cut back to what it keeps with more, an iteration stands between two turns
-  pub left_behind : (t : Turn) (cs : List Control) (vs : List Slot) (y : Slot) (os : List Slot) (c : Configuration) (more : List Slot) (es : List Element) (a b k : ℕ)
+  pub left_behind : (t : Turn) (cs : List Pending) (vs : List Slot) (y : Slot) (os : List Slot) (c : Configuration) (more : List Slot) (es : List Element) (a b k : ℕ)
       → (h : Leaving s l code p t cs vs y os c) → p2 ≡ take (t.opened + t.kept) p ++ more → ElementsAre l more es
       → kept_elements t.instr h.source.elements (h.bodies ++ h.value ∷ []) ≡ kept_elements t.instr h.source.elements h.bodies ++ es
       → (gives_truths t.instr ≡ true → a ≡ count_passing is_true (h.bodies ++ h.value ∷ [])) → (gives_truths t.instr ≡ true → b ≡ count_passing is_false (h.bodies ++ h.value ∷ [])) → k ≡ count_passing is_invalid (h.bodies ++ h.value ∷ [])
@@ -331,7 +331,7 @@ module _ (s : Setting) (l : Lists) (code : List Instr) (p p2 : List Slot) where
       )
 
   -- with no element left an iteration ends, and its result is an operand
-  pub turns_end : (at end : ℕ) (t : Turn) (last : Slot) (cs : List Control) (vs os : List Slot) (r : Slot) (d : Configuration)
+  pub turns_end : (at end : ℕ) (t : Turn) (last : Slot) (cs : List Pending) (vs os : List Slot) (r : Slot) (d : Configuration)
       → at ≡ end → (h : Between s l code p t last cs vs os d) → t.next ≡ t.source.count → take t.opened p ≡ take t.opened p2 → t.opened ≤ length p2 → SlotIs l p2 (length p2) r (ending h.i h.source h.kept)
       → IsAt s l code p2 at end cs vs (r ∷ os) d
   turns_end at end t last cs vs os r d e h all same le result =

@@ -26,8 +26,8 @@ use Rattle.rule_values.specs.Endings.{Source}
 use Rattle.rule_slots.specs.declared.slot.Slot.{Slot}
 use Rattle.rule_slots.specs.Slots.{Lists, SlotIs, SlotsAre, plain_mark}
 use Rattle.rule_slots.proofs.ForAbove.{as_many}
-use Rattle.rule_machine.specs.declared.control.Control.{Control}
-use Rattle.rule_machine.specs.declared.control.Control.TheVariants as control
+use Rattle.rule_machine.specs.declared.piece.Piece.{Piece as Pending}
+use Rattle.rule_machine.specs.declared.piece.Piece.TheVariants as piece
 use Rattle.rule_machine.specs.Machine.{Setting, judged_by, is_what, are_what, Piece, Sequence, LetEnd, Opened, Turning, Skipped, Configuration, configuration, step}
 use Rattle.rule_machine.specs.Places.{long}
 use Rattle.rule_machine.specs.Charges.{longs, turn_charge, charge_of}
@@ -184,7 +184,7 @@ at_instr code at end q vars ops i lt le here =
 
 module _ (s : Setting) (l : Lists) (code : List Instr) (p : List Slot) where
   -- the next step at an instruction is charged by it
-  pub instr_charge : (at end : ℕ) (cs : List Control) (vs os : List Slot) (i : Instr) (c : Configuration) → at < end → end ≤ length code → slice_get code at ≡ Some i → IsAt s l code p at end cs vs os c → HasNext (step s c) → charge_of c ≡ 1 + extra_charge i (slot_lengths os)
+  pub instr_charge : (at end : ℕ) (cs : List Pending) (vs os : List Slot) (i : Instr) (c : Configuration) → at < end → end ≤ length code → slice_get code at ≡ Some i → IsAt s l code p at end cs vs os c → HasNext (step s c) → charge_of c ≡ 1 + extra_charge i (slot_lengths os)
   instr_charge at end cs vs os i c lt le here h goes =
       let same = extra_same s l p i os h.ops (ops_are s l code p at end cs vs os i c lt le here h goes) (plain_fits s l code p at end cs vs os i c lt le here h goes) in
       ap charge_of h.same ∙ at_instr code at end h.pieces h.vars h.ops i lt le here ∙ ap (λ n. 1 + n) (sym same)
@@ -196,32 +196,32 @@ module _ (s : Setting) (l : Lists) (code : List Instr) (p : List Slot) where
   taking_same i y v h w = refl
 
   -- the step of a mark is charged by it
-  pub mark_charged : (at end : ℕ) (m : Control) (cs : List Control) (vs os : List Slot) (c : Configuration) → at ≡ end → IsMark m → IsAt s l code p at end (m ∷ cs) vs os c → HasNext (step s c) → charge_of c ≡ mark_charge_by m (slot_lengths os)
-  mark_charged at end (control.Rest a b) cs vs os c e mark h goes = absurd mark
-  mark_charged at end control.LetEnd cs vs os c e mark h goes =
-      let f = past s l code p at end (control.LetEnd ∷ cs) vs os c e h in
+  pub mark_charged : (at end : ℕ) (m : Pending) (cs : List Pending) (vs os : List Slot) (c : Configuration) → at ≡ end → IsMark m → IsAt s l code p at end (m ∷ cs) vs os c → HasNext (step s c) → charge_of c ≡ mark_charge_by m (slot_lengths os)
+  mark_charged at end (piece.Rest a b) cs vs os c e mark h goes = absurd mark
+  mark_charged at end piece.LetEnd cs vs os c e mark h goes =
+      let f = past s l code p at end (piece.LetEnd ∷ cs) vs os c e h in
       by_pieces f.0 f.1 f.2 f.3 f.4 f.5 f.7
     where
-      by_pieces : (ps : List Piece) (vars ops : List Value) (v n : ℕ) → c ≡ configuration ps vars ops → TopStandsFor s l code p v n (control.LetEnd ∷ cs) vs os ps vars ops → charge_of c ≡ 1
+      by_pieces : (ps : List Piece) (vars ops : List Value) (v n : ℕ) → c ≡ configuration ps vars ops → TopStandsFor s l code p v n (piece.LetEnd ∷ cs) vs os ps vars ops → charge_of c ≡ 1
       by_pieces (LetEnd ∷ q) vars ops v n same h = ap charge_of same
       by_pieces ps vars ops v n same h = absurd h
-  mark_charged at end control.Skipped cs vs os c e mark h goes =
-      let f = past s l code p at end (control.Skipped ∷ cs) vs os c e h in
+  mark_charged at end piece.Skipped cs vs os c e mark h goes =
+      let f = past s l code p at end (piece.Skipped ∷ cs) vs os c e h in
       by_pieces f.0 f.1 f.2 f.3 f.4 f.5 f.7
     where
-      by_pieces : (ps : List Piece) (vars ops : List Value) (v n : ℕ) → c ≡ configuration ps vars ops → TopStandsFor s l code p v n (control.Skipped ∷ cs) vs os ps vars ops → charge_of c ≡ 1
+      by_pieces : (ps : List Piece) (vars ops : List Value) (v n : ℕ) → c ≡ configuration ps vars ops → TopStandsFor s l code p v n (piece.Skipped ∷ cs) vs os ps vars ops → charge_of c ≡ 1
       by_pieces (Skipped ∷ q) vars ops v n same h = ap charge_of same
       by_pieces ps vars ops v n same h = absurd h
-  mark_charged at end (control.Opened t) cs vs os c e mark h goes =
-      let f = past s l code p at end (control.Opened t ∷ cs) vs os c e h in
+  mark_charged at end (piece.Opened t) cs vs os c e mark h goes =
+      let f = past s l code p at end (piece.Opened t ∷ cs) vs os c e h in
       by_pieces f.0 f.1 f.2 f.3 f.4 f.5 f.7
     where
-      by_pieces : (ps : List Piece) (vars ops : List Value) (v n : ℕ) → c ≡ configuration ps vars ops → TopStandsFor s l code p v n (control.Opened t ∷ cs) vs os ps vars ops → charge_of c ≡ 1 + turn_charge_by t.instr t.source.count 0
+      by_pieces : (ps : List Piece) (vars ops : List Value) (v n : ℕ) → c ≡ configuration ps vars ops → TopStandsFor s l code p v n (piece.Opened t ∷ cs) vs os ps vars ops → charge_of c ≡ 1 + turn_charge_by t.instr t.source.count 0
       by_pieces (Opened i body source kept ∷ q) vars ops v n same h =
           let many : length source.elements ≡ t.source.count = as_many l p t.opened t.source source.elements (omega (arith, h.0)) h.2.part in
           ap charge_of same ∙ ap (λ k. 1 + k) (turn_by i source 0 ∙ ap (λ k. turn_charge_by i k 0) many ∙ ap (λ j. turn_charge_by j t.source.count 0) h.2.same_instr)
       by_pieces ps vars ops v n same h = absurd h
-  mark_charged at end (control.Turning t) cs vs os c e mark h goes =
+  mark_charged at end (piece.Turning t) cs vs os c e mark h goes =
       let e0 = end_of s l code p at end t cs vs os c e h goes in
       let r = e0.leaving in
       let same : c ≡ configuration (Turning r.i r.body r.source r.left r.kept ∷ r.q) r.vars_before (r.value ∷ r.ops) = r.before in

@@ -174,11 +174,11 @@ module _ (t : Task) where
 
   -- room for a rule stays where the stacks have as much room
   pub room_same : (d : Depths) (m m' : State) → SameRoom m m' → HasRoomFor d m → HasRoomFor d m'
-  room_same d m m' h r = record { operands = omega (arith, h.operands, r.operands); variables = omega (arith, h.variables, r.variables); controls = omega (arith, h.controls, r.controls) }
+  room_same d m m' h r = record { operands = omega (arith, h.operands, r.operands); variables = omega (arith, h.variables, r.variables); pieces = omega (arith, h.pieces, r.pieces) }
 
   -- as much room from one state to the next, and to another
   pub rooms_joined : (m m' m'' : State) → SameRoom m m' → SameRoom m' m'' → SameRoom m m''
-  rooms_joined m m' m'' h k = record { operands = k.operands ∙ h.operands; variables = k.variables ∙ h.variables; controls = k.controls ∙ h.controls }
+  rooms_joined m m' m'' h k = record { operands = k.operands ∙ h.operands; variables = k.variables ∙ h.variables; pieces = k.pieces ∙ h.pieces }
 
   -- ---- a step more
 

@@ -12,8 +12,8 @@ use Rattle.rule_values.specs.Value.{Value}
 use Rattle.rule_slots.specs.declared.slot.Slot.{Slot}
 use Rattle.rule_slots.specs.Slots.{Lists}
 use Rattle.rule_slots.proofs.ForAbove.{slots_long}
-use Rattle.rule_machine.specs.declared.control.Control.{Control}
-use Rattle.rule_machine.specs.declared.control.Control.TheVariants as control
+use Rattle.rule_machine.specs.declared.piece.Piece.{Piece as Pending}
+use Rattle.rule_machine.specs.declared.piece.Piece.TheVariants as piece
 use Rattle.rule_machine.specs.declared.state.State.{State}
 use Rattle.rule_machine.specs.declared.task.Task.{Task}
 use Rattle.rule_machine.specs.Machine.{Setting, Piece, Sequence, LetEnd, Opened, Turning, Skipped, Configuration, configuration}
@@ -25,13 +25,13 @@ use Rattle.rule_machine.proofs.Stacks.{all_vars, all_ops}
 use Rattle.rule_machine.proofs.InstrSteps.{past}
 
 module _ (s : Setting) (l : Lists) (code : List Instr) (p : List Slot) where
-  -- a control for each piece
-  stand_long : (hi v n : ℕ) (cs : List Control) (vs os : List Slot) (ps : List Piece) (vars ops : List Value) → StandsFor s l code p hi v n cs vs os ps vars ops → length cs ≡ length ps
+  -- the machine has a piece for each that the configuration has
+  stand_long : (hi v n : ℕ) (cs : List Pending) (vs os : List Slot) (ps : List Piece) (vars ops : List Value) → StandsFor s l code p hi v n cs vs os ps vars ops → length cs ≡ length ps
   stand_long hi v n [] vs os [] vars ops h = refl
-  stand_long hi v n (control.Rest a b ∷ cs) vs os (Sequence t ∷ ps) vars ops h = ap suc (stand_long hi v n cs vs os ps vars ops h.1)
-  stand_long hi v n (control.LetEnd ∷ cs) vs os (LetEnd ∷ ps) vars ops h = ap suc (stand_long hi v n cs vs os ps vars ops h)
-  stand_long hi v n (control.Skipped ∷ cs) vs os (Skipped ∷ ps) vars ops h = ap suc (stand_long hi v n cs vs os ps vars ops h)
-  stand_long hi v n (control.Turning t ∷ cs) vs os (Turning i body source left kept ∷ ps) vars ops h = ap suc (stand_long t.opened h.4 h.5 cs h.0.below h.1.below ps h.0.below_values h.1.below_values h.7)
+  stand_long hi v n (piece.Rest a b ∷ cs) vs os (Sequence t ∷ ps) vars ops h = ap suc (stand_long hi v n cs vs os ps vars ops h.1)
+  stand_long hi v n (piece.LetEnd ∷ cs) vs os (LetEnd ∷ ps) vars ops h = ap suc (stand_long hi v n cs vs os ps vars ops h)
+  stand_long hi v n (piece.Skipped ∷ cs) vs os (Skipped ∷ ps) vars ops h = ap suc (stand_long hi v n cs vs os ps vars ops h)
+  stand_long hi v n (piece.Turning t ∷ cs) vs os (Turning i body source left kept ∷ ps) vars ops h = ap suc (stand_long t.opened h.4 h.5 cs h.0.below h.1.below ps h.0.below_values h.1.below_values h.7)
   stand_long hi v n cs vs os ps vars ops h = absurd h
 
   -- ---- with code before the end
@@ -53,11 +53,11 @@ module _ (s : Setting) (l : Lists) (code : List Instr) (p : List Slot) where
   some_count : (at end : ℕ) → at < end → end ≤ length code → 0 < instr_count (code_tree (slice_range code at end))
   some_count at end lt le = omega (arith, code_tree_count (slice_range code at end), stretch_length code at end le)
 
-  -- how much a configuration has: no more operands and variables than so many, with a start value that is left, and controls
-  abbrev Within : Depths → List Control → List Slot → List Slot → Type 0
+  -- how much a configuration has: no more operands and variables than so many, with a start value that is left, and pieces
+  abbrev Within : Depths → List Pending → List Slot → List Slot → Type 0
   Within d cs vs os = (length os ≤ d.operands + 1) × (length vs ≤ d.variables) × (length cs ≤ 2 * d.blocks + 1)
 
-  within_before : (d : Depths) (at end : ℕ) (cs : List Control) (vs os : List Slot) (c : Configuration) → at < end → end ≤ length code → IsAt s l code p at end cs vs os c → StaysWithin d c → Within d cs vs os
+  within_before : (d : Depths) (at end : ℕ) (cs : List Pending) (vs os : List Slot) (c : Configuration) → at < end → end ≤ length code → IsAt s l code p at end cs vs os c → StaysWithin d c → Within d cs vs os
   within_before d at end cs vs os c lt le h w =
       let t = code_tree (slice_range code at end) in
       let st = h.stand lt in
@@ -69,7 +69,7 @@ module _ (s : Setting) (l : Lists) (code : List Instr) (p : List Slot) where
 
   -- ---- with a mark first
 
-  by_stand : (d : Depths) (v n : ℕ) (cs : List Control) (vs os : List Slot) (ps : List Piece) (vars ops : List Value) → StandsFor s l code p (length p) v n cs vs os ps vars ops → StaysWithin d (record { pending = ps; variables = vars; operands = ops }) → Within d cs vs os
+  by_stand : (d : Depths) (v n : ℕ) (cs : List Pending) (vs os : List Slot) (ps : List Piece) (vars ops : List Value) → StandsFor s l code p (length p) v n cs vs os ps vars ops → StaysWithin d (record { pending = ps; variables = vars; operands = ops }) → Within d cs vs os
   by_stand d v n cs vs os ps vars ops h w = (
     omega (arith, w.operands, slots_long l p (length p) os ops (all_ops s l code p (length p) v n cs vs os ps vars ops h)),
     omega (arith, w.variables, slots_long l p (length p) vs vars (all_vars s l code p (length p) v n cs vs os ps vars ops h)),
@@ -82,32 +82,32 @@ module _ (s : Setting) (l : Lists) (code : List Instr) (p : List Slot) where
   left_long (instrs.Fold k n) (o ∷ os) = omega arith
   left_long i os = omega arith
 
-  by_mark : (d : Depths) (v n : ℕ) (cs : List Control) (vs os : List Slot) (ps : List Piece) (vars ops : List Value) → IsFirstMark cs → TopStandsFor s l code p v n cs vs os ps vars ops → StaysWithin d (configuration ps vars ops) → Within d cs vs os
+  by_mark : (d : Depths) (v n : ℕ) (cs : List Pending) (vs os : List Slot) (ps : List Piece) (vars ops : List Value) → IsFirstMark cs → TopStandsFor s l code p v n cs vs os ps vars ops → StaysWithin d (configuration ps vars ops) → Within d cs vs os
   by_mark d v n [] vs os ps vars ops m h w = absurd m
-  by_mark d v n (control.Rest a b ∷ cs) vs os ps vars ops m h w = absurd m
-  by_mark d v n (control.LetEnd ∷ cs) vs os (LetEnd ∷ ps) vars ops m h w = by_stand d v n (control.LetEnd ∷ cs) vs os (LetEnd ∷ ps) vars ops h w
-  by_mark d v n (control.Skipped ∷ cs) vs os (Skipped ∷ ps) vars ops m h w = by_stand d v n (control.Skipped ∷ cs) vs os (Skipped ∷ ps) vars ops h w
-  by_mark d v n (control.Turning t ∷ cs) vs os (Turning i body source left kept ∷ ps) vars ops m h w =
-      by_stand d v n (control.Turning t ∷ cs) vs os (Turning i body source left kept ∷ ps) vars ops h w
-  by_mark d v n (control.Opened t ∷ cs) vs os (Opened i body source kept ∷ ps) vars ops m h w = (
+  by_mark d v n (piece.Rest a b ∷ cs) vs os ps vars ops m h w = absurd m
+  by_mark d v n (piece.LetEnd ∷ cs) vs os (LetEnd ∷ ps) vars ops m h w = by_stand d v n (piece.LetEnd ∷ cs) vs os (LetEnd ∷ ps) vars ops h w
+  by_mark d v n (piece.Skipped ∷ cs) vs os (Skipped ∷ ps) vars ops m h w = by_stand d v n (piece.Skipped ∷ cs) vs os (Skipped ∷ ps) vars ops h w
+  by_mark d v n (piece.Turning t ∷ cs) vs os (Turning i body source left kept ∷ ps) vars ops m h w =
+      by_stand d v n (piece.Turning t ∷ cs) vs os (Turning i body source left kept ∷ ps) vars ops h w
+  by_mark d v n (piece.Opened t ∷ cs) vs os (Opened i body source kept ∷ ps) vars ops m h w = (
     omega (arith, w.operands, left_long i os, slots_long l p (length p) (drop (operands_above i) os) ops (all_ops s l code p (length p) v n cs vs (drop (operands_above i) os) ps vars ops h.3)),
     omega (arith, w.variables, slots_long l p (length p) vs vars (all_vars s l code p (length p) v n cs vs (drop (operands_above i) os) ps vars ops h.3)),
     omega (arith, w.pieces, stand_long (length p) v n cs vs (drop (operands_above i) os) ps vars ops h.3),
   )
   by_mark d v n cs vs os ps vars ops m h w = absurd h
 
-  mark_has_none : (v n : ℕ) (cs : List Control) (vs os : List Slot) (ps : List Piece) (vars ops : List Value) → IsFirstMark cs → TopStandsFor s l code p v n cs vs os ps vars ops → outcome (configuration ps vars ops) ≡ None
+  mark_has_none : (v n : ℕ) (cs : List Pending) (vs os : List Slot) (ps : List Piece) (vars ops : List Value) → IsFirstMark cs → TopStandsFor s l code p v n cs vs os ps vars ops → outcome (configuration ps vars ops) ≡ None
   mark_has_none v n [] vs os ps vars ops m h = absurd m
-  mark_has_none v n (control.Rest a b ∷ cs) vs os ps vars ops m h = absurd m
-  mark_has_none v n (control.LetEnd ∷ cs) vs os (LetEnd ∷ ps) vars ops m h = refl
-  mark_has_none v n (control.Skipped ∷ cs) vs os (Skipped ∷ ps) vars ops m h = refl
-  mark_has_none v n (control.Turning t ∷ cs) vs os (Turning i body source left kept ∷ ps) vars ops m h = refl
-  mark_has_none v n (control.Opened t ∷ cs) vs os (Opened i body source kept ∷ ps) vars ops m h = refl
+  mark_has_none v n (piece.Rest a b ∷ cs) vs os ps vars ops m h = absurd m
+  mark_has_none v n (piece.LetEnd ∷ cs) vs os (LetEnd ∷ ps) vars ops m h = refl
+  mark_has_none v n (piece.Skipped ∷ cs) vs os (Skipped ∷ ps) vars ops m h = refl
+  mark_has_none v n (piece.Turning t ∷ cs) vs os (Turning i body source left kept ∷ ps) vars ops m h = refl
+  mark_has_none v n (piece.Opened t ∷ cs) vs os (Opened i body source kept ∷ ps) vars ops m h = refl
   mark_has_none v n cs vs os ps vars ops m h = absurd h
 
   -- ---- both
 
-  at_front : (at end : ℕ) (cs : List Control) → at ≤ end → (at < end) ⊎ IsFirstMark cs → (at < end) ⊎ ((at ≡ end) × IsFirstMark cs)
+  at_front : (at end : ℕ) (cs : List Pending) → at ≤ end → (at < end) ⊎ IsFirstMark cs → (at < end) ⊎ ((at ≡ end) × IsFirstMark cs)
   at_front at end cs le (inl lt) = inl lt
   at_front at end cs le (inr m) = by_order (nat_lt at end) refl
     where
@@ -115,14 +115,14 @@ module _ (s : Setting) (l : Lists) (code : List Instr) (p : List Slot) where
       by_order true e = inl (ltb-true at end e)
       by_order false e = inr (omega (arith, ltb-false at end e, le), m)
 
-  within : (d : Depths) (at end : ℕ) (cs : List Control) (vs os : List Slot) (c : Configuration) → end ≤ length code → (at < end) ⊎ ((at ≡ end) × IsFirstMark cs) → IsAt s l code p at end cs vs os c → StaysWithin d c → Within d cs vs os
+  within : (d : Depths) (at end : ℕ) (cs : List Pending) (vs os : List Slot) (c : Configuration) → end ≤ length code → (at < end) ⊎ ((at ≡ end) × IsFirstMark cs) → IsAt s l code p at end cs vs os c → StaysWithin d c → Within d cs vs os
   within d at end cs vs os c le (inl lt) h w = within_before d at end cs vs os c lt le h w
   within d at end cs vs os c le (inr m) h w =
       let f = past s l code p at end cs vs os c m.0 h in
       by_mark d f.3 f.4 cs vs os f.0 f.1 f.2 m.1 f.7 (subst (StaysWithin d) f.5 w)
 
   -- with code or a mark first there is no verdict
-  none_at : (at end : ℕ) (cs : List Control) (vs os : List Slot) (c : Configuration) → end ≤ length code → (at < end) ⊎ ((at ≡ end) × IsFirstMark cs) → IsAt s l code p at end cs vs os c → outcome c ≡ None
+  none_at : (at end : ℕ) (cs : List Pending) (vs os : List Slot) (c : Configuration) → end ≤ length code → (at < end) ⊎ ((at ≡ end) × IsFirstMark cs) → IsAt s l code p at end cs vs os c → outcome c ≡ None
   none_at at end cs vs os c le (inl lt) h = ap outcome h.same ∙ no_outcome (code_tree (slice_range code at end)) h.pieces h.vars h.ops (some_count at end lt le)
   none_at at end cs vs os c le (inr m) h =
       let f = past s l code p at end cs vs os c m.0 h in
@@ -131,12 +131,12 @@ module _ (s : Setting) (l : Lists) (code : List Instr) (p : List Slot) where
 -- a machine that stands in a configuration no deeper than it has room for has room for a step
 pub room_is : (t : Task) (m : State) (d : Depths) (c : Configuration) → LiesIn t m → IsAtFront m → Is t m c → StaysWithin d c → HasRoomFor d m → Room m
 room_is t m d c lies front is w room =
-    let f = at_front (setting_in t) (task_lists t) (code_in t) m.pool.items m.at m.end m.controls.0 lies.order front in
-    let k = within (setting_in t) (task_lists t) (code_in t) m.pool.items d m.at m.end m.controls.0 m.variables.0 m.operands.0 c lies.within f is w in
-    record { operands = omega (arith, k.0, room.operands); variables = omega (arith, k.1, room.variables); controls = omega (arith, k.2, room.controls) }
+    let f = at_front (setting_in t) (task_lists t) (code_in t) m.pool.items m.at m.end m.pieces.0 lies.order front in
+    let k = within (setting_in t) (task_lists t) (code_in t) m.pool.items d m.at m.end m.pieces.0 m.variables.0 m.operands.0 c lies.within f is w in
+    record { operands = omega (arith, k.0, room.operands); variables = omega (arith, k.1, room.variables); pieces = omega (arith, k.2, room.pieces) }
 
 -- and its configuration has no verdict
 pub front_has_none : (t : Task) (m : State) (c : Configuration) → LiesIn t m → IsAtFront m → Is t m c → outcome c ≡ None
 front_has_none t m c lies front is =
-    none_at (setting_in t) (task_lists t) (code_in t) m.pool.items m.at m.end m.controls.0 m.variables.0 m.operands.0 c lies.within
-    (at_front (setting_in t) (task_lists t) (code_in t) m.pool.items m.at m.end m.controls.0 lies.order front) is
+    none_at (setting_in t) (task_lists t) (code_in t) m.pool.items m.at m.end m.pieces.0 m.variables.0 m.operands.0 c lies.within
+    (at_front (setting_in t) (task_lists t) (code_in t) m.pool.items m.at m.end m.pieces.0 lies.order front) is

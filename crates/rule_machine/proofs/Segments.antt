@@ -8,9 +8,9 @@ use Rattle.rule_slots.specs.declared.slot.Slot.{Slot}
 use Rattle.rule_slots.specs.Slots.{Lists, ElementsAre}
 use Rattle.rule_slots.proofs.ForAbove.{range_same, part_same, slots_same, less}
 use Rattle.rule_machine.specs.Machine.{Setting, Piece, Sequence, LetEnd, Turning, Skipped}
-use Rattle.rule_machine.specs.declared.control.Turn.{Turn}
-use Rattle.rule_machine.specs.declared.control.Control.{Control}
-use Rattle.rule_machine.specs.declared.control.Control.TheVariants as control
+use Rattle.rule_machine.specs.declared.piece.Turn.{Turn}
+use Rattle.rule_machine.specs.declared.piece.Piece.{Piece as Pending}
+use Rattle.rule_machine.specs.declared.piece.Piece.TheVariants as piece
 use Rattle.rule_machine.specs.StandFor.{TurnIs, TurnKeeps, Cut, StandsFor, kept_elements}
 
 -- a cut stack stands for the same values
@@ -41,12 +41,12 @@ turn_keeps_same s l code p q hi hi' t i body source left kept le same h =
     record { bodies = h.bodies; keeps = h.keeps; turn = turn_same s l code p q hi hi' t i body source left h.bodies le same h.turn; turns = h.turns }
 
 -- what is pending, variables and operands stand for the same
-pub stand_same : (s : Setting) (l : Lists) (code : List Instr) (p q : List Slot) (hi hi' v n : ℕ) (cs : List Control) (vs os : List Slot) (ps : List Piece) (vars ops : List Value) → hi ≤ hi' → take hi p ≡ take hi q → StandsFor s l code p hi v n cs vs os ps vars ops → StandsFor s l code q hi' v n cs vs os ps vars ops
+pub stand_same : (s : Setting) (l : Lists) (code : List Instr) (p q : List Slot) (hi hi' v n : ℕ) (cs : List Pending) (vs os : List Slot) (ps : List Piece) (vars ops : List Value) → hi ≤ hi' → take hi p ≡ take hi q → StandsFor s l code p hi v n cs vs os ps vars ops → StandsFor s l code q hi' v n cs vs os ps vars ops
 stand_same s l code p q hi hi' v n [] vs os [] vars ops le same h = (h.0, h.1, slots_same l p q hi hi' le same vs vars h.2, slots_same l p q hi hi' le same os ops h.3)
-stand_same s l code p q hi hi' v n (control.Rest a b ∷ cs) vs os (Sequence t ∷ ps) vars ops le same h = (h.0, stand_same s l code p q hi hi' v n cs vs os ps vars ops le same h.1)
-stand_same s l code p q hi hi' v n (control.LetEnd ∷ cs) vs os (LetEnd ∷ ps) vars ops le same h = stand_same s l code p q hi hi' v n cs vs os ps vars ops le same h
-stand_same s l code p q hi hi' v n (control.Skipped ∷ cs) vs os (Skipped ∷ ps) vars ops le same h = stand_same s l code p q hi hi' v n cs vs os ps vars ops le same h
-stand_same s l code p q hi hi' v n (control.Turning t ∷ cs) vs os (Turning i body source left kept ∷ ps) vars ops le same h = (
+stand_same s l code p q hi hi' v n (piece.Rest a b ∷ cs) vs os (Sequence t ∷ ps) vars ops le same h = (h.0, stand_same s l code p q hi hi' v n cs vs os ps vars ops le same h.1)
+stand_same s l code p q hi hi' v n (piece.LetEnd ∷ cs) vs os (LetEnd ∷ ps) vars ops le same h = stand_same s l code p q hi hi' v n cs vs os ps vars ops le same h
+stand_same s l code p q hi hi' v n (piece.Skipped ∷ cs) vs os (Skipped ∷ ps) vars ops le same h = stand_same s l code p q hi hi' v n cs vs os ps vars ops le same h
+stand_same s l code p q hi hi' v n (piece.Turning t ∷ cs) vs os (Turning i body source left kept ∷ ps) vars ops le same h = (
   cut_same l p q hi hi' le same v vs vars h.0,
   cut_same l p q hi hi' le same n os ops h.1,
   turn_keeps_same s l code p q hi hi' t i body source left kept le same h.2,

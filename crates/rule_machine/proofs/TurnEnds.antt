@@ -18,9 +18,9 @@ use Rattle.rule_values.specs.Operations.{is_true, is_false, is_invalid}
 use Rattle.rule_machine.specs.Machine.{Setting, judged_by, is_what, Piece, Turning, Configuration, step}
 use Rattle.rule_machine.specs.Shown.{HasNext}
 use Rattle.rule_slots.specs.declared.slot.Slot.{Slot}
-use Rattle.rule_machine.specs.declared.control.Turn.{Turn}
-use Rattle.rule_machine.specs.declared.control.Control.{Control}
-use Rattle.rule_machine.specs.declared.control.Control.TheVariants as control
+use Rattle.rule_machine.specs.declared.piece.Turn.{Turn}
+use Rattle.rule_machine.specs.declared.piece.Piece.{Piece as Pending}
+use Rattle.rule_machine.specs.declared.piece.Piece.TheVariants as piece
 use Rattle.rule_slots.specs.Slots.{Lists, SlotIs, invalid_mark, held_slots, IsInHome}
 use Rattle.rule_machine.specs.Counts.{LeavesOne}
 use Rattle.rule_slots.specs.Operands.{is_number}
@@ -36,23 +36,23 @@ use Rattle.rule_machine.proofs.Operands.{covers_meant}
 
 module _ (s : Setting) (l : Lists) (code : List Instr) (p : List Slot) where
   -- a turn that ends has its body's value on top of the operands
-  pub record EndOf (t : Turn) (cs : List Control) (vs os : List Slot) (c : Configuration) : Type 0 where
+  pub record EndOf (t : Turn) (cs : List Pending) (vs os : List Slot) (c : Configuration) : Type 0 where
     pub y : Slot
     pub os1 : List Slot
     pub ops_are : os ≡ y ∷ os1
     pub leaving : Leaving s l code p t cs (drop (bound_count t.instr) vs) y os1 c
 
   -- and its step takes it, with the variables that the turn bound
-  pub end_of : (at end : ℕ) (t : Turn) (cs : List Control) (vs os : List Slot) (c : Configuration) → at ≡ end → IsAt s l code p at end (control.Turning t ∷ cs) vs os c → HasNext (step s c) → EndOf t cs vs os c
+  pub end_of : (at end : ℕ) (t : Turn) (cs : List Pending) (vs os : List Slot) (c : Configuration) → at ≡ end → IsAt s l code p at end (piece.Turning t ∷ cs) vs os c → HasNext (step s c) → EndOf t cs vs os c
   end_of at end t cs vs (y ∷ os) c e h g = record { y = y; os1 = os; ops_are = refl; leaving = leaves s l code p at end t cs vs y os c e h g }
   end_of at end t cs vs [] c e h g =
-      let f = past s l code p at end (control.Turning t ∷ cs) vs [] c e h in
+      let f = past s l code p at end (piece.Turning t ∷ cs) vs [] c e h in
       absurd (by_pieces f.0 f.1 f.2 f.3 f.4 f.6 f.7)
     where
-      by_pieces : (ps : List Piece) (vars ops : List Value) (v n : ℕ) → LeavesOne s ps v n → TopStandsFor s l code p v n (control.Turning t ∷ cs) vs [] ps vars ops → ⊥
+      by_pieces : (ps : List Piece) (vars ops : List Value) (v n : ℕ) → LeavesOne s ps v n → TopStandsFor s l code p v n (piece.Turning t ∷ cs) vs [] ps vars ops → ⊥
       by_pieces (Turning i body source left kept ∷ q) vars [] v n ends h =
-          omega (arith, ends.1, ops_there s l code p (length p) v n (control.Turning t ∷ cs) vs [] (Turning i body source left kept ∷ q) vars [] h)
-      by_pieces (Turning i body source left kept ∷ q) vars (z ∷ ops) v n ends h = all_ops s l code p (length p) v n (control.Turning t ∷ cs) vs [] (Turning i body source left kept ∷ q) vars (z ∷ ops) h
+          omega (arith, ends.1, ops_there s l code p (length p) v n (piece.Turning t ∷ cs) vs [] (Turning i body source left kept ∷ q) vars [] h)
+      by_pieces (Turning i body source left kept ∷ q) vars (z ∷ ops) v n ends h = all_ops s l code p (length p) v n (piece.Turning t ∷ cs) vs [] (Turning i body source left kept ∷ q) vars (z ∷ ops) h
       by_pieces ps vars ops v n ends h = absurd h
 
 -- a body that gives truth values gives one
@@ -70,7 +70,7 @@ one_more false n m e = e
 
 module _ (s : Setting) (l : Lists) (code : List Instr) (p p2 : List Slot) where
   -- with what the body gave kept behind what was kept before, the iteration stands between two turns
-  pub turn_over : (t : Turn) (cs : List Control) (vs : List Slot) (y : Slot) (os : List Slot) (c : Configuration) (e : Slot) (more : ℕ) → (h : Leaving s l code p t cs vs y os c) → slice_get (held_slots l p t.source) (t.next - 1) ≡ Some e
+  pub turn_over : (t : Turn) (cs : List Pending) (vs : List Slot) (y : Slot) (os : List Slot) (c : Configuration) (e : Slot) (more : ℕ) → (h : Leaving s l code p t cs vs y os c) → slice_get (held_slots l p t.source) (t.next - 1) ≡ Some e
       → p2 ≡ take (t.opened + t.kept) p ++ kept_slots l p t.instr e y → more ≡ length (kept_slots l p t.instr e y)
       → (d : Configuration) × (step s c ≡ Some d) × Between s l code p2 (turn_after t more y) y cs vs os d
   turn_over t cs vs y os c e more h g pe em =
@@ -91,7 +91,7 @@ module _ (s : Setting) (l : Lists) (code : List Instr) (p p2 : List Slot) where
       )
 
   -- a body that gives a collection gives one that lies in its list
-  pub flat_within : (t : Turn) (cs : List Control) (vs : List Slot) (y : Slot) (os : List Slot) (c : Configuration) (n : ℕ) → Leaving s l code p t cs vs y os c → t.instr ≡ instrs.CollectFlat n → invalid_mark y.mark ≡ false → IsInHome l (length p) y
+  pub flat_within : (t : Turn) (cs : List Pending) (vs : List Slot) (y : Slot) (os : List Slot) (c : Configuration) (n : ℕ) → Leaving s l code p t cs vs y os c → t.instr ≡ instrs.CollectFlat n → invalid_mark y.mark ≡ false → IsInHome l (length p) y
   flat_within t cs vs y os c n h e f = by_value h.value h.operand (many_what s.population h.value (subst (λ j. is_what s.population (ends_with (judged_by s) j) h.value ≡ true) e h.what))
     where
       by_value : (b : Value) → SlotIs l p (length p) y b → IsMany b → IsInHome l (length p) y
@@ -106,7 +106,7 @@ same_front all x y xs ys e f = let q : xs ≡ ys = cc in e ∙ ap (λ l. x ∷ l
 -- at its end an iteration gives what its slot stands for, and the pool is cut back to that
 module _ (s : Setting) (l : Lists) (code : List Instr) (p : List Slot) where
   -- the machine stands after the step that ends an iteration
-  pub end_gives : (at end : ℕ) (t : Turn) (last : Slot) (cs : List Control) (vs os : List Slot) (d : Configuration) (distinct : Bool) (gives : Slot) → at ≡ end → Between s l code p t last cs vs os d → t.next ≡ t.source.count → TellsDistinct l p t distinct → gives ≡ ending_slot t.instr t distinct last
+  pub end_gives : (at end : ℕ) (t : Turn) (last : Slot) (cs : List Pending) (vs os : List Slot) (d : Configuration) (distinct : Bool) (gives : Slot) → at ≡ end → Between s l code p t last cs vs os d → t.next ≡ t.source.count → TellsDistinct l p t distinct → gives ≡ ending_slot t.instr t distinct last
       → IsAt s l code (given_pool t gives p) at end cs vs (gives ∷ os) d
   end_gives at end t last cs vs os d distinct gives e b all tells is = by_given (gives_part t.instr gives) refl
     where

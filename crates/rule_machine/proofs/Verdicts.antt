@@ -6,8 +6,8 @@ use Rattle.rule_values.specs.Value as value
 use Rattle.rule_values.specs.Value.{Value}
 use Rattle.rule_slots.specs.declared.slot.Slot.{Slot}
 use Rattle.rule_slots.specs.Slots.{Lists, SlotIs}
-use Rattle.rule_machine.specs.declared.control.Control.{Control}
-use Rattle.rule_machine.specs.declared.control.Control.TheVariants as control
+use Rattle.rule_machine.specs.declared.piece.Piece.{Piece as Pending}
+use Rattle.rule_machine.specs.declared.piece.Piece.TheVariants as piece
 use Rattle.rule_machine.specs.Machine.{Setting, Piece, Sequence, Configuration, configuration}
 use Rattle.rule_machine.specs.Verdict.{verdict_of, outcome}
 use Rattle.rule_machine.specs.Counts.{LeavesOne}
@@ -16,8 +16,8 @@ use Rattle.rule_machine.specs.Shown.{IsTruth, EndsInTruth, IsMark}
 use Rattle.rule_machine.proofs.InstrSteps.{past, top_of}
 
 -- what is no rest of a sequence is a mark
-pub is_mark : (c : Control) → ((a b : ℕ) → c ≡ control.Rest a b → ⊥) → IsMark c
-is_mark (control.Rest a b) other = other a b refl
+pub is_mark : (c : Pending) → ((a b : ℕ) → c ≡ piece.Rest a b → ⊥) → IsMark c
+is_mark (piece.Rest a b) other = other a b refl
 is_mark c other = tt
 
 -- the slot of a truth value, null or invalid tells the verdict
@@ -30,12 +30,12 @@ verdict_is l p hi s v h k = absurd k
 
 module _ (s : Setting) (l : Lists) (code : List Instr) (p : List Slot) where
   -- the rest of a sequence comes next
-  pub rest_is : (at end a b : ℕ) (cs : List Control) (vs os : List Slot) (c : Configuration) → at ≡ end → IsAt s l code p at end (control.Rest a b ∷ cs) vs os c → IsAt s l code p a b cs vs os c
+  pub rest_is : (at end a b : ℕ) (cs : List Pending) (vs os : List Slot) (c : Configuration) → at ≡ end → IsAt s l code p at end (piece.Rest a b ∷ cs) vs os c → IsAt s l code p a b cs vs os c
   rest_is at end a b cs vs os c e h =
-      let f = past s l code p at end (control.Rest a b ∷ cs) vs os c e h in
+      let f = past s l code p at end (piece.Rest a b ∷ cs) vs os c e h in
       by_pieces f.0 f.1 f.2 f.3 f.4 f.5 f.6 f.7
     where
-      by_pieces : (ps : List Piece) (vars ops : List Value) (v n : ℕ) → c ≡ configuration ps vars ops → LeavesOne s ps v n → TopStandsFor s l code p v n (control.Rest a b ∷ cs) vs os ps vars ops → IsAt s l code p a b cs vs os c
+      by_pieces : (ps : List Piece) (vars ops : List Value) (v n : ℕ) → c ≡ configuration ps vars ops → LeavesOne s ps v n → TopStandsFor s l code p v n (piece.Rest a b ∷ cs) vs os ps vars ops → IsAt s l code p a b cs vs os c
       by_pieces (Sequence t ∷ q) vars ops v n same ends h =
           record {
             pieces = q;

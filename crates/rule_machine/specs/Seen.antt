@@ -32,8 +32,8 @@ IsIdle m = m.state.started ≡ None
 
 -- the machine's parts stand for a configuration of a rule
 pub record StandsIn (m : Seen) (r : ℕ) (c : Configuration) : Type 0 where
-  pub is : IsAt (setting_of m.unit m.population r) m.lists (unit_rule m.unit r).code m.state.pool.items m.state.at m.state.end m.state.controls.0 m.state.variables.0 m.state.operands.0 c
-  pub place : LiesInAt (unit_rule m.unit r).code m.state.at m.state.end m.state.controls.0
+  pub is : IsAt (setting_of m.unit m.population r) m.lists (unit_rule m.unit r).code m.state.pool.items m.state.at m.state.end m.state.pieces.0 m.state.variables.0 m.state.operands.0 c
+  pub place : LiesInAt (unit_rule m.unit r).code m.state.at m.state.end m.state.pieces.0
 
 -- the machine stands where the run of a rule for an object is in the configuration c, for which the work since the
 -- start is k

@@ -16,9 +16,9 @@ use Rattle.rule_slots.specs.declared.slot.Slot.{Slot}
 use Rattle.rule_slots.specs.Slots.{Lists, plain_mark}
 use Rattle.rule_values.specs.Value as value
 use Rattle.rule_values.specs.Value.{Value}
-use Rattle.rule_machine.specs.declared.control.Turn.{Turn}
-use Rattle.rule_machine.specs.declared.control.Control.{Control}
-use Rattle.rule_machine.specs.declared.control.Control.TheVariants as control
+use Rattle.rule_machine.specs.declared.piece.Turn.{Turn}
+use Rattle.rule_machine.specs.declared.piece.Piece.{Piece as Pending}
+use Rattle.rule_machine.specs.declared.piece.Piece.TheVariants as piece
 use Rattle.rule_machine.specs.declared.state.State.{State}
 use Rattle.rule_machine.specs.declared.task.Task.{Task}
 use Rattle.rule_machine.specs.Machine.{Setting, setting_of, Piece, Configuration, step, start}
@@ -58,25 +58,25 @@ pub record IsTurnIn (code : List Instr) (t : Turn) : Type 0 where
   pub next : t.next ≤ t.source.count
   pub listed : gathers t.instr ≡ true → list_any gathers code ≡ true
 
-abbrev pub IsControlIn : List Instr → Control → Type 0
-IsControlIn code (control.Rest from end) = (from ≤ end) × (end ≤ length code)
-IsControlIn code control.LetEnd = Unit {0}
-IsControlIn code (control.Opened t) = IsTurnIn code t
-IsControlIn code (control.Turning t) = IsTurnIn code t
-IsControlIn code control.Skipped = Unit {0}
+abbrev pub IsPieceIn : List Instr → Pending → Type 0
+IsPieceIn code (piece.Rest from end) = (from ≤ end) × (end ≤ length code)
+IsPieceIn code piece.LetEnd = Unit {0}
+IsPieceIn code (piece.Opened t) = IsTurnIn code t
+IsPieceIn code (piece.Turning t) = IsTurnIn code t
+IsPieceIn code piece.Skipped = Unit {0}
 
-abbrev pub AreControlsIn : List Instr → List Control → Type 0
-AreControlsIn code [] = Unit {0}
-AreControlsIn code (c ∷ cs) = IsControlIn code c × AreControlsIn code cs
+abbrev pub ArePiecesIn : List Instr → List Pending → Type 0
+ArePiecesIn code [] = Unit {0}
+ArePiecesIn code (c ∷ cs) = IsPieceIn code c × ArePiecesIn code cs
 
-pub record LiesInAt (code : List Instr) (at end : ℕ) (cs : List Control) : Type 0 where
+pub record LiesInAt (code : List Instr) (at end : ℕ) (cs : List Pending) : Type 0 where
   pub order : at ≤ end
   pub within : end ≤ length code
-  pub pending : AreControlsIn code cs
+  pub pending : ArePiecesIn code cs
 
 -- what is pending lies in the code
 abbrev pub LiesIn : Task → State → Type 0
-LiesIn t m = LiesInAt (code_in t) m.at m.end m.controls.0
+LiesIn t m = LiesInAt (code_in t) m.at m.end m.pieces.0
 
 -- ---- room
 
@@ -85,7 +85,7 @@ LiesIn t m = LiesInAt (code_in t) m.at m.end m.controls.0
 pub record HasRoomFor (d : Depths) (m : State) : Type 0 where
   pub operands : d.operands + 2 ≤ m.operands.1
   pub variables : d.variables + 2 ≤ m.variables.1
-  pub controls : 2 * d.blocks + 3 ≤ m.controls.1
+  pub pieces : 2 * d.blocks + 3 ≤ m.pieces.1
 
 -- they have room for each rule
 abbrev pub HasRoomForRules : Model → Content → ℕ → State → Type 0
@@ -98,19 +98,19 @@ depths_in t = depths_of t.population.now.content.model t.accepted.now.unit t.rul
 pub record Room (m : State) : Type 0 where
   pub operands : length m.operands.0 < m.operands.1
   pub variables : length m.variables.0 + 2 ≤ m.variables.1
-  pub controls : length m.controls.0 + 2 ≤ m.controls.1
+  pub pieces : length m.pieces.0 + 2 ≤ m.pieces.1
 
 -- as much room
 pub record SameRoom (old new : State) : Type 0 where
   pub operands : new.operands.1 ≡ old.operands.1
   pub variables : new.variables.1 ≡ old.variables.1
-  pub controls : new.controls.1 ≡ old.controls.1
+  pub pieces : new.pieces.1 ≡ old.pieces.1
 
 -- ---- configurations
 
 -- the machine stands in a configuration
 abbrev pub Is : Task → State → Configuration → Type 0
-Is t m c = IsAt (setting_in t) (task_lists t) (code_in t) m.pool.items m.at m.end m.controls.0 m.variables.0 m.operands.0 c
+Is t m c = IsAt (setting_in t) (task_lists t) (code_in t) m.pool.items m.at m.end m.pieces.0 m.variables.0 m.operands.0 c
 
 -- there is a next configuration
 abbrev pub HasNext : Option Configuration → Type 0
@@ -163,18 +163,18 @@ pub record Stepped (t : Task) (old new : State) : Type 0 where
 
 -- ---- marks: what is pending after a sequence, and is no sequence
 
-abbrev pub IsMark : Control → Type 0
-IsMark (control.Rest from end) = ⊥
+abbrev pub IsMark : Pending → Type 0
+IsMark (piece.Rest from end) = ⊥
 IsMark c = Unit {0}
 
 -- a mark comes first
-abbrev pub IsFirstMark : List Control → Type 0
+abbrev pub IsFirstMark : List Pending → Type 0
 IsFirstMark [] = ⊥
 IsFirstMark (c ∷ cs) = IsMark c
 
 -- no sequence that is through stands first
 abbrev pub IsAtFront : State → Type 0
-IsAtFront m = (m.at < m.end) ⊎ IsFirstMark m.controls.0
+IsAtFront m = (m.at < m.end) ⊎ IsFirstMark m.pieces.0
 
 -- ---- charges
 
@@ -190,16 +190,16 @@ abbrev pub turn_charge_by : Instr → ℕ → ℕ → ℕ
 turn_charge_by i l n = if nat_le l n then ending_charge i l else 0
 
 -- what the step of a mark is charged, by the lengths of the operands
-abbrev pub mark_charge_by : Control → List ℕ → ℕ
-mark_charge_by (control.Opened t) ls = 1 + turn_charge_by t.instr t.source.count 0
-mark_charge_by (control.Turning t) ls = 1 + taking_charge t.instr (top_length ls) + turn_charge_by t.instr t.source.count t.next
+abbrev pub mark_charge_by : Pending → List ℕ → ℕ
+mark_charge_by (piece.Opened t) ls = 1 + turn_charge_by t.instr t.source.count 0
+mark_charge_by (piece.Turning t) ls = 1 + taking_charge t.instr (top_length ls) + turn_charge_by t.instr t.source.count t.next
 mark_charge_by c ls = 1
 
 -- ---- iterations
 
 -- an iteration stands between two turns, by what its body gave last
 abbrev pub BetweenIn : Task → Turn → Slot → State → Configuration → Type 0
-BetweenIn t turn last m d = Between (setting_in t) (task_lists t) (code_in t) m.pool.items turn last m.controls.0 m.variables.0 m.operands.0 d
+BetweenIn t turn last m d = Between (setting_in t) (task_lists t) (code_in t) m.pool.items turn last m.pieces.0 m.variables.0 m.operands.0 d
 
 -- it goes on to its next turn, or to its end
 pub record WentOn (t : Task) (turn : Turn) (last : Slot) (old new : State) : Type 0 where

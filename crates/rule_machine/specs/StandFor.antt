@@ -23,9 +23,9 @@ use Rattle.rule_machine.specs.declared.verdict.Verdict.TheVariants.{Holds, Fails
 use Rattle.rule_slots.specs.Slots.{Lists, ElementsAre, PartIs, SlotIs, SlotsAre, plain_mark, invalid_mark, held_slots, truth_slot, invalid_slot, part_slot, POOL}
 use Rattle.rule_slots.specs.Operands.{is_number, known_slot}
 use Rattle.rule_slots.specs.Compared.{covers}
-use Rattle.rule_machine.specs.declared.control.Turn.{Turn}
-use Rattle.rule_machine.specs.declared.control.Control.{Control}
-use Rattle.rule_machine.specs.declared.control.Control.TheVariants as control
+use Rattle.rule_machine.specs.declared.piece.Turn.{Turn}
+use Rattle.rule_machine.specs.declared.piece.Piece.{Piece as Pending}
+use Rattle.rule_machine.specs.declared.piece.Piece.TheVariants as piece
 use Rattle.rule_machine.specs.Counts.{Balanced, LeavesOne}
 
 -- ---- iterations
@@ -165,29 +165,29 @@ pub record Cut (l : Lists) (pool : List Slot) (hi n : ℕ) (ss : List Slot) (vs 
 
 -- What is pending, variables and operands stand for a configuration's; v variables and n operands are of the innermost
 -- segment. Each iteration in a turn cuts both stacks: what lies below it has no part of the pool past where it was opened.
-abbrev pub StandsFor : Setting → Lists → List Instr → List Slot → ℕ → ℕ → ℕ → List Control → List Slot → List Slot → List Piece → List Value → List Value → Type 0
+abbrev pub StandsFor : Setting → Lists → List Instr → List Slot → ℕ → ℕ → ℕ → List Pending → List Slot → List Slot → List Piece → List Value → List Value → Type 0
 StandsFor s l code pool hi v n [] vs os [] vars ops =
     (length vars ≡ v) × (length ops ≡ n) × SlotsAre l pool hi vs vars × SlotsAre l pool hi os ops
-StandsFor s l code pool hi v n (control.Rest a b ∷ cs) vs os (Sequence t ∷ q) vars ops =
+StandsFor s l code pool hi v n (piece.Rest a b ∷ cs) vs os (Sequence t ∷ q) vars ops =
     (t ≡ code_tree (slice_range code a b)) × StandsFor s l code pool hi v n cs vs os q vars ops
-StandsFor s l code pool hi v n (control.LetEnd ∷ cs) vs os (LetEnd ∷ q) vars ops = StandsFor s l code pool hi v n cs vs os q vars ops
-StandsFor s l code pool hi v n (control.Skipped ∷ cs) vs os (Skipped ∷ q) vars ops = StandsFor s l code pool hi v n cs vs os q vars ops
-StandsFor s l code pool hi v n (control.Turning t ∷ cs) vs os (Turning i body source left kept ∷ q) vars ops =
+StandsFor s l code pool hi v n (piece.LetEnd ∷ cs) vs os (LetEnd ∷ q) vars ops = StandsFor s l code pool hi v n cs vs os q vars ops
+StandsFor s l code pool hi v n (piece.Skipped ∷ cs) vs os (Skipped ∷ q) vars ops = StandsFor s l code pool hi v n cs vs os q vars ops
+StandsFor s l code pool hi v n (piece.Turning t ∷ cs) vs os (Turning i body source left kept ∷ q) vars ops =
     (a : Cut l pool hi v vs vars) × (b : Cut l pool hi n os ops) × TurnKeeps s l code pool hi t i body source left kept × Balanced s body 0 1
     × (w : ℕ) × (m : ℕ) × LeavesOne s q w (suc m) × StandsFor s l code pool t.opened w m cs a.below b.below q a.below_values b.below_values
 StandsFor s l code pool hi v n cs vs os q vars ops = ⊥
 
 -- An iteration before its first turn stands on top alone; the pool is as long as when it was opened. What stands for the
 -- operands lies below the start value of FOLD.
-abbrev pub TopStandsFor : Setting → Lists → List Instr → List Slot → ℕ → ℕ → List Control → List Slot → List Slot → List Piece → List Value → List Value → Type 0
-TopStandsFor s l code pool v n (control.Opened t ∷ cs) vs os (Opened i body source kept ∷ q) vars ops =
+abbrev pub TopStandsFor : Setting → Lists → List Instr → List Slot → ℕ → ℕ → List Pending → List Slot → List Slot → List Piece → List Value → List Value → Type 0
+TopStandsFor s l code pool v n (piece.Opened t ∷ cs) vs os (Opened i body source kept ∷ q) vars ops =
     (t.opened ≡ length pool) × KeepsStart l pool i os kept × TurnIs s l code pool (length pool) t i body source source.elements []
     × StandsFor s l code pool (length pool) v n cs vs (drop (operands_above i) os) q vars ops
     × (t.next ≡ 0) × Balanced s body 0 1
 TopStandsFor s l code pool v n cs vs os q vars ops = StandsFor s l code pool (length pool) v n cs vs os q vars ops
 
 -- the machine stands at an index of a sequence with an end, in this configuration
-pub record IsAt (s : Setting) (l : Lists) (code : List Instr) (pool : List Slot) (at end : ℕ) (cs : List Control) (vs os : List Slot) (c : Configuration) : Type 0 where
+pub record IsAt (s : Setting) (l : Lists) (code : List Instr) (pool : List Slot) (at end : ℕ) (cs : List Pending) (vs os : List Slot) (c : Configuration) : Type 0 where
   pub pieces : List Piece
   pub vars : List Value
   pub ops : List Value
@@ -220,7 +220,7 @@ pub record Performed (s : Setting) (l : Lists) (p q : List Slot) (vs os os' : Li
   pub gives : GivesSlot s l p q vs os i result
 
 -- a step leads to a configuration in which the machine then stands
-pub record StepsTo (s : Setting) (l : Lists) (code : List Instr) (q : List Slot) (at end : ℕ) (cs : List Control) (vs os : List Slot) (c : Configuration) : Type 0 where
+pub record StepsTo (s : Setting) (l : Lists) (code : List Instr) (q : List Slot) (at end : ℕ) (cs : List Pending) (vs os : List Slot) (c : Configuration) : Type 0 where
   pub next : Configuration
   pub made : step s c ≡ Some next
   pub stands : IsAt s l code q at end cs vs os next
@@ -233,9 +233,9 @@ opening_turn i from end source opened =
     record { instr = i; from = from; end = end; source = source; next = 0; opened = opened; kept = 0; trues = 0; falses = 0; invalids = 0 }
 
 -- the mark that the opening of an iteration puts
-abbrev pub opening_mark : Instr → ℕ → ℕ → Slot → ℕ → Control
+abbrev pub opening_mark : Instr → ℕ → ℕ → Slot → ℕ → Pending
 opening_mark i from end source opened =
-    if plain_mark source.mark then control.Opened (opening_turn i from end source opened) else control.Skipped
+    if plain_mark source.mark then piece.Opened (opening_turn i from end source opened) else piece.Skipped
 
 -- at the next element
 abbrev pub following_turn : Turn → Turn
@@ -285,7 +285,7 @@ bound_slots i e last = block_bound_slots (block_of i) e last
 
 -- An iteration between two turns: the pool is cut to what it keeps. What its body gave last, or before the first turn the
 -- start value of FOLD, is in no stack.
-pub record Between (s : Setting) (l : Lists) (code : List Instr) (p : List Slot) (t : Turn) (last : Slot) (cs : List Control) (vs os : List Slot) (d : Configuration) : Type 0 where
+pub record Between (s : Setting) (l : Lists) (code : List Instr) (p : List Slot) (t : Turn) (last : Slot) (cs : List Pending) (vs os : List Slot) (d : Configuration) : Type 0 where
   pub i : Instr
   pub body : CodeTree
   pub source : Source

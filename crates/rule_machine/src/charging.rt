@@ -6,7 +6,7 @@ ghost use Rattle.rule_machine.specs.Machine.{Configuration, step};
 ghost use Rattle.rule_machine.specs.Charges.{charge_of};
 ghost use Rattle.rule_machine.specs.Shown.{setting_in, Is, HasNext, slot_length, slot_lengths, turn_charge_by, mark_charge_by, IsTask, LiesIn, IsAtFront};
 
-use crate::control::Control;
+use crate::piece::Piece;
 use crate::stack::ReservedStack;
 use crate::state::State;
 use crate::task::Task;
@@ -31,7 +31,7 @@ impl State {
             }
             return extra_charge(&self.operands, instr).saturating_add(1);
         }
-        match self.controls.top() {
+        match self.pieces.top() {
             Some(mark) => mark_charge(mark, &self.operands),
             None => unreachable!(),
         }
@@ -63,12 +63,12 @@ fn may_cost_more(instr: Instr) -> bool
 
 /// The charge of the step of a mark.
 #[inline(never)]
-fn mark_charge(mark: &Control, operands: &ReservedStack<Slot>) -> u128
+fn mark_charge(mark: &Piece, operands: &ReservedStack<Slot>) -> u128
     ensures { result ≡ min (mark_charge_by mark.now (slot_lengths operands.now.0)) (2 ^ 128 - 1) }
 {
     match *mark {
-        Control::Opened(turn) => turn_charge(turn.instr, turn.source.count, 0).saturating_add(1),
-        Control::Turning(turn) => {
+        Piece::Opened(turn) => turn_charge(turn.instr, turn.source.count, 0).saturating_add(1),
+        Piece::Turning(turn) => {
             let taking = taking_charge(turn.instr, top_length(operands));
             taking
                 .saturating_add(turn_charge(turn.instr, turn.source.count, turn.next))

@@ -4,7 +4,7 @@ ghost use Rattle.std.specs.Prelude.{◌≡◌, ◌+◌, ◌-◌, ◌<◌, ◌^�
 ghost use Rattle.rule_slots.specs.Slots.{invalid_slot};
 ghost use Rattle.rule_machine.specs.StandFor.{gives_truths, all_decided, kept_part, slot_if, ending_slot, one_more_if, turn_after};
 
-use crate::control::Turn;
+use crate::piece::Turn;
 use rule_code::Instr;
 use rule_slots::{Slot, invalid_slot, is_false, is_true, known_slot, part_slot, truth_slot};
 use rule_verify::{BlockInstr, block_of};

@@ -6,7 +6,7 @@ ghost use Rattle.rule_verify.specs.InstrKinds.{gathers};
 ghost use Rattle.rule_slots.specs.Slots.{lists_in, index_slot, invalid_mark, scalar_slots, held_slots, IsInHome};
 ghost use Rattle.rule_machine.specs.StandFor.{kept_slots};
 
-use crate::control::Turn;
+use crate::piece::Turn;
 use ocl_base::OutOfMemory;
 use rule_slots::{
     Home, Lists, Slot, home_named, index_slot, is_false, is_true, move_down, scalar_slot,

@@ -3,12 +3,12 @@
 
 mod applying;
 mod charging;
-mod control;
 mod iteration_results;
 mod keeping;
 pub mod laws;
 mod machine;
 mod performing;
+mod piece;
 mod progress;
 mod running;
 mod spare;

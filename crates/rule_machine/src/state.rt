@@ -6,7 +6,7 @@ ghost use Rattle.rule_machine.specs.Verdict.{outcome};
 ghost use Rattle.rule_machine.specs.Laws.{IsAcceptedRun};
 ghost use Rattle.rule_machine.specs.Shown.{depths_in, IsTask, LiesIn, CanGoOn, Same, IsStartOf, IsAtFront, HasRoomFor, SameRoom};
 
-use crate::control::Control;
+use crate::piece::Piece;
 use crate::stack::ReservedStack;
 use crate::task::Task;
 use crate::verdict::{Verdict, verdict_of};
@@ -28,7 +28,7 @@ pub(crate) struct Started {
 /// 2^64-1.
 #[derive(Drop)]
 pub(crate) struct State {
-    pub(crate) controls: ReservedStack<Control>,
+    pub(crate) pieces: ReservedStack<Piece>,
     pub(crate) variables: ReservedStack<Slot>,
     pub(crate) operands: ReservedStack<Slot>,
     pub(crate) pool: Vec<Slot>,
@@ -45,7 +45,7 @@ impl State {
         ensures count { result.count ≡ 0 }
     {
         State {
-            controls: ReservedStack::new(alloc),
+            pieces: ReservedStack::new(alloc),
             variables: ReservedStack::new(alloc),
             operands: ReservedStack::new(alloc),
             pool: Vec::new(alloc),
@@ -62,16 +62,16 @@ impl State {
         ensures room { OnOk result (HasRoomFor depths self.new) }
         ensures operands { self.old.operands.1 ≤ self.new.operands.1 }
         ensures variables { self.old.variables.1 ≤ self.new.variables.1 }
-        ensures controls { self.old.controls.1 ≤ self.new.controls.1 }
+        ensures pieces { self.old.pieces.1 ≤ self.new.pieces.1 }
         ensures started { self.new.started ≡ self.old.started }
         ensures count { self.new.count ≡ self.old.count }
     {
         let operands = sum(depths.operands, 2)?;
         let variables = sum(depths.variables, 2)?;
-        let controls = sum(sum(depths.blocks, depths.blocks)?, 3)?;
+        let pieces = sum(sum(depths.blocks, depths.blocks)?, 3)?;
         self.operands.reserve(operands)?;
         self.variables.reserve(variables)?;
-        self.controls.reserve(controls)
+        self.pieces.reserve(pieces)
     }
 
     /// Makes room for so many slots more in the pool.
@@ -93,7 +93,7 @@ impl State {
         ensures started { IsStartOf task.entry object self.new }
         ensures room { SameRoom self.old self.new }
     {
-        self.controls.clear();
+        self.pieces.clear();
         self.variables.clear();
         self.operands.clear();
         self.pool.clear();
@@ -117,7 +117,7 @@ impl State {
         ensures front { MatchOption result (IsAtFront self.new) (λ v. Unit {0}) }
     {
         while self.at == self.end {
-            match self.controls.top() {
+            match self.pieces.top() {
                 None => {
                     let Some(value) = self.operands.top() else {
                         unreachable!()
@@ -125,10 +125,10 @@ impl State {
                     return Some(verdict_of(*value));
                 }
                 Some(mark) => match *mark {
-                    Control::Rest(from, end) => {
+                    Piece::Rest(from, end) => {
                         self.at = from;
                         self.end = end;
-                        let _ = self.controls.pop();
+                        let _ = self.pieces.pop();
                     }
                     _ => return None,
                 },

@@ -11,8 +11,8 @@ ghost use Rattle.rule_machine.specs.Live.{is_iteration};
 ghost use Rattle.rule_machine.specs.StandFor.{choice_slot, opening_mark};
 ghost use Rattle.rule_machine.specs.Shown.{code_in, IsTask, LiesIn, HasStep, Room, Same, Stepped, IsAtFront};
 
-use crate::control::{Control, Turn};
 use crate::performing::perform;
+use crate::piece::{Piece, Turn};
 use crate::stack::ReservedStack;
 use crate::state::State;
 use crate::task::Task;
@@ -112,8 +112,8 @@ impl State {
         let Some(source) = self.operands.pop() else {
             unreachable!()
         };
-        self.controls.push(Control::Rest(after, self.end));
-        self.controls
+        self.pieces.push(Piece::Rest(after, self.end));
+        self.pieces
             .push(opening(instr, from, after, source, self.pool.len()));
         leave_start(&mut self.operands, source, start);
         self.at = after;
@@ -139,15 +139,15 @@ impl State {
         let Some(value) = self.operands.pop() else {
             unreachable!()
         };
-        self.controls.push(Control::Rest(after, self.end));
+        self.pieces.push(Piece::Rest(after, self.end));
         if is_iteration(instr) {
             let mark = opening(instr, from, after, value, self.pool.len());
-            self.controls.push(mark);
+            self.pieces.push(mark);
             self.at = after;
             self.end = after;
         } else {
             self.variables.push(value);
-            self.controls.push(Control::LetEnd);
+            self.pieces.push(Piece::LetEnd);
             self.at = from;
             self.end = after;
         }
@@ -180,7 +180,7 @@ impl State {
             self.at = after;
             return;
         };
-        self.controls.push(Control::Rest(after, self.end));
+        self.pieces.push(Piece::Rest(after, self.end));
         if condition {
             self.at += 1;
             self.end = middle;
@@ -257,11 +257,11 @@ fn choice(value: Slot) -> Option<bool>
 }
 
 /// An iteration over a collection, before its first turn; one over invalid is skipped.
-fn opening(instr: Instr, from: usize, end: usize, source: Slot, opened: usize) -> Control
+fn opening(instr: Instr, from: usize, end: usize, source: Slot, opened: usize) -> Piece
     ensures { result ≡ opening_mark instr from end source opened }
 {
     if source.is_plain() {
-        Control::Opened(Turn {
+        Piece::Opened(Turn {
             instr,
             from,
             end,
@@ -274,6 +274,6 @@ fn opening(instr: Instr, from: usize, end: usize, source: Slot, opened: usize) -
             invalids: 0,
         })
     } else {
-        Control::Skipped
+        Piece::Skipped
     }
 }

@@ -3,15 +3,15 @@
 ghost use Rattle.std.specs.Prelude.{◌≡◌, ◌+◌, ◌<◌, ◌≤◌, ◌∷◌, ◌++◌, List, length, false, IfOk, OnOk, OnErr, IsOk};
 ghost use Rattle.rule_verify.specs.UnitRules.{unit_rule, takes_memory};
 ghost use Rattle.rule_machine.specs.Machine.{Configuration};
-ghost use Rattle.rule_machine.specs.declared.control.Control.TheVariants.{LetEnd, Opened, Turning, Skipped};
-ghost use Rattle.rule_machine.specs.declared.control.Control.{Control as Pending};
+ghost use Rattle.rule_machine.specs.declared.piece.Piece.TheVariants.{LetEnd, Opened, Turning, Skipped};
+ghost use Rattle.rule_machine.specs.declared.piece.Piece.{Piece as Pending};
 ghost use Rattle.rule_slots.specs.declared.slot.Slot.{Slot as Held};
 ghost use Rattle.rule_machine.specs.StandFor.{TellsDistinct, bound_slots, gives_part, given_pool};
 ghost use Rattle.rule_machine.specs.Shown.{code_in, task_lists, IsTurnIn, LiesIn, BetweenIn, WentOn, TurnEnded, HasStep, IsFirstMark, Same, Stepped, Room};
 
-use crate::control::{Control, Turn};
 use crate::iteration_results::{ending, kept_part, turn_after};
 use crate::keeping::keep;
+use crate::piece::{Piece, Turn};
 use crate::stack::ReservedStack;
 use crate::state::State;
 use crate::task::Task;
@@ -27,7 +27,7 @@ impl State {
     pub(crate) fn pass(&mut self, task: Task<'_>) -> Result<(), OutOfMemory>
         requires place { LiesIn task self.old }
         requires at_end { self.old.at ≡ self.old.end }
-        requires mark { IsFirstMark self.old.controls.0 }
+        requires mark { IsFirstMark self.old.pieces.0 }
         requires goes { HasStep task self.old }
         requires room { Room self.old }
         ensures made { OnOk result (Stepped task.entry self.old self.new) }
@@ -35,24 +35,24 @@ impl State {
         ensures spare { takes_memory (unit_rule task.entry.accepted.now.unit task.entry.rule) ≡ false
             → IsOk result }
     {
-        let Some(mark) = self.controls.top() else {
+        let Some(mark) = self.pieces.top() else {
             unreachable!()
         };
         match *mark {
-            Control::LetEnd => {
+            Piece::LetEnd => {
                 self.end_let(task);
                 Ok(())
             }
-            Control::Skipped => {
+            Piece::Skipped => {
                 self.skip(task);
                 Ok(())
             }
-            Control::Opened(turn) => {
+            Piece::Opened(turn) => {
                 self.first_turn(task, turn);
                 Ok(())
             }
-            Control::Turning(turn) => self.next_turn(task, turn),
-            Control::Rest(_, _) => unreachable!(),
+            Piece::Turning(turn) => self.next_turn(task, turn),
+            Piece::Rest(_, _) => unreachable!(),
         }
     }
 
@@ -60,11 +60,11 @@ impl State {
     fn end_let(&mut self, task: Task<'_>)
         requires place { LiesIn task self.old }
         requires at_end { self.old.at ≡ self.old.end }
-        requires top { (cs : List Pending) × (self.old.controls.0 ≡ LetEnd ∷ cs) }
+        requires top { (cs : List Pending) × (self.old.pieces.0 ≡ LetEnd ∷ cs) }
         requires goes { HasStep task self.old }
         ensures { Stepped task.entry self.old self.new }
     {
-        let Some(_) = self.controls.pop() else {
+        let Some(_) = self.pieces.pop() else {
             unreachable!()
         };
         let Some(_) = self.variables.pop() else {
@@ -76,11 +76,11 @@ impl State {
     fn skip(&mut self, task: Task<'_>)
         requires place { LiesIn task self.old }
         requires at_end { self.old.at ≡ self.old.end }
-        requires top { (cs : List Pending) × (self.old.controls.0 ≡ Skipped ∷ cs) }
+        requires top { (cs : List Pending) × (self.old.pieces.0 ≡ Skipped ∷ cs) }
         requires room { Room self.old }
         ensures { Stepped task.entry self.old self.new }
     {
-        let Some(_) = self.controls.pop() else {
+        let Some(_) = self.pieces.pop() else {
             unreachable!()
         };
         self.operands.push(invalid_slot());
@@ -90,7 +90,7 @@ impl State {
     fn first_turn(&mut self, task: Task<'_>, turn: Turn)
         requires place { LiesIn task self.old }
         requires at_end { self.old.at ≡ self.old.end }
-        requires top { (cs : List Pending) × (self.old.controls.0 ≡ Opened turn ∷ cs) }
+        requires top { (cs : List Pending) × (self.old.pieces.0 ≡ Opened turn ∷ cs) }
         requires goes { HasStep task self.old }
         requires room { Room self.old }
         ensures { Stepped task.entry self.old self.new }
@@ -103,7 +103,7 @@ impl State {
     fn next_turn(&mut self, task: Task<'_>, turn: Turn) -> Result<(), OutOfMemory>
         requires place { LiesIn task self.old }
         requires at_end { self.old.at ≡ self.old.end }
-        requires top { (cs : List Pending) × (self.old.controls.0 ≡ Turning turn ∷ cs) }
+        requires top { (cs : List Pending) × (self.old.pieces.0 ≡ Turning turn ∷ cs) }
         requires goes { HasStep task self.old }
         requires room { Room self.old }
         ensures made { OnOk result (Stepped task.entry self.old self.new) }
@@ -121,14 +121,14 @@ impl State {
     fn leave_opening(&mut self, task: Task<'_>, turn: Turn) -> Slot
         requires place { LiesIn task self.old }
         requires at_end { self.old.at ≡ self.old.end }
-        requires top { (cs : List Pending) × (self.old.controls.0 ≡ Opened turn ∷ cs) }
+        requires top { (cs : List Pending) × (self.old.pieces.0 ≡ Opened turn ∷ cs) }
         requires goes { HasStep task self.old }
         requires room { Room self.old }
         ensures over { TurnEnded task.entry turn result self.old self.new }
         ensures at_end { self.new.at ≡ self.new.end }
         ensures room { Room self.new }
     {
-        let Some(_) = self.controls.pop() else {
+        let Some(_) = self.pieces.pop() else {
             unreachable!()
         };
         if operands_above(turn.instr) == 0 {
@@ -145,7 +145,7 @@ impl State {
     fn end_turn(&mut self, task: Task<'_>, turn: Turn) -> Result<(Turn, Slot), OutOfMemory>
         requires place { LiesIn task self.old }
         requires at_end { self.old.at ≡ self.old.end }
-        requires top { (cs : List Pending) × (self.old.controls.0 ≡ Turning turn ∷ cs) }
+        requires top { (cs : List Pending) × (self.old.pieces.0 ≡ Turning turn ∷ cs) }
         requires goes { HasStep task self.old }
         requires room { Room self.old }
         ensures over { IfOk result (λ next. TurnEnded task.entry next.0 next.1 self.old self.new) }
@@ -166,7 +166,7 @@ impl State {
             unreachable!()
         };
         self.variables.drop_top(bound_count(turn.instr));
-        let Some(_) = self.controls.pop() else {
+        let Some(_) = self.pieces.pop() else {
             unreachable!()
         };
         Ok((turn_after(turn, more, value), value))
@@ -206,7 +206,7 @@ impl State {
             next: turn.next + 1,
             ..turn
         };
-        self.controls.push(Control::Turning(following));
+        self.pieces.push(Piece::Turning(following));
     }
 
     /// Ends an iteration with no element left: what it gives is an operand.

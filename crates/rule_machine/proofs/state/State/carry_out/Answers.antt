@@ -10,7 +10,7 @@ perform-requires-clause-can c =
     let m = c.args.self.now in
     let r = c.requires in
     let t = c.args.task in
-    can_perform (setting_in t) (task_lists t) (code_in t) m.pool.items m.at m.end m.controls.0 m.variables.0 m.operands.0 c.args.instr r.goes.0 r.before_end r.place.within r.here r.goes.1 r.goes.2 r.shape
+    can_perform (setting_in t) (task_lists t) (code_in t) m.pool.items m.at m.end m.pieces.0 m.variables.0 m.operands.0 c.args.instr r.goes.0 r.before_end r.place.within r.here r.goes.1 r.goes.2 r.shape
 
 pub returns-in_err-perform-clause-refused : goal.returns-in_err-perform-clause-refused
 returns-in_err-perform-clause-refused c =
@@ -21,9 +21,9 @@ returns-in_err-perform-clause-refused c =
     let p = err_from_is_err_and c.from_residual.result c.from_residual.ensures.1 in
     let ops = ap (λ s. s.0) f.operands in
     rw p.1 (record {
-      same = λ x i. is_under (setting_in t) (task_lists t) (code_in t) m.pool.items _ m.at m.end m.controls.0 m.variables.0 _ x f.pool (is_with (setting_in t) (task_lists t) (code_in t) m.pool.items m.at m.end _ _ _ _ _ _ x refl refl ops i);
+      same = λ x i. is_under (setting_in t) (task_lists t) (code_in t) m.pool.items _ m.at m.end m.pieces.0 m.variables.0 _ x f.pool (is_with (setting_in t) (task_lists t) (code_in t) m.pool.items m.at m.end _ _ _ _ _ _ x refl refl ops i);
       place = r.place;
-      kept = record { started = refl; count = refl; room = record { operands = c.perform.ensures.room; variables = refl; controls = refl } };
+      kept = record { started = refl; count = refl; room = record { operands = c.perform.ensures.room; variables = refl; pieces = refl } };
     })
 
 pub returns-in_err-perform-clause-spare : goal.returns-in_err-perform-clause-spare
@@ -41,8 +41,8 @@ returns-clause-made c =
     let q = c.perform.new.pool.items in
     record {
       made = λ x i n.
-          let st = plain_steps (setting_in t) (task_lists t) (code_in t) m.pool.items m.at m.end m.controls.0 m.variables.0 m.operands.0 c.args.instr x r.before_end r.place.within r.here i n q f.result r.shape f.longer f.same f.gives in
+          let st = plain_steps (setting_in t) (task_lists t) (code_in t) m.pool.items m.at m.end m.pieces.0 m.variables.0 m.operands.0 c.args.instr x r.before_end r.place.within r.here i n q f.result r.shape f.longer f.same f.gives in
           (st.next, st.made, is_with (setting_in t) (task_lists t) (code_in t) q _ _ _ _ _ _ _ _ st.next refl refl f.operands st.stands);
       place = record { order = omega (arith, r.before_end); within = r.place.within; pending = r.place.pending };
-      kept = record { started = refl; count = refl; room = record { operands = c.perform.ensures.room; variables = refl; controls = refl } };
+      kept = record { started = refl; count = refl; room = record { operands = c.perform.ensures.room; variables = refl; pieces = refl } };
     }

@@ -14,7 +14,7 @@ returns-then-not-may_cost_more c =
     let lt = c.if-self.true in
     let le = c.requires.place.within in
     λ x i n.
-    let charge = instr_charge (setting_in t) (task_lists t) (code_in t) m.pool.items m.at m.end m.controls.0 m.variables.0 m.operands.0 (get_or c.code.result.now m.at instrs.SelfObject) x lt le (instr_here t m.at m.end c.code.result.now lt le c.code.ensures.code) i n in
+    let charge = instr_charge (setting_in t) (task_lists t) (code_in t) m.pool.items m.at m.end m.pieces.0 m.variables.0 m.operands.0 (get_or c.code.result.now m.at instrs.SelfObject) x lt le (instr_here t m.at m.end c.code.result.now lt le c.code.ensures.code) i n in
     omega (arith, charge, c.may_cost_more.ensures c.if-not-may_cost_more.true (slot_lengths m.operands.0))
 
 pub returns-then-self : goal.returns-then-self
@@ -24,7 +24,7 @@ returns-then-self c =
     let lt = c.if-self.true in
     let le = c.requires.place.within in
     λ x i n.
-    let charge = instr_charge (setting_in t) (task_lists t) (code_in t) m.pool.items m.at m.end m.controls.0 m.variables.0 m.operands.0 (get_or c.code.result.now m.at instrs.SelfObject) x lt le (instr_here t m.at m.end c.code.result.now lt le c.code.ensures.code) i n in
+    let charge = instr_charge (setting_in t) (task_lists t) (code_in t) m.pool.items m.at m.end m.pieces.0 m.variables.0 m.operands.0 (get_or c.code.result.now m.at instrs.SelfObject) x lt le (instr_here t m.at m.end c.code.result.now lt le c.code.ensures.code) i n in
     omega (arith, charge, c.extra_charge.ensures, c.saturating_add.ensures)
 
 pub returns : goal.returns
@@ -32,7 +32,7 @@ returns c =
     let t = c.args.task in
     let m = c.args.self.now in
     let at_end : m.at ≡ m.end = omega (arith, c.if-self.false, c.requires.place.order) in
-    let first : IsFirstMark m.controls.0 = ⊎_elim (λ lt. absurd (omega (arith, lt, at_end))) (λ k. k) c.requires.front in
+    let first : IsFirstMark m.pieces.0 = ⊎_elim (λ lt. absurd (omega (arith, lt, at_end))) (λ k. k) c.requires.front in
     let is = c.in-Some.ensures in
     λ x i n.
     let j = subst (λ k. IsAt (setting_in t) (task_lists t) (code_in t) m.pool.items m.at m.end k m.variables.0 m.operands.0 x) is.1 i in

@@ -2,11 +2,11 @@ use Rattle.std.proofs.Common.{◌≡◌, ◌+◌, ◌-◌, ◌∷◌, ◌++◌, 
 use Rattle.std.specs.Prelude.{slice_get}
 use Rattle.rule_verify.specs.InstrKinds.{bound_count}
 use Rattle.rule_values.specs.Operations.{is_true, is_false, is_invalid}
-use Rattle.rule_machine.specs.declared.control.Control.TheVariants as control
+use Rattle.rule_machine.specs.declared.piece.Piece.TheVariants as piece
 use Rattle.rule_slots.specs.declared.slot.Slot.{Slot}
 use Rattle.rule_slots.specs.Slots.{lists_in, held_slots, invalid_mark, IsInHome}
 use Rattle.rule_machine.specs.StandFor.{IsAt, Between, kept_slots, turn_after}
-use Rattle.rule_machine.specs.Shown.{code_in, setting_in, task_lists, IsTurnIn, AreControlsIn}
+use Rattle.rule_machine.specs.Shown.{code_in, setting_in, task_lists, IsTurnIn, ArePiecesIn}
 use Rattle.rule_machine.proofs.Keeps.{count_low}
 use Rattle.rule_machine.proofs.MarkSteps.{Leaving, leaves}
 use Rattle.rule_machine.proofs.TurnEnds.{end_of, turn_over, flat_within, same_front}
@@ -96,21 +96,21 @@ returns-clause-over c =
     let os = c.pop.new.self.0 in
     let p2 = c.keep.new.pool.items in
     let eo = same_front m.operands.0 y _ _ os c.in-Some.ensures.1 c.in-Some-pop.ensures.items in
-    let ec = same_front m.controls.0 (control.Turning u) _ r.top.0 cs r.top.1 c.in-Some-pop-2.ensures.items in
+    let ec = same_front m.pieces.0 (piece.Turning u) _ r.top.0 cs r.top.1 c.in-Some-pop-2.ensures.items in
     let g : slice_get (held_slots l p u.source) (u.next - 1) ≡ Some c.element-last.result =
     subst (λ x. slice_get (held_slots x p u.source) (u.next - 1) ≡ Some c.element-last.result) c.lists-lists.ensures (subst (λ q. slice_get (held_slots (lists_in c.lists-lists.result) q u.source) (u.next - 1) ≡ Some c.element-last.result) c.deref.ensures.value c.element-last.ensures) in
     let kept = subst (λ x. p2 ≡ take (u.opened + u.kept) p ++ kept_slots x p u.instr c.element-last.result y) c.lists-lists.ensures c.in_ok-more.ensures.kept in
     let count = subst (λ x. c.in_ok-more.more ≡ length (kept_slots x p u.instr c.element-last.result y)) c.lists-lists.ensures c.in_ok-more.ensures.count in
-    let lies = subst (AreControlsIn code) ec r.place.pending in
+    let lies = subst (ArePiecesIn code) ec r.place.pending in
     let inside : IsTurnIn code (turn_after u c.in_ok-more.more y) = record { iterates = lies.0.iterates; order = lies.0.order; within = lies.0.within; next = lies.0.next; listed = lies.0.listed } in
     record {
       made = λ x i n.
           let i1 = subst (λ k. IsAt s l code p m.at m.end k m.variables.0 m.operands.0 x) ec i in
-          let i2 = subst (λ k. IsAt s l code p m.at m.end (control.Turning u ∷ cs) m.variables.0 k x) eo i1 in
+          let i2 = subst (λ k. IsAt s l code p m.at m.end (piece.Turning u ∷ cs) m.variables.0 k x) eo i1 in
           let count_is = c.drop_top.ensures.items ∙ ap (λ k. drop k m.variables.0) c.bound_count.ensures in
           let st = turn_over s l code p p2 u cs vs y os x c.element-last.result c.in_ok-more.more (subst (λ k. Leaving s l code p u cs k y os x) (sym count_is) (leaves s l code p m.at m.end u cs m.variables.0 y os x r.at_end i2 n)) g kept count in
           (st.0, st.1, subst (λ k. Between s l code p2 k y cs vs os st.0) (sym c.turn_after.ensures) st.2);
       turn = subst (IsTurnIn code) (sym c.turn_after.ensures) inside;
       place = record { order = r.place.order; within = r.place.within; pending = lies.1 };
-      kept = record { started = refl; count = refl; room = record { operands = c.in-Some-pop.ensures.room; variables = c.drop_top.ensures.room; controls = c.in-Some-pop-2.ensures.room } };
+      kept = record { started = refl; count = refl; room = record { operands = c.in-Some-pop.ensures.room; variables = c.drop_top.ensures.room; pieces = c.in-Some-pop-2.ensures.room } };
     }

@@ -24,8 +24,8 @@ returns c =
     let tells = c.keeps_distinct-distinct.ensures.told in
     record {
       made = λ d b.
-          let e = end_gives s l code p m.at m.end u c.args.last m.controls.0 m.variables.0 m.operands.0 d c.keeps_distinct-distinct.result c.ending-gives.result r.at_end b r.all tells c.ending-gives.ensures in
-          is_under s l code _ _ m.at m.end m.controls.0 m.variables.0 _ d pool (is_with s l code _ _ _ _ _ _ _ _ _ d refl refl c.push.ensures.items e);
+          let e = end_gives s l code p m.at m.end u c.args.last m.pieces.0 m.variables.0 m.operands.0 d c.keeps_distinct-distinct.result c.ending-gives.result r.at_end b r.all tells c.ending-gives.ensures in
+          is_under s l code _ _ m.at m.end m.pieces.0 m.variables.0 _ d pool (is_with s l code _ _ _ _ _ _ _ _ _ d refl refl c.push.ensures.items e);
       place = r.place;
-      kept = record { started = refl; count = refl; room = record { operands = c.push.ensures.room; variables = refl; controls = refl } };
+      kept = record { started = refl; count = refl; room = record { operands = c.push.ensures.room; variables = refl; pieces = refl } };
     }

@@ -63,4 +63,4 @@ steps-preserved g c =
     let s = standing_same t c.args.object c.steps.self m1 c.steps.book.total c.in_default.ensures.same c.steps.invariant.1 in
     let r = standing_next t c.args.object m1 c.step.new.self c.steps.book.total c.with_charge-self.result c.charge-charge.result c.charge-charge.ensures c.in_default.ensures.front made c.with_charge-self.ensures s in
     let room = rooms_joined t c.args.self.now m1 c.step.new.self (rooms_joined t c.args.self.now c.steps.self m1 c.steps.invariant.2 c.in_default.ensures.same.kept.room) made.kept.room in
-    (omega (arith, c.steps.invariant.0, c.add.ensures.parts), subst (Standing t c.args.object (counted t c.step.new.self c.with_charge-self.result)) (sym c.add.ensures.total) r, record { operands = room.operands; variables = room.variables; controls = room.controls })
+    (omega (arith, c.steps.invariant.0, c.add.ensures.parts), subst (Standing t c.args.object (counted t c.step.new.self c.with_charge-self.result)) (sym c.add.ensures.total) r, record { operands = room.operands; variables = room.variables; pieces = room.pieces })

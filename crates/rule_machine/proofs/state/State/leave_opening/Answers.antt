@@ -1,8 +1,8 @@
 use Rattle.std.proofs.Common.{List, ◌∙◌, drop, inl, inr, refl, sym, ap, subst}
 use Rattle.rule_slots.specs.declared.slot.Slot.{Slot}
-use Rattle.rule_machine.specs.declared.control.Control.TheVariants as control
+use Rattle.rule_machine.specs.declared.piece.Piece.TheVariants as piece
 use Rattle.rule_machine.specs.StandFor.{IsAt, Between}
-use Rattle.rule_machine.specs.Shown.{code_in, setting_in, task_lists, AreControlsIn}
+use Rattle.rule_machine.specs.Shown.{code_in, setting_in, task_lists, ArePiecesIn}
 use Rattle.rule_machine.proofs.Blocks.{above_is}
 use Rattle.rule_machine.proofs.MarkSteps.{open_steps, start_there}
 use Rattle.rule_machine.proofs.TurnEnds.{same_front}
@@ -33,8 +33,8 @@ returns-then-operands_above-eq0-clause-over c =
     let p = m.pool.items in
     let start = c.invalid_slot.result in
     let cs = c.pop.new.self.0 in
-    let ec = same_front m.controls.0 (control.Opened u) _ r.top.0 cs r.top.1 c.in-Some.ensures.items in
-    let lies = subst (AreControlsIn code) ec r.place.pending in
+    let ec = same_front m.pieces.0 (piece.Opened u) _ r.top.0 cs r.top.1 c.in-Some.ensures.items in
+    let lies = subst (ArePiecesIn code) ec r.place.pending in
     let none = sym c.operands_above.ensures ∙ c.if-operands_above-eq0.true in
     record {
       made = λ x i n.
@@ -42,7 +42,7 @@ returns-then-operands_above-eq0-clause-over c =
           (st.0, st.1, subst (λ k. Between s l code p u start cs m.variables.0 (drop k m.operands.0) st.0) none st.2);
       turn = lies.0;
       place = record { order = r.place.order; within = r.place.within; pending = lies.1 };
-      kept = record { started = refl; count = refl; room = record { operands = refl; variables = refl; controls = c.in-Some.ensures.room } };
+      kept = record { started = refl; count = refl; room = record { operands = refl; variables = refl; pieces = c.in-Some.ensures.room } };
     }
 
 pub returns-clause-over : goal.returns-clause-over
@@ -58,8 +58,8 @@ returns-clause-over c =
     let start = c.in-Some-pop.start in
     let cs = c.pop.new.self.0 in
     let os = c.pop-2.new.self.0 in
-    let ec = same_front m.controls.0 (control.Opened u) _ r.top.0 cs r.top.1 c.in-Some.ensures.items in
-    let lies = subst (AreControlsIn code) ec r.place.pending in
+    let ec = same_front m.pieces.0 (piece.Opened u) _ r.top.0 cs r.top.1 c.in-Some.ensures.items in
+    let lies = subst (ArePiecesIn code) ec r.place.pending in
     let one = above_is u.instr (λ e. c.if-operands_above-eq0.false (c.operands_above.ensures ∙ e)) in
     let left = ap (λ k. drop k m.operands.0) one ∙ ap (λ (l : List Slot). drop 1 l) c.in-Some-pop.ensures.items in
     record {
@@ -68,5 +68,5 @@ returns-clause-over c =
           (st.0, st.1, subst (λ k. Between s l code p u start cs m.variables.0 k st.0) left st.2);
       turn = lies.0;
       place = record { order = r.place.order; within = r.place.within; pending = lies.1 };
-      kept = record { started = refl; count = refl; room = record { operands = c.in-Some-pop.ensures.room; variables = refl; controls = c.in-Some.ensures.room } };
+      kept = record { started = refl; count = refl; room = record { operands = c.in-Some-pop.ensures.room; variables = refl; pieces = c.in-Some.ensures.room } };
     }

@@ -1,7 +1,7 @@
 use Rattle.std.proofs.Common.{arith, refl, ◌∙◌, ◌≤◌, ◌+◌, ◌∷◌, sym, ap, subst}
-use Rattle.rule_machine.specs.declared.control.Control.TheVariants as control
+use Rattle.rule_machine.specs.declared.piece.Piece.TheVariants as piece
 use Rattle.rule_machine.specs.StandFor.{opening_mark}
-use Rattle.rule_machine.specs.Shown.{code_in, setting_in, task_lists, AreControlsIn}
+use Rattle.rule_machine.specs.Shown.{code_in, setting_in, task_lists, ArePiecesIn}
 use Rattle.rule_machine.proofs.Blocks.{fold_iterates}
 use Rattle.rule_machine.proofs.InstrSteps.{block_nests, block_has_operand, fold_has_source, fold_steps}
 use Rattle.rule_machine.proofs.Lies.{is_with, mark_in}
@@ -12,14 +12,14 @@ unreachable-requires c =
     let m = c.args.self.now in
     let r = c.requires in
     let t = c.args.task in
-    block_nests (setting_in t) (task_lists t) (code_in t) m.pool.items m.at m.end m.controls.0 m.variables.0 m.operands.0 c.args.instr r.goes.0 r.before_end r.place.within r.here r.goes.1 r.goes.2 c.args.body r.shape (omega (arith, c.if-body-self.true, r.before_end))
+    block_nests (setting_in t) (task_lists t) (code_in t) m.pool.items m.at m.end m.pieces.0 m.variables.0 m.operands.0 c.args.instr r.goes.0 r.before_end r.place.within r.here r.goes.1 r.goes.2 c.args.body r.shape (omega (arith, c.if-body-self.true, r.before_end))
 
 pub unreachable-requires-in_default : goal.unreachable-requires-in_default
 unreachable-requires-in_default c =
     let m = c.args.self.now in
     let r = c.requires in
     let t = c.args.task in
-    block_has_operand (setting_in t) (task_lists t) (code_in t) m.pool.items m.at m.end m.controls.0 m.variables.0 m.operands.0 c.args.instr r.goes.0 r.before_end r.place.within r.here r.goes.1 r.goes.2 c.args.body r.shape (omega (arith, c.if-body-self.false, r.before_end)) c.in_default.ensures.items.0
+    block_has_operand (setting_in t) (task_lists t) (code_in t) m.pool.items m.at m.end m.pieces.0 m.variables.0 m.operands.0 c.args.instr r.goes.0 r.before_end r.place.within r.here r.goes.1 r.goes.2 c.args.body r.shape (omega (arith, c.if-body-self.false, r.before_end)) c.in_default.ensures.items.0
 
 pub unreachable-requires-in_default-pop : goal.unreachable-requires-in_default-pop
 unreachable-requires-in_default-pop c =
@@ -27,7 +27,7 @@ unreachable-requires-in_default-pop c =
     let r = c.requires in
     let t = c.args.task in
     let one = c.in-Some.ensures.items ∙ ap (λ l. c.in-Some.start ∷ l) c.in_default-pop.ensures.items.0 in
-    fold_has_source (setting_in t) (task_lists t) (code_in t) m.pool.items m.at m.end m.controls.0 m.variables.0 m.operands.0 c.args.instr r.goes.0 r.before_end r.place.within r.here r.goes.1 r.goes.2 c.args.body r.shape r.above (omega (arith, c.if-body-self.false, r.before_end)) c.in-Some.start one
+    fold_has_source (setting_in t) (task_lists t) (code_in t) m.pool.items m.at m.end m.pieces.0 m.variables.0 m.operands.0 c.args.instr r.goes.0 r.before_end r.place.within r.here r.goes.1 r.goes.2 c.args.body r.shape r.above (omega (arith, c.if-body-self.false, r.before_end)) c.in-Some.start one
 
 pub returns : goal.returns
 returns c =
@@ -42,16 +42,16 @@ returns c =
     let it = fold_iterates i r.above in
     let long = c.len.ensures ∙ m.pool.ok.0 in
     let em = c.opening.ensures ∙ ap (opening_mark i (m.at + 1) (m.at + 1 + c.args.body) source) long in
-    let ec = c.push-2.ensures.items ∙ ap (λ l. c.opening.result ∷ l) c.push.ensures.items ∙ ap (λ k. k ∷ control.Rest (m.at + 1 + c.args.body) m.end ∷ m.controls.0) em in
+    let ec = c.push-2.ensures.items ∙ ap (λ l. c.opening.result ∷ l) c.push.ensures.items ∙ ap (λ k. k ∷ piece.Rest (m.at + 1 + c.args.body) m.end ∷ m.pieces.0) em in
     let two = c.in-Some.ensures.items ∙ ap (λ l. start ∷ l) c.in-Some-pop.ensures.items in
     record {
       made = λ x is n.
-          let st = fold_steps (setting_in t) (task_lists t) (code_in t) m.pool.items m.at m.end m.controls.0 m.variables.0 m.operands.0 i x r.before_end r.place.within r.here is n c.args.body r.shape r.above nests start source left two in
+          let st = fold_steps (setting_in t) (task_lists t) (code_in t) m.pool.items m.at m.end m.pieces.0 m.variables.0 m.operands.0 i x r.before_end r.place.within r.here is n c.args.body r.shape r.above nests start source left two in
           (st.next, st.made, is_with (setting_in t) (task_lists t) (code_in t) m.pool.items _ _ _ _ _ _ _ _ st.next ec refl c.leave_start.ensures.items st.stands);
       place = record {
         order = omega arith;
         within = omega (arith, nests, r.place.within);
-        pending = subst (AreControlsIn (code_in t)) (sym ec) (mark_in (code_in t) i (m.at + 1) (m.at + 1 + c.args.body) source _ it (omega arith) (omega (arith, nests, r.place.within)) m.at r.here, ((nests, r.place.within), r.place.pending));
+        pending = subst (ArePiecesIn (code_in t)) (sym ec) (mark_in (code_in t) i (m.at + 1) (m.at + 1 + c.args.body) source _ it (omega arith) (omega (arith, nests, r.place.within)) m.at r.here, ((nests, r.place.within), r.place.pending));
       };
-      kept = record { started = refl; count = refl; room = record { operands = c.leave_start.ensures.room ∙ c.in-Some-pop.ensures.room ∙ c.in-Some.ensures.room; variables = refl; controls = c.push-2.ensures.room ∙ c.push.ensures.room } };
+      kept = record { started = refl; count = refl; room = record { operands = c.leave_start.ensures.room ∙ c.in-Some-pop.ensures.room ∙ c.in-Some.ensures.room; variables = refl; pieces = c.push-2.ensures.room ∙ c.push.ensures.room } };
     }

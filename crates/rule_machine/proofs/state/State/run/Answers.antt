@@ -14,7 +14,7 @@ steps-init c =
       rule = c.requires.rule;
       stands = its_stand t m c.requires.rule c.requires.stands;
       came = subst (λ n. Came t m n m) e (came_none t m);
-      room = record { operands = refl; variables = refl; controls = refl };
+      room = record { operands = refl; variables = refl; pieces = refl };
     }
 
 pub verdict_at_end-requires-clause-place : goal.verdict_at_end-requires-clause-place
@@ -111,5 +111,5 @@ steps-preserved c =
       rule = task_next t m m1 c.step.new.self c.with_charge-self.result same made i.rule;
       stands = somewhere_next t m1 c.step.new.self c.with_charge-self.result charge c.charge-charge.ensures front made c.with_charge-self.ensures (somewhere_same t m m1 same i.stands);
       came = subst (λ n. Came t c.args.self.now n new) e (came_next t c.args.self.now m m1 c.step.new.self (c.args.grant - c.steps.left) c.with_charge-self.result charge same c.charge-charge.ensures small front made c.with_charge-self.ensures i.came);
-      room = record { operands = room.operands; variables = room.variables; controls = room.controls };
+      room = record { operands = room.operands; variables = room.variables; pieces = room.pieces };
     }

@@ -4,7 +4,7 @@ use Rattle.rule_verify.specs.CodeTree.{code_tree}
 use Rattle.rule_slots.specs.Slots.{index_slot}
 use Rattle.rule_machine.specs.Machine.{start}
 use Rattle.rule_machine.specs.StandFor.{IsAt}
-use Rattle.rule_machine.specs.Shown.{code_in, setting_in, task_lists, AreControlsIn}
+use Rattle.rule_machine.specs.Shown.{code_in, setting_in, task_lists, ArePiecesIn}
 use Rattle.rule_machine.proofs.Starts.{starts}
 use Rattle.rule_machine.proofs.Theorems.{code_balanced}
 use Rattle.rule_machine.proofs.Lies.{is_with, is_under}
@@ -23,7 +23,7 @@ returns-clause-started c =
     let vars = c.push.ensures.items ∙ ap (λ x. x ∷ c.clear-2.new.self.0) (c.index_slot.ensures ∙ ap index_slot c.index.ensures) ∙ ap (λ x. index_slot o ∷ x) c.clear-2.ensures.items in
     record {
       is = is_under s l code [] _ 0 _ _ _ _ begin c.clear-4.ensures.items (is_with s l code [] 0 _ [] _ (index_slot o ∷ []) _ [] _ begin c.clear.ensures.items vars c.clear-3.ensures.items (subst (λ n. IsAt s l code [] 0 n [] (index_slot o ∷ []) [] begin) (sym long) here));
-      place = record { order = omega arith; within = omega (arith, long); pending = subst (AreControlsIn code) (sym c.clear.ensures.items) tt };
+      place = record { order = omega arith; within = omega (arith, long); pending = subst (ArePiecesIn code) (sym c.clear.ensures.items) tt };
       started = refl;
       count = refl;
     }

@@ -1,6 +1,6 @@
 use Rattle.std.proofs.Common.{◌<◌, ◌∷◌, [], Some, inl, inr, refl, arith, sym, ap, ◌∙◌, subst}
 use Rattle.rule_machine.specs.StandFor.{IsAt}
-use Rattle.rule_machine.specs.Shown.{code_in, setting_in, task_lists, AreControlsIn, IsFirstMark}
+use Rattle.rule_machine.specs.Shown.{code_in, setting_in, task_lists, ArePiecesIn, IsFirstMark}
 use Rattle.rule_machine.proofs.Verdicts.{end_has_operand, end_is, rest_is, is_mark}
 use Rattle.rule_machine.proofs.Lies.{is_with, tail_taken}
 use Rattle.rule_machine.proofs.Rooms.{front_has_none}
@@ -36,14 +36,14 @@ loop-self-preserved c =
     let code = code_in t in
     let top = c.in-Some.ensures in
     let ec = top.1 ∙ ap (λ k. k ∷ top.0) c.in-Rest.is in
-    let tail = tail_taken c.pop.result m.controls.0 c.pop.new.self.0 _ top.0 c.pop.ensures.items ec in
-    let lies = subst (AreControlsIn code) ec inv.place.pending in
+    let tail = tail_taken c.pop.result m.pieces.0 c.pop.new.self.0 _ top.0 c.pop.ensures.items ec in
+    let lies = subst (ArePiecesIn code) ec inv.place.pending in
     record {
       same = λ x i.
           let j = subst (λ k. IsAt s l code m.pool.items m.at m.end k m.variables.0 m.operands.0 x) ec (inv.same x i) in
           is_with s l code m.pool.items c.in-Rest.from c.in-Rest.end top.0 _ m.variables.0 _ m.operands.0 _ x tail refl refl (rest_is s l code m.pool.items m.at m.end c.in-Rest.from c.in-Rest.end top.0 m.variables.0 m.operands.0 x c.loop-self-test.true j);
-      place = record { order = lies.0.0; within = lies.0.1; pending = subst (AreControlsIn code) (sym tail) lies.1 };
-      kept = record { started = inv.kept.started; count = inv.kept.count; room = record { operands = inv.kept.room.operands; variables = inv.kept.room.variables; controls = c.pop.ensures.room ∙ inv.kept.room.controls } };
+      place = record { order = lies.0.0; within = lies.0.1; pending = subst (ArePiecesIn code) (sym tail) lies.1 };
+      kept = record { started = inv.kept.started; count = inv.kept.count; room = record { operands = inv.kept.room.operands; variables = inv.kept.room.variables; pieces = c.pop.ensures.room ∙ inv.kept.room.pieces } };
     }
 
 pub returns-in_default-mark : goal.returns-in_default-mark

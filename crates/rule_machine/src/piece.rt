@@ -22,7 +22,7 @@ pub(crate) struct Turn {
 
 /// What is pending after the sequence that runs.
 #[derive(Clone, Copy)]
-pub(crate) enum Control {
+pub(crate) enum Piece {
     /// The rest of a sequence: the indices of its first instruction and of the end.
     Rest(usize, usize),
     /// The end of a LET.
