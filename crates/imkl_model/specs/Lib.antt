@@ -13,7 +13,9 @@ pub mod Scopes
 pub mod Numbering
 pub mod Description
 pub mod Laws
--- Bookkeeping: views, layouts, walks and tables that only proofs and private contracts use.
+-- Bookkeeping: views, layouts, walks and tables that only proofs and private contracts use. Spelled: what is known of
+-- `Written`. Drafts: what is known before the last checks. Tables: rows of marks. Held: what tables keep for look-ups.
+-- Ranks: names in order. Groups: features of one name.
 pub mod Spelled
 pub mod Drafts
 pub mod Tables

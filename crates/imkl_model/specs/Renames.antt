@@ -45,11 +45,11 @@ is_for m c i = conforms m c (feature_rename_at m i).class
 abbrev pub feature_rename_number : Model → ℕ → List ℕ → Option ℕ
 feature_rename_number m c name = least (λ i. bytes_eq name (feature_rename_at m i).old && is_for m c i) (length m.renames.features)
 
--- the same of the name of a feature of a class
+-- the name of a feature of a class itself, or the present one where an entry for the class has it as an old name
 abbrev pub renamed_in : Model → ℕ → List ℕ → List ℕ
 renamed_in m c name = option_map_or (λ i. (feature_at m (feature_rename_at m i).feature).name) (feature_rename_number m c name) name
 
--- the same where the class has this present name
+-- the same of the class with this present name
 abbrev pub renamed_feature : Model → List ℕ → List ℕ → List ℕ
 renamed_feature m class name = option_map_or (λ c. renamed_in m c name) (class_number m class) name
 

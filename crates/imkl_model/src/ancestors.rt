@@ -1,4 +1,4 @@
-//! Which classes each class reaches by superclass steps.
+//! Which classes each class reaches by superclass steps, by Warshall's algorithm.
 
 ghost use Rattle.std.specs.Prelude.{◌≡◌, ◌==◌, ℕ, ◌<◌, ◌&&◌, ◌||◌, length, All, IfOk};
 ghost use Rattle.std.specs.List.{list_any};
@@ -36,7 +36,7 @@ fn direct_rows(alloc: Global, classes: &[Class]) -> Result<Vec<Row>, AllocError>
     Ok(rows)
 }
 
-/// Joins steps to the class k with steps from it, which stand in the middle row.
+/// Adds the classes of the middle row to the row of each class that reaches the class k.
 fn pass(rows: &mut Vec<Row>, middle: &Row, k: usize)
     requires in_range { k < length rows.old.items }
     requires square { IsSquare (length rows.old.items) rows.old.items }
@@ -53,7 +53,7 @@ fn pass(rows: &mut Vec<Row>, middle: &Row, k: usize)
     }
 }
 
-/// Joins steps to the class k with steps from it.
+/// One round of Warshall's algorithm: joins steps to the class k with steps from it.
 fn round(rows: &mut Vec<Row>, middle: &mut Row, k: usize)
     requires in_range { k < length rows.old.items }
     requires square { IsSquare (length rows.old.items) rows.old.items }

@@ -10,7 +10,7 @@ use crate::feature_table::FeatureTable;
 use crate::numbers::{ClassNo, FeatureNo};
 
 /// The first of some features that belongs to a class.
-pub(crate) fn first_belonging(
+pub(crate) fn first_of_class(
     classes: &ClassTable,
     features: &FeatureTable,
     class: ClassNo,
@@ -31,7 +31,8 @@ pub(crate) fn first_belonging(
     None
 }
 
-/// The feature of a group that a class has from a class above it. The class has none of its own.
+/// The feature of a group that a class has from a class above it. The class has none of its own. (The row of owners has a
+/// mark for each class; no invariant says so, so its length is compared, and otherwise each feature is looked at.)
 pub(crate) fn feature_above(
     classes: &ClassTable,
     features: &FeatureTable,
@@ -45,7 +46,7 @@ pub(crate) fn feature_above(
 {
     let owners = group.owners();
     if owners.len() != classes.len() {
-        return first_belonging(classes, features, class, group.numbers());
+        return first_of_class(classes, features, class, group.numbers());
     }
     let owner = classes.above(class).common(owners)?;
     group.own(ClassNo::new(owner))

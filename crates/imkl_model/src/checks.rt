@@ -1,4 +1,4 @@
-//! Counts and bounds.
+//! Whether counts are within their limits, and bounds in order.
 
 ghost use Rattle.std.specs.Prelude.{◌≡◌, length, nat_le};
 ghost use Rattle.std.specs.List.{list_all};

@@ -52,6 +52,7 @@ fn meet_somewhere(
     Ok(false)
 }
 
+/// Whether the first of some features is this one.
 pub(crate) fn begins_with(numbers: &[FeatureNo], number: FeatureNo) -> bool
     ensures { result ≡ begins_with numbers.now number }
 {

@@ -52,18 +52,21 @@ impl ClassTable {
         })
     }
 
+    /// How many there are.
     pub(crate) fn len(&self) -> usize
         ensures { result ≡ length self.now }
     {
         self.classes.len()
     }
 
+    /// All of them, by their numbers.
     pub(crate) fn entries(&self) -> &[Class]
         ensures { result.now ≡ self.now }
     {
         self.classes.as_slice()
     }
 
+    /// The one of this number.
     pub(crate) fn at(&self, class: ClassNo) -> &Class
         requires { class < length self.now }
         ensures { result.now ≡ slice_index_or self.now class no_class }
@@ -71,6 +74,7 @@ impl ClassTable {
         &self.classes[class.index()]
     }
 
+    /// The number of the one of this name.
     pub(crate) fn number_of(&self, name: &str) -> Option<ClassNo>
         ensures { result ≡ position (bytes_eq name.now) (names_of_classes self.now) }
     {
@@ -80,6 +84,7 @@ impl ClassTable {
         }
     }
 
+    /// Whether zero or more superclass steps lead from one class to the other.
     pub(crate) fn conforms(&self, from: ClassNo, to: ClassNo) -> bool
         requires from { from < length self.now }
         requires to { to < length self.now }

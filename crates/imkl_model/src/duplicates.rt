@@ -1,4 +1,4 @@
-//! Repeated names.
+//! Names of what is listed, and whether one is repeated where names must differ.
 
 ghost use Rattle.std.specs.Prelude.{◌≡◌, ◌++◌, false, not, map, is_some, IfOk, IfSome, OnOk, bytes_eq, string_bytes};
 ghost use Rattle.std.specs.List.{list_any};
@@ -130,7 +130,7 @@ fn any_twice<T: Named>(alloc: Global, items: &[T]) -> Result<bool, AllocError>
     Ok(found.is_none())
 }
 
-fn predefined_enumeration(enumerations: &[WrittenEnumeration]) -> bool
+fn has_predefined_enumeration(enumerations: &[WrittenEnumeration]) -> bool
     ensures { result ≡ list_any is_predefined (map (λ e. e.name) enumerations.now) }
 {
     for enumeration in enumerations {
@@ -141,7 +141,7 @@ fn predefined_enumeration(enumerations: &[WrittenEnumeration]) -> bool
     false
 }
 
-fn predefined_class(classes: &[WrittenClass]) -> bool
+fn has_predefined_class(classes: &[WrittenClass]) -> bool
     ensures { result ≡ list_any is_predefined (map (λ c. c.name) classes.now) }
 {
     for class in classes {
@@ -152,7 +152,7 @@ fn predefined_class(classes: &[WrittenClass]) -> bool
     false
 }
 
-fn predefined_rename(renames: &[WrittenClassRename]) -> bool
+fn has_predefined_rename(renames: &[WrittenClassRename]) -> bool
     ensures { result ≡ list_any is_predefined (map (λ r. r.old) renames.now) }
 {
     for rename in renames {
@@ -172,9 +172,9 @@ fn repeats_type(alloc: Global, written: &Written) -> Result<bool, AllocError>
     let enumerations = written.enumerations.as_slice();
     let classes = written.classes.as_slice();
     let renames = written.class_renames.as_slice();
-    if predefined_enumeration(enumerations)
-        || predefined_class(classes)
-        || predefined_rename(renames)
+    if has_predefined_enumeration(enumerations)
+        || has_predefined_class(classes)
+        || has_predefined_rename(renames)
     {
         return Ok(true);
     }

@@ -39,18 +39,21 @@ impl EnumerationTable {
         }
     }
 
+    /// How many there are.
     pub(crate) fn len(&self) -> usize
         ensures { result ≡ length self.now }
     {
         self.enumerations.len()
     }
 
+    /// All of them, by their numbers.
     pub(crate) fn entries(&self) -> &[Enumeration]
         ensures { result.now ≡ self.now }
     {
         self.enumerations.as_slice()
     }
 
+    /// The one of this number.
     pub(crate) fn at(&self, enumeration: EnumNo) -> &Enumeration
         requires { enumeration < length self.now }
         ensures { result.now ≡ slice_index_or self.now enumeration no_enumeration }
@@ -58,6 +61,7 @@ impl EnumerationTable {
         &self.enumerations[enumeration.index()]
     }
 
+    /// The number of the one of this name.
     pub(crate) fn number_of(&self, name: &str) -> Option<EnumNo>
         ensures { result ≡ position (bytes_eq name.now) (names_of_enumerations self.now) }
     {

@@ -15,7 +15,8 @@ pub enum ModelFault {
     #[error("not JSON")]
     NotJson,
     /// The JSON text isn't that of a class model: a member is missing or there is one too many, a value has the wrong
-    /// type, a name is no identifier, is reserved or too long, or a bound isn't a whole number from 0 to 1,000,000.
+    /// type, a name is no identifier, is reserved or too long, the class model's own name is empty or too long, or a bound
+    /// isn't a whole number from 0 to 1,000,000 (an upper bound may be null).
     #[error("not the shape of a class model")]
     Shape,
     /// A name is repeated where names must differ, or a class or enumeration has the name of a predefined type. A class's

@@ -56,6 +56,7 @@ impl FeatureGroup {
         Ok(())
     }
 
+    /// The numbers of the features, in order.
     pub(crate) fn numbers(&self) -> &[FeatureNo]
         ensures { result.now ≡ self.now.numbers }
     {

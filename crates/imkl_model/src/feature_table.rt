@@ -47,18 +47,21 @@ impl FeatureTable {
         Ok(FeatureTable { features, groups })
     }
 
+    /// How many there are.
     pub(crate) fn len(&self) -> usize
         ensures { result ≡ length self.now }
     {
         self.features.len()
     }
 
+    /// All of them, by their numbers.
     pub(crate) fn entries(&self) -> &[FeatureInfo]
         ensures { result.now ≡ self.now }
     {
         self.features.as_slice()
     }
 
+    /// The one of this number.
     pub(crate) fn at(&self, feature: FeatureNo) -> &FeatureInfo
         requires { feature < length self.now }
         ensures { result.now ≡ feature_in self.now feature }

@@ -7,7 +7,7 @@ ghost use Rattle.imkl_model.specs.Renames.{renames_clash};
 ghost use Rattle.imkl_model.specs.WellFormed.{IsClassModel};
 ghost use Rattle.imkl_model.specs.Laws as laws;
 
-/// The test of conformance is that of a chain of zero or more superclass steps.
+/// The test of conformance says whether a chain of zero or more superclass steps leads from one class to the other.
 pub fn conforming()
     ensures { (m : Model) (c d : ℕ) → Decides (conforms m c d) (Conforms m c d) }
 {}

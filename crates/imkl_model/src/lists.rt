@@ -24,6 +24,7 @@ pub(crate) trait Spelled: Drop {
     /// What is known of it besides.
     ghost fits: { Self → Type 0 };
 
+    /// What the tree spells, or its first fault.
     fn of(alloc: Global, value: &Value) -> Result<Self, ModelFault>
     where
         Self: Sized,

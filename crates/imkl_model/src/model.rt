@@ -1,4 +1,4 @@
-//! A class model and its reads.
+//! A class model, and what is asked of it.
 
 ghost use Rattle.std.specs.Prelude.{◌≡◌, ◌<◌, [], true, length, Decides, IfOk, IfSome, slice_index_or};
 ghost use Rattle.imkl_model.specs.ClassModel.{Conforms, conforms, belongs, enumeration_at, class_at, feature_at, class_number, enumeration_number, literal_number, feature_number};
@@ -29,9 +29,9 @@ use std::marker::Model;
 
 /// A class model: enumerations, classes with superclasses, attributes and associations.
 ///
-/// A number that is handed to a read is one of this class model: a class's is below `class_count`, an enumeration's below
+/// A number that is handed to a query is one of this class model: a class's is below `class_count`, an enumeration's below
 /// `enumeration_count`, a feature's below `feature_count`, a literal's below the count of its enumeration's literals.
-/// No read takes memory.
+/// No query takes memory; `read` makes the class model.
 #[derive(Drop)]
 pub struct ClassModel {
     name: Text,
@@ -68,8 +68,9 @@ impl Model for ClassModel {
 }
 
 impl ClassModel {
-    /// What every class model keeps: numbers are in range, names differ, bounds are in order, ends are paired, no class
-    /// is above itself, no features clash, and counts are within their limits.
+    /// What every class model keeps: names are names and differ where they must, numbers are in range, bounds are in
+    /// order, ends are paired, no class is above itself, no features clash, by old names either, and counts are within
+    /// their limits.
     pub fn well_formed(&self)
         ensures { IsClassModel self.now }
     {

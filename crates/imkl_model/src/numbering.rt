@@ -132,6 +132,7 @@ fn feature_of(
     })
 }
 
+/// The features with numbers for names, or `UnknownName`.
 pub(crate) fn features_of(
     alloc: Global,
     scope: &Scope,
@@ -171,6 +172,7 @@ fn class_of(alloc: Global, scope: &Scope, class: &WrittenClass) -> Result<Class,
     })
 }
 
+/// The classes with numbers for names, or `UnknownName`.
 pub(crate) fn classes_of(
     alloc: Global,
     scope: &Scope,
@@ -198,6 +200,7 @@ fn enumeration_of(
     Ok(Enumeration { name, literals })
 }
 
+/// The enumerations, each with its literals' names, which differ.
 pub(crate) fn enumerations_of(
     alloc: Global,
     enumerations: &[WrittenEnumeration],
@@ -212,6 +215,7 @@ pub(crate) fn enumerations_of(
     Ok(found)
 }
 
+/// The names of the associations.
 pub(crate) fn association_names(
     alloc: Global,
     associations: &[WrittenAssociation],
@@ -238,6 +242,7 @@ fn class_rename_of(
     Ok(ClassRename { old, class })
 }
 
+/// The old names of classes with the classes' numbers, or `UnknownName`.
 pub(crate) fn class_renames_of(
     alloc: Global,
     scope: &Scope,
@@ -275,6 +280,7 @@ fn feature_rename_of(
     })
 }
 
+/// The old names of features with the features' numbers, or `UnknownName`.
 pub(crate) fn feature_renames_of(
     alloc: Global,
     scope: &Scope,

@@ -114,6 +114,7 @@ impl RenameTable {
         Some(self.entry(alias.index()).feature)
     }
 
+    /// The old name of a feature at this index.
     fn entry(&self, index: usize) -> &FeatureRename
         requires { index < length self.now.features }
         ensures { result.now ≡ slice_index_or self.now.features index no_feature_rename }
@@ -122,6 +123,7 @@ impl RenameTable {
     }
 }
 
+/// An old name of a feature as a feature of its class: only its name and its owner mean something.
 fn alias_of(alloc: Global, rename: &FeatureRename) -> Result<FeatureInfo, AllocError>
     ensures { IfOk result (λ f. f ≡ alias_of rename.now) }
 {
@@ -136,6 +138,7 @@ fn alias_of(alloc: Global, rename: &FeatureRename) -> Result<FeatureInfo, AllocE
     })
 }
 
+/// The same of each.
 fn aliases_of(alloc: Global, renames: &[FeatureRename]) -> Result<Vec<FeatureInfo>, AllocError>
     ensures { IfOk result (λ v. v.items ≡ map alias_of renames.now) }
 {

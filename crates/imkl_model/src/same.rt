@@ -12,6 +12,7 @@ use ocl_base::Text;
 pub(crate) trait Same {
     ghost use Rattle.std.specs.Prelude.{◌≡◌, Decides};
 
+    /// Whether both have equal content.
     fn is_same(&self, other: &Self) -> bool
         ensures { Decides result (self.now ≡ other.now) };
 }
