@@ -111,7 +111,7 @@ places_after s (Torn i left) vars ps = ps
 abbrev pub end_place : Setting → CodeTree → List Place → Place
 end_place s body vars = top_place (places_after s body vars [])
 
--- ---- marks
+-- ---- marks: the places that pending pieces stand at
 
 -- the places of the variables and of the operands
 pub record Stand : Type 0 where
@@ -121,7 +121,7 @@ pub record Stand : Type 0 where
 abbrev pub stand : List Place → List Place → Stand
 stand vars ps = record { variables = vars; operands = ps }
 
--- What a pending piece stands at: the places when its turn comes. Of an iteration: the place where its source stood,
+-- What a pending piece stands at: the places when it comes first. Of an iteration: the place where its source stood,
 -- the place of what its body ends with, and the places below them.
 pub data Mark : Type 0 where
   Here : Stand → Mark

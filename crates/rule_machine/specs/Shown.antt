@@ -26,7 +26,7 @@ use Rattle.rule_machine.specs.Verdict.{outcome}
 use Rattle.rule_machine.specs.Live.{is_iteration}
 use Rattle.rule_machine.specs.StandFor.{IsAt, Between}
 
--- ---- what a run is over
+-- ---- what a run works on
 
 abbrev pub code_in : Task → List Instr
 code_in t = (unit_rule t.accepted.now.unit t.rule).code
@@ -50,7 +50,7 @@ pub record IsTask (t : Task) : Type 0 where
 
 -- ---- places
 
--- the body lies in the code, and no more elements are taken than there are; what gathers is in the code
+-- the body lies in the code, no more elements are taken than there are, and an instruction that gathers stands in the code
 pub record IsTurnIn (code : List Instr) (t : Turn) : Type 0 where
   pub iterates : is_iteration t.instr ≡ true
   pub order : t.from ≤ t.end
@@ -161,13 +161,13 @@ pub record Stepped (t : Task) (old new : State) : Type 0 where
   pub place : LiesIn t new
   pub kept : Kept old new
 
--- ---- marks: what is pending after a sequence, and is no sequence
+-- ---- pieces that are no sequences
 
 abbrev pub IsMark : Pending → Type 0
 IsMark (piece.Rest from end) = ⊥
 IsMark c = Unit {0}
 
--- a mark comes first
+-- such a piece comes first
 abbrev pub IsFirstMark : List Pending → Type 0
 IsFirstMark [] = ⊥
 IsFirstMark (c ∷ cs) = IsMark c
@@ -189,7 +189,7 @@ slot_lengths ss = map slot_length ss
 abbrev pub turn_charge_by : Instr → ℕ → ℕ → ℕ
 turn_charge_by i l n = if nat_le l n then ending_charge i l else 0
 
--- what the step of a mark is charged, by the lengths of the operands
+-- what the step of such a piece is charged, by the lengths of the operands
 abbrev pub mark_charge_by : Pending → List ℕ → ℕ
 mark_charge_by (piece.Opened t) ls = 1 + turn_charge_by t.instr t.source.count 0
 mark_charge_by (piece.Turning t) ls = 1 + taking_charge t.instr (top_length ls) + turn_charge_by t.instr t.source.count t.next

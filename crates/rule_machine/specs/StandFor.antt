@@ -130,7 +130,8 @@ BlockKeepsStart l pool (Some (blocks.Fold k n)) os kept = (start : Slot) × (lef
 abbrev pub KeepsStart : Lists → List Slot → Instr → List Slot → List Value → Type 0
 KeepsStart l pool i os kept = BlockKeepsStart l pool (block_of i) os kept
 
--- the iteration of a mark: its source lies below where the pool was opened, and what it keeps from there on
+-- the iteration of a piece: its source has no part of the pool past where the iteration was opened, and what it keeps lies
+-- from there on
 pub record TurnIs (s : Setting) (l : Lists) (code : List Instr) (pool : List Slot) (hi : ℕ) (t : Turn) (i : Instr) (body : CodeTree) (source : Source) (left : List Element) (bodies : List Value) : Type 0 where
   pub same_instr : i ≡ t.instr
   pub same_body : body ≡ code_tree (slice_range code t.from t.end)
@@ -143,7 +144,7 @@ pub record TurnIs (s : Setting) (l : Lists) (code : List Instr) (pool : List Slo
   pub invalids : t.invalids ≡ count_passing is_invalid bodies
   pub fitting : AllByRecursion (λ b. is_what s.population (ends_with (judged_by s) t.instr) b ≡ true) bodies
 
--- the iteration of a mark in a turn, by what it keeps: its bodies so far are those of the turns before this one
+-- the same in a turn, by what is kept: the bodies so far are those of the turns before this one
 pub record TurnKeeps (s : Setting) (l : Lists) (code : List Instr) (pool : List Slot) (hi : ℕ) (t : Turn) (i : Instr) (body : CodeTree) (source : Source) (left : List Element) (kept : List Value) : Type 0 where
   pub bodies : List Value
   pub keeps : Keeps i bodies kept
@@ -225,14 +226,14 @@ pub record StepsTo (s : Setting) (l : Lists) (code : List Instr) (q : List Slot)
   pub made : step s c ≡ Some next
   pub stands : IsAt s l code q at end cs vs os next
 
--- ---- marks
+-- ---- pieces of iterations
 
 -- an iteration before its first turn
 abbrev pub opening_turn : Instr → ℕ → ℕ → Slot → ℕ → Turn
 opening_turn i from end source opened =
     record { instr = i; from = from; end = end; source = source; next = 0; opened = opened; kept = 0; trues = 0; falses = 0; invalids = 0 }
 
--- the mark that the opening of an iteration puts
+-- the piece that the opening of an iteration puts
 abbrev pub opening_mark : Instr → ℕ → ℕ → Slot → ℕ → Pending
 opening_mark i from end source opened =
     if plain_mark source.mark then piece.Opened (opening_turn i from end source opened) else piece.Skipped
@@ -372,7 +373,7 @@ verdict_slot s = if is_number s (pos 1) then Holds else (if is_number s (pos 0) 
 abbrev pub one_more_if : Bool → ℕ → ℕ
 one_more_if b n = if b then n + 1 else n
 
--- a turn's mark with n elements more, by what its body gave
+-- an iteration after a turn, with n elements more, by what its body gave
 abbrev pub turn_after : Turn → ℕ → Slot → Turn
 turn_after t n y =
     record t {

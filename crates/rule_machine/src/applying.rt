@@ -77,7 +77,7 @@ pub(crate) fn apply_one(task: Task<'_>, pool: &[Slot], instr: Instr, v: &Slot) -
     }
 }
 
-/// Whether an instruction computes its result from one operand, without the population and without memory.
+/// Whether an instruction makes its result of its topmost operand alone, and takes no memory.
 pub(crate) fn takes_one(instr: Instr) -> bool
     ensures { Decides result (TakesOne instr) }
 {

@@ -61,7 +61,7 @@ fn may_cost_more(instr: Instr) -> bool
     }
 }
 
-/// The charge of the step of a mark.
+/// The charge of the step of a piece that is no sequence.
 #[inline(never)]
 fn mark_charge(mark: &Piece, operands: &ReservedStack<Slot>) -> u128
     ensures { result ≡ min (mark_charge_by mark.now (slot_lengths operands.now.0)) (2 ^ 128 - 1) }
@@ -100,7 +100,7 @@ fn top_length(operands: &ReservedStack<Slot>) -> u64
     }
 }
 
-/// The length of the operand below it, 0 where there is none.
+/// The length of the operand below the topmost one, 0 where there is none.
 fn second_length(operands: &ReservedStack<Slot>) -> u64
     ensures { result ≡ bound.second_length (slot_lengths operands.now.0) }
 {

@@ -11,7 +11,7 @@ use rule_verify::{BlockInstr, block_of};
 
 /// What an iteration gives at its end, by whether no element that it keeps stands there twice, and by what its body gave
 /// last.
-pub(crate) fn ending(turn: Turn, distinct: bool, last: Slot) -> Slot
+pub(crate) fn iteration_result(turn: Turn, distinct: bool, last: Slot) -> Slot
     requires { gives_truths turn.instr ≡ true → turn.trues + turn.falses < 2 ^ 64 }
     ensures { result ≡ ending_slot turn.instr turn distinct last }
 {
@@ -74,7 +74,7 @@ fn one_more_if(passes: bool, n: usize) -> usize
     if passes { n + 1 } else { n }
 }
 
-/// The mark of an iteration after a turn, which adds so many elements.
+/// An iteration after a turn, which adds so many elements to what it keeps.
 pub(crate) fn turn_after(turn: Turn, more: usize, value: Slot) -> Turn
     requires kept { turn.kept + more < 2 ^ 64 }
     requires trues { gives_truths turn.instr ≡ true → turn.trues < 2 ^ 64 - 1 }

@@ -13,7 +13,7 @@ use rule_slots::{
 };
 use rule_verify::{BlockInstr, block_of};
 
-/// Cuts the pool, and puts a slot at its end, if it is to be kept. Tells how many are put.
+/// Cuts the pool back to `at`, and then puts a slot at its end, if it is to be kept. Gives how many are put, 0 or 1.
 #[inline(always)]
 fn keep_if(pool: &mut Vec<Slot>, at: usize, keep: bool, slot: Slot) -> Result<usize, OutOfMemory>
     requires { at ≤ length pool.old.items }
@@ -33,7 +33,7 @@ fn keep_if(pool: &mut Vec<Slot>, at: usize, keep: bool, slot: Slot) -> Result<us
     }
 }
 
-/// Cuts the pool back, and keeps a part of itself from there on.
+/// Cuts the pool back to `at`, and keeps a part of what it was from there on; the part may lie below `at` too.
 #[inline(never)]
 fn keep_own(pool: &mut Vec<Slot>, at: usize, start: usize, count: usize) -> Result<(), OutOfMemory>
     requires at { at ≤ length pool.old.items }

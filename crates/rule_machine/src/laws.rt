@@ -3,12 +3,13 @@
 ghost use Rattle.rule_machine.specs.Laws.{NeverStuck, EndsWithin, EndsWithinBudget, StandsInKinds, StaysWithinDepths, PlacesAreByRules};
 
 /// No configuration that a run of accepted code reaches is stuck, for any object of the context class in any
-/// population of the class model: it has a verdict, or a next step.
+/// consistent population of the class model: it has a verdict, or a next step.
 pub fn never_stuck()
     ensures { NeverStuck }
 {}
 
-/// A run of accepted code comes to a verdict, and is charged at most the bound of its code and the sizes of the population.
+/// A run of accepted code comes to a verdict, and is charged at most the bound that follows from its code and
+/// the population's sizes.
 pub fn ends_within()
     ensures { EndsWithin }
 {}

@@ -46,8 +46,8 @@ impl<'a> Model for Machine<'a> {
 
 impl<'a> Machine<'a> {
     /// A machine for accepted code, over a population of the same class model, with nothing started. Its stacks have
-    /// room for each rule, and its pool for copies of what rules compare; where there is no memory for them, it is
-    /// `OutOfMemory`.
+    /// room for each rule, and its pool for copies of what rules compare; where there is no memory for them, the
+    /// answer is `OutOfMemory`.
     pub fn new(
         alloc: Global,
         accepted: &'a Accepted<'a>,

@@ -179,7 +179,7 @@ fn on_operands(
     }
 }
 
-/// What an instruction gives that gathers nothing. The pool stays as it was.
+/// What an instruction that gathers nothing gives. The pool stays as it was.
 #[inline(always)]
 fn plain_result(
     task: Task<'_>,

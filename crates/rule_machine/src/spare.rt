@@ -18,7 +18,7 @@ fn compares(instr: Instr) -> bool {
     }
 }
 
-/// Whether an instruction of some code does.
+/// Whether some code has an instruction that so compares collections.
 pub(crate) fn any_compares(code: &[Instr]) -> bool {
     code.iter().any(|instr| compares(*instr))
 }

@@ -56,7 +56,7 @@ impl State {
         }
     }
 
-    /// Has room for code that goes so deep, and for one step more: a block has two pending pieces at most, a turn binds
+    /// Makes room for code that goes so deep, and for one step more: a block has two pending pieces at most, a turn binds
     /// two variables at most, and a start value may be left on the operands.
     pub(crate) fn reserve(&mut self, depths: Depths) -> Result<(), OutOfMemory>
         ensures room { OnOk result (HasRoomFor depths self.new) }

@@ -113,8 +113,7 @@ impl State {
             unreachable!()
         };
         self.pieces.push(Piece::Rest(after, self.end));
-        self.pieces
-            .push(opening(instr, from, after, source, self.pool.len()));
+        self.pieces.push(iteration_piece(instr, from, after, source, self.pool.len()));
         leave_start(&mut self.operands, source, start);
         self.at = after;
         self.end = after;
@@ -141,7 +140,7 @@ impl State {
         };
         self.pieces.push(Piece::Rest(after, self.end));
         if is_iteration(instr) {
-            let mark = opening(instr, from, after, value, self.pool.len());
+            let mark = iteration_piece(instr, from, after, value, self.pool.len());
             self.pieces.push(mark);
             self.at = after;
             self.end = after;
@@ -257,7 +256,7 @@ fn choice(value: Slot) -> Option<bool>
 }
 
 /// An iteration over a collection, before its first turn; one over invalid is skipped.
-fn opening(instr: Instr, from: usize, end: usize, source: Slot, opened: usize) -> Piece
+fn iteration_piece(instr: Instr, from: usize, end: usize, source: Slot, opened: usize) -> Piece
     ensures { result ≡ opening_mark instr from end source opened }
 {
     if source.is_plain() {

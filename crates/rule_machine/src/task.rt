@@ -1,4 +1,4 @@
-//! What a run is over.
+//! What a run works on: a rule of accepted code, and a population.
 
 ghost use Rattle.std.specs.Prelude.{◌≡◌, length, All};
 ghost use Rattle.rule_code.specs.WellFormed.{InstrFits};

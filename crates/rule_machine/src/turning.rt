@@ -9,7 +9,7 @@ ghost use Rattle.rule_slots.specs.declared.slot.Slot.{Slot as Held};
 ghost use Rattle.rule_machine.specs.StandFor.{TellsDistinct, bound_slots, gives_part, given_pool};
 ghost use Rattle.rule_machine.specs.Shown.{code_in, task_lists, IsTurnIn, LiesIn, BetweenIn, WentOn, TurnEnded, HasStep, IsFirstMark, Same, Stepped, Room};
 
-use crate::iteration_results::{ending, kept_part, turn_after};
+use crate::iteration_results::{iteration_result, kept_part, turn_after};
 use crate::keeping::keep;
 use crate::piece::{Piece, Turn};
 use crate::stack::ReservedStack;
@@ -21,8 +21,8 @@ use rule_slots::{Slot, are_distinct, element, invalid_slot};
 use rule_verify::{BlockInstr, block_of, bound_count, operands_above};
 
 impl State {
-    /// The step of the mark that comes after a sequence that is through. Where memory runs out, the machine stands
-    /// before it; a rule that gathers nothing takes none.
+    /// The step of the piece that comes after a sequence that is through, and is no sequence. Where memory runs out, the
+    /// machine stands before it; a rule that gathers nothing takes none.
     #[inline(never)]
     pub(crate) fn pass(&mut self, task: Task<'_>) -> Result<(), OutOfMemory>
         requires place { LiesIn task self.old }
@@ -116,8 +116,8 @@ impl State {
         Ok(())
     }
 
-    /// An iteration that was opened stands before its first turn, or its end. Tells the start value of FOLD, which was
-    /// left on the operands.
+    /// An iteration that was opened stands before its first turn, or its end. Gives the start value of FOLD, which was
+    /// left on the operands; of any other iteration invalid, which nothing looks at.
     fn leave_opening(&mut self, task: Task<'_>, turn: Turn) -> Slot
         requires place { LiesIn task self.old }
         requires at_end { self.old.at ≡ self.old.end }
@@ -141,7 +141,7 @@ impl State {
     }
 
     /// Ends a turn: what its body gave is kept, and the pool is cut back to that. Where memory runs out, the machine
-    /// stands as before. Tells the mark to go on with, and what the body gave.
+    /// stands as before. Tells the turn to go on with, and what the body gave.
     fn end_turn(&mut self, task: Task<'_>, turn: Turn) -> Result<(Turn, Slot), OutOfMemory>
         requires place { LiesIn task self.old }
         requires at_end { self.old.at ≡ self.old.end }
@@ -219,7 +219,7 @@ impl State {
         ensures { WentOn task.entry turn last self.old self.new }
     {
         let distinct = keeps_distinct(task, &mut self.pool, turn);
-        let gives = ending(turn, distinct, last);
+        let gives = iteration_result(turn, distinct, last);
         cut_to_given(&mut self.pool, turn, gives);
         self.operands.push(gives);
     }

@@ -20,11 +20,11 @@ returns c =
     let l = task_lists t in
     let code = code_in t in
     let p = m.pool.items in
-    let pool = c.cut_to_given.ensures ∙ c.keeps_distinct-distinct.ensures.given c.ending-gives.result in
+    let pool = c.cut_to_given.ensures ∙ c.keeps_distinct-distinct.ensures.given c.iteration_result-gives.result in
     let tells = c.keeps_distinct-distinct.ensures.told in
     record {
       made = λ d b.
-          let e = end_gives s l code p m.at m.end u c.args.last m.pieces.0 m.variables.0 m.operands.0 d c.keeps_distinct-distinct.result c.ending-gives.result r.at_end b r.all tells c.ending-gives.ensures in
+          let e = end_gives s l code p m.at m.end u c.args.last m.pieces.0 m.variables.0 m.operands.0 d c.keeps_distinct-distinct.result c.iteration_result-gives.result r.at_end b r.all tells c.iteration_result-gives.ensures in
           is_under s l code _ _ m.at m.end m.pieces.0 m.variables.0 _ d pool (is_with s l code _ _ _ _ _ _ _ _ _ d refl refl c.push.ensures.items e);
       place = r.place;
       kept = record { started = refl; count = refl; room = record { operands = c.push.ensures.room; variables = refl; pieces = refl } };

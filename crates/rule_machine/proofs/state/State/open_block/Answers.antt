@@ -45,8 +45,8 @@ returns-then-is_iteration c =
     let nests : m.at + 1 + c.args.body ≤ m.end = omega (arith, c.if-body-self.false, r.before_end) in
     let it = sym c.is_iteration.ensures ∙ c.if-is_iteration.true in
     let long = c.len.ensures ∙ m.pool.ok.0 in
-    let em = c.opening-mark.ensures ∙ ap (opening_mark c.args.instr (m.at + 1) (m.at + 1 + c.args.body) c.in-Some.value) long in
-    let ec = c.push-then-is_iteration.ensures.items ∙ ap (λ l. c.opening-mark.result ∷ l) c.push.ensures.items ∙ ap (λ k. k ∷ piece.Rest (m.at + 1 + c.args.body) m.end ∷ m.pieces.0) em in
+    let em = c.iteration_piece-mark.ensures ∙ ap (opening_mark c.args.instr (m.at + 1) (m.at + 1 + c.args.body) c.in-Some.value) long in
+    let ec = c.push-then-is_iteration.ensures.items ∙ ap (λ l. c.iteration_piece-mark.result ∷ l) c.push.ensures.items ∙ ap (λ k. k ∷ piece.Rest (m.at + 1 + c.args.body) m.end ∷ m.pieces.0) em in
     record {
       made = λ x i n.
           let st = iteration_steps (setting_in t) (task_lists t) (code_in t) m.pool.items m.at m.end m.pieces.0 m.variables.0 m.operands.0 c.args.instr x r.before_end r.place.within r.here i n c.args.body r.shape r.topmost it nests c.in-Some.value c.pop.new.self.0 c.in-Some.ensures.items in

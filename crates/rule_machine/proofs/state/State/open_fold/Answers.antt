@@ -41,8 +41,8 @@ returns c =
     let nests : m.at + 1 + c.args.body ≤ m.end = omega (arith, c.if-body-self.false, r.before_end) in
     let it = fold_iterates i r.above in
     let long = c.len.ensures ∙ m.pool.ok.0 in
-    let em = c.opening.ensures ∙ ap (opening_mark i (m.at + 1) (m.at + 1 + c.args.body) source) long in
-    let ec = c.push-2.ensures.items ∙ ap (λ l. c.opening.result ∷ l) c.push.ensures.items ∙ ap (λ k. k ∷ piece.Rest (m.at + 1 + c.args.body) m.end ∷ m.pieces.0) em in
+    let em = c.iteration_piece.ensures ∙ ap (opening_mark i (m.at + 1) (m.at + 1 + c.args.body) source) long in
+    let ec = c.push-2.ensures.items ∙ ap (λ l. c.iteration_piece.result ∷ l) c.push.ensures.items ∙ ap (λ k. k ∷ piece.Rest (m.at + 1 + c.args.body) m.end ∷ m.pieces.0) em in
     let two = c.in-Some.ensures.items ∙ ap (λ l. start ∷ l) c.in-Some-pop.ensures.items in
     record {
       made = λ x is n.
