@@ -5,8 +5,8 @@ use Rattle.rule_machine.proofs.TurnEnds.{end_gives}
 use Rattle.rule_machine.proofs.Lies.{is_with, is_under}
 use Rattle.rule_machine.proofs.state.State.end_turns.Goals as goal
 
-pub ending-gives-requires : goal.ending-gives-requires
-ending-gives-requires c =
+pub iteration_result-gives-requires : goal.iteration_result-gives-requires
+iteration_result-gives-requires c =
     let b = c.requires.between.1 in
     λ k. omega (arith, decided_low (setting_in c.args.task) (task_lists c.args.task) (code_in c.args.task) c.args.self.now.pool.items c.args.turn b.i b.body b.source b.left b.bodies b.turn b.turns k)
 
