@@ -25,7 +25,7 @@ use Rattle.rule_verify.specs.declared.named.Named.TheVariants as named
 use Rattle.rule_verify.specs.declared.pattern.Pattern.TheVariants as pattern
 use Rattle.rule_verify.specs.CodeTree as code
 use Rattle.rule_verify.specs.CodeTree.{CodeTree, instr_count}
-use Rattle.rule_verify.specs.InstrKinds.{Surroundings, has_names, has_variable, operands_of, result_kind, block_operand, binds, ends_with, yields, or_void, class_kind, literal_kind, owner_kind, feature_read, collected, scalar_meant, kind_meant}
+use Rattle.rule_verify.specs.InstrKinds.{Surroundings, has_names, has_variable, operands_of, result_kind, block_operand, binds, ends_with, yields, or_void, class_kind, literal_kind, owner_kind, feature_read, collection_of, scalar_meant, kind_meant}
 use Rattle.rule_verify.specs.Patterns.{matches}
 use Rattle.rule_verify.specs.KindRules.{Enclosing, in_block, kinds_after}
 use Rattle.ocl_compile.specs.Numbering.{Numbering, Use, tree_uses, trees_uses, constant_uses, scalar_uses, kind_uses, iteration_uses, owned_feature}
@@ -114,7 +114,7 @@ module _ (s : Surroundings) (n : Numbering) where
       within (Collection d j) h = (and_parts (is_same_collection d c) (scalar_fits s.model j e) h).1
 
   -- what is collected
-  collected_fits : (l r : Kind) (c : CollectionKind) (e d : ScalarKind) → fits s.model l (Collection c e) ≡ true → scalar_fits s.model (elements_kind r) d ≡ true → fits s.model (Collection (collected l) (elements_kind r)) (Collection (collected_kind c) d) ≡ true
+  collected_fits : (l r : Kind) (c : CollectionKind) (e d : ScalarKind) → fits s.model l (Collection c e) ≡ true → scalar_fits s.model (elements_kind r) d ≡ true → fits s.model (Collection (collection_of l) (elements_kind r)) (Collection (collected_kind c) d) ≡ true
   collected_fits (Scalar j) r c e d h g = cc
   collected_fits (Collection b j) r c e d h g =
       let same = same_collection_is b c (and_parts (is_same_collection b c) (scalar_fits s.model j e) h).0 in
@@ -141,10 +141,10 @@ module _ (s : Surroundings) (n : Numbering) where
   iteration_ends iteration.Reject len c e y gives l r h known f g = (fits_along s.model r y truth_kind g h.0, ap (fits s.model l) h.1 ∙ f)
   iteration_ends iteration.Collect len c e y gives l r h known f g =
       let p = single_matches r y h.0 h.1 g in
-      (p.0, ap (fits s.model (Collection (collected l) (elements_kind r))) h.2 ∙ collected_fits l r c e h.0 f p.1)
+      (p.0, ap (fits s.model (Collection (collection_of l) (elements_kind r))) h.2 ∙ collected_fits l r c e h.0 f p.1)
   iteration_ends iteration.CollectFlat len c e y gives l r h known f g =
       let p = many_matches r y h.0 h.1 h.2 g in
-      (p.0, ap (fits s.model (Collection (collected l) (elements_kind r))) h.3 ∙ collected_fits l r c e h.1 f p.1)
+      (p.0, ap (fits s.model (Collection (collection_of l) (elements_kind r))) h.3 ∙ collected_fits l r c e h.1 f p.1)
   iteration_ends (iteration.IsUnique k) len c e y gives l r h known f g =
       let p = fits_along s.model r y (Scalar h.1.0) g (is_fitting s n y (Scalar h.1.0) h.1.1) in
       (ap (λ (z : ScalarKind). fits s.model r (Scalar z)) (scalar_is s n k known) ∙ fits_along s.model r (Scalar h.1.0) (Scalar k) p h.1.2, is_fitting s n _ gives (sym h.1.3))

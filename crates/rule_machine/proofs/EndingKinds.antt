@@ -20,7 +20,7 @@ use Rattle.rule_code.specs.declared.instruction.Instr.{Instr}
 use Rattle.rule_code.specs.declared.instruction.Instr.TheVariants as instrs
 use Rattle.rule_verify.specs.declared.pattern.Pattern.TheVariants.{AnySingle, AnyCollection}
 use Rattle.rule_verify.specs.Patterns.{matches}
-use Rattle.rule_verify.specs.InstrKinds.{ends_with, collected}
+use Rattle.rule_verify.specs.InstrKinds.{ends_with, collection_of}
 use Rattle.rule_values.specs.Value as value
 use Rattle.rule_values.specs.Value.{Element, Value, truth_value, as_element, same_element, is_element_in, are_elements, is_collection_in, is_in}
 use Rattle.rule_values.specs.Operations.{is_true, is_false, is_invalid}
@@ -152,32 +152,32 @@ module _ (s : Setting) where
   may_repeat collection.Sequence es = refl
 
   -- a collection of what is collected, by the kind of the source
-  collected_in : (c : CollectionKind) (source es : List Element) (k : Kind) (j : ScalarKind) → is_in s.population (value.Collection c source) k ≡ true → list_all (is_element_in s.population j) es ≡ true → is_in s.population (value.Collection (collected_kind c) es) (kind.Collection (collected k) j) ≡ true
+  collected_in : (c : CollectionKind) (source es : List Element) (k : Kind) (j : ScalarKind) → is_in s.population (value.Collection c source) k ≡ true → list_all (is_element_in s.population j) es ≡ true → is_in s.population (value.Collection (collected_kind c) es) (kind.Collection (collection_of k) j) ≡ true
   collected_in c source es (kind.Scalar k) j h all = cc
   collected_in c source es (kind.Collection d k) j h all =
       let own = and_parts (is_same_collection c d) (is_collection_in s.population c source k) h in
       and_from _ _ (same_collected c d own.0) (and_from _ _ (may_repeat c es) all)
 
-  collect_at : (source : Source) (bs : List Value) (p r : Place) (k : Kind) → r.kind ≡ k → matches s.population.model AnySingle k ≡ true → At s (value.Collection source.kind source.elements) p → EachAt s r bs → length bs ≤ length source.elements → At s (collect source bs) (place (kind.Collection (collected p.kind) (elements_kind r.kind)) p.longest)
+  collect_at : (source : Source) (bs : List Value) (p r : Place) (k : Kind) → r.kind ≡ k → matches s.population.model AnySingle k ≡ true → At s (value.Collection source.kind source.elements) p → EachAt s r bs → length bs ≤ length source.elements → At s (collect source bs) (place (kind.Collection (collection_of p.kind) (elements_kind r.kind)) p.longest)
   collect_at source bs p r (kind.Collection d j) e m a each le = cc
   collect_at source bs p r (kind.Scalar j) e m a each le =
       let its : EachAt s (place (kind.Scalar j) r.longest) bs = subst (λ k. EachAt s (place k r.longest) bs) e each in
-      let at : At s (value.Collection (collected_kind source.kind) (filter_map as_element bs)) (place (kind.Collection (collected p.kind) (elements_kind r.kind)) p.longest) =
+      let at : At s (value.Collection (collected_kind source.kind) (filter_map as_element bs)) (place (kind.Collection (collection_of p.kind) (elements_kind r.kind)) p.longest) =
       record {
-        in_kind = subst (λ k. is_in s.population (value.Collection (collected_kind source.kind) (filter_map as_element bs)) (kind.Collection (collected p.kind) (elements_kind k)) ≡ true) (sym e) (collected_in source.kind source.elements (filter_map as_element bs) p.kind j a.in_kind (collected_all j r.longest bs its));
+        in_kind = subst (λ k. is_in s.population (value.Collection (collected_kind source.kind) (filter_map as_element bs)) (kind.Collection (collection_of p.kind) (elements_kind k)) ≡ true) (sym e) (collected_in source.kind source.elements (filter_map as_element bs) p.kind j a.in_kind (collected_all j r.longest bs its));
         within = omega (arith, a.within, le, collected_fewer bs);
       } in
       invalid_or (list_any is_invalid bs) _ _ at
 
-  collect_flat_at : (source : Source) (bs : List Value) (p r : Place) (k : Kind) → r.kind ≡ k → matches s.population.model AnyCollection k ≡ true → At s (value.Collection source.kind source.elements) p → EachAt s r bs → length bs ≤ length source.elements → At s (collect_flat source bs) (place (kind.Collection (collected p.kind) (elements_kind r.kind)) (p.longest * r.longest))
+  collect_flat_at : (source : Source) (bs : List Value) (p r : Place) (k : Kind) → r.kind ≡ k → matches s.population.model AnyCollection k ≡ true → At s (value.Collection source.kind source.elements) p → EachAt s r bs → length bs ≤ length source.elements → At s (collect_flat source bs) (place (kind.Collection (collection_of p.kind) (elements_kind r.kind)) (p.longest * r.longest))
   collect_flat_at source bs p r (kind.Scalar j) e m a each le = cc
   collect_flat_at source bs p r (kind.Collection d j) e m a each le =
       let its : EachAt s (place (kind.Collection d j) r.longest) bs = subst (λ k. EachAt s (place k r.longest) bs) e each in
       let many : length bs ≤ p.longest = omega (arith, le, a.within) in
       let times : r.longest * length bs ≤ r.longest * p.longest = mul-le-mul_left r.longest many in
-      let at : At s (value.Collection (collected_kind source.kind) (joined bs)) (place (kind.Collection (collected p.kind) (elements_kind r.kind)) (p.longest * r.longest)) =
+      let at : At s (value.Collection (collected_kind source.kind) (joined bs)) (place (kind.Collection (collection_of p.kind) (elements_kind r.kind)) (p.longest * r.longest)) =
       record {
-        in_kind = subst (λ k. is_in s.population (value.Collection (collected_kind source.kind) (joined bs)) (kind.Collection (collected p.kind) (elements_kind k)) ≡ true) (sym e) (collected_in source.kind source.elements (joined bs) p.kind j a.in_kind (joined_all d j r.longest bs its));
+        in_kind = subst (λ k. is_in s.population (value.Collection (collected_kind source.kind) (joined bs)) (kind.Collection (collection_of p.kind) (elements_kind k)) ≡ true) (sym e) (collected_in source.kind source.elements (joined bs) p.kind j a.in_kind (joined_all d j r.longest bs its));
         within = omega (arith, times, joined_fewer r bs each);
       } in
       invalid_or (list_any is_invalid bs) _ _ at

@@ -320,9 +320,9 @@ abbrev pub ends_with : Surroundings → Instr → Pattern
 ends_with s i = block_ends_with s (block_of i)
 
 -- the kind of what is collected from the operand of a block; of a single value, which none takes, a Bag
-abbrev pub collected : Kind → CollectionKind
-collected (Scalar k) = collection.Bag
-collected (Collection c k) = collected_kind c
+abbrev pub collection_of : Kind → CollectionKind
+collection_of (Scalar k) = collection.Bag
+collection_of (Collection c k) = collected_kind c
 
 -- what a block gives, by the operand that it works on and by what its body ends with
 abbrev pub block_yields : Surroundings → Option BlockInstr → Kind → Kind → Kind
@@ -334,8 +334,8 @@ block_yields s (Some (blocks.Exists n)) k r = Scalar element.Boolean
 block_yields s (Some (blocks.One n)) k r = Scalar element.Boolean
 block_yields s (Some (blocks.Select n)) k r = k
 block_yields s (Some (blocks.Reject n)) k r = k
-block_yields s (Some (blocks.Collect n)) k r = Collection (collected k) (elements_kind r)
-block_yields s (Some (blocks.CollectFlat n)) k r = Collection (collected k) (elements_kind r)
+block_yields s (Some (blocks.Collect n)) k r = Collection (collection_of k) (elements_kind r)
+block_yields s (Some (blocks.CollectFlat n)) k r = Collection (collection_of k) (elements_kind r)
 block_yields s (Some (blocks.IsUnique w n)) k r = Scalar element.Boolean
 block_yields s (Some (blocks.Fold w n)) k r = Scalar (scalar_meant s w)
 

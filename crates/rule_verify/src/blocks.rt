@@ -74,8 +74,8 @@ pub fn shape_of(instr: Instr) -> Shape
 }
 
 /// The kind of what is collected from the operand of a block.
-fn collected(kind: &Kind) -> CollectionKind
-    ensures { result ≡ spec.collected kind.now }
+fn collection_of(kind: &Kind) -> CollectionKind
+    ensures { result ≡ spec.collection_of kind.now }
 {
     match kind {
         Kind::Scalar(_) => CollectionKind::Bag,
@@ -191,7 +191,7 @@ pub(crate) fn yields(rule: &RuleCode<'_, '_>, instr: Instr, operand: &Kind, ende
         Some(BlockInstr::ForAll(_) | BlockInstr::Exists(_) | BlockInstr::One(_)) => boolean,
         Some(BlockInstr::Select(_) | BlockInstr::Reject(_)) => *operand,
         Some(BlockInstr::Collect(_) | BlockInstr::CollectFlat(_)) => {
-            Kind::Collection(collected(operand), elements_kind(ended))
+            Kind::Collection(collection_of(operand), elements_kind(ended))
         }
         Some(BlockInstr::IsUnique(_, _)) | None => boolean,
         Some(BlockInstr::Fold(kind, _)) => Kind::Scalar(scalar_meant(rule, kind)),
