@@ -8,7 +8,7 @@ use crate::shapes::delivery_shape;
 use crate::values::values_of;
 use explain_notes::{Input, quote};
 use imkl_delivery::DeliveryFault;
-use imkl_model::{ClassModel, ClassNo, FeatureNo, Role};
+use imkl_model::{ClassModel, FeatureNo, Role};
 use model_names::{belongs, feature_info};
 use serde_json::Value;
 use std::alloc::{AllocError, Global};
@@ -80,45 +80,19 @@ fn holders_of(
     Ok(holders)
 }
 
-/// The features of a class, in the model's order.
-fn features_of(
-    alloc: Global,
-    model: &ClassModel,
-    class: ClassNo,
-) -> Result<Vec<FeatureNo>, AllocError> {
-    let mut features = Vec::new(alloc);
-    for index in 0..model.feature_count() {
-        let feature = FeatureNo::new(index);
-        if belongs(model, class, feature) {
-            features.push(feature)?;
-        }
-    }
-    Ok(features)
-}
-
-/// Says all that is wrong with the objects of a document. The features of a class are listed when its first object comes.
+/// Says all that is wrong with the objects of a document.
 fn look_at_objects(
     alloc: Global,
     report: &mut Report<'_>,
     document: Document<'_, '_>,
     offsets: &[usize],
 ) -> Result<(), AllocError> {
-    let mut lists = BTreeMap::new(alloc);
     for (index, entry) in document.entries.iter().enumerate() {
         if report.is_full() {
             return Ok(());
         }
-        if let Some(class) = document.model.class(entry.class)
-            && !lists.contains_key(entry.class)
-        {
-            lists.insert(entry.class, features_of(alloc, document.model, class)?)?;
-        }
-        let features = match lists.get(entry.class) {
-            Some(list) => list.as_slice(),
-            None => &[],
-        };
         let offset = offsets.get(index).copied().unwrap_or(0);
-        look_at_object(alloc, report, document, entry, features, index, offset)?;
+        look_at_object(alloc, report, document, entry, index, offset)?;
     }
     Ok(())
 }

@@ -7,7 +7,7 @@ use explain_notes::{Nearest, quote};
 use imkl_model::{ClassModel, ClassNo, ElementType, FeatureInfo, FeatureNo, Role};
 use imkl_population::{MAX_ID_LENGTH, PopulationFault};
 use model_names::{
-    class_name, feature_info, feature_named, is_abstract, is_class_below, offer_classes,
+    belongs, class_name, feature_info, feature_named, is_abstract, is_class_below, offer_classes,
     offer_features,
 };
 use serde_json::Value;
@@ -373,13 +373,12 @@ fn look_at_feature(
     look_at_values(alloc, report, document, subject, feature, values)
 }
 
-/// Says all that is wrong with an object, whose class has these features.
+/// Says all that is wrong with an object.
 pub(crate) fn look_at_object(
     alloc: Global,
     report: &mut Report<'_>,
     document: Document<'_, '_>,
     entry: &Entry<'_>,
-    features: &[FeatureNo],
     index: usize,
     offset: usize,
 ) -> Result<(), AllocError> {
@@ -395,11 +394,11 @@ pub(crate) fn look_at_object(
         return Ok(());
     };
     look_at_members(alloc, report, model, &subject, class, entry)?;
-    for number in features {
-        if report.is_full() {
-            return Ok(());
+    for index in 0..model.feature_count() {
+        let number = FeatureNo::new(index);
+        if belongs(model, class, number) && !report.is_full() {
+            look_at_feature(alloc, report, document, &subject, entry, number)?;
         }
-        look_at_feature(alloc, report, document, &subject, entry, *number)?;
     }
     Ok(())
 }
