@@ -7,8 +7,8 @@ use Rattle.std.specs.List.{AllByRecursion}
 use Rattle.std.specs.Str.{chars, IsUtf8}
 use Rattle.std.proofs.lemmas.Str.{chars-nil, chars_past_char, IsUtf8-past_char}
 use Rattle.std.proofs.lemmas.List.{append-nil, nil_from_length, take-map}
-use Rattle.owned_values.specs.declared.value.Item.{Item}
-use Rattle.owned_values.specs.Meant.{meant_item, meant_items, IsElementThere, AreElementsThere}
+use Rattle.owned_values.specs.declared.value.Element.{Element as OwnedElement}
+use Rattle.owned_values.specs.Meant.{meant_element, meant_elements, IsElementThere, AreElementsThere}
 
 -- a character comes off a text, and what it becomes is put
 pub character_put : (f : ℕ → List ℕ) (out whole more text left : List ℕ) (c : ℕ) → IsUtf8 text → text ≡ encode_utf8 c ++ left → more ≡ out ++ f c → out ++ flat_map f (chars text) ≡ whole → (more ++ flat_map f (chars left) ≡ whole) × IsUtf8 left
@@ -31,5 +31,5 @@ first_all P xs zero h = tt
 first_all P [] (suc n) h = tt
 first_all P (x ∷ xs) (suc n) h = (h.0, first_all P xs n h.1)
 
-pub first_there : (p : Population) (items : List Item) (n : ℕ) → AreElementsThere p (meant_items items) → AreElementsThere p (meant_items (take n items))
-first_there p items n h = subst (AreElementsThere p) (take-map meant_item n items) (first_all (IsElementThere p) (meant_items items) n h)
+pub first_there : (p : Population) (items : List OwnedElement) (n : ℕ) → AreElementsThere p (meant_elements items) → AreElementsThere p (meant_elements (take n items))
+first_there p items n h = subst (AreElementsThere p) (take-map meant_element n items) (first_all (IsElementThere p) (meant_elements items) n h)

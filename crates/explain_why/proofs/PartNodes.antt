@@ -21,8 +21,8 @@ use Rattle.ocl_compile.specs.Meaning.{meaning}
 use Rattle.rule_values.specs.Value.{Element, Value, Collection, element_value}
 use Rattle.rule_values.specs.Operations.{is_true, is_false}
 use Rattle.rule_values.specs.Endings.{kept_by}
-use Rattle.owned_values.specs.declared.value.Item.{Item}
-use Rattle.owned_values.specs.Meant.{meant_item, meant_items}
+use Rattle.owned_values.specs.declared.value.Element.{Element as OwnedElement}
+use Rattle.owned_values.specs.Meant.{meant_element, meant_elements}
 use Rattle.ocl_meaning.specs.Evaluated.{bindings, on_null, link_value}
 use Rattle.ocl_meaning.proofs.ForAbove.{link_meaning, iterate_is, fold_is}
 use Rattle.explain_why.specs.Values.{value_text}
@@ -157,13 +157,13 @@ node_put p vars first all before link k above out more whole last up put so_far 
     ∙ so_far
 
 -- the first of some elements, and how many more there are
-pub shown_lines : (f : List Element → List ℕ) (k most n : ℕ) (items : List Item) (es : List Element) → meant_items items ≡ es → n ≡ min (length items) most → f (meant_items (take n items)) ++ more_line k (length items - n) ≡ f (take most es) ++ more_line k (length es - most)
+pub shown_lines : (f : List Element → List ℕ) (k most n : ℕ) (items : List OwnedElement) (es : List Element) → meant_elements items ≡ es → n ≡ min (length items) most → f (meant_elements (take n items)) ++ more_line k (length items - n) ≡ f (take most es) ++ more_line k (length es - most)
 shown_lines f k most n items es held is =
-    let long : length (meant_items items) ≡ length items = length-map items meant_item in
-    let same : n ≡ min most (length (meant_items items)) = omega (arith, clamps, is, long) in
-    let left : length items - n ≡ length (meant_items items) - most = omega (arith, clamps, is, long) in
-    ap (λ xs. f xs ++ more_line k (length items - n)) (sym (take-map meant_item n items) ∙ ap (λ m. take m (meant_items items)) same ∙ take_min most (meant_items items))
-    ∙ ap (λ m. f (take most (meant_items items)) ++ more_line k m) left
+    let long : length (meant_elements items) ≡ length items = length-map items meant_element in
+    let same : n ≡ min most (length (meant_elements items)) = omega (arith, clamps, is, long) in
+    let left : length items - n ≡ length (meant_elements items) - most = omega (arith, clamps, is, long) in
+    ap (λ xs. f xs ++ more_line k (length items - n)) (sym (take-map meant_element n items) ∙ ap (λ m. take m (meant_elements items)) same ∙ take_min most (meant_elements items))
+    ∙ ap (λ m. f (take most (meant_elements items)) ++ more_line k m) left
     ∙ ap (λ (xs : List Element). f (take most xs) ++ more_line k (length xs - most)) held
 
 -- ---- what was put, one after another
@@ -213,7 +213,7 @@ module _ (core : Core) (kind : Kind) (condition then_branch else_branch : Box Co
 -- ---- elements that decide
 
 -- of those that decide so many are shown, and how many more there are
-pub iteration_shown : (i : Iteration) (show : Element → List ℕ) (body : Element → Value) (k : ℕ) (c : CollectionKind) (es : List Element) (items : List Item) (bs : List Value) (those : Deciding) (most n : ℕ) → bs ≡ map body es → those ≡ deciding i bs → most ≡ most_deciding those → meant_items items ≡ kept_by (decides those) es bs → n ≡ min (length items) most → flat_map show (meant_items (take n items)) ++ more_line k (length items - n) ≡ iteration_lines i show body k (Collection c es)
+pub iteration_shown : (i : Iteration) (show : Element → List ℕ) (body : Element → Value) (k : ℕ) (c : CollectionKind) (es : List Element) (items : List OwnedElement) (bs : List Value) (those : Deciding) (most n : ℕ) → bs ≡ map body es → those ≡ deciding i bs → most ≡ most_deciding those → meant_elements items ≡ kept_by (decides those) es bs → n ≡ min (length items) most → flat_map show (meant_elements (take n items)) ++ more_line k (length items - n) ≡ iteration_lines i show body k (Collection c es)
 iteration_shown i show body k c es items bs those most n bodies which most_is held is =
     shown_lines (flat_map show) k most n items (kept_by (decides those) es bs) held is
     ∙ ap (λ m. deciding_lines show k m (kept_by (decides those) es bs)) most_is

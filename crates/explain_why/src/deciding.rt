@@ -3,13 +3,13 @@
 ghost use Rattle.std.specs.Prelude.{◌≡◌, ◌++◌, length, map, IfOk, OnOk};
 ghost use Rattle.std.specs.List.{list_any};
 ghost use Rattle.rule_values.specs.Endings.{kept_by};
-ghost use Rattle.owned_values.specs.Meant.{meant, meant_item, meant_items};
+ghost use Rattle.owned_values.specs.Meant.{meant, meant_element, meant_elements};
 ghost use Rattle.explain_why.specs.Explanation.{deciding_of, decides, those_or_all, that_or_undecided, deciding, most_deciding, kept_element};
 
 use crate::values::MAX_SHOWN;
 use ocl_base::{OutOfMemory, push};
 use ocl_core::Iteration;
-use owned_values::{Item, Value, copy_of, is_false, is_invalid, is_true};
+use owned_values::{Element, Value, copy_of, is_false, is_invalid, is_true};
 use std::alloc::Global;
 
 /// Which bodies decide.
@@ -103,12 +103,16 @@ pub(crate) fn bodies_that_decide(iteration: Iteration, bodies: &[Value<'_>]) -> 
 }
 
 /// Puts a copy of an element at a list's end, if it is to be kept.
-fn keep_if<'a>(kept: &mut Vec<Item<'a>>, keep: bool, item: &Item<'a>) -> Result<(), OutOfMemory>
-    ensures { OnOk result (meant_items kept.new.items ≡ meant_items kept.old.items ++
-        kept_element keep (meant_item item.now)) }
+fn keep_if<'a>(
+    kept: &mut Vec<Element<'a>>,
+    keep: bool,
+    element: &Element<'a>,
+) -> Result<(), OutOfMemory>
+    ensures { OnOk result (meant_elements kept.new.items ≡ meant_elements kept.old.items ++
+        kept_element keep (meant_element element.now)) }
 {
     if keep {
-        push(kept, copy_of(item))?;
+        push(kept, copy_of(element))?;
     }
     Ok(())
 }
@@ -117,17 +121,17 @@ fn keep_if<'a>(kept: &mut Vec<Item<'a>>, keep: bool, item: &Item<'a>) -> Result<
 pub(crate) fn deciding_elements<'a>(
     alloc: Global,
     deciding: Deciding,
-    items: &[Item<'a>],
+    elements: &[Element<'a>],
     bodies: &[Value<'a>],
-) -> Result<Vec<Item<'a>>, OutOfMemory>
-    requires { length bodies.now ≡ length items.now }
-    ensures { IfOk result (λ v. meant_items v.items ≡ kept_by (decides (deciding_of deciding))
-        (meant_items items.now) (map meant bodies.now)) }
+) -> Result<Vec<Element<'a>>, OutOfMemory>
+    requires { length bodies.now ≡ length elements.now }
+    ensures { IfOk result (λ v. meant_elements v.items ≡ kept_by (decides (deciding_of deciding))
+        (meant_elements elements.now) (map meant bodies.now)) }
 {
     let mut kept = Vec::new(alloc);
-    for index in 0..items.len() {
+    for index in 0..elements.len() {
         let keep = deciding.decides(&bodies[index]);
-        keep_if(&mut kept, keep, &items[index])?;
+        keep_if(&mut kept, keep, &elements[index])?;
     }
     Ok(kept)
 }

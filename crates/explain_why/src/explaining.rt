@@ -7,7 +7,7 @@ ghost use Rattle.ocl_core.specs.CoreView.{core_view, core_link_of, core_spine, c
 ghost use Rattle.ocl_compile.specs.Meaning.{meaning};
 ghost use Rattle.rule_machine.specs.Verdict.{verdict_of};
 ghost use Rattle.rule_values.specs.Value.{element_value, object_value};
-ghost use Rattle.owned_values.specs.Meant.{meant, meant_item, meant_items, IsElementThere, AreElementsThere, IsValueThere};
+ghost use Rattle.owned_values.specs.Meant.{meant, meant_element, meant_elements, IsElementThere, AreElementsThere, IsValueThere};
 ghost use Rattle.ocl_meaning.specs.Resolved.{IsResolved, AreResolved, AreThere};
 ghost use Rattle.ocl_meaning.specs.Evaluated.{bindings, on_null, IsLinkResolved, AreLinksResolved};
 ghost use Rattle.explain_why.specs.Values.{value_text};
@@ -25,7 +25,7 @@ use ocl_core::{Core, CoreLink, CoreRule, Iteration};
 use ocl_meaning::{
     Variables, evaluate, evaluate_all, evaluate_bodies, evaluate_link, evaluate_links,
 };
-use owned_values::{Item, Value, is_false, is_true, item_value};
+use owned_values::{Element, Value, element_value, is_false, is_true};
 use std::alloc::Global;
 
 /// Puts a part with its value, and why that is null or invalid.
@@ -504,16 +504,16 @@ fn explain_elements<'a>(
     out: &mut String,
     population: &'a Population<'_>,
     level: usize,
-    elements: &[Item<'a>],
+    elements: &[Element<'a>],
     body: &'a Core,
     variables: &mut Variables<'a>,
 ) -> Result<(), OutOfMemory>
-    requires elements { AreElementsThere population.now.content (meant_items elements.now) }
+    requires elements { AreElementsThere population.now.content (meant_elements elements.now) }
     requires body { IsResolved population.now.content.model (core_view body.now) }
     requires there { AreThere population.now.content variables.old }
     ensures text { OnOk result (string_bytes out.new ≡ string_bytes out.old ++ flat_map
         (element_lines population.now.content (core_view body.now) level variables.old)
-        (meant_items elements.now)) }
+        (meant_elements elements.now)) }
     ensures kept { OnOk result (variables.new ≡ variables.old) }
 {
     'elements: for element in elements {
@@ -529,19 +529,19 @@ fn explain_element<'a>(
     out: &mut String,
     population: &'a Population<'_>,
     level: usize,
-    element: &Item<'a>,
+    element: &Element<'a>,
     body: &'a Core,
     variables: &mut Variables<'a>,
 ) -> Result<(), OutOfMemory>
-    requires element { IsElementThere population.now.content (meant_item element.now) }
+    requires element { IsElementThere population.now.content (meant_element element.now) }
     requires body { IsResolved population.now.content.model (core_view body.now) }
     requires there { AreThere population.now.content variables.old }
     ensures text { OnOk result (string_bytes out.new ≡ string_bytes out.old ++ element_lines
         population.now.content (core_view body.now) level variables.old
-        (meant_item element.now)) }
+        (meant_element element.now)) }
     ensures kept { OnOk result (variables.new ≡ variables.old) }
 {
-    let value = item_value(element);
+    let value = element_value(element);
     put_binding_line(alloc, out, population, level, variables.len(), &value)?;
     variables.bind(value)?;
     explain(alloc, out, population, next(level)?, body, variables)?;
@@ -595,19 +595,19 @@ fn explain_steps<'a>(
     out: &mut String,
     population: &'a Population<'_>,
     level: usize,
-    elements: &[Item<'a>],
+    elements: &[Element<'a>],
     start: Value<'a>,
     body: &'a Core,
     variables: &mut Variables<'a>,
 ) -> Result<(), OutOfMemory>
-    requires elements { AreElementsThere population.now.content (meant_items elements.now) }
+    requires elements { AreElementsThere population.now.content (meant_elements elements.now) }
     requires start { IsValueThere population.now.content (meant start) }
     requires body { IsResolved population.now.content.model (core_view body.now) }
     requires there { AreThere population.now.content variables.old }
     ensures text { OnOk result (string_bytes out.new ≡ string_bytes out.old ++ steps_lines
         (step_lines population.now.content (core_view body.now) level variables.old)
         (λ e a. meaning population.now.content (core_view body.now)
-        (a ∷ element_value e ∷ variables.old)) (meant start.entry) (meant_items elements.now)) }
+        (a ∷ element_value e ∷ variables.old)) (meant start.entry) (meant_elements elements.now)) }
     ensures kept { OnOk result (variables.new ≡ variables.old) }
 {
     let mut accumulated = start;
@@ -634,26 +634,26 @@ fn explain_step<'a>(
     out: &mut String,
     population: &'a Population<'_>,
     level: usize,
-    element: &Item<'a>,
+    element: &Element<'a>,
     accumulated: Value<'a>,
     body: &'a Core,
     variables: &mut Variables<'a>,
 ) -> Result<Value<'a>, OutOfMemory>
-    requires element { IsElementThere population.now.content (meant_item element.now) }
+    requires element { IsElementThere population.now.content (meant_element element.now) }
     requires accumulated { IsValueThere population.now.content (meant accumulated) }
     requires body { IsResolved population.now.content.model (core_view body.now) }
     requires there { AreThere population.now.content variables.old }
     ensures text { OnOk result (string_bytes out.new ≡ string_bytes out.old ++ step_lines
         population.now.content (core_view body.now) level variables.old
-        (meant_item element.now) (meant accumulated.entry)) }
+        (meant_element element.now) (meant accumulated.entry)) }
     ensures value { IfOk result (λ v. meant v ≡ meaning population.now.content
-        (core_view body.now) (meant accumulated.entry ∷ element_value (meant_item element.now)
+        (core_view body.now) (meant accumulated.entry ∷ element_value (meant_element element.now)
         ∷ variables.old)) }
     ensures there { IfOk result (λ v. IsValueThere population.now.content (meant v)) }
     ensures kept { OnOk result (variables.new ≡ variables.old) }
 {
     let number = variables.len();
-    let value = item_value(element);
+    let value = element_value(element);
     put_bindings_line(alloc, out, population, level, number, &value, &accumulated)?;
     variables.bind(value)?;
     variables.bind(accumulated)?;
@@ -713,7 +713,7 @@ pub fn explain_verdict<'a>(
 {
     let mut out = String::new(alloc);
     let mut variables = Variables::new(alloc);
-    variables.bind(Value::Item(Item::Object(object)))?;
+    variables.bind(Value::Element(Element::Object(object)))?;
     let value = evaluate(alloc, population, &rule.tree, &mut variables)?;
     put_verdict(&mut out, population, rule, object, &value)?;
     explain(alloc, &mut out, population, 1, &rule.tree, &mut variables)?;

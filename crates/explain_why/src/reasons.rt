@@ -3,7 +3,7 @@
 ghost use Rattle.std.specs.Prelude.{◌≡◌, ◌++◌, ◌∷◌, ◌<◌, length, map, OnOk, string_bytes};
 ghost use Rattle.std.specs.List.{list_any};
 ghost use Rattle.rule_values.specs.Operations.{is_null, is_invalid};
-ghost use Rattle.owned_values.specs.Meant.{meant, meant_item, meant_items, IsValueThere};
+ghost use Rattle.owned_values.specs.Meant.{meant, meant_element, meant_elements, IsValueThere};
 ghost use Rattle.ocl_meaning.specs.Resolved.{IsOperatorOf};
 ghost use Rattle.explain_why.specs.Reasons.{is_null_element, sum_reason, divisor_reason, quotient_reason, plain_reason, other_class_reason, cast_reason, class_reason, own_reason, invalid_reason, operation_reason, absent_reason, feature_reason, choice_reason};
 
@@ -12,21 +12,21 @@ use imkl_model::{ClassNo, FeatureNo};
 use imkl_population::{ObjectNo, Population};
 use ocl_base::OutOfMemory;
 use ocl_core::{ClassOperator, Operator, PlainOperator};
-use owned_values::{Item, Value, is_invalid, is_null};
+use owned_values::{Element, Value, is_invalid, is_null};
 
 /// Whether an element is null.
-fn is_null_item(item: &Item<'_>) -> bool
-    ensures { result ≡ is_null_element (meant_item item.now) }
+fn is_null_element(element: &Element<'_>) -> bool
+    ensures { result ≡ is_null_element (meant_element element.now) }
 {
-    matches!(item, Item::Null)
+    matches!(element, Element::Null)
 }
 
 /// Whether one of the elements is null.
-fn is_any_null(items: &[Item<'_>]) -> bool
-    ensures { result ≡ list_any is_null_element (meant_items items.now) }
+fn is_any_null(elements: &[Element<'_>]) -> bool
+    ensures { result ≡ list_any is_null_element (meant_elements elements.now) }
 {
-    for item in items {
-        if is_null_item(item) {
+    for element in elements {
+        if is_null_element(element) {
             return true;
         }
     }
@@ -38,8 +38,8 @@ fn sum_reason(v: &Value<'_>) -> &'static str
     ensures { result.now ≡ sum_reason (meant v.now) }
 {
     match v {
-        Value::Collection(_, items) => {
-            if is_any_null(items) {
+        Value::Collection(_, elements) => {
+            if is_any_null(elements) {
                 ": an element is null"
             } else {
                 ": out of range"
@@ -54,7 +54,7 @@ fn divisor_reason(divisor: &Value<'_>) -> &'static str
     ensures { result.now ≡ divisor_reason (meant divisor.now) }
 {
     match divisor {
-        Value::Item(Item::Int(number)) => {
+        Value::Element(Element::Int(number)) => {
             if *number == 0 {
                 ": division by zero"
             } else {
@@ -99,7 +99,7 @@ fn put_cast_reason(
         cast_reason population.now.content class (meant v.now)) }
 {
     match v {
-        Value::Item(Item::Object(object)) => put_other_class(out, population, class, *object),
+        Value::Element(Element::Object(object)) => put_other_class(out, population, class, *object),
         _ => Ok(()),
     }
 }
@@ -246,8 +246,8 @@ pub(crate) fn put_feature_reason(
         population.now.content feature (meant v.now) (meant gave.now)) }
 {
     match v {
-        Value::Item(Item::Null) => put(out, ": null has no features"),
-        Value::Item(Item::Object(object)) if is_null(gave) => {
+        Value::Element(Element::Null) => put(out, ": null has no features"),
+        Value::Element(Element::Object(object)) if is_null(gave) => {
             put_absent(out, population, *object, feature)
         }
         _ => Ok(()),

@@ -4,7 +4,7 @@ ghost use Rattle.std.specs.Prelude.{◌≡◌, ◌++◌, ◌<◌, length, OnOk, 
 ghost use Rattle.std.specs.List.{flat_map};
 ghost use Rattle.std.specs.Str.{chars};
 ghost use Rattle.imkl_model.specs.ClassModel.{enumeration_at};
-ghost use Rattle.owned_values.specs.Meant.{meant, meant_item, meant_items, IsElementThere, AreElementsThere, IsValueThere};
+ghost use Rattle.owned_values.specs.Meant.{meant, meant_element, meant_elements, IsElementThere, AreElementsThere, IsValueThere};
 ghost use Rattle.explain_why.specs.Values.{literal_text, quoted_character, quoted_text, kind_name, element_text, before_element, elements_text, more_text, collection_text, value_text};
 
 use crate::pieces::{put, put_count, put_number};
@@ -12,7 +12,7 @@ use crate::words::kind_name;
 use imkl_model::{ClassModel, EnumNo, LiteralNo};
 use imkl_population::Population;
 use ocl_base::{CollectionKind, OutOfMemory};
-use owned_values::{Item, Value};
+use owned_values::{Element, Value};
 use std::alloc::Global;
 
 /// The greatest number of elements that are shown of a collection.
@@ -79,22 +79,22 @@ pub(crate) fn put_element(
     alloc: Global,
     out: &mut String,
     population: &Population<'_>,
-    item: &Item<'_>,
+    element: &Element<'_>,
 ) -> Result<(), OutOfMemory>
-    requires { IsElementThere population.now.content (meant_item item.now) }
+    requires { IsElementThere population.now.content (meant_element element.now) }
     ensures { OnOk result (string_bytes out.new ≡ string_bytes out.old ++
-        element_text population.now.content (meant_item item.now)) }
+        element_text population.now.content (meant_element element.now)) }
 {
-    match item {
-        Item::Null => put(out, "null"),
-        Item::Bool(true) => put(out, "true"),
-        Item::Bool(false) => put(out, "false"),
-        Item::Int(number) => put_number(alloc, out, *number),
-        Item::Text(text) => put_quoted(out, text),
-        Item::Literal(enumeration, literal) => {
+    match element {
+        Element::Null => put(out, "null"),
+        Element::Bool(true) => put(out, "true"),
+        Element::Bool(false) => put(out, "false"),
+        Element::Int(number) => put_number(alloc, out, *number),
+        Element::Text(text) => put_quoted(out, text),
+        Element::Literal(enumeration, literal) => {
             put_literal(out, population.model(), *enumeration, *literal)
         }
-        Item::Object(object) => put(out, population.id(*object)),
+        Element::Object(object) => put(out, population.id(*object)),
     }
 }
 
@@ -125,15 +125,15 @@ fn put_elements(
     alloc: Global,
     out: &mut String,
     population: &Population<'_>,
-    items: &[Item<'_>],
+    elements: &[Element<'_>],
 ) -> Result<(), OutOfMemory>
-    requires { AreElementsThere population.now.content (meant_items items.now) }
+    requires { AreElementsThere population.now.content (meant_elements elements.now) }
     ensures { OnOk result (string_bytes out.new ≡ string_bytes out.old ++
-        elements_text population.now.content 0 (meant_items items.now)) }
+        elements_text population.now.content 0 (meant_elements elements.now)) }
 {
-    for index in 0..items.len() {
+    for index in 0..elements.len() {
         put_before(out, index)?;
-        put_element(alloc, out, population, &items[index])?;
+        put_element(alloc, out, population, &elements[index])?;
     }
     Ok(())
 }
@@ -144,17 +144,17 @@ fn put_collection(
     out: &mut String,
     population: &Population<'_>,
     kind: CollectionKind,
-    items: &[Item<'_>],
+    elements: &[Element<'_>],
 ) -> Result<(), OutOfMemory>
-    requires { AreElementsThere population.now.content (meant_items items.now) }
+    requires { AreElementsThere population.now.content (meant_elements elements.now) }
     ensures { OnOk result (string_bytes out.new ≡ string_bytes out.old ++
-        collection_text population.now.content kind (meant_items items.now)) }
+        collection_text population.now.content kind (meant_elements elements.now)) }
 {
-    let shown = items.len().min(MAX_SHOWN);
+    let shown = elements.len().min(MAX_SHOWN);
     put(out, kind_name(kind))?;
     put(out, "{")?;
-    put_elements(alloc, out, population, &items[..shown])?;
-    put_more_elements(alloc, out, items.len() - shown)?;
+    put_elements(alloc, out, population, &elements[..shown])?;
+    put_more_elements(alloc, out, elements.len() - shown)?;
     put(out, "}")
 }
 
@@ -171,7 +171,9 @@ pub(crate) fn put_value(
 {
     match value {
         Value::Invalid => put(out, "invalid"),
-        Value::Item(item) => put_element(alloc, out, population, item),
-        Value::Collection(kind, items) => put_collection(alloc, out, population, *kind, items),
+        Value::Element(element) => put_element(alloc, out, population, element),
+        Value::Collection(kind, elements) => put_collection(
+            alloc, out, population, *kind, elements,
+        ),
     }
 }

@@ -6,20 +6,20 @@ ghost use Rattle.ocl_compile.specs.Meaning.{constant_value};
 ghost use Rattle.owned_values.specs.Meant.{meant};
 
 use ocl_core::ConstantValue;
-use owned_values::{Item, Value};
+use owned_values::{Element, Value};
 
 /// A value that stands in a text.
 pub(crate) fn constant_value(value: &ConstantValue) -> Value<'_>
     ensures { meant result ≡ constant_value (constant_of value.now) }
 {
     match value {
-        ConstantValue::Boolean(truth) => Value::Item(Item::Bool(*truth)),
-        ConstantValue::Integer(number) => Value::Item(Item::Int(number.get() as i64)),
-        ConstantValue::Text(text) => Value::Item(Item::Text(text.as_str())),
+        ConstantValue::Boolean(truth) => Value::Element(Element::Bool(*truth)),
+        ConstantValue::Integer(number) => Value::Element(Element::Int(number.get() as i64)),
+        ConstantValue::Text(text) => Value::Element(Element::Text(text.as_str())),
         ConstantValue::Literal(enumeration, literal) => {
-            Value::Item(Item::Literal(*enumeration, *literal))
+            Value::Element(Element::Literal(*enumeration, *literal))
         }
-        ConstantValue::Null => Value::Item(Item::Null),
+        ConstantValue::Null => Value::Element(Element::Null),
         ConstantValue::Invalid => Value::Invalid,
     }
 }

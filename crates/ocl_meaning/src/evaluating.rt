@@ -6,7 +6,7 @@ ghost use Rattle.ocl_core.specs.Core.{cores_of};
 ghost use Rattle.ocl_core.specs.CoreView.{core_view};
 ghost use Rattle.ocl_compile.specs.Meaning.{meaning, meanings, iterated, fold_over, folded};
 ghost use Rattle.rule_values.specs.Value.{element_value};
-ghost use Rattle.owned_values.specs.Meant.{meant, meant_item, meant_items, IsElementThere, AreElementsThere, IsValueThere};
+ghost use Rattle.owned_values.specs.Meant.{meant, meant_element, meant_elements, IsElementThere, AreElementsThere, IsValueThere};
 ghost use Rattle.ocl_meaning.specs.Resolved.{IsResolved, AreResolved, AreThere};
 ghost use Rattle.ocl_meaning.specs.Evaluated.{bindings, IsLinkResolved, AreLinksResolved, link_value, links_value};
 
@@ -18,7 +18,7 @@ use imkl_population::Population;
 use ocl_base::{OutOfMemory, push};
 use ocl_core::{Core, CoreLink, Iteration};
 use owned_values::{
-    Item, Value, all_instances, as_collection, is_false, is_true, item_value, value_read,
+    Element, Value, all_instances, as_collection, element_value, is_false, is_true, value_read,
 };
 use std::alloc::Global;
 
@@ -210,21 +210,21 @@ fn evaluate_iteration<'a>(
 pub fn evaluate_bodies<'a>(
     alloc: Global,
     population: &'a Population<'_>,
-    elements: &[Item<'a>],
+    elements: &[Element<'a>],
     body: &'a Core,
     variables: &mut Variables<'a>,
 ) -> Result<Vec<Value<'a>>, OutOfMemory>
-    requires elements { AreElementsThere population.now.content (meant_items elements.now) }
+    requires elements { AreElementsThere population.now.content (meant_elements elements.now) }
     requires resolved { IsResolved population.now.content.model (core_view body.now) }
     requires there { AreThere population.now.content variables.old }
     ensures bodies { IfOk result (λ vs. map meant vs.items ≡ map
         (λ e. meaning population.now.content (core_view body.now)
-        (element_value e ∷ variables.old)) (meant_items elements.now)) }
+        (element_value e ∷ variables.old)) (meant_elements elements.now)) }
     ensures kept { OnOk result (variables.new ≡ variables.old) }
 {
     let mut bodies = Vec::new(alloc);
     'elements: for element in elements {
-        let value = evaluate_with(alloc, population, item_value(element), body, variables)?;
+        let value = evaluate_with(alloc, population, element_value(element), body, variables)?;
         push(&mut bodies, value)?;
     }
     Ok(bodies)
@@ -262,19 +262,19 @@ fn evaluate_fold<'a>(
 fn fold_elements<'a>(
     alloc: Global,
     population: &'a Population<'_>,
-    elements: &[Item<'a>],
+    elements: &[Element<'a>],
     start: Value<'a>,
     body: &'a Core,
     variables: &mut Variables<'a>,
 ) -> Result<Value<'a>, OutOfMemory>
-    requires elements { AreElementsThere population.now.content (meant_items elements.now) }
+    requires elements { AreElementsThere population.now.content (meant_elements elements.now) }
     requires start { IsValueThere population.now.content (meant start) }
     requires resolved { IsResolved population.now.content.model (core_view body.now) }
     requires there { AreThere population.now.content variables.old }
     ensures value { IfOk result (λ v. meant v ≡ fold_over
         (λ e a. meaning population.now.content (core_view body.now)
         (a ∷ element_value e ∷ variables.old)) (meant start.entry)
-        (meant_items elements.now)) }
+        (meant_elements elements.now)) }
     ensures kept { OnOk result (variables.new ≡ variables.old) }
 {
     let mut accumulated = start;
@@ -289,22 +289,22 @@ fn fold_elements<'a>(
 fn fold_step<'a>(
     alloc: Global,
     population: &'a Population<'_>,
-    element: &Item<'a>,
+    element: &Element<'a>,
     accumulated: Value<'a>,
     body: &'a Core,
     variables: &mut Variables<'a>,
 ) -> Result<Value<'a>, OutOfMemory>
-    requires element { IsElementThere population.now.content (meant_item element.now) }
+    requires element { IsElementThere population.now.content (meant_element element.now) }
     requires accumulated { IsValueThere population.now.content (meant accumulated) }
     requires resolved { IsResolved population.now.content.model (core_view body.now) }
     requires there { AreThere population.now.content variables.old }
     ensures value { IfOk result (λ v. meant v ≡ meaning population.now.content (core_view body.now)
-        (meant accumulated.entry ∷ element_value (meant_item element.now)
+        (meant accumulated.entry ∷ element_value (meant_element element.now)
         ∷ variables.old)) }
     ensures there { IfOk result (λ v. IsValueThere population.now.content (meant v)) }
     ensures kept { OnOk result (variables.new ≡ variables.old) }
 {
-    variables.bind(item_value(element))?;
+    variables.bind(element_value(element))?;
     let value = evaluate_with(alloc, population, accumulated, body, variables)?;
     variables.forget(1);
     Ok(value)

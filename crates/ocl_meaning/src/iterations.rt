@@ -2,12 +2,12 @@
 
 ghost use Rattle.std.specs.Prelude.{◌≡◌, length, map, IfOk};
 ghost use Rattle.ocl_compile.specs.Meaning.{iteration_value};
-ghost use Rattle.owned_values.specs.Meant.{meant, meant_items, source};
+ghost use Rattle.owned_values.specs.Meant.{meant, meant_elements, source};
 
 use ocl_base::{CollectionKind, OutOfMemory};
 use ocl_core::Iteration;
 use owned_values::{
-    Item, Value, collect, collect_flat, exists, for_all, one, reject, select, unique_bodies,
+    Element, Value, collect, collect_flat, exists, for_all, one, reject, select, unique_bodies,
 };
 use std::alloc::Global;
 
@@ -16,12 +16,12 @@ pub(crate) fn iteration_value<'a>(
     alloc: Global,
     iteration: Iteration,
     kind: CollectionKind,
-    elements: &[Item<'a>],
+    elements: &[Element<'a>],
     bodies: &[Value<'a>],
 ) -> Result<Value<'a>, OutOfMemory>
     requires { length bodies.now ≡ length elements.now }
     ensures { IfOk result (λ v. meant v ≡ iteration_value iteration
-        (source kind (meant_items elements.now)) (map meant bodies.now)) }
+        (source kind (meant_elements elements.now)) (map meant bodies.now)) }
 {
     match iteration {
         Iteration::ForAll => Ok(for_all(bodies)),

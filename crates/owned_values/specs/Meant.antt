@@ -7,28 +7,28 @@ use Rattle.imkl_population.specs.declared.scalar.Scalar.{Scalar}
 use Rattle.imkl_population.specs.declared.scalar.Scalar.TheVariants as scalar
 use Rattle.imkl_population.specs.Population.{Population}
 use Rattle.ocl_base.specs.declared.collection_kind.CollectionKind.{CollectionKind}
-use Rattle.owned_values.specs.declared.value.Item.{Item}
-use Rattle.owned_values.specs.declared.value.Item.TheVariants as item
+use Rattle.owned_values.specs.declared.value.Element.{Element as OwnedElement}
+use Rattle.owned_values.specs.declared.value.Element.TheVariants as element
 use Rattle.owned_values.specs.declared.value.Value.{Value as Held}
 use Rattle.owned_values.specs.declared.value.Value.TheVariants as held
 use Rattle.rule_values.specs.Endings.{Source}
 use Rattle.rule_values.specs.Value.{Element, Value, Invalid, Null, Single, Collection, element_value}
 
-abbrev pub meant_item : Item → Element
-meant_item item.Null = None
-meant_item (item.Bool b) = Some (scalar.Bool b)
-meant_item (item.Int n) = Some (scalar.Int n)
-meant_item (item.Text t) = Some (scalar.Text (chars t.now))
-meant_item (item.Literal e l) = Some (scalar.Literal e l)
-meant_item (item.Object o) = Some (scalar.Object o)
+abbrev pub meant_element : OwnedElement → Element
+meant_element element.Null = None
+meant_element (element.Bool b) = Some (scalar.Bool b)
+meant_element (element.Int n) = Some (scalar.Int n)
+meant_element (element.Text t) = Some (scalar.Text (chars t.now))
+meant_element (element.Literal e l) = Some (scalar.Literal e l)
+meant_element (element.Object o) = Some (scalar.Object o)
 
-abbrev pub meant_items : List Item → List Element
-meant_items is = map meant_item is
+abbrev pub meant_elements : List OwnedElement → List Element
+meant_elements is = map meant_element is
 
 abbrev pub meant : Held → Value
 meant held.Invalid = Invalid
-meant (held.Item i) = element_value (meant_item i)
-meant (held.Collection c v) = Collection c (meant_items v.items)
+meant (held.Element i) = element_value (meant_element i)
+meant (held.Collection c v) = Collection c (meant_elements v.items)
 
 -- what an iteration goes over
 abbrev pub source : CollectionKind → List Element → Source

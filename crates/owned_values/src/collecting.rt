@@ -3,15 +3,15 @@
 ghost use Rattle.std.specs.Prelude.{◌≡◌, ◌++◌, List, map, length, IfOk, OnOk};
 ghost use Rattle.std.specs.List.{list_any, filter_map};
 ghost use Rattle.ocl_base.specs.Lists.{repeats};
-ghost use Rattle.rule_values.specs.Value.{Element, as_element, same_element};
+ghost use Rattle.rule_values.specs.Value.{Element as Meant, as_element, same_element};
 ghost use Rattle.rule_values.specs.Operations.{is_invalid};
 ghost use Rattle.rule_values.specs.Endings.{select, reject, collection_elements, joined, collect, collect_flat, unique_bodies};
-ghost use Rattle.owned_values.specs.Meant.{meant, meant_items, source};
+ghost use Rattle.owned_values.specs.Meant.{meant, meant_elements, source};
 ghost use Rattle.owned_values.specs.Walks.{element_list};
 
-use crate::elements::is_item_among;
-use crate::endings::{any_undecided, kept_items};
-use crate::value::{Item, Value, copy_of, is_invalid};
+use crate::elements::is_element_among;
+use crate::endings::{any_undecided, kept_elements};
+use crate::value::{Element, Value, copy_of, is_invalid};
 use ocl_base::{CollectionKind, OutOfMemory, push};
 use ocl_kinds::collected_kind;
 use std::alloc::Global;
@@ -21,17 +21,17 @@ use std::alloc::Global;
 pub fn select<'a>(
     alloc: Global,
     kind: CollectionKind,
-    items: &[Item<'a>],
+    elements: &[Element<'a>],
     bodies: &[Value<'_>],
 ) -> Result<Value<'a>, OutOfMemory>
-    requires { length bodies.now ≡ length items.now }
-    ensures { IfOk result (λ v. meant v ≡ select (source kind (meant_items items.now))
+    requires { length bodies.now ≡ length elements.now }
+    ensures { IfOk result (λ v. meant v ≡ select (source kind (meant_elements elements.now))
         (map meant bodies.now)) }
 {
     if any_undecided(bodies) {
         return Ok(Value::Invalid);
     }
-    let kept = kept_items(alloc, items, bodies, true)?;
+    let kept = kept_elements(alloc, elements, bodies, true)?;
     Ok(Value::Collection(kind, kept))
 }
 
@@ -40,17 +40,17 @@ pub fn select<'a>(
 pub fn reject<'a>(
     alloc: Global,
     kind: CollectionKind,
-    items: &[Item<'a>],
+    elements: &[Element<'a>],
     bodies: &[Value<'_>],
 ) -> Result<Value<'a>, OutOfMemory>
-    requires { length bodies.now ≡ length items.now }
-    ensures { IfOk result (λ v. meant v ≡ reject (source kind (meant_items items.now))
+    requires { length bodies.now ≡ length elements.now }
+    ensures { IfOk result (λ v. meant v ≡ reject (source kind (meant_elements elements.now))
         (map meant bodies.now)) }
 {
     if any_undecided(bodies) {
         return Ok(Value::Invalid);
     }
-    let kept = kept_items(alloc, items, bodies, false)?;
+    let kept = kept_elements(alloc, elements, bodies, false)?;
     Ok(Value::Collection(kind, kept))
 }
 
@@ -62,27 +62,30 @@ fn any_invalid(bodies: &[Value<'_>]) -> bool
 }
 
 /// Puts a body at a list's end, if it is an element.
-fn push_body<'a>(items: &mut Vec<Item<'a>>, body: &Value<'a>) -> Result<(), OutOfMemory>
-    ensures { OnOk result (meant_items items.new.items ≡ meant_items items.old.items ++
+fn push_body<'a>(elements: &mut Vec<Element<'a>>, body: &Value<'a>) -> Result<(), OutOfMemory>
+    ensures { OnOk result (meant_elements elements.new.items ≡ meant_elements elements.old.items ++
         element_list (as_element (meant body.now))) }
 {
     match body {
-        Value::Item(item) => push(items, copy_of(item)),
+        Value::Element(element) => push(elements, copy_of(element)),
         Value::Invalid => Ok(()),
         Value::Collection(_, _) => Ok(()),
     }
 }
 
 /// The bodies that are elements.
-fn collected_items<'a>(alloc: Global, bodies: &[Value<'a>]) -> Result<Vec<Item<'a>>, OutOfMemory>
-    ensures { IfOk result (λ v. meant_items v.items ≡
+fn collected_elements<'a>(
+    alloc: Global,
+    bodies: &[Value<'a>],
+) -> Result<Vec<Element<'a>>, OutOfMemory>
+    ensures { IfOk result (λ v. meant_elements v.items ≡
         filter_map as_element (map meant bodies.now)) }
 {
-    let mut items = Vec::new(alloc);
+    let mut elements = Vec::new(alloc);
     for body in bodies {
-        push_body(&mut items, body)?;
+        push_body(&mut elements, body)?;
     }
-    Ok(items)
+    Ok(elements)
 }
 
 /// What the bodies give, one by one; invalid where one is invalid.
@@ -92,48 +95,48 @@ pub fn collect<'a>(
     kind: CollectionKind,
     bodies: &[Value<'a>],
 ) -> Result<Value<'a>, OutOfMemory>
-    ensures { IfOk result (λ v. (es : List Element) →
+    ensures { IfOk result (λ v. (es : List Meant) →
         meant v ≡ collect (source kind es) (map meant bodies.now)) }
 {
     if any_invalid(bodies) {
         return Ok(Value::Invalid);
     }
-    let collected = collected_items(alloc, bodies)?;
+    let collected = collected_elements(alloc, bodies)?;
     Ok(Value::Collection(collected_kind(kind), collected))
 }
 
 /// Puts copies of elements at a list's end.
-fn push_all<'a>(items: &mut Vec<Item<'a>>, more: &[Item<'a>]) -> Result<(), OutOfMemory>
-    ensures { OnOk result (meant_items items.new.items ≡ meant_items items.old.items ++
-        meant_items more.now) }
+fn push_all<'a>(elements: &mut Vec<Element<'a>>, more: &[Element<'a>]) -> Result<(), OutOfMemory>
+    ensures { OnOk result (meant_elements elements.new.items ≡ meant_elements elements.old.items ++
+        meant_elements more.now) }
 {
-    for item in more {
-        push(items, copy_of(item))?;
+    for element in more {
+        push(elements, copy_of(element))?;
     }
     Ok(())
 }
 
 /// Puts the elements of a body at a list's end.
-fn push_elements<'a>(items: &mut Vec<Item<'a>>, body: &Value<'a>) -> Result<(), OutOfMemory>
-    ensures { OnOk result (meant_items items.new.items ≡ meant_items items.old.items ++
+fn push_elements<'a>(elements: &mut Vec<Element<'a>>, body: &Value<'a>) -> Result<(), OutOfMemory>
+    ensures { OnOk result (meant_elements elements.new.items ≡ meant_elements elements.old.items ++
         collection_elements (meant body.now)) }
 {
     match body {
-        Value::Collection(_, more) => push_all(items, more.as_slice()),
-        Value::Item(_) => Ok(()),
+        Value::Collection(_, more) => push_all(elements, more.as_slice()),
+        Value::Element(_) => Ok(()),
         Value::Invalid => Ok(()),
     }
 }
 
 /// The elements of all the bodies, in order.
-fn joined_items<'a>(alloc: Global, bodies: &[Value<'a>]) -> Result<Vec<Item<'a>>, OutOfMemory>
-    ensures { IfOk result (λ v. meant_items v.items ≡ joined (map meant bodies.now)) }
+fn joined_elements<'a>(alloc: Global, bodies: &[Value<'a>]) -> Result<Vec<Element<'a>>, OutOfMemory>
+    ensures { IfOk result (λ v. meant_elements v.items ≡ joined (map meant bodies.now)) }
 {
-    let mut items = Vec::new(alloc);
+    let mut elements = Vec::new(alloc);
     for body in bodies {
-        push_elements(&mut items, body)?;
+        push_elements(&mut elements, body)?;
     }
-    Ok(items)
+    Ok(elements)
 }
 
 /// The elements of what the bodies give; invalid where one is invalid.
@@ -143,22 +146,22 @@ pub fn collect_flat<'a>(
     kind: CollectionKind,
     bodies: &[Value<'a>],
 ) -> Result<Value<'a>, OutOfMemory>
-    ensures { IfOk result (λ v. (es : List Element) →
+    ensures { IfOk result (λ v. (es : List Meant) →
         meant v ≡ collect_flat (source kind es) (map meant bodies.now)) }
 {
     if any_invalid(bodies) {
         return Ok(Value::Invalid);
     }
-    let collected = joined_items(alloc, bodies)?;
+    let collected = joined_elements(alloc, bodies)?;
     Ok(Value::Collection(collected_kind(kind), collected))
 }
 
 /// Whether an element stands twice.
-fn repeats_item(items: &[Item<'_>]) -> bool
-    ensures { result ≡ repeats same_element (meant_items items.now) }
+fn repeats_element(elements: &[Element<'_>]) -> bool
+    ensures { result ≡ repeats same_element (meant_elements elements.now) }
 {
-    for index in 0..items.len() {
-        if is_item_among(&items[index + 1..], &items[index]) {
+    for index in 0..elements.len() {
+        if is_element_among(&elements[index + 1..], &elements[index]) {
             return true;
         }
     }
@@ -173,6 +176,6 @@ pub fn unique_bodies<'a>(alloc: Global, bodies: &[Value<'_>]) -> Result<Value<'a
     if any_invalid(bodies) {
         return Ok(Value::Invalid);
     }
-    let items = collected_items(alloc, bodies)?;
-    Ok(Value::Item(Item::Bool(!repeats_item(items.as_slice()))))
+    let elements = collected_elements(alloc, bodies)?;
+    Ok(Value::Element(Element::Bool(!repeats_element(elements.as_slice()))))
 }

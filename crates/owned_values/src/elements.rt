@@ -7,36 +7,36 @@ ghost use Rattle.ocl_base.specs.Lists.{is_among};
 ghost use Rattle.rule_values.specs.Value.{same_element};
 ghost use Rattle.rule_values.specs.Equality.{occurrences};
 ghost use Rattle.rule_values.specs.Operations.{integer_value, as_collection, collection_size, emptiness, membership, occurrence_count, inclusion, exclusion, distinct, as_set};
-ghost use Rattle.owned_values.specs.Meant.{meant, meant_item, meant_items};
+ghost use Rattle.owned_values.specs.Meant.{meant, meant_element, meant_elements};
 ghost use Rattle.owned_values.specs.Walks.{with_new};
 
-use crate::value::{Item, Value, copy_of};
+use crate::value::{Element, Value, copy_of};
 use ocl_base::{CollectionKind, OutOfMemory, push};
 use std::alloc::Global;
 
 /// Whether two elements are the same.
-pub(crate) fn same_item(a: &Item<'_>, b: &Item<'_>) -> bool
-    ensures { result ≡ same_element (meant_item a.now) (meant_item b.now) }
+pub(crate) fn same_element(a: &Element<'_>, b: &Element<'_>) -> bool
+    ensures { result ≡ same_element (meant_element a.now) (meant_element b.now) }
 {
     match (a, b) {
-        (Item::Null, Item::Null) => true,
-        (Item::Bool(a), Item::Bool(b)) => *a == *b,
-        (Item::Int(a), Item::Int(b)) => *a == *b,
-        (Item::Text(a), Item::Text(b)) => same_text(a, b),
-        (Item::Literal(d, a), Item::Literal(e, b)) => {
+        (Element::Null, Element::Null) => true,
+        (Element::Bool(a), Element::Bool(b)) => *a == *b,
+        (Element::Int(a), Element::Int(b)) => *a == *b,
+        (Element::Text(a), Element::Text(b)) => same_text(a, b),
+        (Element::Literal(d, a), Element::Literal(e, b)) => {
             d.index() == e.index() && a.index() == b.index()
         }
-        (Item::Object(a), Item::Object(b)) => a.index() == b.index(),
+        (Element::Object(a), Element::Object(b)) => a.index() == b.index(),
         _ => false,
     }
 }
 
 /// Whether an element is one of these.
-pub(crate) fn is_item_among(items: &[Item<'_>], item: &Item<'_>) -> bool
-    ensures { result ≡ is_among same_element (meant_items items.now) (meant_item item.now) }
+pub(crate) fn is_element_among(elements: &[Element<'_>], element: &Element<'_>) -> bool
+    ensures { result ≡ is_among same_element (meant_elements elements.now) (meant_element element.now) }
 {
-    for other in items {
-        if same_item(item, other) {
+    for other in elements {
+        if same_element(element, other) {
             return true;
         }
     }
@@ -48,7 +48,7 @@ pub(crate) fn count_value<'a>(n: usize) -> Value<'a>
     ensures { meant result ≡ integer_value (pos n) }
 {
     match i64::try_from(n) {
-        Ok(n) => Value::Item(Item::Int(n)),
+        Ok(n) => Value::Element(Element::Int(n)),
         Err(_) => Value::Invalid,
     }
 }
@@ -58,7 +58,7 @@ pub fn collection_size<'a>(v: &Value<'_>) -> Value<'a>
     ensures { meant result ≡ collection_size (meant v.now) }
 {
     match v {
-        Value::Collection(_, items) => count_value(items.len()),
+        Value::Collection(_, elements) => count_value(elements.len()),
         _ => Value::Invalid,
     }
 }
@@ -68,7 +68,7 @@ pub fn emptiness<'a>(v: &Value<'_>) -> Value<'a>
     ensures { meant result ≡ emptiness (meant v.now) }
 {
     match v {
-        Value::Collection(_, items) => Value::Item(Item::Bool(items.len() == 0)),
+        Value::Collection(_, elements) => Value::Element(Element::Bool(elements.len() == 0)),
         _ => Value::Invalid,
     }
 }
@@ -78,8 +78,8 @@ pub fn membership<'a>(v: &Value<'_>, w: &Value<'_>) -> Value<'a>
     ensures { meant result ≡ membership (meant v.now) (meant w.now) }
 {
     match (v, w) {
-        (Value::Collection(_, items), Value::Item(item)) => {
-            Value::Item(Item::Bool(is_item_among(items.as_slice(), item)))
+        (Value::Collection(_, elements), Value::Element(element)) => {
+            Value::Element(Element::Bool(is_element_among(elements.as_slice(), element)))
         }
         _ => Value::Invalid,
     }
@@ -94,22 +94,22 @@ pub fn as_collection<'a>(
     ensures { IfOk result (λ r. meant r ≡ as_collection kind (meant v.now)) }
 {
     match v {
-        Value::Item(Item::Null) => Ok(Value::Collection(kind, Vec::new(alloc))),
-        Value::Item(item) => {
-            let items = one_item(alloc, item)?;
-            Ok(Value::Collection(kind, items))
+        Value::Element(Element::Null) => Ok(Value::Collection(kind, Vec::new(alloc))),
+        Value::Element(element) => {
+            let elements = one_element(alloc, element)?;
+            Ok(Value::Collection(kind, elements))
         }
         _ => Ok(Value::Invalid),
     }
 }
 
 /// A list of one element.
-fn one_item<'a>(alloc: Global, item: &Item<'a>) -> Result<Vec<Item<'a>>, OutOfMemory>
-    ensures { IfOk result (λ v. meant_items v.items ≡ meant_item item.now ∷ []) }
+fn one_element<'a>(alloc: Global, element: &Element<'a>) -> Result<Vec<Element<'a>>, OutOfMemory>
+    ensures { IfOk result (λ v. meant_elements v.items ≡ meant_element element.now ∷ []) }
 {
-    let mut items = Vec::new(alloc);
-    push(&mut items, copy_of(item))?;
-    Ok(items)
+    let mut elements = Vec::new(alloc);
+    push(&mut elements, copy_of(element))?;
+    Ok(elements)
 }
 
 /// Whether two texts are the same.
@@ -120,12 +120,12 @@ fn same_text(a: &str, b: &str) -> bool
 }
 
 /// How often an element stands in a list.
-pub(crate) fn occurrences(items: &[Item<'_>], item: &Item<'_>) -> usize
-    ensures { result ≡ occurrences (meant_items items.now) (meant_item item.now) }
+pub(crate) fn occurrences(elements: &[Element<'_>], element: &Element<'_>) -> usize
+    ensures { result ≡ occurrences (meant_elements elements.now) (meant_element element.now) }
 {
     let mut count = 0;
-    for other in items {
-        if same_item(other, item) {
+    for other in elements {
+        if same_element(other, element) {
             count += 1;
         }
     }
@@ -137,20 +137,20 @@ pub fn occurrence_count<'a>(v: &Value<'_>, w: &Value<'_>) -> Value<'a>
     ensures { meant result ≡ occurrence_count (meant v.now) (meant w.now) }
 {
     match (v, w) {
-        (Value::Collection(_, items), Value::Item(item)) => {
-            count_value(occurrences(items.as_slice(), item))
+        (Value::Collection(_, elements), Value::Element(element)) => {
+            count_value(occurrences(elements.as_slice(), element))
         }
         _ => Value::Invalid,
     }
 }
 
 /// Whether each of some elements is one of others.
-pub(crate) fn are_items_among(items: &[Item<'_>], others: &[Item<'_>]) -> bool
-    ensures { result ≡ list_all (is_among same_element (meant_items items.now))
-        (meant_items others.now) }
+pub(crate) fn are_elements_among(elements: &[Element<'_>], others: &[Element<'_>]) -> bool
+    ensures { result ≡ list_all (is_among same_element (meant_elements elements.now))
+        (meant_elements others.now) }
 {
     for other in others {
-        if !is_item_among(items, other) {
+        if !is_element_among(elements, other) {
             return false;
         }
     }
@@ -158,12 +158,12 @@ pub(crate) fn are_items_among(items: &[Item<'_>], others: &[Item<'_>]) -> bool
 }
 
 /// Whether one of some elements is one of others.
-fn is_one_among(items: &[Item<'_>], others: &[Item<'_>]) -> bool
-    ensures { result ≡ list_any (is_among same_element (meant_items items.now))
-        (meant_items others.now) }
+fn is_one_among(elements: &[Element<'_>], others: &[Element<'_>]) -> bool
+    ensures { result ≡ list_any (is_among same_element (meant_elements elements.now))
+        (meant_elements others.now) }
 {
     for other in others {
-        if is_item_among(items, other) {
+        if is_element_among(elements, other) {
             return true;
         }
     }
@@ -175,9 +175,9 @@ pub fn inclusion<'a>(v: &Value<'_>, w: &Value<'_>) -> Value<'a>
     ensures { meant result ≡ inclusion (meant v.now) (meant w.now) }
 {
     match (v, w) {
-        (Value::Collection(_, items), Value::Collection(_, others)) => {
-            let all = are_items_among(items.as_slice(), others.as_slice());
-            Value::Item(Item::Bool(all))
+        (Value::Collection(_, elements), Value::Collection(_, others)) => {
+            let all = are_elements_among(elements.as_slice(), others.as_slice());
+            Value::Element(Element::Bool(all))
         }
         _ => Value::Invalid,
     }
@@ -188,32 +188,35 @@ pub fn exclusion<'a>(v: &Value<'_>, w: &Value<'_>) -> Value<'a>
     ensures { meant result ≡ exclusion (meant v.now) (meant w.now) }
 {
     match (v, w) {
-        (Value::Collection(_, items), Value::Collection(_, others)) => {
-            let any = is_one_among(items.as_slice(), others.as_slice());
-            Value::Item(Item::Bool(!any))
+        (Value::Collection(_, elements), Value::Collection(_, others)) => {
+            let any = is_one_among(elements.as_slice(), others.as_slice());
+            Value::Element(Element::Bool(!any))
         }
         _ => Value::Invalid,
     }
 }
 
 /// Each element once, where it first stands.
-fn distinct_items<'a>(alloc: Global, items: &[Item<'a>]) -> Result<Vec<Item<'a>>, OutOfMemory>
-    ensures { IfOk result (λ v. meant_items v.items ≡ distinct (meant_items items.now)) }
+fn distinct_elements<'a>(
+    alloc: Global,
+    elements: &[Element<'a>],
+) -> Result<Vec<Element<'a>>, OutOfMemory>
+    ensures { IfOk result (λ v. meant_elements v.items ≡ distinct (meant_elements elements.now)) }
 {
     let mut distinct = Vec::new(alloc);
-    for item in items {
-        push_new(&mut distinct, item)?;
+    for element in elements {
+        push_new(&mut distinct, element)?;
     }
     Ok(distinct)
 }
 
 /// Puts a copy of an element at a list's end, if it isn't there yet.
-fn push_new<'a>(items: &mut Vec<Item<'a>>, item: &Item<'a>) -> Result<(), OutOfMemory>
-    ensures { OnOk result (meant_items items.new.items ≡ with_new (meant_items items.old.items)
-        (meant_item item.now)) }
+fn push_new<'a>(elements: &mut Vec<Element<'a>>, element: &Element<'a>) -> Result<(), OutOfMemory>
+    ensures { OnOk result (meant_elements elements.new.items ≡ with_new (meant_elements elements.old.items)
+        (meant_element element.now)) }
 {
-    if !is_item_among(items.as_slice(), item) {
-        push(items, copy_of(item))?;
+    if !is_element_among(elements.as_slice(), element) {
+        push(elements, copy_of(element))?;
     }
     Ok(())
 }
@@ -223,8 +226,8 @@ pub fn as_set<'a>(alloc: Global, v: &Value<'a>) -> Result<Value<'a>, OutOfMemory
     ensures { IfOk result (λ r. meant r ≡ as_set (meant v.now)) }
 {
     match v {
-        Value::Collection(_, items) => {
-            let distinct = distinct_items(alloc, items.as_slice())?;
+        Value::Collection(_, elements) => {
+            let distinct = distinct_elements(alloc, elements.as_slice())?;
             Ok(Value::Collection(CollectionKind::Set, distinct))
         }
         _ => Ok(Value::Invalid),

@@ -4,10 +4,10 @@ ghost use Rattle.std.specs.Prelude.{◌≡◌, ◌++◌, map, length, IfOk, OnOk
 ghost use Rattle.std.specs.List.{list_all, list_any};
 ghost use Rattle.rule_values.specs.Operations.{is_true, is_false};
 ghost use Rattle.rule_values.specs.Endings.{for_all, exists, is_undecided, count_true, one, kept_by};
-ghost use Rattle.owned_values.specs.Meant.{meant, meant_item, meant_items};
+ghost use Rattle.owned_values.specs.Meant.{meant, meant_element, meant_elements};
 ghost use Rattle.owned_values.specs.Walks.{kept_one, is_wanted};
 
-use crate::value::{Item, Value, copy_of, is_false, is_true, truth_known};
+use crate::value::{Element, Value, copy_of, is_false, is_true, truth_known};
 use ocl_base::{CollectionKind, OutOfMemory, push};
 use std::alloc::Global;
 
@@ -85,35 +85,39 @@ pub fn one<'a>(bodies: &[Value<'_>]) -> Value<'a>
     if any_undecided(bodies) {
         return Value::Invalid;
     }
-    Value::Item(Item::Bool(count_true(bodies) == 1))
+    Value::Element(Element::Bool(count_true(bodies) == 1))
 }
 
 /// Puts a copy of an element at a list's end, if it is to be kept.
-fn keep_if<'a>(kept: &mut Vec<Item<'a>>, keep: bool, item: &Item<'a>) -> Result<(), OutOfMemory>
-    ensures { OnOk result (meant_items kept.new.items ≡ meant_items kept.old.items ++
-        kept_one keep (meant_item item.now)) }
+fn keep_if<'a>(
+    kept: &mut Vec<Element<'a>>,
+    keep: bool,
+    element: &Element<'a>,
+) -> Result<(), OutOfMemory>
+    ensures { OnOk result (meant_elements kept.new.items ≡ meant_elements kept.old.items ++
+        kept_one keep (meant_element element.now)) }
 {
     if keep {
-        push(kept, copy_of(item))?;
+        push(kept, copy_of(element))?;
     }
     Ok(())
 }
 
 /// The elements whose body is true, or else those whose body is false.
-pub(crate) fn kept_items<'a>(
+pub(crate) fn kept_elements<'a>(
     alloc: Global,
-    items: &[Item<'a>],
+    elements: &[Element<'a>],
     bodies: &[Value<'_>],
     wanted: bool,
-) -> Result<Vec<Item<'a>>, OutOfMemory>
-    requires { length bodies.now ≡ length items.now }
-    ensures { IfOk result (λ v. meant_items v.items ≡ kept_by (is_wanted wanted)
-        (meant_items items.now) (map meant bodies.now)) }
+) -> Result<Vec<Element<'a>>, OutOfMemory>
+    requires { length bodies.now ≡ length elements.now }
+    ensures { IfOk result (λ v. meant_elements v.items ≡ kept_by (is_wanted wanted)
+        (meant_elements elements.now) (map meant bodies.now)) }
 {
     let mut kept = Vec::new(alloc);
-    for index in 0..items.len() {
+    for index in 0..elements.len() {
         let keep = is_wanted(wanted, &bodies[index]);
-        keep_if(&mut kept, keep, &items[index])?;
+        keep_if(&mut kept, keep, &elements[index])?;
     }
     Ok(kept)
 }

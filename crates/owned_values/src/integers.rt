@@ -5,14 +5,14 @@ ghost use Rattle.rule_values.specs.Operations.{addition, subtraction, multiplica
 ghost use Rattle.owned_values.specs.Meant.{meant};
 ghost use Rattle.owned_values.specs.Walks.{integers_in, integer_in, checked_value};
 
-use crate::value::{Item, Value};
+use crate::value::{Element, Value};
 
 /// Two whole numbers, if both values are.
 pub fn integers(v: &Value<'_>, w: &Value<'_>) -> Option<(i64, i64)>
     ensures { result ≡ integers_in (meant v.now) (meant w.now) }
 {
     match (v, w) {
-        (Value::Item(Item::Int(a)), Value::Item(Item::Int(b))) => Some((*a, *b)),
+        (Value::Element(Element::Int(a)), Value::Element(Element::Int(b))) => Some((*a, *b)),
         _ => None,
     }
 }
@@ -22,7 +22,7 @@ fn integer(v: &Value<'_>) -> Option<i64>
     ensures { result ≡ integer_in (meant v.now) }
 {
     match v {
-        Value::Item(Item::Int(a)) => Some(*a),
+        Value::Element(Element::Int(a)) => Some(*a),
         _ => None,
     }
 }
@@ -32,7 +32,7 @@ fn number_or_invalid<'a>(n: Option<i64>) -> Value<'a>
     ensures { meant result ≡ checked_value n }
 {
     match n {
-        Some(n) => Value::Item(Item::Int(n)),
+        Some(n) => Value::Element(Element::Int(n)),
         None => Value::Invalid,
     }
 }
@@ -84,7 +84,7 @@ pub fn remainder<'a>(v: &Value<'_>, w: &Value<'_>) -> Value<'a>
     if b == 0 {
         return Value::Invalid;
     }
-    Value::Item(Item::Int(a.wrapping_rem(b)))
+    Value::Element(Element::Int(a.wrapping_rem(b)))
 }
 
 pub fn lesser<'a>(v: &Value<'_>, w: &Value<'_>) -> Value<'a>
@@ -93,7 +93,7 @@ pub fn lesser<'a>(v: &Value<'_>, w: &Value<'_>) -> Value<'a>
     let Some((a, b)) = integers(v, w) else {
         return Value::Invalid;
     };
-    Value::Item(Item::Int(a.min(b)))
+    Value::Element(Element::Int(a.min(b)))
 }
 
 pub fn greater<'a>(v: &Value<'_>, w: &Value<'_>) -> Value<'a>
@@ -102,7 +102,7 @@ pub fn greater<'a>(v: &Value<'_>, w: &Value<'_>) -> Value<'a>
     let Some((a, b)) = integers(v, w) else {
         return Value::Invalid;
     };
-    Value::Item(Item::Int(a.max(b)))
+    Value::Element(Element::Int(a.max(b)))
 }
 
 pub fn negative<'a>(v: &Value<'_>) -> Value<'a>
@@ -129,7 +129,7 @@ pub fn less_than<'a>(v: &Value<'_>, w: &Value<'_>) -> Value<'a>
     let Some((a, b)) = integers(v, w) else {
         return Value::Invalid;
     };
-    Value::Item(Item::Bool(a < b))
+    Value::Element(Element::Bool(a < b))
 }
 
 pub fn at_most<'a>(v: &Value<'_>, w: &Value<'_>) -> Value<'a>
@@ -138,5 +138,5 @@ pub fn at_most<'a>(v: &Value<'_>, w: &Value<'_>) -> Value<'a>
     let Some((a, b)) = integers(v, w) else {
         return Value::Invalid;
     };
-    Value::Item(Item::Bool(a <= b))
+    Value::Element(Element::Bool(a <= b))
 }

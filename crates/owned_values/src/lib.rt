@@ -31,5 +31,5 @@ pub use truth::{
     negation, undefined_test,
 };
 pub use value::{
-    Item, Value, copy_of, copy_value, is_false, is_invalid, is_null, is_true, item_value,
+    Element, Value, copy_of, copy_value, element_value, is_false, is_invalid, is_null, is_true,
 };

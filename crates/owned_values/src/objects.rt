@@ -4,10 +4,10 @@ ghost use Rattle.std.specs.Prelude.{◌≡◌, ◌<◌, length, map, IfOk, Some,
 ghost use Rattle.imkl_model.specs.ClassModel.{feature_at, belongs};
 ghost use Rattle.imkl_population.specs.Population.{class_of, values_of};
 ghost use Rattle.rule_values.specs.Operations.{kind_test, type_test, cast, or_invalid, feature_value, value_read, all_instances};
-ghost use Rattle.owned_values.specs.Meant.{meant, meant_item, meant_items, IsValueThere};
+ghost use Rattle.owned_values.specs.Meant.{meant, meant_element, meant_elements, IsValueThere};
 ghost use Rattle.owned_values.specs.Walks.{objects_meant};
 
-use crate::value::{Item, Value};
+use crate::value::{Element, Value};
 use imkl_model::{ClassNo, FeatureNo};
 use imkl_population::{ObjectNo, Population, Scalar};
 use ocl_base::{CollectionKind, OutOfMemory, push};
@@ -20,9 +20,9 @@ pub fn kind_test<'a>(population: &Population<'_>, class: ClassNo, v: &Value<'_>)
     ensures { meant result ≡ kind_test population.now.content class (meant v.now) }
 {
     match v {
-        Value::Item(Item::Object(o)) => {
+        Value::Element(Element::Object(o)) => {
             let own = population.class_of(*o);
-            Value::Item(Item::Bool(population.model().conforms(own, class)))
+            Value::Element(Element::Bool(population.model().conforms(own, class)))
         }
         _ => Value::Invalid,
     }
@@ -34,9 +34,9 @@ pub fn type_test<'a>(population: &Population<'_>, class: ClassNo, v: &Value<'_>)
     ensures { meant result ≡ type_test population.now.content class (meant v.now) }
 {
     match v {
-        Value::Item(Item::Object(o)) => {
+        Value::Element(Element::Object(o)) => {
             let own = population.class_of(*o);
-            Value::Item(Item::Bool(own.index() == class.index()))
+            Value::Element(Element::Bool(own.index() == class.index()))
         }
         _ => Value::Invalid,
     }
@@ -49,10 +49,10 @@ pub fn cast<'a>(population: &Population<'_>, class: ClassNo, v: &Value<'_>) -> V
     ensures { meant result ≡ cast population.now.content class (meant v.now) }
 {
     match v {
-        Value::Item(Item::Object(o)) => {
+        Value::Element(Element::Object(o)) => {
             let own = population.class_of(*o);
             if population.model().conforms(own, class) {
-                Value::Item(Item::Object(*o))
+                Value::Element(Element::Object(*o))
             } else {
                 Value::Invalid
             }
@@ -61,28 +61,28 @@ pub fn cast<'a>(population: &Population<'_>, class: ClassNo, v: &Value<'_>) -> V
     }
 }
 
-/// A value of a population as an item.
-fn item_of(scalar: &Scalar) -> Item<'_>
-    ensures { meant_item result ≡ Some scalar.now }
+/// A value of a population as an element.
+fn item_of(scalar: &Scalar) -> Element<'_>
+    ensures { meant_element result ≡ Some scalar.now }
 {
     match scalar {
-        Scalar::Bool(b) => Item::Bool(*b),
-        Scalar::Int(n) => Item::Int(*n),
-        Scalar::Text(text) => Item::Text(text.as_str()),
-        Scalar::Literal(enumeration, literal) => Item::Literal(*enumeration, *literal),
-        Scalar::Object(object) => Item::Object(*object),
+        Scalar::Bool(b) => Element::Bool(*b),
+        Scalar::Int(n) => Element::Int(*n),
+        Scalar::Text(text) => Element::Text(text.as_str()),
+        Scalar::Literal(enumeration, literal) => Element::Literal(*enumeration, *literal),
+        Scalar::Object(object) => Element::Object(*object),
     }
 }
 
-/// Values of a population as items.
-fn items_of<'p>(alloc: Global, scalars: &'p [Scalar]) -> Result<Vec<Item<'p>>, OutOfMemory>
-    ensures { IfOk result (λ v. meant_items v.items ≡ map Some scalars.now) }
+/// Values of a population as elements.
+fn elements_of<'p>(alloc: Global, scalars: &'p [Scalar]) -> Result<Vec<Element<'p>>, OutOfMemory>
+    ensures { IfOk result (λ v. meant_elements v.items ≡ map Some scalars.now) }
 {
-    let mut items = Vec::with_capacity(alloc, scalars.len())?;
+    let mut elements = Vec::with_capacity(alloc, scalars.len())?;
     for scalar in scalars {
-        push(&mut items, item_of(scalar))?;
+        push(&mut elements, item_of(scalar))?;
     }
-    Ok(items)
+    Ok(elements)
 }
 
 /// The value of a feature: the value itself where its upper bound is 1, null where there is none; else a collection.
@@ -103,12 +103,12 @@ fn feature_value<'p>(
     let values = population.values(object, feature);
     if info.is_single() {
         return Ok(match values {
-            [] => Value::Item(Item::Null),
-            [value, ..] => Value::Item(item_of(value)),
+            [] => Value::Element(Element::Null),
+            [value, ..] => Value::Element(item_of(value)),
         });
     }
-    let items = items_of(alloc, values)?;
-    Ok(Value::Collection(info.kind, items))
+    let elements = elements_of(alloc, values)?;
+    Ok(Value::Collection(info.kind, elements))
 }
 
 /// A feature of an object; of all else, and of an object whose class it doesn't belong to, it is invalid.
@@ -124,7 +124,7 @@ pub fn value_read<'p>(
         or_invalid (value_read population.now.content feature (meant v.now))) }
 {
     match v {
-        Value::Item(Item::Object(o)) => {
+        Value::Element(Element::Object(o)) => {
             if population.model().belongs(population.class_of(*o), feature) {
                 feature_value(alloc, population, *o, feature)
             } else {
@@ -135,15 +135,15 @@ pub fn value_read<'p>(
     }
 }
 
-/// Objects as items.
-fn object_items<'a>(alloc: Global, objects: &[ObjectNo]) -> Result<Vec<Item<'a>>, OutOfMemory>
-    ensures { IfOk result (λ v. meant_items v.items ≡ objects_meant objects.now) }
+/// Objects as elements.
+fn object_elements<'a>(alloc: Global, objects: &[ObjectNo]) -> Result<Vec<Element<'a>>, OutOfMemory>
+    ensures { IfOk result (λ v. meant_elements v.items ≡ objects_meant objects.now) }
 {
-    let mut items = Vec::with_capacity(alloc, objects.len())?;
+    let mut elements = Vec::with_capacity(alloc, objects.len())?;
     for object in objects {
-        push(&mut items, Item::Object(*object))?;
+        push(&mut elements, Element::Object(*object))?;
     }
-    Ok(items)
+    Ok(elements)
 }
 
 /// The Set of a class's instances.
@@ -155,6 +155,6 @@ pub fn all_instances<'a>(
     requires { class < length population.now.content.model.classes }
     ensures { IfOk result (λ v. meant v ≡ all_instances population.now.content class) }
 {
-    let items = object_items(alloc, population.instances(class))?;
-    Ok(Value::Collection(CollectionKind::Set, items))
+    let elements = object_elements(alloc, population.instances(class))?;
+    Ok(Value::Collection(CollectionKind::Set, elements))
 }

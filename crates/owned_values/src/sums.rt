@@ -3,9 +3,9 @@
 ghost use Rattle.std.specs.Prelude.{◌≡◌, ◌+ℤ◌, FitsSigned};
 ghost use Rattle.std.specs.Int.{w128};
 ghost use Rattle.rule_values.specs.Operations.{sum_of, summation};
-ghost use Rattle.owned_values.specs.Meant.{meant, meant_items};
+ghost use Rattle.owned_values.specs.Meant.{meant, meant_elements};
 
-use crate::value::{Item, Value};
+use crate::value::{Element, Value};
 
 /// The sum of two numbers, which fits.
 fn plus(total: i128, n: i64) -> i128
@@ -16,12 +16,12 @@ fn plus(total: i128, n: i64) -> i128
 }
 
 /// The sum of whole numbers; there is none where an element is null. No list's sum leaves 128 bits.
-fn sum_of(items: &[Item<'_>]) -> Option<i128>
-    ensures { result ≡ sum_of (meant_items items.now) }
+fn sum_of(elements: &[Element<'_>]) -> Option<i128>
+    ensures { result ≡ sum_of (meant_elements elements.now) }
 {
     let mut total: i128 = 0;
-    for item in items {
-        let Item::Int(n) = item else {
+    for element in elements {
+        let Element::Int(n) = element else {
             return None;
         };
         total = plus(total, *n);
@@ -33,14 +33,14 @@ fn sum_of(items: &[Item<'_>]) -> Option<i128>
 pub fn summation<'a>(v: &Value<'_>) -> Value<'a>
     ensures { meant result ≡ summation (meant v.now) }
 {
-    let Value::Collection(_, items) = v else {
+    let Value::Collection(_, elements) = v else {
         return Value::Invalid;
     };
-    let Some(total) = sum_of(items.as_slice()) else {
+    let Some(total) = sum_of(elements.as_slice()) else {
         return Value::Invalid;
     };
     match i64::try_from(total) {
-        Ok(n) => Value::Item(Item::Int(n)),
+        Ok(n) => Value::Element(Element::Int(n)),
         Err(_) => Value::Invalid,
     }
 }

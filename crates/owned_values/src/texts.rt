@@ -8,7 +8,7 @@ ghost use Rattle.owned_values.specs.Walks.{IsSuffix};
 
 use crate::elements::count_value;
 use crate::integers::integers;
-use crate::value::{Item, Value};
+use crate::value::{Element, Value};
 
 /// How many characters a text has.
 fn character_count(text: &str) -> usize
@@ -22,7 +22,7 @@ pub fn text_length<'a>(v: &Value<'_>) -> Value<'a>
     ensures { meant result ≡ text_length (meant v.now) }
 {
     match v {
-        Value::Item(Item::Text(text)) => count_value(character_count(text)),
+        Value::Element(Element::Text(text)) => count_value(character_count(text)),
         _ => Value::Invalid,
     }
 }
@@ -51,7 +51,7 @@ fn first(text: &str, count: usize) -> &str
 pub fn substring<'a>(v: &Value<'a>, lower: &Value<'_>, upper: &Value<'_>) -> Value<'a>
     ensures { meant result ≡ substring (meant v.now) (meant lower.now) (meant upper.now) }
 {
-    let Value::Item(Item::Text(text)) = v else {
+    let Value::Element(Element::Text(text)) = v else {
         return Value::Invalid;
     };
     let Some((from, to)) = integers(lower, upper) else {
@@ -74,5 +74,5 @@ fn characters(text: &str, from: i64, to: i64) -> Value<'_>
         return Value::Invalid;
     }
     let part = first(after(text, from - 1), to + 1 - from);
-    Value::Item(Item::Text(part))
+    Value::Element(Element::Text(part))
 }

@@ -4,7 +4,7 @@ ghost use Rattle.std.specs.Prelude.{◌≡◌};
 ghost use Rattle.rule_values.specs.Operations.{negation, conjunction, disjunction, exclusive_disjunction, implication, undefined_test, invalid_test, both_null};
 ghost use Rattle.owned_values.specs.Meant.{meant};
 
-use crate::value::{Item, Value, is_false, is_invalid, is_null, is_true, truth_known};
+use crate::value::{Element, Value, is_false, is_invalid, is_null, is_true, truth_known};
 
 pub fn negation<'a>(v: &Value<'_>) -> Value<'a>
     ensures { meant result ≡ negation (meant v.now) }
@@ -46,14 +46,14 @@ pub fn implication<'a>(v: &Value<'_>, w: &Value<'_>) -> Value<'a>
 pub fn undefined_test<'a>(v: &Value<'_>) -> Value<'a>
     ensures { meant result ≡ undefined_test (meant v.now) }
 {
-    Value::Item(Item::Bool(is_invalid(v) || is_null(v)))
+    Value::Element(Element::Bool(is_invalid(v) || is_null(v)))
 }
 
 /// Whether it is invalid.
 pub fn invalid_test<'a>(v: &Value<'_>) -> Value<'a>
     ensures { meant result ≡ invalid_test (meant v.now) }
 {
-    Value::Item(Item::Bool(is_invalid(v)))
+    Value::Element(Element::Bool(is_invalid(v)))
 }
 
 /// Whether both are null; invalid where one is invalid.
@@ -63,5 +63,5 @@ pub fn both_null<'a>(v: &Value<'_>, w: &Value<'_>) -> Value<'a>
     if is_invalid(v) || is_invalid(w) {
         return Value::Invalid;
     }
-    Value::Item(Item::Bool(is_null(v) && is_null(w)))
+    Value::Element(Element::Bool(is_null(v) && is_null(w)))
 }

@@ -3,7 +3,7 @@
 ghost use Rattle.std.specs.Prelude.{◌≡◌, IfOk};
 ghost use Rattle.rule_values.specs.Value.{element_value};
 ghost use Rattle.rule_values.specs.Operations.{is_true, is_false, is_null, is_invalid, truth_known};
-ghost use Rattle.owned_values.specs.Meant.{meant, meant_item, meant_items};
+ghost use Rattle.owned_values.specs.Meant.{meant, meant_element, meant_elements};
 
 use imkl_model::{EnumNo, LiteralNo};
 use imkl_population::ObjectNo;
@@ -12,7 +12,7 @@ use std::alloc::Global;
 
 /// A single value or null, as collections have them. A text is borrowed from the unit or the population.
 #[derive(Debug, Drop)]
-pub enum Item<'a> {
+pub enum Element<'a> {
     /// Null.
     Null,
     /// A truth value.
@@ -33,30 +33,30 @@ pub enum Value<'a> {
     /// Invalid.
     Invalid,
     /// A single value, or null.
-    Item(Item<'a>),
+    Element(Element<'a>),
     /// A collection.
-    Collection(CollectionKind, Vec<Item<'a>>),
+    Collection(CollectionKind, Vec<Element<'a>>),
 }
 
-/// The same item again.
-pub fn copy_of<'a>(item: &Item<'a>) -> Item<'a>
-    ensures { meant_item result ≡ meant_item item.now }
+/// The same element again.
+pub fn copy_of<'a>(element: &Element<'a>) -> Element<'a>
+    ensures { meant_element result ≡ meant_element element.now }
 {
-    match item {
-        Item::Null => Item::Null,
-        Item::Bool(b) => Item::Bool(*b),
-        Item::Int(n) => Item::Int(*n),
-        Item::Text(text) => Item::Text(text),
-        Item::Literal(enumeration, literal) => Item::Literal(*enumeration, *literal),
-        Item::Object(object) => Item::Object(*object),
+    match element {
+        Element::Null => Element::Null,
+        Element::Bool(b) => Element::Bool(*b),
+        Element::Int(n) => Element::Int(*n),
+        Element::Text(text) => Element::Text(text),
+        Element::Literal(enumeration, literal) => Element::Literal(*enumeration, *literal),
+        Element::Object(object) => Element::Object(*object),
     }
 }
 
-/// An item as a value of its own.
-pub fn item_value<'a>(item: &Item<'a>) -> Value<'a>
-    ensures { meant result ≡ element_value (meant_item item.now) }
+/// An element as a value of its own.
+pub fn element_value<'a>(element: &Element<'a>) -> Value<'a>
+    ensures { meant result ≡ element_value (meant_element element.now) }
 {
-    Value::Item(copy_of(item))
+    Value::Element(copy_of(element))
 }
 
 /// Whether it is true.
@@ -64,7 +64,7 @@ pub fn is_true(value: &Value<'_>) -> bool
     ensures { result ≡ is_true (meant value.now) }
 {
     match value {
-        Value::Item(Item::Bool(b)) => *b,
+        Value::Element(Element::Bool(b)) => *b,
         _ => false,
     }
 }
@@ -74,7 +74,7 @@ pub fn is_false(value: &Value<'_>) -> bool
     ensures { result ≡ is_false (meant value.now) }
 {
     match value {
-        Value::Item(Item::Bool(b)) => !*b,
+        Value::Element(Element::Bool(b)) => !*b,
         _ => false,
     }
 }
@@ -84,7 +84,7 @@ pub fn is_null(value: &Value<'_>) -> bool
     ensures { result ≡ is_null (meant value.now) }
 {
     match value {
-        Value::Item(Item::Null) => true,
+        Value::Element(Element::Null) => true,
         _ => false,
     }
 }
@@ -95,7 +95,7 @@ pub fn is_invalid(value: &Value<'_>) -> bool
 {
     match value {
         Value::Invalid => true,
-        Value::Item(_) => false,
+        Value::Element(_) => false,
         Value::Collection(_, _) => false,
     }
 }
@@ -105,9 +105,9 @@ pub(crate) fn truth_known<'a>(is_so: bool, is_not: bool) -> Value<'a>
     ensures { meant result ≡ truth_known is_so is_not }
 {
     if is_so {
-        Value::Item(Item::Bool(true))
+        Value::Element(Element::Bool(true))
     } else if is_not {
-        Value::Item(Item::Bool(false))
+        Value::Element(Element::Bool(false))
     } else {
         Value::Invalid
     }
@@ -120,21 +120,24 @@ pub fn copy_value<'a>(alloc: Global, value: &Value<'a>) -> Result<Value<'a>, Out
 {
     match value {
         Value::Invalid => Ok(Value::Invalid),
-        Value::Item(item) => Ok(Value::Item(copy_of(item))),
-        Value::Collection(kind, items) => {
-            let items = copy_items(alloc, items.as_slice())?;
-            Ok(Value::Collection(*kind, items))
+        Value::Element(element) => Ok(Value::Element(copy_of(element))),
+        Value::Collection(kind, elements) => {
+            let elements = copy_elements(alloc, elements.as_slice())?;
+            Ok(Value::Collection(*kind, elements))
         }
     }
 }
 
-/// The same items again.
-fn copy_items<'a>(alloc: Global, items: &[Item<'a>]) -> Result<Vec<Item<'a>>, OutOfMemory>
-    ensures { IfOk result (λ v. meant_items v.items ≡ meant_items items.now) }
+/// The same elements again.
+fn copy_elements<'a>(
+    alloc: Global,
+    elements: &[Element<'a>],
+) -> Result<Vec<Element<'a>>, OutOfMemory>
+    ensures { IfOk result (λ v. meant_elements v.items ≡ meant_elements elements.now) }
 {
-    let mut copies = Vec::with_capacity(alloc, items.len())?;
-    for item in items {
-        push(&mut copies, copy_of(item))?;
+    let mut copies = Vec::with_capacity(alloc, elements.len())?;
+    for element in elements {
+        push(&mut copies, copy_of(element))?;
     }
     Ok(copies)
 }

@@ -5,7 +5,7 @@ use Rattle.ocl_core.specs.declared.core_tree.Core.{the_lemmas}
 use Rattle.ocl_core.specs.CoreView.{core_view}
 use Rattle.ocl_compile.specs.Meaning.{meaning}
 use Rattle.rule_values.specs.Value.{element_value}
-use Rattle.owned_values.specs.Meant.{meant, meant_items, AreElementsThere}
+use Rattle.owned_values.specs.Meant.{meant, meant_elements, AreElementsThere}
 use Rattle.owned_values.proofs.ForAbove.{kept_there}
 use Rattle.ocl_meaning.proofs.ForAbove.{spine_names, let_names}
 use Rattle.explain_why.proofs.Left.{first_there}
@@ -63,7 +63,7 @@ explain-explain-requires-in-Let t c =
 pub explain_iteration-explain_elements-requires : goal.explain_iteration-explain_elements-requires
 explain_iteration-explain_elements-requires t c =
     let there = rw c.in-Collection.is at c.requires.source in
-    let chosen : AreElementsThere c.args.population.now.content (meant_items c.deref-5.result.now) = rw (c.deref-5.ensures.value, c.in_ok-chosen.ensures, c.deref-3.ensures.value) (kept_there c.args.population.now.content _ _ _ there) in
+    let chosen : AreElementsThere c.args.population.now.content (meant_elements c.deref-5.result.now) = rw (c.deref-5.ensures.value, c.in_ok-chosen.ensures, c.deref-3.ensures.value) (kept_there c.args.population.now.content _ _ _ there) in
     (search (rules, the_lemmas), (first_there c.args.population.now.content c.deref-5.result.now c.min-shown.result chosen, (c.requires.body, rw c.in_ok-bodies.ensures.kept c.requires.there)))
 
 pub explain_fold-explain_steps-requires : goal.explain_fold-explain_steps-requires
@@ -137,7 +137,7 @@ explain_fold-returns-clause-text t c =
     let shown : c.min-shown.result ≡ min (length c.in-Collection.elements.items) max_shown = search rules in
     let steps = rw c.deref.ensures.value at c.in_ok-explain_steps.ensures.text in
     let more = rw many at c.put_more.ensures in
-    let whole = shown_lines (steps_lines (step_lines c.args.population.now.content (core_view c.args.body.now) c.args.level c.args.variables.now) (λ e a. meaning c.args.population.now.content (core_view c.args.body.now) (a ∷ element_value e ∷ c.args.variables.now)) (meant c.args.start)) c.args.level max_shown c.min-shown.result c.in-Collection.elements.items (meant_items c.in-Collection.elements.items) refl shown in
+    let whole = shown_lines (steps_lines (step_lines c.args.population.now.content (core_view c.args.body.now) c.args.level c.args.variables.now) (λ e a. meaning c.args.population.now.content (core_view c.args.body.now) (a ∷ element_value e ∷ c.args.variables.now)) (meant c.args.start)) c.args.level max_shown c.min-shown.result c.in-Collection.elements.items (meant_elements c.in-Collection.elements.items) refl shown in
     rw c.in-Collection.is (on_ok_weaker c.put_more.result (λ h. two_put _ _ _ _ _ _ steps h whole) more)
 
 pub explain_iteration-returns-clause-text : goal.explain_iteration-returns-clause-text
@@ -149,5 +149,5 @@ explain_iteration-returns-clause-text t c =
     let many : c.len-2.result ≡ length c.in_ok-chosen.chosen.items = search rules in
     let elements = rw (c.deref-5.ensures.value, c.in_ok-bodies.ensures.kept) at c.in_ok-explain_elements.ensures.text in
     let more = rw many at c.put_more.ensures in
-    let whole = iteration_shown c.args.iteration (element_lines c.args.population.now.content (core_view c.args.body.now) c.args.level c.args.variables.now) (λ e. meaning c.args.population.now.content (core_view c.args.body.now) (element_value e ∷ c.args.variables.now)) c.args.level c.in-Collection.field-0 (meant_items c.in-Collection.elements.items) c.in_ok-chosen.chosen.items (map meant c.in_ok-bodies.bodies.items) (deciding_of c.bodies_that_decide-those.result) c.most.result c.min-shown.result bodies which c.most.ensures held shown in
+    let whole = iteration_shown c.args.iteration (element_lines c.args.population.now.content (core_view c.args.body.now) c.args.level c.args.variables.now) (λ e. meaning c.args.population.now.content (core_view c.args.body.now) (element_value e ∷ c.args.variables.now)) c.args.level c.in-Collection.field-0 (meant_elements c.in-Collection.elements.items) c.in_ok-chosen.chosen.items (map meant c.in_ok-bodies.bodies.items) (deciding_of c.bodies_that_decide-those.result) c.most.result c.min-shown.result bodies which c.most.ensures held shown in
     rw c.in-Collection.is (on_ok_weaker c.put_more.result (λ h. two_put _ _ _ _ _ _ elements h whole) more)

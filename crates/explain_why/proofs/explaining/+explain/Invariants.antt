@@ -3,7 +3,7 @@ use Rattle.std.specs.List.{AllByRecursion, flat_map}
 use Rattle.ocl_core.specs.Core.{cores_of, lets_of}
 use Rattle.ocl_core.specs.CoreView.{core_view}
 use Rattle.rule_values.specs.Value.{element_value}
-use Rattle.owned_values.specs.Meant.{meant, meant_items, IsValueThere, AreElementsThere}
+use Rattle.owned_values.specs.Meant.{meant, meant_elements, IsValueThere, AreElementsThere}
 use Rattle.ocl_compile.specs.Meaning.{meaning}
 use Rattle.ocl_meaning.specs.Resolved.{IsResolved, AreResolved, AreThere}
 use Rattle.ocl_meaning.specs.Evaluated.{bindings, AreLinksResolved}
@@ -41,14 +41,14 @@ invariant-explain_all-cores l =
 -- what was put, and the elements that are left
 abbrev pub invariant-explain_elements-elements : goal.invariant-explain_elements-elements
 invariant-explain_elements-elements l =
-    (string_bytes l.out ++ flat_map (element_lines l.population.content (core_view l.body) l.level l.initial.variables) (meant_items (drop l.element-index l.elements))
-    ≡ string_bytes l.initial.out ++ flat_map (element_lines l.population.content (core_view l.body) l.level l.initial.variables) (meant_items l.elements))
-    × (AreElementsThere l.population.content (meant_items (drop l.element-index l.elements)) × (l.variables ≡ l.initial.variables))
+    (string_bytes l.out ++ flat_map (element_lines l.population.content (core_view l.body) l.level l.initial.variables) (meant_elements (drop l.element-index l.elements))
+    ≡ string_bytes l.initial.out ++ flat_map (element_lines l.population.content (core_view l.body) l.level l.initial.variables) (meant_elements l.elements))
+    × (AreElementsThere l.population.content (meant_elements (drop l.element-index l.elements)) × (l.variables ≡ l.initial.variables))
 
 -- what was put, what is accumulated, and the elements that are left
 abbrev pub invariant-explain_steps-elements : goal.invariant-explain_steps-elements
 invariant-explain_steps-elements l =
-    (string_bytes l.out ++ steps_lines (step_lines l.population.content (core_view l.body) l.level l.initial.variables) (λ e a. meaning l.population.content (core_view l.body) (a ∷ element_value e ∷ l.initial.variables)) (meant l.accumulated) (meant_items (drop l.element-index l.elements))
-    ≡ string_bytes l.initial.out ++ steps_lines (step_lines l.population.content (core_view l.body) l.level l.initial.variables) (λ e a. meaning l.population.content (core_view l.body) (a ∷ element_value e ∷ l.initial.variables)) (meant l.fn.start) (meant_items l.elements))
+    (string_bytes l.out ++ steps_lines (step_lines l.population.content (core_view l.body) l.level l.initial.variables) (λ e a. meaning l.population.content (core_view l.body) (a ∷ element_value e ∷ l.initial.variables)) (meant l.accumulated) (meant_elements (drop l.element-index l.elements))
+    ≡ string_bytes l.initial.out ++ steps_lines (step_lines l.population.content (core_view l.body) l.level l.initial.variables) (λ e a. meaning l.population.content (core_view l.body) (a ∷ element_value e ∷ l.initial.variables)) (meant l.fn.start) (meant_elements l.elements))
     × (IsValueThere l.population.content (meant l.accumulated)
-    × (AreElementsThere l.population.content (meant_items (drop l.element-index l.elements)) × (l.variables ≡ l.initial.variables)))
+    × (AreElementsThere l.population.content (meant_elements (drop l.element-index l.elements)) × (l.variables ≡ l.initial.variables)))

@@ -4,7 +4,7 @@ use Rattle.ocl_core.specs.Core.{cores_of}
 use Rattle.ocl_core.specs.CoreView.{core_view}
 use Rattle.ocl_compile.specs.Meaning.{meaning, meanings, fold_over}
 use Rattle.rule_values.specs.Value.{element_value}
-use Rattle.owned_values.specs.Meant.{meant, meant_items, IsValueThere, AreElementsThere}
+use Rattle.owned_values.specs.Meant.{meant, meant_elements, IsValueThere, AreElementsThere}
 use Rattle.ocl_meaning.specs.Resolved.{IsResolved, AreResolved, AreThere}
 use Rattle.ocl_meaning.specs.Evaluated.{bindings, links_value, AreLinksResolved}
 use Rattle.ocl_meaning.proofs.evaluating.+evaluate.Given as goal
@@ -35,14 +35,14 @@ invariant-evaluate_links-links l =
 -- the bodies so far, and the elements that are left
 abbrev pub invariant-evaluate_bodies-elements : goal.invariant-evaluate_bodies-elements
 invariant-evaluate_bodies-elements l =
-    (map meant l.bodies.items ++ map (λ e. meaning l.population.content (core_view l.body) (element_value e ∷ l.initial.variables)) (meant_items (drop l.element-index l.elements))
-    ≡ map (λ e. meaning l.population.content (core_view l.body) (element_value e ∷ l.initial.variables)) (meant_items l.elements))
-    × (AreElementsThere l.population.content (meant_items (drop l.element-index l.elements)) × (l.variables ≡ l.initial.variables))
+    (map meant l.bodies.items ++ map (λ e. meaning l.population.content (core_view l.body) (element_value e ∷ l.initial.variables)) (meant_elements (drop l.element-index l.elements))
+    ≡ map (λ e. meaning l.population.content (core_view l.body) (element_value e ∷ l.initial.variables)) (meant_elements l.elements))
+    × (AreElementsThere l.population.content (meant_elements (drop l.element-index l.elements)) × (l.variables ≡ l.initial.variables))
 
 -- what is accumulated so far, and the elements that are left
 abbrev pub invariant-fold_elements-elements : goal.invariant-fold_elements-elements
 invariant-fold_elements-elements l =
-    (fold_over (λ e a. meaning l.population.content (core_view l.body) (a ∷ element_value e ∷ l.initial.variables)) (meant l.accumulated) (meant_items (drop l.element-index l.elements))
-    ≡ fold_over (λ e a. meaning l.population.content (core_view l.body) (a ∷ element_value e ∷ l.initial.variables)) (meant l.fn.start) (meant_items l.elements))
+    (fold_over (λ e a. meaning l.population.content (core_view l.body) (a ∷ element_value e ∷ l.initial.variables)) (meant l.accumulated) (meant_elements (drop l.element-index l.elements))
+    ≡ fold_over (λ e a. meaning l.population.content (core_view l.body) (a ∷ element_value e ∷ l.initial.variables)) (meant l.fn.start) (meant_elements l.elements))
     × (IsValueThere l.population.content (meant l.accumulated)
-    × (AreElementsThere l.population.content (meant_items (drop l.element-index l.elements)) × (l.variables ≡ l.initial.variables)))
+    × (AreElementsThere l.population.content (meant_elements (drop l.element-index l.elements)) × (l.variables ≡ l.initial.variables)))

@@ -2,10 +2,10 @@ use Rattle.std.proofs.Common.{◌≡◌, drop}
 use Rattle.std.specs.List.{list_any}
 use Rattle.ocl_base.specs.Lists.{is_among}
 use Rattle.rule_values.specs.Value.{same_element}
-use Rattle.owned_values.specs.Meant.{meant_items}
+use Rattle.owned_values.specs.Meant.{meant_elements}
 use Rattle.owned_values.proofs.elements.is_one_among.Given as goal
 
 -- it holds of one where it holds of one that is left
 abbrev pub invariant-loop-other : goal.invariant-loop-other
 invariant-loop-other l =
-    list_any (is_among same_element (meant_items l.items)) (meant_items l.others) ≡ list_any (is_among same_element (meant_items l.items)) (meant_items (drop l.other-index l.others))
+    list_any (is_among same_element (meant_elements l.elements)) (meant_elements l.others) ≡ list_any (is_among same_element (meant_elements l.elements)) (meant_elements (drop l.other-index l.others))
