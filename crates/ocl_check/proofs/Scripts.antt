@@ -4,7 +4,7 @@ use Rattle.imkl_model.specs.ClassModel.{Model}
 use Rattle.imkl_population.specs.Population.{Population}
 use Rattle.imkl_population.specs.Sizes.{Sizes, sizes_of}
 use Rattle.rule_code.specs.Content.{Content}
-use Rattle.rule_verify.specs.Linked.{LinkedUnit, linked_unit}
+use Rattle.rule_verify.specs.Resolved.{ResolvedUnit, resolved_unit}
 use Rattle.rule_cost.specs.Admission.{Admission, admission}
 use Rattle.desk_script.specs.Script.{script_of}
 use Rattle.ocl_check.specs.declared.commands.judge.TheConstants.{MAX_BUDGET}
@@ -15,21 +15,21 @@ use Rattle.ocl_check.specs.Ending.{IsEnding}
 
 -- the admission of a population's class model and sizes within a budget
 abbrev admitted_within : Model → Content → Sizes → ℕ → Admission
-admitted_within m u z n = record { linked = linked_unit m u; sizes = z; budget = n }
+admitted_within m u z n = record { resolved = resolved_unit m u; sizes = z; budget = n }
 
 -- an admission of a unit, sizes and the greatest budget is that of the desk
-desk_admission_is : (a : Admission) (p : Population) (l : LinkedUnit) (z : Sizes) → a.linked ≡ l → a.sizes ≡ z → a.budget ≡ MAX_BUDGET → p.model ≡ l.model → z ≡ sizes_of p
+desk_admission_is : (a : Admission) (p : Population) (l : ResolvedUnit) (z : Sizes) → a.resolved ≡ l → a.sizes ≡ z → a.budget ≡ MAX_BUDGET → p.model ≡ l.model → z ≡ sizes_of p
     → a ≡ desk_admission p l.unit
-desk_admission_is a p l z linked sizes budget model of_population =
-    ap (λ (x : LinkedUnit). admitted_within x.model x.unit a.sizes a.budget) linked ∙ ap (λ (m : Model). admitted_within m l.unit a.sizes a.budget) (sym model)
+desk_admission_is a p l z resolved sizes budget model of_population =
+    ap (λ (x : ResolvedUnit). admitted_within x.model x.unit a.sizes a.budget) resolved ∙ ap (λ (m : Model). admitted_within m l.unit a.sizes a.budget) (sym model)
     ∙ ap (λ (y : Sizes). admitted_within p.model l.unit y a.budget) (sizes ∙ of_population) ∙ ap (admitted_within p.model l.unit (sizes_of p)) budget
 
 -- the replies by an admitted unit are the answer to the script
-pub replies_are : (script : List ℕ) (a : Admission) (p : Population) (l : LinkedUnit) (z : Sizes) → a.linked ≡ l → a.sizes ≡ z → a.budget ≡ MAX_BUDGET → p.model ≡ l.model → z ≡ sizes_of p
+pub replies_are : (script : List ℕ) (a : Admission) (p : Population) (l : ResolvedUnit) (z : Sizes) → a.resolved ≡ l → a.sizes ≡ z → a.budget ≡ MAX_BUDGET → p.model ≡ l.model → z ≡ sizes_of p
     → admission l.unit z MAX_BUDGET ≡ Ok tt
     → script_answer a p (script_of script) ≡ calls_answer script p l.unit
-replies_are script a p l z linked sizes budget model of_population passes =
-    ap (λ (x : Admission). script_answer x p (script_of script)) (desk_admission_is a p l z linked sizes budget model of_population)
+replies_are script a p l z resolved sizes budget model of_population passes =
+    ap (λ (x : Admission). script_answer x p (script_of script)) (desk_admission_is a p l z resolved sizes budget model of_population)
     ∙ sym (ap (admitted_script_answer script p l.unit) (subst (λ (x : Sizes). admission l.unit x MAX_BUDGET ≡ Ok tt) of_population passes))
 
 -- the refusal of the first rule whose bound is over is the answer

@@ -3,7 +3,7 @@ use Rattle.std.specs.Prelude.{ℕ, List, Result, Ok, Err}
 use Rattle.imkl_population.specs.Population.{Population}
 use Rattle.imkl_population.specs.Sizes.{sizes_of}
 use Rattle.rule_code.specs.Content.{Content}
-use Rattle.rule_verify.specs.Linked.{linked_unit}
+use Rattle.rule_verify.specs.Resolved.{resolved_unit}
 use Rattle.rule_cost.specs.Admission.{Admission, admission}
 use Rattle.desk_script.specs.declared.call.Call.{Call}
 use Rattle.desk_script.specs.Script.{script_of}
@@ -15,7 +15,7 @@ use Rattle.ocl_check.specs.ThreeInputs.{inputs_answer}
 
 -- a unit that is accepted in the class model of a population, and admitted within the greatest budget
 abbrev pub desk_admission : Population → Content → Admission
-desk_admission p u = record { linked = linked_unit p.model u; sizes = sizes_of p; budget = MAX_BUDGET }
+desk_admission p u = record { resolved = resolved_unit p.model u; sizes = sizes_of p; budget = MAX_BUDGET }
 
 -- a script is refused at its first wrong line, else its calls are answered, which is a success whatever the replies are
 abbrev pub script_answer : Admission → Population → Result (List Call) ℕ → Answer

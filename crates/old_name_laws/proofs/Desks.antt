@@ -67,7 +67,7 @@ mapped_at f (x ∷ xs) none (suc k) = mapped_at f xs none k
 
 module _ (a : Admission) (p : Population) where
   abbrev decided : Decided
-  decided = record { charges = charges_of a.linked.unit p; costs = costs_of a.linked.unit p; lines = lines_at a.linked.unit p }
+  decided = record { charges = charges_of a.resolved.unit p; costs = costs_of a.resolved.unit p; lines = lines_at a.resolved.unit p }
 
   abbrev job : Option ℕ → Option JobSeen
   job o = option_map (job_seen a p) o
@@ -128,8 +128,8 @@ module _ (a : Admission) (p : Population) where
   script_is cs = replied_on cs []
 
 -- scripts of two jobs of which the same is decided have the same replies
-pub scripts_alike : (a b : Admission) (p q : Population) (cs : List Call) → charges_of b.linked.unit q ≡ charges_of a.linked.unit p
-    → costs_of b.linked.unit q ≡ costs_of a.linked.unit p → lines_at b.linked.unit q ≡ lines_at a.linked.unit p
+pub scripts_alike : (a b : Admission) (p q : Population) (cs : List Call) → charges_of b.resolved.unit q ≡ charges_of a.resolved.unit p
+    → costs_of b.resolved.unit q ≡ costs_of a.resolved.unit p → lines_at b.resolved.unit q ≡ lines_at a.resolved.unit p
     → script_replies b q cs ≡ script_replies a p cs
 scripts_alike a b p q cs charges costs lines =
     script_is b q cs ∙ (λ j. replies_by (record { charges = charges j; costs = costs j; lines = lines j }) cs []) ∙ sym (script_is a p cs)

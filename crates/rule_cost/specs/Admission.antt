@@ -6,7 +6,7 @@ use Rattle.imkl_population.specs.Population.{Population}
 use Rattle.rule_code.specs.Content.{Content}
 use Rattle.rule_verify.specs.CodeTree.{code_tree}
 use Rattle.rule_verify.specs.InstrKinds.{Surroundings, surroundings}
-use Rattle.rule_verify.specs.Linked.{LinkedUnit}
+use Rattle.rule_verify.specs.Resolved.{ResolvedUnit}
 use Rattle.rule_verify.specs.UnitRules.{unit_rule, context_class, IsAcceptedUnit}
 use Rattle.rule_cost.specs.declared.cut.Bound.{Bound}
 use Rattle.rule_cost.specs.declared.cut.Bound.TheVariants.{Steps, Over}
@@ -45,17 +45,17 @@ admission u z budget = refused_at (first_too_costly u z budget)
 
 -- a unit in a class model, the sizes of a population of it, and the budget within which each rule is
 pub record Admission : Type 0 where
-  pub linked : LinkedUnit
+  pub resolved : ResolvedUnit
   pub sizes : Sizes
   pub budget : ℕ
 
 -- what is known of each admission
 pub record IsAdmission (a : Admission) : Type 0 where
-  pub accepted : IsAcceptedUnit a.linked.model a.linked.unit
-  pub one_model : a.sizes.model ≡ a.linked.model
-  pub below_limit : (r : ℕ) → r < length a.linked.unit.rules → rule_step_bound a.linked.unit a.sizes r < step_limit
-  pub within_budget : (r : ℕ) → r < length a.linked.unit.rules → rule_step_bound a.linked.unit a.sizes r ≤ a.budget
+  pub accepted : IsAcceptedUnit a.resolved.model a.resolved.unit
+  pub one_model : a.sizes.model ≡ a.resolved.model
+  pub below_limit : (r : ℕ) → r < length a.resolved.unit.rules → rule_step_bound a.resolved.unit a.sizes r < step_limit
+  pub within_budget : (r : ℕ) → r < length a.resolved.unit.rules → rule_step_bound a.resolved.unit a.sizes r ≤ a.budget
 
 -- a population of the admission's class model and of just its sizes
 abbrev pub Fits : Admission → Population → Type 0
-Fits a p = (p.model ≡ a.linked.model) × (sizes_of p ≡ a.sizes)
+Fits a p = (p.model ≡ a.resolved.model) × (sizes_of p ≡ a.sizes)

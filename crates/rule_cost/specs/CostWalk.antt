@@ -5,7 +5,7 @@ use Rattle.rule_code.specs.Content.{Content}
 use Rattle.rule_code.specs.WellFormed.{InstrFits}
 use Rattle.rule_verify.specs.CodeTree.{code_tree}
 use Rattle.rule_verify.specs.InstrKinds.{Surroundings}
-use Rattle.rule_verify.specs.Linked.{LinkedUnit}
+use Rattle.rule_verify.specs.Resolved.{ResolvedUnit}
 use Rattle.rule_cost.specs.declared.place.Place.{Place}
 use Rattle.rule_cost.specs.declared.place.Advance.{Advance}
 use Rattle.rule_cost.specs.declared.place.Total.{Total}
@@ -57,8 +57,8 @@ pub record Totals (c : SizedCode) (vars : List ℕ) (p : Place) (t : Total) : Ty
 
 -- ---- admission
 
-abbrev pub admission_of : LinkedUnit → Sizes → ℕ → Admission
-admission_of l z budget = record { linked = l; sizes = z; budget = budget }
+abbrev pub admission_of : ResolvedUnit → Sizes → ℕ → Admission
+admission_of l z budget = record { resolved = l; sizes = z; budget = budget }
 
 -- a number for each rule
 abbrev pub AreRuleBounds : Content → Sizes → List ℕ → Type 0

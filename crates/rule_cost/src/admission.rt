@@ -27,7 +27,7 @@ pub fn admit<'a>(
     requires one_model { sizes.now.model ≡ accepted.now.model }
     ensures admitted { Gives cost_fault (λ _. tt) result
         (admission accepted.entry.now.unit sizes.entry.now budget) }
-    ensures unit { IfOk result (λ a. a.linked ≡ accepted.entry.now) }
+    ensures unit { IfOk result (λ a. a.resolved ≡ accepted.entry.now) }
     ensures sizes { IfOk result (λ a. a.sizes ≡ sizes.entry.now) }
     ensures budget { IfOk result (λ a. a.budget ≡ budget) }
 {

@@ -41,7 +41,7 @@ impl<'a> Admitted<'a> {
 
     /// The accepted unit.
     pub fn accepted(&self) -> &'a Accepted<'a>
-        ensures { result.now ≡ self.now.linked }
+        ensures { result.now ≡ self.now.resolved }
     {
         self.accepted
     }
@@ -62,8 +62,8 @@ impl<'a> Admitted<'a> {
 
     /// The bound of a rule: an upper limit on what its run is charged for an object. It is at most the budget.
     pub fn bound(&self, rule: usize) -> u64
-        requires { rule < length self.now.linked.unit.rules }
-        ensures { result ≡ rule_step_bound self.now.linked.unit self.now.sizes rule }
+        requires { rule < length self.now.resolved.unit.rules }
+        ensures { result ≡ rule_step_bound self.now.resolved.unit self.now.sizes rule }
     {
         self.bounds[rule]
     }

@@ -49,7 +49,7 @@ pub over_is : (j k i : JobSeen) (n rest : ℕ) → SameJob j k → SameJob k i �
     → (i.spent ≡ spent_after j n) × (total_cost j ≤ j.spent + n)
 over_is j k i n rest first second over within sum =
     let cost : total_cost i ≡ total_cost j = cost_of_same k i second ∙ cost_of_same j k first in
-    let paid = paid_all j.admission.linked.unit j.population (j.spent + n) (omega (arith, cost, over, sum)) in
+    let paid = paid_all j.admission.resolved.unit j.population (j.spent + n) (omega (arith, cost, over, sum)) in
     (omega (arith, paid, cost, over, within), omega (arith, cost, over, sum))
 
 -- a call that isn't an error told what it says on success
@@ -70,12 +70,12 @@ not_ok (Err y) x e h = let bad = h in cc
 pub begins : {A E : Type 0} (a : Admission) (p : Population) (c : CursorSeen) (m : Seen) (begun : Bool) (lines : List ℕ) (capacity spent : ℕ) (result : Result A E)
     → Stands a p c m begun lines capacity spent
     → ((v : Verdicts) → IsToldBy c v → lines ≡ report_until c.unit c.population v (told_pairs c) → longest_report c.unit c.population ≤ capacity → IsOk result)
-    → longest_report a.linked.unit p ≤ capacity → IsOk result
+    → longest_report a.resolved.unit p ≤ capacity → IsOk result
 begins a p c m begun lines capacity spent result s succeeds room =
-    let v = verdict_at a.linked.unit p in
-    let text : report_until a.linked.unit p v (told_pairs c) ≡ report_until c.unit c.population v (told_pairs c) =
+    let v = verdict_at a.resolved.unit p in
+    let text : report_until a.resolved.unit p v (told_pairs c) ≡ report_until c.unit c.population v (told_pairs c) =
     ap (λ x. report_until x p v (told_pairs c)) (sym s.code) ∙ ap (λ q. report_until c.unit q v (told_pairs c)) (sym s.over) in
-    let longest : longest_report a.linked.unit p ≡ longest_report c.unit c.population = ap (λ x. longest_report x p) (sym s.code) ∙ ap (longest_report c.unit) (sym s.over) in
+    let longest : longest_report a.resolved.unit p ≡ longest_report c.unit c.population = ap (λ x. longest_report x p) (sym s.code) ∙ ap (longest_report c.unit) (sym s.over) in
     succeeds v s.told (s.text ∙ text) (omega (arith, room, longest))
 
 module _
@@ -86,13 +86,13 @@ module _
     (kept : after ≡ lines)
     (ready_by : (work : ℕ) → IsAtPair begun m c work (length lines) capacity → IsReady mid c work (length after) room)
     (ran : Ran mid g result new) where
-  mid_unit : mid.unit ≡ a.linked.unit
+  mid_unit : mid.unit ≡ a.resolved.unit
   mid_unit = begins.unit ∙ s.machine_code
 
   mid_population : mid.population ≡ p
   mid_population = begins.population ∙ s.machine_over
 
-  new_unit : new.unit ≡ a.linked.unit
+  new_unit : new.unit ≡ a.resolved.unit
   new_unit = same.unit ∙ mid_unit
 
   new_population : new.population ≡ p
@@ -102,8 +102,8 @@ module _
   ready = ready_by s.work s.at_pair
 
   -- the run, and what it used of the grant
-  pub went : RanOn a.linked.unit p new c s.work g result
-  went = ran_of a.linked.unit p mid new c s.work g result mid_unit mid_population (ran_on mid new c s.work (length after) room g result ready ran)
+  pub went : RanOn a.resolved.unit p new c s.work g result
+  went = ran_of a.resolved.unit p mid new c s.work g result mid_unit mid_population (ran_on mid new c s.work (length after) room g result ready ran)
 
   -- the machine's count rose by that
   pub count_is : (before now : ℕ) → IsCount mid before → IsCount new now → (before ≤ now) × (now - before ≡ went.used)
@@ -114,19 +114,19 @@ module _
   used_within_grant = used_at_most g went.used went.run.at result went.came
 
   -- nothing is spent beyond what the job costs
-  pub spent_stays : spent + went.used ≤ sum (costs_of a.linked.unit p)
+  pub spent_stays : spent + went.used ≤ sum (costs_of a.resolved.unit p)
   spent_stays =
       let at = pair_within a p c m begun lines capacity spent s new went.used g result went.run new_unit new_population went.came in
-      let costs = costs_of a.linked.unit p in
+      let costs = costs_of a.resolved.unit p in
       omega (arith, s.sum, at.0, at.1, sum_next costs (told_pairs c) at.1, sum_within costs (told_pairs c + 1))
 
   pub spent_fits : spent + went.used < 2 ^ 128
-  spent_fits = omega (arith, spent_stays, total_within a.linked.unit p s.runnable, bound_small a p s.admission s.fits s.runnable)
+  spent_fits = omega (arith, spent_stays, total_within a.resolved.unit p s.runnable, bound_small a p s.admission s.fits s.runnable)
 
   -- while the run isn't at its end
   pub still_stands : outcome went.run.at ≡ None → Stands a p c new true after room (spent + went.used)
   still_stands none =
-      stands_on a p c m begun lines capacity spent s new went.used a.linked.unit p went.run after room new_unit new_population none kept ready.room
+      stands_on a p c m begun lines capacity spent s new went.used a.resolved.unit p went.run after room new_unit new_population none kept ready.room
 
   pub paused_at : (r : result ≡ Ok Paused) → outcome went.run.at ≡ None
   paused_at r = (subst (λ x. Came g went.used went.run.at x) r went.came).2
@@ -137,16 +137,16 @@ module _
       (came.1, omega (arith, came.0, charged went.run.at))
 
   -- a run that isn't at its end leaves something to pay
-  pub below_cost : outcome went.run.at ≡ None → spent + went.used < sum (costs_of a.linked.unit p)
+  pub below_cost : outcome went.run.at ≡ None → spent + went.used < sum (costs_of a.resolved.unit p)
   below_cost none =
-      let paid = paid_on a p c m begun lines capacity spent s new went.used went.used a.linked.unit p went.run new_unit new_population none (omega arith) (omega (arith, charged went.run.at)) in
+      let paid = paid_on a p c m begun lines capacity spent s new went.used went.used a.resolved.unit p went.run new_unit new_population none (omega arith) (omega (arith, charged went.run.at)) in
       paid.1
 
   -- a pause comes where what is left doesn't pay for the next step
-  pub paused_pays : result ≡ Ok Paused → (spent + went.used ≡ greatest_total (charges_of a.linked.unit p) (spent + g)) × (spent + g < sum (costs_of a.linked.unit p))
+  pub paused_pays : result ≡ Ok Paused → (spent + went.used ≡ greatest_total (charges_of a.resolved.unit p) (spent + g)) × (spent + g < sum (costs_of a.resolved.unit p))
   paused_pays r =
       let came = subst (λ x. Came g went.used went.run.at x) r went.came in
-      paid_on a p c m begun lines capacity spent s new g went.used a.linked.unit p went.run new_unit new_population came.2 came.0 came.1
+      paid_on a p c m begun lines capacity spent s new g went.used a.resolved.unit p went.run new_unit new_population came.2 came.0 came.1
 
   -- the pair's verdict is told
   pub next_stands : (v : Verdict) (d : CursorSeen) (told : List ℕ) (rest : ℕ) → result ≡ Ok (Done v) → IsToldMore c v after d told → (0 < went.used) × Stands a p d new false told rest (spent + went.used)
@@ -155,8 +155,8 @@ module _
       (came.0, stands_done a p c m begun lines capacity spent s new went.used went.run v d after told rest new_unit new_population came.2 kept more)
 
   -- where no rule takes memory, the run goes on
-  pub goes_on : ((r : ℕ) → r < length a.linked.unit.rules → takes_memory (unit_rule a.linked.unit r) ≡ false)
+  pub goes_on : ((r : ℕ) → r < length a.resolved.unit.rules → takes_memory (unit_rule a.resolved.unit r) ≡ false)
       → ((r o : ℕ) (d : Configuration) (k : ℕ) → Represents mid r o d k → takes_memory (unit_rule mid.unit r) ≡ false → IsOk result) → IsOk result
   goes_on none succeeds =
-      let within : ready.rule < length a.linked.unit.rules = subst (λ u. ready.rule < length u.rules) mid_unit ready.stands.accepted.rule in
+      let within : ready.rule < length a.resolved.unit.rules = subst (λ u. ready.rule < length u.rules) mid_unit ready.stands.accepted.rule in
       succeeds ready.rule ready.object ready.at s.work ready.stands (subst (λ u. takes_memory (unit_rule u ready.rule) ≡ false) (sym mid_unit) (none ready.rule within))

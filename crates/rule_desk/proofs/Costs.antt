@@ -170,11 +170,11 @@ bounds_small u p (suc r) consistent small l =
     omega (arith, one, rest)
 
 -- no run is long
-pub short_runs : (a : Admission) (p : Population) (r : ℕ) → IsAdmission a → Fits a p → r < length a.linked.unit.rules → rule_bound a.linked.unit p r < 2 ^ 63
+pub short_runs : (a : Admission) (p : Population) (r : ℕ) → IsAdmission a → Fits a p → r < length a.resolved.unit.rules → rule_bound a.resolved.unit p r < 2 ^ 63
 short_runs a p r admission fits within =
-    subst (λ z. rule_step_bound a.linked.unit z r < 2 ^ 63) (sym fits.1) (admission.below_limit r within)
+    subst (λ z. rule_step_bound a.resolved.unit z r < 2 ^ 63) (sym fits.1) (admission.below_limit r within)
 
-pub bound_small : (a : Admission) (p : Population) → IsAdmission a → Fits a p → IsRunnable a.linked.unit p → bounds_of_rules a.linked.unit p (length a.linked.unit.rules) < 2 ^ 128
+pub bound_small : (a : Admission) (p : Population) → IsAdmission a → Fits a p → IsRunnable a.resolved.unit p → bounds_of_rules a.resolved.unit p (length a.resolved.unit.rules) < 2 ^ 128
 bound_small a p admission fits can =
-    let all = bounds_small a.linked.unit p (length a.linked.unit.rules) can.population (λ r l. short_runs a p r admission fits l) (omega arith) in
+    let all = bounds_small a.resolved.unit p (length a.resolved.unit.rules) can.population (λ r l. short_runs a p r admission fits l) (omega arith) in
     omega (arith, all, can.unit.rule_count)

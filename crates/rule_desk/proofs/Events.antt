@@ -62,7 +62,7 @@ granted_at (Some j) (Some i) n (Err JobOver) h =
     (Given n, refl, tt, is_job i j (spent_after j n) h.0 e, says_by j n true true (leb_yes _ _ (omega (arith, h.1.0))) (leb_yes _ _ (omega (arith, h.1.0))))
   where
     over : (j : JobSeen) (n : ℕ) → j.spent ≡ total_cost j → j.spent ≡ spent_after j n
-    over j n e = e ∙ sym (paid_all j.admission.linked.unit j.population (j.spent + n) (omega (arith, e)))
+    over j n e = e ∙ sym (paid_all j.admission.resolved.unit j.population (j.spent + n) (omega (arith, e)))
 granted_at (Some j) (Some i) n (Err NoSuchJob) h = absurd h.1
 
 -- the job that was put there

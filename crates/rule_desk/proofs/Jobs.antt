@@ -48,95 +48,95 @@ is_under u p m r o work d eu ep rep e =
 
 module _ (a : Admission) (p : Population) (c : CursorSeen) (m : Seen) (begun : Bool) (lines : List ℕ) (capacity spent : ℕ) (s : Stands a p c m begun lines capacity spent) where
   -- the pair that is due
-  pub due_in : due c ≡ slice_get (all_pairs a.linked.unit p) (told_pairs c)
-  due_in = ap (λ x. slice_get (all_pairs x c.population) (told_pairs c)) s.code ∙ ap (λ q. slice_get (all_pairs a.linked.unit q) (told_pairs c)) s.over
+  pub due_in : due c ≡ slice_get (all_pairs a.resolved.unit p) (told_pairs c)
+  due_in = ap (λ x. slice_get (all_pairs x c.population) (told_pairs c)) s.code ∙ ap (λ q. slice_get (all_pairs a.resolved.unit q) (told_pairs c)) s.over
 
-  pub some_due : (q : ℕ × ℕ) → due c ≡ Some q → told_pairs c < length (costs_of a.linked.unit p)
-  some_due q e = omega (arith, slice_get_within (all_pairs a.linked.unit p) (told_pairs c) q (sym due_in ∙ e), as_many_costs a.linked.unit p)
+  pub some_due : (q : ℕ × ℕ) → due c ≡ Some q → told_pairs c < length (costs_of a.resolved.unit p)
+  some_due q e = omega (arith, slice_get_within (all_pairs a.resolved.unit p) (told_pairs c) q (sym due_in ∙ e), as_many_costs a.resolved.unit p)
 
-  pub none_left : due c ≡ None → told_pairs c ≡ length (costs_of a.linked.unit p)
+  pub none_left : due c ≡ None → told_pairs c ≡ length (costs_of a.resolved.unit p)
   none_left e =
-      elim (cases_lt (told_pairs c) (length (costs_of a.linked.unit p))) [
+      elim (cases_lt (told_pairs c) (length (costs_of a.resolved.unit p))) [
         | inl l ↦
-            let there : told_pairs c < length (all_pairs a.linked.unit p) = omega (arith, l, as_many_costs a.linked.unit p) in
-            let bad = sym (slice_get-get_or (all_pairs a.linked.unit p) (told_pairs c) (0, 0) there) ∙ (sym due_in ∙ e) in cc
+            let there : told_pairs c < length (all_pairs a.resolved.unit p) = omega (arith, l, as_many_costs a.resolved.unit p) in
+            let bad = sym (slice_get-get_or (all_pairs a.resolved.unit p) (told_pairs c) (0, 0) there) ∙ (sym due_in ∙ e) in cc
         | inr g ↦ omega (arith, g, s.pairs)
       ]
 
-  pub spent_below : told_pairs c < length (costs_of a.linked.unit p) → spent < sum (costs_of a.linked.unit p)
+  pub spent_below : told_pairs c < length (costs_of a.resolved.unit p) → spent < sum (costs_of a.resolved.unit p)
   spent_below l =
-      omega (arith, s.sum, s.short l, sum_next (costs_of a.linked.unit p) (told_pairs c) l, sum_within (costs_of a.linked.unit p) (told_pairs c + 1))
+      omega (arith, s.sum, s.short l, sum_next (costs_of a.resolved.unit p) (told_pairs c) l, sum_within (costs_of a.resolved.unit p) (told_pairs c + 1))
 
-  pub spent_all : told_pairs c ≡ length (costs_of a.linked.unit p) → spent ≡ sum (costs_of a.linked.unit p)
-  spent_all e = omega (arith, s.sum, s.none e, sum_whole (costs_of a.linked.unit p) (told_pairs c) e)
+  pub spent_all : told_pairs c ≡ length (costs_of a.resolved.unit p) → spent ≡ sum (costs_of a.resolved.unit p)
+  spent_all e = omega (arith, s.sum, s.none e, sum_whole (costs_of a.resolved.unit p) (told_pairs c) e)
 
-  pub spent_within : spent ≤ sum (costs_of a.linked.unit p)
+  pub spent_within : spent ≤ sum (costs_of a.resolved.unit p)
   spent_within =
-      elim (cases_lt (told_pairs c) (length (costs_of a.linked.unit p))) [
+      elim (cases_lt (told_pairs c) (length (costs_of a.resolved.unit p))) [
         | inl l ↦ omega (arith, spent_below l)
         | inr g ↦ omega (arith, spent_all (omega (arith, g, s.pairs)))
       ]
 
   -- there is one, where less is spent than the cost
-  pub is_due : spent < sum (costs_of a.linked.unit p) → IsSome (due c)
+  pub is_due : spent < sum (costs_of a.resolved.unit p) → IsSome (due c)
   is_due l =
-      elim (cases_lt (told_pairs c) (length (costs_of a.linked.unit p))) [
+      elim (cases_lt (told_pairs c) (length (costs_of a.resolved.unit p))) [
         | inl h ↦
-            let there : told_pairs c < length (all_pairs a.linked.unit p) = omega (arith, h, as_many_costs a.linked.unit p) in
-            subst IsSome (sym (due_in ∙ slice_get-get_or (all_pairs a.linked.unit p) (told_pairs c) (0, 0) there)) refl
+            let there : told_pairs c < length (all_pairs a.resolved.unit p) = omega (arith, h, as_many_costs a.resolved.unit p) in
+            subst IsSome (sym (due_in ∙ slice_get-get_or (all_pairs a.resolved.unit p) (told_pairs c) (0, 0) there)) refl
         | inr g ↦ absurd (omega (arith, l, spent_all (omega (arith, g, s.pairs))))
       ]
 
   -- none is left exactly where all is spent
-  pub over_when : (o : Option (ℕ × ℕ)) → due c ≡ o → (is_none o ≡ true) ↔ (sum (costs_of a.linked.unit p) ≤ spent)
+  pub over_when : (o : Option (ℕ × ℕ)) → due c ≡ o → (is_none o ≡ true) ↔ (sum (costs_of a.resolved.unit p) ≤ spent)
   over_when None e = (λ b. omega (arith, spent_all (none_left e)), λ h. refl)
   over_when (Some q) e = (λ b. let bad = b in cc, λ h. absurd (omega (arith, h, spent_below (some_due q e))))
 
-  pub lines_are : lines ≡ lines_at a.linked.unit p spent
+  pub lines_are : lines ≡ lines_at a.resolved.unit p spent
   lines_are =
-      s.text ∙ ap (report_until a.linked.unit p (verdict_at a.linked.unit p)) (sym (paid_is (costs_of a.linked.unit p) (told_pairs c) spent s.work s.pairs s.sum s.short s.none))
+      s.text ∙ ap (report_until a.resolved.unit p (verdict_at a.resolved.unit p)) (sym (paid_is (costs_of a.resolved.unit p) (told_pairs c) spent s.work s.pairs s.sum s.short s.none))
 
   -- what is left pays for no step more of a run that is under way
-  pub paid_under : (r o work : ℕ) (d : Configuration) (t : ℕ) → due c ≡ Some (r, o) → IsUnder a.linked.unit p r o work d → outcome d ≡ None
-      → sum (take (told_pairs c) (costs_of a.linked.unit p)) + work ≤ t → t < sum (take (told_pairs c) (costs_of a.linked.unit p)) + work + charge_of d
-      → greatest_total (charges_of a.linked.unit p) t ≡ sum (take (told_pairs c) (costs_of a.linked.unit p)) + work
+  pub paid_under : (r o work : ℕ) (d : Configuration) (t : ℕ) → due c ≡ Some (r, o) → IsUnder a.resolved.unit p r o work d → outcome d ≡ None
+      → sum (take (told_pairs c) (costs_of a.resolved.unit p)) + work ≤ t → t < sum (take (told_pairs c) (costs_of a.resolved.unit p)) + work + charge_of d
+      → greatest_total (charges_of a.resolved.unit p) t ≡ sum (take (told_pairs c) (costs_of a.resolved.unit p)) + work
   paid_under r o work d t there run_under none from below =
       let w = run_under.charged_so in
-      let paid = paid_in_pair a.linked.unit p (told_pairs c) r o run_under.made d t s.runnable (sym due_in ∙ there) run_under.reached none (omega (arith, from, w)) (omega (arith, below, w)) in
+      let paid = paid_in_pair a.resolved.unit p (told_pairs c) r o run_under.made d t s.runnable (sym due_in ∙ there) run_under.reached none (omega (arith, from, w)) (omega (arith, below, w)) in
       omega (arith, paid, w)
 
-  whole_at : (b : Bool) → IsAtPair b m c s.work (length lines) capacity → greatest_total (charges_of a.linked.unit p) spent ≡ spent
+  whole_at : (b : Bool) → IsAtPair b m c s.work (length lines) capacity → greatest_total (charges_of a.resolved.unit p) spent ≡ spent
   whole_at true ready =
-      let run_under = is_under a.linked.unit p m ready.rule ready.object s.work ready.at s.machine_code s.machine_over ready.stands ready.goes in
+      let run_under = is_under a.resolved.unit p m ready.rule ready.object s.work ready.at s.machine_code s.machine_over ready.stands ready.goes in
       let paid = paid_under ready.rule ready.object s.work ready.at spent ready.due run_under ready.goes (omega (arith, s.sum)) (omega (arith, s.sum, charged ready.at)) in
       omega (arith, paid, s.sum)
   whole_at false no_work = by_due (due c) refl
     where
-      by_due : (o : Option (ℕ × ℕ)) → due c ≡ o → greatest_total (charges_of a.linked.unit p) spent ≡ spent
+      by_due : (o : Option (ℕ × ℕ)) → due c ≡ o → greatest_total (charges_of a.resolved.unit p) spent ≡ spent
       by_due None e =
           let all = spent_all (none_left e) in
-          omega (arith, paid_all a.linked.unit p spent (omega (arith, all)), all)
+          omega (arith, paid_all a.resolved.unit p spent (omega (arith, all)), all)
       by_due (Some q) e =
-          let paid = paid_before_pair a.linked.unit p (told_pairs c) q.0 q.1 s.runnable (sym due_in ∙ e) in
-          let same : spent ≡ sum (take (told_pairs c) (costs_of a.linked.unit p)) = omega (arith, s.sum, no_work) in
-          subst (λ x. greatest_total (charges_of a.linked.unit p) x ≡ x) (sym same) paid
+          let paid = paid_before_pair a.resolved.unit p (told_pairs c) q.0 q.1 s.runnable (sym due_in ∙ e) in
+          let same : spent ≡ sum (take (told_pairs c) (costs_of a.resolved.unit p)) = omega (arith, s.sum, no_work) in
+          subst (λ x. greatest_total (charges_of a.resolved.unit p) x ≡ x) (sym same) paid
 
   -- what is spent is the total of whole steps
-  pub spent_whole : greatest_total (charges_of a.linked.unit p) spent ≡ spent
+  pub spent_whole : greatest_total (charges_of a.resolved.unit p) spent ≡ spent
   spent_whole = whole_at begun s.at_pair
 
   -- nor ever above the bound
-  pub spent_bounded : spent ≤ bounds_of_rules a.linked.unit p (length a.linked.unit.rules)
-  spent_bounded = omega (arith, spent_within, total_within a.linked.unit p s.runnable)
+  pub spent_bounded : spent ≤ bounds_of_rules a.resolved.unit p (length a.resolved.unit.rules)
+  spent_bounded = omega (arith, spent_within, total_within a.resolved.unit p s.runnable)
 
 -- ---- a new job
 
 pub stands_new : (a : Admission) (p : Population) (c : CursorSeen) (m : Seen) (lines : List ℕ) (capacity : ℕ)
-    → IsAdmission a → Fits a p → IsRunnable a.linked.unit p → c.unit ≡ a.linked.unit → c.population ≡ p → m.unit ≡ a.linked.unit → m.population ≡ p
-    → told_pairs c ≡ 0 → ((v : Verdicts) → IsToldBy c v) → ((v : Verdicts) → lines ≡ [] ++ part_of a.linked.unit p v 0)
+    → IsAdmission a → Fits a p → IsRunnable a.resolved.unit p → c.unit ≡ a.resolved.unit → c.population ≡ p → m.unit ≡ a.resolved.unit → m.population ≡ p
+    → told_pairs c ≡ 0 → ((v : Verdicts) → IsToldBy c v) → ((v : Verdicts) → lines ≡ [] ++ part_of a.resolved.unit p v 0)
     → Stands a p c m false lines capacity 0
 stands_new a p c m lines capacity admission fits can code over mcode mover none told part =
-    let u = a.linked.unit in
+    let u = a.resolved.unit in
     record {
       admission = admission;
       fits = fits;
@@ -222,11 +222,11 @@ ended u p m r o k d v eu ep rep l e =
 
 module _ (a : Admission) (p : Population) (c : CursorSeen) (m : Seen) (begun : Bool) (lines : List ℕ) (capacity spent : ℕ) (s : Stands a p c m begun lines capacity spent) where
   -- after a run that didn't come to the pair's end
-  pub stands_on : (new : Seen) (used : ℕ) (u : Content) (q : Population) (t : IsInPair u q new c (s.work + used)) (after : List ℕ) (room : ℕ) → new.unit ≡ a.linked.unit → new.population ≡ p → outcome t.at ≡ None
+  pub stands_on : (new : Seen) (used : ℕ) (u : Content) (q : Population) (t : IsInPair u q new c (s.work + used)) (after : List ℕ) (room : ℕ) → new.unit ≡ a.resolved.unit → new.population ≡ p → outcome t.at ≡ None
       → after ≡ lines → length after + room_of c ≤ room → Stands a p c new true after room (spent + used)
   stands_on new used u q t after room eu ep none same enough =
-      let at = cost_at a.linked.unit p (told_pairs c) t.rule t.object (sym (due_in a p c m begun lines capacity spent s) ∙ t.due) in
-      let open_run = is_under a.linked.unit p new t.rule t.object (s.work + used) t.at eu ep t.stands none in
+      let at = cost_at a.resolved.unit p (told_pairs c) t.rule t.object (sym (due_in a p c m begun lines capacity spent s) ∙ t.due) in
+      let open_run = is_under a.resolved.unit p new t.rule t.object (s.work + used) t.at eu ep t.stands none in
       record {
         admission = s.admission;
         fits = s.fits;
@@ -246,38 +246,38 @@ module _ (a : Admission) (p : Population) (c : CursorSeen) (m : Seen) (begun : B
       }
 
   -- a grant that ends within the pair, since what is left doesn't pay for the next step
-  pub paid_on : (new : Seen) (g used : ℕ) (u : Content) (q : Population) (t : IsInPair u q new c (s.work + used)) → new.unit ≡ a.linked.unit → new.population ≡ p → outcome t.at ≡ None
+  pub paid_on : (new : Seen) (g used : ℕ) (u : Content) (q : Population) (t : IsInPair u q new c (s.work + used)) → new.unit ≡ a.resolved.unit → new.population ≡ p → outcome t.at ≡ None
       → used ≤ g → g < used + charge_of t.at
-      → (spent + used ≡ greatest_total (charges_of a.linked.unit p) (spent + g)) × (spent + g < sum (costs_of a.linked.unit p))
+      → (spent + used ≡ greatest_total (charges_of a.resolved.unit p) (spent + g)) × (spent + g < sum (costs_of a.resolved.unit p))
   paid_on new g used u q t eu ep none from below =
       let k = told_pairs c in
-      let costs = costs_of a.linked.unit p in
-      let open_run = is_under a.linked.unit p new t.rule t.object (s.work + used) t.at eu ep t.stands none in
+      let costs = costs_of a.resolved.unit p in
+      let open_run = is_under a.resolved.unit p new t.rule t.object (s.work + used) t.at eu ep t.stands none in
       let paid = paid_under a p c m begun lines capacity spent s t.rule t.object (s.work + used) t.at (spent + g) t.due open_run none (omega (arith, s.sum, from)) (omega (arith, s.sum, below)) in
-      let at = cost_at a.linked.unit p k t.rule t.object (sym (due_in a p c m begun lines capacity spent s) ∙ t.due) in
+      let at = cost_at a.resolved.unit p k t.rule t.object (sym (due_in a p c m begun lines capacity spent s) ∙ t.due) in
       (omega (arith, paid, s.sum), omega (arith, s.sum, below, open_run.below, at.0, sum_next costs k at.1, sum_within costs (k + 1)))
 
   -- what the pair that is due is charged so far is within its cost
-  pub pair_within : (new : Seen) (used g : ℕ) (result : Result Progress OutOfMemory) (t : IsInPair a.linked.unit p new c (s.work + used)) → new.unit ≡ a.linked.unit → new.population ≡ p → Came g used t.at result
-      → (s.work + used ≤ get_or (costs_of a.linked.unit p) (told_pairs c) 0) × (told_pairs c < length (costs_of a.linked.unit p))
+  pub pair_within : (new : Seen) (used g : ℕ) (result : Result Progress OutOfMemory) (t : IsInPair a.resolved.unit p new c (s.work + used)) → new.unit ≡ a.resolved.unit → new.population ≡ p → Came g used t.at result
+      → (s.work + used ≤ get_or (costs_of a.resolved.unit p) (told_pairs c) 0) × (told_pairs c < length (costs_of a.resolved.unit p))
   pair_within new used g result t eu ep came =
-      let at = cost_at a.linked.unit p (told_pairs c) t.rule t.object (sym (due_in a p c m begun lines capacity spent s) ∙ t.due) in
+      let at = cost_at a.resolved.unit p (told_pairs c) t.rule t.object (sym (due_in a p c m begun lines capacity spent s) ∙ t.due) in
       (by_result result came at.0, at.1)
     where
-      by_open : outcome t.at ≡ None → get_or (costs_of a.linked.unit p) (told_pairs c) 0 ≡ pair_cost a.linked.unit p (t.rule, t.object) → s.work + used ≤ get_or (costs_of a.linked.unit p) (told_pairs c) 0
-      by_open none cost = omega (arith, (is_under a.linked.unit p new t.rule t.object (s.work + used) t.at eu ep t.stands none).below, cost)
+      by_open : outcome t.at ≡ None → get_or (costs_of a.resolved.unit p) (told_pairs c) 0 ≡ pair_cost a.resolved.unit p (t.rule, t.object) → s.work + used ≤ get_or (costs_of a.resolved.unit p) (told_pairs c) 0
+      by_open none cost = omega (arith, (is_under a.resolved.unit p new t.rule t.object (s.work + used) t.at eu ep t.stands none).below, cost)
 
-      by_result : (r : Result Progress OutOfMemory) → Came g used t.at r → get_or (costs_of a.linked.unit p) (told_pairs c) 0 ≡ pair_cost a.linked.unit p (t.rule, t.object)
-          → s.work + used ≤ get_or (costs_of a.linked.unit p) (told_pairs c) 0
+      by_result : (r : Result Progress OutOfMemory) → Came g used t.at r → get_or (costs_of a.resolved.unit p) (told_pairs c) 0 ≡ pair_cost a.resolved.unit p (t.rule, t.object)
+          → s.work + used ≤ get_or (costs_of a.resolved.unit p) (told_pairs c) 0
       by_result (Ok Paused) h cost = by_open h.2 cost
-      by_result (Ok (Done v)) h cost = omega (arith, (ended a.linked.unit p new t.rule t.object (s.work + used) t.at v eu ep t.stands t.within h.2).0, cost)
+      by_result (Ok (Done v)) h cost = omega (arith, (ended a.resolved.unit p new t.rule t.object (s.work + used) t.at v eu ep t.stands t.within h.2).0, cost)
       by_result (Err e) h cost = by_open h.1 cost
 
   -- after a run that came to the pair's end, and its verdict is told
-  pub stands_done : (new : Seen) (used : ℕ) (t : IsInPair a.linked.unit p new c (s.work + used)) (v : Verdict) (d : CursorSeen) (before after : List ℕ) (room : ℕ) → new.unit ≡ a.linked.unit → new.population ≡ p → outcome t.at ≡ Some v
+  pub stands_done : (new : Seen) (used : ℕ) (t : IsInPair a.resolved.unit p new c (s.work + used)) (v : Verdict) (d : CursorSeen) (before after : List ℕ) (room : ℕ) → new.unit ≡ a.resolved.unit → new.population ≡ p → outcome t.at ≡ Some v
       → before ≡ lines → IsToldMore c v before d after → Stands a p d new false after room (spent + used)
   stands_done new used t v d before after room eu ep some same more =
-      let u = a.linked.unit in
+      let u = a.resolved.unit in
       let there = sym (due_in a p c m begun lines capacity spent s) ∙ t.due in
       let at = cost_at u p (told_pairs c) t.rule t.object there in
       let found = ended u p new t.rule t.object (s.work + used) t.at v eu ep t.stands t.within some in
@@ -308,11 +308,11 @@ module _ (a : Admission) (p : Population) (c : CursorSeen) (m : Seen) (begun : B
       }
 
   -- the machine's count is exact
-  pub counted : (ready_m new : Seen) (used len room before after : ℕ) → IsReady ready_m c s.work len room → (t : IsInPair a.linked.unit p new c (s.work + used)) → new.unit ≡ a.linked.unit
+  pub counted : (ready_m new : Seen) (used len room before after : ℕ) → IsReady ready_m c s.work len room → (t : IsInPair a.resolved.unit p new c (s.work + used)) → new.unit ≡ a.resolved.unit
       → IsCount ready_m before → IsCount new after → (before ≤ after) × (after - before ≡ used)
   counted ready_m new used len room before after ready t eu first second =
       let one = first ready.rule ready.object ready.at s.work ready.stands in
       let two = second t.rule t.object t.at (s.work + used) t.stands in
-      let within : t.rule < length a.linked.unit.rules = subst (λ x. t.rule < length x.rules) eu t.stands.accepted.rule in
+      let within : t.rule < length a.resolved.unit.rules = subst (λ x. t.rule < length x.rules) eu t.stands.accepted.rule in
       let small = short_runs a p t.rule s.admission s.fits within in
       (omega (arith, one, two, small, t.within), omega (arith, one, two, small, t.within))

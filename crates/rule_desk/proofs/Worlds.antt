@@ -57,7 +57,7 @@ within_goes (Given n) None f w = tt
 within_goes (GivenRefused n l) None f w = tt
 within_goes Left None f w = tt
 within_goes (Given n) (Some j) f w =
-    let u = j.admission.linked.unit in
+    let u = j.admission.resolved.unit in
     let h : spent_after j n ≤ total_cost j = omega (arith, total_at_most (charges_of u j.population) (j.spent + n), charges_are_costs u j.population) in h
 within_goes (GivenRefused n l) (Some j) f w = let h : l ≤ total_cost j = omega (arith, f.2) in h
 within_goes Left (Some j) f w = tt

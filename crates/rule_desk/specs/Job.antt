@@ -65,18 +65,18 @@ greatest_total (c ∷ cs) n = if nat_le c n then c + greatest_total cs (n - c) e
 -- ---- of a job as it is seen
 
 abbrev pub total_cost : JobSeen → ℕ
-total_cost j = sum (costs_of j.admission.linked.unit j.population)
+total_cost j = sum (costs_of j.admission.resolved.unit j.population)
 
 abbrev pub lines_now : JobSeen → List ℕ
-lines_now j = lines_at j.admission.linked.unit j.population j.spent
+lines_now j = lines_at j.admission.resolved.unit j.population j.spent
 
 -- what is spent after a grant of n: the greatest total of whole steps that it pays for with what was spent before
 abbrev pub spent_after : JobSeen → ℕ → ℕ
-spent_after j n = greatest_total (charges_of j.admission.linked.unit j.population) (j.spent + n)
+spent_after j n = greatest_total (charges_of j.admission.resolved.unit j.population) (j.spent + n)
 
 -- what is spent is the total of whole steps, the first of the job's
 abbrev pub IsWhole : JobSeen → Type 0
-IsWhole j = greatest_total (charges_of j.admission.linked.unit j.population) j.spent ≡ j.spent
+IsWhole j = greatest_total (charges_of j.admission.resolved.unit j.population) j.spent ≡ j.spent
 
 -- the bounds of the first n rules, each taken for all objects of its context class
 abbrev pub bounds_of_rules : Content → Population → ℕ → ℕ
@@ -84,4 +84,4 @@ bounds_of_rules u p zero = 0
 bounds_of_rules u p (suc r) = bounds_of_rules u p r + rule_bound u p r * length (context_objects u p r)
 
 abbrev pub job_bound : JobSeen → ℕ
-job_bound j = bounds_of_rules j.admission.linked.unit j.population (length j.admission.linked.unit.rules)
+job_bound j = bounds_of_rules j.admission.resolved.unit j.population (length j.admission.resolved.unit.rules)

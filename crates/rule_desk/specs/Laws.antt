@@ -35,4 +35,4 @@ NeverPastItsCost =
 
 -- what a job costs is at most its bound
 abbrev pub CostsWithinBounds : Type 0
-CostsWithinBounds = (j : JobSeen) → IsRunnable j.admission.linked.unit j.population → total_cost j ≤ job_bound j
+CostsWithinBounds = (j : JobSeen) → IsRunnable j.admission.resolved.unit j.population → total_cost j ≤ job_bound j

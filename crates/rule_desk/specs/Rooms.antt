@@ -20,11 +20,11 @@ KeepsOtherRooms old k new = (i : ℕ) → i ≢ k → room_at old i ≤ room_at 
 
 -- how many bytes the report of a job can have
 abbrev pub longest_lines : JobSeen → ℕ
-longest_lines j = longest_report j.admission.linked.unit j.population
+longest_lines j = longest_report j.admission.resolved.unit j.population
 
 -- no rule of its code takes memory
 abbrev pub GathersNothing : JobSeen → Type 0
-GathersNothing j = (r : ℕ) → r < length j.admission.linked.unit.rules → takes_memory (unit_rule j.admission.linked.unit r) ≡ false
+GathersNothing j = (r : ℕ) → r < length j.admission.resolved.unit.rules → takes_memory (unit_rule j.admission.resolved.unit r) ≡ false
 
 -- a job needs no memory: there is room for its report, however long it gets, and its rules take none
 abbrev pub NeedsNoMemory : JobSeen → ℕ → Type 0

@@ -29,18 +29,18 @@ IsAtPair false m c work len capacity = work ≡ 0
 pub record Stands (a : Admission) (p : Population) (c : CursorSeen) (m : Seen) (begun : Bool) (lines : List ℕ) (capacity spent : ℕ) : Type 0 where
   pub admission : IsAdmission a
   pub fits : Fits a p
-  pub runnable : IsRunnable a.linked.unit p
-  pub code : c.unit ≡ a.linked.unit
+  pub runnable : IsRunnable a.resolved.unit p
+  pub code : c.unit ≡ a.resolved.unit
   pub over : c.population ≡ p
-  pub machine_code : m.unit ≡ a.linked.unit
+  pub machine_code : m.unit ≡ a.resolved.unit
   pub machine_over : m.population ≡ p
-  pub told : IsToldBy c (verdict_at a.linked.unit p)
-  pub text : lines ≡ report_until a.linked.unit p (verdict_at a.linked.unit p) (told_pairs c)
-  pub pairs : told_pairs c ≤ length (costs_of a.linked.unit p)
+  pub told : IsToldBy c (verdict_at a.resolved.unit p)
+  pub text : lines ≡ report_until a.resolved.unit p (verdict_at a.resolved.unit p) (told_pairs c)
+  pub pairs : told_pairs c ≤ length (costs_of a.resolved.unit p)
   pub work : ℕ
-  pub sum : spent ≡ sum (take (told_pairs c) (costs_of a.linked.unit p)) + work
-  pub short : told_pairs c < length (costs_of a.linked.unit p) → work < slice_index_or (costs_of a.linked.unit p) (told_pairs c) 0
-  pub none : told_pairs c ≡ length (costs_of a.linked.unit p) → work ≡ 0
+  pub sum : spent ≡ sum (take (told_pairs c) (costs_of a.resolved.unit p)) + work
+  pub short : told_pairs c < length (costs_of a.resolved.unit p) → work < slice_index_or (costs_of a.resolved.unit p) (told_pairs c) 0
+  pub none : told_pairs c ≡ length (costs_of a.resolved.unit p) → work ≡ 0
   pub at_pair : IsAtPair begun m c work (length lines) capacity
 
 -- A grant of n, as far as one pair goes. It ends within the pair, where what is left doesn't pay for the next step; or the

@@ -161,10 +161,10 @@ impl<'a> Job<'a> {
 
     /// The bound of a rule, taken for all objects of its context class.
     fn rule_bound(&self, rule: usize) -> u128
-        requires { rule < length self.now.job.admission.linked.unit.rules }
+        requires { rule < length self.now.job.admission.resolved.unit.rules }
         ensures bound { result
-            ≡ rule_bound self.now.job.admission.linked.unit self.now.job.population rule * length
-            (context_objects self.now.job.admission.linked.unit self.now.job.population rule) }
+            ≡ rule_bound self.now.job.admission.resolved.unit self.now.job.population rule * length
+            (context_objects self.now.job.admission.resolved.unit self.now.job.population rule) }
         ensures small { result ≤ 2 ^ 63 * MAX_OBJECTS }
     {
         let admitted = self.admitted;

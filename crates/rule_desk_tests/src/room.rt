@@ -31,8 +31,8 @@ fn grant_with_room<'a>(
     grant: u64,
 ) -> Result<JobReply, DeskFault>
     requires fits { Fits admitted.now population.now.content }
-    requires gathers { (r : ℕ) → r < length admitted.now.linked.unit.rules →
-        takes_memory (unit_rule admitted.now.linked.unit r) ≡ false }
+    requires gathers { (r : ℕ) → r < length admitted.now.resolved.unit.rules →
+        takes_memory (unit_rule admitted.now.resolved.unit r) ≡ false }
 {
     let job = desk.enter(admitted, population)?;
     desk.reserve_lines(job)?;

@@ -137,6 +137,6 @@ ends_within u p n o a =
 -- a run of an admitted unit comes to a verdict within the budget
 pub ends_within_budget : EndsWithinBudget
 ends_within_budget a p n o admitted fits accepted =
-    let e = ends_within a.linked.unit p n o accepted in
-    let same : rule_bound a.linked.unit p n ≡ rule_step_bound a.linked.unit a.sizes n = ap (λ z. rule_step_bound a.linked.unit z n) fits.1 in
+    let e = ends_within a.resolved.unit p n o accepted in
+    let same : rule_bound a.resolved.unit p n ≡ rule_step_bound a.resolved.unit a.sizes n = ap (λ z. rule_step_bound a.resolved.unit z n) fits.1 in
     (e.0, e.1, omega (arith, e.2, same, admitted.within_budget n accepted.rule), e.3, e.4)

@@ -59,9 +59,9 @@ EndsWithinBudget =
     (a : Admission) (p : Population) (n o : ℕ)
     → IsAdmission a
     → Fits a p
-    → IsAcceptedRun a.linked.unit p n o
-    → (k : ℕ) × (c : Configuration) × (work_of (setting_of a.linked.unit p n) k (start (tree_of_rule a.linked.unit n) o) ≤ a.budget)
-    × (run (setting_of a.linked.unit p n) k (start (tree_of_rule a.linked.unit n) o) ≡ Some c) × IsSome (outcome c)
+    → IsAcceptedRun a.resolved.unit p n o
+    → (k : ℕ) × (c : Configuration) × (work_of (setting_of a.resolved.unit p n) k (start (tree_of_rule a.resolved.unit n) o) ≤ a.budget)
+    × (run (setting_of a.resolved.unit p n) k (start (tree_of_rule a.resolved.unit n) o) ≡ Some c) × IsSome (outcome c)
 
 -- In each configuration that a run reaches, every variable and operand is in the kind that the rules of kinds give its
 -- place, and each collection, those that iterations hold too, is no longer than its greatest length there.

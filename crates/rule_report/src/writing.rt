@@ -79,12 +79,12 @@ fn put_report<S: Sink>(
     requires unflushed { target.old.flushes ≡ 0 }
     ensures report { OnOk result (Appends (S.contents target.old.sink.now)
         (S.contents target.new.sink.now)
-        (report_of admitted.now.linked.unit population.now.content)) }
+        (report_of admitted.now.resolved.unit population.now.content)) }
     ensures summary { IfOk result (λ s. s ≡
-        summary_of admitted.now.linked.unit population.now.content) }
+        summary_of admitted.now.resolved.unit population.now.content) }
     ensures prefix { OnErr result (WritesPrefix (S.contents target.old.sink.now)
         (S.contents target.new.sink.now)
-        (report_of admitted.now.linked.unit population.now.content)) }
+        (report_of admitted.now.resolved.unit population.now.content)) }
     ensures write { S.has_failed target.new.sink.now ≡ is_write_fault result }
     ensures same_sink { target.new.sink.ghost_name ≡ target.old.sink.ghost_name }
 {
@@ -111,11 +111,11 @@ pub fn write_report<S: Sink>(
     requires fits { Fits admitted.now population.now.content }
     requires well { S.has_failed sink.old ≡ false }
     ensures report { OnOk result (Appends (S.contents sink.old) (S.contents sink.new)
-        (report_of admitted.now.linked.unit population.now.content)) }
+        (report_of admitted.now.resolved.unit population.now.content)) }
     ensures summary { IfOk result (λ s. s ≡
-        summary_of admitted.now.linked.unit population.now.content) }
+        summary_of admitted.now.resolved.unit population.now.content) }
     ensures prefix { OnErr result (WritesPrefix (S.contents sink.old) (S.contents sink.new)
-        (report_of admitted.now.linked.unit population.now.content)) }
+        (report_of admitted.now.resolved.unit population.now.content)) }
     ensures write { S.has_failed sink.new ≡ is_write_fault result }
 {
     put_report(alloc, admitted, population, &mut Unfailed::new(sink))

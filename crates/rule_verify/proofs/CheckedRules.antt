@@ -78,18 +78,18 @@ no_context m v u n x same is none =
     ∙ ap (λ (o : Option ℕ). found o (instr_fault flaws.NoSuchName n 0) >>= (λ c. rule_ends (surroundings m v n c) (code_tree x.code) >>= (λ k. Ok tt))) none
 
 -- a rule whose code is walked
-module _ (r : RuleCode) (vars : List Kind) (end : ℕ) (u : Content) (x : RuleContent) (begins : vars ≡ Scalar (element.Class r.context) ∷ []) (whole : end ≡ length r.code.now) (same : u ≡ r.linked.now.unit) (is : slice_get u.rules r.index ≡ Some x)
-    (code : r.code.now ≡ x.code) (context : Some r.context ≡ class_in (named_at r.linked.now.model r.linked.now.unit x.context)) where
+module _ (r : RuleCode) (vars : List Kind) (end : ℕ) (u : Content) (x : RuleContent) (begins : vars ≡ Scalar (element.Class r.context) ∷ []) (whole : end ≡ length r.code.now) (same : u ≡ r.resolved.now.unit) (is : slice_get u.rules r.index ≡ Some x)
+    (code : r.code.now ≡ x.code) (context : Some r.context ≡ class_in (named_at r.resolved.now.model r.resolved.now.unit x.context)) where
   abbrev first : Place
   first = record { at = 0; end = end; covered = 0; open_blocks = 0 }
 
   its_tree : code_tree (slice_range r.code.now 0 end) ≡ code_tree x.code
   its_tree = ap code_tree (take_all (end - 0) r.code.now (omega arith) ∙ code)
 
-  rule_checks : check_rule r.linked.now.model r.linked.now.unit r.index (unit_rule r.linked.now.unit r.index) ≡ (kinds_from r vars first [] >>= (λ ks. ended_with (surroundings_of r) a_boolean end ks >>= (λ k. Ok tt)))
+  rule_checks : check_rule r.resolved.now.model r.resolved.now.unit r.index (unit_rule r.resolved.now.unit r.index) ≡ (kinds_from r vars first [] >>= (λ ks. ended_with (surroundings_of r) a_boolean end ks >>= (λ k. Ok tt)))
   rule_checks =
-      let m = r.linked.now.model in
-      let v = r.linked.now.unit in
+      let m = r.resolved.now.model in
+      let v = r.resolved.now.unit in
       let s = surroundings_of r in
       let F : Option ℕ → Result (Unit {0}) InstrFault = λ o. found o (instr_fault flaws.NoSuchName r.index 0) >>= (λ c. rule_ends (surroundings m v r.index c) (code_tree x.code) >>= (λ k. Ok tt)) in
       let G : CodeTree → List Kind → ℕ → Result (Unit {0}) InstrFault = λ t vs n. (kinds_after s t (record { variables = vs; covered = 0; open_blocks = 0 }) 0 [] >>= ended_with s a_boolean n) >>= (λ k. Ok tt) in
@@ -106,27 +106,27 @@ module _ (r : RuleCode) (vars : List Kind) (end : ℕ) (u : Content) (x : RuleCo
       two_last (Err e) f g = refl
 
   -- a fault of the code is the fault of the rule
-  pub code_wrong : (e : VerifyFault) → Fails verify_fault e (kinds_from r vars first []) → Fails verify_fault e (check_rule r.linked.now.model r.linked.now.unit r.index (unit_rule r.linked.now.unit r.index))
+  pub code_wrong : (e : VerifyFault) → Fails verify_fault e (kinds_from r vars first []) → Fails verify_fault e (check_rule r.resolved.now.model r.resolved.now.unit r.index (unit_rule r.resolved.now.unit r.index))
   code_wrong OutOfMemory h = tt
   code_wrong (At flaw rule at) h = rule_checks ∙ rw h refl
 
   -- where the code ends with anything but one Boolean, that is the fault of the rule
-  pub end_wrong : (ks : List Kind) → kinds_from r vars first [] ≡ Ok ks → (e : VerifyFault) → Fails verify_fault e (ended_with (surroundings_of r) a_boolean end ks) → Fails verify_fault e (check_rule r.linked.now.model r.linked.now.unit r.index (unit_rule r.linked.now.unit r.index))
+  pub end_wrong : (ks : List Kind) → kinds_from r vars first [] ≡ Ok ks → (e : VerifyFault) → Fails verify_fault e (ended_with (surroundings_of r) a_boolean end ks) → Fails verify_fault e (check_rule r.resolved.now.model r.resolved.now.unit r.index (unit_rule r.resolved.now.unit r.index))
   end_wrong ks h OutOfMemory g = tt
   end_wrong ks h (At flaw rule at) g = rule_checks ∙ ap (λ (o : Result (List Kind) InstrFault). o >>= (λ l. ended_with (surroundings_of r) a_boolean end l >>= (λ k. Ok tt))) h ∙ ap (λ (o : Result Kind InstrFault). o >>= (λ k. Ok tt)) g
 
   -- a rule whose code ends with one Boolean has no fault
-  pub rule_passes : (ks : List Kind) (k : Kind) → kinds_from r vars first [] ≡ Ok ks → ended_with (surroundings_of r) a_boolean end ks ≡ Ok k → check_rule r.linked.now.model r.linked.now.unit r.index (unit_rule r.linked.now.unit r.index) ≡ Ok tt
+  pub rule_passes : (ks : List Kind) (k : Kind) → kinds_from r vars first [] ≡ Ok ks → ended_with (surroundings_of r) a_boolean end ks ≡ Ok k → check_rule r.resolved.now.model r.resolved.now.unit r.index (unit_rule r.resolved.now.unit r.index) ≡ Ok tt
   rule_passes ks k h g = rule_checks ∙ ap (λ (o : Result (List Kind) InstrFault). o >>= (λ l. ended_with (surroundings_of r) a_boolean end l >>= (λ j. Ok tt))) h ∙ ap (λ (o : Result Kind InstrFault). o >>= (λ j. Ok tt)) g
 
   from_zero : (d : Depths) → deeper (record { operands = 0; variables = 0; blocks = 0 }) d ≡ d
   from_zero d = rw (zero-max d.operands, zero-max d.variables, zero-max d.blocks) refl
 
   -- the depths that the walk found are those of the rule
-  pub rule_goes_deep : (kept : List Kind) (new : Depths) → Walked r vars (record { operands = 0; variables = 0; blocks = 0 }) first kept new → new ≡ depths_of r.linked.now.model r.linked.now.unit r.index (unit_rule r.linked.now.unit r.index)
+  pub rule_goes_deep : (kept : List Kind) (new : Depths) → Walked r vars (record { operands = 0; variables = 0; blocks = 0 }) first kept new → new ≡ depths_of r.resolved.now.model r.resolved.now.unit r.index (unit_rule r.resolved.now.unit r.index)
   rule_goes_deep kept new w =
-      let m = r.linked.now.model in
-      let v = r.linked.now.unit in
+      let m = r.resolved.now.model in
+      let v = r.resolved.now.unit in
       let s = surroundings_of r in
       w.depths
       ∙ from_zero (depths_from r vars first [])

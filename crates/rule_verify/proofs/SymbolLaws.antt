@@ -1,4 +1,4 @@
--- What is read of linked units.
+-- What is read of resolved units.
 use Rattle.std.proofs.Common.{◌≡◌, ℕ, get_or, ◌<◌, List, length, Option, Some, None, map, refl, sym, ap, ◌∙◌, subst, IfSome, arith}
 use Rattle.std.specs.Prelude.{slice_get, option_and_then}
 use Rattle.std.specs.Option.{option_map}
@@ -10,7 +10,7 @@ use Rattle.rule_code.specs.Content.{Content}
 use Rattle.rule_verify.specs.declared.named.Named.{Named}
 use Rattle.rule_verify.specs.Symbols.{named_by, named_at}
 use Rattle.rule_verify.specs.Known.{IsKnownName}
-use Rattle.rule_verify.specs.Linked.{LinkedUnit, linked_unit}
+use Rattle.rule_verify.specs.Resolved.{ResolvedUnit, resolved_unit}
 
 joined : {X Y : Type 0} (f : X → Option Y) (o : Option X) (r : Option Y) → option_map f o ≡ Some r → option_and_then f o ≡ r
 joined f (Some x) r e = cc
@@ -25,7 +25,7 @@ name_read m u names n i r is e lt read =
     ap (named_at m u) (sym e) ∙ joined (named_by m u.texts) (slice_get u.symbols i) r (sym (slice_get-map (named_by m u.texts) u.symbols i) ∙ there)
 
 -- what is read from the table of names is something that the class model has
-pub known_read : (v : LinkedUnit) (m : Model) (u : Content) (names : List (Option Named)) (n i : ℕ) (r : Option Named) → linked_unit m u ≡ v → names ≡ map (named_by m u.texts) u.symbols → i ≡ n → n < length v.unit.symbols → r ≡ get_or names i r → IfSome r (IsKnownName v.model)
+pub known_read : (v : ResolvedUnit) (m : Model) (u : Content) (names : List (Option Named)) (n i : ℕ) (r : Option Named) → resolved_unit m u ≡ v → names ≡ map (named_by m u.texts) u.symbols → i ≡ n → n < length v.unit.symbols → r ≡ get_or names i r → IfSome r (IsKnownName v.model)
 known_read v m u names n i r same is e lt read =
-    let its : n < length u.symbols = subst (λ (x : LinkedUnit). n < length x.unit.symbols) (sym same) lt in
-    subst (λ (x : LinkedUnit). IfSome r (IsKnownName x.model)) same (subst (λ (o : Option Named). IfSome o (IsKnownName m)) (name_read m u names n i r is e its read) (named_known m u n))
+    let its : n < length u.symbols = subst (λ (x : ResolvedUnit). n < length x.unit.symbols) (sym same) lt in
+    subst (λ (x : ResolvedUnit). IfSome r (IsKnownName x.model)) same (subst (λ (o : Option Named). IfSome o (IsKnownName m)) (name_read m u names n i r is e its read) (named_known m u n))

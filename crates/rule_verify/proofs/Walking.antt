@@ -199,7 +199,7 @@ module _ (r : RuleCode) (vars : List Kind) (p : Place) (ks : List Kind) (i : Ins
         by_tree _ (plain_tree is) ∙ rw (takes, test) refl
 
     -- the walk goes past an instruction without a body that has room for its result
-    pub plain_goes : (old new : Depths) (after kept : List Kind) (y : Kind) → shape_of i ≡ Single → p.covered + length left < MAX_OPERANDS → AreKnownKinds r.linked.now.model (y ∷ left)
+    pub plain_goes : (old new : Depths) (after kept : List Kind) (y : Kind) → shape_of i ≡ Single → p.covered + length left < MAX_OPERANDS → AreKnownKinds r.resolved.now.model (y ∷ left)
         → y ≡ result_kind (surroundings_of r) vars i ks → after ≡ y ∷ left → kept ≡ vars → new ≡ deeper old (depth_at vars p ks) → Gone r vars old p ks (p.at + 1) kept new after
     plain_goes old new after kept y is room known gives pushed same deep =
         let test : nat_le (p.covered + suc (length left)) MAX_OPERANDS ≡ true = le-leb (p.covered + suc (length left)) MAX_OPERANDS (omega arith) in
@@ -247,7 +247,7 @@ module _ (r : RuleCode) (vars : List Kind) (p : Place) (ks : List Kind) (i : Ins
 
       -- the walk goes past a block whose body ends as it has to
       pub block_goes : (old deep new : Depths) (after kept : List Kind) (k y : Kind) → body_ends r (binds (surroundings_of r) i (block_operand i ks) ++ vars) (place_inside p left (p.at + 1) (p.at + 1 + n)) i p.at ≡ Ok y
-          → AreKnownKinds r.linked.now.model (yields (surroundings_of r) i k y ∷ left) → k ≡ block_operand i ks → after ≡ yields (surroundings_of r) i k y ∷ left → kept ≡ vars → deep ≡ deeper old (depth_at vars p ks)
+          → AreKnownKinds r.resolved.now.model (yields (surroundings_of r) i k y ∷ left) → k ≡ block_operand i ks → after ≡ yields (surroundings_of r) i k y ∷ left → kept ≡ vars → deep ≡ deeper old (depth_at vars p ks)
           → new ≡ deeper deep (depths_from r (binds (surroundings_of r) i (block_operand i ks) ++ vars) (place_inside p left (p.at + 1) (p.at + 1 + n)) []) → Gone r vars old p ks (p.at + 1 + n) kept new after
       block_goes old deep new after kept k y ends known top pushed same first second =
           let s = surroundings_of r in
@@ -319,7 +319,7 @@ module _ (r : RuleCode) (vars : List Kind) (p : Place) (ks : List Kind) (i : Ins
       second_fails f y h g = branches_are ∙ ap (λ (o : Result Kind InstrFault). o >>= (λ x. second_ends >>= (λ z. after_branches x))) h ∙ fails_then second_ends (λ z. after_branches y) f g
 
       -- the walk goes past a block with two bodies that both end as they have to
-      pub branch_goes : (old deep deeper' new : Depths) (after kept : List Kind) (k y z : Kind) → first_ends ≡ Ok y → second_ends ≡ Ok z → AreKnownKinds r.linked.now.model (yields (surroundings_of r) i k y ∷ left) → k ≡ block_operand i ks
+      pub branch_goes : (old deep deeper' new : Depths) (after kept : List Kind) (k y z : Kind) → first_ends ≡ Ok y → second_ends ≡ Ok z → AreKnownKinds r.resolved.now.model (yields (surroundings_of r) i k y ∷ left) → k ≡ block_operand i ks
           → after ≡ yields (surroundings_of r) i k y ∷ left → kept ≡ vars → deep ≡ deeper old (depth_at vars p ks) → deeper' ≡ deeper deep (depths_from r vars (place_inside p left (p.at + 1) (p.at + 1 + n)) [])
           → new ≡ deeper deeper' (depths_from r vars (place_inside p left (p.at + 1 + n) (p.at + 1 + n + m)) []) → Gone r vars old p ks (p.at + 1 + n + m) kept new after
       branch_goes old deep deeper' new after kept k y z ends others known top pushed same first second third =

@@ -30,7 +30,7 @@ module _ (r : RuleCode) (vars : List Kind) (p : Place) (ks : List Kind) (i : Ins
     room_left = omega (arith, fewer, ok.room)
 
     -- the first instruction of a body
-    pub inner_place : (v : List Kind) (q : Place) (from to : ℕ) → from ≤ to → to ≤ p.end → AreKnownKinds r.linked.now.model v → q ≡ place_inside p left from to → IsPlace r v q []
+    pub inner_place : (v : List Kind) (q : Place) (from to : ℕ) → from ≤ to → to ≤ p.end → AreKnownKinds r.resolved.now.model v → q ≡ place_inside p left from to → IsPlace r v q []
     inner_place v q from to a b known is =
         subst (λ (x : Place). IsPlace r v x []) (sym is)
         (record { before = a; within = omega (arith, ok.within); room = omega (arith, fewer, ok.room); nested = omega (arith, o.shallow); variables_known = known; operands_known = tt })
@@ -57,7 +57,7 @@ module _ (r : RuleCode) (vars : List Kind) (p : Place) (ks : List Kind) (i : Ins
       block_wrong (At flaw rule at) h = body_fails r vars p ks i lt ok.within here left ok o.takes n is o.nests o.shallow (instr_fault flaw rule at) (sym its_body ∙ h)
 
       -- the walk goes past a block when its body was walked to its end
-      pub block_gone : (y : Kind) (new : Depths) (kept kept' after : List Kind) → body_ends r v q i p.at ≡ Ok y → Walked r v deep q kept' new → AreKnownKinds r.linked.now.model (yields (surroundings_of r) i k y ∷ left)
+      pub block_gone : (y : Kind) (new : Depths) (kept kept' after : List Kind) → body_ends r v q i p.at ≡ Ok y → Walked r v deep q kept' new → AreKnownKinds r.resolved.now.model (yields (surroundings_of r) i k y ∷ left)
           → kept ≡ drop (bound_count i) kept' → after ≡ yields (surroundings_of r) i k y ∷ left → Gone r vars old p ks (p.at + 1 + n) kept new after
       block_gone y new kept kept' after ends w known pops pushed =
           block_goes r vars p ks i lt ok.within here left ok o.takes n is o.nests o.shallow old deep new after kept k y (sym its_body ∙ ends) known o.first pushed (unbound kept kept' pops (w.kept ∙ binding)) o.depths
@@ -85,7 +85,7 @@ module _ (r : RuleCode) (vars : List Kind) (p : Place) (ks : List Kind) (i : Ins
       second_wrong (At flaw rule at) h = second_fails r vars p ks i lt ok.within here left ok o.takes n m is o.nests o.shallow (instr_fault flaw rule at) y (sym one_body ∙ ends) (sym other_body ∙ h)
 
       -- the walk goes past a block with two bodies when both were walked to their ends
-      pub branches_gone : (z : Kind) (new : Depths) (kept after : List Kind) → body_ends r held' q' i p.at ≡ Ok z → Walked r held' mid q' kept new → AreKnownKinds r.linked.now.model (yields (surroundings_of r) i k y ∷ left)
+      pub branches_gone : (z : Kind) (new : Depths) (kept after : List Kind) → body_ends r held' q' i p.at ≡ Ok z → Walked r held' mid q' kept new → AreKnownKinds r.resolved.now.model (yields (surroundings_of r) i k y ∷ left)
           → after ≡ yields (surroundings_of r) i k y ∷ left → Gone r vars old p ks (p.at + 1 + n + m) kept new after
       branches_gone z new kept after others x known pushed =
           branch_goes r vars p ks i lt ok.within here left ok o.takes n m is o.nests o.shallow old deep mid new after kept k y z (sym one_body ∙ ends) (sym other_body ∙ others) known o.first pushed (x.kept ∙ still) o.depths

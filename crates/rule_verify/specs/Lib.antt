@@ -1,7 +1,7 @@
 -- Definitions: what contracts mean.
 pub mod FaultNumber
 pub mod Symbols
-pub mod Linked
+pub mod Resolved
 pub mod Known
 pub mod CodeTree
 pub mod Patterns

@@ -41,7 +41,7 @@ operand_list (Two p q) = p ∷ q ∷ []
 operand_list (Three p q r) = p ∷ q ∷ r ∷ []
 
 abbrev pub surroundings_of : RuleCode → Surroundings
-surroundings_of r = surroundings r.linked.now.model r.linked.now.unit r.index r.context
+surroundings_of r = surroundings r.resolved.now.model r.resolved.now.unit r.index r.context
 
 -- they are numbers of the unit's symbols
 abbrev pub AreSymbols : Content → List ℕ → Type 0
@@ -61,9 +61,9 @@ Leads (Err e) given later = Fails verify_fault e given
 
 -- the context class is one of the class model, and what the code uses are symbols of the unit
 pub record IsRuleCode (r : RuleCode) : Type 0 where
-  pub model : IsClassModel r.linked.now.model
-  pub context : r.context < length r.linked.now.model.classes
-  pub symbols : All (λ i. AreSymbols r.linked.now.unit (symbols_used i)) r.code.now
+  pub model : IsClassModel r.resolved.now.model
+  pub context : r.context < length r.resolved.now.model.classes
+  pub symbols : All (λ i. AreSymbols r.resolved.now.unit (symbols_used i)) r.code.now
 
 -- an instruction of the code or the end of its sequence, with operands and variables within the limits
 pub record IsPlace (r : RuleCode) (variables : List Kind) (p : Place) (operands : List Kind) : Type 0 where
@@ -71,8 +71,8 @@ pub record IsPlace (r : RuleCode) (variables : List Kind) (p : Place) (operands 
   pub within : p.end ≤ length r.code.now
   pub room : p.covered + length operands ≤ MAX_OPERANDS
   pub nested : p.open_blocks ≤ MAX_BLOCKS
-  pub variables_known : AreKnownKinds r.linked.now.model variables
-  pub operands_known : AreKnownKinds r.linked.now.model operands
+  pub variables_known : AreKnownKinds r.resolved.now.model variables
+  pub operands_known : AreKnownKinds r.resolved.now.model operands
 
 abbrev pub enclosing : List Kind → Place → Enclosing
 enclosing variables p = record { variables = variables; covered = p.covered; open_blocks = p.open_blocks }
@@ -127,7 +127,7 @@ pub record Opened (r : RuleCode) (variables : List Kind) (old : Depths) (p : Pla
   pub shallow : p.open_blocks < MAX_BLOCKS
   pub kept : left ≡ variables
   pub depths : new ≡ deeper old (depth_at variables p operands)
-  pub known : AreKnownKinds r.linked.now.model after
+  pub known : AreKnownKinds r.resolved.now.model after
 
 abbrev pub Opens : RuleCode → List Kind → Depths → Place → List Kind → Instr → ℕ → Result Kind VerifyFault → List Kind → Depths → List Kind → Type 0
 Opens r variables old p operands i n (Ok operand) left new after = Opened r variables old p operands i n operand left new after

@@ -8,9 +8,9 @@ ghost use Rattle.rule_verify.specs.Symbols.{named_at};
 ghost use Rattle.rule_verify.specs.UnitRules as spec;
 
 use crate::depths::Depths;
-use crate::linked::Linked;
 use crate::memory::takes_memory;
 use crate::named::Named;
+use crate::resolved::Resolved;
 use imkl_model::{ClassModel, ClassNo};
 use imkl_population::Population;
 use rule_code::{SymbolNumber, Unit};
@@ -20,60 +20,60 @@ use std::marker::Model;
 /// their indices, from 0.
 #[derive(Drop)]
 pub struct Accepted<'m> {
-    linked: Linked<'m>,
+    resolved: Resolved<'m>,
     depths: Vec<Depths>,
 }
 
 impl<'m> Model for Accepted<'m> {
     ghost use Rattle.std.specs.Prelude.{◌≡◌};
-    ghost use Rattle.rule_verify.specs.Linked.{LinkedUnit};
+    ghost use Rattle.rule_verify.specs.Resolved.{ResolvedUnit};
     ghost use Rattle.rule_verify.specs.UnitRules.{IsAcceptedUnit, depths_of_rules};
 
-    ghost Value = { LinkedUnit };
+    ghost Value = { ResolvedUnit };
 
-    ghost view = { λ a. a.linked };
+    ghost view = { λ a. a.resolved };
 
-    ghost invariant = { λ a. IsAcceptedUnit a.linked.model a.linked.unit ×
-        (a.depths.items ≡ depths_of_rules a.linked.model a.linked.unit 0 a.linked.unit.rules) };
+    ghost invariant = { λ a. IsAcceptedUnit a.resolved.model a.resolved.unit ×
+        (a.depths.items ≡ depths_of_rules a.resolved.model a.resolved.unit 0 a.resolved.unit.rules) };
 }
 
 impl<'m> Accepted<'m> {
     /// The accepted unit, with how deep each rule goes.
-    pub(crate) fn new(linked: Linked<'m>, depths: Vec<Depths>) -> Accepted<'m>
-        requires accepted { spec.IsAcceptedUnit linked.model linked.unit }
-        requires depths { depths.items ≡ spec.depths_of_rules linked.model linked.unit 0
-            linked.unit.rules }
-        ensures { result ≡ linked.entry }
+    pub(crate) fn new(resolved: Resolved<'m>, depths: Vec<Depths>) -> Accepted<'m>
+        requires accepted { spec.IsAcceptedUnit resolved.model resolved.unit }
+        requires depths { depths.items ≡ spec.depths_of_rules resolved.model resolved.unit 0
+            resolved.unit.rules }
+        ensures { result ≡ resolved.entry }
     {
-        Accepted { linked, depths }
+        Accepted { resolved, depths }
     }
 
     /// Every accepted unit satisfies the rules of kinds.
     pub fn accepted(&self)
         ensures { spec.IsAcceptedUnit self.now.model self.now.unit }
     {
-        let _linked = &self.linked;
+        let _resolved = &self.resolved;
     }
 
     /// The class model.
     pub fn model(&self) -> &'m ClassModel
         ensures { result.now ≡ self.now.model }
     {
-        self.linked.model()
+        self.resolved.model()
     }
 
     /// The unit.
     pub fn unit(&self) -> &Unit
         ensures { content result.now ≡ self.now.unit }
     {
-        self.linked.unit()
+        self.resolved.unit()
     }
 
     /// How many rules there are.
     pub fn rules(&self) -> usize
         ensures { result ≡ length self.now.unit.rules }
     {
-        self.linked.unit().rules.len()
+        self.resolved.unit().rules.len()
     }
 
     /// The name of a rule.
@@ -82,7 +82,7 @@ impl<'m> Accepted<'m> {
         ensures { result.now
             ≡ text_at self.now.unit.texts (spec.unit_rule self.now.unit rule).name }
     {
-        let unit = self.linked.unit();
+        let unit = self.resolved.unit();
         unit.text(unit.rule(rule).name)
     }
 
@@ -93,8 +93,8 @@ impl<'m> Accepted<'m> {
             (spec.unit_rule self.now.unit rule) ≡ Some result }
         ensures in_range { result < length self.now.model.classes }
     {
-        let rule = self.linked.unit().rule(rule);
-        match self.linked.class(rule.context) {
+        let rule = self.resolved.unit().rule(rule);
+        match self.resolved.class(rule.context) {
             Some(class) => class,
             None => unreachable!(),
         }
@@ -106,7 +106,7 @@ impl<'m> Accepted<'m> {
         ensures name { result ≡ named_at self.now.model self.now.unit symbol.0 }
         ensures known { IfSome result (IsKnownName self.now.model) }
     {
-        self.linked.named(symbol)
+        self.resolved.named(symbol)
     }
 
     /// The most operands, variables and open blocks that a rule has at once.
@@ -124,13 +124,13 @@ impl<'m> Accepted<'m> {
         requires { rule < length self.now.unit.rules }
         ensures { result ≡ spec.takes_memory (spec.unit_rule self.now.unit rule) }
     {
-        takes_memory(&self.linked.unit().rule(rule).code)
+        takes_memory(&self.resolved.unit().rule(rule).code)
     }
 
     /// Whether a population is of a class model of equal content.
     pub fn same_model(&self, population: &Population<'_>) -> bool
         ensures { Decides result (self.now.model ≡ population.now.content.model) }
     {
-        self.linked.model().same_as(population.model())
+        self.resolved.model().same_as(population.model())
     }
 }

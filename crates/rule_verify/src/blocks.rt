@@ -115,7 +115,7 @@ pub(crate) fn bind(
     instr: Instr,
     operand: &Kind,
 ) -> Result<(), AllocError>
-    requires { AreSymbols rule.now.linked.now.unit (spec.symbols_used instr) }
+    requires { AreSymbols rule.now.resolved.now.unit (spec.symbols_used instr) }
     ensures { OnOk result (variables.new ≡
         spec.binds (surroundings_of rule.now) instr operand.now ++ variables.old) }
 {
@@ -162,7 +162,7 @@ pub(crate) fn unbind(variables: &mut Stack<Kind>, instr: Instr)
 
 /// What the bodies of a block end with.
 pub(crate) fn ends_with(rule: &RuleCode<'_, '_>, instr: Instr) -> Pattern
-    requires { AreSymbols rule.now.linked.now.unit (spec.symbols_used instr) }
+    requires { AreSymbols rule.now.resolved.now.unit (spec.symbols_used instr) }
     ensures { result ≡ spec.ends_with (surroundings_of rule.now) instr }
 {
     let boolean = Pattern::Fitting(Kind::Scalar(ScalarKind::Boolean));
@@ -181,7 +181,7 @@ pub(crate) fn ends_with(rule: &RuleCode<'_, '_>, instr: Instr) -> Pattern
 
 /// What a block gives, by the operand that it takes and by what its body ended with.
 pub(crate) fn yields(rule: &RuleCode<'_, '_>, instr: Instr, operand: &Kind, ended: &Kind) -> Kind
-    requires { AreSymbols rule.now.linked.now.unit (spec.symbols_used instr) }
+    requires { AreSymbols rule.now.resolved.now.unit (spec.symbols_used instr) }
     ensures { result ≡ spec.yields (surroundings_of rule.now) instr operand.now ended.now }
 {
     let boolean = Kind::Scalar(ScalarKind::Boolean);

@@ -3,14 +3,14 @@
 ghost use Rattle.std.specs.Prelude.{◌≡◌};
 
 use crate::fault::{VerifyFault, VerifyFlaw};
-use crate::linked::Linked;
+use crate::resolved::Resolved;
 use imkl_model::ClassNo;
 use rule_code::Instr;
 
 /// The code of a rule: what the unit's symbols name, the rule's index, its context class and its instructions.
 #[derive(Clone, Copy)]
 pub(crate) struct RuleCode<'a, 'm> {
-    pub(crate) linked: &'a Linked<'m>,
+    pub(crate) resolved: &'a Resolved<'m>,
     pub(crate) index: usize,
     pub(crate) context: ClassNo,
     pub(crate) code: &'a [Instr],

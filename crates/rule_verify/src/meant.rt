@@ -12,11 +12,11 @@ use rule_code::{SymbolNumber, WrittenKind, WrittenScalar};
 
 /// The kind of the objects of the class that a symbol names.
 pub(crate) fn class_kind(rule: &RuleCode<'_, '_>, symbol: SymbolNumber) -> ScalarKind
-    requires { symbol.0 < length rule.now.linked.now.unit.symbols }
-    ensures { result ≡ spec.class_kind (named_at rule.now.linked.now.model
-        rule.now.linked.now.unit symbol.0) }
+    requires { symbol.0 < length rule.now.resolved.now.unit.symbols }
+    ensures { result ≡ spec.class_kind (named_at rule.now.resolved.now.model
+        rule.now.resolved.now.unit symbol.0) }
 {
-    let Some(name) = rule.linked.named(symbol) else {
+    let Some(name) = rule.resolved.named(symbol) else {
         return ScalarKind::Void;
     };
     match name {
@@ -27,11 +27,11 @@ pub(crate) fn class_kind(rule: &RuleCode<'_, '_>, symbol: SymbolNumber) -> Scala
 
 /// The kind of the literals of the enumeration that a symbol names.
 fn enumeration_kind(rule: &RuleCode<'_, '_>, symbol: SymbolNumber) -> ScalarKind
-    requires { symbol.0 < length rule.now.linked.now.unit.symbols }
-    ensures { result ≡ spec.enumeration_kind (named_at rule.now.linked.now.model
-        rule.now.linked.now.unit symbol.0) }
+    requires { symbol.0 < length rule.now.resolved.now.unit.symbols }
+    ensures { result ≡ spec.enumeration_kind (named_at rule.now.resolved.now.model
+        rule.now.resolved.now.unit symbol.0) }
 {
-    let Some(name) = rule.linked.named(symbol) else {
+    let Some(name) = rule.resolved.named(symbol) else {
         return ScalarKind::Void;
     };
     match name {
@@ -42,11 +42,11 @@ fn enumeration_kind(rule: &RuleCode<'_, '_>, symbol: SymbolNumber) -> ScalarKind
 
 /// The kind of the literal that a symbol names.
 pub(crate) fn literal_kind(rule: &RuleCode<'_, '_>, symbol: SymbolNumber) -> ScalarKind
-    requires { symbol.0 < length rule.now.linked.now.unit.symbols }
-    ensures { result ≡ spec.literal_kind (named_at rule.now.linked.now.model
-        rule.now.linked.now.unit symbol.0) }
+    requires { symbol.0 < length rule.now.resolved.now.unit.symbols }
+    ensures { result ≡ spec.literal_kind (named_at rule.now.resolved.now.model
+        rule.now.resolved.now.unit symbol.0) }
 {
-    let Some(name) = rule.linked.named(symbol) else {
+    let Some(name) = rule.resolved.named(symbol) else {
         return ScalarKind::Void;
     };
     match name {
@@ -57,11 +57,11 @@ pub(crate) fn literal_kind(rule: &RuleCode<'_, '_>, symbol: SymbolNumber) -> Sca
 
 /// The kind of the objects of the class that a feature's symbol names.
 pub(crate) fn owner_kind(rule: &RuleCode<'_, '_>, symbol: SymbolNumber) -> ScalarKind
-    requires { symbol.0 < length rule.now.linked.now.unit.symbols }
-    ensures { result ≡ spec.owner_kind (named_at rule.now.linked.now.model
-        rule.now.linked.now.unit symbol.0) }
+    requires { symbol.0 < length rule.now.resolved.now.unit.symbols }
+    ensures { result ≡ spec.owner_kind (named_at rule.now.resolved.now.model
+        rule.now.resolved.now.unit symbol.0) }
 {
-    let Some(name) = rule.linked.named(symbol) else {
+    let Some(name) = rule.resolved.named(symbol) else {
         return ScalarKind::Void;
     };
     match name {
@@ -72,22 +72,22 @@ pub(crate) fn owner_kind(rule: &RuleCode<'_, '_>, symbol: SymbolNumber) -> Scala
 
 /// The kind of the feature that a symbol names.
 pub(crate) fn feature_read(rule: &RuleCode<'_, '_>, symbol: SymbolNumber) -> Kind
-    requires { symbol.0 < length rule.now.linked.now.unit.symbols }
-    ensures { result ≡ spec.feature_read rule.now.linked.now.model
-        (named_at rule.now.linked.now.model rule.now.linked.now.unit symbol.0) }
+    requires { symbol.0 < length rule.now.resolved.now.unit.symbols }
+    ensures { result ≡ spec.feature_read rule.now.resolved.now.model
+        (named_at rule.now.resolved.now.model rule.now.resolved.now.unit symbol.0) }
 {
-    let Some(name) = rule.linked.named(symbol) else {
+    let Some(name) = rule.resolved.named(symbol) else {
         return Kind::Scalar(ScalarKind::Void);
     };
     match name {
-        Named::Feature(_, feature) => feature_kind(rule.linked.model().feature_info(feature)),
+        Named::Feature(_, feature) => feature_kind(rule.resolved.model().feature_info(feature)),
         _ => Kind::Scalar(ScalarKind::Void),
     }
 }
 
 /// The kind that the kind of a single value in a code file means.
 pub(crate) fn scalar_meant(rule: &RuleCode<'_, '_>, kind: WrittenScalar) -> ScalarKind
-    requires { AreSymbols rule.now.linked.now.unit (spec.scalar_symbols kind) }
+    requires { AreSymbols rule.now.resolved.now.unit (spec.scalar_symbols kind) }
     ensures { result ≡ spec.scalar_meant (surroundings_of rule.now) kind }
 {
     match kind {
@@ -103,7 +103,7 @@ pub(crate) fn scalar_meant(rule: &RuleCode<'_, '_>, kind: WrittenScalar) -> Scal
 
 /// The kind that a kind of a code file means.
 pub(crate) fn kind_meant(rule: &RuleCode<'_, '_>, kind: WrittenKind) -> Kind
-    requires { AreSymbols rule.now.linked.now.unit (spec.kind_symbols kind) }
+    requires { AreSymbols rule.now.resolved.now.unit (spec.kind_symbols kind) }
     ensures { result ≡ spec.kind_meant (surroundings_of rule.now) kind }
 {
     match kind {

@@ -63,7 +63,7 @@ fn fixed_operands(instr: Instr) -> Operands
 
 /// What the operands of a block may be; where the instruction is none, they depend on none of its fields.
 fn block_operands(rule: &RuleCode<'_, '_>, instr: Instr) -> Operands
-    requires { AreSymbols rule.now.linked.now.unit (spec.symbols_used instr) }
+    requires { AreSymbols rule.now.resolved.now.unit (spec.symbols_used instr) }
     ensures { operand_list result ≡ spec.block_takes (surroundings_of rule.now) (block_of instr)
         (spec.fixed_operands instr) }
 {
@@ -84,7 +84,7 @@ fn block_operands(rule: &RuleCode<'_, '_>, instr: Instr) -> Operands
 
 /// What the operands of an instruction may be, the topmost first.
 pub(crate) fn operands_of(rule: &RuleCode<'_, '_>, instr: Instr) -> Operands
-    requires { AreSymbols rule.now.linked.now.unit (spec.symbols_used instr) }
+    requires { AreSymbols rule.now.resolved.now.unit (spec.symbols_used instr) }
     ensures { operand_list result ≡ spec.operands_of (surroundings_of rule.now) instr }
 {
     match instr {

@@ -52,7 +52,7 @@ pub(crate) fn result_kind(
     instr: Instr,
     topmost: &Kind,
 ) -> Kind
-    requires { AreSymbols rule.now.linked.now.unit (spec.symbols_used instr) }
+    requires { AreSymbols rule.now.resolved.now.unit (spec.symbols_used instr) }
     ensures { (operands : List Kind) → topmost.now ≡ spec.topmost operands → result ≡
         spec.result_kind (surroundings_of rule.now) variables.now instr operands }
 {

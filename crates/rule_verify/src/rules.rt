@@ -8,9 +8,9 @@ ghost use Rattle.rule_verify.specs.UnitRules as spec;
 use crate::code::RuleCode;
 use crate::depths::Depths;
 use crate::fault::{VerifyFault, VerifyFlaw};
-use crate::linked::Linked;
 use crate::pattern::Pattern;
 use crate::place::{Place, Walk};
+use crate::resolved::Resolved;
 use crate::taking::put;
 use crate::walk::{ended_with, sequence};
 use ocl_base::Stack;
@@ -18,16 +18,16 @@ use ocl_kinds::{Kind, ScalarKind};
 use std::alloc::Global;
 
 /// Checks a rule: how deep it goes, or its first fault.
-fn check_rule(alloc: Global, linked: &Linked<'_>, index: usize) -> Result<Depths, VerifyFault>
-    requires { index < length linked.now.unit.rules }
-    ensures checked { Gives verify_fault (λ _. tt) result (spec.check_rule linked.now.model
-        linked.now.unit index (spec.unit_rule linked.now.unit index)) }
-    ensures depths { IfOk result (λ d. d ≡ spec.depths_of linked.now.model linked.now.unit index
-        (spec.unit_rule linked.now.unit index)) }
+fn check_rule(alloc: Global, resolved: &Resolved<'_>, index: usize) -> Result<Depths, VerifyFault>
+    requires { index < length resolved.now.unit.rules }
+    ensures checked { Gives verify_fault (λ _. tt) result (spec.check_rule resolved.now.model
+        resolved.now.unit index (spec.unit_rule resolved.now.unit index)) }
+    ensures depths { IfOk result (λ d. d ≡ spec.depths_of resolved.now.model resolved.now.unit index
+        (spec.unit_rule resolved.now.unit index)) }
 {
-    linked.model().well_formed();
-    let rule = linked.unit().rule(index);
-    let Some(context) = linked.class(rule.context) else {
+    resolved.model().well_formed();
+    let rule = resolved.unit().rule(index);
+    let Some(context) = resolved.class(rule.context) else {
         return Err(VerifyFault::At {
             flaw: VerifyFlaw::NoSuchName,
             rule: index,
@@ -35,7 +35,7 @@ fn check_rule(alloc: Global, linked: &Linked<'_>, index: usize) -> Result<Depths
         });
     };
     let code = RuleCode {
-        linked,
+        resolved,
         index,
         context,
         code: rule.code.as_slice(),
@@ -65,15 +65,18 @@ fn check_rule(alloc: Global, linked: &Linked<'_>, index: usize) -> Result<Depths
 }
 
 /// Checks the rules of a unit: how deep each goes, or the first fault.
-pub(crate) fn check_rules(alloc: Global, linked: &Linked<'_>) -> Result<Vec<Depths>, VerifyFault>
+pub(crate) fn check_rules(
+    alloc: Global,
+    resolved: &Resolved<'_>,
+) -> Result<Vec<Depths>, VerifyFault>
     ensures checked { Gives verify_fault (λ _. tt) result
-        (spec.check_unit linked.now.model linked.now.unit) }
-    ensures depths { IfOk result (λ v. v.items ≡ spec.depths_of_rules linked.now.model
-        linked.now.unit 0 linked.now.unit.rules) }
+        (spec.check_unit resolved.now.model resolved.now.unit) }
+    ensures depths { IfOk result (λ v. v.items ≡ spec.depths_of_rules resolved.now.model
+        resolved.now.unit 0 resolved.now.unit.rules) }
 {
     let mut depths = Vec::new(alloc);
-    for index in 0..linked.unit().rules.len() {
-        let reached = check_rule(alloc, linked, index)?;
+    for index in 0..resolved.unit().rules.len() {
+        let reached = check_rule(alloc, resolved, index)?;
         depths.push(reached)?;
     }
     Ok(depths)

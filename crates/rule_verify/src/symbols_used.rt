@@ -61,11 +61,11 @@ pub(crate) fn symbol_used(instr: Instr) -> Option<SymbolNumber>
 
 /// Whether what an instruction names is in the class model.
 pub(crate) fn has_names(rule: &RuleCode<'_, '_>, instr: Instr) -> bool
-    requires { AreSymbols rule.now.linked.now.unit (spec.symbols_used instr) }
+    requires { AreSymbols rule.now.resolved.now.unit (spec.symbols_used instr) }
     ensures { result ≡ spec.has_names (surroundings_of rule.now) instr }
 {
     match symbol_used(instr) {
         None => true,
-        Some(symbol) => rule.linked.named(symbol).is_some(),
+        Some(symbol) => rule.resolved.named(symbol).is_some(),
     }
 }

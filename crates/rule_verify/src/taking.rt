@@ -84,12 +84,12 @@ pub(crate) fn take(
     instr: Instr,
     at: usize,
 ) -> Result<(), VerifyFault>
-    requires symbols { AreSymbols rule.now.linked.now.unit (spec.symbols_used instr) }
-    requires operands { AreKnownKinds rule.now.linked.now.model operands.old }
+    requires symbols { AreSymbols rule.now.resolved.now.unit (spec.symbols_used instr) }
+    requires operands { AreKnownKinds rule.now.resolved.now.model operands.old }
     ensures taken { Leads result
         (taken (surroundings_of rule.now) variables.now instr at operands.old)
         (λ _. Ok operands.new) }
-    ensures known { OnOk result (AreKnownKinds rule.now.linked.now.model operands.new) }
+    ensures known { OnOk result (AreKnownKinds rule.now.resolved.now.model operands.new) }
 {
     if !has_names(rule, instr) {
         return Err(rule.fault(VerifyFlaw::NoSuchName, at));
@@ -100,7 +100,7 @@ pub(crate) fn take(
     if operands.len() < operand_count(instr) {
         return Err(rule.fault(VerifyFlaw::MissingOperand, at));
     }
-    if take_operands(rule.linked.model(), operands, operands_of(rule, instr)) {
+    if take_operands(rule.resolved.model(), operands, operands_of(rule, instr)) {
         Ok(())
     } else {
         Err(rule.fault(VerifyFlaw::WrongKind, at))

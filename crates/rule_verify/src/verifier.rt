@@ -9,8 +9,8 @@ ghost use Rattle.rule_verify.specs.declared.fault.VerifyFault.TheVariants.{OutOf
 
 use crate::accepted::Accepted;
 use crate::fault::{VerifyFault, VerifyFlaw};
-use crate::linked::{link, look_up};
 use crate::named::Named;
+use crate::resolved::{look_up, resolve};
 use crate::rules::check_rules;
 use imkl_model::ClassModel;
 use rule_code::Unit;
@@ -60,11 +60,11 @@ pub fn verify<'m>(
         };
         return Err((fault, unit));
     }
-    match link(alloc, model, unit) {
+    match resolve(alloc, model, unit) {
         Err((refused, unit)) => Err((VerifyFault::from(refused), unit)),
-        Ok(linked) => match check_rules(alloc, &linked) {
-            Ok(depths) => Ok(Accepted::new(linked, depths)),
-            Err(fault) => Err((fault, linked.into_unit())),
+        Ok(resolved) => match check_rules(alloc, &resolved) {
+            Ok(depths) => Ok(Accepted::new(resolved, depths)),
+            Err(fault) => Err((fault, resolved.into_unit())),
         },
     }
 }

@@ -62,17 +62,17 @@ pub(crate) fn ended_with(
     at: usize,
     operands: &Stack<Kind>,
 ) -> Result<Kind, VerifyFault>
-    requires operands { AreKnownKinds rule.now.linked.now.model operands.now }
-    requires wanted { IsPatternOf rule.now.linked.now.model wanted.now }
+    requires operands { AreKnownKinds rule.now.resolved.now.model operands.now }
+    requires wanted { IsPatternOf rule.now.resolved.now.model wanted.now }
     ensures ends { Gives verify_fault (λ k. k) result
         (spec.ended_with (surroundings_of rule.now) wanted.now at operands.now) }
-    ensures known { IfOk result (IsKindOf rule.now.linked.now.model) }
+    ensures known { IfOk result (IsKindOf rule.now.resolved.now.model) }
 {
     let kind = topmost(operands);
     if operands.len() != 1 {
         return Err(rule.fault(VerifyFlaw::LeftOver, at));
     }
-    if matches(rule.linked.model(), wanted, &kind) {
+    if matches(rule.resolved.model(), wanted, &kind) {
         Ok(kind)
     } else {
         Err(rule.fault(VerifyFlaw::LeftOver, at))
@@ -92,7 +92,7 @@ fn plain(
     requires inside { place.at < place.end }
     requires here { slice_get rule.now.code.now place.at ≡ Some instr }
     requires shape { shape_of instr ≡ Shape.Single }
-    requires symbols { AreSymbols rule.now.linked.now.unit (symbols_used instr) }
+    requires symbols { AreSymbols rule.now.resolved.now.unit (symbols_used instr) }
     ensures { Goes rule.now walk.old.variables walk.old.depths place operands.old result
         walk.new.variables walk.new.depths operands.new }
 {
@@ -122,7 +122,7 @@ fn open_block(
     requires inside { place.at < place.end }
     requires here { slice_get rule.now.code.now place.at ≡ Some instr }
     requires shape { IsBlock (shape_of instr) length }
-    requires symbols { AreSymbols rule.now.linked.now.unit (symbols_used instr) }
+    requires symbols { AreSymbols rule.now.resolved.now.unit (symbols_used instr) }
     ensures { Opens rule.now walk.old.variables walk.old.depths place operands.old instr length
         result walk.new.variables walk.new.depths operands.new }
 {
@@ -166,7 +166,7 @@ pub(crate) fn sequence(
         (kinds_from rule.now walk.old.variables place []) }
     ensures walked { OnOk result (Walked rule.now walk.old.variables walk.old.depths place
         walk.new.variables walk.new.depths) }
-    ensures known { IfOk result (AreKnownKinds rule.now.linked.now.model) }
+    ensures known { IfOk result (AreKnownKinds rule.now.resolved.now.model) }
 {
     let mut operands = Stack::new(alloc);
     let mut at = place.at;
@@ -214,12 +214,12 @@ fn body(
 ) -> Result<Kind, VerifyFault>
     requires rule { IsRuleCode rule.now }
     requires place { IsPlace rule.now walk.old.variables place [] }
-    requires symbols { AreSymbols rule.now.linked.now.unit (symbols_used instr) }
+    requires symbols { AreSymbols rule.now.resolved.now.unit (symbols_used instr) }
     ensures gives { Gives verify_fault (λ k. k) result
         (body_ends rule.now walk.old.variables place instr at) }
     ensures walked { OnOk result (Walked rule.now walk.old.variables walk.old.depths place
         walk.new.variables walk.new.depths) }
-    ensures known { IfOk result (IsKindOf rule.now.linked.now.model) }
+    ensures known { IfOk result (IsKindOf rule.now.resolved.now.model) }
 {
     let operands = sequence(alloc, rule, walk, place)?;
     ended_with(rule, &ends_with(rule, instr), at, &operands)
@@ -241,7 +241,7 @@ fn block(
     requires inside { place.at < place.end }
     requires here { slice_get rule.now.code.now place.at ≡ Some instr }
     requires shape { shape_of instr ≡ Shape.OneBody length }
-    requires symbols { AreSymbols rule.now.linked.now.unit (symbols_used instr) }
+    requires symbols { AreSymbols rule.now.resolved.now.unit (symbols_used instr) }
     ensures { Goes rule.now walk.old.variables walk.old.depths place operands.old result
         walk.new.variables walk.new.depths operands.new }
 {
@@ -272,7 +272,7 @@ fn branches(
     requires inside { place.at < place.end }
     requires here { slice_get rule.now.code.now place.at ≡ Some instr }
     requires shape { shape_of instr ≡ Shape.TwoBodies lengths.0 lengths.1 }
-    requires symbols { AreSymbols rule.now.linked.now.unit (symbols_used instr) }
+    requires symbols { AreSymbols rule.now.resolved.now.unit (symbols_used instr) }
     ensures { Goes rule.now walk.old.variables walk.old.depths place operands.old result
         walk.new.variables walk.new.depths operands.new }
 {

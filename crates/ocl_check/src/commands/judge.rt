@@ -48,7 +48,7 @@ fn judge_admitted<S: Sink>(
     requires fits { Fits admitted.now population.now.content }
     requires well { S.has_failed sink.old ≡ false }
     ensures { IsEnding S.contents S.has_failed false (report_answer population.now.content
-        admitted.now.linked.unit) sink.old result sink.new }
+        admitted.now.resolved.unit) sink.old result sink.new }
 {
     match write_report(alloc, admitted, population, sink) {
         Ok(summary) => Outcome::Status(status_of(summary)),

@@ -3,4 +3,4 @@ use Rattle.rule_desk.proofs.laws.costs_within_bounds.Goals as goal
 
 -- src/laws.rt
 pub returns : goal.returns
-returns c = λ j can. total_within j.admission.linked.unit j.population can
+returns c = λ j can. total_within j.admission.resolved.unit j.population can

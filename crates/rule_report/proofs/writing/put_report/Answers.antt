@@ -7,7 +7,7 @@ use Rattle.rule_report.proofs.writing.put_report.Goals as goal
 -- src/writing.rt:97:9
 pub returns-in_err-report_pair-clause-prefix : goal.returns-in_err-report_pair-clause-prefix
 returns-in_err-report_pair-clause-prefix g c =
-    let u = c.args.admitted.now.linked.unit in
+    let u = c.args.admitted.now.resolved.unit in
     let p = c.args.population.now.content in
     let now = g.S.Sink.contents c.loop-pair.target.sink.now in
     on_err _ _ (written_stops u p (verdict_at u p) (told_pairs c.loop-pair.cursor) _ now _ (appends_none now) c.loop-pair.invariant.written)
@@ -21,7 +21,7 @@ loop-pair-smaller g c =
 -- src/writing.rt:96:5
 pub loop-pair-preserved : goal.loop-pair-preserved
 loop-pair-preserved g c =
-    let u = c.args.admitted.now.linked.unit in
+    let u = c.args.admitted.now.resolved.unit in
     let p = c.args.population.now.content in
     let i = c.loop-pair.invariant in
     let more = c.in_ok-report_pair.ensures.reported in
@@ -41,7 +41,7 @@ loop-pair-preserved g c =
 -- src/writing.rt:98:9
 pub returns-in_err-put_piece-clause-prefix : goal.returns-in_err-put_piece-clause-prefix
 returns-in_err-put_piece-clause-prefix g c =
-    let u = c.args.admitted.now.linked.unit in
+    let u = c.args.admitted.now.resolved.unit in
     let p = c.args.population.now.content in
     let i = c.loop-pair.invariant in
     on_err _ _ (written_waiting u p c.loop-pair.cursor c.report_pair.new.cursor c.in-Some.pair _ _ _ _ _ i.unit i.population (sym c.in-Some.ensures.due) c.in_ok-report_pair.ensures.reported i.told i.written c.in_err-put_piece.ensures.err)
@@ -49,7 +49,7 @@ returns-in_err-put_piece-clause-prefix g c =
 -- src/writing.rt:100:5
 pub returns-in_err-put_and_flush-clause-prefix : goal.returns-in_err-put_and_flush-clause-prefix
 returns-in_err-put_and_flush-clause-prefix g c =
-    let u = c.args.admitted.now.linked.unit in
+    let u = c.args.admitted.now.resolved.unit in
     let p = c.args.population.now.content in
     let i = c.loop-pair.invariant in
     let waiting = c.deref.ensures.value in
@@ -58,7 +58,7 @@ returns-in_err-put_and_flush-clause-prefix g c =
 -- src/writing.rt:73:1
 pub returns-clause-report : goal.returns-clause-report
 returns-clause-report g c =
-    let u = c.args.admitted.now.linked.unit in
+    let u = c.args.admitted.now.resolved.unit in
     let p = c.args.population.now.content in
     let i = c.loop-pair.invariant in
     let all = all_told u p (verdict_at u p) c.loop-pair.cursor c.next.result i.unit i.population c.next.ensures.due c.in_default.not-Some in

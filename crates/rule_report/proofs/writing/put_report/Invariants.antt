@@ -6,12 +6,12 @@ use Rattle.rule_report.proofs.writing.put_report.Given as goal
 
 abbrev pub invariant-loop-pair : goal.invariant-loop-pair
 invariant-loop-pair g l = record {
-  unit : l.cursor.unit ≡ l.fn.admitted.linked.unit;
+  unit : l.cursor.unit ≡ l.fn.admitted.resolved.unit;
   population : l.cursor.population ≡ l.fn.population.content;
-  machine_unit : l.machine.unit ≡ l.fn.admitted.linked.unit;
+  machine_unit : l.machine.unit ≡ l.fn.admitted.resolved.unit;
   machine_population : l.machine.population ≡ l.fn.population.content;
-  told : IsToldBy l.cursor (verdict_at l.fn.admitted.linked.unit l.fn.population.content);
-  written : IsWrittenSoFar (g.S.Sink.contents l.initial.target.sink.now) (g.S.Sink.contents l.target.sink.now) l.text.items (report_until l.fn.admitted.linked.unit l.fn.population.content (verdict_at l.fn.admitted.linked.unit l.fn.population.content) (told_pairs l.cursor));
+  told : IsToldBy l.cursor (verdict_at l.fn.admitted.resolved.unit l.fn.population.content);
+  written : IsWrittenSoFar (g.S.Sink.contents l.initial.target.sink.now) (g.S.Sink.contents l.target.sink.now) l.text.items (report_until l.fn.admitted.resolved.unit l.fn.population.content (verdict_at l.fn.admitted.resolved.unit l.fn.population.content) (told_pairs l.cursor));
   well : g.S.Sink.has_failed l.target.sink.now ≡ false;
   flushes : l.target.flushes ≡ 0;
   same_sink : l.target.sink.ghost_name ≡ l.initial.target.sink.ghost_name;

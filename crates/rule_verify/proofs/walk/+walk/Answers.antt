@@ -14,7 +14,7 @@ use Rattle.rule_verify.proofs.walk.+walk.Goals as goal
 
 pub body-ended_with-requires-clause-wanted : goal.body-ended_with-requires-clause-wanted
 body-ended_with-requires-clause-wanted t c =
-    let P : Pattern → Type 0 = λ w. IsPatternOf c.args.rule.now.linked.now.model w in
+    let P : Pattern → Type 0 = λ w. IsPatternOf c.args.rule.now.resolved.now.model w in
     subst P (sym c.ends_with.ensures) (ends_known (surroundings_of c.args.rule.now) c.args.instr)
 
 pub block-inside-inner-requires-clause-room : goal.block-inside-inner-requires-clause-room
@@ -25,7 +25,7 @@ pub block-body-requires : goal.block-body-requires
 block-body-requires t c =
     let r = c.args.rule.now in
     let o = c.in_ok-operand.ensures in
-    let m = r.linked.now.model in
+    let m = r.resolved.now.model in
     let s = surroundings_of r in
     let v = bound r c.args.walk.now.variables c.args.place c.args.operands.now c.args.instr c.requires.inside c.requires.here c.requires.place c.args.walk.now.depths c.open_block.new.walk.depths c.args.length c.in_ok-operand.operand c.open_block.new.walk.variables c.open_block.new.operands o _ c.in_ok-bind.ensures in
     let P : List Kind → Type 0 = λ l. AreKnownKinds m l in
@@ -48,7 +48,7 @@ pub block-returns : goal.block-returns
 block-returns t c =
     let r = c.args.rule.now in
     let s = surroundings_of r in
-    let m = r.linked.now.model in
+    let m = r.resolved.now.model in
     let o = c.in_ok-operand.ensures in
     let v = bound r c.args.walk.now.variables c.args.place c.args.operands.now c.args.instr c.requires.inside c.requires.here c.requires.place c.args.walk.now.depths c.open_block.new.walk.depths c.args.length c.in_ok-operand.operand c.open_block.new.walk.variables c.open_block.new.operands o _ c.in_ok-bind.ensures in
     let P : Kind → Type 0 = λ k. IsKindOf m k in
@@ -82,7 +82,7 @@ branches-body-requires-2 t c =
     let same : c.in-Some.length ≡ n + m = omega (arith, c.in-Some.ensures) in
     let P : ℕ → Type 0 = λ l. Opened r c.args.walk.now.variables c.args.walk.now.depths c.args.place c.args.operands.now c.args.instr l c.in_ok-operand.operand c.open_block.new.walk.variables c.open_block.new.walk.depths c.open_block.new.operands in
     let o = subst P same c.in_ok-operand.ensures in
-    let Q : List Kind → Type 0 = λ l. AreKnownKinds r.linked.now.model l in
+    let Q : List Kind → Type 0 = λ l. AreKnownKinds r.resolved.now.model l in
     let known = subst Q (sym (c.in_ok-ended.ensures.walked.kept ∙ o.kept)) c.requires.place.variables_known in
     let place = inner_place r c.args.walk.now.variables c.args.place c.args.operands.now c.args.instr c.requires.inside c.requires.here c.requires.place c.args.walk.now.depths c.open_block.new.walk.depths (n + m) c.in_ok-operand.operand c.open_block.new.walk.variables c.open_block.new.operands o c.body.new.walk.variables c.inside-second.result _ _ (omega arith) (omega (arith, o.nests)) known c.inside-second.ensures in
     let from = ap (λ (q : Place). q.at) c.inside-second.ensures in
@@ -109,9 +109,9 @@ branches-returns t c =
     let P : ℕ → Type 0 = λ l. Opened r c.args.walk.now.variables c.args.walk.now.depths c.args.place c.args.operands.now c.args.instr l c.in_ok-operand.operand c.open_block.new.walk.variables c.open_block.new.walk.depths c.open_block.new.operands in
     let o = subst P same c.in_ok-operand.ensures in
     let s = surroundings_of r in
-    let K : Kind → Type 0 = λ k. IsKindOf r.linked.now.model k in
-    let operand = subst K (sym o.first) (block_operand_known r.linked.now.model c.args.instr c.args.operands.now c.requires.place.operands_known) in
-    let known : AreKnownKinds r.linked.now.model (yields s c.args.instr c.in_ok-operand.operand c.in_ok-ended.ended ∷ c.open_block.new.operands) = (yields_known s c.args.instr c.in_ok-operand.operand c.in_ok-ended.ended operand c.in_ok-ended.ensures.known, o.known) in
+    let K : Kind → Type 0 = λ k. IsKindOf r.resolved.now.model k in
+    let operand = subst K (sym o.first) (block_operand_known r.resolved.now.model c.args.instr c.args.operands.now c.requires.place.operands_known) in
+    let known : AreKnownKinds r.resolved.now.model (yields s c.args.instr c.in_ok-operand.operand c.in_ok-ended.ended ∷ c.open_block.new.operands) = (yields_known s c.args.instr c.in_ok-operand.operand c.in_ok-ended.ended operand c.in_ok-ended.ensures.known, o.known) in
     let pushed = c.in_ok-put.ensures ∙ ap (λ (k : Kind). k ∷ c.open_block.new.operands) c.yields.ensures in (
       branches_gone r c.args.walk.now.variables c.args.place c.args.operands.now c.args.instr c.requires.inside c.requires.here c.requires.place c.args.walk.now.depths c.open_block.new.walk.depths n m c.in_ok-operand.operand c.open_block.new.walk.variables c.open_block.new.operands o c.requires.shape c.inside-first.result c.inside-first.ensures c.in_ok-ended.ended c.body.new.walk.depths c.body.new.walk.variables c.in_ok-ended.ensures.gives c.in_ok-ended.ensures.walked c.inside-second.result c.inside-second.ensures _ _ _ _ c.in_ok-body.ensures.gives c.in_ok-body.ensures.walked known pushed,
       omega arith,

@@ -8,7 +8,7 @@ use Rattle.ocl_check.proofs.commands.judge.judge_within.Goals as goal
 
 pub returns-in-Ok : goal.returns-in-Ok
 returns-in-Ok g c =
-    ending_as (report_is c.args.population.now.content c.args.accepted.now.unit c.in-Ok.admitted.linked.unit c.args.sizes.now c.args.budget (ap (λ l. l.unit) c.in-Ok.ensures.unit) c.requires.sizes c.in-Ok.ensures.admitted)
+    ending_as (report_is c.args.population.now.content c.args.accepted.now.unit c.in-Ok.admitted.resolved.unit c.args.sizes.now c.args.budget (ap (λ l. l.unit) c.in-Ok.ensures.unit) c.requires.sizes c.in-Ok.ensures.admitted)
     c.judge_admitted.ensures
 
 pub returns-in-Err-TooCostly : goal.returns-in-Err-TooCostly

@@ -55,7 +55,7 @@ pub returns-in_err-ran-clause-moved : goal.returns-in_err-ran-clause-moved
 returns-in_err-ran-clause-moved c =
     let i = c.self.inside in
     let spent : i.spent ≡ c.args.self.now.job.spent = ap (λ (x : JobSeen). x.spent) (ap job_in c.self.view_is) in
-    let total : sum (costs_of i.admitted.now.linked.unit i.population.now.content) ≡ total_cost c.args.self.now.job = ap total_cost (ap job_in c.self.view_is) in
+    let total : sum (costs_of i.admitted.now.resolved.unit i.population.now.content) ≡ total_cost c.args.self.now.job = ap total_cost (ap job_in c.self.view_is) in
     let used = c.from.ensures ∙ (count_is i.admitted.now i.population.now.content i.cursor i.machine c.begin.new.machine c.run-ran.new.self i.begun i.lines.items c.begin.new.lines.items (vec_capacity i.lines) (vec_capacity c.begin.new.lines) i.spent c.args.grant c.run-ran.result
     c.self.invariant c.begin.ensures.task c.run-ran.ensures.task c.begin.ensures.lines c.in_ok-begin.ensures.ready c.run-ran.ensures.ran c.steps-before.result c.steps.result c.steps-before.ensures.count c.steps.ensures.count).1 in
     let open_run = refused_at i.admitted.now i.population.now.content i.cursor i.machine c.begin.new.machine c.run-ran.new.self i.begun i.lines.items c.begin.new.lines.items (vec_capacity i.lines) (vec_capacity c.begin.new.lines) i.spent c.args.grant c.run-ran.result
@@ -129,7 +129,7 @@ pub returns-else-is_err-clause-moved : goal.returns-else-is_err-clause-moved
 returns-else-is_err-clause-moved c =
     let i = c.self.inside in
     let spent : i.spent ≡ c.args.self.now.job.spent = ap (λ (x : JobSeen). x.spent) (ap job_in c.self.view_is) in
-    let total : sum (costs_of i.admitted.now.linked.unit i.population.now.content) ≡ total_cost c.args.self.now.job = ap total_cost (ap job_in c.self.view_is) in
+    let total : sum (costs_of i.admitted.now.resolved.unit i.population.now.content) ≡ total_cost c.args.self.now.job = ap total_cost (ap job_in c.self.view_is) in
     let count = (count_is i.admitted.now i.population.now.content i.cursor i.machine c.begin.new.machine c.run-ran.new.self i.begun i.lines.items c.begin.new.lines.items (vec_capacity i.lines) (vec_capacity c.begin.new.lines) i.spent c.args.grant c.run-ran.result
     c.self.invariant c.begin.ensures.task c.run-ran.ensures.task c.begin.ensures.lines c.in_ok-begin.ensures.ready c.run-ran.ensures.ran c.steps-before.result c.steps.result c.steps-before.ensures.count c.steps.ensures.count).1 in
     let more = is_told c.tell.result _ (sym c.is_err.ensures.value ∙ c.if-is_err.false) c.tell.ensures.told in

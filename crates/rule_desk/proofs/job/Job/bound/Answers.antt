@@ -12,7 +12,7 @@ returns-clause-within c =
     subst (λ (x : JobSeen). x.spent ≤ job_bound x) (ap job_in c.self.view_is)
     (spent_bounded i.admitted.now i.population.now.content i.cursor i.machine i.begun i.lines.items (vec_capacity i.lines) i.spent c.self.invariant) in
     let unit = ap (λ l. length l.unit.rules) c.accepted-accepted.ensures in
-    let rules : length i.admitted.now.linked.unit.rules ≡ length c.args.self.now.job.admission.linked.unit.rules = ap (λ (x : JobSeen). length x.admission.linked.unit.rules) (ap job_in c.self.view_is) in
-    let last : c.loop-rule.rule ≡ length c.args.self.now.job.admission.linked.unit.rules = omega (arith, c.loop-rule-test.false, c.loop-rule.auto.rule-end, c.rules-rule-end.ensures, unit, rules) in
-    let all = ap (bounds_of_rules c.args.self.now.job.admission.linked.unit c.args.self.now.job.population) last in
+    let rules : length i.admitted.now.resolved.unit.rules ≡ length c.args.self.now.job.admission.resolved.unit.rules = ap (λ (x : JobSeen). length x.admission.resolved.unit.rules) (ap job_in c.self.view_is) in
+    let last : c.loop-rule.rule ≡ length c.args.self.now.job.admission.resolved.unit.rules = omega (arith, c.loop-rule-test.false, c.loop-rule.auto.rule-end, c.rules-rule-end.ensures, unit, rules) in
+    let all = ap (bounds_of_rules c.args.self.now.job.admission.resolved.unit c.args.self.now.job.population) last in
     omega (arith, within, all, c.loop-rule.invariant.sum)

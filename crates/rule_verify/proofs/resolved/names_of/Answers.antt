@@ -3,7 +3,7 @@ use Rattle.std.proofs.lemmas.Option.{slice_get-get_or}
 use Rattle.rule_code.specs.declared.symbol.Symbol.{Symbol}
 use Rattle.rule_code.specs.View.{content}
 use Rattle.rule_code.proofs.ForAbove.{symbol_fits}
-use Rattle.rule_verify.proofs.linked.names_of.Goals as goal
+use Rattle.rule_verify.proofs.resolved.names_of.Goals as goal
 
 pub look_up-requires : goal.look_up-requires
 look_up-requires c =

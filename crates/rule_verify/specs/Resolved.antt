@@ -2,9 +2,9 @@
 use Rattle.imkl_model.specs.ClassModel.{Model}
 use Rattle.rule_code.specs.Content.{Content}
 
-pub record LinkedUnit : Type 0 where
+pub record ResolvedUnit : Type 0 where
   pub model : Model
   pub unit : Content
 
-abbrev pub linked_unit : Model → Content → LinkedUnit
-linked_unit m u = record { model = m; unit = u }
+abbrev pub resolved_unit : Model → Content → ResolvedUnit
+resolved_unit m u = record { model = m; unit = u }

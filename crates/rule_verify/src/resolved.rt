@@ -15,19 +15,19 @@ use std::marker::Model;
 
 /// A unit, with what each of its symbols names in a class model.
 #[derive(Drop)]
-pub(crate) struct Linked<'m> {
+pub(crate) struct Resolved<'m> {
     model: &'m ClassModel,
     unit: Unit,
     names: Vec<Option<Named>>,
 }
 
-impl<'m> Model for Linked<'m> {
+impl<'m> Model for Resolved<'m> {
     ghost use Rattle.std.specs.Prelude.{◌≡◌, map};
-    ghost use Rattle.rule_verify.specs.Linked.{LinkedUnit};
+    ghost use Rattle.rule_verify.specs.Resolved.{ResolvedUnit};
     ghost use Rattle.rule_verify.specs.Symbols.{named_by};
     ghost use Rattle.rule_code.specs.View.{content};
 
-    ghost Value = { LinkedUnit };
+    ghost Value = { ResolvedUnit };
 
     ghost view = { λ l. record { model = l.model.now; unit = content l.unit } };
 
@@ -82,27 +82,27 @@ fn names_of(
 }
 
 /// Looks up what each symbol of a unit names, each once. Where memory runs out the unit comes back.
-pub(crate) fn link<'m>(
+pub(crate) fn resolve<'m>(
     alloc: Global,
     model: &'m ClassModel,
     unit: Unit,
-) -> Result<Linked<'m>, (AllocError, Unit)>
+) -> Result<Resolved<'m>, (AllocError, Unit)>
     ensures model { IfOk result (λ l. l.model ≡ model.entry.now) }
     ensures unit { IfOk result (λ l. l.unit ≡ content unit) }
     ensures refused { IfErr result (λ r. content r.1 ≡ content unit) }
 {
     match names_of(alloc, model, &unit) {
-        Ok(names) => Ok(Linked { model, unit, names }),
+        Ok(names) => Ok(Resolved { model, unit, names }),
         Err(refused) => Err((refused, unit)),
     }
 }
 
-impl<'m> Linked<'m> {
+impl<'m> Resolved<'m> {
     /// The unit again.
     pub(crate) fn into_unit(self) -> Unit
         ensures { content result ≡ self.entry.unit }
     {
-        let Linked {
+        let Resolved {
             model: _,
             unit,
             names: _,

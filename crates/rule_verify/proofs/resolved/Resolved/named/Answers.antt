@@ -1,6 +1,6 @@
 use Rattle.rule_code.specs.View.{content}
 use Rattle.rule_verify.proofs.SymbolLaws.{known_read}
-use Rattle.rule_verify.proofs.linked.Linked.named.Goals as goal
+use Rattle.rule_verify.proofs.resolved.Resolved.named.Goals as goal
 
 pub returns-clause-known : goal.returns-clause-known
 returns-clause-known c =

@@ -9,7 +9,7 @@ use Rattle.rule_code.specs.Content.{text_at}
 use Rattle.rule_code.specs.View.{content}
 use Rattle.rule_verify.specs.declared.named.Named.TheVariants as named
 use Rattle.rule_verify.specs.Symbols.{named_by}
-use Rattle.rule_verify.proofs.linked.look_up.Goals as goal
+use Rattle.rule_verify.proofs.resolved.look_up.Goals as goal
 
 -- a feature with the class that it is looked up in
 with_class : (o : Option ℕ) (g : ℕ → Option ℕ) (c : ℕ) → o ≡ Some c → option_and_then (λ k. option_map (named.Feature k) (g k)) o ≡ option_map (named.Feature c) (option_and_then g o)
