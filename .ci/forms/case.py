@@ -1,0 +1,47 @@
+"""What a form of .ci/rows makes of a row: a command over files, and the answer that is wanted."""
+import dataclasses
+import os
+import pathlib
+import subprocess
+import sys
+import typing
+
+import answers
+
+PROGRAMS = {
+    "ocl_check": answers.PROGRAM,
+    "ocl_explain": pathlib.Path(os.environ.get("OCL_EXPLAIN", answers.ROOT / "crates/ocl_explain_main/out/ocl_explain_main")),
+}
+
+
+@dataclasses.dataclass
+class Case:
+    """The words of a command, its program's name first; what is wanted; and what an answer is compared by."""
+
+    words: list
+    wanted: typing.Any
+    found: typing.Callable = lambda answer: (answer.status, answer.out.decode(errors="backslashreplace"))
+
+
+def require_programs():
+    for path in PROGRAMS.values():
+        if not os.access(path, os.X_OK):
+            sys.exit(f".ci/rows: {path} isn't built; rt ci builds it")
+
+
+def run(room, words, seconds=60):
+    """Runs a command in a folder."""
+    done = subprocess.run([PROGRAMS[words[0]], *words[1:]], cwd=room, stdin=subprocess.DEVNULL, capture_output=True, timeout=seconds)
+    return answers.Answer(done.returncode, done.stdout, done.stderr)
+
+
+def first_line(answer):
+    """The first line of an answer, without its line feed."""
+    return answer.out.decode(errors="backslashreplace").split("\n", 1)[0]
+
+
+def write(room, name, text):
+    """Writes an input; a str as UTF-8, with lone bytes as `\\udcff` and the like."""
+    data = text if isinstance(text, bytes) else text.encode("utf-8", errors="surrogateescape")
+    (room / name).write_bytes(data)
+    return name
