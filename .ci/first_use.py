@@ -23,7 +23,7 @@ sys.dont_write_bytecode = True
 import prover
 
 OUT = prover.ROOT / "out"
-STORE = OUT / "proved"
+STORE = OUT / "proved" / prover.version()[0]
 LOGS = OUT / "logs"
 # of each crate so many states stay
 STATES = 3
@@ -173,11 +173,7 @@ def proved(tree, crates, program):
     """Proves what isn't proved of these crates; where each library is, by name."""
     STORE.mkdir(parents=True, exist_ok=True)
     LOGS.mkdir(exist_ok=True)
-    of_gate = prover.Tree().left_by_gate(crates[-1]) or {}
-    found = {it: None for it in crates if made(tree, it).exists()}
-    # (a library fits those that it was proved over: the gate's are taken where it has all)
-    if of_gate and all(tree.key(it) == prover.Tree().key(it) for it in of_gate):
-        found = {**found, **of_gate}
+    found = {it: None for it in crates if made(tree, it).exists()} | tree.left_by_gate(crates[-1])
     Build(tree, crates, found, program).run()
     for it in crates:
         if found[it] is None:
@@ -191,8 +187,11 @@ def proved(tree, crates, program):
 def libraries(tree, crate):
     """The proved libraries below a crate, by name."""
     below = tree.below(crate)
-    with one_at_a_time(crate):
-        return proved(tree, below, ".ci/edits") if below else {}
+    of_gate = tree.left_by_gate(crate)
+    if len(of_gate) == len(below):
+        return of_gate
+    with one_at_a_time(".ci/edits"):
+        return proved(tree, below, ".ci/edits")
 
 
 @contextlib.contextmanager

@@ -25,9 +25,10 @@ def kit():
 
 
 @functools.cache
-def logic():
-    """The sum of the logic that this kit proves by: kits that prove the same have the same one."""
-    return subprocess.run(["rt", "version"], capture_output=True, text=True).stdout.split()[-1]
+def version():
+    """The kit's name, and the sum of the logic that it proves by: kits that prove the same have the same one."""
+    name, *_, logic = subprocess.run(["rt", "version"], capture_output=True, text=True).stdout.split()
+    return name, logic
 
 
 class Tree:
@@ -67,7 +68,7 @@ class Tree:
     @functools.cache
     def key(self, crate):
         """A sum of the logic and of all that a crate is proved from, that of the crates below too."""
-        whole = hashlib.sha256(repr((logic(), crate, self.uses[crate])).encode())
+        whole = hashlib.sha256(repr((version()[1], crate, self.uses[crate])).encode())
         for path in self.files(crate):
             whole.update(repr((str(path), (self.folder(crate) / path).read_bytes())).encode())
         for use in self.own_uses(crate):
@@ -76,20 +77,26 @@ class Tree:
 
     def is_made_from(self, rlib, crate):
         """Whether a proved library holds the very text of the crate."""
+        def inside(path):
+            part, *rest = path.parts
+            if part == "src":
+                return rlib / "lang" / path
+            # (specs/Lib.antt is kept as specs.antt)
+            return rlib / "lang/antt" / (f"{part}.antt" if rest == ["Lib.antt"] else path)
+
         def text(path):
             return path.read_bytes() if path.is_file() else None
-
-        def inside(path):
-            # (specs/Lib.antt is kept as specs.antt)
-            of_antt = path.parent / f"{path.name}" if path.parts[0] == "src" else pathlib.Path("antt") / path
-            return rlib / "lang" / (f"antt/{path.parts[0]}.antt" if len(path.parts) == 2 and path.name == "Lib.antt" else of_antt)
 
         return rlib.is_dir() and all(text(inside(it)) == text(self.folder(crate) / it) for it in self.files(crate))
 
     def left_by_gate(self, crate):
-        """The proved libraries that `rt ci` has left in this checkout for the crates below, by name; None where one is missing or old."""
-        found = {it: self.folder(it) / f"out/rlib/{it}.rlib" for it in self.below(crate)}
-        return found if all(self.is_made_from(rlib, it) for it, rlib in found.items()) else None
+        """The proved libraries that `rt ci` has left in this checkout for the crates below, by name, but those that are old or stand on old ones."""
+        found = {}
+        for it in self.below(crate):
+            rlib = ROOT / f"crates/{it}/out/rlib/{it}.rlib"
+            if all(use in found for use in self.own_uses(it)) and self.is_made_from(rlib, it):
+                found[it] = rlib
+        return found
 
 
 def command(tree, crate, verb, libraries, *flags):
