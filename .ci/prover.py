@@ -1,10 +1,13 @@
 """The repository's crates, and the calls of the prover that `rt` makes for one: shared by .ci/edits and .ci/first_use.
 
-A proved library is a folder NAME.rlib, which holds the text that it was made from. Those that `rt ci` leaves in
-crates/NAME/out are taken where that text is the crate's own; so nothing that changed since is ever taken for proved."""
+A proved library is a folder NAME.rlib. Those that `rt ci` leaves in crates/NAME/out are noted by .ci/run with a sum of the
+text that they were proved from, and taken while that is the text; so nothing that changed since is taken for proved.
+
+  prover.py -- COMMAND ..    runs a command that proves all, and where it passes notes what it has left"""
 import ctypes
 import functools
 import hashlib
+import json
 import os
 import pathlib
 import shutil
@@ -14,6 +17,8 @@ import sys
 
 ROOT = pathlib.Path(__file__).resolve().parent.parent
 PARTS = ("src", "specs", "proofs")
+# the libraries that `rt ci` has left here: of each crate a sum of its text, and one of what was built
+GATE = ROOT / "out" / "gate.json"
 
 
 @functools.cache
@@ -75,28 +80,32 @@ class Tree:
             whole.update(self.key(use).encode())
         return whole.hexdigest()
 
-    def is_made_from(self, rlib, crate):
-        """Whether a proved library holds the very text of the crate."""
-        def inside(path):
-            part, *rest = path.parts
-            if part == "src":
-                return rlib / "lang" / path
-            # (specs/Lib.antt is kept as specs.antt)
-            return rlib / "lang/antt" / (f"{part}.antt" if rest == ["Lib.antt"] else path)
-
-        def text(path):
-            return path.read_bytes() if path.is_file() else None
-
-        return rlib.is_dir() and all(text(inside(it)) == text(self.folder(crate) / it) for it in self.files(crate))
-
     def left_by_gate(self, crate):
-        """The proved libraries that `rt ci` has left in this checkout for the crates below, by name, but those that are old or stand on old ones."""
+        """The libraries that `rt ci` has proved of the very text of the crates below and left in this checkout, by name."""
+        noted = json.loads(GATE.read_text(encoding="utf-8")) if GATE.is_file() else {}
         found = {}
         for it in self.below(crate):
             rlib = ROOT / f"crates/{it}/out/rlib/{it}.rlib"
-            if all(use in found for use in self.own_uses(it)) and self.is_made_from(rlib, it):
+            if all(use in found for use in self.own_uses(it)) and noted.get(it) == [self.key(it), mark_of(rlib)]:
                 found[it] = rlib
         return found
+
+
+def mark_of(rlib):
+    """What tells one build of a library from another: its file `format` holds a sum of all others. None where there is none."""
+    path = rlib / "format"
+    return hashlib.sha256(path.read_bytes()).hexdigest() if path.is_file() else None
+
+
+def note_gate(begun=None):
+    """Gives the sum of each crate's text; with those of before `rt ci`, which has passed since, notes the libraries that it has left."""
+    tree = Tree()
+    sums = {it: tree.key(it) for it in tree.uses}
+    if begun is not None:
+        GATE.parent.mkdir(exist_ok=True)
+        left = {it: [sums[it], mark_of(ROOT / f"crates/{it}/out/rlib/{it}.rlib")] for it in sums if sums[it] == begun.get(it)}
+        GATE.write_text(json.dumps(left, indent=0), encoding="utf-8")
+    return sums
 
 
 def command(tree, crate, verb, libraries, *flags):
@@ -127,3 +136,11 @@ def cores():
     with open("/proc/meminfo", encoding="utf-8") as it:
         free = next(int(line.split()[1]) for line in it if line.startswith("MemAvailable"))
     return max(1, min(len(os.sched_getaffinity(0)), free // 4_000_000))
+
+
+if __name__ == "__main__":
+    before = note_gate()
+    status = subprocess.run(sys.argv[2:]).returncode
+    if status == 0:
+        note_gate(before)
+    sys.exit(status if status >= 0 else 128 - status)
