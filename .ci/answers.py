@@ -1,4 +1,4 @@
-"""What the built program may print and how it may end: shared by .ci/fuzz, .ci/damage and .ci/refusals."""
+"""What the built programs may print and how they may end: shared by .ci/fuzz, .ci/damage, .ci/refusals and .ci/rows."""
 import os
 import pathlib
 import re
@@ -8,6 +8,7 @@ import sys
 
 ROOT = pathlib.Path(__file__).resolve().parent.parent
 PROGRAM = pathlib.Path(os.environ.get("OCL_CHECK", ROOT / "crates/ocl_check_main/out/ocl_check_main"))
+EXPLAIN = pathlib.Path(os.environ.get("OCL_EXPLAIN", ROOT / "crates/ocl_explain_main/out/ocl_explain_main"))
 
 # (a hostile input may want any amount of memory; that it isn't had is an answer too)
 MOST_MEMORY = 4 << 30
@@ -49,9 +50,12 @@ class Answer:
         return f"status {status}, standard output {self.out[:300]!r}, standard error {self.err[:300]!r}"
 
 
-def require_program():
-    if not os.access(PROGRAM, os.X_OK):
-        sys.exit(f"{sys.argv[0]}: {PROGRAM} isn't built; rt ci builds it")
+def require_programs(*paths):
+    """Ends where a program isn't built; says which ones are run."""
+    for path in paths or (PROGRAM, EXPLAIN):
+        if not os.access(path, os.X_OK):
+            sys.exit(f"{sys.argv[0]}: {path} isn't built; rt ci builds it")
+        print(f"{sys.argv[0]}: runs {path}", flush=True)
 
 
 def limit_memory():
@@ -59,11 +63,11 @@ def limit_memory():
     resource.setrlimit(resource.RLIMIT_AS, (MOST_MEMORY, MOST_MEMORY))
 
 
-def run(folder, words, seconds=10, environment=None, before=None):
-    """Runs the program in a folder with these arguments."""
+def run(folder, words, seconds=10, environment=None, before=None, program=PROGRAM):
+    """Runs a program in a folder with these arguments."""
     try:
         done = subprocess.run(
-            [PROGRAM, *words],
+            [program, *words],
             cwd=folder,
             stdin=subprocess.DEVNULL,
             capture_output=True,
@@ -74,7 +78,6 @@ def run(folder, words, seconds=10, environment=None, before=None):
         return Answer(done.returncode, done.stdout, done.stderr)
     except subprocess.TimeoutExpired:
         return Answer(None, b"", b"")
-
 
 
 def fault_in(words, answer):
@@ -98,3 +101,17 @@ def fault_in(words, answer):
     if answer.status != 0:
         return "a status that there isn't"
     return None if REPLIES[words[0]].fullmatch(answer.out) else "no reply"
+
+
+def explained_fault(answer, explained):
+    """What is wrong with what ocl_explain answers where ocl_check gives this answer; None where nothing is."""
+    if explained.status is None:
+        return "ocl_explain didn't end"
+    if (explained.status, explained.out) != (answer.status, answer.out):
+        return f"ocl_explain answers otherwise: {explained}"
+    try:
+        said = explained.err.decode("utf-8")
+    except UnicodeDecodeError:
+        return "ocl_explain says something that is no UTF-8"
+    raw = next((it for it in said if it != "\n" and not it.isprintable()), None)
+    return raw and f"ocl_explain writes the raw character U+{ord(raw):04X}"

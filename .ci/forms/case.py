@@ -1,17 +1,11 @@
 """What a form of .ci/rows makes of a row: a command over files, and the answer that is wanted."""
 import dataclasses
-import os
-import pathlib
 import subprocess
-import sys
 import typing
 
 import answers
 
-PROGRAMS = {
-    "ocl_check": answers.PROGRAM,
-    "ocl_explain": pathlib.Path(os.environ.get("OCL_EXPLAIN", answers.ROOT / "crates/ocl_explain_main/out/ocl_explain_main")),
-}
+PROGRAMS = {"ocl_check": answers.PROGRAM, "ocl_explain": answers.EXPLAIN}
 
 
 @dataclasses.dataclass
@@ -21,12 +15,6 @@ class Case:
     words: list
     wanted: typing.Any
     found: typing.Callable = lambda answer: (answer.status, answer.out.decode(errors="backslashreplace"))
-
-
-def require_programs():
-    for path in PROGRAMS.values():
-        if not os.access(path, os.X_OK):
-            sys.exit(f".ci/rows: {path} isn't built; rt ci builds it")
 
 
 def run(room, words, seconds=60):
