@@ -177,9 +177,8 @@ def true_of(room, _, population, objects, rule):
     case.write(room, "r.rules", f"context {context} inv r: not ({condition})")
 
     def found(answer):
-        lines = [it.split(" ") for it in answer.out.decode().splitlines()]
-        ids = [it[2] for it in lines if it[0] == "fail"]
-        return " ".join(ids) or ("-" if lines[-1][0] == "total" else answer.out)
+        ids = re.findall(r"^fail r (\S+)$", answer.out.decode(), re.M)
+        return (" ".join(ids) or "-") if answer.status in (0, 1) else answer.out
 
     return case.Case(["ocl_check", "judge", "--text", "model.json", "delivery.json", "r.rules"], objects, found)
 
