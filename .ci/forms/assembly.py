@@ -116,7 +116,7 @@ class Assembler:
         for instruction in instructions:
             word, _, fields = instruction.partition(" ")
             opcode, forms = INSTRUCTIONS[word]
-            self.rules += opcode + b"".join(map(self.field, forms, fields.split(" ")))
+            self.rules += opcode + b"".join(map(self.field, forms, fields.split(" ", len(forms) - 1)))
             self.has_fold |= word == "fold"
         self.count += 1
 
@@ -163,3 +163,6 @@ def bytes_of(digits):
         word, _, count = word.partition("*")
         found += bytes.fromhex(word) * int(count or 1)
     return found
+
+
+NO_RULES = file_of_rules("no rules")
