@@ -1,5 +1,0 @@
-//! Tests of `desk_script`, from outside.
-#![tactic(auto)]
-
-#[cfg(test)]
-mod scripts;
