@@ -76,11 +76,6 @@ impl Narrow {
         writer
     }
 
-    /// How many bytes it took.
-    pub fn taken(&self) -> usize {
-        self.taken.len()
-    }
-
     /// Whether it took just these bytes, and was then flushed once.
     pub fn has_all(&self, bytes: &[u8]) -> bool {
         self.taken.as_slice() == bytes && self.flushed == 1 && self.flushed_at == bytes.len()

@@ -1,0 +1,143 @@
+"""What ocl_explain says on standard error, and what it prints where ocl_check prints something else.
+
+The words stand in a file of tests/explain: those of a row below a line of `== ` and what the row shows, up to an empty line."""
+import functools
+import re
+
+import answers
+import case
+import commands
+import inputs
+from assembly import file_of_rule
+from notation import lines_of
+
+FOLDER = answers.ROOT / "tests/explain"
+JUDGED = ["model.json", "delivery.json", "rules.ocl"]
+
+
+def words_of(file, shows):
+    """The words for a row."""
+    sections = re.split("^== ", (FOLDER / file).read_text(encoding="utf-8"), flags=re.MULTILINE)
+    (words,) = [it.removeprefix(shows + "\n") for it in sections if it.startswith(shows + "\n")]
+    return words.removesuffix("\n") if words.endswith("\n\n") or words == "\n" else words
+
+
+def said(file, words, shows, is_refusal=True):
+    """A case of the words on standard error; where there are some, an input is refused."""
+    wanted = words_of(file, shows)
+    found = lambda answer: (answer.status == 2, answer.err.decode())
+    return case.Case(["ocl_explain", *words], (is_refusal and wanted != "", wanted), found)
+
+
+def judge(room, options, *cells):
+    """The words of `judge` over a class model, a delivery and rules."""
+    return ["judge", *options, *map(functools.partial(inputs.put, room), JUDGED, cells)]
+
+
+def of_judge(file, *options, model="catalogue.json", delivery="deep-cable.delivery.json", rules="-", is_refusal=True):
+    """A form: what is said of `judge` over these inputs, each None of which a cell stands for."""
+
+    def form(room, shows, *cells):
+        rest = iter(cells)
+        given = [next(rest) if it is None else it for it in (model, delivery, rules)]
+        return said(file, judge(room, options, *given), shows, is_refusal)
+
+    return form
+
+
+def cut(room, shows, length, digits):
+    """Why `judge` refuses the first bytes of min-depth.code and then others."""
+    code = "hex " + inputs.bytes_of("min-depth.code")[: int(length)].hex() + digits.removeprefix("-")
+    return of_judge("codes.said", rules=None)(room, shows, code)
+
+
+def rule(room, shows, context, code):
+    """Why `verify` doesn't accept the code of a rule r."""
+    inputs.put(room, "model.json", "catalogue.json")
+    case.write(room, "r.code", file_of_rule(context, code))
+    return said("codes.said", ["verify", "model.json", "r.code"], shows)
+
+
+def script(room, shows, script):
+    """Why `desk` refuses a script."""
+    names = judge(room, [], "catalogue.json", "duct-600-and-none.delivery.json", "duct-depth.words")[1:]
+    return said("codes.said", ["desk", *names, case.write(room, "calls", lines_of(script))], shows)
+
+
+def warning_compiled(room, shows, rules):
+    """What is hardly meant in a text that `compile` answers."""
+    names = inputs.put(room, "model.json", "catalogue.json"), inputs.put(room, "rules.ocl", rules)
+    return said("warnings.said", ["compile", *names, "rules.code"], shows, is_refusal=False)
+
+
+def silent(room, shows, word, rules):
+    """A command that is answered without a word on standard error: `bound` of a code file, or `compile` of a text."""
+    names = [inputs.put(room, "model.json", "catalogue.json")]
+    names += [inputs.put(room, "delivery.json", "duct-600-and-none.delivery.json")] * (word == "bound")
+    names += [inputs.put(room, "rules", rules)] + ["rules.code"] * (word == "compile")
+    return case.Case(["ocl_explain", word, *names], (0, b""), lambda answer: (answer.status, answer.err))
+
+
+def listing(room, shows, model, code):
+    """What `list` prints of a code file, with a class model or `-`."""
+    names = [inputs.put(room, "r.code", code)] + [inputs.put(room, "model.json", model)] * (model != "-")
+    found = lambda answer: (answer.status, answer.out.decode(), answer.err)
+    return case.Case(["ocl_explain", "list", *names], (0, words_of("listings.said", shows), b""), found)
+
+
+def asked(room, delivery, object, rules):
+    """The words of `why` the rule r has its verdict for an object."""
+    return ["ocl_explain", "why", *judge(room, [], "catalogue.json", delivery, rules)[1:], "r", object]
+
+
+def why(room, shows, delivery, object, rules):
+    """Why the rule r of a text has its verdict for an object."""
+    found = lambda answer: (answer.status, answer.out.decode(), answer.err)
+    return case.Case(asked(room, delivery, object, rules), (0, words_of("whys.said", shows), b""), found)
+
+
+def why_not(room, shows, object, line, rules):
+    """Why there is no verdict: the line that is printed, or `-`, and the words on standard error."""
+    found = lambda answer: (answer.status, answer.out.decode(), answer.err.decode())
+    wanted = 2, lines_of(line), words_of("whys.said", shows)
+    return case.Case(asked(room, "duct-600-and-none.delivery.json", object, rules), wanted, found)
+
+
+def json_report(room, shows, delivery, status, lines, rules):
+    """What `judge --json` prints for a text."""
+    words = judge(room, ["--text", "--json"], "catalogue.json", delivery, rules)
+    return case.Case(["ocl_explain", *words], (int(status), lines_of(lines)))
+
+
+def same(form):
+    """A form of ocl_check's commands, for ocl_explain."""
+
+    def by_ocl_explain(room, *cells):
+        made = form(room, *cells)
+        made.words[0] = "ocl_explain"
+        return made
+
+    return by_ocl_explain
+
+
+FORMS = {
+    "explained text": of_judge("texts.said", "--text", rules=None),
+    "explained text and delivery": of_judge("texts.said", "--text", delivery=None, rules=None),
+    "explained delivery": of_judge("inputs.said", "--text", delivery=None),
+    "explained class model": of_judge("inputs.said", model=None),
+    "explained code file": of_judge("codes.said", rules=None),
+    "explained cost": of_judge("codes.said", "--text", "--budget", "18", delivery="duct-600-and-none.delivery.json", rules=None),
+    "warning": of_judge("warnings.said", "--text", rules=None, is_refusal=False),
+    "explained cut code file": cut,
+    "explained rule": rule,
+    "explained script": script,
+    "warning of compile": warning_compiled,
+    "no words": silent,
+    "listing": listing,
+    "why": why,
+    "why not": why_not,
+    "report as JSON": json_report,
+} | {
+    f"{name} of ocl_explain": same(commands.FORMS[name])
+    for name in ("judge command", "judge command by text", "bound command", "verify command", "compile command", "desk command")
+}

@@ -1,5 +1,0 @@
-//! Tests of `embedding`, by its public functions.
-#![tactic(auto)]
-
-#[cfg(test)]
-mod judging;

@@ -1,0 +1,12 @@
+//! What the rows of tests/ can't see: inputs and outputs that fail, a budget above the largest of the command line, and
+//! how other code uses the crates.
+#![tactic(auto)]
+
+#[cfg(test)]
+mod broken;
+#[cfg(test)]
+mod budgets;
+#[cfg(test)]
+mod readers;
+#[cfg(test)]
+mod writers;
