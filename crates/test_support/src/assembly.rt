@@ -304,13 +304,6 @@ fn text_bytes(alloc: Global, version: usize, texts: &[&str]) -> Result<Vec<u8>, 
     Ok(bytes)
 }
 
-/// The file of one rule r.
-pub fn file_of_rule(alloc: Global, context: &str, code: &str) -> Result<Vec<u8>, AllocError> {
-    let mut assembler = Assembler::new(alloc);
-    assembler.put_rule("r", context, code)?;
-    assembler.file(1)
-}
-
 /// The file of rules, each a line `CONTEXT NAME: CODE`.
 pub fn file_of_rules(alloc: Global, rules: &str) -> Result<Vec<u8>, AllocError> {
     let mut assembler = Assembler::new(alloc);

@@ -23,20 +23,6 @@ pub const CATALOGUE: &str = r#"{"model":"imkl-profile",
 "end":{"name":"leidingen","lower":1,"upper":null,"ordered":false},
 "opposite":{"name":"net","lower":0,"upper":1,"ordered":false}}]}"#;
 
-/// The cable E1, 600 deep.
-pub const DEEP_CABLE: &str = r#"{"model":"imkl-profile","objects":[
-{"id":"E1","class":"Elektriciteitskabel",
-"features":{"identificatie":"a","spanning":400,"diepte":600}}]}"#;
-
-/// The cable E1, 599 deep.
-pub const SHALLOW_CABLE: &str = r#"{"model":"imkl-profile","objects":[
-{"id":"E1","class":"Elektriciteitskabel",
-"features":{"identificatie":"a","spanning":400,"diepte":599}}]}"#;
-
-/// The cable E1, without a depth, in no duct.
-pub const CABLE_WITHOUT_DEPTH: &str = r#"{"model":"imkl-profile","objects":[
-{"id":"E1","class":"Elektriciteitskabel","features":{"identificatie":"a","spanning":400}}]}"#;
-
 /// The duct M1 holds E1, 600 deep, and E2, without a depth.
 pub const DUCT: &str = r#"{"model":"imkl-profile","objects":[
 {"id":"M1","class":"Mantelbuis",
@@ -45,35 +31,6 @@ pub const DUCT: &str = r#"{"model":"imkl-profile","objects":[
 "features":{"identificatie":"a","spanning":400,"diepte":600}},
 {"id":"E2","class":"Elektriciteitskabel","features":{"identificatie":"b","spanning":400}}]}"#;
 
-/// The duct M1 holds E1, 500 deep, and E2, without a depth.
-pub const DUCT_WITH_SHALLOW: &str = r#"{"model":"imkl-profile","objects":[
-{"id":"M1","class":"Mantelbuis",
-"features":{"identificatie":"m","diameter":110,"omvat":["E1","E2"]}},
-{"id":"E1","class":"Elektriciteitskabel",
-"features":{"identificatie":"a","spanning":400,"diepte":500}},
-{"id":"E2","class":"Elektriciteitskabel","features":{"identificatie":"b","spanning":400}}]}"#;
-
-/// The same with E2 before E1.
-pub const DUCT_WITH_SHALLOW_LAST: &str = r#"{"model":"imkl-profile","objects":[
-{"id":"M1","class":"Mantelbuis",
-"features":{"identificatie":"m","diameter":110,"omvat":["E2","E1"]}},
-{"id":"E2","class":"Elektriciteitskabel","features":{"identificatie":"b","spanning":400}},
-{"id":"E1","class":"Elektriciteitskabel",
-"features":{"identificatie":"a","spanning":400,"diepte":500}}]}"#;
-
-/// The duct M1 holds two cables, both 600 deep.
-pub const DUCT_OF_EQUALS: &str = r#"{"model":"imkl-profile","objects":[
-{"id":"M1","class":"Mantelbuis",
-"features":{"identificatie":"m","diameter":110,"omvat":["E1","E2"]}},
-{"id":"E1","class":"Elektriciteitskabel",
-"features":{"identificatie":"a","spanning":400,"diepte":600}},
-{"id":"E2","class":"Elektriciteitskabel",
-"features":{"identificatie":"b","spanning":400,"diepte":600}}]}"#;
-
-/// The duct M1 holds nothing.
-pub const EMPTY_DUCT: &str = r#"{"model":"imkl-profile","objects":[
-{"id":"M1","class":"Mantelbuis","features":{"identificatie":"m","diameter":110}}]}"#;
-
 /// Two nets; three pipes, each in one of them.
 pub const NETS: &str = r#"{"model":"imkl-profile","objects":[
 {"id":"N1","class":"Utiliteitsnet","features":{"thema":"water","leidingen":["P1","P2"]}},
@@ -81,20 +38,6 @@ pub const NETS: &str = r#"{"model":"imkl-profile","objects":[
 {"id":"P1","class":"Waterleiding","features":{"identificatie":"a","diameter":90}},
 {"id":"P2","class":"Waterleiding","features":{"identificatie":"b","diameter":90}},
 {"id":"P3","class":"Waterleiding","features":{"identificatie":"c","diameter":90}}]}"#;
-
-/// Two nets of different themes; their cable and pipe are identified alike.
-pub const DIFFERENT_NETS: &str = r#"{"model":"imkl-profile","objects":[
-{"id":"N1","class":"Utiliteitsnet","features":{"thema":"elektriciteit","leidingen":["E1"]}},
-{"id":"N2","class":"Utiliteitsnet","features":{"thema":"water","leidingen":["P1"]}},
-{"id":"E1","class":"Elektriciteitskabel","features":{"identificatie":"x","spanning":400}},
-{"id":"P1","class":"Waterleiding","features":{"identificatie":"x","diameter":90}}]}"#;
-
-/// Cables whose identifications begin in different ways.
-pub const IDENTIFIED_CABLES: &str = r#"{"model":"imkl-profile","objects":[
-{"id":"E1","class":"Elektriciteitskabel","features":{"identificatie":"n","spanning":400}},
-{"id":"E2","class":"Elektriciteitskabel","features":{"identificatie":"nl.1","spanning":400}},
-{"id":"E3","class":"Elektriciteitskabel","features":{"identificatie":"él","spanning":400}},
-{"id":"E4","class":"Elektriciteitskabel","features":{"identificatie":"é","spanning":400}}]}"#;
 
 /// The code file of the rule d of Mantelbuis, that what it holds is 600 deep: SELF, ATTR omvat, FORALL 4, GET 1, ATTR
 /// diepte, INT 600, GE.
