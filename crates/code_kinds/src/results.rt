@@ -1,4 +1,4 @@
-//! What instructions give.
+//! The kinds of the values that instructions push.
 
 use crate::naming::Names;
 use imkl_model::CollectionKind;

@@ -1,4 +1,4 @@
-//! Which field of a code file stands at an offset: the file is gone over field by field until then.
+//! Which field of a code file holds an offset: the file is read field by field up to it.
 
 use std::alloc::{AllocError, Global};
 

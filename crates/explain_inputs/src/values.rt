@@ -1,4 +1,4 @@
-//! The values of a feature as they are written, and what is said of them.
+//! The values of a feature as they are written, and the notes on them.
 
 use explain_notes::quote;
 use imkl_model::{ClassModel, ElementType};

@@ -1,4 +1,4 @@
-//! Notes on inputs as compilers write them: where a byte stands, the line with a mark under it, and the nearest name.
+//! Notes on inputs as compilers write them: the place of a byte, its line with a mark under it, and the nearest name.
 #![tactic(auto)]
 
 mod input;

@@ -1,4 +1,4 @@
-//! Where a byte of a text stands.
+//! The line and column of a byte of a text.
 
 ghost use Rattle.std.specs.Prelude.{◌≡◌, take};
 ghost use Rattle.explain_notes.specs.Places.{begins_character, text_line, text_column};

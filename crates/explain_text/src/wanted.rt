@@ -1,4 +1,4 @@
-//! What could stand at a place of a rule text: found by parsing what is before it with one more token, for each token.
+//! The tokens that the grammar allows at a place of a rule text: each is tried by parsing what is before it and that token.
 
 use ocl_text::parse_rules;
 use ocl_tokens::{TextFault, TextFlaw, Token, TokenKind};

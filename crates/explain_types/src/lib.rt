@@ -1,4 +1,4 @@
-//! Why the types of rules are refused: a reading of their types that stops at the fault, and what is said of it.
+//! Why the types of rules are refused: a reading of their types that stops at the fault, and the message for it.
 #![tactic(auto)]
 
 mod conforming;

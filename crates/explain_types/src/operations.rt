@@ -1,4 +1,4 @@
-//! The operations of the language: what each is called on, what it takes and what it gives.
+//! The operations of the language: the source, the arguments and the result of each.
 
 use imkl_model::CollectionKind;
 use ocl_kinds::{Kind, ScalarKind, elements_kind};

@@ -1,5 +1,5 @@
-//! A reading of a rule's types that stops at a fault which is known to be there. Before it all has types, so what gives a
-//! type is asked for its type alone, and only what stands at the fault is looked at closely.
+//! A reading of a rule's types that stops at a fault which is known to be there. Before the fault all has types, so only
+//! the type of each part is asked for; the part at the fault is looked at closely.
 
 use crate::conforming::{have_something_in_common, is_below};
 use crate::found::Stop;

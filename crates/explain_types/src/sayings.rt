@@ -1,4 +1,4 @@
-//! What is said of the faults of types.
+//! Messages for faults of types.
 
 use crate::conforming::is_below;
 use crate::found::{Found, Stop};

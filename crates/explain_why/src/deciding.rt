@@ -1,4 +1,4 @@
-//! Which elements decide what an iteration gives.
+//! Which elements decide the result of an iteration.
 
 ghost use Rattle.std.specs.Prelude.{◌≡◌, ◌++◌, length, map, IfOk, OnOk};
 ghost use Rattle.std.specs.List.{list_any};

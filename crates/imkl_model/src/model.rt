@@ -1,4 +1,4 @@
-//! A class model, and what is asked of it.
+//! A class model and its look-ups.
 
 ghost use Rattle.std.specs.Prelude.{◌≡◌, ◌<◌, [], true, length, Decides, IfOk, IfSome, slice_index_or};
 ghost use Rattle.imkl_model.specs.ClassModel.{Conforms, conforms, belongs, enumeration_at, class_at, feature_at, class_number, enumeration_number, literal_number, feature_number};

@@ -1,4 +1,4 @@
-//! Where the values at one feature stand in the list of all values.
+//! The range of one feature's values in the list of all values.
 
 ghost use Rattle.std.specs.Prelude.{◌≡◌, ℕ, ◌+◌, ◌<◌, [], map, slice_index_or, All};
 ghost use Rattle.std.specs.List.Sorted.{IsStrictlySortedBy};

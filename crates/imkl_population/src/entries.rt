@@ -1,4 +1,4 @@
-//! Where the values of each object stand in a list, for the objects that have some.
+//! Ranges of each object's values in a list, for the objects that have some.
 
 ghost use Rattle.std.specs.Prelude.{◌≡◌, ◌<◌, ◌≤◌, ◌==◌, true, Some, None, length, find, All, OnOk, OnErr};
 ghost use Rattle.std.specs.List.Sorted.{IsStrictlySortedBy};

@@ -1,4 +1,4 @@
-//! Where in a column an object's entry is guessed to stand, without a search.
+//! A first guess at an object's entry in a column, without a search.
 
 use crate::entries::Entry;
 use std::alloc::{AllocError, Global};

@@ -1,4 +1,4 @@
-//! Values that stand twice.
+//! Repeated values.
 
 ghost use Rattle.std.specs.Prelude.{◌≡◌, ◌||◌, true, false, not, IfOk, OnOk};
 ghost use Rattle.imkl_population.specs.declared.scalar.Scalar.{Scalar};

@@ -1,5 +1,5 @@
-//! Rows of calls on a builder: `CALL: ANSWER`, where the answer is `done` or a fault as it is shown. After the line `values` or
-//! `classes` the builder is finished, and the rest is what is shown of the population, or the fault.
+//! Rows of calls on a builder: `CALL: RESULT`, where the result is `done` or a fault as it is shown. After the line
+//! `values` or `classes` the builder is finished, and the rest is what is shown of the population, or the fault.
 
 ghost use Rattle.std.specs.Prelude.{◌<◌, length, IfSome};
 

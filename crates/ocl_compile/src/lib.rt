@@ -1,5 +1,5 @@
-//! Compiles rules: from core trees, whose types are checked, to a unit of code. What they mean is
-//! defined beside it, and `laws` join the two.
+//! Compiles rules: from core trees, whose types are checked, to a unit of code. Their meaning is defined beside it, and
+//! `laws` relate the two.
 #![tactic(auto)]
 
 mod compiling;

@@ -1,4 +1,4 @@
-//! Core trees: what a rule's expression stands for, with names resolved and everything written out.
+//! Core trees: what a rule's expression means, with names resolved and everything written out.
 
 use crate::operator::Operator;
 use imkl_model::{ClassNo, CollectionKind, EnumNo, FeatureNo, LiteralNo};

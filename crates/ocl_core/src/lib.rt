@@ -1,4 +1,4 @@
-//! Core trees: what the expressions of rules stand for, with names resolved, and when they are typed.
+//! Core trees: what the expressions of rules mean, with names resolved, and when they are typed.
 #![tactic(auto)]
 
 mod core_tree;

@@ -1,4 +1,4 @@
-//! What `ocl_check` answers, of inputs that were read already.
+//! The results of `ocl_check` for inputs that were read already.
 
 ghost use Rattle.std.specs.Prelude.{◌≡◌, ◌||◌, false};
 ghost use Rattle.ocl_check.specs.Answers.{IsAnswered, IsAnsweredBy, KeepsSink, KeepsUnread, fails_write};

@@ -1,4 +1,4 @@
-//! What `judge` answers, as JSON lines.
+//! The report of `judge` as JSON lines.
 
 ghost use Rattle.std.specs.Prelude.{◌≡◌, [], Some, false};
 ghost use Rattle.ocl_check.specs.Answers.{IsAnswered, IsAnsweredBy, KeepsSink, fails_write};

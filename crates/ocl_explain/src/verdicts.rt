@@ -1,4 +1,4 @@
-//! What is told of a rule and an object: the explanation of the verdict, or that there is none.
+//! The explanation of the verdict of a rule for an object, or that there is none.
 
 ghost use Rattle.std.specs.Prelude.{◌≡◌, ◌<◌, List, Ok, length, map, IfOk, IfSome};
 ghost use Rattle.std.specs.List.{AllByRecursion};

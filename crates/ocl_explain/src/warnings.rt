@@ -1,4 +1,4 @@
-//! Warnings of rule texts that are answered: what is right, and hardly meant. Nothing where there are none.
+//! Warnings about rule texts that are accepted but hardly meant. Nothing is written where there are none.
 
 use explain_notes::{Input, Note};
 use explain_types::warn_of_rule;

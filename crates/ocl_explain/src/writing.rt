@@ -1,4 +1,4 @@
-//! Writing an answer that was put together whole.
+//! Writing a text that was put together whole.
 
 ghost use Rattle.std.specs.Prelude.{◌≡◌, false};
 ghost use Rattle.ocl_check.specs.Answers.{IsAnswered, KeepsSink, fails_write};

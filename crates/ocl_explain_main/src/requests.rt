@@ -1,4 +1,4 @@
-//! What is asked, answered over files: every input is read before the first is looked at.
+//! The commands over files: every input is read before the first is looked at.
 
 use crate::command_line::ListFiles;
 use crate::files::{read_file, report_write};

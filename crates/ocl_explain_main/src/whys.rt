@@ -1,4 +1,4 @@
-//! Why a rule has its verdict for an object, answered over files.
+//! Why a rule has its verdict for an object, over files.
 
 use crate::command_line::WhyWords;
 use crate::files::{read_file, report_write};

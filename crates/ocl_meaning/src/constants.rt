@@ -1,4 +1,4 @@
-//! Values that stand in a text.
+//! Values that are written in a text.
 
 ghost use Rattle.std.specs.Prelude.{◌≡◌};
 ghost use Rattle.ocl_core.specs.CoreView.{constant_of};

@@ -1,4 +1,4 @@
-//! What iterations give, by what their body gave for each element.
+//! The results of iterations, from the values of their body for each element.
 
 ghost use Rattle.std.specs.Prelude.{◌≡◌, length, map, IfOk};
 ghost use Rattle.ocl_compile.specs.Meaning.{iteration_value};

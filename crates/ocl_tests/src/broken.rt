@@ -1,4 +1,4 @@
-//! What `embedding` answers of a delivery of a duct and two cables, of which one is 600 deep and the other has no depth.
+//! The verdicts of `embedding` on a delivery of a duct and two cables, of which one is 600 deep and the other has no depth.
 
 use embedding::{Refusal, broken_rules};
 use std::alloc::Global;

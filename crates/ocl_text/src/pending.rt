@@ -1,7 +1,7 @@
 //! Binary operators that wait for their right operands.
 //!
-//! The innermost stands last, and each binds tighter than the one before it. Where an operator follows an operand,
-//! those at the end that bind no looser get that operand.
+//! The innermost is last, and each binds tighter than the one before it. Where an operator follows an operand, those at
+//! the end that bind no looser get that operand.
 
 ghost use Rattle.std.specs.Prelude.{◌≡◌, IfOk};
 ghost use Rattle.ocl_base.specs.Steps.{Gives};

@@ -1,4 +1,4 @@
-//! What the spelling of a string stands for.
+//! The text that the spelling of a string denotes.
 
 ghost use Rattle.std.specs.Prelude.{◌≡◌, IfOk, string_bytes};
 ghost use Rattle.ocl_text.specs.Strings as spec;

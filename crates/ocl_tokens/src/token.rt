@@ -1,4 +1,4 @@
-//! Tokens, and where they stand in the text.
+//! Tokens, and their ranges in the text.
 
 ghost use Rattle.std.specs.Prelude.{◌≡◌, true};
 ghost use Rattle.ocl_tokens.specs.Written.{is_written};

@@ -1,4 +1,4 @@
-//! Bare names as they stand in the tree, and arguments that are names of classes.
+//! Bare names in the tree, and arguments that are names of classes.
 
 ghost use Rattle.std.specs.Prelude.{◌≡◌, ◌<◌, length, None, Err, IfOk, map, option_map, if◌then◌else◌};
 ghost use Rattle.imkl_model.specs.ClassModel.{class_number};

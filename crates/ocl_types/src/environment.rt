@@ -1,4 +1,4 @@
-//! Where an expression stands: what its names can mean.
+//! What the names of an expression can mean at its place.
 
 use imkl_model::{ClassModel, ClassNo};
 

@@ -1,4 +1,4 @@
-//! What elaboration gives of an expression.
+//! The result of elaborating an expression.
 
 use ocl_core::Core;
 use ocl_kinds::Kind;

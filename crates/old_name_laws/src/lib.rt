@@ -1,4 +1,4 @@
-//! Old names change nothing where present names do: laws of the definitions of all layers, up to the answers of the
+//! Old names change nothing where present names do: laws of the definitions of all layers, up to the output of the
 //! commands.
 #![tactic(auto)]
 

@@ -1,4 +1,4 @@
-//! What iterations give that keep elements, or collect what their body gave.
+//! The results of iterations that keep elements, or collect the values of their body.
 
 ghost use Rattle.std.specs.Prelude.{◌≡◌, ◌++◌, List, map, length, IfOk, OnOk};
 ghost use Rattle.std.specs.List.{list_any, filter_map};

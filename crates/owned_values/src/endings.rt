@@ -1,4 +1,4 @@
-//! What iterations give at their end, by what their body gave for each element.
+//! The results of iterations at their end, from the values of their body for each element.
 
 ghost use Rattle.std.specs.Prelude.{◌≡◌, ◌++◌, map, length, IfOk, OnOk};
 ghost use Rattle.std.specs.List.{list_all, list_any};

@@ -1,5 +1,5 @@
-//! What judging costs: bounds on the lengths of collections and on the charges of a run, and units
-//! that are admitted within a budget.
+//! The cost of judging: bounds on the lengths of collections and on the charges of a run, and units that are admitted
+//! within a budget.
 #![tactic(auto)]
 
 mod admission;

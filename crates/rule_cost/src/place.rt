@@ -1,4 +1,4 @@
-//! Where the walk over code stands, and what it found.
+//! The place of the walk over code, and what it found.
 
 use crate::cut::Cut;
 

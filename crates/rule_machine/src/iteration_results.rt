@@ -1,4 +1,4 @@
-//! What iterations give at their end, by what they kept and counted.
+//! The results of iterations at their end, from what they kept and counted.
 
 ghost use Rattle.std.specs.Prelude.{◌≡◌, ◌+◌, ◌-◌, ◌<◌, ◌^◌, ℕ, true, IsSome, if◌then◌else◌};
 ghost use Rattle.rule_slots.specs.Slots.{invalid_slot};

@@ -1,4 +1,4 @@
-//! Where a machine stands.
+//! The state of a machine.
 
 ghost use Rattle.std.specs.Prelude.{◌≡◌, ◌≤◌, ◌+◌, None, IfOk, OnOk, MatchOption};
 ghost use Rattle.rule_machine.specs.Machine.{Configuration};

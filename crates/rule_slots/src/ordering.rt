@@ -1,4 +1,4 @@
-//! Collections in order: whether their elements stand in order, and elements looked for by halving in one that does.
+//! Collections in order: whether their elements are in order, and binary search in one whose are.
 
 ghost use Rattle.std.specs.Prelude.{◌≡◌, length, true, false};
 ghost use Rattle.ocl_base.specs.Lists.{is_among};

@@ -1,6 +1,6 @@
-//! Sorted copies whose slots tell where their elements first stand. What they tell is only a hint: nothing rests on its
-//! being right, since an element that is left out is compared with the one before it that it is said to be the same as,
-//! and those that are kept are sorted again to see that they all differ.
+//! Sorted copies whose slots hold the first index of an equal element. The index is only a hint, and nothing depends on
+//! it being right: an element that is left out is compared with the earlier one that it is said to equal, and those that
+//! are kept are sorted again to see that they all differ.
 
 ghost use Rattle.std.specs.Prelude.{◌≡◌, ◌+◌, ◌≤◌, length, take, vec_capacity};
 ghost use Rattle.rule_slots.specs.Slots.{lists_in, IsInHome};

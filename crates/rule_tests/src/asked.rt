@@ -1,5 +1,5 @@
-//! From a class model, a delivery and a code file to what is asked. Of all tests this alone reads class models, and each
-//! function has one thing of its own, since proofs of functions that have several take long.
+//! From a class model, a delivery and a code file to the results that rows ask for. This file alone reads class models,
+//! and each function owns one thing, since proofs of functions that own several take long.
 
 ghost use Rattle.std.specs.Prelude.{◌≡◌};
 ghost use Rattle.imkl_population.specs.Sizes.{sizes_of};

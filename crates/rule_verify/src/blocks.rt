@@ -1,4 +1,4 @@
-//! Blocks: which instructions have bodies, what these may use and end with, and what the block gives.
+//! Blocks: which instructions have bodies, what these may use and end with, and the block's result.
 
 ghost use Rattle.std.specs.Prelude.{◌≡◌, ◌++◌, drop, OnOk};
 ghost use Rattle.rule_verify.specs.CodeTree.{block_of, shape_of};

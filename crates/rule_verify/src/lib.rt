@@ -1,4 +1,5 @@
-//! The verifier: what code names in a class model, what its instructions take and give, and which units are accepted.
+//! The verifier: what code names in a class model, which operands and results its instructions have, and which units are
+//! accepted.
 #![tactic(auto)]
 
 mod accepted;

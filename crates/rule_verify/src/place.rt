@@ -1,4 +1,4 @@
-//! Where the verifier's walk stands.
+//! The place of the verifier's walk.
 
 use crate::depths::Depths;
 use ocl_base::Stack;

@@ -1,4 +1,4 @@
-//! What instructions without a body give.
+//! The results of instructions without a body.
 
 ghost use Rattle.std.specs.Prelude.{◌≡◌, List};
 ghost use Rattle.ocl_kinds.specs.declared.kind.Kind.{Kind};

@@ -1,4 +1,4 @@
-//! What is answered of a population and rules: a code file, or a text.
+//! The reports on a population and rules: those of a code file, or of a text.
 
 ghost use Rattle.std.specs.Prelude.{◌≡◌, false, Ok};
 ghost use Rattle.imkl_population.specs.Sizes.{sizes_of};

@@ -1,4 +1,4 @@
-//! What is asked of a delivery and rules: the chain from the bytes of the inputs to the answer.
+//! The chain from the bytes of the inputs to the report on a delivery and rules.
 
 ghost use Rattle.std.specs.Prelude.{◌≡◌, ◌⊎◌, ◌||◌, true, false, Err, IfOk, OnOk};
 ghost use Rattle.std.specs.Io.KnownBytes.{IsAtEnd};

@@ -1,4 +1,4 @@
-//! What stands before the rules of a code file.
+//! The part of a code file before its rules.
 
 use crate::symbol::Symbol;
 use crate::version::Version;
