@@ -36,33 +36,50 @@ constant_value tree.Invalid = value.Invalid
 -- ---- operations, on a first operand and the others in order
 
 abbrev pub plain_value : PlainOperator → Value → List Value → Value
+plain_value plain.Add v [] = value.Invalid
 plain_value plain.Add v (w ∷ ws) = addition v w
+plain_value plain.Subtract v [] = value.Invalid
 plain_value plain.Subtract v (w ∷ ws) = subtraction v w
+plain_value plain.Multiply v [] = value.Invalid
 plain_value plain.Multiply v (w ∷ ws) = multiplication v w
+plain_value plain.Divide v [] = value.Invalid
 plain_value plain.Divide v (w ∷ ws) = division v w
+plain_value plain.Modulo v [] = value.Invalid
 plain_value plain.Modulo v (w ∷ ws) = remainder v w
+plain_value plain.Minimum v [] = value.Invalid
 plain_value plain.Minimum v (w ∷ ws) = lesser v w
+plain_value plain.Maximum v [] = value.Invalid
 plain_value plain.Maximum v (w ∷ ws) = greater v w
 plain_value plain.Negate v ws = negative v
 plain_value plain.Absolute v ws = absolute v
+plain_value plain.Less v [] = value.Invalid
 plain_value plain.Less v (w ∷ ws) = less_than v w
+plain_value plain.LessEqual v [] = value.Invalid
 plain_value plain.LessEqual v (w ∷ ws) = at_most v w
+plain_value plain.Greater v [] = value.Invalid
 plain_value plain.Greater v (w ∷ ws) = less_than w v
+plain_value plain.GreaterEqual v [] = value.Invalid
 plain_value plain.GreaterEqual v (w ∷ ws) = at_most w v
 plain_value plain.CharacterCount v ws = text_length v
+plain_value plain.Substring v [] = value.Invalid
+plain_value plain.Substring v (lower ∷ []) = value.Invalid
 plain_value plain.Substring v (lower ∷ upper ∷ ws) = substring v lower upper
 plain_value plain.Not v ws = negation v
+plain_value plain.And v [] = value.Invalid
 plain_value plain.And v (w ∷ ws) = conjunction v w
+plain_value plain.Or v [] = value.Invalid
 plain_value plain.Or v (w ∷ ws) = disjunction v w
+plain_value plain.Xor v [] = value.Invalid
 plain_value plain.Xor v (w ∷ ws) = exclusive_disjunction v w
+plain_value plain.Implies v [] = value.Invalid
 plain_value plain.Implies v (w ∷ ws) = implication v w
 plain_value plain.IsUndefined v ws = undefined_test v
 plain_value plain.IsInvalid v ws = invalid_test v
+plain_value plain.BothNull v [] = value.Invalid
 plain_value plain.BothNull v (w ∷ ws) = both_null v w
 plain_value plain.ElementCount v ws = collection_size v
 plain_value plain.IsEmpty v ws = emptiness v
 plain_value plain.Sum v ws = summation v
-plain_value operator v ws = value.Invalid
 
 abbrev pub class_value : Population → ClassOperator → ℕ → Value → Value
 class_value p of_class.IsKindOf c v = kind_test p c v
@@ -70,12 +87,15 @@ class_value p of_class.IsTypeOf c v = type_test p c v
 class_value p of_class.AsType c v = cast p c v
 
 abbrev pub element_operation : ElementOperator → Value → List Value → Value
+element_operation of_elements.Includes v [] = value.Invalid
 element_operation of_elements.Includes v (w ∷ ws) = membership v w
+element_operation of_elements.Occurrences v [] = value.Invalid
 element_operation of_elements.Occurrences v (w ∷ ws) = occurrence_count v w
+element_operation of_elements.IncludesAll v [] = value.Invalid
 element_operation of_elements.IncludesAll v (w ∷ ws) = inclusion v w
+element_operation of_elements.ExcludesAll v [] = value.Invalid
 element_operation of_elements.ExcludesAll v (w ∷ ws) = exclusion v w
 element_operation of_elements.AsSet v ws = as_set v
-element_operation operator v ws = value.Invalid
 
 abbrev pub equality_value : Value → List Value → Value
 equality_value v (w ∷ ws) = equality v w

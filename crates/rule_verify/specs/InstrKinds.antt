@@ -109,6 +109,17 @@ kind_meant s (kinds.Collection c k) = Collection c (scalar_meant s k)
 
 -- the operands that an instruction without a body takes, the topmost first, where they depend on none of its fields
 abbrev pub fixed_operands : Instr → List Pattern
+fixed_operands instrs.SelfObject = []
+fixed_operands (instrs.Get n) = []
+fixed_operands (instrs.Int n) = []
+fixed_operands (instrs.Bool b) = []
+fixed_operands (instrs.Text t) = []
+fixed_operands (instrs.Enum l) = []
+fixed_operands instrs.Null = []
+fixed_operands instrs.Invalid = []
+fixed_operands (instrs.Attr a) = []
+fixed_operands (instrs.All c) = []
+fixed_operands (instrs.AsColl c k) = []
 fixed_operands (instrs.KindOf c) = an_object ∷ []
 fixed_operands (instrs.TypeOf c) = an_object ∷ []
 fixed_operands (instrs.AsType c) = an_object ∷ []
@@ -130,6 +141,7 @@ fixed_operands instrs.And = a_boolean ∷ a_boolean ∷ []
 fixed_operands instrs.Or = a_boolean ∷ a_boolean ∷ []
 fixed_operands instrs.Xor = a_boolean ∷ a_boolean ∷ []
 fixed_operands instrs.Implies = a_boolean ∷ a_boolean ∷ []
+fixed_operands (instrs.Eq k) = []
 fixed_operands instrs.Eqx = Anything ∷ Anything ∷ []
 fixed_operands instrs.Undef = Anything ∷ []
 fixed_operands instrs.IsInv = Anything ∷ []
@@ -137,8 +149,23 @@ fixed_operands instrs.TLen = a_string ∷ []
 fixed_operands instrs.SubStr = an_integer ∷ an_integer ∷ a_string ∷ []
 fixed_operands instrs.Size = AnyCollection ∷ []
 fixed_operands instrs.IsEmpty = AnyCollection ∷ []
+fixed_operands (instrs.Includes k) = []
+fixed_operands (instrs.Count k) = []
+fixed_operands (instrs.IncAll k) = []
+fixed_operands (instrs.ExcAll k) = []
 fixed_operands instrs.Sum = CollectionOf element.Integer ∷ []
-fixed_operands i = []
+fixed_operands (instrs.AsSet k) = []
+fixed_operands (instrs.Let n) = []
+fixed_operands (instrs.If k n m) = []
+fixed_operands (instrs.ForAll n) = []
+fixed_operands (instrs.Exists n) = []
+fixed_operands (instrs.One n) = []
+fixed_operands (instrs.Select n) = []
+fixed_operands (instrs.Reject n) = []
+fixed_operands (instrs.Collect n) = []
+fixed_operands (instrs.CollectFlat n) = []
+fixed_operands (instrs.IsUnique k n) = []
+fixed_operands (instrs.Fold k n) = []
 
 -- the operands that a block takes, the topmost first; where the instruction is none, these others
 abbrev pub block_takes : Surroundings → Option BlockInstr → List Pattern → List Pattern
@@ -186,11 +213,20 @@ or_void (Some k) = k
 
 -- what an instruction without a body gives, where it depends on nothing else
 abbrev pub fixed_result : Instr → Kind
+fixed_result instrs.SelfObject = Scalar element.Void
+fixed_result (instrs.Get n) = Scalar element.Void
 fixed_result (instrs.Int n) = Scalar element.Integer
 fixed_result (instrs.Bool b) = Scalar element.Boolean
 fixed_result (instrs.Text t) = Scalar element.String
+fixed_result (instrs.Enum l) = Scalar element.Void
+fixed_result instrs.Null = Scalar element.Void
+fixed_result instrs.Invalid = Scalar element.Void
+fixed_result (instrs.Attr a) = Scalar element.Void
+fixed_result (instrs.All c) = Scalar element.Void
+fixed_result (instrs.AsColl c k) = Scalar element.Void
 fixed_result (instrs.KindOf c) = Scalar element.Boolean
 fixed_result (instrs.TypeOf c) = Scalar element.Boolean
+fixed_result (instrs.AsType c) = Scalar element.Void
 fixed_result instrs.Add = Scalar element.Integer
 fixed_result instrs.Sub = Scalar element.Integer
 fixed_result instrs.Mul = Scalar element.Integer
@@ -222,7 +258,18 @@ fixed_result (instrs.Count k) = Scalar element.Integer
 fixed_result (instrs.IncAll k) = Scalar element.Boolean
 fixed_result (instrs.ExcAll k) = Scalar element.Boolean
 fixed_result instrs.Sum = Scalar element.Integer
-fixed_result i = Scalar element.Void
+fixed_result (instrs.AsSet k) = Scalar element.Void
+fixed_result (instrs.Let n) = Scalar element.Void
+fixed_result (instrs.If k n m) = Scalar element.Void
+fixed_result (instrs.ForAll n) = Scalar element.Void
+fixed_result (instrs.Exists n) = Scalar element.Void
+fixed_result (instrs.One n) = Scalar element.Void
+fixed_result (instrs.Select n) = Scalar element.Void
+fixed_result (instrs.Reject n) = Scalar element.Void
+fixed_result (instrs.Collect n) = Scalar element.Void
+fixed_result (instrs.CollectFlat n) = Scalar element.Void
+fixed_result (instrs.IsUnique k n) = Scalar element.Void
+fixed_result (instrs.Fold k n) = Scalar element.Void
 
 -- what an instruction without a body gives, by the variables and by the operands before it
 abbrev pub result_kind : Surroundings → List Kind → Instr → List Kind → Kind
