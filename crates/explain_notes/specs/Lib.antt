@@ -1,2 +1,3 @@
 -- Definitions: what contracts mean.
 pub mod Places
+pub mod Showing

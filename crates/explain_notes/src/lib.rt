@@ -11,4 +11,4 @@ pub use input::Input;
 pub use nearest::Nearest;
 pub use note::{Note, write_marked};
 pub use place::{Place, place_of};
-pub use showing::{quote, visible_text};
+pub use showing::{push_shown, quote, steers, visible_text};

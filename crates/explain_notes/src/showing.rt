@@ -1,42 +1,81 @@
 //! Bytes of an input as a terminal can show them.
 
+ghost use Rattle.std.specs.Prelude.{◌≡◌, ◌++◌, OnOk, string_bytes, encode_utf8};
+ghost use Rattle.explain_notes.specs.Showing.{steers, hexadecimal_digit, escape_of, shown_character};
+
 use std::alloc::{AllocError, Global};
 
 /// The longest value that is quoted whole, in characters.
 const MAX_QUOTED: usize = 60;
 
-/// What stands for a character: a space for a tab, a question mark for what a terminal would obey.
-fn harmless(character: char) -> char {
-    match character {
-        '\t' => ' ',
-        // (these turn the direction of what follows)
-        '\u{202a}'..='\u{202e}' | '\u{2066}'..='\u{2069}' => '?',
-        _ if character.is_control() => '?',
-        _ => character,
-    }
+/// Whether a character moves a terminal's cursor, colours its text, or turns the direction of what follows.
+pub fn steers(character: char) -> bool
+    ensures { result ≡ steers character }
+{
+    let code = u32::from(character);
+    code < 32
+        || (127 <= code && code < 160)
+        || code == 1564
+        || (8206 <= code && code <= 8207)
+        || (8232 <= code && code <= 8238)
+        || (8294 <= code && code <= 8297)
 }
 
-/// A part of a line as it is shown, character by character. Where it isn't UTF-8, every byte that isn't ASCII is a
-/// question mark.
+/// Writes a hexadecimal digit: the last one of a number.
+fn push_digit(out: &mut String, number: u32) -> Result<(), AllocError>
+    ensures { OnOk result (string_bytes out.new ≡ string_bytes out.old ++
+        encode_utf8 (hexadecimal_digit number)) }
+{
+    out.push(char::from(b"0123456789abcdef"[number as usize % 16]))
+}
+
+/// Writes `\u{..}` with the number of a character in four hexadecimal digits.
+fn push_escape(out: &mut String, character: char) -> Result<(), AllocError>
+    ensures { OnOk result (string_bytes out.new ≡ string_bytes out.old ++ escape_of character) }
+{
+    let number = u32::from(character);
+    out.push_str("\\u{")?;
+    push_digit(out, number / 4096)?;
+    push_digit(out, number / 256)?;
+    push_digit(out, number / 16)?;
+    push_digit(out, number)?;
+    out.push_str("}")
+}
+
+/// Writes a character, or its escape where it would steer a terminal.
+pub fn push_shown(out: &mut String, character: char) -> Result<(), AllocError>
+    ensures { OnOk result (string_bytes out.new ≡ string_bytes out.old ++
+        shown_character character) }
+{
+    if steers(character) {
+        return push_escape(out, character);
+    }
+    out.push(character)
+}
+
+/// A part of a line as it is shown, character by character: a tab as a space, and what would steer a terminal as an
+/// escape. Where it isn't UTF-8, every byte that isn't ASCII is a question mark.
 pub fn visible_text(alloc: Global, bytes: &[u8]) -> Result<String, AllocError> {
     let mut out = String::new(alloc);
     match str::from_utf8(bytes) {
         Ok(text) => {
             for character in text.chars() {
-                out.push(harmless(character))?;
+                push_in_line(&mut out, character)?;
             }
         }
         Err(_) => {
             for byte in bytes {
-                out.push(if byte.is_ascii() {
-                    harmless(char::from(*byte))
-                } else {
-                    '?'
-                })?;
+                let shown = if byte.is_ascii() { char::from(*byte) } else { '?' };
+                push_in_line(&mut out, shown)?;
             }
         }
     }
     Ok(out)
+}
+
+/// Writes a character of a line: a tab as a space.
+fn push_in_line(out: &mut String, character: char) -> Result<(), AllocError> {
+    push_shown(out, if character == '\t' { ' ' } else { character })
 }
 
 /// A text as it is quoted in a message: what `visible_text` shows of it, cut after 60 characters.
@@ -49,7 +88,7 @@ pub fn quote(alloc: Global, text: &str) -> Result<String, AllocError> {
             return Ok(out);
         }
         left -= 1;
-        out.push(harmless(character))?;
+        push_in_line(&mut out, character)?;
     }
     Ok(out)
 }
