@@ -19,6 +19,9 @@ fn scalar_words<'m>(model: &'m ClassModel, kind: &ScalarKind) -> &'m str {
     }
 }
 
+/// The most kinds of a list that are written.
+const MAX_KINDS: usize = 8;
+
 /// Writes a kind, as `Set(KabelOfLeiding)`.
 fn write_kind(out: &mut String, model: &ClassModel, kind: &Kind) -> Result<(), AllocError> {
     match kind {
@@ -48,10 +51,15 @@ fn write_pattern(
     }
 }
 
-/// Kinds one after another, as `Integer, Set(KabelOfLeiding)`.
+/// The last eight kinds of a list one after another, as `Integer, Set(KabelOfLeiding)`; where there are more, how many are
+/// before them.
 pub fn kind_list(alloc: Global, model: &ClassModel, kinds: &[Kind]) -> Result<String, AllocError> {
     let mut out = String::new(alloc);
-    for kind in kinds {
+    let more = kinds.len().saturating_sub(MAX_KINDS);
+    if more > 0 {
+        write!(out, "{more} more")?;
+    }
+    for kind in kinds.iter().skip(more) {
         if !out.is_empty() {
             out.push_str(", ")?;
         }

@@ -9,6 +9,7 @@ mod json_notes;
 mod model_faults;
 mod models;
 mod objects;
+mod old_names;
 mod report;
 mod shapes;
 mod values;

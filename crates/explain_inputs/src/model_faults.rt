@@ -1,6 +1,7 @@
 //! The faults of a class model that has the shape of one.
 
 use crate::drafts::{Draft, DraftClass, draft_of, items, text, texts};
+use crate::old_names::{absent_name, clashing_name, taken_name};
 use explain_notes::{Nearest, quote};
 use imkl_model::ModelFault;
 use serde_json::Value;
@@ -8,7 +9,7 @@ use std::alloc::{AllocError, Global};
 use std::collections::BTreeMap;
 
 /// What is wrong, in words, if this is.
-type Flaw = Option<String>;
+pub(crate) type Flaw = Option<String>;
 
 /// The first name that stands twice in a list.
 fn first_repeat<'v>(alloc: Global, names: &[&'v str]) -> Result<Option<&'v str>, AllocError> {
@@ -38,6 +39,11 @@ fn is_basic(name: &str) -> bool {
     matches!(name, "Boolean" | "Integer" | "String")
 }
 
+/// Whether OCL has a type or a kind of collections of this name.
+pub(crate) fn is_predefined(name: &str) -> bool {
+    is_basic(name) || matches!(name, "Set" | "OrderedSet" | "Bag" | "Sequence")
+}
+
 /// The names of some values.
 fn names_of<'v>(alloc: Global, values: &'v [Value]) -> Result<Vec<&'v str>, AllocError> {
     let mut names = Vec::new(alloc);
@@ -59,8 +65,7 @@ fn type_names(alloc: Global, document: &Value) -> Result<Vec<&str>, AllocError> 
 /// A class or an enumeration that has the name of a type which is always there, or of a kind of collections.
 fn predefined_flaw(alloc: Global, names: &[&str]) -> Result<Flaw, AllocError> {
     for name in names {
-        let is_taken = is_basic(name) || matches!(*name, "Set" | "OrderedSet" | "Bag" | "Sequence");
-        if is_taken {
+        if is_predefined(name) {
             return Ok(Some(format!(in alloc;
                 "no class or enumeration may be named `{name}`, which OCL has"
             )?));
@@ -112,6 +117,10 @@ fn duplicate_flaw(alloc: Global, document: &Value, draft: &Draft<'_>) -> Result<
     if flaw.is_some() {
         return Ok(flaw);
     }
+    let flaw = taken_name(alloc, document, &names)?;
+    if flaw.is_some() {
+        return Ok(flaw);
+    }
     let associations = names_of(alloc, items(document, "associations"))?;
     let flaw = repeat_flaw(alloc, &associations, "the association")?;
     if flaw.is_some() {
@@ -125,7 +134,7 @@ fn duplicate_flaw(alloc: Global, document: &Value, draft: &Draft<'_>) -> Result<
 }
 
 /// What is said of a name that isn't among others.
-fn absent_flaw<'n>(
+pub(crate) fn absent_flaw<'n>(
     alloc: Global,
     name: &'n str,
     names: &[&'n str],
@@ -183,7 +192,11 @@ fn unknown_flaw<'n>(
             }
         }
     }
-    unknown_in_features(alloc, draft, &classes, &types)
+    let flaw = unknown_in_features(alloc, draft, &classes, &types)?;
+    if flaw.is_some() {
+        return Ok(flaw);
+    }
+    absent_name(alloc, document, draft, &classes)
 }
 
 /// A class, by its name.
@@ -193,7 +206,7 @@ fn class_of<'c, 'v>(draft: &'c Draft<'v>, name: &str) -> Option<&'c DraftClass<'
 
 /// The classes that are reached from one by superclass steps, without itself unless a step leads back to it; each with
 /// the class before it on the way.
-fn above_of<'v>(
+pub(crate) fn above_of<'v>(
     alloc: Global,
     draft: &Draft<'v>,
     start: &'v str,
@@ -272,14 +285,14 @@ fn clash_of(alloc: Global, draft: &Draft<'_>, class: &DraftClass<'_>) -> Result<
     Ok(None)
 }
 
-fn clash_flaw(alloc: Global, draft: &Draft<'_>) -> Result<Flaw, AllocError> {
+fn clash_flaw(alloc: Global, document: &Value, draft: &Draft<'_>) -> Result<Flaw, AllocError> {
     for class in &draft.classes {
         let flaw = clash_of(alloc, draft, class)?;
         if flaw.is_some() {
             return Ok(flaw);
         }
     }
-    Ok(None)
+    clashing_name(alloc, document, draft)
 }
 
 /// A multiplicity that nothing meets.
@@ -308,7 +321,7 @@ pub(crate) fn model_fault_words(
         ModelFault::DuplicateName => duplicate_flaw(alloc, document, &draft),
         ModelFault::UnknownName => unknown_flaw(alloc, document, &draft),
         ModelFault::Cycle => cycle_flaw(alloc, &draft),
-        ModelFault::FeatureClash => clash_flaw(alloc, &draft),
+        ModelFault::FeatureClash => clash_flaw(alloc, document, &draft),
         ModelFault::BadMultiplicity => multiplicity_flaw(alloc, &draft),
         _ => Ok(None),
     }

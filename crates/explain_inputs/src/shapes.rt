@@ -26,6 +26,43 @@ struct Member {
     is: Is,
 }
 
+/// A list that a class model may have.
+const RENAMES: &str = "renames";
+
+/// What may be left out of an object.
+static OPTIONAL: [Member; 1] = [Member {
+    name: RENAMES,
+    is: Is::List,
+}];
+
+static NONE_OPTIONAL: [Member; 0] = [];
+
+static CLASS_RENAME: [Member; 2] = [
+    Member {
+        name: "old",
+        is: Is::Name,
+    },
+    Member {
+        name: "new",
+        is: Is::Name,
+    },
+];
+
+static FEATURE_RENAME: [Member; 3] = [
+    Member {
+        name: "class",
+        is: Is::Name,
+    },
+    Member {
+        name: "old",
+        is: Is::Name,
+    },
+    Member {
+        name: "new",
+        is: Is::Name,
+    },
+];
+
 static DELIVERY: [Member; 2] = [
     Member {
         name: "model",
@@ -244,31 +281,72 @@ fn record_flaw(
     value: &Value,
     members: &[Member],
 ) -> Result<Flaw, AllocError> {
+    object_flaw(alloc, what, value, members, &NONE_OPTIONAL)
+}
+
+/// What is wrong with a member of an object, where it isn't what is wanted.
+fn member_flaw(
+    alloc: Global,
+    what: &str,
+    member: &Member,
+    value: &Value,
+) -> Result<Flaw, AllocError> {
+    if member.is.holds(value) {
+        return Ok(None);
+    }
+    let (name, wanted) = (member.name, member.is.words());
+    Ok(Some(format!(in alloc; "the member `{name}` of {what} is not {wanted}")?))
+}
+
+/// What is wrong with a value that should be an object of these members, and may have those that are optional.
+fn object_flaw(
+    alloc: Global,
+    what: &str,
+    value: &Value,
+    members: &[Member],
+    optional: &[Member],
+) -> Result<Flaw, AllocError> {
     let Some(map) = value.as_object() else {
         return Ok(Some(format!(in alloc; "{what} is no JSON object")?));
     };
     for member in members {
         let name = member.name;
-        match map.get(name) {
-            None => return Ok(Some(format!(in alloc; "{what} has no member `{name}`")?)),
-            Some(value) if !member.is.holds(value) => {
-                let wanted = member.is.words();
-                return Ok(Some(format!(in alloc;
-                    "the member `{name}` of {what} is not {wanted}"
-                )?));
-            }
-            Some(_) => (),
+        let Some(value) = map.get(name) else {
+            return Ok(Some(format!(in alloc; "{what} has no member `{name}`")?));
+        };
+        let flaw = member_flaw(alloc, what, member, value)?;
+        if flaw.is_some() {
+            return Ok(flaw);
         }
     }
-    for (name, _) in map {
-        if !members.iter().any(|member| member.name == name.as_str()) {
-            let name = quote(alloc, name.as_str())?;
-            return Ok(Some(format!(in alloc;
-                "{what} has a member `{name}`, which it can't have"
-            )?));
+    for (name, value) in map {
+        let flaw = other_flaw(alloc, what, name.as_str(), value, members, optional)?;
+        if flaw.is_some() {
+            return Ok(flaw);
         }
     }
     Ok(None)
+}
+
+/// What is wrong with a member that is none of those which must be there.
+fn other_flaw(
+    alloc: Global,
+    what: &str,
+    name: &str,
+    value: &Value,
+    members: &[Member],
+    optional: &[Member],
+) -> Result<Flaw, AllocError> {
+    if members.iter().any(|member| member.name == name) {
+        return Ok(None);
+    }
+    for member in optional {
+        if member.name == name {
+            return member_flaw(alloc, what, member, value);
+        }
+    }
+    let name = quote(alloc, name)?;
+    Ok(Some(format!(in alloc; "{what} has a member `{name}`, which it can't have")?))
 }
 
 /// What a value is called: what sort it is of, its place among the others, and its name, if it has one.
@@ -380,7 +458,7 @@ pub(crate) fn delivery_shape(
 /// What is wrong with the shape of a class model.
 fn model_flaw(alloc: Global, document: &Value) -> Result<Flaw, AllocError> {
     let (classes, associations) = (document.get("classes"), document.get("associations"));
-    let flaw = record_flaw(alloc, "the class model", document, &MODEL)?;
+    let flaw = object_flaw(alloc, "the class model", document, &MODEL, &OPTIONAL)?;
     if flaw.is_some() {
         return Ok(flaw);
     }
@@ -402,7 +480,31 @@ fn model_flaw(alloc: Global, document: &Value) -> Result<Flaw, AllocError> {
     if flaw.is_some() {
         return Ok(flaw);
     }
-    inner_flaw(alloc, classes, associations)
+    let flaw = inner_flaw(alloc, classes, associations)?;
+    if flaw.is_some() {
+        return Ok(flaw);
+    }
+    renames_flaw(alloc, document.get(RENAMES))
+}
+
+/// What is wrong with the first entry of `renames` that isn't one: of a feature where it has a member `class`, else of a
+/// class.
+fn renames_flaw(alloc: Global, renames: Option<&Value>) -> Result<Flaw, AllocError> {
+    let Some(entries) = renames.and_then(Value::as_array) else {
+        return Ok(None);
+    };
+    for (index, entry) in entries.iter().enumerate() {
+        let title = format!(in alloc; "entry {index} of `{RENAMES}`")?;
+        let flaw = if entry.get("class").is_some() {
+            record_flaw(alloc, title.as_str(), entry, &FEATURE_RENAME)?
+        } else {
+            record_flaw(alloc, title.as_str(), entry, &CLASS_RENAME)?
+        };
+        if flaw.is_some() {
+            return Ok(flaw);
+        }
+    }
+    Ok(None)
 }
 
 /// Writes what is wrong with the shape of a class model.

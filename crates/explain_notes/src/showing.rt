@@ -65,7 +65,11 @@ pub fn visible_text(alloc: Global, bytes: &[u8]) -> Result<String, AllocError> {
         }
         Err(_) => {
             for byte in bytes {
-                let shown = if byte.is_ascii() { char::from(*byte) } else { '?' };
+                let shown = if byte.is_ascii() {
+                    char::from(*byte)
+                } else {
+                    '?'
+                };
                 push_in_line(&mut out, shown)?;
             }
         }

@@ -6,20 +6,39 @@ use crate::scope::{Scope, Unequal};
 use crate::type_names::a_type;
 use explain_notes::{Input, Note};
 use explain_text::length_of_token;
-use imkl_model::{ClassModel, ClassNo};
+use imkl_model::{ClassModel, ClassNo, EnumNo};
+use model_names::{enumeration_name, literal_name};
 use ocl_kinds::{Kind, ScalarKind};
 use ocl_text::SurfaceRule;
 use ocl_types::TypeFlaw;
 use std::alloc::{AllocError, Global};
 
-/// How what was meant by a comparison with a literal's name is written.
-fn equality_advice(left: &Kind, right: &Kind) -> &'static str {
-    match (left, right) {
-        (Kind::Scalar(ScalarKind::Enumeration(_)), Kind::Scalar(ScalarKind::String)) => {
-            "a literal of an enumeration is written without quotes, as `Thema::water`"
-        }
-        _ => "",
-    }
+/// How what was meant by a comparison with a literal's name is written, by the first literal of the enumeration.
+fn equality_advice(
+    alloc: Global,
+    model: &ClassModel,
+    left: &Kind,
+    right: &Kind,
+) -> Result<String, AllocError> {
+    let enumeration = match (left, right) {
+        (Kind::Scalar(ScalarKind::Enumeration(it)), Kind::Scalar(ScalarKind::String)) => *it,
+        (Kind::Scalar(ScalarKind::String), Kind::Scalar(ScalarKind::Enumeration(it))) => *it,
+        _ => return Ok(String::new(alloc)),
+    };
+    literal_advice(alloc, model, enumeration)
+}
+
+/// How a literal of an enumeration is written, by its first one.
+fn literal_advice(
+    alloc: Global,
+    model: &ClassModel,
+    enumeration: EnumNo,
+) -> Result<String, AllocError> {
+    let name = enumeration_name(model, enumeration);
+    let literal = literal_name(model, enumeration, 0);
+    format!(in alloc;
+        "a literal of an enumeration is written without quotes, as `{name}::{literal}`"
+    )
 }
 
 /// Writes a warning of a comparison that is true only where both values are null.
@@ -33,6 +52,7 @@ fn write_unequal(
     let left = a_type(alloc, model, &unequal.left)?;
     let right = a_type(alloc, model, &unequal.right)?;
     let label = format!(in alloc; "{left} on its left, {right} on its right")?;
+    let help = equality_advice(alloc, model, &unequal.left, &unequal.right)?;
     let note = Note {
         input,
         offset: unequal.offset,
@@ -40,7 +60,7 @@ fn write_unequal(
         message: "these are equal only where both are null",
         fault: "warning",
         label: label.as_str(),
-        help: equality_advice(&unequal.left, &unequal.right),
+        help: help.as_str(),
     };
     note.write(alloc, out)
 }

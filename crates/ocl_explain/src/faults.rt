@@ -9,10 +9,10 @@ use ocl_tokens::{TextFault, TextFlaw, Token, TokenKind, tokens};
 use ocl_types::{RulesFault, check_rules};
 use std::alloc::{AllocError, Global};
 
-/// The most faults of a text that are said.
+/// The most faults of a text that are written.
 const MAX_FAULTS: usize = 20;
 
-/// What is looked for in a text, and how many faults were said already.
+/// What is looked for in a text, and how many faults were written already.
 #[derive(Drop)]
 struct Search<'s> {
     input: Input<'s>,
@@ -21,10 +21,28 @@ struct Search<'s> {
 }
 
 impl Search<'_> {
-    /// Whether one more fault is said.
+    /// Whether as many faults were written as are.
+    fn is_full(&self) -> bool {
+        self.said >= MAX_FAULTS
+    }
+
+    /// Whether one more fault is written.
     fn says_one_more(&mut self) -> bool {
         self.said = self.said.saturating_add(1);
         self.said <= MAX_FAULTS
+    }
+
+    /// Whether a part of the text has no fault, read by itself.
+    fn is_right(&self, alloc: Global, part: &str) -> Result<bool, AllocError> {
+        match parse_rules(alloc, part) {
+            Ok(rules) => match check_rules(alloc, self.model, &rules) {
+                Ok(_) => Ok(true),
+                Err(RulesFault::At { .. }) => Ok(false),
+                Err(RulesFault::OutOfMemory) => Err(AllocError),
+            },
+            Err(TextFault::At { .. }) => Ok(false),
+            Err(TextFault::OutOfMemory) => Err(AllocError),
+        }
     }
 
     /// Writes the first fault of the types of each of these rules.
@@ -35,6 +53,9 @@ impl Search<'_> {
         rules: &[SurfaceRule],
     ) -> Result<(), AllocError> {
         for index in 0..rules.len() {
+            if self.is_full() {
+                return Ok(());
+            }
             let one = rules.get(index..index.saturating_add(1)).unwrap_or(&[]);
             match check_rules(alloc, self.model, one) {
                 Ok(_) => (),
@@ -78,17 +99,21 @@ impl Search<'_> {
     }
 }
 
-/// A part of a text, with white space in place of what is before it.
+/// A part of a text.
+fn part_of(text: &str, start: usize, end: usize) -> &str {
+    match text.as_bytes().get(start..end) {
+        Some(own) => str::from_utf8(own).unwrap_or(""),
+        None => "",
+    }
+}
+
+/// A part of a text, with white space in place of what is before it, so that its faults are found at their places.
 fn part_alone(alloc: Global, text: &str, start: usize, end: usize) -> Result<String, AllocError> {
     let mut part = String::new(alloc);
     for byte in text.as_bytes().iter().take(start) {
         part.push(if *byte == b'\n' { '\n' } else { ' ' })?;
     }
-    if let Some(own) = text.as_bytes().get(start..end)
-        && let Ok(own) = str::from_utf8(own)
-    {
-        part.push_str(own)?;
-    }
+    part.push_str(part_of(text, start, end))?;
     Ok(part)
 }
 
@@ -117,8 +142,14 @@ fn explain_parts(
             Some(next) => *next,
             None => text.len(),
         };
-        let part = part_alone(alloc, text, *start, end)?;
-        search.explain_part(alloc, out, part.as_str())?;
+        if search.is_full() {
+            return Ok(());
+        }
+        // (what is before a part is put before it only where it has a fault, so all parts are read in linear time)
+        if !search.is_right(alloc, part_of(text, *start, end))? {
+            let part = part_alone(alloc, text, *start, end)?;
+            search.explain_part(alloc, out, part.as_str())?;
+        }
     }
     Ok(())
 }

@@ -16,8 +16,8 @@ docs/explain.md shows what is said.";
 /// The end of the help of `list`.
 const LIST: &str = "\
 Prints for each rule its name, its context class and its instructions, one in a line, each with the
-byte at which it begins. With a class model the kinds of the operands on the stack stand beside each
-instruction, and it is said why the code isn't accepted, if it isn't. For instance
+byte at which it begins. With a class model the kinds of the eight topmost operands on the stack stand
+beside each instruction, and it is said why the code isn't accepted, if it isn't. For instance
   ocl_explain list examples/min-depth.code examples/catalogue.json
 
 Status 0: printed. 2: the file or the class model is refused, or the code isn't accepted. 3: memory,
@@ -108,6 +108,7 @@ fn why<'a>(alloc: Global) -> Result<Command<'a>, AllocError> {
         .arg(
             Arg::new(alloc, "ID")
                 .required(true)
+                .allow_hyphen_values(true)
                 .help("The id of the object"),
         )
 }

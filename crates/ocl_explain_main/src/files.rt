@@ -5,7 +5,7 @@ use ocl_check::{CommandFault, Counting, InputFault, MAX_INPUT, read_input};
 use ocl_explain::Keeping;
 use ocl_programs::STANDARD_INPUT;
 use std::fs;
-use std::io::{Error, Read};
+use std::io::{Error, ErrorKind, Read};
 
 /// An input that was read.
 #[derive(Drop)]
@@ -58,9 +58,12 @@ fn read_whole<'a, R: Read + Drop>(
     }
 }
 
-/// Reports why an output couldn't be written, if it couldn't.
+/// Reports why an output couldn't be written, if it couldn't. Of a pipe whose reader has closed it nothing is written: who
+/// runs `ocl_explain .. | head` wants no more.
 pub fn report_write(rt: &HostRuntime, what: &str, error: Option<Error>) {
-    if let Some(error) = error {
+    if let Some(error) = error
+        && error.kind() != ErrorKind::BrokenPipe
+    {
         let _ = eprintln!(rt; "{what}: it can't be written: {error}");
     }
 }
