@@ -109,9 +109,23 @@ def explained_fault(answer, explained):
         return "ocl_explain didn't end"
     if (explained.status, explained.out) != (answer.status, answer.out):
         return f"ocl_explain answers otherwise: {explained}"
+    return raw_fault(explained.err)
+
+
+def raw_fault(written):
+    """What is wrong with what ocl_explain writes, if a terminal can't show it as it is."""
     try:
-        said = explained.err.decode("utf-8")
+        text = written.decode("utf-8")
     except UnicodeDecodeError:
-        return "ocl_explain says something that is no UTF-8"
-    raw = next((it for it in said if it != "\n" and not it.isprintable()), None)
+        return "ocl_explain writes something that is no UTF-8"
+    raw = next((it for it in text if it != "\n" and not it.isprintable()), None)
     return raw and f"ocl_explain writes the raw character U+{ord(raw):04X}"
+
+
+def listing_fault(listed):
+    """What is wrong with a listing of ocl_explain; None where nothing is."""
+    if listed.status not in (0, 2):
+        return f"ocl_explain list ends otherwise: {listed}"
+    if listed.status == 0 and not listed.out or listed.status == 2 and not listed.err:
+        return f"ocl_explain list writes nothing: {listed}"
+    return raw_fault(listed.out) or raw_fault(listed.err)

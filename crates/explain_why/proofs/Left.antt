@@ -1,5 +1,5 @@
 -- What is left: characters of a text, the first elements of a list, and links.
-use Rattle.std.proofs.Common.{◌≡◌, ℕ, zero, suc, List, [], ◌∷◌, ◌++◌, length, take, sym, ap, ◌∙◌, subst, append_assoc}
+use Rattle.std.proofs.Common.{◌≡◌, ℕ, zero, suc, List, [], ◌∷◌, ◌++◌, length, take, refl, sym, ap, ◌∙◌, subst, append_assoc}
 use Rattle.imkl_population.specs.Population.{Population}
 use Rattle.std.specs.Prelude.{encode_utf8}
 use Rattle.std.specs.List.{flat_map}
@@ -10,20 +10,32 @@ use Rattle.std.proofs.lemmas.List.{append-nil, nil_from_length, take-map}
 use Rattle.owned_values.specs.declared.value.Element.{Element as OwnedElement}
 use Rattle.owned_values.specs.Meant.{meant_element, meant_elements, IsElementThere, AreElementsThere}
 
--- a character comes off a text, and what it becomes is put
-pub character_put : (f : ℕ → List ℕ) (out whole more text left : List ℕ) (c : ℕ) → IsUtf8 text → text ≡ encode_utf8 c ++ left → more ≡ out ++ f c → out ++ flat_map f (chars text) ≡ whole → (more ++ flat_map f (chars left) ≡ whole) × IsUtf8 left
-character_put f out whole more text left c u is put so_far =
+-- the first n of no characters are none
+nothing_taken : {X : Type 0} (n : ℕ) → take n ([] : List X) ≡ []
+nothing_taken zero = refl
+nothing_taken (suc n) = refl
+
+-- a character comes off a text of which the first n are put, and what it becomes is put
+pub first_put : (f : ℕ → List ℕ) (out whole more text left : List ℕ) (n m c : ℕ) → n ≡ suc m → IsUtf8 text → text ≡ encode_utf8 c ++ left → more ≡ out ++ f c → out ++ flat_map f (take n (chars text)) ≡ whole → (more ++ flat_map f (take m (chars left)) ≡ whole) × IsUtf8 left
+first_put f out whole more text left n m c counted u is put so_far =
     let same =
-    ap (λ xs. xs ++ flat_map f (chars left)) put
-    ∙ append_assoc out (f c) (flat_map f (chars left))
-    ∙ ap (λ xs. out ++ flat_map f xs) (sym (chars_past_char text left c u is))
+    ap (λ xs. xs ++ flat_map f (take m (chars left))) put
+    ∙ append_assoc out (f c) (flat_map f (take m (chars left)))
+    ∙ ap (λ xs. out ++ flat_map f (take (suc m) xs)) (sym (chars_past_char text left c u is))
+    ∙ ap (λ k. out ++ flat_map f (take k (chars text))) (sym counted)
     ∙ so_far in
     (same, IsUtf8-past_char text left c u is)
 
 -- none is left
-pub all_put : (f : ℕ → List ℕ) (out whole text : List ℕ) → length text ≡ 0 → out ++ flat_map f (chars text) ≡ whole → out ≡ whole
-all_put f out whole text none so_far =
-    sym (append-nil out) ∙ ap (λ xs. out ++ flat_map f xs) (sym (ap chars (nil_from_length text none) ∙ chars-nil)) ∙ so_far
+pub all_first_put : (f : ℕ → List ℕ) (out whole text : List ℕ) (n : ℕ) → length text ≡ 0 → out ++ flat_map f (take n (chars text)) ≡ whole → out ≡ whole
+all_first_put f out whole text n none so_far =
+    sym (append-nil out)
+    ∙ ap (λ xs. out ++ flat_map f xs) (sym (ap (take n) (ap chars (nil_from_length text none) ∙ chars-nil) ∙ nothing_taken n))
+    ∙ so_far
+
+-- no more are shown
+pub enough_put : (f : ℕ → List ℕ) (out whole text : List ℕ) (n : ℕ) → n ≡ 0 → out ++ flat_map f (take n (chars text)) ≡ whole → out ≡ whole
+enough_put f out whole text n done so_far = sym (append-nil out) ∙ ap (λ k. out ++ flat_map f (take k (chars text))) (sym done) ∙ so_far
 
 -- what holds of all elements holds of the first
 pub first_all : {X : Type 0} (P : X → Type 0) (xs : List X) (n : ℕ) → AllByRecursion P xs → AllByRecursion P (take n xs)

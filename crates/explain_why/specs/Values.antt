@@ -1,10 +1,11 @@
 -- Values as OCL writes them: objects by their ids, of a collection at most ten elements and how many more there are.
-use Rattle.std.specs.Prelude.{ℕ, zero, suc, ◌-◌, ◌==◌, Bool, true, false, List, [], ◌∷◌, ◌++◌, length, take, codes, Some, None, slice_index_or, if◌then◌else◌, encode_utf8}
+use Rattle.std.specs.Prelude.{ℕ, zero, suc, ◌-◌, ◌==◌, Bool, true, false, List, [], ◌∷◌, ◌++◌, length, take, codes, Some, None, slice_index_or, if◌then◌else◌, nat_le}
 use Rattle.std.specs.Fmt.{decimal, signed_decimal}
 use Rattle.std.specs.List.{flat_map}
 use Rattle.ocl_base.specs.declared.collection_kind.CollectionKind.{CollectionKind}
 use Rattle.ocl_base.specs.declared.collection_kind.CollectionKind.TheVariants as collection
 use Rattle.imkl_model.specs.ClassModel.{Model, enumeration_at}
+use Rattle.explain_notes.specs.Showing.{shown_character}
 use Rattle.imkl_population.specs.declared.scalar.Scalar.{Scalar}
 use Rattle.imkl_population.specs.declared.scalar.Scalar.TheVariants as scalar
 use Rattle.imkl_population.specs.Population.{Population, object_at}
@@ -14,14 +15,22 @@ use Rattle.rule_values.specs.Value.{Element, Value, Invalid, Null, Single, Colle
 abbrev pub literal_text : Model → ℕ → ℕ → List ℕ
 literal_text m e l = (enumeration_at m e).name ++ (codes "::" ++ slice_index_or (enumeration_at m e).literals l [])
 
--- a character within quotes: a quote, a backslash and what ends a line are written as OCL writes them
+-- a character within quotes: OCL's escapes where it has one, and another escape where a terminal would be steered
 abbrev pub quoted_character : ℕ → List ℕ
 quoted_character c =
-    if c == 39 then codes "\\'" else (if c == 92 then codes "\\\\" else (if c == 10 then codes "\\n" else (if c == 13 then codes "\\r" else (if c == 9 then codes "\\t" else encode_utf8 c))))
+    if c == 39 then codes "\\'" else (if c == 92 then codes "\\\\" else (if c == 10 then codes "\\n" else (if c == 13 then codes "\\r" else (if c == 9 then codes "\\t" else (if c == 8 then codes "\\b" else (if c == 12 then codes "\\f" else shown_character c))))))
+
+-- so many characters are shown of a text
+abbrev pub max_quoted : ℕ
+max_quoted = 60
+
+-- how many characters a text has, where not all are shown
+abbrev pub length_text : ℕ → List ℕ
+length_text n = if nat_le n max_quoted then [] else (codes ".. (" ++ (decimal n ++ codes " characters)"))
 
 -- a text, by its characters
 abbrev pub quoted_text : List ℕ → List ℕ
-quoted_text t = 39 ∷ (flat_map quoted_character t ++ 39 ∷ [])
+quoted_text t = 39 ∷ (flat_map quoted_character (take max_quoted t) ++ (39 ∷ length_text (length t)))
 
 abbrev pub truth_text : Bool → List ℕ
 truth_text true = codes "true"

@@ -65,7 +65,7 @@ fn put_constant(
         ConstantValue::Boolean(true) => put(out, "true"),
         ConstantValue::Boolean(false) => put(out, "false"),
         ConstantValue::Integer(number) => put_count(alloc, out, number.get() as usize),
-        ConstantValue::Text(text) => put_quoted(out, text),
+        ConstantValue::Text(text) => put_quoted(alloc, out, text),
         ConstantValue::Literal(enumeration, literal) => {
             put_literal(out, model, *enumeration, *literal)
         }

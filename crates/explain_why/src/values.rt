@@ -1,14 +1,15 @@
 //! Values as OCL writes them.
 
-ghost use Rattle.std.specs.Prelude.{◌≡◌, ◌++◌, ◌<◌, length, OnOk, string_bytes};
+ghost use Rattle.std.specs.Prelude.{◌≡◌, ◌++◌, ◌<◌, length, take, OnOk, string_bytes};
 ghost use Rattle.std.specs.List.{flat_map};
 ghost use Rattle.std.specs.Str.{chars};
 ghost use Rattle.imkl_model.specs.ClassModel.{enumeration_at};
 ghost use Rattle.owned_values.specs.Meant.{meant, meant_element, meant_elements, IsElementThere, AreElementsThere, IsValueThere};
-ghost use Rattle.explain_why.specs.Values.{literal_text, quoted_character, quoted_text, kind_name, element_text, before_element, elements_text, more_text, collection_text, value_text};
+ghost use Rattle.explain_why.specs.Values.{literal_text, quoted_character, max_quoted, length_text, quoted_text, kind_name, element_text, before_element, elements_text, more_text, collection_text, value_text};
 
 use crate::pieces::{put, put_count, put_number};
 use crate::words::kind_name;
+use explain_notes::push_shown;
 use imkl_model::{ClassModel, EnumNo, LiteralNo};
 use imkl_population::Population;
 use ocl_base::{CollectionKind, OutOfMemory};
@@ -17,6 +18,9 @@ use std::alloc::Global;
 
 /// The greatest number of elements that are shown of a collection.
 pub(crate) const MAX_SHOWN: usize = 10;
+
+/// The greatest number of characters that are shown of a text.
+const MAX_QUOTED: usize = 60;
 
 /// Puts a literal, with its enumeration.
 pub(crate) fn put_literal(
@@ -46,30 +50,50 @@ fn put_character(out: &mut String, character: char) -> Result<(), OutOfMemory>
         '\n' => put(out, "\\n"),
         '\r' => put(out, "\\r"),
         '\t' => put(out, "\\t"),
+        '\x08' => put(out, "\\b"),
+        '\x0c' => put(out, "\\f"),
         _ => {
-            out.push(character)?;
+            push_shown(out, character)?;
             Ok(())
         }
     }
 }
 
-/// Puts a text within quotes.
-pub(crate) fn put_quoted(out: &mut String, text: &str) -> Result<(), OutOfMemory>
+/// Puts a text within quotes. Of a long one the first `MAX_QUOTED` characters are shown, and how many it has.
+pub(crate) fn put_quoted(alloc: Global, out: &mut String, text: &str) -> Result<(), OutOfMemory>
     ensures { OnOk result (string_bytes out.new ≡ string_bytes out.old ++
         quoted_text (chars text.now)) }
 {
     put(out, "'")?;
     put_characters(out, text)?;
-    put(out, "'")
+    put(out, "'")?;
+    put_length(alloc, out, text.chars().count())
 }
 
-/// Puts the characters of a text as they stand within quotes.
+/// Puts how many characters a text has, if not all are shown.
+fn put_length(alloc: Global, out: &mut String, count: usize) -> Result<(), OutOfMemory>
+    ensures { OnOk result (string_bytes out.new ≡ string_bytes out.old ++ length_text count) }
+{
+    if count <= MAX_QUOTED {
+        return Ok(());
+    }
+    put(out, ".. (")?;
+    put_count(alloc, out, count)?;
+    put(out, " characters)")
+}
+
+/// Puts the first characters of a text as they are written within quotes.
 fn put_characters(out: &mut String, text: &str) -> Result<(), OutOfMemory>
     ensures { OnOk result (string_bytes out.new ≡ string_bytes out.old ++
-        flat_map quoted_character (chars text.now)) }
+        flat_map quoted_character (take max_quoted (chars text.now))) }
 {
+    let mut left = MAX_QUOTED;
     'characters: for character in text.chars() {
+        if left == 0 {
+            return Ok(());
+        }
         put_character(out, character)?;
+        left -= 1;
     }
     Ok(())
 }
@@ -90,7 +114,7 @@ pub(crate) fn put_element(
         Element::Bool(true) => put(out, "true"),
         Element::Bool(false) => put(out, "false"),
         Element::Int(number) => put_number(alloc, out, *number),
-        Element::Text(text) => put_quoted(out, text),
+        Element::Text(text) => put_quoted(alloc, out, text),
         Element::Literal(enumeration, literal) => {
             put_literal(out, population.model(), *enumeration, *literal)
         }
