@@ -96,6 +96,40 @@ def why(room, shows, delivery, object, rules):
     return case.Case(asked(room, delivery, object, rules), (0, words_of("whys.said", shows), b""), found)
 
 
+CABLE = '{"id":"%s","class":"Elektriciteitskabel","features":{"identificatie":"e","spanning":400,"diepte":600}}'
+
+
+def delivery_of(objects):
+    """A delivery of these objects."""
+    return '{"model":"imkl-profile","objects":[' + ",".join(objects) + "]}"
+
+
+def why_many(room, shows, count):
+    """Why a rule holds for a duct of so many cables, which all decide: ten are shown, and how many more there are."""
+    ids = [f"E{it}" for it in range(int(count))]
+    names = ",".join(f'"{it}"' for it in ids)
+    duct = '{"id":"M1","class":"Mantelbuis","features":{"identificatie":"m","diameter":1,"omvat":[%s]}}' % names
+    rules = f"context Mantelbuis inv r: self.omvat->select(k | true)->size() = {count}"
+    more, ten = int(count) - 10, ids[:10]
+    shown = "Set{" + ", ".join(ten) + f", and {more} more}}"
+    lines = ["rule r holds for M1", f"  self.omvat->select(x1 | true)->size() = {count} = true"]
+    lines += [f"    self.omvat->select(x1 | true)->size() = {count}", f"      self.omvat->select(x1 | true) = {shown}"]
+    lines += [f"        self.omvat = {shown}", *(f"        x1 = {it}" for it in ten), f"        and {more} more", ""]
+    found = lambda answer: (answer.status, answer.out.decode(), answer.err)
+    words = asked(room, delivery_of([duct, *(CABLE % it for it in ids)]), "M1", rules)
+    return case.Case(words, (0, "\n".join(lines), b""), found)
+
+
+def why_deep(room, shows, count):
+    """Why a rule of so many operators, each the source of the next, holds for a cable: each has its line."""
+    part = lambda number: "self.diepte" + ".max(1)" * number
+    rules = f"context KabelOfLeiding inv r: {part(int(count))} >= 600"
+    lines = ["rule r holds for E1", f"  {part(int(count))} >= 600 = true"]
+    lines += [f"{'  ' * (level + 2)}{part(int(count) - level)} = 600" for level in range(int(count) + 1)] + [""]
+    found = lambda answer: (answer.status, answer.out.decode(), answer.err)
+    return case.Case(asked(room, delivery_of([CABLE % "E1"]), "E1", rules), (0, "\n".join(lines), b""), found)
+
+
 def why_not(room, shows, object, line, rules):
     """Why there is no verdict: the line that is printed, or `-`, and the words on standard error."""
     found = lambda answer: (answer.status, answer.out.decode(), answer.err.decode())
@@ -135,6 +169,8 @@ FORMS = {
     "no words": silent,
     "listing": listing,
     "why": why,
+    "why of many elements": why_many,
+    "why of many parts": why_deep,
     "why not": why_not,
     "report as JSON": json_report,
 } | {
