@@ -8,7 +8,6 @@ mod faults;
 mod json;
 mod keeping;
 mod listing;
-mod long_runs;
 mod refusals;
 mod rules;
 mod verdicts;
@@ -20,7 +19,6 @@ pub use answers::{answer_bound, answer_compile, answer_desk, answer_judge, answe
 pub use json::answer_judge_json;
 pub use keeping::Keeping;
 pub use listing::{Listing, list_code};
-pub use long_runs::warn_of_long_runs;
 pub use refusals::{explain_bound, explain_compile, explain_desk, explain_judge, explain_verify};
 pub use verdicts::WhyAsked;
 pub use warnings::{warn_compile, warn_judge};

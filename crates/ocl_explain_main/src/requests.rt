@@ -7,7 +7,7 @@ use ocl_check::{CommandFault, JudgeOptions, Outcome, Telling};
 use ocl_explain::{
     Keeping, Listing, answer_bound, answer_compile, answer_desk, answer_judge, answer_judge_json,
     answer_verify, explain_bound, explain_compile, explain_desk, explain_judge, explain_verify,
-    list_code, warn_compile, warn_judge, warn_of_long_runs,
+    list_code, warn_compile, warn_judge,
 };
 use ocl_programs::{CompileFiles, Creating, DeskFiles, Request, RuleFiles, VerifyFiles};
 use std::alloc::AllocError;
@@ -61,17 +61,17 @@ fn judge_inputs<'i>(
     rules: Input<'i>,
 ) -> Outcome {
     let options = judging.options;
-    // (before the report, since it may take long; where memory runs out the report says so itself)
-    if let Ok(words) = warn_of_long_runs(rt.alloc(), options, model, delivery, rules) {
+    // (before the report, which may take long; where memory runs out the report is asked for all the same)
+    if let Ok(words) = warn_judge(rt.alloc(), options, model, delivery, rules) {
         let _ = rt.eprint(words.as_str());
     }
     let outcome = print_report(rt, judging, model, delivery, rules);
-    let words = match outcome {
-        Outcome::Status(2) => explain_judge(rt.alloc(), options, model, delivery, rules),
-        Outcome::Status(_) => warn_judge(rt.alloc(), options, model, delivery, rules),
-        Outcome::Failed(_) => return outcome,
-    };
-    say(rt, words);
+    if is_refusal(outcome) {
+        say(
+            rt,
+            explain_judge(rt.alloc(), options, model, delivery, rules),
+        );
+    }
     outcome
 }
 
