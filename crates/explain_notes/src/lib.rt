@@ -2,12 +2,14 @@
 #![tactic(auto)]
 
 mod input;
+mod lines;
 mod nearest;
 mod note;
 mod place;
 mod showing;
 
 pub use input::Input;
+pub use lines::cut_text;
 pub use nearest::Nearest;
 pub use note::{Note, write_marked};
 pub use place::{Place, place_of};
