@@ -1,5 +1,5 @@
 //! How other code uses the crates: which objects of a delivery break which rule of a stranger's code file. The page
-//! `docs/embedding.md` goes through it.
+//! `docs/use/embedding.md` goes through it.
 #![tactic(auto)]
 
 mod judging;

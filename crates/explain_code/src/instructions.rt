@@ -7,7 +7,7 @@ use explain_notes::quote;
 use rule_code::{Instr, Unit, WrittenKind, WrittenScalar};
 use std::alloc::{AllocError, Global};
 
-/// The name of an instruction, as `docs/code-file.md` has it.
+/// The name of an instruction, as `docs/formats/code-file.md` has it.
 pub(crate) fn name_of(instruction: &Instr) -> &'static str {
     match instruction {
         Instr::SelfObject => "SELF",

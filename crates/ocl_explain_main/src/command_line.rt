@@ -11,7 +11,7 @@ const HELP: &str = "\
 A command of ocl_check is answered as ocl_check answers it, with its status; on standard error it is
 said why an input is refused, where, and how it can be mended. For instance
   ocl_explain judge --text examples/catalogue.json examples/network.json examples/network.rules
-docs/explain.md shows what is said.";
+docs/use/explain.md shows what is said.";
 
 /// The end of the help of `list`.
 const LIST: &str = "\

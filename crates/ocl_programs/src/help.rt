@@ -14,7 +14,7 @@ Example: ocl_check judge --text model.json delivery.json rules.ocl
 Status 0: every rule holds for each of its objects. 1: a rule fails or is undecided for an object.
 2: an input, a rule's cost or the command line is refused. 3: memory, a read or a write failed.
 
-docs/commands.md has every line, docs/language.md how rules are written.";
+docs/use/commands.md has every line, docs/use/language.md how rules are written.";
 
 /// Of `compile`.
 pub const COMPILE: &str = "\
@@ -25,7 +25,7 @@ Example: ocl_check compile model.json rules.ocl rules.code
 
 Status 0: compiled. 2: an input or the command line is refused. 3: memory, a read or a write failed.
 
-docs/commands.md has every line, docs/language.md how rules are written.";
+docs/use/commands.md has every line, docs/use/language.md how rules are written.";
 
 /// Of `verify`.
 pub const VERIFY: &str = "\
@@ -36,7 +36,7 @@ Example: ocl_check verify model.json rules.code
 
 Status 0: accepted. 2: an input or the command line is refused. 3: memory, a read or a write failed.
 
-docs/commands.md has every line, docs/machine.md what is accepted.";
+docs/use/commands.md has every line, docs/formats/machine.md what is accepted.";
 
 /// Of `bound`.
 pub const BOUND: &str = "\
@@ -47,7 +47,7 @@ Example: ocl_check bound model.json delivery.json rules.code
 
 Status 0: printed. 2: an input or the command line is refused. 3: memory, a read or a write failed.
 
-docs/commands.md has every line, docs/machine.md how bounds are computed.";
+docs/use/commands.md has every line, docs/formats/machine.md how bounds are computed.";
 
 /// Of `desk`.
 pub const DESK: &str = "\
@@ -65,4 +65,4 @@ Example: ocl_check desk model.json delivery.json rules.code calls.script
 Status 0: the script was run. 2: an input, a rule's cost, the script or the command line is refused.
 3: memory, a read or a write failed.
 
-docs/commands.md has every line, docs/machine.md what steps are charged.";
+docs/use/commands.md has every line, docs/formats/machine.md what steps are charged.";

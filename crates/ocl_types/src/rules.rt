@@ -42,7 +42,7 @@ fn core_rule(alloc: Global, model: &ClassModel, rule: &SurfaceRule) -> Result<Co
     })
 }
 
-/// Checks the types of a rule in a class model, and writes out what its text leaves out: see `docs/language.md`.
+/// Checks the types of a rule in a class model, and writes out what its text leaves out: see `docs/use/language.md`.
 ///
 /// The first fault is reported: the context class comes before the expression; in it children come before their node, a
 /// source before the arguments, left before right. `TypeFault::OutOfMemory` may come in place of any answer but that the

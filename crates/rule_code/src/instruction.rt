@@ -4,7 +4,7 @@ use crate::kind::{WrittenKind, WrittenScalar};
 use crate::symbol::{SymbolNumber, TextNumber};
 use ocl_base::CollectionKind;
 
-/// One instruction. `docs/code-file.md` has the opcode and the fields of each, `docs/machine.md`
+/// One instruction. `docs/formats/code-file.md` has the opcode and the fields of each, `docs/formats/machine.md`
 /// the operands that it takes and the value that it gives.
 ///
 /// A block has the number of instructions of its body, which follows it.

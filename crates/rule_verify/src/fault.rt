@@ -32,7 +32,7 @@ pub enum VerifyFlaw {
 #[derive(Debug, Drop, Error)]
 pub enum VerifyFault {
     /// The first instruction that is wrong, by its rule and its index in the rule, both from 0; where the rule itself is
-    /// wrong, 0 or the number of its instructions (`docs/machine.md`).
+    /// wrong, 0 or the number of its instructions (`docs/formats/machine.md`).
     #[error("{flaw:?} at instruction {at} of rule {rule}")]
     At {
         flaw: VerifyFlaw,

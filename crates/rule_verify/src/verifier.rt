@@ -34,7 +34,7 @@ fn has_no_first_context(model: &ClassModel, unit: &Unit) -> bool
 /// code has kinds, within the limits.
 ///
 /// Else the answer is the first fault, rules in order and each walked in the order of its
-/// instructions (`docs/machine.md` says which these are), and the unit again.
+/// instructions (`docs/formats/machine.md` says which these are), and the unit again.
 /// `VerifyFault::OutOfMemory` may come in place of any answer but that the first rule's context
 /// class is unknown.
 pub fn verify<'m>(
