@@ -221,15 +221,21 @@ def listed(folder, paths):
     for path in paths:
         name = path.relative_to(folder)
         head = head_of(path)
-        lines.append(wrapped(f"- [`{name}`]({name})" + (f": {head}" if head else ""), others="  "))
+        lines.append(wrapped(f"- [`{name}`]({name})" + (f": {with_links(head)}" if head else ""), others="  "))
     return "\n".join(lines)
+
+
+def with_links(text):
+    """A text for a crate's README, in which names of pages are links."""
+    link = lambda found: f"[{found[1]}](../../{found[1]})" if (ROOT / found[1]).is_file() else found[0]
+    return re.sub(r"`(docs/[\w./-]+\.md)`", link, text)
 
 
 def readme(crate, sections):
     """What a crate is, file by file, from the heads of its files."""
     folder = CRATES_FOLDER / crate
     sources, definitions = files_of(crate)
-    parts = [f"# `{crate}`", wrapped(crate_head(crate))]
+    parts = [f"# `{crate}`", wrapped(with_links(crate_head(crate)))]
     if crate in sections:
         parts.append(wrapped(f"What is proved: [{sections[crate]}](../../docs/proofs/contracts.md#{slug(sections[crate])})."))
     below = ", ".join(f"[`{it}`](../{it}/README.md)" for it in USES[crate] if it in USES)

@@ -7,6 +7,8 @@ from generated import ROOT, slug
 MOST_LINES = 180
 MOST_WORDS = 30
 LANGUAGES = {"console", "sh", "json", "ocl", "text", "ebnf", "python", "toml"}
+# what names pages, besides the pages themselves
+SOURCES = ["ocl_check", ".ci/*", ".ci/forms/*.py", "bench/*", "examples/*.sh", "tests/*.rows"]
 PROMISES = ROOT / "docs" / "proofs" / "promises.md"
 
 
@@ -64,6 +66,11 @@ def link_faults(path, text):
                 yield number, f"{target} isn't there"
             elif anchor and (there.suffix != ".md" or anchor not in anchors(there)):
                 yield number, f"{target}: no heading has this anchor"
+
+
+def name_faults(text):
+    """Names of files that aren't there, and names of pages that are no links."""
+    for number, line in lines_outside_blocks(text):
         for name in re.findall(r"`((?:docs|\.ci|bench|examples|tests|edits)/[\w./-]*\w)`", line):
             if not (ROOT / name).exists():
                 yield number, f"`{name}` isn't there"
@@ -110,6 +117,8 @@ def promise_faults(text):
 def page_faults(path):
     text = path.read_text(encoding="utf-8")
     yield from link_faults(path, text)
+    if path in pages():
+        yield from name_faults(text)
     yield from cell_faults(text)
     yield from block_faults(text)
     if path == PROMISES:
@@ -118,8 +127,18 @@ def page_faults(path):
         yield len(text.splitlines()), f"{len(text.splitlines())} lines; {MOST_LINES} at most"
 
 
+def source_faults():
+    """Pages that scripts, rows and sources name and that aren't there."""
+    for path in sorted(it for pattern in SOURCES for it in ROOT.glob(pattern) if it.is_file()):
+        for number, line in enumerate(path.read_text(encoding="utf-8").splitlines(), 1):
+            for name in re.findall(r"\bdocs/[\w./-]*\.(?:md|svg|1)\b", line):
+                if not (ROOT / name).is_file():
+                    yield f"{path.relative_to(ROOT)}:{number}: {name} isn't there"
+
+
 def faults():
     """All faults of all pages, as `PATH:LINE: WHAT`."""
     for path in all_pages():
         for number, what in page_faults(path):
             yield f"{path.relative_to(ROOT)}:{number}: {what}"
+    yield from source_faults()
