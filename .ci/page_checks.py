@@ -102,16 +102,30 @@ def block_faults(text):
             yield number, "a console block that doesn't begin with a command"
 
 
+def contracts(source, function):
+    """The contracts of the public functions of that name: their lines up to their bodies."""
+    return re.findall(rf"(?ms)^\s*pub fn {re.escape(function)}\b.*?^\s*\{{", source)
+
+
 def promise_faults(text):
-    """Rows of promises.md that link to files: each name of a row has to be in one of them."""
+    """Rows of the table of promises whose functions haven't the clauses named, or whose definitions aren't in the files named."""
     for number, line in lines_outside_blocks(text):
-        files = [it for it in re.findall(r"\]\(([^)\s#]+)\)", line) if it.endswith((".rt", ".antt"))]
-        if not line.startswith("|") or not files:
+        cells = re.split(r"(?<!\\)\|", line)[1:-1]
+        files = [re.findall(r"\]\(([^)\s#]+\.(?:rt|antt))\)", it) for it in cells]
+        if not line.startswith("|") or len(cells) != 3 or not files[1]:
             continue
-        sources = "\n".join((PROMISES.parent / it).read_text(encoding="utf-8") for it in files if (PROMISES.parent / it).is_file())
-        for name in re.findall(r"`([^`]+)`", re.sub(r"\[[^\]]*\]\([^)]*\)", "", line)):
-            if not all(re.search(rf"\b{re.escape(part)}\b", sources) for part in name.split("::")):
-                yield number, f"`{name}` is in none of the row's files"
+        sources = ["\n".join((PROMISES.parent / it).read_text(encoding="utf-8") for it in paths if (PROMISES.parent / it).is_file()) for paths in files]
+        functions, colon, clauses = re.sub(r"\[[^\]]*\]\([^)]*\)", "", cells[1]).partition("`: ")
+        for function in re.findall(r"`([^`]+)`", functions + colon[:1]):
+            found = contracts(sources[1], function.split("::")[-1])
+            if not found:
+                yield number, f"no public function `{function}` in the file named"
+            for clause in re.findall(r"`([^`]+)`", clauses):
+                if found and not any(re.search(rf"\bensures {re.escape(clause)}\b", it) for it in found):
+                    yield number, f"`{function}` has no clause `{clause}`"
+        for name in re.findall(r"`([^`]+)`", re.sub(r"\[[^\]]*\]\([^)]*\)", "", cells[2])):
+            if not re.search(rf"\b{re.escape(name)}\b", sources[2]):
+                yield number, f"`{name}` is in none of the files named"
 
 
 def page_faults(path):
