@@ -51,8 +51,15 @@ def run_block(room, commands):
     mark = "\036"
     script = "".join(f"s=$?; printf '{mark}'; (exit $s)\n{command}\n" for command, _ in commands)
     environment = {**os.environ, "PATH": f"{room}:{os.environ['PATH']}", "LC_ALL": "C.UTF-8"}
-    done = subprocess.run(["sh", "-c", script], cwd=room, env=environment, stdin=subprocess.DEVNULL, stdout=subprocess.PIPE,
-                          stderr=subprocess.STDOUT, timeout=SECONDS)
+    done = subprocess.run(
+        ["sh", "-c", script],
+        cwd=room,
+        env=environment,
+        stdin=subprocess.DEVNULL,
+        stdout=subprocess.PIPE,
+        stderr=subprocess.STDOUT,
+        timeout=SECONDS,
+    )
     return [it.splitlines() for it in done.stdout.decode("utf-8", errors="replace").split(mark)[1:]]
 
 
@@ -64,28 +71,28 @@ def run_page(path):
         shutil.copytree(ROOT / "examples", room / "examples")
         for name in BUILT_BY_CI:
             (room / name).symlink_to(program(name))
-        for number, info, lines in blocks(path.read_text(encoding="utf-8")):
+        for number, info, shown_lines in blocks(path.read_text(encoding="utf-8")):
             if len(info) > 1:
-                (room / info[1]).write_text("\n".join(lines) + "\n", encoding="utf-8")
+                (room / info[1]).write_text("\n".join(shown_lines) + "\n", encoding="utf-8")
             elif info == ["console"]:
-                commands = commands_of(lines)
+                commands = commands_of(shown_lines)
                 count += len(commands)
                 for (command, shown), found in zip(commands, run_block(room, commands), strict=True):
                     if not is_as_shown(shown, found):
-                        where = f"{path.relative_to(ROOT)}:{number}: {command}"
-                        wrong.append("\n".join([where, "  shown:", *(f"    {it}" for it in shown), "  printed:", *(f"    {it}" for it in found)]))
+                        lines = [f"{path.relative_to(ROOT)}:{number}: {command}", "  shown:", *(f"    {it}" for it in shown)]
+                        wrong.append("\n".join([*lines, "  printed:", *(f"    {it}" for it in found)]))
     return wrong, count
 
 
 def run_all():
     """Runs the blocks of all pages; the status is 1 where one prints something else than its page shows."""
-    for name in BUILT_BY_CI:
-        if not os.access(program(name), os.X_OK):
-            print(f".ci/pages: {program(name)} isn't built; rt ci builds it, and so does ./{name}")
-            return 1
+    answers.require_programs(*(program(name) for name in BUILT_BY_CI))
     failed = False
     for path in pages():
         wrong, count = run_page(path)
-        print(*wrong, *([f"{path.relative_to(ROOT)}: {count - len(wrong)} of {count} commands print what it shows"] if count else []), sep="\n", end="\n" if count else "")
+        for it in wrong:
+            print(it)
+        if count:
+            print(f"{path.relative_to(ROOT)}: {count - len(wrong)} of {count} commands print what it shows", flush=True)
         failed |= bool(wrong)
     return 1 if failed else 0
