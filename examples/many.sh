@@ -14,7 +14,7 @@ for number in $(seq 1000); do
 done
 "$program" compile "$here/catalogue.json" "$here/network.rules" "$room/rules.code" >/dev/null || fail "the rules aren't compiled"
 
-# What docs/many-deliveries.md shows: a report and a status for each delivery.
+# What docs/use/many-deliveries.md shows: a report and a status for each delivery.
 judge_one='"$0" judge "$1" "$3" "$2" >"$4/$(basename "$3" .json).report"; echo "$?" >"$4/$(basename "$3" .json).status"'
 
 for processes in 1 2 4; do

@@ -6,7 +6,7 @@ import assembly
 import case
 import shorthand
 
-# The faults as docs/delivery.md numbers them: those of a delivery, the last three with an object, and those of its population.
+# The faults as docs/use/delivery.md numbers them: those of a delivery, the last three with an object, and those of its population.
 FAULTS = ["loaded", "NotJson", "Shape", "OtherModel", "UnknownClass", "UnknownFeature", "UnknownTarget"]
 POPULATION_FAULTS = ["", "DuplicateId", "AbstractClass", "WrongFeature", "WrongKind", "TooFew", "TooMany", "WrongClass"]
 POPULATION_FAULTS += ["DuplicateTarget", "Derived", "Limit", "BadId"]

@@ -4,7 +4,7 @@ import assembly
 import case
 import shorthand
 
-# as docs/class-model.md numbers them
+# as docs/use/class-model.md numbers them
 FAULTS = ["read", "NotJson", "Shape", "DuplicateName", "UnknownName", "Cycle", "FeatureClash", "BadMultiplicity", "Limit"]
 
 # A owns x; B and C are below it and own y and z; D is below both; N stands alone and owns w.
@@ -20,7 +20,7 @@ PIPES = shorthand.model(
     "Net (theme : Theme 1..1)",
     "parts: Net.pipes 0..* -> Pipe.net 0..1",
 )
-# as docs/language.md numbers the faults of types
+# as docs/use/language.md numbers the faults of types
 TYPES = ["typed", "UnknownName", "WrongType", "NoCommonType", "NestedCollection", "NotBoolean"]
 
 

@@ -1,4 +1,4 @@
-"""Code files (docs/code-file.md) that are read back as the expressions that their rules compute."""
+"""Code files (docs/formats/code-file.md) that are read back as the expressions that their rules compute."""
 import struct
 
 from assembly import COLLECTIONS, ELEMENTS, INSTRUCTIONS
