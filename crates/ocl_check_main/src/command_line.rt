@@ -8,8 +8,8 @@ use std::alloc::{AllocError, Global};
 const HELP: &str = "\
 Inputs are read whole before the first is checked, each of at most 268,435,456 bytes; a path may be
 a pipe, and `-` is standard input, for one input. `ocl_check COMMAND --help` says what a command
-prints and how it ends. The pages are in docs/: language.md for rules, class-model.md, delivery.md,
-code-file.md, machine.md, commands.md.";
+prints and how it ends. The pages are in docs/use/ (language.md for rules, class-model.md, delivery.md,
+commands.md) and in docs/formats/ (code-file.md, machine.md).";
 
 /// The program's commands and their arguments.
 fn command<'a>(alloc: Global) -> Result<Command<'a>, AllocError> {

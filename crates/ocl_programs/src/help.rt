@@ -65,4 +65,4 @@ Example: ocl_check desk model.json delivery.json rules.code calls.script
 Status 0: the script was run. 2: an input, a rule's cost, the script or the command line is refused.
 3: memory, a read or a write failed.
 
-docs/use/commands.md has every line, docs/formats/machine.md what steps are charged.";
+docs/use/desk.md has every line, docs/formats/machine.md what steps are charged.";
