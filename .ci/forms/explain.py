@@ -96,6 +96,13 @@ def why(room, shows, delivery, object, rules):
     return case.Case(asked(room, delivery, object, rules), (0, words_of("whys.said", shows), b""), found)
 
 
+def why_cut(room, shows, lines, delivery, object, rules):
+    """So many lines of why the rule r of a text has its verdict for an object."""
+    found = lambda answer: (answer.status, answer.out.decode(), answer.err)
+    words = [*asked(room, delivery, object, rules), "--lines", lines]
+    return case.Case(words, (0, words_of("whys.said", shows), b""), found)
+
+
 CABLE = '{"id":"%s","class":"Elektriciteitskabel","features":{"identificatie":"e","spanning":400,"diepte":600}}'
 
 
@@ -169,6 +176,7 @@ FORMS = {
     "no words": silent,
     "listing": listing,
     "why": why,
+    "why in few lines": why_cut,
     "why of many elements": why_many,
     "why of many parts": why_deep,
     "why not": why_not,

@@ -18,7 +18,7 @@ use Rattle.ocl_check.specs.TextReading.{TextReading, ReadsAs}
 use Rattle.ocl_check.specs.CompiledRules.{in_types, in_code}
 use Rattle.ocl_check.specs.ThreeInputs.{model_of, population_of, delivery_answer, model_answer}
 use Rattle.ocl_check.specs.JudgeText.{meant_answer, within_answer, rules_answer, text_answer, judge_text_answer}
-use Rattle.ocl_explain.specs.WhyAnswers.{why_text, why_answer, IsToldOf, IsToldIn, WhyAnswers}
+use Rattle.ocl_explain.specs.WhyAnswers.{why_text, why_answer, IsToldOf, IsToldIn, shown_answer, WhyAnswers}
 use Rattle.ocl_explain.specs.Judged.{typed_answer}
 use Rattle.ocl_explain.proofs.Judging.{text_is_typed}
 use Rattle.ocl_explain.proofs.Refusing.{delivery_refused}
@@ -62,7 +62,7 @@ module _ (rules name id : List ℕ) where
   text_decided p (Ok t) reads = rules_decided p t (elaborate_rules p.model 0 t) refl reads
   text_decided p (Err fault) reads = inr refl
 
-  module _ (model delivery : List ℕ) (t : TextReading) (reads : ReadsAs rules t) where
+  module _ (model delivery : List ℕ) (lines : ℕ) (t : TextReading) (reads : ReadsAs rules t) where
     -- likewise of a delivery
     abbrev IsDeliveryDecided : Model → Result Population DeliveryFault → Type 0
     IsDeliveryDecided m r = ((a : Answer) × IsToldIn m delivery rules name id a) ⊎ ((delivery_answer (text_answer MAX_BUDGET t) r).1 ≡ 2)
@@ -76,11 +76,11 @@ module _ (rules name id : List ℕ) where
     delivery_decided m (Err fault) is = inr (delivery_refused fault)
 
     -- and of a class model
-    model_decided : (r : Result Model ModelFault) → model_of model ≡ r → (a : Answer) × WhyAnswers model delivery rules name id a
+    model_decided : (r : Result Model ModelFault) → model_of model ≡ r → (a : Answer) × WhyAnswers model delivery rules name id lines a
     model_decided (Ok m) is = by (delivery_decided m (population_of m delivery) refl)
       where
-        by : IsDeliveryDecided m (population_of m delivery) → (a : Answer) × WhyAnswers model delivery rules name id a
-        by (inl told) = (told.0, inl (m, is, told.1))
+        by : IsDeliveryDecided m (population_of m delivery) → (a : Answer) × WhyAnswers model delivery rules name id lines a
+        by (inl told) = (shown_answer lines told.0, inl (told.0, (m, is, told.1), refl))
         by (inr two) =
             let answer = judge_text_answer MAX_BUDGET model delivery t in
             let refused = refused_as answer (delivery_answer (text_answer MAX_BUDGET t) (population_of m delivery))
@@ -90,5 +90,5 @@ module _ (rules name id : List ℕ) where
         let answer = judge_text_answer MAX_BUDGET model delivery t in
         (answer, inr ((t, reads, refl), ap (λ (r : Result Model ModelFault). (model_answer (text_answer MAX_BUDGET t) r delivery).1) is))
 
-    pub some_answer : (a : Answer) × WhyAnswers model delivery rules name id a
+    pub some_answer : (a : Answer) × WhyAnswers model delivery rules name id lines a
     some_answer = model_decided (model_of model) refl

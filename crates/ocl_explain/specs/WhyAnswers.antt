@@ -1,6 +1,6 @@
 -- What `why` prints of the bytes of its inputs, a rule's name and an object's id, and its status: the explanation of the rule's
 -- verdict; nothing, where there is none; or the line by which `judge` refuses an input.
-use Rattle.std.specs.Prelude.{◌≡◌, ◌⊎◌, ℕ, bytes_eq, List, [], ◌∷◌, Option, Some, None, Ok, if◌then◌else◌}
+use Rattle.std.specs.Prelude.{◌≡◌, ◌==◌, ◌⊎◌, ℕ, bytes_eq, List, [], ◌∷◌, Option, Some, None, Ok, if◌then◌else◌}
 use Rattle.imkl_model.specs.ClassModel.{Model}
 use Rattle.imkl_population.specs.Population.{Population, is_instance, object_number}
 use Rattle.ocl_text.specs.Tree.{Rule}
@@ -12,6 +12,7 @@ use Rattle.ocl_check.specs.Reply.{Answer}
 use Rattle.ocl_check.specs.TextReading.{ReadsAs}
 use Rattle.ocl_check.specs.ThreeInputs.{model_of, population_of}
 use Rattle.ocl_check.specs.JudgeText.{meant_answer, text_answer, JudgeAnswersBy}
+use Rattle.explain_notes.specs.Lines.{cut_text}
 use Rattle.explain_why.specs.Explanation.{explanation}
 
 -- ---- a population and rules
@@ -65,6 +66,13 @@ IsTold model delivery rules name id answer = (m : Model) × (model_of model ≡ 
 abbrev pub IsRefusedBy : List ℕ → List ℕ → List ℕ → Answer → Type 0
 IsRefusedBy model delivery rules answer = JudgeAnswersBy Text MAX_BUDGET model delivery rules answer × (answer.1 ≡ 2)
 
--- what `why` may answer: one answer, but where a text is refused as Syntax or TooDeep
-abbrev pub WhyAnswers : List ℕ → List ℕ → List ℕ → List ℕ → List ℕ → Answer → Type 0
-WhyAnswers model delivery rules name id answer = IsTold model delivery rules name id answer ⊎ IsRefusedBy model delivery rules answer
+-- of an explanation so many lines, and how many more there are
+abbrev pub shown_answer : ℕ → Answer → Answer
+shown_answer lines (text, status) = if status == 0 then (cut_text lines text, 0) else (text, status)
+
+-- What `why` may print of an explanation of which so many lines are shown: one answer, but where a text is refused as Syntax or
+-- TooDeep.
+abbrev pub WhyAnswers : List ℕ → List ℕ → List ℕ → List ℕ → List ℕ → ℕ → Answer → Type 0
+WhyAnswers model delivery rules name id lines answer =
+    ((told : Answer) × IsTold model delivery rules name id told × (answer ≡ shown_answer lines told))
+    ⊎ IsRefusedBy model delivery rules answer

@@ -42,6 +42,8 @@ pub struct WhyAsked<'a> {
     pub rule: &'a str,
     /// The id of the object.
     pub id: &'a str,
+    /// How many lines of the explanation are shown.
+    pub lines: usize,
 }
 
 /// What is told of a rule and an object.

@@ -4,12 +4,13 @@ ghost use Rattle.std.specs.Prelude.{◌≡◌, false};
 ghost use Rattle.ocl_check.specs.Answers.{IsAnswered, IsAnsweredBy, KeepsUnread, fails_write};
 ghost use Rattle.ocl_check.specs.JudgeText.{JudgeAnswers};
 ghost use Rattle.ocl_explain.specs.Judged.{printed};
-ghost use Rattle.ocl_explain.specs.WhyAnswers.{WhyAnswers};
+ghost use Rattle.ocl_explain.specs.WhyAnswers.{shown_answer, WhyAnswers};
 
 use crate::answers::answer_judge;
 use crate::refusals::explain_judge;
 use crate::verdicts::{Why, WhyAsked, find_why};
 use crate::writing::write_answer;
+use explain_notes::cut_text;
 use ocl_check::laws::{each_text_is_read, readings_are_determined};
 use ocl_check::{CommandFault, JudgeOptions, MAX_BUDGET, Outcome, RulesForm, Sink};
 use std::alloc::{AllocError, Global};
@@ -29,23 +30,36 @@ const OPTIONS: JudgeOptions = JudgeOptions {
     budget: MAX_BUDGET,
 };
 
-/// Writes the explanation, or nothing.
-fn write_why<S: Sink>(alloc: Global, sink: &mut S, why: Why) -> WhyEnding
+/// Writes so many lines of the explanation, or nothing.
+fn write_why<S: Sink>(alloc: Global, sink: &mut S, why: Why, lines: usize) -> WhyEnding
     requires { S.has_failed sink.old ≡ false }
-    ensures answered { IsAnswered (printed why) (S.contents sink.old) (S.contents sink.new)
-        result.outcome }
+    ensures answered { IsAnswered (shown_answer lines (printed why)) (S.contents sink.old)
+        (S.contents sink.new) result.outcome }
     ensures sink { S.has_failed sink.new ≡ fails_write result.outcome }
     ensures kept { KeepsUnread result.outcome sink.old sink.new }
 {
     match why {
-        Why::Explained(text) => WhyEnding {
-            outcome: write_answer(sink, text.as_bytes(), 0),
-            words: Ok(String::new(alloc)),
+        Why::Explained(text) => match cut_text(alloc, text.as_bytes(), lines) {
+            Ok(shown) => WhyEnding {
+                outcome: write_answer(sink, &shown, 0),
+                words: Ok(String::new(alloc)),
+            },
+            Err(_) => out_of_memory(alloc),
         },
         Why::Unknown(words) => WhyEnding {
             outcome: write_answer(sink, &[], 2),
             words: Ok(words),
         },
+    }
+}
+
+/// Memory ran out.
+fn out_of_memory(alloc: Global) -> WhyEnding
+    ensures { result.outcome ≡ Outcome.Failed CommandFault.OutOfMemory }
+{
+    WhyEnding {
+        outcome: Outcome::Failed(CommandFault::OutOfMemory),
+        words: Ok(String::new(alloc)),
     }
 }
 
@@ -70,7 +84,8 @@ fn write_refusal<S: Sink>(alloc: Global, asked: WhyAsked<'_>, sink: &mut S) -> W
     WhyEnding { outcome, words }
 }
 
-/// Explains why a rule has its verdict for an object: writes the explanation, with status 0. Where `judge` refuses an input
+/// Explains why a rule has its verdict for an object: writes the explanation, with status 0. Of a long one the first lines are
+/// written, as many as are asked for, and how many more there are. Where `judge` refuses an input
 /// it is refused likewise, with the line that `judge` prints. Else, where there is no such rule or object or the rule doesn't
 /// judge the object, nothing is written, with status 2.
 ///
@@ -81,18 +96,16 @@ pub fn answer_why<S: Sink>(alloc: Global, asked: WhyAsked<'_>, sink: &mut S) -> 
     requires { S.has_failed sink.old ≡ false }
     ensures answered { IsAnsweredBy (WhyAnswers asked.entry.model.bytes.now
         asked.entry.delivery.bytes.now asked.entry.rules.bytes.now asked.entry.rule.now
-        asked.entry.id.now) (S.contents sink.old) (S.contents sink.new) result.outcome }
+        asked.entry.id.now asked.entry.lines) (S.contents sink.old) (S.contents sink.new)
+        result.outcome }
     ensures sink { S.has_failed sink.new ≡ fails_write result.outcome }
     ensures kept { KeepsUnread result.outcome sink.old sink.new }
 {
     readings_are_determined();
     each_text_is_read();
     match find_why(alloc, asked) {
-        Ok(Some(why)) => write_why(alloc, sink, why),
+        Ok(Some(why)) => write_why(alloc, sink, why, asked.lines),
         Ok(None) => write_refusal(alloc, asked, sink),
-        Err(_) => WhyEnding {
-            outcome: Outcome::Failed(CommandFault::OutOfMemory),
-            words: Ok(String::new(alloc)),
-        },
+        Err(_) => out_of_memory(alloc),
     }
 }

@@ -1,6 +1,6 @@
 //! The command line.
 
-use clap::{Arg, ArgAction, ArgMatches, Command, Error};
+use clap::{Arg, ArgAction, ArgMatches, Command, Error, value_parser};
 use ocl_programs::{
     Request, RuleFiles, VERSION, bound, compile, desk, judge, request_of, verify, word,
 };
@@ -27,12 +27,15 @@ a read or a write failed.";
 const WHY: &str = "\
 Prints the verdict of a rule for an object, and below it each part of the rule's expression with its
 value: of a part that is null or invalid why it is, of an iteration the elements that decide it. RULES
-is a rule text, RULE the name of one of its rules and ID the id of an object of its context class. For
-instance
+is a rule text, RULE the name of one of its rules and ID the id of an object of its context class. Of
+a long explanation the first lines are printed, and how many more there are. For instance
   ocl_explain why examples/catalogue.json examples/network.json examples/network.rules deepEnough E3
 
 Status 0: printed. 2: an input is refused, with the line that judge prints, or there is no such rule or
 object. 3: memory, a read or a write failed.";
+
+/// How many lines of an explanation are printed without `--lines`.
+const DEFAULT_LINES: u64 = 400;
 
 /// What is asked.
 #[derive(Clone, Copy, Drop)]
@@ -63,6 +66,8 @@ pub struct WhyWords<'a> {
     pub rule: &'a str,
     /// The id of the object.
     pub id: &'a str,
+    /// How many lines of the explanation are shown.
+    pub lines: u64,
 }
 
 /// The option of `judge` that prints JSON.
@@ -85,6 +90,13 @@ fn why<'a>(alloc: Global) -> Result<Command<'a>, AllocError> {
     Command::new(alloc, "why")
         .about("Says why a rule has its verdict for an object")
         .after_help(WHY)
+        .arg(
+            Arg::new(alloc, "lines")
+                .long("lines")
+                .value_name("N")
+                .value_parser(value_parser!(u64))
+                .help("Prints at most N lines of the explanation (400)"),
+        )?
         .arg(
             Arg::new(alloc, "MODEL")
                 .required(true)
@@ -139,6 +151,10 @@ fn why_words<'a>(matches: Option<&ArgMatches<'a>>) -> WhyWords<'a> {
         },
         rule: word(matches, "RULE"),
         id: word(matches, "ID"),
+        lines: match matches {
+            Some(matches) => matches.get_one::<u64>("lines").unwrap_or(DEFAULT_LINES),
+            None => DEFAULT_LINES,
+        },
     }
 }
 

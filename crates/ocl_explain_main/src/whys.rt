@@ -27,6 +27,7 @@ fn explain_files(rt: &HostRuntime, words: WhyWords<'_>) -> Result<Outcome, Comma
         rules: rules.input(),
         rule: words.rule,
         id: words.id,
+        lines: words.lines as usize,
     };
     Ok(explain_inputs(rt, asked))
 }

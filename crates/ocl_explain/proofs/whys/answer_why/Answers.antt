@@ -1,14 +1,15 @@
-use Rattle.std.proofs.Common.{inl, inr}
+use Rattle.std.proofs.Common.{inl, inr, refl}
 use Rattle.std.proofs.KnownBytes.{Appends-nil}
 use Rattle.ocl_explain.proofs.Answering.{some_answer}
 use Rattle.ocl_explain.proofs.Refusing.{answer_refuses}
 use Rattle.ocl_explain.specs.Judged.{printed}
+use Rattle.ocl_explain.specs.WhyAnswers.{shown_answer}
 use Rattle.ocl_explain.proofs.whys.answer_why.Goals as goal
 
 pub returns-in-Ok-Some-clause-answered : goal.returns-in-Ok-Some-clause-answered
 returns-in-Ok-Some-clause-answered g c =
     let told = rw (c.in-Ok-Some.is, c.in-Ok-Some.field-0-is) at c.find_why.ensures in
-    (printed c.in-Ok-Some.why, inl told, c.write_why.ensures.answered)
+    (shown_answer c.args.asked.lines (printed c.in-Ok-Some.why), inl (printed c.in-Ok-Some.why, told, refl), c.write_why.ensures.answered)
 
 pub returns-in-Ok-None-clause-answered : goal.returns-in-Ok-None-clause-answered
 returns-in-Ok-None-clause-answered g c =
@@ -23,5 +24,5 @@ returns-in-Ok-None-clause-answered g c =
 pub returns-in-Err-clause-answered : goal.returns-in-Err-clause-answered
 returns-in-Err-clause-answered g c =
     let reading = c.each_text_is_read.ensures c.args.asked.rules.bytes.now in
-    let some = some_answer c.args.asked.rules.bytes.now c.args.asked.rule.now c.args.asked.id.now c.args.asked.model.bytes.now c.args.asked.delivery.bytes.now reading.0 reading.1 in
+    let some = some_answer c.args.asked.rules.bytes.now c.args.asked.rule.now c.args.asked.id.now c.args.asked.model.bytes.now c.args.asked.delivery.bytes.now c.args.asked.lines reading.0 reading.1 in
     (some.0, some.1, (0, Appends-nil _))
