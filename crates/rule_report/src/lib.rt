@@ -10,7 +10,6 @@ mod longest;
 mod put;
 mod sink;
 mod summary;
-mod unfailed;
 mod writing;
 
 pub use cursor::ReportCursor;

@@ -1,6 +1,6 @@
 //! Writing a report as it goes: pair by pair, in pieces.
 
-ghost use Rattle.std.specs.Prelude.{◌≡◌, ◌<◌, false, length, Some, OnOk, OnErr, IfOk, is_err};
+ghost use Rattle.std.specs.Prelude.{◌≡◌, ◌<◌, false, length, Some, OnOk, OnErr, IfOk, IfErr, is_err};
 ghost use Rattle.std.specs.Io.KnownBytes.{Appends};
 ghost use Rattle.imkl_population.specs.Population.{IsInstance};
 ghost use Rattle.rule_cost.specs.Admission.{Fits};
@@ -8,16 +8,16 @@ ghost use Rattle.rule_machine.specs.Contract.{SameTask};
 ghost use Rattle.rule_machine.specs.Machine.{setting_of};
 ghost use Rattle.rule_report.specs.Cursor.{due};
 ghost use Rattle.rule_report.specs.Pieces.{IsReportedMore, IsWrittenSoFar};
-ghost use Rattle.rule_report.specs.Sink.{WritesPrefix};
+ghost use Rattle.rule_report.specs.Sink.{WritesPrefix, IsFlushedOnce};
 ghost use Rattle.rule_report.specs.Report.{report_of, summary_of};
+ghost use Rattle.rule_report.specs.declared.fault.ReportFault.TheVariants as fault;
 ghost use Rattle.rule_report.specs.Writing.{is_write_fault};
 
 use crate::cursor::ReportCursor;
 use crate::fault::ReportFault;
-use crate::put::{WriteFailed, put_and_flush, put_whole};
+use crate::put::{WriteFailed, write_and_flush, write_whole};
 use crate::sink::Sink;
 use crate::summary::Summary;
-use crate::unfailed::Unfailed;
 use imkl_population::{ObjectNo, Population};
 use ocl_base::OutOfMemory;
 use rule_cost::Admitted;
@@ -50,53 +50,20 @@ fn report_pair(
 }
 
 /// Writes the text, and empties it, once there is enough of it.
-fn put_piece<S: Sink>(target: &mut Unfailed<'_, S>, text: &mut Vec<u8>) -> Result<(), WriteFailed>
-    requires { S.has_failed target.old.sink.now ≡ false }
-    ensures ok { OnOk result (IsWrittenSoFar (S.contents target.old.sink.now)
-        (S.contents target.new.sink.now) text.new.items text.old.items) }
-    ensures err { OnErr result (WritesPrefix (S.contents target.old.sink.now)
-        (S.contents target.new.sink.now) text.old.items) }
-    ensures failed { S.has_failed target.new.sink.now ≡ is_err result }
-    ensures flushes { target.new.flushes ≡ target.old.flushes }
-    ensures same_sink { target.new.sink.ghost_name ≡ target.old.sink.ghost_name }
+fn put_piece<S: Sink>(sink: &mut S, text: &mut Vec<u8>) -> Result<(), WriteFailed>
+    requires { S.has_failed sink.old ≡ false }
+    ensures ok { OnOk result (IsWrittenSoFar (S.contents sink.old) (S.contents sink.new)
+        text.new.items text.old.items) }
+    ensures err { OnErr result
+        (WritesPrefix (S.contents sink.old) (S.contents sink.new) text.old.items) }
+    ensures failed { S.has_failed sink.new ≡ is_err result }
+    ensures flushes { S.flushes sink.new ≡ S.flushes sink.old }
 {
     if text.len() >= PIECE_BYTES {
-        put_whole(target, text)?;
+        write_whole(sink, text)?;
         text.clear();
     }
     Ok(())
-}
-
-/// Writes the report to a sink that has not failed, piece by piece, and then flushes it once.
-fn put_report<S: Sink>(
-    alloc: Global,
-    admitted: &Admitted<'_>,
-    population: &Population<'_>,
-    target: &mut Unfailed<'_, S>,
-) -> Result<Summary, ReportFault>
-    requires fits { Fits admitted.now population.now.content }
-    requires well { S.has_failed target.old.sink.now ≡ false }
-    requires unflushed { target.old.flushes ≡ 0 }
-    ensures report { OnOk result (Appends (S.contents target.old.sink.now)
-        (S.contents target.new.sink.now)
-        (report_of admitted.now.resolved.unit population.now.content)) }
-    ensures summary { IfOk result (λ s. s ≡
-        summary_of admitted.now.resolved.unit population.now.content) }
-    ensures prefix { OnErr result (WritesPrefix (S.contents target.old.sink.now)
-        (S.contents target.new.sink.now)
-        (report_of admitted.now.resolved.unit population.now.content)) }
-    ensures write { S.has_failed target.new.sink.now ≡ is_write_fault result }
-    ensures same_sink { target.new.sink.ghost_name ≡ target.old.sink.ghost_name }
-{
-    let mut text = Vec::new(alloc);
-    let mut cursor = ReportCursor::new(admitted, population, &mut text)?;
-    let mut machine = Machine::new(alloc, admitted.accepted(), population)?;
-    while let Some(pair) = cursor.next() {
-        report_pair(&mut machine, &mut cursor, pair, &mut text)?;
-        put_piece(target, &mut text)?;
-    }
-    put_and_flush(target, &text)?;
-    Ok(cursor.summary())
 }
 
 /// Writes the report on a population that fits the admitted code, so that no run is charged more than the budget, and
@@ -117,6 +84,18 @@ pub fn write_report<S: Sink>(
     ensures prefix { OnErr result (WritesPrefix (S.contents sink.old) (S.contents sink.new)
         (report_of admitted.now.resolved.unit population.now.content)) }
     ensures write { S.has_failed sink.new ≡ is_write_fault result }
+    ensures flushed { OnOk result (IsFlushedOnce S.flushes S.has_pending sink.old sink.new) }
+    // Where memory runs out there is no flush.
+    ensures unflushed { IfErr result (λ e. e ≡ fault.OutOfMemory →
+        S.flushes sink.new ≡ S.flushes sink.old) }
 {
-    put_report(alloc, admitted, population, &mut Unfailed::new(sink))
+    let mut text = Vec::new(alloc);
+    let mut cursor = ReportCursor::new(admitted, population, &mut text)?;
+    let mut machine = Machine::new(alloc, admitted.accepted(), population)?;
+    while let Some(pair) = cursor.next() {
+        report_pair(&mut machine, &mut cursor, pair, &mut text)?;
+        put_piece(sink, &mut text)?;
+    }
+    write_and_flush(sink, &text)?;
+    Ok(cursor.summary())
 }

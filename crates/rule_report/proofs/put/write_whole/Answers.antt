@@ -4,7 +4,7 @@ use Rattle.std.proofs.Math.Seq.{take-add}
 use Rattle.std.specs.Io.KnownBytes.{Appends}
 use Rattle.std.proofs.KnownBytes.{Appends-trans}
 use Rattle.rule_report.proofs.Writes.{takes_some}
-use Rattle.rule_report.proofs.put.put_whole.Goals as goal
+use Rattle.rule_report.proofs.put.write_whole.Goals as goal
 
 pub loop-at-preserved : goal.loop-at-preserved
 loop-at-preserved g c =
@@ -15,8 +15,7 @@ loop-at-preserved g c =
     let parts : take at bs ++ take c.in-Ok.n (take (length bs - at) (drop at bs)) ≡ take (at + c.in-Ok.n) bs = rw rest (sym (take-add at c.in-Ok.n bs)) in
     record {
       within = omega (arith, more.bound, ap length rest, length-drop at bs);
-      written = subst (λ (xs : List ℕ). Appends (g.S.Sink.contents c.args.target.now.sink.now) (g.S.Sink.contents c.write.new.self.sink.now) xs) parts (Appends-trans _ (g.S.Sink.contents c.loop-at.target.sink.now) _ (take at bs) _ c.loop-at.invariant.written more.bytes);
+      written = subst (λ (xs : List ℕ). Appends (g.S.Sink.contents c.args.sink.now) (g.S.Sink.contents c.write.new.self) xs) parts (Appends-trans _ (g.S.Sink.contents c.loop-at.sink) _ (take at bs) _ c.loop-at.invariant.written more.bytes);
       well = more.failed ∙ takes_some (take (length bs - at) (drop at bs)) c.in-Ok.n c.in-Ok.n-test.1;
       flushes = more.flushes ∙ c.loop-at.invariant.flushes;
-      same = more.same_sink ∙ c.loop-at.invariant.same;
     }
