@@ -1,9 +1,10 @@
 //! The calls of a script, one after another.
 
-ghost use Rattle.std.specs.Prelude.{◌≡◌, false, OnOk, OnErr, is_err};
+ghost use Rattle.std.specs.Prelude.{◌≡◌, false, OnOk, OnErr, IfErr, is_err};
 ghost use Rattle.std.specs.Io.KnownBytes.{Appends};
 ghost use Rattle.rule_cost.specs.Admission.{Fits};
-ghost use Rattle.rule_report.specs.Sink.{WritesPrefix};
+ghost use Rattle.rule_report.specs.declared.fault.ReportFault.TheVariants as fault;
+ghost use Rattle.rule_report.specs.Sink.{WritesPrefix, IsFlushedOnce};
 ghost use Rattle.rule_report.specs.Writing.{is_write_fault};
 ghost use Rattle.desk_replies.specs.Replies.{script_replies};
 ghost use Rattle.desk_replies.specs.Told.{IsToldSoFar};
@@ -27,6 +28,7 @@ fn write_piece<S: Sink>(sink: &mut S, text: &mut Vec<u8>) -> Result<(), WriteFai
     ensures err { OnErr result
         (WritesPrefix (S.contents sink.old) (S.contents sink.new) text.old.items) }
     ensures failed { S.has_failed sink.new ≡ is_err result }
+    ensures flushes { S.flushes sink.new ≡ S.flushes sink.old }
 {
     if text.len() >= PIECE_BYTES {
         write_whole(sink, text)?;
@@ -36,8 +38,8 @@ fn write_piece<S: Sink>(sink: &mut S, text: &mut Vec<u8>) -> Result<(), WriteFai
 }
 
 /// Makes the calls of a script on a desk without jobs, each job being the report on a population that fits the admitted
-/// code, and writes what is replied. Where memory runs out or a write fails, the sink took a prefix of the replies; it has
-/// failed exactly where the answer is `Write`.
+/// code, writes what is replied, and then flushes the sink once. Where memory runs out or a write fails, the sink took a
+/// prefix of the replies; it has failed exactly where the result is `Write`.
 pub fn answer_calls<'a, S: Sink>(
     alloc: Global,
     admitted: &'a Admitted<'a>,
@@ -52,6 +54,10 @@ pub fn answer_calls<'a, S: Sink>(
     ensures prefix { OnErr result (WritesPrefix (S.contents sink.old) (S.contents sink.new)
         (script_replies admitted.entry.now population.entry.now.content calls.now)) }
     ensures write { S.has_failed sink.new ≡ is_write_fault result }
+    ensures flushed { OnOk result (IsFlushedOnce S.flushes S.has_pending sink.old sink.new) }
+    // Where memory runs out there is no flush.
+    ensures unflushed { IfErr result (λ e. e ≡ fault.OutOfMemory →
+        S.flushes sink.new ≡ S.flushes sink.old) }
 {
     let mut desk = Desk::new(alloc);
     let mut text = Vec::new(alloc);

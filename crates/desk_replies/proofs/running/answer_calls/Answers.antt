@@ -1,4 +1,4 @@
-use Rattle.std.proofs.Common.{refl}
+use Rattle.std.proofs.Common.{refl, ◌∙◌}
 use Rattle.desk_replies.proofs.Writes.{at_next, stops_after, stops_at, nothing_more, at_last, on_err}
 use Rattle.desk_replies.proofs.running.answer_calls.Goals as goal
 
@@ -15,6 +15,7 @@ pub loop-call-preserved : goal.loop-call-preserved
 loop-call-preserved g c = record {
   at = at_next _ _ _ _ _ _ _ _ _ _ _ c.loop-call-test.true refl c.loop-call.invariant.at c.in_ok-reply.ensures _ _ c.in_ok-write_piece.ensures.ok;
   well = c.in_ok-write_piece.ensures.failed;
+  flushes = c.write_piece.ensures.flushes ∙ c.loop-call.invariant.flushes;
 }
 
 pub returns-in_err-write_and_flush-clause-prefix : goal.returns-in_err-write_and_flush-clause-prefix
