@@ -41,18 +41,18 @@ judge_is_answered asked f budget same model delivery rules old new o h =
     by_form f budget model delivery rules old new o (subst (λ (a : Asked). Answered a model delivery rules old new o) same h)
 
 -- a text's answer is what is answered where a text is asked about
-pub text_is_asked : {S : Type 0} (contents : S → Option (List ℕ)) (has_failed : S → Bool) (asked : Asked) (budget : ℕ) → asked ≡ Text budget → (rules : List ℕ) (p : Population) (old : S) (o : Outcome) (new : S)
-    → ((t : TextReading) × ReadsAs rules t × IsEnding contents has_failed false (text_answer budget t p) old o new)
-    → (reading : ReadingFor asked rules) × IsEnding contents has_failed (is_whole_asked asked) (answer_by asked rules reading p) old o new
-text_is_asked contents has_failed asked budget is rules p old o new h =
-    subst (λ (a : Asked). (reading : ReadingFor a rules) × IsEnding contents has_failed (is_whole_asked a) (answer_by a rules reading p) old o new) (sym is) ((h.0, h.1), h.2)
+pub text_is_asked : {S : Type 0} (contents : S → Option (List ℕ)) (has_failed : S → Bool) (flushes : S → ℕ) (has_pending : S → Bool) (asked : Asked) (budget : ℕ) → asked ≡ Text budget → (rules : List ℕ) (p : Population) (old : S) (o : Outcome) (new : S)
+    → ((t : TextReading) × ReadsAs rules t × IsEnding contents has_failed flushes has_pending false (text_answer budget t p) old o new)
+    → (reading : ReadingFor asked rules) × IsEnding contents has_failed flushes has_pending (is_whole_asked asked) (answer_by asked rules reading p) old o new
+text_is_asked contents has_failed flushes has_pending asked budget is rules p old o new h =
+    subst (λ (a : Asked). (reading : ReadingFor a rules) × IsEnding contents has_failed flushes has_pending (is_whole_asked a) (answer_by a rules reading p) old o new) (sym is) ((h.0, h.1), h.2)
 
 -- ---- equal inputs
 
-module _ {S : Type 0} (contents : S → Option (List ℕ)) (has_failed : S → Bool) (asked : Asked) (old : S) (o : Outcome) (new : S) where
+module _ {S : Type 0} (contents : S → Option (List ℕ)) (has_failed : S → Bool) (flushes : S → ℕ) (has_pending : S → Bool) (asked : Asked) (old : S) (o : Outcome) (new : S) where
   abbrev Ended : List ℕ → List ℕ → List ℕ → Type 0
   Ended model delivery rules =
-      (reading : ReadingFor asked rules) × IsEnding contents has_failed (is_whole_asked asked) (inputs_answer (answer_by asked rules reading) model delivery) old o new
+      (reading : ReadingFor asked rules) × IsEnding contents has_failed flushes has_pending (is_whole_asked asked) (inputs_answer (answer_by asked rules reading) model delivery) old o new
 
   -- inputs that are equal are answered alike
   pub ended_alike : (model delivery rules model' delivery' rules' : List ℕ) → model ≡ model' → delivery ≡ delivery' → rules ≡ rules' → Ended model delivery rules → Ended model' delivery' rules'

@@ -1,5 +1,6 @@
 -- How a part of a command ends.
 use Rattle.std.proofs.Common.{◌≡◌, ◌≤◌, ℕ, Bool, true, false, List, length, Option, Result, Ok, Err, refl, sym, ap, ◌∙◌, subst}
+use Rattle.std.proofs.KnownBytes.{Appends-nil}
 use Rattle.std.proofs.lemmas.Bool.{false≢true}
 use Rattle.ocl_base.proofs.ForAbove.{not_okay}
 use Rattle.ocl_check.specs.declared.input.InputFault.{InputFault}
@@ -10,7 +11,7 @@ use Rattle.ocl_check.specs.declared.outcome.Outcome.{Outcome}
 use Rattle.ocl_check.specs.declared.outcome.Outcome.TheVariants.{Status, Failed}
 use Rattle.ocl_check.specs.Reply.{Answer}
 use Rattle.ocl_check.specs.declared.input.TheConstants.{MAX_INPUT}
-use Rattle.ocl_check.specs.Answers.{IsWithin, KeepsSink, KeepsUnread, input_failure, is_read, is_write}
+use Rattle.ocl_check.specs.Answers.{IsAnswered, IsCutBy, IsFlushedBy, IsWithin, KeepsSink, KeepsUnread, input_failure, is_read, is_write}
 use Rattle.ocl_check.specs.Ending.{IsEnding, KeepsBy}
 
 -- what came of reading inputs
@@ -21,14 +22,31 @@ abbrev had : {X : Type 0} → X → Result X InputFault
 had x = Ok x
 
 -- one answer for another that is equal
-pub ending_as : {S : Type 0} {contents : S → Option (List ℕ)} {has_failed : S → Bool} {is_whole : Bool} {a b : Answer} {old new : S} {o : Outcome}
-    → a ≡ b → IsEnding contents has_failed is_whole a old o new → IsEnding contents has_failed is_whole b old o new
-ending_as {S} {contents} {has_failed} {is_whole} {a} {b} {old} {new} {o} same h = subst (λ (x : Answer). IsEnding contents has_failed is_whole x old o new) same h
+pub ending_as : {S : Type 0} {contents : S → Option (List ℕ)} {has_failed : S → Bool} {flushes : S → ℕ} {has_pending : S → Bool} {is_whole : Bool} {a b : Answer} {old new : S} {o : Outcome}
+    → a ≡ b → IsEnding contents has_failed flushes has_pending is_whole a old o new → IsEnding contents has_failed flushes has_pending is_whole b old o new
+ending_as {S} {contents} {has_failed} {flushes} {has_pending} {is_whole} {a} {b} {old} {new} {o} same h = subst (λ (x : Answer). IsEnding contents has_failed flushes has_pending is_whole x old o new) same h
 
 -- an input within the limit is within it however the command ends
 pub within : (o : Outcome) (xs : List ℕ) → length xs ≤ MAX_INPUT → IsWithin o xs
 within (Status s) xs h = h
 within (Failed fault) xs h = tt
+
+-- ---- what is written
+
+-- nothing of an answer is written where a command failed before its first byte
+cut_at_once : (c : CommandFault) (status : ℕ) → IsCutBy c status 0
+cut_at_once OutOfMemory status = λ refused. refl
+cut_at_once Read status = tt
+cut_at_once Write status = tt
+
+pub nothing_said : (a : Answer) (c : CommandFault) (o : Option (List ℕ)) → IsAnswered a o o (Failed c)
+nothing_said a c o = (0, Appends-nil o, cut_at_once c a.1)
+
+-- nor is there a flush
+pub unflushed : {S : Type 0} (flushes : S → ℕ) (has_pending : S → Bool) (c : CommandFault) (s : S) → IsFlushedBy flushes has_pending (Failed c) s s
+unflushed flushes has_pending OutOfMemory s = refl
+unflushed flushes has_pending Read s = refl
+unflushed flushes has_pending Write s = tt
 
 -- ---- what stays of a sink
 
@@ -78,6 +96,10 @@ failed_read c f is h = ap unread (input_is_read f (sym (ap is_read is) ∙ h))
 -- and there it does
 pub read_fails : {X : Type 0} (c : CommandFault) (f : InputFault) → c ≡ input_failure f → unread {X = X} f ≡ unread input.Read → is_read c ≡ true
 read_fails c f is h = let same : f ≡ input.Read = cc in ap is_read (is ∙ ap input_failure same)
+
+-- where a command doesn't fail for a read, that isn't why its inputs can't be had
+pub not_read : {X : Type 0} (c : CommandFault) (f : InputFault) → c ≡ input_failure f → is_read c ≡ false → unread {X = X} f ≡ unread input.Read → ⊥
+not_read c f is other h = false≢true (sym other ∙ read_fails c f is h)
 
 -- inputs that were read didn't fail
 pub was_read : {X : Type 0} (x : X) → had x ≡ unread input.Read → ⊥

@@ -39,9 +39,9 @@ cost_is_refused script p u z r of_population refused =
     sym (ap (admitted_script_answer script p u) (subst (λ (x : Sizes). admission u x MAX_BUDGET ≡ Err r) of_population refused))
 
 -- equal inputs are answered alike
-module _ {S : Type 0} (contents : S → Option (List ℕ)) (has_failed : S → Bool) (old : S) (o : Outcome) (new : S) where
+module _ {S : Type 0} (contents : S → Option (List ℕ)) (has_failed : S → Bool) (flushes : S → ℕ) (has_pending : S → Bool) (old : S) (o : Outcome) (new : S) where
   abbrev DeskEnds : List ℕ → List ℕ → List ℕ → List ℕ → Type 0
-  DeskEnds model delivery code script = IsEnding contents has_failed false (desk_answer model delivery code script) old o new
+  DeskEnds model delivery code script = IsEnding contents has_failed flushes has_pending false (desk_answer model delivery code script) old o new
 
   pub desk_alike : (model delivery code script model' delivery' code' script' : List ℕ) → model ≡ model' → delivery ≡ delivery' → code ≡ code' → script ≡ script'
       → DeskEnds model delivery code script → DeskEnds model' delivery' code' script'

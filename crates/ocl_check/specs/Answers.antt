@@ -1,6 +1,7 @@
 -- How a command ends, and what it has read and written then.
 use Rattle.std.specs.Prelude.{◌≡◌, ◌≤◌, ◌+◌, ℕ, Bool, true, false, List, length, take, Option, Some, None, ⊤, codes}
 use Rattle.std.specs.Io.KnownBytes.{Appends}
+use Rattle.rule_report.specs.Sink.{IsFlushedOnce}
 use Rattle.ocl_check.specs.declared.outcome.Outcome.{Outcome}
 use Rattle.ocl_check.specs.declared.outcome.Outcome.TheVariants.{Status, Failed}
 use Rattle.ocl_check.specs.declared.outcome.CommandFault.{CommandFault}
@@ -48,10 +49,17 @@ fails_read (Failed fault) = is_read fault
 
 -- ---- what is written
 
--- what a sink took, and how the command ended: the answer whole, or a prefix of its bytes
+-- where memory runs out, nothing is written of a refusal's line, whose status is 2
+abbrev pub IsCutBy : CommandFault → ℕ → ℕ → Type 0
+IsCutBy OutOfMemory status n = status ≡ 2 → n ≡ 0
+IsCutBy Read status n = ⊤
+IsCutBy Write status n = ⊤
+
+-- What a sink took, and how the command ended: the answer whole, or a prefix of its bytes, which is empty where memory
+-- runs out and the answer is a refusal.
 abbrev pub IsAnswered : Answer → Option (List ℕ) → Option (List ℕ) → Outcome → Type 0
 IsAnswered answer old new (Status s) = Appends old new answer.0 × (s ≡ answer.1)
-IsAnswered answer old new (Failed fault) = (n : ℕ) × Appends old new (take n answer.0)
+IsAnswered answer old new (Failed fault) = (n : ℕ) × Appends old new (take n answer.0) × IsCutBy fault answer.1 n
 
 -- the same where several answers are right
 abbrev pub IsAnsweredBy : (Answer → Type 0) → Option (List ℕ) → Option (List ℕ) → Outcome → Type 0
@@ -66,6 +74,14 @@ is_write Write = true
 abbrev pub fails_write : Outcome → Bool
 fails_write (Status s) = false
 fails_write (Failed fault) = is_write fault
+
+-- how a sink is flushed: once, after the last byte, where a command ended with a status; not at all where memory or a read
+-- failed
+abbrev pub IsFlushedBy : {S : Type 0} → (S → ℕ) → (S → Bool) → Outcome → S → S → Type 0
+IsFlushedBy flushes has_pending (Status s) old new = IsFlushedOnce flushes has_pending old new
+IsFlushedBy flushes has_pending (Failed OutOfMemory) old new = flushes new ≡ flushes old
+IsFlushedBy flushes has_pending (Failed Read) old new = flushes new ≡ flushes old
+IsFlushedBy flushes has_pending (Failed Write) old new = ⊤
 
 -- The sink is as it was where a read failed. Where memory ran out it may have taken a prefix of the answer.
 abbrev pub KeepsUnread : {S : Type 0} → Outcome → S → S → Type 0

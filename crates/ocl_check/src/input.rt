@@ -1,6 +1,6 @@
 //! Reading an input whole.
 
-ghost use Rattle.std.specs.Prelude.{◌≡◌, ◌≤◌, ◌<◌, ◌+◌, ◌^◌, ◌⊎◌, ◌||◌, List, ℕ, false, true, Err, OnOk, IfOk, length};
+ghost use Rattle.std.specs.Prelude.{◌≡◌, ◌≢◌, ◌≤◌, ◌<◌, ◌+◌, ◌^◌, ◌⊎◌, ◌||◌, List, ℕ, false, true, Err, OnOk, IfOk, length};
 ghost use Rattle.std.specs.Io.KnownBytes.{Consumes, IsAtEnd};
 ghost use Rattle.ocl_check.specs.declared.input.InputFault.TheVariants as fault;
 ghost use Rattle.ocl_check.specs.Input.{ConsumesAtMost, CantBeRead};
@@ -26,8 +26,8 @@ pub enum InputFault {
 }
 
 /// All bytes of a source that no read was made of, at most `limit`, which is below 2^63. `InputFault::Read`: a read
-/// failed, or there are more bytes; `InputFault::OutOfMemory`: there is no memory for them. Whatever the answer is, at
-/// most `limit + 1` bytes were read, by at most `limit + 1` reads.
+/// failed, or there are more bytes; `InputFault::OutOfMemory`: there is no memory for them. Whatever is returned, at most
+/// `limit + 1` bytes were read, by at most `limit + 1` reads; and at most `limit` bytes, unless it is `Read`.
 pub fn read_input<R: Source>(
     alloc: Global,
     source: &mut R,
@@ -43,10 +43,13 @@ pub fn read_input<R: Source>(
     ensures consumed { ConsumesAtMost (R.remaining source.old) (R.remaining source.new)
         (limit + 1) }
     ensures reads { R.reads source.new ≤ limit + 1 }
-    // A failed read is answered only where one failed, there are more bytes, or the reads are used up.
+    // A failed read is returned only where one failed or there are more bytes.
     ensures read_fault { result ≡ Err fault.Read → CantBeRead limit (R.remaining source.old)
-        (R.remaining source.new) (R.has_failed source.new) (R.reads source.new) }
-    // Where a read failed, that is answered.
+        (R.remaining source.new) (R.has_failed source.new) }
+    // Unless it is returned, no more than the limit was read.
+    ensures within { result ≢ Err fault.Read →
+        ConsumesAtMost (R.remaining source.old) (R.remaining source.new) limit }
+    // Where a read failed, that is returned.
     ensures failed { R.has_failed source.new ≡ true → result ≡ Err fault.Read }
 {
     let mut found = Vec::new(alloc);
@@ -66,6 +69,7 @@ pub fn read_input<R: Source>(
             return Err(InputFault::OutOfMemory);
         }
     }
+    // Each read gave a byte at least, so there were more than the limit before this.
     Err(InputFault::Read)
 }
 
@@ -86,9 +90,13 @@ pub(crate) fn read_two<A: Source, B: Source>(
         (B.reads second.new) }
     ensures read_fault { result ≡ Err fault.Read →
         CantBeRead MAX_INPUT (A.remaining first.old) (A.remaining first.new)
-        (A.has_failed first.new) (A.reads first.new)
+        (A.has_failed first.new)
         ⊎ CantBeRead MAX_INPUT (B.remaining second.old) (B.remaining second.new)
-        (B.has_failed second.new) (B.reads second.new) }
+        (B.has_failed second.new) }
+    // Unless a failed read is returned, no more than the limit was read of each.
+    ensures within { result ≢ Err fault.Read →
+        ConsumesAtMost (A.remaining first.old) (A.remaining first.new) MAX_INPUT
+        × ConsumesAtMost (B.remaining second.old) (B.remaining second.new) MAX_INPUT }
     ensures failed { (A.has_failed first.new || B.has_failed second.new) ≡ true →
         result ≡ Err fault.Read }
     ensures second_waits { IsAtEnd (A.remaining first.new) ⊎ (second.new ≡ second.old) }

@@ -78,8 +78,8 @@ impl From<OutOfMemory> for CommandFault {
 /// Writes a reply, and then flushes the sink.
 pub(crate) fn say<S: Sink>(sink: &mut S, reply: &Reply) -> Outcome
     requires { S.has_failed sink.old ≡ false }
-    ensures { (is_whole : Bool) →
-        IsEnding S.contents S.has_failed is_whole (said reply.now) sink.old result sink.new }
+    ensures { (is_whole : Bool) → IsEnding S.contents S.has_failed S.flushes S.has_pending
+        is_whole (said reply.now) sink.old result sink.new }
 {
     match write_and_flush(sink, reply.text.as_bytes()) {
         Ok(()) => Outcome::Status(reply.status),
@@ -90,8 +90,8 @@ pub(crate) fn say<S: Sink>(sink: &mut S, reply: &Reply) -> Outcome
 /// Writes a reply, if there was memory to make it.
 pub(crate) fn answer<S: Sink>(sink: &mut S, reply: Result<Reply, OutOfMemory>) -> Outcome
     requires { S.has_failed sink.old ≡ false }
-    ensures { (is_whole : Bool) (a : Answer) → IfOk reply (λ r. said r ≡ a) →
-        IsEnding S.contents S.has_failed is_whole a sink.old result sink.new }
+    ensures { (is_whole : Bool) (a : Answer) → IfOk reply (λ r. said r ≡ a) → IsEnding S.contents
+        S.has_failed S.flushes S.has_pending is_whole a sink.old result sink.new }
 {
     match reply {
         Ok(reply) => say(sink, &reply),

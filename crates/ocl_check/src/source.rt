@@ -30,7 +30,8 @@ pub trait Source {
         ensures failed { has_failed self.new ≡ is_err result };
 }
 
-/// Any reader as a source. Contracts see the reader, how many reads were made of it, and whether one has failed.
+/// Any reader as a source. Contracts see the reader, how many reads were made of it, and whether one has failed. Each call
+/// of it is one call of the reader: that none is made again is shown by the tests `readers` of `ocl_tests`.
 #[derive(Drop)]
 pub struct Counting<R> {
     inner: R,

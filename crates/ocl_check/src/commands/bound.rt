@@ -3,9 +3,9 @@
 ghost use Rattle.std.specs.Prelude.{◌≡◌, ◌⊎◌, ◌||◌, ◌++◌, true, false, IfOk, OnOk, string_bytes};
 ghost use Rattle.std.specs.Io.KnownBytes.{IsAtEnd};
 ghost use Rattle.ocl_check.specs.declared.input.TheConstants.{MAX_INPUT};
-ghost use Rattle.ocl_check.specs.Answers.{IsAnswered, IsReadWithinLimits, IsUnread, KeepsSink, ReadBy, fails_read, fails_write};
+ghost use Rattle.ocl_check.specs.Answers.{IsAnswered, IsFlushedBy, IsReadWithinLimits, IsUnread, KeepsSink, ReadBy, fails_read, fails_write};
 ghost use Rattle.ocl_check.specs.Bound.{bound_line_of, bound_lines, bound_answer};
-ghost use Rattle.ocl_check.specs.Input.{CantBeRead};
+ghost use Rattle.ocl_check.specs.Input.{CantBeRead, ConsumesAtMost};
 ghost use Rattle.ocl_check.specs.Reply.{said};
 
 use crate::commands::rules::{Asked, Question};
@@ -71,6 +71,7 @@ pub fn run_bound<M: Source, D: Source, C: Source, S: Sink>(
         ReadBy result (D.remaining delivery.old) (λ ys. ReadBy result (C.remaining code.old) (λ zs.
         IsAnswered (bound_answer xs ys zs) (S.contents sink.old) (S.contents sink.new) result))) }
     ensures sink { S.has_failed sink.new ≡ fails_write result }
+    ensures flushed { IsFlushedBy S.flushes S.has_pending result sink.old sink.new }
     ensures kept { KeepsSink result sink.old sink.new }
     ensures model_read { IsReadWithinLimits (M.remaining model.old) (M.remaining model.new)
         (M.reads model.new) }
@@ -80,11 +81,16 @@ pub fn run_bound<M: Source, D: Source, C: Source, S: Sink>(
         (C.reads code.new) }
     ensures read_fault { fails_read result ≡ true →
         CantBeRead MAX_INPUT (M.remaining model.old) (M.remaining model.new)
-        (M.has_failed model.new) (M.reads model.new)
+        (M.has_failed model.new)
         ⊎ (CantBeRead MAX_INPUT (D.remaining delivery.old) (D.remaining delivery.new)
-        (D.has_failed delivery.new) (D.reads delivery.new)
+        (D.has_failed delivery.new)
         ⊎ CantBeRead MAX_INPUT (C.remaining code.old) (C.remaining code.new)
-        (C.has_failed code.new) (C.reads code.new)) }
+        (C.has_failed code.new)) }
+    // Unless a failed read is returned, no more than the limit was read of each.
+    ensures within { fails_read result ≡ false →
+        ConsumesAtMost (M.remaining model.old) (M.remaining model.new) MAX_INPUT
+        × ConsumesAtMost (D.remaining delivery.old) (D.remaining delivery.new) MAX_INPUT
+        × ConsumesAtMost (C.remaining code.old) (C.remaining code.new) MAX_INPUT }
     ensures failed { (M.has_failed model.new || D.has_failed delivery.new
         || C.has_failed code.new) ≡ true → fails_read result ≡ true }
     ensures delivery_waits { IsAtEnd (M.remaining model.new) ⊎ (delivery.new ≡ delivery.old) }

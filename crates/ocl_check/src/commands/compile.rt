@@ -3,10 +3,11 @@
 ghost use Rattle.std.specs.Prelude.{◌≡◌, ◌⊎◌, ◌||◌, true, false, IfOk, IsOk};
 ghost use Rattle.std.specs.Io.KnownBytes.{IsAtEnd};
 ghost use Rattle.rule_code.specs.View.{content};
+ghost use Rattle.rule_report.specs.Sink.{IsFlushedOnce};
 ghost use Rattle.ocl_check.specs.declared.input.TheConstants.{MAX_INPUT};
-ghost use Rattle.ocl_check.specs.Answers.{IsAnswered, IsReadWithinLimits, IsUnread, KeepsSink, ReadBy, fails_read, fails_write};
+ghost use Rattle.ocl_check.specs.Answers.{IsAnswered, IsFlushedBy, IsReadWithinLimits, IsUnread, KeepsSink, ReadBy, fails_read, fails_write};
 ghost use Rattle.ocl_check.specs.Compile.{CompileAnswer, compiled_code, compiled_answer, compile_answer, HasUnit, HasUnitFor, IsCodeWritten, IsOfUnit};
-ghost use Rattle.ocl_check.specs.Input.{CantBeRead};
+ghost use Rattle.ocl_check.specs.Input.{CantBeRead, ConsumesAtMost};
 ghost use Rattle.ocl_check.specs.Reply.{said};
 ghost use Rattle.ocl_check.specs.TextReading.{TextReading, ReadsAs};
 ghost use Rattle.ocl_check.specs.ThreeInputs.{model_of};
@@ -99,7 +100,10 @@ fn write_compiled<O: Sink, S: Sink>(
     ensures code { IsCodeWritten O.contents O.has_failed (Some code.now) out.old out.new result }
     ensures said { IsAnswered (said reply.now) (S.contents sink.old) (S.contents sink.new) result }
     ensures sinks { (O.has_failed out.new || S.has_failed sink.new) ≡ fails_write result }
+    ensures code_flushed { O.has_failed out.new ≡ false → (out.new ≡ out.old)
+        ⊎ IsFlushedOnce O.flushes O.has_pending out.old out.new }
     ensures code_first { O.has_failed out.new ≡ true → sink.new ≡ sink.old }
+    ensures flushed { IsFlushedBy S.flushes S.has_pending result sink.old sink.new }
     ensures kept { KeepsSink result sink.old sink.new }
     ensures read { fails_read result ≡ false }
 {
@@ -125,7 +129,10 @@ fn write_result<O: Sink, S: Sink>(
     ensures said { (a : CompileAnswer) → IfOk compiled (λ c. compiled_seen c ≡ a) →
         IsAnswered a.said (S.contents sink.old) (S.contents sink.new) result }
     ensures sinks { (O.has_failed out.new || S.has_failed sink.new) ≡ fails_write result }
+    ensures code_flushed { O.has_failed out.new ≡ false → (out.new ≡ out.old)
+        ⊎ IsFlushedOnce O.flushes O.has_pending out.old out.new }
     ensures code_first { O.has_failed out.new ≡ true → sink.new ≡ sink.old }
+    ensures flushed { IsFlushedBy S.flushes S.has_pending result sink.old sink.new }
     ensures kept { KeepsSink result sink.old sink.new }
     ensures read { fails_read result ≡ false }
     ensures ended { is_ended result ≡ true → IsOk compiled }
@@ -143,7 +150,8 @@ fn write_result<O: Sink, S: Sink>(
 /// model has ended.
 ///
 /// Where memory or a read fails both sinks are as they were. Where `out` can't be written it took a
-/// prefix of the code file, and nothing is printed; where only the reply can't, `out` took it whole.
+/// prefix of the code file, and nothing is printed; where only the reply can't, `out` took it whole. Each
+/// is flushed once, after its last byte, where it took all.
 pub fn run_compile<M: Source, R: Source, O: Sink, S: Sink>(
     alloc: Global,
     model: &mut M,
@@ -162,7 +170,10 @@ pub fn run_compile<M: Source, R: Source, O: Sink, S: Sink>(
         × IsAnswered (compile_answer xs t).said
         (S.contents sink.old) (S.contents sink.new) result)) }
     ensures sinks { (O.has_failed out.new || S.has_failed sink.new) ≡ fails_write result }
+    ensures code_flushed { O.has_failed out.new ≡ false → (out.new ≡ out.old)
+        ⊎ IsFlushedOnce O.flushes O.has_pending out.old out.new }
     ensures code_first { O.has_failed out.new ≡ true → sink.new ≡ sink.old }
+    ensures flushed { IsFlushedBy S.flushes S.has_pending result sink.old sink.new }
     ensures kept { KeepsSink result sink.old sink.new }
     ensures model_read { IsReadWithinLimits (M.remaining model.old) (M.remaining model.new)
         (M.reads model.new) }
@@ -170,9 +181,13 @@ pub fn run_compile<M: Source, R: Source, O: Sink, S: Sink>(
         (R.reads rules.new) }
     ensures read_fault { fails_read result ≡ true →
         CantBeRead MAX_INPUT (M.remaining model.old) (M.remaining model.new)
-        (M.has_failed model.new) (M.reads model.new)
+        (M.has_failed model.new)
         ⊎ CantBeRead MAX_INPUT (R.remaining rules.old) (R.remaining rules.new)
-        (R.has_failed rules.new) (R.reads rules.new) }
+        (R.has_failed rules.new) }
+    // Unless a failed read is returned, no more than the limit was read of each.
+    ensures within { fails_read result ≡ false →
+        ConsumesAtMost (M.remaining model.old) (M.remaining model.new) MAX_INPUT
+        × ConsumesAtMost (R.remaining rules.old) (R.remaining rules.new) MAX_INPUT }
     ensures failed { (M.has_failed model.new || R.has_failed rules.new) ≡ true →
         fails_read result ≡ true }
     ensures rules_wait { IsAtEnd (M.remaining model.new) ⊎ (rules.new ≡ rules.old) }

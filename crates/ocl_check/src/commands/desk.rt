@@ -1,15 +1,15 @@
 //! The command `desk`.
 
-ghost use Rattle.std.specs.Prelude.{◌≡◌, ◌⊎◌, ◌||◌, true, false, Ok, Err, IfOk};
+ghost use Rattle.std.specs.Prelude.{◌≡◌, ◌≢◌, ◌⊎◌, ◌||◌, true, false, Ok, Err, IfOk};
 ghost use Rattle.std.specs.Io.KnownBytes.{IsAtEnd};
 ghost use Rattle.imkl_population.specs.Sizes.{sizes_of};
 ghost use Rattle.rule_cost.specs.Admission.{Fits};
 ghost use Rattle.desk_script.specs.Script.{script_of};
 ghost use Rattle.ocl_check.specs.declared.input.InputFault.TheVariants as fault;
-ghost use Rattle.ocl_check.specs.Answers.{IsAnswered, IsReadWithinLimits, IsUnread, KeepsUnread, ReadBy, fails_read, fails_write};
+ghost use Rattle.ocl_check.specs.Answers.{IsAnswered, IsFlushedBy, IsReadWithinLimits, IsUnread, KeepsUnread, ReadBy, fails_read, fails_write};
 ghost use Rattle.ocl_check.specs.Desk.{script_answer, calls_answer, desk_answer};
 ghost use Rattle.ocl_check.specs.Ending.{IsEnding, IsInput};
-ghost use Rattle.ocl_check.specs.Input.{CantBeRead};
+ghost use Rattle.ocl_check.specs.Input.{CantBeRead, ConsumesAtMost};
 
 use crate::commands::judge::MAX_BUDGET;
 use crate::commands::rules::{Asked, Question};
@@ -36,8 +36,8 @@ fn reply_calls<S: Sink>(
 ) -> Outcome
     requires fits { Fits admitted.now population.now.content }
     requires well { S.has_failed sink.old ≡ false }
-    ensures { IsEnding S.contents S.has_failed false (script_answer admitted.now
-        population.now.content (Ok calls.now)) sink.old result sink.new }
+    ensures { IsEnding S.contents S.has_failed S.flushes S.has_pending false (script_answer
+        admitted.now population.now.content (Ok calls.now)) sink.old result sink.new }
 {
     match answer_calls(alloc, admitted, population, calls, sink) {
         Ok(()) => Outcome::Status(0),
@@ -56,8 +56,8 @@ fn reply_admitted<S: Sink>(
 ) -> Outcome
     requires fits { Fits admitted.now population.now.content }
     requires well { S.has_failed sink.old ≡ false }
-    ensures { IsEnding S.contents S.has_failed false (script_answer admitted.now
-        population.now.content (script_of script.now)) sink.old result sink.new }
+    ensures { IsEnding S.contents S.has_failed S.flushes S.has_pending false (script_answer
+        admitted.now population.now.content (script_of script.now)) sink.old result sink.new }
 {
     match read_script(alloc, script) {
         Ok(calls) => reply_calls(alloc, population, admitted, &calls, sink),
@@ -79,8 +79,8 @@ pub(crate) fn reply_within<S: Sink>(
     requires one_model { population.now.content.model ≡ accepted.now.model }
     requires sizes { sizes.now ≡ sizes_of population.now.content }
     requires well { S.has_failed sink.old ≡ false }
-    ensures { IsEnding S.contents S.has_failed false (calls_answer script.now
-        population.now.content accepted.now.unit) sink.old result sink.new }
+    ensures { IsEnding S.contents S.has_failed S.flushes S.has_pending false (calls_answer
+        script.now population.now.content accepted.now.unit) sink.old result sink.new }
 {
     match admit(alloc, accepted, sizes, MAX_BUDGET) {
         Ok(admitted) => reply_admitted(alloc, script, population, &admitted, sink),
@@ -115,13 +115,19 @@ fn read_all<M: Source, D: Source, C: Source, P: Source>(
         (P.reads script.new) }
     ensures read_fault { result ≡ Err fault.Read →
         CantBeRead MAX_INPUT (M.remaining model.old) (M.remaining model.new)
-        (M.has_failed model.new) (M.reads model.new)
+        (M.has_failed model.new)
         ⊎ (CantBeRead MAX_INPUT (D.remaining delivery.old) (D.remaining delivery.new)
-        (D.has_failed delivery.new) (D.reads delivery.new)
+        (D.has_failed delivery.new)
         ⊎ (CantBeRead MAX_INPUT (C.remaining code.old) (C.remaining code.new)
-        (C.has_failed code.new) (C.reads code.new)
+        (C.has_failed code.new)
         ⊎ CantBeRead MAX_INPUT (P.remaining script.old) (P.remaining script.new)
-        (P.has_failed script.new) (P.reads script.new))) }
+        (P.has_failed script.new))) }
+    // Unless a failed read is returned, no more than the limit was read of each.
+    ensures within { result ≢ Err fault.Read →
+        ConsumesAtMost (M.remaining model.old) (M.remaining model.new) MAX_INPUT
+        × ConsumesAtMost (D.remaining delivery.old) (D.remaining delivery.new) MAX_INPUT
+        × ConsumesAtMost (C.remaining code.old) (C.remaining code.new) MAX_INPUT
+        × ConsumesAtMost (P.remaining script.old) (P.remaining script.new) MAX_INPUT }
     ensures failed { (M.has_failed model.new || D.has_failed delivery.new
         || C.has_failed code.new || P.has_failed script.new) ≡ true → result ≡ Err fault.Read }
     ensures delivery_waits { IsAtEnd (M.remaining model.new) ⊎ (delivery.new ≡ delivery.old) }
@@ -139,7 +145,8 @@ fn read_all<M: Source, D: Source, C: Source, P: Source>(
 /// status 0; or, with status 2, the line of the first input that is refused, or of the first rule whose bound is 2^63 or
 /// more. The script is checked whole before its first call is made.
 ///
-/// It fails as `run_judge` does. Where memory runs out, for the desk too, the sink took a prefix of the answer.
+/// It fails as `run_judge` does. Where memory runs out, for the desk too, the sink took a prefix of the replies, and nothing
+/// of the line of a refusal.
 pub fn run_desk<M: Source, D: Source, C: Source, P: Source, S: Sink>(
     alloc: Global,
     model: &mut M,
@@ -158,6 +165,7 @@ pub fn run_desk<M: Source, D: Source, C: Source, P: Source, S: Sink>(
         ReadBy result (P.remaining script.old) (λ ws. IsAnswered (desk_answer xs ys zs ws)
         (S.contents sink.old) (S.contents sink.new) result)))) }
     ensures sink { S.has_failed sink.new ≡ fails_write result }
+    ensures flushed { IsFlushedBy S.flushes S.has_pending result sink.old sink.new }
     ensures kept { KeepsUnread result sink.old sink.new }
     ensures model_read { IsReadWithinLimits (M.remaining model.old) (M.remaining model.new)
         (M.reads model.new) }
@@ -169,13 +177,19 @@ pub fn run_desk<M: Source, D: Source, C: Source, P: Source, S: Sink>(
         (P.reads script.new) }
     ensures read_fault { fails_read result ≡ true →
         CantBeRead MAX_INPUT (M.remaining model.old) (M.remaining model.new)
-        (M.has_failed model.new) (M.reads model.new)
+        (M.has_failed model.new)
         ⊎ (CantBeRead MAX_INPUT (D.remaining delivery.old) (D.remaining delivery.new)
-        (D.has_failed delivery.new) (D.reads delivery.new)
+        (D.has_failed delivery.new)
         ⊎ (CantBeRead MAX_INPUT (C.remaining code.old) (C.remaining code.new)
-        (C.has_failed code.new) (C.reads code.new)
+        (C.has_failed code.new)
         ⊎ CantBeRead MAX_INPUT (P.remaining script.old) (P.remaining script.new)
-        (P.has_failed script.new) (P.reads script.new))) }
+        (P.has_failed script.new))) }
+    // Unless a failed read is returned, no more than the limit was read of each.
+    ensures within { fails_read result ≡ false →
+        ConsumesAtMost (M.remaining model.old) (M.remaining model.new) MAX_INPUT
+        × ConsumesAtMost (D.remaining delivery.old) (D.remaining delivery.new) MAX_INPUT
+        × ConsumesAtMost (C.remaining code.old) (C.remaining code.new) MAX_INPUT
+        × ConsumesAtMost (P.remaining script.old) (P.remaining script.new) MAX_INPUT }
     ensures failed { (M.has_failed model.new || D.has_failed delivery.new
         || C.has_failed code.new || P.has_failed script.new) ≡ true → fails_read result ≡ true }
     ensures delivery_waits { IsAtEnd (M.remaining model.new) ⊎ (delivery.new ≡ delivery.old) }

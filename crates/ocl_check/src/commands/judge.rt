@@ -5,9 +5,9 @@ ghost use Rattle.std.specs.Io.KnownBytes.{IsAtEnd};
 ghost use Rattle.imkl_population.specs.Sizes.{sizes_of};
 ghost use Rattle.rule_cost.specs.Admission.{Fits};
 ghost use Rattle.ocl_check.specs.declared.input.TheConstants.{MAX_INPUT};
-ghost use Rattle.ocl_check.specs.Answers.{IsAnsweredBy, IsReadWithinLimits, IsUnread, KeepsUnread, ReadBy, fails_read, fails_write};
+ghost use Rattle.ocl_check.specs.Answers.{IsAnsweredBy, IsFlushedBy, IsReadWithinLimits, IsUnread, KeepsUnread, ReadBy, fails_read, fails_write};
 ghost use Rattle.ocl_check.specs.Ending.{IsEnding};
-ghost use Rattle.ocl_check.specs.Input.{CantBeRead};
+ghost use Rattle.ocl_check.specs.Input.{CantBeRead, ConsumesAtMost};
 ghost use Rattle.ocl_check.specs.Judge.{status_of, report_answer, budget_answer};
 ghost use Rattle.ocl_check.specs.JudgeText.{JudgeAnswers};
 ghost use Rattle.ocl_check.specs.Asking.{asked_by};
@@ -47,8 +47,8 @@ fn judge_admitted<S: Sink>(
 ) -> Outcome
     requires fits { Fits admitted.now population.now.content }
     requires well { S.has_failed sink.old ≡ false }
-    ensures { IsEnding S.contents S.has_failed false (report_answer population.now.content
-        admitted.now.resolved.unit) sink.old result sink.new }
+    ensures { IsEnding S.contents S.has_failed S.flushes S.has_pending false (report_answer
+        population.now.content admitted.now.resolved.unit) sink.old result sink.new }
 {
     match write_report(alloc, admitted, population, sink) {
         Ok(summary) => Outcome::Status(status_of(summary)),
@@ -69,8 +69,8 @@ pub(crate) fn judge_within<S: Sink>(
     requires one_model { population.now.content.model ≡ accepted.now.model }
     requires sizes { sizes.now ≡ sizes_of population.now.content }
     requires well { S.has_failed sink.old ≡ false }
-    ensures { IsEnding S.contents S.has_failed false (budget_answer budget population.now.content
-        accepted.now.unit) sink.old result sink.new }
+    ensures { IsEnding S.contents S.has_failed S.flushes S.has_pending false (budget_answer budget
+        population.now.content accepted.now.unit) sink.old result sink.new }
 {
     match admit(alloc, accepted, sizes, budget) {
         Ok(admitted) => judge_admitted(alloc, population, &admitted, sink),
@@ -118,8 +118,9 @@ impl JudgeOptions {
 /// they mean. Whatever it answers, of each input at most 268,435,457 bytes are read, by as many reads.
 ///
 /// `Failed(Read)`: an input can't be read, or is too long; then the sink is as it was.
-/// `Failed(OutOfMemory)`: memory ran out. `Failed(Write)`: the sink has failed. In both the sink took a
-/// prefix of the answer.
+/// `Failed(OutOfMemory)`: memory ran out; the sink took a prefix of the report, and nothing of the line
+/// of a refusal. `Failed(Write)`: the sink has failed, after a prefix of the answer. The sink is flushed
+/// once, after the last byte, where the command ends with a status.
 pub fn run_judge<M: Source, D: Source, R: Source, S: Sink>(
     alloc: Global,
     options: JudgeOptions,
@@ -137,6 +138,7 @@ pub fn run_judge<M: Source, D: Source, R: Source, S: Sink>(
         IsAnsweredBy (JudgeAnswers options xs ys zs) (S.contents sink.old) (S.contents sink.new)
         result))) }
     ensures sink { S.has_failed sink.new ≡ fails_write result }
+    ensures flushed { IsFlushedBy S.flushes S.has_pending result sink.old sink.new }
     ensures kept { KeepsUnread result sink.old sink.new }
     // Whatever is answered, so much is read of each input.
     ensures model_read { IsReadWithinLimits (M.remaining model.old) (M.remaining model.new)
@@ -145,14 +147,19 @@ pub fn run_judge<M: Source, D: Source, R: Source, S: Sink>(
         (D.reads delivery.new) }
     ensures rules_read { IsReadWithinLimits (R.remaining rules.old) (R.remaining rules.new)
         (R.reads rules.new) }
-    // A failed read is answered only where an input can't be read, and then it is, where a read failed.
+    // A failed read is returned only where an input can't be read, and always where a read failed.
     ensures read_fault { fails_read result ≡ true →
         CantBeRead MAX_INPUT (M.remaining model.old) (M.remaining model.new)
-        (M.has_failed model.new) (M.reads model.new)
+        (M.has_failed model.new)
         ⊎ (CantBeRead MAX_INPUT (D.remaining delivery.old) (D.remaining delivery.new)
-        (D.has_failed delivery.new) (D.reads delivery.new)
+        (D.has_failed delivery.new)
         ⊎ CantBeRead MAX_INPUT (R.remaining rules.old) (R.remaining rules.new)
-        (R.has_failed rules.new) (R.reads rules.new)) }
+        (R.has_failed rules.new)) }
+    // Unless a failed read is returned, no more than the limit was read of each.
+    ensures within { fails_read result ≡ false →
+        ConsumesAtMost (M.remaining model.old) (M.remaining model.new) MAX_INPUT
+        × ConsumesAtMost (D.remaining delivery.old) (D.remaining delivery.new) MAX_INPUT
+        × ConsumesAtMost (R.remaining rules.old) (R.remaining rules.new) MAX_INPUT }
     ensures failed { (M.has_failed model.new || D.has_failed delivery.new
         || R.has_failed rules.new) ≡ true → fails_read result ≡ true }
     ensures delivery_waits { IsAtEnd (M.remaining model.new) ⊎ (delivery.new ≡ delivery.old) }

@@ -50,8 +50,9 @@ fn answer_sized<S: Sink>(
     requires one_model { population.now.content.model ≡ accepted.now.model }
     requires sizes { sizes.now ≡ sizes_of population.now.content }
     requires well { S.has_failed sink.old ≡ false }
-    ensures { IsEnding S.contents S.has_failed (is_whole_answer question.entry)
-        (answer_to question.entry population.now.content accepted.now.unit) sink.old result sink.new }
+    ensures { IsEnding S.contents S.has_failed S.flushes S.has_pending (is_whole_answer
+        question.entry) (answer_to question.entry population.now.content accepted.now.unit)
+        sink.old result sink.new }
 {
     match question {
         Question::Report { budget } => {
@@ -74,8 +75,9 @@ fn answer_accepted<S: Sink>(
 ) -> Outcome
     requires one_model { population.now.content.model ≡ accepted.now.model }
     requires well { S.has_failed sink.old ≡ false }
-    ensures { IsEnding S.contents S.has_failed (is_whole_answer question.entry)
-        (answer_to question.entry population.now.content accepted.now.unit) sink.old result sink.new }
+    ensures { IsEnding S.contents S.has_failed S.flushes S.has_pending (is_whole_answer
+        question.entry) (answer_to question.entry population.now.content accepted.now.unit)
+        sink.old result sink.new }
 {
     match population.sizes(alloc) {
         Ok(sizes) => answer_sized(alloc, question, population, &sizes, accepted, sink),
@@ -92,9 +94,9 @@ fn answer_unit<S: Sink>(
     sink: &mut S,
 ) -> Outcome
     requires { S.has_failed sink.old ≡ false }
-    ensures { IsEnding S.contents S.has_failed (is_whole_answer question.entry)
-        (code_answer (answer_to question.entry) population.now.content (Ok (content unit)))
-        sink.old result sink.new }
+    ensures { IsEnding S.contents S.has_failed S.flushes S.has_pending (is_whole_answer
+        question.entry) (code_answer (answer_to question.entry) population.now.content (Ok
+        (content unit))) sink.old result sink.new }
 {
     match verify(alloc, population.model(), unit) {
         Ok(accepted) => answer_accepted(alloc, question, population, &accepted, sink),
@@ -114,9 +116,9 @@ fn answer_code<S: Sink>(
     sink: &mut S,
 ) -> Outcome
     requires { S.has_failed sink.old ≡ false }
-    ensures { IsEnding S.contents S.has_failed (is_whole_answer question.entry)
-        (code_file_answer (answer_to question.entry) code.now population.now.content)
-        sink.old result sink.new }
+    ensures { IsEnding S.contents S.has_failed S.flushes S.has_pending (is_whole_answer
+        question.entry) (code_file_answer (answer_to question.entry) code.now
+        population.now.content) sink.old result sink.new }
 {
     match read_unit(alloc, code) {
         Ok(unit) => answer_unit(alloc, question, population, unit, sink),
@@ -134,8 +136,8 @@ fn answer_text<S: Sink>(
     sink: &mut S,
 ) -> Outcome
     requires { S.has_failed sink.old ≡ false }
-    ensures { (t : TextReading) × ReadsAs text.now t × IsEnding S.contents S.has_failed false
-        (text_answer budget t population.now.content) sink.old result sink.new }
+    ensures { (t : TextReading) × ReadsAs text.now t × IsEnding S.contents S.has_failed S.flushes
+        S.has_pending false (text_answer budget t population.now.content) sink.old result sink.new }
 {
     let model = population.model();
     model.well_formed();
@@ -171,7 +173,7 @@ pub(crate) fn answer_rules<S: Sink>(
 ) -> Outcome
     requires { S.has_failed sink.old ≡ false }
     ensures { (reading : ReadingFor asked.entry rules.now) ×
-        IsEnding S.contents S.has_failed (is_whole_asked asked.entry)
+        IsEnding S.contents S.has_failed S.flushes S.has_pending (is_whole_asked asked.entry)
         (answer_by asked.entry rules.now reading population.now.content) sink.old result sink.new }
 {
     match asked {

@@ -1,12 +1,12 @@
 //! The chain from the bytes of the inputs to the report on a delivery and rules.
 
-ghost use Rattle.std.specs.Prelude.{◌≡◌, ◌⊎◌, ◌||◌, true, false, Err, IfOk, OnOk};
+ghost use Rattle.std.specs.Prelude.{◌≡◌, ◌≢◌, ◌⊎◌, ◌||◌, true, false, Err, IfOk, OnOk};
 ghost use Rattle.std.specs.Io.KnownBytes.{IsAtEnd};
 ghost use Rattle.ocl_check.specs.declared.input.InputFault.TheVariants as fault;
-ghost use Rattle.ocl_check.specs.Answers.{IsAnswered, IsReadWithinLimits, IsUnread, ReadBy, fails_read, fails_write};
+ghost use Rattle.ocl_check.specs.Answers.{IsAnswered, IsFlushedBy, IsReadWithinLimits, IsUnread, ReadBy, fails_read, fails_write};
 ghost use Rattle.ocl_check.specs.Asking.{ReadingFor, answer_by, is_whole_asked};
 ghost use Rattle.ocl_check.specs.Ending.{IsEnding, IsInput, KeepsBy};
-ghost use Rattle.ocl_check.specs.Input.{CantBeRead};
+ghost use Rattle.ocl_check.specs.Input.{CantBeRead, ConsumesAtMost};
 ghost use Rattle.ocl_check.specs.ThreeInputs.{delivery_answer, population_of, inputs_answer};
 
 use crate::commands::rules::{Asked, answer_rules};
@@ -32,7 +32,7 @@ fn answer_delivery<S: Sink>(
 ) -> Outcome
     requires { S.has_failed sink.old ≡ false }
     ensures { (reading : ReadingFor asked.entry rules.now) ×
-        IsEnding S.contents S.has_failed (is_whole_asked asked.entry)
+        IsEnding S.contents S.has_failed S.flushes S.has_pending (is_whole_asked asked.entry)
         (delivery_answer (answer_by asked.entry rules.now reading)
         (population_of model.now delivery.now)) sink.old result sink.new }
 {
@@ -54,7 +54,7 @@ pub(crate) fn answer_inputs<S: Sink>(
 ) -> Outcome
     requires { S.has_failed sink.old ≡ false }
     ensures { (reading : ReadingFor asked.entry rules.now) ×
-        IsEnding S.contents S.has_failed (is_whole_asked asked.entry)
+        IsEnding S.contents S.has_failed S.flushes S.has_pending (is_whole_asked asked.entry)
         (inputs_answer (answer_by asked.entry rules.now reading) model.now delivery.now) sink.old
         result sink.new }
 {
@@ -98,11 +98,16 @@ pub(crate) fn read_inputs<M: Source, D: Source, R: Source>(
         (R.reads rules.new) }
     ensures read_fault { result ≡ Err fault.Read →
         CantBeRead MAX_INPUT (M.remaining model.old) (M.remaining model.new)
-        (M.has_failed model.new) (M.reads model.new)
+        (M.has_failed model.new)
         ⊎ (CantBeRead MAX_INPUT (D.remaining delivery.old) (D.remaining delivery.new)
-        (D.has_failed delivery.new) (D.reads delivery.new)
+        (D.has_failed delivery.new)
         ⊎ CantBeRead MAX_INPUT (R.remaining rules.old) (R.remaining rules.new)
-        (R.has_failed rules.new) (R.reads rules.new)) }
+        (R.has_failed rules.new)) }
+    // Unless a failed read is returned, no more than the limit was read of each.
+    ensures within { result ≢ Err fault.Read →
+        ConsumesAtMost (M.remaining model.old) (M.remaining model.new) MAX_INPUT
+        × ConsumesAtMost (D.remaining delivery.old) (D.remaining delivery.new) MAX_INPUT
+        × ConsumesAtMost (R.remaining rules.old) (R.remaining rules.new) MAX_INPUT }
     ensures failed { (M.has_failed model.new || D.has_failed delivery.new
         || R.has_failed rules.new) ≡ true → result ≡ Err fault.Read }
     ensures delivery_waits { IsAtEnd (M.remaining model.new) ⊎ (delivery.new ≡ delivery.old) }
@@ -137,6 +142,7 @@ pub(crate) fn ask<M: Source, D: Source, R: Source, S: Sink>(
         × IsAnswered (inputs_answer (answer_by asked.entry zs reading) xs ys)
         (S.contents sink.old) (S.contents sink.new) result))) }
     ensures sink { S.has_failed sink.new ≡ fails_write result }
+    ensures flushed { IsFlushedBy S.flushes S.has_pending result sink.old sink.new }
     ensures kept { KeepsBy (is_whole_asked asked.entry) result sink.old sink.new }
     ensures model_read { IsReadWithinLimits (M.remaining model.old) (M.remaining model.new)
         (M.reads model.new) }
@@ -146,11 +152,16 @@ pub(crate) fn ask<M: Source, D: Source, R: Source, S: Sink>(
         (R.reads rules.new) }
     ensures read_fault { fails_read result ≡ true →
         CantBeRead MAX_INPUT (M.remaining model.old) (M.remaining model.new)
-        (M.has_failed model.new) (M.reads model.new)
+        (M.has_failed model.new)
         ⊎ (CantBeRead MAX_INPUT (D.remaining delivery.old) (D.remaining delivery.new)
-        (D.has_failed delivery.new) (D.reads delivery.new)
+        (D.has_failed delivery.new)
         ⊎ CantBeRead MAX_INPUT (R.remaining rules.old) (R.remaining rules.new)
-        (R.has_failed rules.new) (R.reads rules.new)) }
+        (R.has_failed rules.new)) }
+    // Unless a failed read is returned, no more than the limit was read of each.
+    ensures within { fails_read result ≡ false →
+        ConsumesAtMost (M.remaining model.old) (M.remaining model.new) MAX_INPUT
+        × ConsumesAtMost (D.remaining delivery.old) (D.remaining delivery.new) MAX_INPUT
+        × ConsumesAtMost (R.remaining rules.old) (R.remaining rules.new) MAX_INPUT }
     ensures failed { (M.has_failed model.new || D.has_failed delivery.new
         || R.has_failed rules.new) ≡ true → fails_read result ≡ true }
     ensures delivery_waits { IsAtEnd (M.remaining model.new) ⊎ (delivery.new ≡ delivery.old) }

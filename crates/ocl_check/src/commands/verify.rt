@@ -7,8 +7,8 @@ ghost use Rattle.rule_code.specs.CodeFile.{unit_of};
 ghost use Rattle.rule_verify.specs.UnitRules.{check_unit};
 ghost use Rattle.ocl_check.specs.Reply.{said};
 ghost use Rattle.ocl_check.specs.declared.input.TheConstants.{MAX_INPUT};
-ghost use Rattle.ocl_check.specs.Answers.{IsAnswered, IsReadWithinLimits, IsUnread, KeepsSink, ReadBy, fails_read, fails_write};
-ghost use Rattle.ocl_check.specs.Input.{CantBeRead};
+ghost use Rattle.ocl_check.specs.Answers.{IsAnswered, IsFlushedBy, IsReadWithinLimits, IsUnread, KeepsSink, ReadBy, fails_read, fails_write};
+ghost use Rattle.ocl_check.specs.Input.{CantBeRead, ConsumesAtMost};
 ghost use Rattle.ocl_check.specs.Verify.{checked_answer, verify_code_answer, verify_answer};
 
 use crate::input::read_two;
@@ -72,6 +72,7 @@ pub fn run_verify<M: Source, C: Source, S: Sink>(
         ReadBy result (C.remaining code.old) (λ ys.
         IsAnswered (verify_answer xs ys) (S.contents sink.old) (S.contents sink.new) result)) }
     ensures sink { S.has_failed sink.new ≡ fails_write result }
+    ensures flushed { IsFlushedBy S.flushes S.has_pending result sink.old sink.new }
     ensures kept { KeepsSink result sink.old sink.new }
     ensures model_read { IsReadWithinLimits (M.remaining model.old) (M.remaining model.new)
         (M.reads model.new) }
@@ -79,9 +80,13 @@ pub fn run_verify<M: Source, C: Source, S: Sink>(
         (C.reads code.new) }
     ensures read_fault { fails_read result ≡ true →
         CantBeRead MAX_INPUT (M.remaining model.old) (M.remaining model.new)
-        (M.has_failed model.new) (M.reads model.new)
+        (M.has_failed model.new)
         ⊎ CantBeRead MAX_INPUT (C.remaining code.old) (C.remaining code.new)
-        (C.has_failed code.new) (C.reads code.new) }
+        (C.has_failed code.new) }
+    // Unless a failed read is returned, no more than the limit was read of each.
+    ensures within { fails_read result ≡ false →
+        ConsumesAtMost (M.remaining model.old) (M.remaining model.new) MAX_INPUT
+        × ConsumesAtMost (C.remaining code.old) (C.remaining code.new) MAX_INPUT }
     ensures failed { (M.has_failed model.new || C.has_failed code.new) ≡ true →
         fails_read result ≡ true }
     ensures code_waits { IsAtEnd (M.remaining model.new) ⊎ (code.new ≡ code.old) }

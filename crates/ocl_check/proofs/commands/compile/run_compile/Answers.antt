@@ -1,9 +1,8 @@
 use Rattle.std.proofs.Common.{◌≡◌, false, true, sym, ◌∙◌}
-use Rattle.std.proofs.KnownBytes.{Appends-nil}
 use Rattle.std.proofs.lemmas.Bool.{false≢true}
 use Rattle.ocl_check.specs.Compile.{compile_answer}
 use Rattle.ocl_check.proofs.Compiling.{compiled_alike, of_unit, nothing_written}
-use Rattle.ocl_check.proofs.Endings.{within, untouched, no_write, failed_read, read_fails, was_read}
+use Rattle.ocl_check.proofs.Endings.{within, untouched, no_write, failed_read, read_fails, not_read, was_read, nothing_said, unflushed}
 use Rattle.ocl_check.proofs.Inputs.{known_bytes, has_known}
 use Rattle.ocl_check.proofs.commands.compile.run_compile.Goals as goal
 
@@ -48,7 +47,7 @@ returns-in-Err-clause-answered g c =
           t.1,
           tt,
           nothing_written g.O.Sink.contents g.O.Sink.has_failed (compile_answer model t.0).code c.args.out.now c.from.result (no_write c.from.result c.in-Err.fault c.from.ensures),
-          (0, Appends-nil (g.S.Sink.contents c.args.sink.now)),
+          nothing_said _ c.from.result (g.S.Sink.contents c.args.sink.now),
         ),
       ),
     )
@@ -61,3 +60,12 @@ returns-in-Err-clause-read_fault g c = λ h. c.in-Err.ensures.read_fault (failed
 
 pub returns-in-Err-clause-failed : goal.returns-in-Err-clause-failed
 returns-in-Err-clause-failed g c = λ h. read_fails c.from.result c.in-Err.fault c.from.ensures (c.in-Err.ensures.failed h)
+
+pub returns-in-Ok-clause-within : goal.returns-in-Ok-clause-within
+returns-in-Ok-clause-within g c = λ h. c.in-Ok.ensures.within (was_read (c.in-Ok.model, c.in-Ok.rules))
+
+pub returns-in-Err-clause-within : goal.returns-in-Err-clause-within
+returns-in-Err-clause-within g c = λ h. c.in-Err.ensures.within (not_read c.from.result c.in-Err.fault c.from.ensures h)
+
+pub returns-in-Err-clause-flushed : goal.returns-in-Err-clause-flushed
+returns-in-Err-clause-flushed g c = unflushed g.S.Sink.flushes g.S.Sink.has_pending c.from.result c.args.sink.now

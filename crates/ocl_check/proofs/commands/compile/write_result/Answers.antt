@@ -15,5 +15,8 @@ returns-in-Ok-Refused-clause-sinks g c = rw c.requires.out_well (c.say.ensures t
 pub returns-in-Ok-Refused-clause-kept : goal.returns-in-Ok-Refused-clause-kept
 returns-in-Ok-Refused-clause-kept g c = kept_whole c.say.result c.args.sink.now c.say.new.sink (c.say.ensures true).kept
 
+pub returns-in-Ok-Refused-clause-flushed : goal.returns-in-Ok-Refused-clause-flushed
+returns-in-Ok-Refused-clause-flushed g c = (c.say.ensures true).flushed
+
 pub returns-in-Ok-Refused-clause-read : goal.returns-in-Ok-Refused-clause-read
 returns-in-Ok-Refused-clause-read g c = (c.say.ensures true).read

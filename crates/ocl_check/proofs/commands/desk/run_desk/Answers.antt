@@ -1,8 +1,7 @@
 use Rattle.std.proofs.Common.{false, sym, ◌∙◌}
-use Rattle.std.proofs.KnownBytes.{Appends-nil}
 use Rattle.std.proofs.lemmas.Bool.{false≢true}
 use Rattle.ocl_check.specs.declared.outcome.Outcome.TheVariants.{Failed}
-use Rattle.ocl_check.proofs.Endings.{within, kept_unread, kept_untouched, no_write, failed_read, read_fails, was_read}
+use Rattle.ocl_check.proofs.Endings.{within, kept_unread, kept_untouched, no_write, failed_read, read_fails, not_read, was_read, nothing_said, unflushed}
 use Rattle.ocl_check.proofs.Inputs.{known_bytes, has_known}
 use Rattle.ocl_check.proofs.Scripts.{desk_alike}
 use Rattle.ocl_check.proofs.commands.desk.run_desk.Goals as goal
@@ -13,7 +12,7 @@ returns-in-Ok-clause-answered g c =
     let script = c.in-Ok.script.items in
     let read = c.in-Ok.ensures in
     let o = c.answer_inputs.result in
-    let whole = desk_alike g.S.Sink.contents g.S.Sink.has_failed c.args.sink.now o c.answer_inputs.new.sink _ _ _ _ i.model.items i.delivery.items i.rules.items script c.deref-in-Ok.ensures.value c.deref-in-Ok-2.ensures.value c.deref-in-Ok-3.ensures.value c.deref.ensures.value c.answer_inputs.ensures.1 in (
+    let whole = desk_alike g.S.Sink.contents g.S.Sink.has_failed g.S.Sink.flushes g.S.Sink.has_pending c.args.sink.now o c.answer_inputs.new.sink _ _ _ _ i.model.items i.delivery.items i.rules.items script c.deref-in-Ok.ensures.value c.deref-in-Ok-2.ensures.value c.deref-in-Ok-3.ensures.value c.deref.ensures.value c.answer_inputs.ensures.1 in (
       i.model.items,
       read.model.0,
       within o i.model.items read.model.1,
@@ -52,7 +51,7 @@ returns-in-Err-clause-answered g c =
         known_bytes delivery,
         has_known delivery,
         tt,
-        (known_bytes code, has_known code, tt, (known_bytes script, has_known script, tt, (0, Appends-nil (g.S.Sink.contents c.args.sink.now)))),
+        (known_bytes code, has_known code, tt, (known_bytes script, has_known script, tt, nothing_said _ c.from.result (g.S.Sink.contents c.args.sink.now))),
       ),
     )
 
@@ -67,3 +66,12 @@ returns-in-Err-clause-read_fault g c = λ h. c.in-Err.ensures.read_fault (failed
 
 pub returns-in-Err-clause-failed : goal.returns-in-Err-clause-failed
 returns-in-Err-clause-failed g c = λ h. read_fails c.from.result c.in-Err.fault c.from.ensures (c.in-Err.ensures.failed h)
+
+pub returns-in-Ok-clause-within : goal.returns-in-Ok-clause-within
+returns-in-Ok-clause-within g c = λ h. c.in-Ok.ensures.within (was_read (c.in-Ok.inputs, c.in-Ok.script))
+
+pub returns-in-Err-clause-within : goal.returns-in-Err-clause-within
+returns-in-Err-clause-within g c = λ h. c.in-Err.ensures.within (not_read c.from.result c.in-Err.fault c.from.ensures h)
+
+pub returns-in-Err-clause-flushed : goal.returns-in-Err-clause-flushed
+returns-in-Err-clause-flushed g c = unflushed g.S.Sink.flushes g.S.Sink.has_pending c.from.result c.args.sink.now

@@ -1,9 +1,8 @@
 use Rattle.std.proofs.Common.{◌≡◌, false, true, sym, ◌∙◌}
-use Rattle.std.proofs.KnownBytes.{Appends-nil}
 use Rattle.std.proofs.lemmas.Bool.{false≢true}
 use Rattle.ocl_check.specs.Verify.{verify_answer}
 use Rattle.ocl_check.proofs.Described.{verified_alike}
-use Rattle.ocl_check.proofs.Endings.{within, kept_whole, untouched, no_write, failed_read, read_fails, was_read}
+use Rattle.ocl_check.proofs.Endings.{within, kept_whole, untouched, no_write, failed_read, read_fails, not_read, was_read, nothing_said, unflushed}
 use Rattle.ocl_check.proofs.Inputs.{known_bytes, has_known}
 use Rattle.ocl_check.proofs.commands.verify.run_verify.Goals as goal
 
@@ -21,6 +20,9 @@ returns-in-Ok-clause-answered g c =
 
 pub returns-in-Ok-clause-sink : goal.returns-in-Ok-clause-sink
 returns-in-Ok-clause-sink g c = (c.answer.ensures true (verify_answer c.deref.result.now c.deref-in-Ok.result.now) c.verify_inputs.ensures).sink
+
+pub returns-in-Ok-clause-flushed : goal.returns-in-Ok-clause-flushed
+returns-in-Ok-clause-flushed g c = (c.answer.ensures true (verify_answer c.deref.result.now c.deref-in-Ok.result.now) c.verify_inputs.ensures).flushed
 
 pub returns-in-Ok-clause-kept : goal.returns-in-Ok-clause-kept
 returns-in-Ok-clause-kept g c =
@@ -40,7 +42,7 @@ returns-in-Err-clause-answered g c =
       known_bytes model,
       has_known model,
       tt,
-      (known_bytes code, has_known code, tt, (0, Appends-nil (g.S.Sink.contents c.args.sink.now))),
+      (known_bytes code, has_known code, tt, nothing_said _ c.from.result (g.S.Sink.contents c.args.sink.now)),
     )
 
 pub returns-in-Err-clause-sink : goal.returns-in-Err-clause-sink
@@ -54,3 +56,12 @@ returns-in-Err-clause-read_fault g c = λ h. c.in-Err.ensures.read_fault (failed
 
 pub returns-in-Err-clause-failed : goal.returns-in-Err-clause-failed
 returns-in-Err-clause-failed g c = λ h. read_fails c.from.result c.in-Err.fault c.from.ensures (c.in-Err.ensures.failed h)
+
+pub returns-in-Ok-clause-within : goal.returns-in-Ok-clause-within
+returns-in-Ok-clause-within g c = λ h. c.in-Ok.ensures.within (was_read (c.in-Ok.model, c.in-Ok.code))
+
+pub returns-in-Err-clause-within : goal.returns-in-Err-clause-within
+returns-in-Err-clause-within g c = λ h. c.in-Err.ensures.within (not_read c.from.result c.in-Err.fault c.from.ensures h)
+
+pub returns-in-Err-clause-flushed : goal.returns-in-Err-clause-flushed
+returns-in-Err-clause-flushed g c = unflushed g.S.Sink.flushes g.S.Sink.has_pending c.from.result c.args.sink.now
