@@ -1,7 +1,8 @@
 //! The results of `ocl_check` for inputs that were read already.
 
-ghost use Rattle.std.specs.Prelude.{◌≡◌, ◌||◌, false};
-ghost use Rattle.ocl_check.specs.Answers.{IsAnswered, IsAnsweredBy, KeepsSink, KeepsUnread, fails_write};
+ghost use Rattle.std.specs.Prelude.{◌≡◌, ◌⊎◌, ◌||◌, true, false};
+ghost use Rattle.rule_report.specs.Sink.{IsFlushedOnce};
+ghost use Rattle.ocl_check.specs.Answers.{IsAnswered, IsAnsweredBy, IsFlushedBy, KeepsSink, KeepsUnread, fails_write};
 ghost use Rattle.ocl_check.specs.Bound.{bound_answer};
 ghost use Rattle.ocl_check.specs.Compile.{IsCodeWritten, IsOfUnit, compile_answer};
 ghost use Rattle.ocl_check.specs.Desk.{desk_answer};
@@ -27,6 +28,7 @@ pub fn answer_judge<S: Sink>(
     ensures answered { IsAnsweredBy (JudgeAnswers options model.now delivery.now rules.now)
         (S.contents sink.old) (S.contents sink.new) result }
     ensures sink { S.has_failed sink.new ≡ fails_write result }
+    ensures flushed { IsFlushedBy S.flushes S.has_pending result sink.old sink.new }
     ensures kept { KeepsUnread result sink.old sink.new }
 {
     run_judge(
@@ -51,6 +53,7 @@ pub fn answer_bound<S: Sink>(
     ensures answered { IsAnswered (bound_answer model.now delivery.now code.now)
         (S.contents sink.old) (S.contents sink.new) result }
     ensures sink { S.has_failed sink.new ≡ fails_write result }
+    ensures flushed { IsFlushedBy S.flushes S.has_pending result sink.old sink.new }
     ensures kept { KeepsSink result sink.old sink.new }
 {
     run_bound(
@@ -68,6 +71,7 @@ pub fn answer_verify<S: Sink>(alloc: Global, model: &[u8], code: &[u8], sink: &m
     ensures answered { IsAnswered (verify_answer model.now code.now)
         (S.contents sink.old) (S.contents sink.new) result }
     ensures sink { S.has_failed sink.new ≡ fails_write result }
+    ensures flushed { IsFlushedBy S.flushes S.has_pending result sink.old sink.new }
     ensures kept { KeepsSink result sink.old sink.new }
 {
     run_verify(
@@ -94,6 +98,10 @@ pub fn answer_compile<O: Sink, S: Sink>(
         × IsAnswered (compile_answer model.now t).said
         (S.contents sink.old) (S.contents sink.new) result }
     ensures sinks { (O.has_failed out.new || S.has_failed sink.new) ≡ fails_write result }
+    ensures code_flushed { O.has_failed out.new ≡ false → (out.new ≡ out.old)
+        ⊎ IsFlushedOnce O.flushes O.has_pending out.old out.new }
+    ensures code_first { O.has_failed out.new ≡ true → sink.new ≡ sink.old }
+    ensures flushed { IsFlushedBy S.flushes S.has_pending result sink.old sink.new }
     ensures kept { KeepsSink result sink.old sink.new }
 {
     run_compile(
@@ -118,6 +126,7 @@ pub fn answer_desk<S: Sink>(
     ensures answered { IsAnswered (desk_answer model.now delivery.now code.now script.now)
         (S.contents sink.old) (S.contents sink.new) result }
     ensures sink { S.has_failed sink.new ≡ fails_write result }
+    ensures flushed { IsFlushedBy S.flushes S.has_pending result sink.old sink.new }
     ensures kept { KeepsUnread result sink.old sink.new }
 {
     run_desk(

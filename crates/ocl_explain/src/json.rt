@@ -1,7 +1,7 @@
 //! The report of `judge` as JSON lines.
 
 ghost use Rattle.std.specs.Prelude.{◌≡◌, [], Some, false};
-ghost use Rattle.ocl_check.specs.Answers.{IsAnswered, IsAnsweredBy, KeepsSink, fails_write};
+ghost use Rattle.ocl_check.specs.Answers.{IsAnswered, IsAnsweredBy, IsFlushedBy, KeepsSink, fails_write};
 ghost use Rattle.ocl_check.specs.Reply.{Answer};
 ghost use Rattle.report_json.specs.JsonAnswers.{json_answer, JsonAnswers};
 
@@ -17,6 +17,7 @@ fn write_json<S: Sink>(alloc: Global, sink: &mut S, text: &[u8], status: u8) -> 
     ensures answered { IsAnswered (json_answer (text.now, status)) (S.contents sink.old)
         (S.contents sink.new) result }
     ensures sink { S.has_failed sink.new ≡ fails_write result }
+    ensures flushed { IsFlushedBy S.flushes S.has_pending result sink.old sink.new }
     ensures kept { KeepsSink result sink.old sink.new }
 {
     if status == 2 {
@@ -34,6 +35,7 @@ fn write_judged<S: Sink>(alloc: Global, sink: &mut S, text: &[u8], judged: Outco
     ensures answered { (said : Answer) → IsAnswered said (Some []) (Some text.now) judged →
         IsAnswered (json_answer said) (S.contents sink.old) (S.contents sink.new) result }
     ensures sink { S.has_failed sink.new ≡ fails_write result }
+    ensures flushed { IsFlushedBy S.flushes S.has_pending result sink.old sink.new }
     ensures kept { KeepsSink result sink.old sink.new }
 {
     match judged {
@@ -57,6 +59,7 @@ pub fn answer_judge_json<S: Sink>(
     ensures answered { IsAnsweredBy (JsonAnswers options model.now delivery.now rules.now)
         (S.contents sink.old) (S.contents sink.new) result }
     ensures sink { S.has_failed sink.new ≡ fails_write result }
+    ensures flushed { IsFlushedBy S.flushes S.has_pending result sink.old sink.new }
     ensures kept { KeepsSink result sink.old sink.new }
 {
     let mut report = Telling::new(Vec::new(alloc));

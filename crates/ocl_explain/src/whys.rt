@@ -1,7 +1,7 @@
 //! The command `why`, of inputs that were read already.
 
 ghost use Rattle.std.specs.Prelude.{◌≡◌, false};
-ghost use Rattle.ocl_check.specs.Answers.{IsAnswered, IsAnsweredBy, KeepsUnread, fails_write};
+ghost use Rattle.ocl_check.specs.Answers.{IsAnswered, IsAnsweredBy, IsFlushedBy, KeepsUnread, fails_write};
 ghost use Rattle.ocl_check.specs.JudgeText.{JudgeAnswers};
 ghost use Rattle.ocl_explain.specs.Judged.{printed};
 ghost use Rattle.ocl_explain.specs.WhyAnswers.{shown_answer, WhyAnswers};
@@ -36,6 +36,7 @@ fn write_why<S: Sink>(alloc: Global, sink: &mut S, why: Why, lines: usize) -> Wh
     ensures answered { IsAnswered (shown_answer lines (printed why)) (S.contents sink.old)
         (S.contents sink.new) result.outcome }
     ensures sink { S.has_failed sink.new ≡ fails_write result.outcome }
+    ensures flushed { IsFlushedBy S.flushes S.has_pending result.outcome sink.old sink.new }
     ensures kept { KeepsUnread result.outcome sink.old sink.new }
 {
     match why {
@@ -70,6 +71,7 @@ fn write_refusal<S: Sink>(alloc: Global, asked: WhyAsked<'_>, sink: &mut S) -> W
         asked.entry.delivery.bytes.now asked.entry.rules.bytes.now)
         (S.contents sink.old) (S.contents sink.new) result.outcome }
     ensures sink { S.has_failed sink.new ≡ fails_write result.outcome }
+    ensures flushed { IsFlushedBy S.flushes S.has_pending result.outcome sink.old sink.new }
     ensures kept { KeepsUnread result.outcome sink.old sink.new }
 {
     let (model, delivery) = (asked.model.bytes, asked.delivery.bytes);
@@ -99,6 +101,7 @@ pub fn answer_why<S: Sink>(alloc: Global, asked: WhyAsked<'_>, sink: &mut S) -> 
         asked.entry.id.now asked.entry.lines) (S.contents sink.old) (S.contents sink.new)
         result.outcome }
     ensures sink { S.has_failed sink.new ≡ fails_write result.outcome }
+    ensures flushed { IsFlushedBy S.flushes S.has_pending result.outcome sink.old sink.new }
     ensures kept { KeepsUnread result.outcome sink.old sink.new }
 {
     readings_are_determined();

@@ -25,4 +25,4 @@ pub returns-in-Err-clause-answered : goal.returns-in-Err-clause-answered
 returns-in-Err-clause-answered g c =
     let reading = c.each_text_is_read.ensures c.args.asked.rules.bytes.now in
     let some = some_answer c.args.asked.rules.bytes.now c.args.asked.rule.now c.args.asked.id.now c.args.asked.model.bytes.now c.args.asked.delivery.bytes.now c.args.asked.lines reading.0 reading.1 in
-    (some.0, some.1, (0, Appends-nil _))
+    (some.0, some.1, (0, Appends-nil _, λ refused. refl))
