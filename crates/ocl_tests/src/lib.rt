@@ -7,6 +7,8 @@ mod broken;
 #[cfg(test)]
 mod budgets;
 #[cfg(test)]
+mod long;
+#[cfg(test)]
 mod readers;
 #[cfg(test)]
 mod writers;

@@ -81,6 +81,11 @@ impl Narrow {
         self.taken.as_slice() == bytes && self.flushed == 1 && self.flushed_at == bytes.len()
     }
 
+    /// Whether it took more bytes than that, and was then flushed once.
+    pub fn has_more_than(&self, count: usize) -> bool {
+        self.taken.len() > count && self.flushed == 1 && self.flushed_at == self.taken.len()
+    }
+
     /// Whether it took just so many of these bytes, and was not flushed.
     pub fn has_first(&self, count: usize, bytes: &[u8]) -> bool {
         self.taken.len() == count && bytes.starts_with(&self.taken) && self.flushed == 0
