@@ -1,7 +1,7 @@
 #!/bin/sh
 # Nanoseconds a charge of judge, by instruction and length of its collections: of the instructions that are charged for
 # going over collections, beside those of plain steps. What reading takes is measured by a code file without rules, and
-# taken off; of each the best of three runs counts.
+# taken off; of each the best of three runs counts. Operands of unequal lengths must take no more than 30 ns a charge.
 
 here=$(dirname -- "$(readlink -f -- "$0")")
 . "$here/measure.sh"
@@ -28,6 +28,26 @@ report() {
                   name, n, charges, $1, reading, ($1 - reading) * 1e9 / charges }' "$room/reading" "$room/whole"
 }
 
+# An instruction of two collections, of so many elements and so many others, and "mixed".
+unequal() {
+    judge reading --none ${4:+--mixed} --beside "$3" "$1" "$2"
+    judge whole ${4:+--mixed} --beside "$3" "$1" "$2"
+    awk -v name="$1${4:+, mixed}" -v n="$2" -v m="$3" -v charges="$(cat "$room/charges")" 'NR == 1 { reading = $1 }
+        NR == 2 { each = ($1 - reading) * 1e9 / charges
+                  printf "%-19s %6d beside %6d: %9d charges, %.2f s, of which reading %.2f s, %7.2f ns a charge%s\n",
+                  name, n, m, charges, $1, reading, each, each > most ? ", too many" : ""
+                  exit each > most }' most=30 "$room/reading" "$room/whole" || slow=1
+}
+
+slow=0
+for instruction in EQ_SET EQ_BAG EQ_SEQUENCE INCALL EXCALL; do
+    for n in 0 1 5 10 33 65; do
+        unequal "$instruction" "$n" 100000
+        unequal "$instruction" 100000 "$n"
+        unequal "$instruction" "$n" 100000 mixed
+        unequal "$instruction" 100000 "$n" mixed
+    done
+done
 report plain 100
 for n in 10 100 1000 10000 100000; do
     for instruction in INCLUDES COUNT SUM COLLECTFLAT; do
@@ -39,8 +59,9 @@ for n in 10 100 1000 4000; do
         report "$instruction" "$n"
     done
 done
-for n in 10 100 1000 10000; do
+for n in 10 100 1000 10000 131072 131073; do
     for instruction in EQ_SET EQ_BAG INCALL EXCALL ASSET ISUNIQUE; do
         report "$instruction" "$n" mixed
     done
 done
+[ "$slow" = 0 ] || fail "operands of unequal lengths take more than 30 ns a charge"

@@ -160,6 +160,18 @@ def holds_of_long_box(room, rule, written, count):
     return case.Case(["ocl_check", "judge", *files], f"{count} of {written}: holds", found)
 
 
+def rule_of_a_long_box(room, _shows, count, code, wanted):
+    """A rule of a box with so many Integers: its verdict and its charges."""
+    model = (INPUTS / "long-boxes.model.json").read_text(encoding="utf-8").replace("TYPE", "Integer")
+    case.write(room, "script", script(["enter", f"grant 0 {MOST}", "lines 0"]))
+    files = [
+        case.write(room, "long.model", model),
+        case.write(room, "long.delivery", long_box("Integer", int(count))),
+        case.write(room, "long.code", file_of_rule("Box", code)),
+    ]
+    return case.Case(["ocl_check", "desk", *files, "script"], wanted, box_answer)
+
+
 def holds_of(boxes):
     def form(room, _shows, rule):
         for word, code in SHORT.items():
@@ -185,6 +197,7 @@ FORMS = {
     "rule of a box, Bag and Sequence": of_each("Bag, Sequence", rule_of_a_box),
     "rule of a box, null and invalid": of_each("null, invalid", rule_of_a_box),
     "rule of a box, each of": of_each(None, rule_of_a_box),
+    "rule of a long box": rule_of_a_long_box,
     "verdicts": verdicts_of_catalogue,
     "holds of any elements": holds_of([("Integer", 0), ("Integer", 1), *TWO_OR_MORE]),
     "holds of one element or more": holds_of([("Integer", 1), *TWO_OR_MORE]),

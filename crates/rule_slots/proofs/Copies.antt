@@ -10,7 +10,7 @@ use Rattle.std.proofs.lemmas.List.Sorted.{length_permutation}
 use Rattle.rule_slots.specs.declared.slot.Home.TheVariants as home
 use Rattle.rule_slots.specs.declared.slot.Slot.{Slot}
 use Rattle.rule_slots.specs.Slots.{Lists, home_named, part_slots, held_slots, IsInHome}
-use Rattle.rule_slots.specs.Sorted.{IsCopyOf}
+use Rattle.rule_slots.specs.Sorted.{IsCopyOf, IsCopyIn, AreCopies}
 use Rattle.rule_slots.proofs.Loops.{all_taken, taken_are}
 use Rattle.rule_slots.proofs.Pool.{within_grown, held_same, less}
 
@@ -87,3 +87,29 @@ part_moved l old ys d rest s n pool within e m h =
     let back = ap (λ z. take n (put_mid s.start k z ys ++ rest)) e ∙ written_back old ys s.start k (omega (arith, count, within)) long n rest m in
     let now = ap (λ p. slice_range p s.start (s.start + s.count)) back ∙ between-put_mid s.start k old ys (s.start + s.count) (omega (arith, within)) long in
     subst (λ z. IsPermutation z (held_slots l (take n (put_mid s.start k d ys ++ rest)) s)) (sym (held old)) (subst (IsPermutation (slice_range old s.start (s.start + s.count))) (sym (held (take n (put_mid s.start k d ys ++ rest)) ∙ now)) moved)
+
+-- ---- copies in room of their own
+
+-- the elements of a collection that were put behind a room's items, and then sorted there, are its copy
+pub copy_put : (l : Lists) (pool old mid new : List Slot) (source s : Slot) → mid ≡ old ++ held_slots l pool source → s.list ≡ 2 → s.start ≡ length old → s.count ≡ length (held_slots l pool source) → take s.start new ≡ take s.start mid → length new ≡ length mid → IsPermutation (held_slots l mid s) (held_slots l new s)
+    → IsCopyIn l pool source old new s
+copy_put l pool old mid new source s e el es ec below long moved =
+    let held = held_slots l pool source in
+    let count : length mid ≡ length old + length held = ap length e ∙ length-append old held in
+    record {
+      grown = omega (arith, count, long);
+      below = ap (λ n. take n new) (sym es) ∙ below ∙ ap (λ n. take n mid) es ∙ ap (take (length old)) e ∙ take_at old held (length old) refl;
+      within = rw el (omega (arith, count, long, es, ec));
+      moved = subst (λ z. IsPermutation z (held_slots l new s)) (ap (λ z. held_slots l z s) e ∙ taken_are l old held s el es ec) moved;
+    }
+
+-- a copy stays one where a second is put behind it
+pub both_copied : (l : Lists) (pool : List Slot) (left right : Slot) (old mid new : List Slot) (one other : Slot) → IsCopyIn l pool left old mid one → IsCopyIn l pool right mid new other → AreCopies l pool left right new one other
+both_copied l pool left right old mid new one other a b =
+    let same : take (length mid) mid ≡ take (length mid) new = all_taken mid (length mid) (omega arith) ∙ sym b.below in
+    record {
+      one_within = within_grown l mid new (length mid) (length new) b.grown same one a.within;
+      other_within = b.within;
+      one_moved = subst (IsPermutation (held_slots l pool left)) (held_same l mid new (length mid) (length new) b.grown same one a.within) a.moved;
+      other_moved = b.moved;
+    }

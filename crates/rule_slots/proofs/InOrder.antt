@@ -41,7 +41,7 @@ and_false true = refl
 and_false false = refl
 
 -- a count and one more
-never_none : (n : ℕ) → (suc n == 0) ≡ false
+pub never_none : (n : ℕ) → (suc n == 0) ≡ false
 never_none n = ne_eqb (suc n) 0 (λ e. absurd (omega (arith, e)))
 
 one_more_each : (n m : ℕ) → (suc n == suc m) ≡ (n == m)

@@ -12,5 +12,6 @@ pub mod Moved
 pub mod SlotOrder
 pub mod Choosing
 pub mod Copies
+pub mod Empties
 pub mod Taken
 pub mod ForAbove

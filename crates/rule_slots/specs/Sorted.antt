@@ -13,6 +13,20 @@ pub record IsCopyOf (l : Lists) (old : List Slot) (source : Slot) (new : List Sl
   pub within : IsInHome l (length new) copy
   pub moved : IsPermutation (held_slots l old source) (held_slots l new copy)
 
+-- Items of a room are as they were, and behind them are the elements of a source in some order: its copy.
+pub record IsCopyIn (l : Lists) (pool : List Slot) (source : Slot) (old new : List Slot) (copy : Slot) : Type 0 where
+  pub grown : length old ≤ length new
+  pub below : take (length old) new ≡ old
+  pub within : IsInHome l (length new) copy
+  pub moved : IsPermutation (held_slots l pool source) (held_slots l new copy)
+
+-- a room has copies of two collections of the pool
+pub record AreCopies (l : Lists) (pool : List Slot) (left right : Slot) (room : List Slot) (one other : Slot) : Type 0 where
+  pub one_within : IsInHome l (length room) one
+  pub other_within : IsInHome l (length room) other
+  pub one_moved : IsPermutation (held_slots l pool left) (held_slots l room one)
+  pub other_moved : IsPermutation (held_slots l pool right) (held_slots l room other)
+
 -- an item of a list stands before another, and is the same
 pub record IsSameBefore {A : Type 0} (same : A → A → Bool) (all : List A) (index place : ℕ) : Type 0 where
   pub before : place < index

@@ -1,6 +1,6 @@
 //! Equality of values of one kind.
 
-ghost use Rattle.std.specs.Prelude.{◌≡◌, ◌+◌, ◌≤◌, length, true, vec_capacity, MatchOption};
+ghost use Rattle.std.specs.Prelude.{◌≡◌, ◌+◌, ◌≤◌, Bool, length, true, false, vec_capacity, MatchOption};
 ghost use Rattle.ocl_kinds.specs.declared.kind.Kind.{Kind};
 ghost use Rattle.std.specs.List.{list_all};
 ghost use Rattle.ocl_base.specs.Lists.{is_among};
@@ -14,6 +14,7 @@ ghost use Rattle.rule_slots.specs.Compared.{same_slots, stand_as_often, pairwise
 use crate::elements::{find_in_list, is_slot_among, same_slots, times_among};
 use crate::lists::Lists;
 use crate::ordering::is_in_order;
+use crate::own_room::sorted_copies;
 use crate::reading::element;
 use crate::searching::are_all_in;
 use crate::slot::{Slot, invalid_slot, truth_slot};
@@ -21,10 +22,13 @@ use crate::sorting::{has_room, push_sorted};
 use ocl_base::CollectionKind;
 use rule_code::{WrittenKind, WrittenScalar};
 
-/// Sets, and Bags, of at most so many elements are compared each element with each, where they stand in no order.
+/// Sets of which one has at most so many elements are compared each element with each, where they stand in no order.
 const FEW_IN_SET: usize = 32;
 
+/// Likewise Bags of as many elements, and Bags of which one has more than the other: then one of its first elements tells.
 const FEW_IN_BAG: usize = 4;
+
+const FEW_IN_BAG_BESIDE_MORE: usize = 16;
 
 /// Whether each element of the first collection stands as often in the second.
 #[inline(never)]
@@ -314,9 +318,66 @@ fn same_by_copies(
     same
 }
 
+/// Whether the elements of two collections are the same, by sorted copies of both in room of their own; where that is
+/// refused, each is compared with each.
+#[inline(never)]
+fn same_in_room(
+    lists: Lists<'_>,
+    pool: &Vec<Slot>,
+    kind: WrittenScalar,
+    unique: bool,
+    left: Slot,
+    right: Slot,
+) -> bool
+    requires left { IsInHome (lists_in lists) (length pool.now.items) left }
+    requires right { IsInHome (lists_in lists) (length pool.now.items) right }
+    ensures { result ≡ same_unordered (same_slots (lists_in lists.entry) kind) unique
+        (held_slots (lists_in lists.entry) pool.now.items left)
+        (held_slots (lists_in lists.entry) pool.now.items right) }
+{
+    match sorted_copies(lists, pool, kind, left, right) {
+        Some(copies) => {
+            let (one, other) = (copies.left, copies.right);
+            same_as_listed(lists, &copies.room, kind, unique, one, other)
+        }
+        None => same_by_pairs(lists, pool, kind, unique, left, right),
+    }
+}
+
+/// How many elements the shorter of two collections has at most for which each element is compared with each.
+fn few_for_pairs(unique: bool, left: usize, right: usize) -> usize {
+    if unique {
+        FEW_IN_SET
+    } else if left == right {
+        FEW_IN_BAG
+    } else {
+        FEW_IN_BAG_BESIDE_MORE
+    }
+}
+
+/// Whether one collection is empty and another has an element: then they are not the same, and nothing else of them is
+/// looked at.
+#[inline(always)]
+fn is_one_empty(lists: Lists<'_>, pool: &[Slot], left: Slot, right: Slot) -> bool
+    requires left { IsInHome (lists_in lists) (length pool.now) left }
+    requires right { IsInHome (lists_in lists) (length pool.now) right }
+    ensures { (kind : WrittenScalar) (unique : Bool) → result ≡ true →
+        same_unordered (same_slots (lists_in lists.entry) kind) unique
+        (held_slots (lists_in lists.entry) pool.now left)
+        (held_slots (lists_in lists.entry) pool.now right) ≡ false }
+{
+    if left.count == 0 && right.count > 0 {
+        return !element(lists, pool, right, 0).is_invalid();
+    }
+    if right.count == 0 && left.count > 0 {
+        return !element(lists, pool, left, 0).is_invalid();
+    }
+    false
+}
+
 /// Whether the elements of two collections are the same, of Sets by members and of Bags by counts. Where their lists don't
-/// tell it as they stand, sorted copies do; short ones, and those for which the pool has no room, are compared each
-/// element with each. The pool stays as it was.
+/// tell it as they are, sorted copies do, behind the pool's end or in room of their own; where one is short, each element
+/// is compared with each. The pool stays as it was.
 #[inline(never)]
 fn same_unordered(
     lists: Lists<'_>,
@@ -333,15 +394,19 @@ fn same_unordered(
         (held_slots (lists_in lists.entry) pool.old.items right) }
     ensures pool { pool.new.items ≡ pool.old.items }
 {
+    if is_one_empty(lists, pool, left, right) {
+        return false;
+    }
     if let Some(told) = told_by_order(lists, pool, kind, unique, left, right) {
         return told;
     }
-    let few = if unique { FEW_IN_SET } else { FEW_IN_BAG };
-    let short = left.count <= few && right.count <= few;
-    if short || !has_room(pool, left.count, right.count) {
+    if left.count.min(right.count) <= few_for_pairs(unique, left.count, right.count) {
         return same_by_pairs(lists, pool, kind, unique, left, right);
     }
-    same_by_copies(lists, pool, kind, unique, left, right)
+    if has_room(pool, left.count, right.count) {
+        return same_by_copies(lists, pool, kind, unique, left, right);
+    }
+    same_in_room(lists, pool, kind, unique, left, right)
 }
 
 /// Whether the elements of two collections of one kind are the same: Sets by members, Bags by counts, the ordered ones

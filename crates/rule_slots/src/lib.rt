@@ -9,6 +9,7 @@ mod integers;
 mod lists;
 mod objects;
 mod ordering;
+mod own_room;
 mod placing;
 mod reading;
 mod searching;

@@ -11,6 +11,7 @@ ghost use Rattle.rule_slots.specs.Sorted.{IsCopyOf};
 use crate::elements::is_listed;
 use crate::lists::Lists;
 use crate::ordering::{is_among_ordered, is_in_order};
+use crate::own_room::sorted_copies;
 use crate::reading::element;
 use crate::slot::Slot;
 use crate::sorting::{has_room, push_sorted};
@@ -239,6 +240,82 @@ pub(crate) fn are_all_in(
     are_all_known(lists, pool, kind, source, ordered, others)
 }
 
+/// Whether an element of the second collection is one of the first, without a copy.
+#[inline(never)]
+fn is_any_in(
+    lists: Lists<'_>,
+    pool: &[Slot],
+    kind: WrittenScalar,
+    source: Slot,
+    others: Slot,
+) -> bool
+    requires source { IsInHome (lists_in lists) (length pool.now) source }
+    requires others { IsInHome (lists_in lists) (length pool.now) others }
+    ensures { result ≡ list_any (is_among (same_slots (lists_in lists.entry) kind)
+        (held_slots (lists_in lists.entry) pool.now source))
+        (held_slots (lists_in lists.entry) pool.now others) }
+{
+    let ordered = source.count > SHORT && is_in_order(lists, pool, kind, source, false);
+    is_any_known(lists, pool, kind, source, ordered, others)
+}
+
+/// Whether each element of the second collection is one of the first, which is in order if `ordered` says so. Where both
+/// are long and it isn't, sorted copies of both are made in room of their own, unless that is refused.
+#[inline(never)]
+fn are_all_searched(
+    lists: Lists<'_>,
+    pool: &Vec<Slot>,
+    kind: WrittenScalar,
+    source: Slot,
+    ordered: bool,
+    others: Slot,
+) -> bool
+    requires source { IsInHome (lists_in lists) (length pool.now.items) source }
+    requires others { IsInHome (lists_in lists) (length pool.now.items) others }
+    requires order { ordered ≡ true → rises is_defined (λ a b.
+        may_precede false (compare_slots (lists_in lists) kind a b))
+        (held_slots (lists_in lists) pool.now.items source) ≡ true }
+    ensures { result ≡ list_all (is_among (same_slots (lists_in lists.entry) kind)
+        (held_slots (lists_in lists.entry) pool.now.items source))
+        (held_slots (lists_in lists.entry) pool.now.items others) }
+{
+    if ordered || source.count <= SHORT || others.count <= FEW {
+        return are_all_known(lists, pool, kind, source, ordered, others);
+    }
+    match sorted_copies(lists, pool, kind, source, others) {
+        Some(copies) => are_all_in(lists, &copies.room, kind, copies.left, copies.right),
+        None => are_all_listed(lists, pool, kind, source, others),
+    }
+}
+
+/// Whether an element of the second collection is one of the first, which is in order if `ordered` says so, likewise.
+#[inline(never)]
+fn is_any_searched(
+    lists: Lists<'_>,
+    pool: &Vec<Slot>,
+    kind: WrittenScalar,
+    source: Slot,
+    ordered: bool,
+    others: Slot,
+) -> bool
+    requires source { IsInHome (lists_in lists) (length pool.now.items) source }
+    requires others { IsInHome (lists_in lists) (length pool.now.items) others }
+    requires order { ordered ≡ true → rises is_defined (λ a b.
+        may_precede false (compare_slots (lists_in lists) kind a b))
+        (held_slots (lists_in lists) pool.now.items source) ≡ true }
+    ensures { result ≡ list_any (is_among (same_slots (lists_in lists.entry) kind)
+        (held_slots (lists_in lists.entry) pool.now.items source))
+        (held_slots (lists_in lists.entry) pool.now.items others) }
+{
+    if ordered || source.count <= SHORT || others.count <= FEW {
+        return is_any_known(lists, pool, kind, source, ordered, others);
+    }
+    match sorted_copies(lists, pool, kind, source, others) {
+        Some(copies) => is_any_in(lists, &copies.room, kind, copies.left, copies.right),
+        None => is_any_listed(lists, pool, kind, source, others),
+    }
+}
+
 /// Whether each element of the second collection is one of the first. The pool stays as it was.
 #[inline(never)]
 pub(crate) fn are_all_among(
@@ -255,9 +332,12 @@ pub(crate) fn are_all_among(
         (held_slots (lists_in lists.entry) pool.old.items others) }
     ensures pool { pool.new.items ≡ pool.old.items }
 {
+    if others.count == 0 {
+        return true;
+    }
     let start = pool.len();
     let (searched, ordered) = searchable(lists, pool, kind, source, others.count);
-    let all = are_all_known(lists, pool, kind, searched, ordered, others);
+    let all = are_all_searched(lists, pool, kind, searched, ordered, others);
     pool.truncate(start);
     all
 }
@@ -278,9 +358,12 @@ pub(crate) fn is_any_among(
         (held_slots (lists_in lists.entry) pool.old.items others) }
     ensures pool { pool.new.items ≡ pool.old.items }
 {
+    if source.count == 0 || others.count == 0 {
+        return false;
+    }
     let start = pool.len();
     let (searched, ordered) = searchable(lists, pool, kind, source, others.count);
-    let any = is_any_known(lists, pool, kind, searched, ordered, others);
+    let any = is_any_searched(lists, pool, kind, searched, ordered, others);
     pool.truncate(start);
     any
 }

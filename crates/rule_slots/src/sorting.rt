@@ -59,6 +59,7 @@ pub(crate) fn sort_part(lists: Lists<'_>, pool: &mut Vec<Slot>, kind: WrittenSca
     requires within { part.start + part.count ≤ length pool.old.items }
     ensures below { take part.start pool.new.items ≡ take part.start pool.old.items }
     ensures long { length pool.new.items ≡ length pool.old.items }
+    ensures capacity { vec_capacity pool.new ≡ vec_capacity pool.old }
     ensures moved { IsPermutation (held_slots (lists_in lists.entry) pool.old.items part)
         (held_slots (lists_in lists.entry) pool.new.items part) }
 {

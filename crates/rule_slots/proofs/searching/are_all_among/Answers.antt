@@ -16,6 +16,5 @@ returns-clause-told c =
     let copy = c.searchable-ordered.result.0 in
     let made = c.searchable-ordered.ensures.copy in
     let others = still_held l old c.args.source new copy made c.args.others c.requires.others in
-    c.are_all_known-all.ensures ∙ ap (λ p. list_all (is_among same (held_slots l p copy)) (held_slots l p c.args.others)) c.deref.ensures.value
-    ∙ ap (list_all (is_among same (held_slots l new copy))) (sym others)
+    c.are_all_searched-all.ensures ∙ ap (list_all (is_among same (held_slots l new copy))) (sym others)
     ∙ sym (all_among_moved same (held_slots l old c.args.source) (held_slots l new copy) (held_slots l old c.args.others) made.moved)
