@@ -25,8 +25,10 @@ pub(crate) enum Runs {
     InOneGrant { charges: u64 },
     /// By small grants.
     InSmallGrants { charges: u64 },
-    /// It is judged.
+    /// It is judged, and judged again where that is refused.
     Judged { charges: u64 },
+    /// It is judged, and run on from there where that is refused.
+    JudgedAndRun { charges: u64 },
 }
 
 /// What a grant met, and how far the run is; where the grant was refused, it was made again. Then some of its steps were
@@ -88,6 +90,26 @@ fn judge_again(machine: &mut Machine<'_>, object: ObjectNo, charges: u64) -> Met
     }
 }
 
+/// Judges, and where that is refused runs on from the step before which the machine is: to the end, where it holds for so
+/// many charges since the start.
+fn judge_and_run_on(machine: &mut Machine<'_>, object: ObjectNo, charges: u64) -> Met
+    requires rules { 0 < length machine.old.unit.rules }
+    requires object { IsInstance machine.old.population
+        (setting_of machine.old.unit machine.old.population 0).context object }
+{
+    if let Ok(verdict) = machine.judge(0, object) {
+        return Met::fault_unless(verdict == Verdict::Holds && machine.steps() == charges);
+    }
+    let made = machine.steps();
+    match machine.run(charges) {
+        Ok(Progress::Done(verdict)) => {
+            let holds = verdict == Verdict::Holds && machine.steps() == charges;
+            Met::fault_unless(holds && made < charges).after_refusal()
+        }
+        _ => Met::Fault,
+    }
+}
+
 /// Runs the first rule for an object.
 fn run_again(machine: &mut Machine<'_>, object: ObjectNo, runs: Runs) -> Met
     requires rules { 0 < length machine.old.unit.rules }
@@ -97,13 +119,16 @@ fn run_again(machine: &mut Machine<'_>, object: ObjectNo, runs: Runs) -> Met
     if let Runs::Judged { charges } = runs {
         return judge_again(machine, object, charges);
     }
+    if let Runs::JudgedAndRun { charges } = runs {
+        return judge_and_run_on(machine, object, charges);
+    }
     if machine.start(0, object).is_err() {
         return Met::Fault;
     }
     match runs {
         Runs::InOneGrant { charges } => run_by_grants(machine, charges, charges),
         Runs::InSmallGrants { charges } => run_by_grants(machine, SMALL_GRANT, charges),
-        Runs::Judged { .. } => Met::Fault,
+        Runs::Judged { .. } | Runs::JudgedAndRun { .. } => Met::Fault,
     }
 }
 
@@ -159,6 +184,14 @@ fn a_run_by_one_grant_is_made_again(rt: HostRuntime) -> Result<(), Fail> {
 #[test]
 fn a_run_by_small_grants_is_made_again(rt: HostRuntime) -> Result<(), Fail> {
     let tried = Tried::Machine(Runs::InSmallGrants { charges: 26 });
+    let met = try_rules(rt.alloc(), NETS, NETS_OF_PIPES, tried);
+    assert!(rt; met_nothing(&rt, met)?);
+    Ok(())
+}
+
+#[test]
+fn a_refused_judgement_is_run_on(rt: HostRuntime) -> Result<(), Fail> {
+    let tried = Tried::Machine(Runs::JudgedAndRun { charges: 26 });
     let met = try_rules(rt.alloc(), NETS, NETS_OF_PIPES, tried);
     assert!(rt; met_nothing(&rt, met)?);
     Ok(())

@@ -22,6 +22,7 @@ pub mod Keeps
 pub mod EndSlots
 pub mod TurnEnds
 pub mod Starts
+pub mod Reserved
 pub mod Rooms
 pub mod Lies
 pub mod Verdicts

@@ -1,5 +1,5 @@
 -- Runs of a machine are those of the configurations that it stands for.
-use Rattle.std.proofs.Common.{◌≡◌, ℕ, zero, suc, ◌+◌, ◌-◌, ◌^◌, ◌<◌, ◌≤◌, List, [], ◌∷◌, true, Option, Some, None, Ok, Err, refl, sym, ap, ◌∙◌, subst, inr, ⊎_elim, arith}
+use Rattle.std.proofs.Common.{◌≡◌, ℕ, zero, suc, ◌+◌, ◌-◌, ◌^◌, ◌<◌, ◌≤◌, List, [], ◌∷◌, true, Option, Some, None, Result, Ok, Err, refl, sym, ap, ◌∙◌, subst, ⊎_elim, arith}
 use Rattle.std.specs.Prelude.{min, IsSome, option_and_then}
 use Rattle.imkl_population.specs.declared.scalar.Scalar.TheVariants as scalar
 use Rattle.rule_code.specs.Content.{Content}
@@ -21,7 +21,7 @@ use Rattle.rule_machine.specs.Verdict.{outcome}
 use Rattle.rule_machine.specs.Laws.{IsAcceptedRun, tree_of_rule, rule_bound, rule_depths_in, first_there, verdict_within, verdict_at}
 use Rattle.rule_machine.specs.Shown.{setting_in, task_lists, depths_in, HasNext, Is, IsTruth, EndsInTruth, CanGoOn, HasRoomFor, Room, SameRoom, Same, Stepped, IsAtFront, IsStartOf, IsTaskOf}
 use Rattle.rule_machine.specs.Charges.{charge_of, work_of}
-use Rattle.rule_machine.specs.Seen.{seen, seen_in, Represents}
+use Rattle.rule_machine.specs.Seen.{Seen, seen, seen_in, Represents}
 use Rattle.rule_machine.specs.Contract.{Further, IsStarted, IsPaused, IsDone, IsRefused, Judged}
 use Rattle.rule_machine.proofs.Charged.{charged, work_more, steps_within}
 use Rattle.rule_machine.proofs.Moves.{moves}
@@ -382,9 +382,9 @@ module _ (t : Task) where
   pub is_judged : (old : State) (o : ℕ) (m m' : State) (n : ℕ) (v : Verdict) → Tells m (Some v) → Same t m m' → Standing o m n → Judged (seen_in t old) t.rule o (Ok v) (seen_in t m')
   is_judged old o m m' n v tells h s = (n, s.0, tells s.0 (can_go_on o m s.0 _ s.2), judged_further old o m' n (s.0, s.1, stands_same o m m' s.0 _ h s.2))
 
-  -- and one that stops for want of memory stands before a step, as that contract says
+  -- and one that runs out of memory stands before a step, as that contract says
   pub is_judge_refused : (old m new : State) (o n : ℕ) (x : OutOfMemory) → IsAtFront m → Same t m new → Standing o m n → Judged (seen_in t old) t.rule o (Err x) (seen_in t new)
-  is_judge_refused old m new o n x front h s = inr (n, s.0, front_has_none t m s.0 s.2.stands.place front s.2.stands.is, judged_further old o new n (s.0, s.1, stands_same o m new s.0 _ h s.2))
+  is_judge_refused old m new o n x front h s = (n, s.0, front_has_none t m s.0 s.2.stands.place front s.2.stands.is, judged_further old o new n (s.0, s.1, stands_same o m new s.0 _ h s.2))
 
   -- the verdict that a whole run ends with is the rule's verdict for the object
   pub its_verdict : (o : ℕ) (m : State) (k : ℕ) (v : Verdict) → Tells m (Some v) → Standing o m k → verdict_at t.accepted.now.unit t.population.now.content t.rule o ≡ Some v
@@ -392,3 +392,8 @@ module _ (t : Task) where
       let u = t.accepted.now.unit in
       let p = t.population.now.content in
       verdict_found u p t.rule o s.2.accepted (rule_bound u p t.rule) k (start (tree_of_rule u t.rule) o) s.0 v s.1 (tells s.0 (can_go_on o m s.0 _ s.2)) (within_bound u p t.rule o k s.0 s.2.accepted s.1)
+
+-- after a whole run, or a part of one, a machine stands in a run
+pub judged_stands : (old : Seen) (r o : ℕ) (x : Result Verdict OutOfMemory) (new : Seen) → Judged old r o x new → IsStarted new
+judged_stands old r o (Ok v) new j = (r, o, j.1, _, j.3.stands)
+judged_stands old r o (Err e) new j = (r, o, j.1, _, j.3.stands)

@@ -1,5 +1,5 @@
 -- What the calls of a machine promise.
-use Rattle.std.specs.Prelude.{◌≡◌, ◌⊎◌, ℕ, suc, ◌+◌, ◌-◌, ◌^◌, ◌<◌, ◌≤◌, min, Some, None, Result, Ok, Err}
+use Rattle.std.specs.Prelude.{◌≡◌, ℕ, [], length, vec_capacity, suc, ◌+◌, ◌-◌, ◌^◌, ◌<◌, ◌≤◌, min, Some, None, Result, Ok, Err}
 use Rattle.ocl_base.specs.declared.memory.OutOfMemory.{OutOfMemory}
 use Rattle.rule_machine.specs.declared.verdict.Verdict.{Verdict}
 use Rattle.rule_machine.specs.declared.progress.Progress.{Progress}
@@ -9,6 +9,8 @@ use Rattle.rule_machine.specs.Charges.{work_of}
 use Rattle.rule_machine.specs.Verdict.{outcome}
 use Rattle.rule_machine.specs.Laws.{tree_of_rule, rule_bound}
 use Rattle.rule_machine.specs.Seen.{Seen, Represents}
+use Rattle.rule_machine.specs.Shown.{HasRoomForRulesAlone}
+use Rattle.rule_machine.specs.declared.spare.TheConstants.{MAX_SPARE}
 
 -- the setting of a rule, and the configuration where its runs begin
 abbrev pub setting_at : Seen → ℕ → Setting
@@ -16,6 +18,12 @@ setting_at m r = setting_of m.unit m.population r
 
 abbrev pub beginning : Seen → ℕ → ℕ → Configuration
 beginning m r o = start (tree_of_rule m.unit r) o
+
+-- a new machine's stacks have no more room than the deepest rule wants, as the verifier computes its depths, and its pool
+-- has room for no more than the limit
+pub record HasLimitedRoom (m : Seen) : Type 0 where
+  pub stacks : HasRoomForRulesAlone m.population.model m.unit (length m.unit.rules) m.state
+  pub pool : vec_capacity m.state.pool ≤ MAX_SPARE
 
 -- the same unit and population
 pub record SameTask (old new : Seen) : Type 0 where
@@ -36,6 +44,10 @@ IsStarted m = (r o : ℕ) × (c : Configuration) × (k : ℕ) × Represents m r 
 -- it stands before the first step of a rule for an object
 abbrev pub IsBegun : Seen → ℕ → ℕ → Seen → Type 0
 IsBegun old r o new = Represents new r o (beginning old r o) 0
+
+-- no element that an earlier run gathered is kept
+abbrev pub KeepsNothing : Seen → Type 0
+KeepsNothing m = m.state.pool.items ≡ []
 
 -- as many steps are made as the grant g pays for (the argument `grant` of `run`), and the end isn't reached
 abbrev pub IsPaused : Seen → ℕ → Seen → Type 0
@@ -61,12 +73,12 @@ Ran old g (Ok Paused) new = IsPaused old g new
 Ran old g (Ok (Done v)) new = IsDone old g v new
 Ran old g (Err e) new = IsRefused old g new
 
--- a whole run of a rule for an object: its verdict; or the machine is as it was, or stands before a step
+-- a whole run of a rule for an object: its verdict; or the machine stands before a step of that run
 abbrev pub Judged : Seen → ℕ → ℕ → Result Verdict OutOfMemory → Seen → Type 0
 Judged old r o (Ok v) new =
     (n : ℕ) × (d : Configuration) × (outcome d ≡ Some v) × Further old r o (beginning old r o) 0 n d new
 Judged old r o (Err e) new =
-    (new ≡ old) ⊎ ((n : ℕ) × (d : Configuration) × (outcome d ≡ None) × Further old r o (beginning old r o) 0 n d new)
+    (n : ℕ) × (d : Configuration) × (outcome d ≡ None) × Further old r o (beginning old r o) 0 n d new
 
 -- the work since the start, at most 2^64-1
 abbrev pub IsCount : Seen → ℕ → Type 0

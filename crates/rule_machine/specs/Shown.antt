@@ -1,5 +1,5 @@
 -- What the parts of a machine stand for, and what its steps keep.
-use Rattle.std.specs.Prelude.{◌≡◌, ◌⊎◌, ℕ, ◌+◌, ◌*◌, ◌<◌, ◌≤◌, true, List, [], ◌∷◌, length, map, nat_le, if◌then◌else◌, Option, Some, None, All}
+use Rattle.std.specs.Prelude.{◌≡◌, ◌⊎◌, ℕ, ◌+◌, ◌*◌, ◌<◌, ◌≤◌, max, vec_capacity, true, List, [], ◌∷◌, length, map, nat_le, if◌then◌else◌, Option, Some, None, All}
 use Rattle.std.specs.List.{list_any}
 use Rattle.imkl_population.specs.FinishedPopulation.{FinishedPopulation}
 use Rattle.imkl_population.specs.declared.scalar.Scalar.TheVariants as scalar
@@ -90,6 +90,37 @@ pub record HasRoomFor (d : Depths) (m : State) : Type 0 where
 -- they have room for each rule
 abbrev pub HasRoomForRules : Model → Content → ℕ → State → Type 0
 HasRoomForRules model u count m = (r : ℕ) → r < count → HasRoomFor (depths_of model u r (unit_rule u r)) m
+
+-- no item is on them, or in the pool
+pub record HasNoItems (m : State) : Type 0 where
+  pub operands : m.operands.0 ≡ []
+  pub variables : m.variables.0 ≡ []
+  pub pieces : m.pieces.0 ≡ []
+  pub pool : m.pool.items ≡ []
+
+-- and there is no room
+pub record HasNoRoom (m : State) : Type 0 where
+  pub items : HasNoItems m
+  pub operands : m.operands.1 ≡ 0
+  pub variables : m.variables.1 ≡ 0
+  pub pieces : m.pieces.1 ≡ 0
+  pub pool : vec_capacity m.pool ≡ 0
+
+-- the stacks have room for the deeper of two: of a rule that goes so deep, and of what they had room for
+pub record HasRoomOfBoth (d : Depths) (old new : State) : Type 0 where
+  pub operands : new.operands.1 ≡ max old.operands.1 (d.operands + 2)
+  pub variables : new.variables.1 ≡ max old.variables.1 (d.variables + 2)
+  pub pieces : new.pieces.1 ≡ max old.pieces.1 (2 * d.blocks + 3)
+
+-- room is for no more than is enough for each of so many rules, of which each wants so much
+abbrev pub IsNoMoreThan : ℕ → (ℕ → ℕ) → ℕ → Type 0
+IsNoMoreThan count wants room = (n : ℕ) → ((r : ℕ) → r < count → wants r ≤ n) → room ≤ n
+
+-- no stack has more room than the deepest of so many rules wants
+pub record HasRoomForRulesAlone (model : Model) (u : Content) (count : ℕ) (m : State) : Type 0 where
+  pub operands : IsNoMoreThan count (λ r. (depths_of model u r (unit_rule u r)).operands + 2) m.operands.1
+  pub variables : IsNoMoreThan count (λ r. (depths_of model u r (unit_rule u r)).variables + 2) m.variables.1
+  pub pieces : IsNoMoreThan count (λ r. 2 * (depths_of model u r (unit_rule u r)).blocks + 3) m.pieces.1
 
 abbrev pub depths_in : Task → Depths
 depths_in t = depths_of t.population.now.content.model t.accepted.now.unit t.rule (unit_rule t.accepted.now.unit t.rule)
@@ -216,12 +247,13 @@ pub record TurnEnded (t : Task) (after : Turn) (last : Slot) (old new : State) :
 
 -- ---- starts
 
--- before the first step of the rule for an object
+-- before the first step of the rule for an object, with nothing of an earlier run in the pool
 pub record IsStartOf (t : Task) (o : ℕ) (m : State) : Type 0 where
   pub is : Is t m (start (code_tree (code_in t)) o)
   pub place : LiesIn t m
   pub started : m.started ≡ Some (record { rule = t.rule; object = o })
   pub count : m.count ≡ 0
+  pub pool : m.pool.items ≡ []
 
 -- the task is that for which the machine was started
 abbrev pub IsTaskOf : Task → State → Type 0

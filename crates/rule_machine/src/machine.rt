@@ -7,7 +7,7 @@ ghost use Rattle.rule_machine.specs.Machine.{setting_of, Configuration};
 ghost use Rattle.rule_machine.specs.Laws.{IsAcceptedRun, verdict_at};
 ghost use Rattle.rule_machine.specs.Shown.{IsTask, task_lists, depths_in, HasRoomFor};
 ghost use Rattle.rule_machine.specs.Seen.{IsIdle, Represents};
-ghost use Rattle.rule_machine.specs.Contract.{SameTask, IsStarted, IsBegun, Ran, Judged, IsCount};
+ghost use Rattle.rule_machine.specs.Contract.{HasLimitedRoom, SameTask, IsStarted, IsBegun, KeepsNothing, Ran, Judged, IsCount};
 
 use crate::progress::Progress;
 use crate::spare::{any_compares, spare_for};
@@ -46,8 +46,8 @@ impl<'a> Model for Machine<'a> {
 
 impl<'a> Machine<'a> {
     /// A machine for accepted code, over a population of the same class model, with nothing started. Its stacks have
-    /// room for each rule, and its pool for copies of what rules compare; where there is no memory for them, the
-    /// answer is `OutOfMemory`.
+    /// room for each rule, and its pool for short copies of what rules compare, but for no more; where there is no memory
+    /// for them, it returns `OutOfMemory`.
     pub fn new(
         alloc: Global,
         accepted: &'a Accepted<'a>,
@@ -57,6 +57,7 @@ impl<'a> Machine<'a> {
         ensures unit { IfOk result (λ m. m.unit ≡ accepted.entry.now.unit) }
         ensures population { IfOk result (λ m. m.population ≡ population.entry.now.content) }
         ensures idle { IfOk result IsIdle }
+        ensures reserved { IfOk result HasLimitedRoom }
     {
         let mut state = State::new(alloc);
         let mut compares = false;
@@ -82,6 +83,7 @@ impl<'a> Machine<'a> {
             (setting_of self.old.unit self.old.population rule).context object }
         ensures task { SameTask self.old self.new }
         ensures begun { OnOk result (IsBegun self.old rule object self.new) }
+        ensures empty { OnOk result (KeepsNothing self.new) }
         ensures refused { OnErr result (self.new ≡ self.old) }
         ensures ok { IsOk result }
     {
@@ -111,8 +113,8 @@ impl<'a> Machine<'a> {
     }
 
     /// Runs a rule for an object of its context class from the start to the end, and gives its verdict. Where memory
-    /// runs out, the machine is as it was, or stands before the step that it didn't suffice for; a rule that gathers
-    /// nothing takes none.
+    /// runs out, the machine is before the step that it didn't suffice for, and `run` tries that step again; a rule that
+    /// gathers nothing is never refused.
     pub fn judge(&mut self, rule: usize, object: ObjectNo) -> Result<Verdict, OutOfMemory>
         requires rule { rule < length self.old.unit.rules }
         requires object { IsInstance self.old.population
@@ -121,6 +123,7 @@ impl<'a> Machine<'a> {
         ensures judged { Judged self.old rule object result self.new }
         ensures verdict { IfOk result (λ v. verdict_at self.old.unit self.old.population rule object
             ≡ Some v) }
+        ensures started { IsStarted self.new }
         ensures succeeds { takes_memory (unit_rule self.old.unit rule) ≡ false → IsOk result }
     {
         let task = self.task(rule);

@@ -59,6 +59,7 @@ impl State {
             task.entry.population.now.content task.entry.rule object ≡ Some v) }
         ensures succeeds { takes_memory (unit_rule task.entry.accepted.now.unit task.entry.rule) ≡ false
             → IsOk result }
+        ensures stands { IsStarted (seen_in task.entry self.new) }
         ensures room { SameRoom self.old self.new }
     {
         self.judge_counted::<Brand>(task, object, Blank::new(1))

@@ -6,8 +6,8 @@ use imkl_population::Population;
 use ocl_base::CollectionKind;
 use rule_code::{Instr, WrittenKind};
 
-/// The most slots that room is made for.
-const MAX_SPARE: usize = 262_144;
+/// The most slots that a new machine has room for in its pool. Longer collections are copied to room of their own.
+pub(crate) const MAX_SPARE: usize = 1024;
 
 /// Whether an instruction compares collections by sorted copies, where they are long and stand in no order.
 fn compares(instr: Instr) -> bool {
@@ -26,7 +26,7 @@ pub(crate) fn any_compares(code: &[Instr]) -> bool {
 /// The slots for which room is made, where a rule compares collections of a population: for copies of two that are as long
 /// as the population's values or its instances, whichever are more, but no more than a limit.
 pub(crate) fn spare_for(population: &Population<'_>) -> usize
-    ensures { result ≤ 262144 }
+    ensures { result ≤ MAX_SPARE }
 {
     let longest = population
         .scalars()

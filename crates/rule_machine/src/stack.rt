@@ -1,6 +1,6 @@
 //! Stacks that have their room before items are put on them.
 
-ghost use Rattle.std.specs.Prelude.{◌≡◌, ℕ, ◌+◌, ◌<◌, ◌≤◌, List, [], ◌∷◌, length, drop, reverse, slice_get, vec_capacity, OnOk, OnErr, MatchOption, None, Some};
+ghost use Rattle.std.specs.Prelude.{◌≡◌, ℕ, ◌+◌, ◌<◌, ◌≤◌, max, List, [], ◌∷◌, length, drop, reverse, slice_get, vec_capacity, OnOk, OnErr, MatchOption, None, Some};
 ghost use Rattle.ocl_base.specs.Lists.{variable_at};
 
 use ocl_base::OutOfMemory;
@@ -22,21 +22,23 @@ impl<T> Model for ReservedStack<T> {
 impl<T: Drop> ReservedStack<T> {
     /// The empty stack.
     pub(crate) fn new(alloc: Global) -> Self
-        ensures { result.0 ≡ [] }
+        ensures items { result.0 ≡ [] }
+        ensures room { result.1 ≡ 0 }
     {
         ReservedStack {
             items: Vec::new(alloc),
         }
     }
 
-    /// Makes room for `count` more items.
+    /// Makes room for `count` more items, and for no more than that.
     pub(crate) fn reserve(&mut self, count: usize) -> Result<(), OutOfMemory>
         ensures items { self.new.0 ≡ self.old.0 }
         ensures room { OnOk result (length self.new.0 + count ≤ self.new.1) }
         ensures grows { self.old.1 ≤ self.new.1 }
+        ensures exact { OnOk result (self.new.1 ≡ max self.old.1 (length self.old.0 + count)) }
         ensures refused { OnErr result (self.new ≡ self.old) }
     {
-        self.items.reserve(count)?;
+        self.items.reserve_exact(count)?;
         Ok(())
     }
 

@@ -1,10 +1,10 @@
 //! The state of a machine.
 
-ghost use Rattle.std.specs.Prelude.{◌≡◌, ◌≤◌, ◌+◌, None, IfOk, OnOk, MatchOption};
+ghost use Rattle.std.specs.Prelude.{◌≡◌, ◌≤◌, ◌+◌, max, None, length, vec_capacity, IfOk, OnOk, MatchOption};
 ghost use Rattle.rule_machine.specs.Machine.{Configuration};
 ghost use Rattle.rule_machine.specs.Verdict.{outcome};
 ghost use Rattle.rule_machine.specs.Laws.{IsAcceptedRun};
-ghost use Rattle.rule_machine.specs.Shown.{depths_in, IsTask, LiesIn, CanGoOn, Same, IsStartOf, IsAtFront, HasRoomFor, SameRoom};
+ghost use Rattle.rule_machine.specs.Shown.{depths_in, IsTask, LiesIn, CanGoOn, Same, IsStartOf, IsAtFront, HasRoomFor, HasNoItems, HasNoRoom, HasRoomOfBoth, SameRoom};
 
 use crate::piece::Piece;
 use crate::stack::ReservedStack;
@@ -43,6 +43,7 @@ impl State {
     pub(crate) fn new(alloc: Global) -> State
         ensures started { result.started ≡ None }
         ensures count { result.count ≡ 0 }
+        ensures empty { HasNoRoom result }
     {
         State {
             pieces: ReservedStack::new(alloc),
@@ -59,7 +60,11 @@ impl State {
     /// Makes room for code that goes so deep, and for one step more: a block has two pending pieces at most, a turn binds
     /// two variables at most, and a start value may be left on the operands.
     pub(crate) fn reserve(&mut self, depths: Depths) -> Result<(), OutOfMemory>
+        requires empty { HasNoItems self.old }
         ensures room { OnOk result (HasRoomFor depths self.new) }
+        ensures exact { OnOk result (HasRoomOfBoth depths self.old self.new) }
+        ensures empty { HasNoItems self.new }
+        ensures pool { self.new.pool ≡ self.old.pool }
         ensures operands { self.old.operands.1 ≤ self.new.operands.1 }
         ensures variables { self.old.variables.1 ≤ self.new.variables.1 }
         ensures pieces { self.old.pieces.1 ≤ self.new.pieces.1 }
@@ -74,13 +79,15 @@ impl State {
         self.pieces.reserve(pieces)
     }
 
-    /// Makes room for so many slots more in the pool.
+    /// Makes room for so many slots more in the pool, and for no more than that.
     pub(crate) fn reserve_spare(&mut self, count: usize) -> Result<(), OutOfMemory>
         ensures room { SameRoom self.old self.new }
         ensures started { self.new.started ≡ self.old.started }
         ensures count { self.new.count ≡ self.old.count }
+        ensures pool { OnOk result (vec_capacity self.new.pool
+            ≡ max (vec_capacity self.old.pool) (length self.old.pool.items + count)) }
     {
-        self.pool.reserve(count)?;
+        self.pool.reserve_exact(count)?;
         Ok(())
     }
 

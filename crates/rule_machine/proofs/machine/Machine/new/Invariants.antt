@@ -1,5 +1,5 @@
-use Rattle.std.proofs.Common.{◌≡◌, None}
-use Rattle.rule_machine.specs.Shown.{HasRoomForRules}
+use Rattle.std.proofs.Common.{◌≡◌, None, vec_capacity}
+use Rattle.rule_machine.specs.Shown.{HasRoomForRules, HasNoItems, HasRoomForRulesAlone}
 use Rattle.rule_machine.proofs.machine.Machine.new.Given as goal
 
 abbrev pub invariant-loop-rule : goal.invariant-loop-rule
@@ -8,4 +8,7 @@ invariant-loop-rule l =
       started : l.state.started ≡ None;
       count : l.state.count ≡ 0;
       room : HasRoomForRules l.accepted.model l.accepted.unit l.rule l.state;
+      empty : HasNoItems l.state;
+      alone : HasRoomForRulesAlone l.accepted.model l.accepted.unit l.rule l.state;
+      pool : vec_capacity l.state.pool ≡ 0;
     }

@@ -26,4 +26,5 @@ returns-clause-started c =
       place = record { order = omega arith; within = omega (arith, long); pending = subst (ArePiecesIn code) (sym c.clear.ensures.items) tt };
       started = refl;
       count = refl;
+      pool = c.clear-4.ensures.items;
     }
