@@ -94,8 +94,8 @@ impl<'a> Machine<'a> {
 
     /// Makes steps while the whole charge of the next one is left of `grant`: `Done` as soon as the last step is made,
     /// and again without a step; else `Paused`, and what is left isn't kept for a later call. Where memory runs out, the
-    /// machine stands before the step that it didn't suffice for, which the next call tries again; a grant of 0 takes
-    /// none, nor does a rule that gathers nothing. Only after `start` or `judge`.
+    /// machine is before the step that it didn't suffice for, which the next call tries again; a grant of 0 is never
+    /// refused, nor is a rule that gathers nothing. Only after `start` or `judge`.
     pub fn run(&mut self, grant: u64) -> Result<Progress, OutOfMemory>
         requires { IsStarted self.old }
         ensures task { SameTask self.old self.new }

@@ -22,7 +22,7 @@ use rule_slots::{Slot, invalid_slot};
 use rule_verify::{BlockInstr, Shape, block_of, operands_above, shape_of};
 
 impl State {
-    /// One step. Where memory runs out, the machine stands before it; a rule that gathers nothing takes none.
+    /// One step. Where memory runs out, the machine stands before it; a rule that gathers nothing isn't refused.
     #[inline(always)]
     pub(crate) fn step(&mut self, task: Task<'_>) -> Result<(), OutOfMemory>
         requires task { IsTask task }

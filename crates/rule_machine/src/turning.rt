@@ -22,7 +22,7 @@ use rule_verify::{BlockInstr, block_of, bound_count, operands_above};
 
 impl State {
     /// The step of the piece that comes after a sequence that is through, and is no sequence. Where memory runs out, the
-    /// machine stands before it; a rule that gathers nothing takes none.
+    /// machine stands before it; a rule that gathers nothing isn't refused.
     #[inline(never)]
     pub(crate) fn pass(&mut self, task: Task<'_>) -> Result<(), OutOfMemory>
         requires place { LiesIn task self.old }
