@@ -1,5 +1,5 @@
 -- Values as OCL writes them: objects by their ids, of a collection at most ten elements and how many more there are.
-use Rattle.std.specs.Prelude.{ℕ, zero, suc, ◌-◌, ◌==◌, Bool, true, false, List, [], ◌∷◌, ◌++◌, length, take, codes, Some, None, slice_index_or, if◌then◌else◌, nat_le}
+use Rattle.std.specs.Prelude.{ℕ, zero, suc, ◌-◌, ◌==◌, Bool, true, false, List, [], ◌∷◌, ◌++◌, length, take, codes, Some, None, slice_index_or, if◌then◌else◌}
 use Rattle.std.specs.Fmt.{decimal, signed_decimal}
 use Rattle.std.specs.List.{flat_map}
 use Rattle.ocl_base.specs.declared.collection_kind.CollectionKind.{CollectionKind}
@@ -24,13 +24,17 @@ quoted_character c =
 abbrev pub max_quoted : ℕ
 max_quoted = 60
 
--- how many characters a text has, where not all are shown
-abbrev pub length_text : ℕ → List ℕ
-length_text n = if nat_le n max_quoted then [] else (codes ".. (" ++ (decimal n ++ codes " characters)"))
+-- how many characters a text has
+abbrev pub length_note : ℕ → List ℕ
+length_note n = codes ".. (" ++ (decimal n ++ codes " characters)")
+
+-- that is written where some of them are hidden
+abbrev pub length_text : ℕ → ℕ → List ℕ
+length_text hidden n = if hidden == 0 then [] else length_note n
 
 -- a text, by its characters
 abbrev pub quoted_text : List ℕ → List ℕ
-quoted_text t = 39 ∷ (flat_map quoted_character (take max_quoted t) ++ (39 ∷ length_text (length t)))
+quoted_text t = 39 ∷ (flat_map quoted_character (take max_quoted t) ++ (39 ∷ length_text (length t - max_quoted) (length t)))
 
 abbrev pub truth_text : Bool → List ℕ
 truth_text true = codes "true"

@@ -5,7 +5,7 @@ ghost use Rattle.std.specs.List.{flat_map};
 ghost use Rattle.std.specs.Str.{chars};
 ghost use Rattle.imkl_model.specs.ClassModel.{enumeration_at};
 ghost use Rattle.owned_values.specs.Meant.{meant, meant_element, meant_elements, IsElementThere, AreElementsThere, IsValueThere};
-ghost use Rattle.explain_why.specs.Values.{literal_text, quoted_character, max_quoted, length_text, quoted_text, kind_name, element_text, before_element, elements_text, more_text, collection_text, value_text};
+ghost use Rattle.explain_why.specs.Values.{literal_text, quoted_character, max_quoted, length_note, length_text, quoted_text, kind_name, element_text, before_element, elements_text, more_text, collection_text, value_text};
 
 use crate::pieces::{put, put_count, put_number};
 use crate::words::kind_name;
@@ -67,16 +67,37 @@ pub(crate) fn put_quoted(alloc: Global, out: &mut String, text: &str) -> Result<
     put(out, "'")?;
     put_characters(out, text)?;
     put(out, "'")?;
-    put_length(alloc, out, text.chars().count())
+    let count = character_count(text);
+    put_length(alloc, out, count.saturating_sub(MAX_QUOTED), count)
 }
 
-/// Puts how many characters a text has, if not all are shown.
-fn put_length(alloc: Global, out: &mut String, count: usize) -> Result<(), OutOfMemory>
-    ensures { OnOk result (string_bytes out.new ≡ string_bytes out.old ++ length_text count) }
+/// How many characters a text has.
+fn character_count(text: &str) -> usize
+    ensures { result ≡ length (chars text.now) }
 {
-    if count <= MAX_QUOTED {
+    text.chars().count()
+}
+
+/// Puts how many characters a text has, if some of them are hidden.
+fn put_length(
+    alloc: Global,
+    out: &mut String,
+    hidden: usize,
+    count: usize,
+) -> Result<(), OutOfMemory>
+    ensures { OnOk result (string_bytes out.new ≡ string_bytes out.old ++
+        length_text hidden count) }
+{
+    if hidden == 0 {
         return Ok(());
     }
+    put_note(alloc, out, count)
+}
+
+/// Puts how many characters a text has.
+fn put_note(alloc: Global, out: &mut String, count: usize) -> Result<(), OutOfMemory>
+    ensures { OnOk result (string_bytes out.new ≡ string_bytes out.old ++ length_note count) }
+{
     put(out, ".. (")?;
     put_count(alloc, out, count)?;
     put(out, " characters)")
