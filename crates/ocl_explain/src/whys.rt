@@ -109,6 +109,9 @@ pub fn answer_why<S: Sink>(alloc: Global, asked: WhyAsked<'_>, sink: &mut S) -> 
     match find_why(alloc, asked) {
         Ok(Some(why)) => write_why(alloc, sink, why, asked.lines),
         Ok(None) => write_refusal(alloc, asked, sink),
-        Err(_) => out_of_memory(alloc),
+        Err(_) => WhyEnding {
+            outcome: Outcome::Failed(CommandFault::OutOfMemory),
+            words: Ok(String::new(alloc)),
+        },
     }
 }
