@@ -97,7 +97,7 @@ def block_faults(text):
         if not info or info[0] not in LANGUAGES:
             yield number, f"a block without a language ({', '.join(sorted(LANGUAGES))})"
         elif info[0] != "console" and any(it.startswith("$ ") for it in lines):
-            yield number, "commands with a prompt in a block that isn't run; `console` is"
+            yield number, "commands after `$ ` in a block that isn't run; `console` is"
         elif info[0] == "console" and not (lines and lines[0].startswith("$ ")):
             yield number, "a console block that doesn't begin with a command"
 
