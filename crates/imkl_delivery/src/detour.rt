@@ -1,0 +1,44 @@
+//! Why a delivery isn't loaded straight from its tokens.
+
+use crate::fault::DeliveryFault;
+use json::Invalid;
+use std::alloc::AllocError;
+use token_tree::NoTree;
+
+/// Why a delivery isn't loaded straight from its tokens.
+#[derive(Clone, Copy, Debug, PartialEq, Eq)]
+pub(crate) enum Detour {
+    /// It has a fault, or is written in a way that only the tree of the whole text is read for.
+    ByTree,
+    /// Memory ran out.
+    OutOfMemory,
+}
+
+impl From<AllocError> for Detour {
+    fn from(_error: AllocError) -> Detour {
+        Detour::OutOfMemory
+    }
+}
+
+impl From<Invalid> for Detour {
+    fn from(_error: Invalid) -> Detour {
+        Detour::ByTree
+    }
+}
+
+/// Where a fault leads.
+pub(crate) fn detour_of(written: &Result<(), DeliveryFault>) -> Detour {
+    match written {
+        Err(DeliveryFault::OutOfMemory) => Detour::OutOfMemory,
+        _ => Detour::ByTree,
+    }
+}
+
+impl From<NoTree> for Detour {
+    fn from(error: NoTree) -> Detour {
+        match error {
+            NoTree::Unfit => Detour::ByTree,
+            NoTree::OutOfMemory => Detour::OutOfMemory,
+        }
+    }
+}
