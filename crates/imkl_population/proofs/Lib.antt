@@ -7,6 +7,7 @@ pub mod Sets
 pub mod Twice
 pub mod Pairs
 pub mod Stored
+pub mod Standing
 pub mod Rows
 pub mod Firsts
 pub mod EndLaws
@@ -22,6 +23,7 @@ pub mod Places
 pub mod Lengths
 pub mod Fitting
 pub mod Orders
+pub mod Owners
 pub mod Idle
 pub mod SourceEnds
 pub mod Gathering

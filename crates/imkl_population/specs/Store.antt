@@ -1,5 +1,5 @@
 -- Values by feature: for each feature a column, which is one list of values and for each of its objects a range.
-use Rattle.std.specs.Prelude.{ℕ, zero, suc, ◌+◌, ◌-◌, ◌^◌, ◌<◌, ◌≤◌, List, [], ◌∷◌, ◌++◌, Option, Some, None, map, length, max, slice_range, slice_index_or, All}
+use Rattle.std.specs.Prelude.{◌≡◌, ℕ, zero, suc, ◌+◌, ◌-◌, ◌^◌, ◌<◌, ◌≤◌, List, [], ◌∷◌, ◌++◌, Option, Some, None, map, length, max, slice_range, slice_index_or, All}
 use Rattle.std.specs.Map.{lookup}
 use Rattle.std.specs.BTreeMap.{is_at}
 use Rattle.std.specs.Ordering.{nat_cmp, match_ordering}
@@ -58,6 +58,15 @@ AreSegments n ranges = All (λ r. IsSegment n r.1) ranges
 
 abbrev pub AreRangesWithin : Stored → Type 0
 AreRangesWithin c = AreSegments (length c.scalars) c.ranges
+
+-- how many values stand at ranges: the sum of their lengths
+abbrev pub standing : List (ℕ × Segment) → ℕ
+standing [] = 0
+standing (r ∷ rs) = (r.1.end - r.1.start) + standing rs
+
+-- a column has as many values as stand at its ranges: no replaced ones
+abbrev pub AllStand : Stored → Type 0
+AllStand c = length c.scalars ≡ standing c.ranges
 
 -- ---- all columns
 

@@ -204,6 +204,13 @@ impl<'m> PopulationBuilder<'m> {
         (model, heads, written)
     }
 
+    /// Gives back the memory of values that were replaced.
+    fn give_back(&mut self) -> Result<(), AllocError>
+        ensures { self.new ≡ self.old }
+    {
+        self.written.give_back(self.alloc)
+    }
+
     /// Has what is written found without a search from now on.
     fn rank(&mut self) -> Result<(), AllocError>
         ensures { self.new ≡ self.old }
@@ -411,12 +418,14 @@ impl<'m> PopulationBuilder<'m> {
 
     /// The population of what was added. Refused with `TooFew` at the first object, and its first
     /// feature, that was never set and needs a value; else with `TooFew` or `TooMany` at the first
-    /// object, and its first opposite end, that has too few or too many holders.
+    /// object, and its first opposite end, that has too few or too many holders. Values that were
+    /// replaced are given back.
     pub fn finish(self) -> Result<Population<'m>, PopulationFault>
         ensures finished { Finishes (finish_outcome self.entry) result }
         ensures same { IfOk result (λ p. p.content ≡ self.entry) }
     {
         let mut builder = self;
+        builder.give_back()?;
         builder.rank()?;
         builder.finish_ranked()
     }

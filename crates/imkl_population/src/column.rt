@@ -1,12 +1,12 @@
 //! The values at one feature, of all objects that have some.
 
-ghost use Rattle.std.specs.Prelude.{◌≡◌, ◌<◌, ◌++◌, ℕ, [], false, length, map, slice_range, IfOk, OnOk, OnErr};
+ghost use Rattle.std.specs.Prelude.{◌≡◌, ◌<◌, ◌++◌, ℕ, [], false, length, map, min, slice_range, IfOk, OnOk, OnErr};
 ghost use Rattle.std.specs.Ordering.{nat_cmp};
 ghost use Rattle.std.specs.BTreeMap.{insert_entry};
 ghost use Rattle.imkl_population.specs.Written.{written_in, IsMap};
 ghost use Rattle.imkl_population.specs.Population.{pairs_of};
 ghost use Rattle.imkl_population.specs.Values.{is_over};
-ghost use Rattle.imkl_population.specs.Store.{IsEntry, AreRangesWithin, map_of, pairs_in, shifted};
+ghost use Rattle.imkl_population.specs.Store.{IsEntry, AreRangesWithin, map_of, pairs_in, shifted, standing, AllStand};
 
 use crate::checks::is_over;
 use crate::column_ranges::ColumnRanges;
@@ -55,6 +55,16 @@ fn add_pairs(
         if let Scalar::Object(target) = value {
             pairs.push((holder, target.index()))?;
         }
+    }
+    Ok(())
+}
+
+/// Adds copies of values at the end of a list.
+fn add_copies(list: &mut Vec<Scalar>, alloc: Global, values: &[Scalar]) -> Result<(), AllocError>
+    ensures { OnOk result (list.new.items ≡ list.old.items ++ values.now) }
+{
+    for value in values {
+        list.push(value.copied(alloc)?)?;
     }
     Ok(())
 }
@@ -110,7 +120,7 @@ impl Column {
     }
 
     /// Moves values to an object, in the place of those that it has. What stood there stays in the
-    /// list of values, where nothing leads to it.
+    /// list of values, where nothing leads to it, until it is given back.
     pub(crate) fn set(&mut self, object: usize, values: &mut Vec<Scalar>) -> Result<(), AllocError>
         ensures ok { OnOk result (map_of self.new ≡
             insert_entry nat_cmp (map_of self.old) object values.old.items) }
@@ -143,6 +153,52 @@ impl Column {
         if entries == self.entries.capacity() {
             let more = expected_growth(entries, object, objects);
             self.entries.reserve(more.max(1))?;
+        }
+        Ok(())
+    }
+
+    /// How many values the entries have together, `usize::MAX` where there are more.
+    fn standing(&self) -> usize
+        ensures { result ≡ min (standing self.now.ranges) usize.MAX }
+    {
+        let mut count = 0usize;
+        for entry in self.entries.as_slice() {
+            count = count.saturating_add(entry.end - entry.start);
+        }
+        count
+    }
+
+    /// The same values in a list that holds no others, which has room for so many. Its entries aren't counted.
+    fn copied(&self, alloc: Global, count: usize) -> Result<Column, AllocError>
+        ensures same { IfOk result (λ c. map_of c ≡ map_of self.now) }
+        ensures stand { IfOk result AllStand }
+    {
+        let mut scalars = Vec::with_capacity(alloc, count)?;
+        let mut entries = Vec::with_capacity(alloc, self.entries.len())?;
+        for entry in self.entries.as_slice() {
+            let start = scalars.len();
+            add_copies(&mut scalars, alloc, values_of(&self.scalars, *entry))?;
+            entries.push(Entry {
+                object: entry.object,
+                start,
+                end: scalars.len(),
+            })?;
+        }
+        Ok(Column {
+            scalars,
+            entries,
+            ranks: Ranks::new(alloc),
+        })
+    }
+
+    /// Gives back the memory of values that were replaced. Where there are none, it only looks at the entries.
+    pub(crate) fn give_back(&mut self, alloc: Global) -> Result<(), AllocError>
+        ensures same { map_of self.new ≡ map_of self.old }
+        ensures stand { OnOk result (AllStand self.new) }
+    {
+        let count = self.standing();
+        if count != self.scalars.len() {
+            *self = self.copied(alloc, count)?;
         }
         Ok(())
     }

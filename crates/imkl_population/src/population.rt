@@ -109,8 +109,7 @@ impl<'m> Population<'m> {
         part_of(&self.scalars, self.values_range(object, feature))
     }
 
-    /// The values of all features of all objects. What another value replaced may stand here too,
-    /// outside the range of any feature.
+    /// The values of all features of all objects, and no others: the tests in `model_tests` count them.
     pub fn scalars(&self) -> &[Scalar]
         ensures { result.now ≡ self.now.scalars }
     {

@@ -1,11 +1,10 @@
 //! The features that a class needs values at.
 
-ghost use Rattle.std.specs.Prelude.{◌≡◌, ◌<◌, ◌++◌, ℕ, length, All, IfOk, IfSome, OnOk};
-ghost use Rattle.ocl_base.specs.Numbers.{places};
-ghost use Rattle.imkl_population.specs.Required.{is_on, is_required, required, with_required};
+ghost use Rattle.std.specs.Prelude.{◌≡◌, ◌<◌, ◌++◌, ◌==◌, ◌&&◌, ℕ, [], ◌∷◌, length, slice_index_or, if◌then◌else◌, All, IfOk, IfSome, OnErr, OnOk};
+ghost use Rattle.imkl_population.specs.Required.{is_needed, is_on, inherited, required, with_required, AreOwned, AreOwnedIfAny};
 
 use crate::order::in_order;
-use imkl_model::{ClassModel, ClassNo, FeatureNo, Role};
+use imkl_model::{ClassModel, ClassNo, FeatureInfo, FeatureNo, Role};
 use std::alloc::{AllocError, Global};
 use std::collections::BTreeMap;
 use std::marker::Model;
@@ -45,29 +44,38 @@ impl FeatureList {
     {
         self.items.as_slice()
     }
+
+    fn push(&mut self, feature: FeatureNo) -> Result<(), AllocError>
+        ensures { OnOk result (self.new ≡ self.old ++ feature ∷ []) }
+    {
+        self.items.push(feature)?;
+        Ok(())
+    }
 }
 
 /// For each class of a model the features on one side that have a lower bound above zero. A class's are listed when it
-/// is first asked for.
+/// is first asked for, and what each class itself owns is listed when the first class is.
 #[derive(Drop)]
 pub struct RequiredFeatures<'m> {
     alloc: Global,
     model: &'m ClassModel,
     side: Side,
+    owned: Vec<FeatureList>,
     lists: BTreeMap<usize, FeatureList>,
 }
 
 impl<'m> Model for RequiredFeatures<'m> {
     ghost use Rattle.std.specs.BTreeMap.{get};
     ghost use Rattle.std.specs.Ordering.{nat_cmp};
-    ghost use Rattle.imkl_population.specs.Required.{Requirements, AreRequired};
+    ghost use Rattle.imkl_population.specs.Required.{Requirements, AreRequired, AreOwnedIfAny};
 
     ghost Value = { Requirements };
 
     ghost view = { λ r. record { model = r.model.now; side = r.side } };
 
-    ghost invariant = { λ r. AreRequired (record { model = r.model.now; side = r.side }) (get
-        nat_cmp r.lists) };
+    ghost invariant = { λ r.
+        AreRequired (record { model = r.model.now; side = r.side }) (get nat_cmp r.lists) ×
+        AreOwnedIfAny (record { model = r.model.now; side = r.side }) r.owned.items };
 }
 
 fn is_on(side: Side, role: Role) -> bool
@@ -79,6 +87,97 @@ fn is_on(side: Side, role: Role) -> bool
     }
 }
 
+/// Whether a feature is on a side and has a lower bound above zero.
+fn is_needed(side: Side, info: &FeatureInfo) -> bool
+    ensures { result ≡ is_needed side info.now }
+{
+    0 < info.lower && is_on(side, info.role)
+}
+
+/// As many lists without features.
+fn no_features(alloc: Global, count: usize) -> Result<Vec<FeatureList>, AllocError>
+    ensures { IfOk result (λ v. (length v.items ≡ count) ×
+        ((c : ℕ) → slice_index_or v.items c [] ≡ [])) }
+{
+    let mut lists = Vec::with_capacity(alloc, count)?;
+    for _ in 0..count {
+        lists.push(FeatureList::new(Vec::new(alloc)))?;
+    }
+    Ok(lists)
+}
+
+/// Adds a feature to the list of its owner, if it is needed on a side.
+fn add_needed(
+    lists: &mut [FeatureList],
+    side: Side,
+    info: &FeatureInfo,
+    feature: FeatureNo,
+) -> Result<(), AllocError>
+    requires { info.now.owner < length lists.old }
+    ensures same { length lists.new ≡ length lists.old }
+    ensures added { OnOk result ((c : ℕ) → slice_index_or lists.new c [] ≡
+        slice_index_or lists.old c [] ++
+        (if is_needed side info.now && info.now.owner == c then feature ∷ [] else [])) }
+{
+    if !is_needed(side, info) {
+        return Ok(());
+    }
+    lists[info.owner.index()].push(feature)
+}
+
+/// For each class the features on a side that it owns and that have a lower bound above zero.
+fn list_owned(alloc: Global, model: &ClassModel, side: Side) -> Result<Vec<FeatureList>, AllocError>
+    ensures { IfOk result (λ v. AreOwned (record { model = model.now; side = side })
+        (length model.now.features) v.items) }
+{
+    model.well_formed();
+    let mut lists = no_features(alloc, model.class_count())?;
+    for feature in 0..model.feature_count() {
+        let feature = FeatureNo::new(feature);
+        add_needed(&mut lists, side, model.feature_info(feature), feature)?;
+    }
+    Ok(lists)
+}
+
+/// Makes the lists of what each class owns, if there are none yet.
+fn fill_owned(
+    owned: &mut Vec<FeatureList>,
+    alloc: Global,
+    model: &ClassModel,
+    side: Side,
+) -> Result<(), AllocError>
+    requires { AreOwnedIfAny (record { model = model.now; side = side }) owned.old.items }
+    ensures filled { OnOk result (AreOwned (record { model = model.now; side = side })
+        (length model.now.features) owned.new.items) }
+    ensures kept { OnErr result (owned.new ≡ owned.old) }
+{
+    if owned.is_empty() {
+        *owned = list_owned(alloc, model, side)?;
+    }
+    Ok(())
+}
+
+/// What a class inherits and what it owns, owner by owner.
+fn gather(
+    alloc: Global,
+    model: &ClassModel,
+    class: ClassNo,
+    owned: &[FeatureList],
+) -> Result<Vec<FeatureNo>, AllocError>
+    requires class { class < length model.now.classes }
+    requires owned { length owned.now ≡ length model.now.classes }
+    ensures { IfOk result (λ v. v.items ≡
+        inherited model.now class owned.now (length model.now.classes)) }
+{
+    let mut features = Vec::new(alloc);
+    for owner in 0..model.class_count() {
+        if model.conforms(class, ClassNo::new(owner)) {
+            features.extend_from_slice(owned[owner].as_slice())?;
+        }
+    }
+    Ok(features)
+}
+
 impl<'m> RequiredFeatures<'m> {
     /// What the classes of a model require. Takes no memory.
     pub fn new(alloc: Global, model: &'m ClassModel, side: Side) -> RequiredFeatures<'m>
@@ -88,32 +187,22 @@ impl<'m> RequiredFeatures<'m> {
             alloc,
             model,
             side,
+            owned: Vec::new(alloc),
             lists: BTreeMap::new(alloc),
         }
     }
 
-    fn is_required(&self, class: ClassNo, feature: FeatureNo) -> bool
-        requires class { class < length self.now.model.classes }
-        requires feature { feature < length self.now.model.features }
-        ensures { result ≡ is_required self.now class feature }
+    /// The features that a class requires. When it is first called it lists what each class owns, so that all features
+    /// are looked at once and not for each class.
+    fn list_required(&mut self, class: ClassNo) -> Result<Vec<FeatureNo>, AllocError>
+        requires { class < length self.old.model.classes }
+        ensures list { IfOk result (λ v. v.items ≡ required self.old class) }
+        ensures same { self.new ≡ self.old }
     {
-        let info = self.model.feature_info(feature);
-        0 < info.lower && is_on(self.side, info.role) && self.model.belongs(class, feature)
-    }
-
-    /// The features that a class requires.
-    fn list_required(&self, class: ClassNo) -> Result<Vec<FeatureNo>, AllocError>
-        requires { class < length self.now.model.classes }
-        ensures { IfOk result (λ v. v.items ≡ required self.now class) }
-    {
-        let mut required = Vec::new(self.alloc);
-        for feature in 0..self.model.feature_count() {
-            let feature = FeatureNo::new(feature);
-            if self.is_required(class, feature) {
-                required.push(feature)?;
-            }
-        }
-        Ok(required)
+        self.model.well_formed();
+        fill_owned(&mut self.owned, self.alloc, self.model, self.side)?;
+        let features = gather(self.alloc, self.model, class, &self.owned)?;
+        Ok(in_order(features))
     }
 
     /// The features that a class requires, in the model's order, once `with_required` has listed

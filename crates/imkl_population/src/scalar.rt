@@ -1,25 +1,29 @@
 //! Single values.
 
-ghost use Rattle.std.specs.Prelude.{◌≡◌, string_bytes};
+ghost use Rattle.std.specs.Prelude.{◌≡◌, length, string_bytes, IfOk};
 ghost use Rattle.std.specs.Str.{chars};
 
 use crate::numbers::ObjectNo;
 use imkl_model::{EnumNo, LiteralNo};
+use std::alloc::{AllocError, Global};
 use std::marker::Model;
 
-/// A text value. Contracts see its characters (Unicode scalar values).
+/// A text value. Contracts see its characters (Unicode scalar values), which are counted once.
 #[derive(Debug, Drop)]
 pub struct ScalarText {
     text: String,
+    characters: usize,
 }
 
 impl Model for ScalarText {
-    ghost use Rattle.std.specs.Prelude.{List, ℕ, string_bytes};
+    ghost use Rattle.std.specs.Prelude.{◌≡◌, List, ℕ, length, string_bytes};
     ghost use Rattle.std.specs.Str.{chars};
 
     ghost Value = { List ℕ };
 
     ghost view = { λ t. chars (string_bytes t.text) };
+
+    ghost invariant = { λ t. t.characters ≡ length (chars (string_bytes t.text)) };
 }
 
 impl ScalarText {
@@ -27,7 +31,8 @@ impl ScalarText {
     pub fn new(text: String) -> ScalarText
         ensures { result ≡ chars (string_bytes text) }
     {
-        ScalarText { text }
+        let characters = text.as_str().chars().count();
+        ScalarText { text, characters }
     }
 
     /// The text.
@@ -35,6 +40,13 @@ impl ScalarText {
         ensures { chars result.now ≡ self.now }
     {
         self.text.as_str()
+    }
+
+    /// How many characters it has.
+    pub fn character_count(&self) -> usize
+        ensures { result ≡ length self.now }
+    {
+        self.characters
     }
 }
 
@@ -51,4 +63,22 @@ pub enum Scalar {
     Literal(EnumNo, LiteralNo),
     /// An object.
     Object(ObjectNo),
+}
+
+impl Scalar {
+    /// The same value once more.
+    pub(crate) fn copied(&self, alloc: Global) -> Result<Scalar, AllocError>
+        ensures { IfOk result (λ s. s ≡ self.now) }
+    {
+        match self {
+            Scalar::Bool(value) => Ok(Scalar::Bool(*value)),
+            Scalar::Int(value) => Ok(Scalar::Int(*value)),
+            Scalar::Text(text) => {
+                let text = String::from_str(alloc, text.as_str())?;
+                Ok(Scalar::Text(ScalarText::new(text)))
+            }
+            Scalar::Literal(enumeration, literal) => Ok(Scalar::Literal(*enumeration, *literal)),
+            Scalar::Object(object) => Ok(Scalar::Object(*object)),
+        }
+    }
 }

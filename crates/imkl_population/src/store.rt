@@ -1,11 +1,11 @@
 //! The values of all objects, feature by feature.
 
-ghost use Rattle.std.specs.Prelude.{◌≡◌, ◌<◌, ◌≤◌, ◌++◌, ◌∷◌, ◌==◌, ℕ, [], false, length, min, All, IfOk, OnOk, OnErr, if◌then◌else◌};
+ghost use Rattle.std.specs.Prelude.{◌≡◌, ◌+◌, ◌<◌, ◌≤◌, ◌++◌, ◌∷◌, ◌==◌, ℕ, [], false, length, min, take, All, IfOk, OnOk, OnErr, if◌then◌else◌};
 ghost use Rattle.std.specs.Ordering.{nat_cmp};
 ghost use Rattle.std.specs.BTreeMap.{insert_entry};
 ghost use Rattle.imkl_population.specs.Written.{written_in, IsMap};
 ghost use Rattle.imkl_population.specs.Values.{is_over};
-ghost use Rattle.imkl_population.specs.Store.{AreRangesWithin, maps_of, column_at, object_row, pairs_in, ranges_from, scalars_of};
+ghost use Rattle.imkl_population.specs.Store.{AreRangesWithin, AllStand, maps_of, column_at, object_row, pairs_in, ranges_from, scalars_of};
 
 use crate::column::Column;
 use crate::column_ranges::ColumnRanges;
@@ -158,6 +158,30 @@ impl Store {
         self.grow(alloc, size.features)?;
         self.make_room(cell.feature, cell.object, size.objects, values.len())?;
         self.set(cell.feature, cell.object, values)
+    }
+
+    /// Gives back the memory of a column's replaced values.
+    fn give_back_column(&mut self, alloc: Global, feature: usize) -> Result<(), AllocError>
+        requires { feature < length self.old }
+        ensures same { maps_of self.new ≡ maps_of self.old }
+        ensures stand { OnOk result (All AllStand (take feature self.old) →
+            All AllStand (take (feature + 1) self.new)) }
+    {
+        let column = &mut self.columns[feature];
+        let result = column.give_back(alloc);
+        column.within();
+        result
+    }
+
+    /// Gives back the memory of replaced values.
+    pub(crate) fn give_back(&mut self, alloc: Global) -> Result<(), AllocError>
+        ensures same { maps_of self.new ≡ maps_of self.old }
+        ensures stand { OnOk result (All AllStand self.new) }
+    {
+        for feature in 0..self.columns.len() {
+            self.give_back_column(alloc, feature)?;
+        }
+        Ok(())
     }
 
     /// Counts the entries of a column anew.

@@ -103,6 +103,22 @@ fn set(builder: &mut PopulationBuilder<'_>, alloc: Global, words: &str) -> Answe
     Some(builder.set_value(object, feature, values))
 }
 
+/// What an attribute is set to in turn.
+const IN_TURN: [&str; 4] = ["", " 7", " 1 2 3 4 5", " -1 0"];
+
+/// `repeat COUNT ID CLASS.FEATURE`: sets an attribute so many times, to none and to some numbers in turn.
+fn repeat(builder: &mut PopulationBuilder<'_>, alloc: Global, words: &str) -> Answer {
+    let (count, attribute) = words.split_once(' ')?;
+    for number in 0..count.parse::<usize>().ok()? {
+        let values = IN_TURN[number % 4];
+        let words = format!(in alloc; "{attribute} ={values}").ok()?;
+        if let Err(fault) = set(builder, alloc, words.as_str())? {
+            return Some(Err(fault));
+        }
+    }
+    Some(Ok(()))
+}
+
 /// `link ID CLASS.FEATURE = OBJECTS`.
 fn link(builder: &mut PopulationBuilder<'_>, alloc: Global, words: &str) -> Answer {
     let (words, targets) = words.split_once(" =")?;
@@ -117,6 +133,7 @@ fn call(builder: &mut PopulationBuilder<'_>, alloc: Global, row: &str) -> Answer
         "add" => add(builder, words),
         "fill" => fill(builder, alloc, words),
         "set" => set(builder, alloc, words),
+        "repeat" => repeat(builder, alloc, words),
         "link" => link(builder, alloc, words),
         _ => None,
     }

@@ -54,7 +54,7 @@ set k Leiding.diepten = 7 -7 7: done
 set k Leiding.diepten = 9223372036854775807 -9223372036854775808: done
 set k Leiding.diepten = 1 'a: WrongKind
 values
-2 objects
+2 objects, 4 values
 k.diepten: 9223372036854775807 -9223372036854775808
 k.themas: ::1 ::0
 ";
@@ -115,7 +115,7 @@ add Kabel k: DuplicateId
 set k Kabel.themas =: TooFew { object: ObjectNo { index: 0 }, feature: FeatureNo { index: 2 } }
 link c Buis.omvat = h b: WrongClass
 values
-5 objects
+5 objects, 15 values
 k.themas: ::1 ::0
 k.ligtIn: @3
 b.omvat: @4 @2
@@ -140,7 +140,7 @@ set k Leiding.naam = 'kabel: done
 set h Leiding.diepten = 9: done
 set h Kabel.themas = ::0: done
 values
-3 objects
+3 objects, 11 values
 k.naam: 'kabel
 k.themas: ::1
 g.naam: 'glas\u{e9}
@@ -160,7 +160,7 @@ set o3 Leiding.diepten = 3: done
 set o199 Leiding.naam = 'last: done
 set o0 Leiding.naam = 'first: done
 values
-200 objects
+200 objects, 6 values
 o0.naam: 'first
 o2.diepten: 2
 o3.diepten: 3
@@ -183,7 +183,7 @@ link b Buis.omvat = k: done
 link c Buis.omvat = g k: done
 link b Buis.omvat = g: done
 values
-4 objects
+4 objects, 13 values
 k.themas: ::1
 k.ligtIn: @3
 b.omvat: @2
@@ -192,6 +192,41 @@ g.themas: ::0 ::2
 g.ligtIn: @1 @3
 c.diepten: 7 -7 7
 c.omvat: @2 @0
+";
+
+/// An attribute that is set a thousand times, and others and source ends that are set several times, to values of other
+/// numbers: the last ones alone stand, and the opposite ends.
+const REPLACED: &str = "add Kabel k: done
+add Buis b: done
+add Glasvezel g: done
+add Buis c: done
+set k Kabel.themas = ::0 ::2: done
+set g Kabel.themas = ::1: done
+set c Leiding.diepten = 9 8 9: done
+repeat 1000 b Leiding.diepten: done
+set g Leiding.naam = 'glas: done
+set b Leiding.naam = 'first: done
+set b Leiding.naam =: done
+set b Leiding.naam = 'last: done
+set c Leiding.naam = 'gone: done
+set c Leiding.naam =: done
+link b Buis.omvat = k g: done
+link c Buis.omvat = k: done
+link b Buis.omvat =: done
+link b Buis.omvat = g: done
+set k Kabel.themas = ::2: done
+values
+4 objects, 13 values
+k.themas: ::2
+k.ligtIn: @3
+b.naam: 'last
+b.diepten: -1 0
+b.omvat: @2
+g.naam: 'glas
+g.themas: ::1
+g.ligtIn: @1
+c.diepten: 9 8 9
+c.omvat: @0
 ";
 
 /// A cable that three ducts hold.
@@ -247,13 +282,13 @@ set k Kabel.themas = ::1: done
 link o120 Buis.omvat = k: done
 link o121 Buis.omvat = o120: WrongClass
 values
-202 objects
+202 objects, 3 values
 o120.omvat: @201
 k.themas: ::1
 k.ligtIn: @120
 ";
 
-const CALLS: [&str; 13] = [
+const CALLS: [&str; 14] = [
     ADDED,
     SET,
     TYPES,
@@ -263,6 +298,7 @@ const CALLS: [&str; 13] = [
     EACH_TYPE,
     SCATTERED,
     SET_TWICE,
+    REPLACED,
     CROWDED,
     CROWDED_AND_UNSET,
     UNLINKED,

@@ -72,7 +72,8 @@ fn put_object(
 
 fn put_values(population: &Population<'_>, out: &mut String) -> Result<(), OutOfMemory> {
     let objects = population.objects();
-    writeln!(out, "{objects} objects")?;
+    let values = population.scalars().len();
+    writeln!(out, "{objects} objects, {values} values")?;
     for object in 0..objects {
         population.consistent();
         put_object(population, ObjectNo::new(object), out)?;
@@ -80,7 +81,7 @@ fn put_values(population: &Population<'_>, out: &mut String) -> Result<(), OutOf
     Ok(())
 }
 
-/// How many objects there are, and all values, those of a feature of an object in a line: `k.themas: ::1 ::0`.
+/// How many objects and values there are, and the values, those of a feature of an object in a line: `k.themas: ::1 ::0`.
 pub(crate) fn values_of(alloc: Global, population: &Population<'_>) -> Result<String, OutOfMemory> {
     let mut out = String::new(alloc);
     put_values(population, &mut out)?;

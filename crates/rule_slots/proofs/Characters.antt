@@ -107,6 +107,10 @@ text_stands l s t whole h e u =
     let ends : s.start + s.count ≡ length (encode_utf8_all h.front) + length (encode_utf8_all t) = omega (arith, h.start, h.count) in
     stands_at whole h.front t h.rest s.start (s.start + s.count) u (e ∙ whole_is (s.list == 0) l s.index (h.front ++ (t ++ h.rest)) h.there) h.start ends
 
+-- the bytes of a text, by its characters
+pub bytes_by_characters : (s t : List ℕ) → chars s ≡ t → IsUtf8 s → length (encode_utf8_all t) ≡ length s
+bytes_by_characters s t e u = ap (λ x. length (encode_utf8_all x)) (sym e) ∙ ap length (encodes-chars s u)
+
 -- the characters of what is cut out
 pub chars_cut : (whole text : List ℕ) (start end : ℕ) (t : List ℕ) → Stands whole start end t → text ≡ slice_range whole start end → chars text ≡ t
 chars_cut whole text start end t h e = ap chars (e ∙ h.bytes) ∙ sym (chars_from_encodes t (encode_utf8_all t) h.spelled refl)
@@ -133,7 +137,7 @@ cut_is l s text left part from to le u v w e f h =
 -- ---- bounds
 
 -- without bounds there are no characters
-pub bounds_none : (t : List ℕ) (x y : ℤ) → bounds_in t x y ≡ None → characters t x y ≡ value.Invalid
+pub bounds_none : (t : List ℕ) (x y : ℤ) → bounds_in (length t) x y ≡ None → characters t x y ≡ value.Invalid
 bounds_none t (pos a) (pos b) e = by_test (nat_le 1 a && nat_le a b && nat_le b (length t)) e
   where
     by_test : (z : Bool) → (if◌then◌else◌ {A = Option (ℕ × ℕ)} z (Some (a - 1, b)) None) ≡ None → (if z then value.Single (scalar.Text (slice_range t (a - 1) b)) else value.Invalid) ≡ value.Invalid
@@ -143,17 +147,18 @@ bounds_none t (pos a) (negsuc b) e = refl
 bounds_none t (negsuc a) y e = refl
 
 -- with bounds these are the characters between them
-pub bounds_some : (t : List ℕ) (x y : ℤ) (from to : ℕ) → bounds_in t x y ≡ Some (from, to) → (characters t x y ≡ value.Single (scalar.Text (slice_range t from to))) × (from ≤ to)
+pub bounds_some : (t : List ℕ) (x y : ℤ) (from to : ℕ) → bounds_in (length t) x y ≡ Some (from, to) → (characters t x y ≡ value.Single (scalar.Text (slice_range t from to))) × (from ≤ to) × (to ≤ length t)
 bounds_some t (pos a) (pos b) from to e = by_test (nat_le 1 a && nat_le a b && nat_le b (length t)) refl e
   where
-    by_test : (z : Bool) → (nat_le 1 a && nat_le a b && nat_le b (length t)) ≡ z → (if◌then◌else◌ {A = Option (ℕ × ℕ)} z (Some (a - 1, b)) None) ≡ Some (from, to) → ((if z then value.Single (scalar.Text (slice_range t (a - 1) b)) else value.Invalid) ≡ value.Single (scalar.Text (slice_range t from to))) × (from ≤ to)
+    by_test : (z : Bool) → (nat_le 1 a && nat_le a b && nat_le b (length t)) ≡ z → (if◌then◌else◌ {A = Option (ℕ × ℕ)} z (Some (a - 1, b)) None) ≡ Some (from, to) → ((if z then value.Single (scalar.Text (slice_range t (a - 1) b)) else value.Invalid) ≡ value.Single (scalar.Text (slice_range t from to))) × (from ≤ to) × (to ≤ length t)
     by_test true q e =
         let pair = same_Some (a - 1, b) (from, to) e in
         let f : a - 1 ≡ from = ap (λ q. q.0) pair in
         let g : b ≡ to = ap (λ q. q.1) pair in
         let tests = and_parts (nat_le 1 a && nat_le a b) (nat_le b (length t)) q in
         let low = leb-true a b (and_parts (nat_le 1 a) (nat_le a b) tests.0).1 in
-        (ap (λ n. value.Single (scalar.Text (slice_range t n b))) f ∙ ap (λ n. value.Single (scalar.Text (slice_range t from n))) g, omega (arith, f, g, low))
+        let high = leb-true b (length t) tests.1 in
+        (ap (λ n. value.Single (scalar.Text (slice_range t n b))) f ∙ ap (λ n. value.Single (scalar.Text (slice_range t from n))) g, omega (arith, f, g, low), omega (arith, g, high))
     by_test false q e = cc
 bounds_some t (pos a) (negsuc b) from to e = cc
 bounds_some t (negsuc a) y from to e = cc

@@ -5,6 +5,7 @@ pub mod Made
 pub mod Alike
 pub mod Equal
 pub mod Characters
+pub mod SingleBytes
 pub mod Loops
 pub mod InOrder
 pub mod SameWords

@@ -1,22 +1,23 @@
-//! Operations on texts, by characters. A part of a text is a narrower range of its bytes.
+//! Operations on texts, by characters. A part of a text is a narrower range of its bytes. Of a text of the population the
+//! number of characters is kept, so only parts of texts with longer characters, and texts of the unit, are counted.
 
-ghost use Rattle.std.specs.Prelude.{◌≡◌, ◌==◌, ◌+◌, ◌<◌, ◌≤◌, ◌^◌, ℕ, List, length, take, drop, slice_range, true, Some};
+ghost use Rattle.std.specs.Prelude.{◌≡◌, ◌==◌, ◌+◌, ◌<◌, ◌≤◌, ◌^◌, ℕ, List, length, take, drop, slice_range, true, Some, IfSome};
 ghost use Rattle.std.specs.Str.{chars};
 ghost use Rattle.imkl_population.specs.declared.scalar.Scalar.TheVariants.{Text};
 ghost use Rattle.rule_code.specs.Content.{text_at};
 ghost use Rattle.rule_values.specs.Value.{Value, Single};
 ghost use Rattle.rule_values.specs.Operations.{text_length, characters, substring};
-ghost use Rattle.rule_slots.specs.Slots.{Lists as Indexed, TextIs, SlotIs, lists_in, plain_mark};
+ghost use Rattle.rule_slots.specs.Slots.{Lists as Indexed, IsTextAt, TextIs, SlotIs, lists_in, plain_mark};
 ghost use Rattle.rule_slots.specs.declared.slot.Slot.{Slot as Held};
 ghost use Rattle.rule_slots.specs.Operands.{MakesOfOne, is_text_operand, is_number_operand};
 ghost use Rattle.rule_slots.specs.Compared.{text_bytes, bytes_at, bytes_within, slot_bytes};
-ghost use Rattle.rule_slots.specs.Cut.{IsRestOf, bounds_in};
+ghost use Rattle.rule_slots.specs.Cut.{AreSingleBytes, IsRestOf, bounds_in};
 
 use crate::collections::count_slot;
 use crate::integers::if_plain;
 use crate::lists::Lists;
 use crate::slot::{Slot, invalid_slot, text_slot};
-use imkl_population::Scalar;
+use imkl_population::{Scalar, ScalarText};
 use rule_code::TextNumber;
 
 /// A text of the unit.
@@ -99,13 +100,64 @@ fn character_count(text: &str) -> usize
     text.chars().count()
 }
 
+/// The text of the population that a slot's text is a part of; none for a text of the unit.
+fn population_text<'a>(lists: Lists<'a>, slot: Slot) -> Option<&'a ScalarText>
+    ensures { IfSome result (λ text. (t : List ℕ) →
+        IsTextAt (slot.list == 0) (lists_in lists.entry) slot.index t → text.now ≡ t) }
+{
+    if slot.list != 0 {
+        return None;
+    }
+    match lists.scalars().get(slot.index) {
+        Some(Scalar::Text(text)) => Some(text),
+        _ => None,
+    }
+}
+
+/// Whether each character of a text is one byte.
+fn is_single_bytes(text: &ScalarText) -> bool
+    ensures single { result ≡ true → AreSingleBytes text.now }
+    ensures room { length text.now < 2 ^ 64 }
+{
+    text.as_str().len() == text.character_count()
+}
+
+/// Whether a slot's text is a part of one whose characters are known to be one byte each.
+fn is_cut_by_bytes(lists: Lists<'_>, slot: Slot) -> bool
+    ensures single { result ≡ true → (t : List ℕ) → TextIs (lists_in lists.entry) slot t →
+        AreSingleBytes t }
+    ensures room { result ≡ true → (t : List ℕ) → TextIs (lists_in lists.entry) slot t →
+        slot.start + length t < 2 ^ 64 }
+{
+    match population_text(lists, slot) {
+        Some(text) => is_single_bytes(text),
+        None => false,
+    }
+}
+
+/// How many characters a slot's text has.
+#[inline(never)]
+fn length_of(lists: Lists<'_>, slot: Slot) -> usize
+    ensures { (t : List ℕ) → TextIs (lists_in lists.entry) slot t → result ≡ length t }
+{
+    if let Some(text) = population_text(lists, slot) {
+        if slot.count == text.as_str().len() {
+            return text.character_count();
+        }
+        if is_single_bytes(text) {
+            return slot.count;
+        }
+    }
+    character_count(text_of(lists, slot))
+}
+
 /// How many characters a text has; invalid of null and invalid.
 #[inline(always)]
 pub fn text_length(lists: Lists<'_>, v: Slot) -> Slot
     ensures { (pool : List Held) →
         MakesOfOne (lists_in lists.entry) pool is_text_operand text_length v result }
 {
-    if_plain(v, count_slot(character_count(text_of(lists, v))))
+    if_plain(v, count_slot(length_of(lists, v)))
 }
 
 /// What is left of a text after `count` characters.
@@ -128,10 +180,10 @@ fn first(text: &str, count: usize) -> &str
     &text[..text.len() - left.len()]
 }
 
-/// The part of a text from one character, counted from 0, to before another, for bounds counted from 1, both included;
-/// none unless 1 <= from <= to <= size.
-fn bounds(text: &str, from: i64, to: i64) -> Option<(usize, usize)>
-    ensures { result ≡ bounds_in (chars text.now) from to }
+/// The part of a text of so many characters from one, counted from 0, to before another, for bounds counted from 1, both
+/// included; none unless 1 <= from <= to <= size.
+fn bounds(size: usize, from: i64, to: i64) -> Option<(usize, usize)>
+    ensures { result ≡ bounds_in size from to }
 {
     let Ok(from) = usize::try_from(from) else {
         return None;
@@ -139,7 +191,7 @@ fn bounds(text: &str, from: i64, to: i64) -> Option<(usize, usize)>
     let Ok(to) = usize::try_from(to) else {
         return None;
     };
-    if from < 1 || to < from || character_count(text) < to {
+    if from < 1 || to < from || size < to {
         return None;
     }
     Some((from - 1, to))
@@ -159,11 +211,21 @@ fn cut(v: Slot, text: &str, from: usize, to: usize) -> Slot
     text_slot(v.list, v.index, start, part.len())
 }
 
-/// The same for bounds that are slots.
-fn slot_bounds(text: &str, lower: Slot, upper: Slot) -> Option<(usize, usize)>
-    ensures { result ≡ bounds_in (chars text.now) lower.number upper.number }
+/// The part of a slot's text from one character, counted from 0, to before another, where each character is one byte.
+fn cut_by_bytes(v: Slot, from: usize, to: usize) -> Slot
+    requires { from ≤ to }
+    ensures mark { plain_mark result.mark ≡ true }
+    ensures text { (l : Indexed) (t : List ℕ) → TextIs l v t → AreSingleBytes t →
+        to ≤ length t → v.start + length t < 2 ^ 64 → TextIs l result (slice_range t from to) }
 {
-    bounds(text, lower.number, upper.number)
+    text_slot(v.list, v.index, v.start.saturating_add(from), to - from)
+}
+
+/// The bounds of a part, which are slots.
+fn slot_bounds(size: usize, lower: Slot, upper: Slot) -> Option<(usize, usize)>
+    ensures { result ≡ bounds_in size lower.number upper.number }
+{
+    bounds(size, lower.number, upper.number)
 }
 
 /// The characters of a slot's text between two bounds.
@@ -172,11 +234,13 @@ fn characters(lists: Lists<'_>, v: Slot, lower: Slot, upper: Slot) -> Slot
     ensures { (pool : List Held) (t : List ℕ) → TextIs (lists_in lists.entry) v t → SlotIs
         (lists_in lists.entry) pool (length pool) result (characters t lower.number upper.number) }
 {
-    let text = text_of(lists, v);
-    let Some((from, to)) = slot_bounds(text, lower, upper) else {
+    let Some((from, to)) = slot_bounds(length_of(lists, v), lower, upper) else {
         return invalid_slot();
     };
-    cut(v, text, from, to)
+    if is_cut_by_bytes(lists, v) {
+        return cut_by_bytes(v, from, to);
+    }
+    cut(v, text_of(lists, v), from, to)
 }
 
 /// The characters from `lower` to `upper`, counted from 1, both included; invalid unless 1 <= lower <= upper <= size.

@@ -118,8 +118,8 @@ impl<'m> Accepted<'m> {
         self.depths[rule]
     }
 
-    /// Whether some instruction of a rule gathers a collection of its own when it is run. A run of a rule without one takes
-    /// no memory.
+    /// Whether some instruction of a rule gathers a collection of its own when it is run. A run of a rule without one
+    /// is never refused memory.
     pub fn takes_memory(&self, rule: usize) -> bool
         requires { rule < length self.now.unit.rules }
         ensures { result ≡ spec.takes_memory (spec.unit_rule self.now.unit rule) }
