@@ -12,6 +12,6 @@ mod verifying;
 
 pub use flaws::explain_code_flaw;
 pub use instructions::instruction_words;
-pub use listing::list_unit;
+pub use listing::{list_counts, list_rule};
 pub use symbols::symbol_words;
 pub use verifying::{Refused, explain_verify_flaw};

@@ -106,8 +106,24 @@ fn list_code(
     Ok(offset)
 }
 
-/// Writes a rule that begins at an offset; answers where it ends.
-fn list_rule(
+/// Writes the first line of a unit in words: its counts. Answers where its rules begin.
+pub fn list_counts(out: &mut String, unit: &Unit) -> Result<usize, AllocError> {
+    let version = match unit.version {
+        Version::One => 1,
+        Version::Two => 2,
+    };
+    let (texts, symbols, rules) = (unit.texts.len(), unit.symbols.len(), unit.rules.len());
+    writeln!(
+        out,
+        "version {version}, texts {texts}, symbols {symbols}, rules {rules}"
+    )?;
+    Ok(rules_offset(unit))
+}
+
+/// Writes a rule of a unit that begins at an offset of the file: a line, and then one for each of its instructions, which
+/// begins with the offset; the bodies of a block are indented. With a class model the kinds of the operands that are on the
+/// stack before the instruction stand beside it, as far as the code is right. Answers where the rule ends.
+pub fn list_rule(
     alloc: Global,
     out: &mut String,
     unit: &Unit,
@@ -125,29 +141,4 @@ fn list_rule(
     let mut beside = Beside::new(alloc, unit, model, rule)?;
     let first = begin.saturating_add(6);
     list_code(alloc, out, unit, &rule.code, &mut beside, first)
-}
-
-/// Writes a unit in words: its counts, and then for each rule a line and a line for each of its instructions, which begins
-/// with the offset in the file; the bodies of a block are indented. With a class model the kinds of the operands that are
-/// on the stack before the instruction stand beside it, as far as the code is right.
-pub fn list_unit(
-    alloc: Global,
-    out: &mut String,
-    unit: &Unit,
-    model: Option<&ClassModel>,
-) -> Result<(), AllocError> {
-    let version = match unit.version {
-        Version::One => 1,
-        Version::Two => 2,
-    };
-    let (texts, symbols, rules) = (unit.texts.len(), unit.symbols.len(), unit.rules.len());
-    writeln!(
-        out,
-        "version {version}, texts {texts}, symbols {symbols}, rules {rules}"
-    )?;
-    let mut offset = rules_offset(unit);
-    for rule in &unit.rules {
-        offset = list_rule(alloc, out, unit, rule, model, offset)?;
-    }
-    Ok(())
 }

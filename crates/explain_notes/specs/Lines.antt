@@ -12,9 +12,12 @@ first_lines zero text = []
 first_lines (suc n) [] = []
 first_lines (suc n) (b ∷ bs) = b ∷ (if b == 10 then first_lines n bs else first_lines (suc n) bs)
 
+abbrev pub lines_word : ℕ → List ℕ
+lines_word n = if n == 1 then codes " more line\n" else codes " more lines\n"
+
 -- how many more there are, if there are more
 abbrev pub more_lines : ℕ → List ℕ
-more_lines n = if n == 0 then [] else (codes "and " ++ (decimal n ++ codes " more lines\n"))
+more_lines n = if n == 0 then [] else (codes "and " ++ (decimal n ++ lines_word n))
 
 -- what is shown of a text of which at most so many lines are
 abbrev pub cut_text : ℕ → List ℕ → List ℕ

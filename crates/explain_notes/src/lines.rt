@@ -1,7 +1,7 @@
 //! The first lines of a long text.
 
 ghost use Rattle.std.specs.Prelude.{◌≡◌, ◌≤◌, ◌++◌, ◌-◌, length, take, IfOk, string_bytes};
-ghost use Rattle.explain_notes.specs.Lines.{line_count, first_lines, more_lines, cut_text};
+ghost use Rattle.explain_notes.specs.Lines.{line_count, first_lines, lines_word, more_lines, cut_text};
 
 use std::alloc::{AllocError, Global};
 
@@ -29,6 +29,16 @@ fn end_of_lines(text: &[u8], lines: usize) -> usize
     text.len()
 }
 
+fn lines_word(count: usize) -> &'static str
+    ensures { result.now ≡ lines_word count }
+{
+    if count == 1 {
+        " more line\n"
+    } else {
+        " more lines\n"
+    }
+}
+
 /// How many more lines there are, if there are more.
 fn more_lines(alloc: Global, more: usize) -> Result<String, AllocError>
     ensures { IfOk result (λ s. string_bytes s ≡ more_lines more) }
@@ -38,7 +48,7 @@ fn more_lines(alloc: Global, more: usize) -> Result<String, AllocError>
         let digits = format!(in alloc; "{more}")?;
         out.push_str("and ")?;
         out.push_str(&digits)?;
-        out.push_str(" more lines\n")?;
+        out.push_str(lines_word(more))?;
     }
     Ok(out)
 }

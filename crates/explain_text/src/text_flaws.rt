@@ -345,14 +345,18 @@ fn explain_tokens(
 }
 
 /// How many bytes the token has that begins at an offset of a text; 1 where none does.
-pub fn length_of_token(alloc: Global, bytes: &[u8], offset: usize) -> usize {
-    if let Ok(text) = str::from_utf8(bytes)
-        && let Ok(tokens) = tokens(alloc, text)
-        && let Some(token) = token_at(&tokens, offset)
-    {
-        return token.text.len();
+pub fn length_of_token(alloc: Global, bytes: &[u8], offset: usize) -> Result<usize, AllocError> {
+    let Ok(text) = str::from_utf8(bytes) else {
+        return Ok(1);
+    };
+    match tokens(alloc, text) {
+        Ok(tokens) => match token_at(&tokens, offset) {
+            Some(token) => Ok(token.text.len()),
+            None => Ok(1),
+        },
+        Err(TextFault::At { .. }) => Ok(1),
+        Err(TextFault::OutOfMemory) => Err(AllocError),
     }
-    1
 }
 
 /// Writes why a rule text is refused that has this flaw at an offset.

@@ -74,8 +74,10 @@ fn followers(alloc: Global, part: &str) -> Result<String, AllocError> {
         add(&mut out, "`(`")?;
     }
     add_marks(alloc, &mut out, part)?;
-    if parse_rules(alloc, part).is_ok() {
-        add(&mut out, "the end of the text")?;
+    match parse_rules(alloc, part) {
+        Ok(_) => add(&mut out, "the end of the text")?,
+        Err(TextFault::At { .. }) => {}
+        Err(TextFault::OutOfMemory) => return Err(AllocError),
     }
     Ok(out)
 }

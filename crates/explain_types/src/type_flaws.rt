@@ -82,7 +82,7 @@ pub fn explain_type_flaw(
     let note = Note {
         input,
         offset,
-        length: length_of_token(alloc, input.bytes, offset),
+        length: length_of_token(alloc, input.bytes, offset)?,
         message: found.message.as_str(),
         fault: fault.as_str(),
         label: found.label.as_str(),

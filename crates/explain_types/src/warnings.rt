@@ -1,6 +1,7 @@
 //! Warnings of rules whose types are right.
 
 use crate::fates::{Fate, fate_of};
+use crate::found::Stop;
 use crate::reading::{Reading, kind_of};
 use crate::scope::{Scope, Unequal};
 use crate::type_names::a_type;
@@ -56,7 +57,7 @@ fn write_unequal(
     let note = Note {
         input,
         offset: unequal.offset,
-        length: length_of_token(alloc, input.bytes, unequal.offset),
+        length: length_of_token(alloc, input.bytes, unequal.offset)?,
         message: "these are equal only where both are null",
         fault: "warning",
         label: label.as_str(),
@@ -75,7 +76,7 @@ fn write_unread(
     let note = Note {
         input,
         offset,
-        length: length_of_token(alloc, input.bytes, offset),
+        length: length_of_token(alloc, input.bytes, offset)?,
         message: "nothing reads this variable",
         fault: "warning",
         label: "",
@@ -124,7 +125,7 @@ fn write_fate(
     let note = Note {
         input,
         offset,
-        length: length_of_token(alloc, input.bytes, offset),
+        length: length_of_token(alloc, input.bytes, offset)?,
         message: message.as_str(),
         fault: "warning",
         label,
@@ -147,6 +148,7 @@ fn warn_of_fate(
     };
     match fate_of(alloc, reading, &mut scope, &rule.expression) {
         Ok(fate) => write_fate(alloc, out, input, rule, fate),
+        Err(Stop::OutOfMemory) => Err(AllocError),
         Err(_) => Ok(()),
     }
 }
@@ -175,6 +177,7 @@ pub fn warn_of_rule(
     };
     match kind_of(alloc, &reading, &mut scope, &rule.expression) {
         Ok(_) => write_gathered(alloc, out, input, model, &scope)?,
+        Err(Stop::OutOfMemory) => return Err(AllocError),
         Err(_) => return Ok(()),
     }
     warn_of_fate(alloc, out, input, &reading, class, rule)

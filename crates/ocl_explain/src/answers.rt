@@ -2,16 +2,18 @@
 
 ghost use Rattle.std.specs.Prelude.{◌≡◌, ◌⊎◌, ◌||◌, true, false};
 ghost use Rattle.rule_report.specs.Sink.{IsFlushedOnce};
-ghost use Rattle.ocl_check.specs.Answers.{IsAnswered, IsAnsweredBy, IsFlushedBy, KeepsSink, KeepsUnread, fails_write};
+ghost use Rattle.ocl_check.specs.Answers.{IsAnswered, IsAnsweredBy, IsFlushedBy, KeepsSink, KeepsUnread, fails_read, fails_write};
 ghost use Rattle.ocl_check.specs.Bound.{bound_answer};
 ghost use Rattle.ocl_check.specs.Compile.{IsCodeWritten, IsOfUnit, compile_answer};
 ghost use Rattle.ocl_check.specs.Desk.{desk_answer};
 ghost use Rattle.ocl_check.specs.JudgeText.{JudgeAnswers};
 ghost use Rattle.ocl_check.specs.TextReading.{TextReading, ReadsAs};
 ghost use Rattle.ocl_check.specs.Verify.{verify_answer};
+ghost use Rattle.ocl_explain.specs.Inputs.{IsTooLong};
 
+use crate::held::Held;
 use ocl_check::{
-    Counting, JudgeOptions, Outcome, Sink, run_bound, run_compile, run_desk, run_judge, run_verify,
+    JudgeOptions, Outcome, Sink, run_bound, run_compile, run_desk, run_judge, run_verify,
 };
 use std::alloc::Global;
 
@@ -30,13 +32,14 @@ pub fn answer_judge<S: Sink>(
     ensures sink { S.has_failed sink.new ≡ fails_write result }
     ensures flushed { IsFlushedBy S.flushes S.has_pending result sink.old sink.new }
     ensures kept { KeepsUnread result sink.old sink.new }
+    ensures read_fault { fails_read result ≡ true → IsTooLong model.now ⊎ (IsTooLong delivery.now ⊎ IsTooLong rules.now) }
 {
     run_judge(
         alloc,
         options,
-        &mut Counting::new(model),
-        &mut Counting::new(delivery),
-        &mut Counting::new(rules),
+        &mut Held::new(model),
+        &mut Held::new(delivery),
+        &mut Held::new(rules),
         sink,
     )
 }
@@ -55,12 +58,13 @@ pub fn answer_bound<S: Sink>(
     ensures sink { S.has_failed sink.new ≡ fails_write result }
     ensures flushed { IsFlushedBy S.flushes S.has_pending result sink.old sink.new }
     ensures kept { KeepsSink result sink.old sink.new }
+    ensures read_fault { fails_read result ≡ true → IsTooLong model.now ⊎ (IsTooLong delivery.now ⊎ IsTooLong code.now) }
 {
     run_bound(
         alloc,
-        &mut Counting::new(model),
-        &mut Counting::new(delivery),
-        &mut Counting::new(code),
+        &mut Held::new(model),
+        &mut Held::new(delivery),
+        &mut Held::new(code),
         sink,
     )
 }
@@ -73,13 +77,9 @@ pub fn answer_verify<S: Sink>(alloc: Global, model: &[u8], code: &[u8], sink: &m
     ensures sink { S.has_failed sink.new ≡ fails_write result }
     ensures flushed { IsFlushedBy S.flushes S.has_pending result sink.old sink.new }
     ensures kept { KeepsSink result sink.old sink.new }
+    ensures read_fault { fails_read result ≡ true → IsTooLong model.now ⊎ IsTooLong code.now }
 {
-    run_verify(
-        alloc,
-        &mut Counting::new(model),
-        &mut Counting::new(code),
-        sink,
-    )
+    run_verify(alloc, &mut Held::new(model), &mut Held::new(code), sink)
 }
 
 /// Compiles a rule text as `run_compile` does.
@@ -103,11 +103,12 @@ pub fn answer_compile<O: Sink, S: Sink>(
     ensures code_first { O.has_failed out.new ≡ true → sink.new ≡ sink.old }
     ensures flushed { IsFlushedBy S.flushes S.has_pending result sink.old sink.new }
     ensures kept { KeepsSink result sink.old sink.new }
+    ensures read_fault { fails_read result ≡ true → IsTooLong model.now ⊎ IsTooLong rules.now }
 {
     run_compile(
         alloc,
-        &mut Counting::new(model),
-        &mut Counting::new(rules),
+        &mut Held::new(model),
+        &mut Held::new(rules),
         out,
         sink,
     )
@@ -128,13 +129,14 @@ pub fn answer_desk<S: Sink>(
     ensures sink { S.has_failed sink.new ≡ fails_write result }
     ensures flushed { IsFlushedBy S.flushes S.has_pending result sink.old sink.new }
     ensures kept { KeepsUnread result sink.old sink.new }
+    ensures read_fault { fails_read result ≡ true → IsTooLong model.now ⊎ (IsTooLong delivery.now ⊎ (IsTooLong code.now ⊎ IsTooLong script.now)) }
 {
     run_desk(
         alloc,
-        &mut Counting::new(model),
-        &mut Counting::new(delivery),
-        &mut Counting::new(code),
-        &mut Counting::new(script),
+        &mut Held::new(model),
+        &mut Held::new(delivery),
+        &mut Held::new(code),
+        &mut Held::new(script),
         sink,
     )
 }

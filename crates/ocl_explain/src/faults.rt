@@ -164,8 +164,10 @@ pub(crate) fn explain_unread(
     flaw: TextFlaw,
     offset: usize,
 ) -> Result<(), AllocError> {
-    let Ok(tokens) = tokens(alloc, text) else {
-        return explain_text_flaw(alloc, out, input, flaw, offset);
+    let tokens = match tokens(alloc, text) {
+        Ok(tokens) => tokens,
+        Err(TextFault::At { .. }) => return explain_text_flaw(alloc, out, input, flaw, offset),
+        Err(TextFault::OutOfMemory) => return Err(AllocError),
     };
     if let TextFlaw::DuplicateRule = flaw {
         explain_text_flaw(alloc, out, input, flaw, offset)?;

@@ -1,8 +1,9 @@
 //! The report of `judge` as JSON lines.
 
-ghost use Rattle.std.specs.Prelude.{◌≡◌, [], Some, false};
-ghost use Rattle.ocl_check.specs.Answers.{IsAnswered, IsAnsweredBy, IsFlushedBy, KeepsSink, fails_write};
+ghost use Rattle.std.specs.Prelude.{◌≡◌, ◌⊎◌, [], Some, true, false};
+ghost use Rattle.ocl_check.specs.Answers.{IsAnswered, IsAnsweredBy, IsFlushedBy, KeepsSink, fails_read, fails_write};
 ghost use Rattle.ocl_check.specs.Reply.{Answer};
+ghost use Rattle.ocl_explain.specs.Inputs.{IsTooLong};
 ghost use Rattle.report_json.specs.JsonAnswers.{json_answer, JsonAnswers};
 
 use crate::answers::answer_judge;
@@ -19,6 +20,7 @@ fn write_json<S: Sink>(alloc: Global, sink: &mut S, text: &[u8], status: u8) -> 
     ensures sink { S.has_failed sink.new ≡ fails_write result }
     ensures flushed { IsFlushedBy S.flushes S.has_pending result sink.old sink.new }
     ensures kept { KeepsSink result sink.old sink.new }
+    ensures read { fails_read result ≡ false }
 {
     if status == 2 {
         return write_answer(sink, text, status);
@@ -37,6 +39,7 @@ fn write_judged<S: Sink>(alloc: Global, sink: &mut S, text: &[u8], judged: Outco
     ensures sink { S.has_failed sink.new ≡ fails_write result }
     ensures flushed { IsFlushedBy S.flushes S.has_pending result sink.old sink.new }
     ensures kept { KeepsSink result sink.old sink.new }
+    ensures read { fails_read result ≡ true → fails_read judged ≡ true }
 {
     match judged {
         Outcome::Status(status) => write_json(alloc, sink, text, status),
@@ -61,6 +64,7 @@ pub fn answer_judge_json<S: Sink>(
     ensures sink { S.has_failed sink.new ≡ fails_write result }
     ensures flushed { IsFlushedBy S.flushes S.has_pending result sink.old sink.new }
     ensures kept { KeepsSink result sink.old sink.new }
+    ensures read_fault { fails_read result ≡ true → IsTooLong model.now ⊎ (IsTooLong delivery.now ⊎ IsTooLong rules.now) }
 {
     let mut report = Telling::new(Vec::new(alloc));
     let judged = answer_judge(alloc, options, model, delivery, rules, &mut report);

@@ -1,20 +1,76 @@
 //! A code file in words.
 
-use explain_code::{Refused, explain_code_flaw, explain_verify_flaw, list_unit};
+ghost use Rattle.std.specs.Prelude.{◌≡◌, false, OnOk};
+
+use explain_code::{Refused, explain_code_flaw, explain_verify_flaw, list_counts, list_rule};
 use explain_inputs::explain_model;
 use explain_notes::Input;
 use imkl_model::{ClassModel, ModelFault};
-use rule_code::{CodeFault, Unit, read_unit};
+use ocl_check::{CommandFault, Outcome, Sink};
+use rule_code::{CodeFault, CodeFlaw, Rule, Unit, read_unit};
+use rule_report::write_and_flush;
 use rule_verify::{VerifyFault, verify};
 use std::alloc::{AllocError, Global};
 
-/// A code file in words, and why something is refused.
+/// How a listing ended, and why something is refused.
 #[derive(Drop)]
-pub struct Listing {
-    /// The file in words; empty where it is no code file, or the class model is refused.
-    pub words: String,
+pub struct ListEnding {
+    /// Status 2 where something is refused, else 0; or what failed.
+    pub outcome: Outcome,
     /// Why the file or the class model is refused, or the code isn't accepted; empty where nothing is.
-    pub refusal: String,
+    pub refusal: Result<String, AllocError>,
+}
+
+/// Writes a part of a listing.
+fn write_part<S: Sink>(sink: &mut S, part: &str) -> Result<(), CommandFault>
+    requires { S.has_failed sink.old ≡ false }
+    ensures { OnOk result (S.has_failed sink.new ≡ false) }
+{
+    match write_and_flush(sink, part.as_bytes()) {
+        Ok(()) => Ok(()),
+        Err(_failed) => Err(CommandFault::Write),
+    }
+}
+
+/// Writes a rule of a unit that begins at an offset; answers where it ends.
+fn write_rule<S: Sink>(
+    alloc: Global,
+    sink: &mut S,
+    unit: &Unit,
+    rule: &Rule,
+    model: Option<&ClassModel>,
+    begin: usize,
+) -> Result<usize, CommandFault>
+    requires { S.has_failed sink.old ≡ false }
+    ensures { OnOk result (S.has_failed sink.new ≡ false) }
+{
+    let mut part = String::new(alloc);
+    let Ok(end) = list_rule(alloc, &mut part, unit, rule, model, begin) else {
+        return Err(CommandFault::OutOfMemory);
+    };
+    write_part(sink, part.as_str())?;
+    Ok(end)
+}
+
+/// Writes a unit in words, each rule as soon as it is put together.
+fn write_unit<S: Sink>(
+    alloc: Global,
+    sink: &mut S,
+    unit: &Unit,
+    model: Option<&ClassModel>,
+) -> Result<(), CommandFault>
+    requires { S.has_failed sink.old ≡ false }
+{
+    let mut counts = String::new(alloc);
+    let Ok(first) = list_counts(&mut counts, unit) else {
+        return Err(CommandFault::OutOfMemory);
+    };
+    write_part(sink, counts.as_str())?;
+    let mut offset = first;
+    for rule in &unit.rules {
+        offset = write_rule(alloc, sink, unit, rule, model, offset)?;
+    }
+    Ok(())
 }
 
 /// Writes why code isn't accepted for a class model, if it isn't.
@@ -35,56 +91,116 @@ fn on_listed(
     }
 }
 
-/// Lists a code file, with the kinds on the stack where there is a class model.
-fn list_over(
+/// Why code isn't accepted for a class model; empty where it is.
+fn refusal_of(
     alloc: Global,
-    listing: &mut Listing,
+    code: Input<'_>,
+    model: &ClassModel,
+    unit: Unit,
+) -> Result<String, AllocError> {
+    let mut out = String::new(alloc);
+    on_listed(alloc, &mut out, code, model, unit)?;
+    Ok(out)
+}
+
+/// An ending with this refusal; with status 0 where it is empty.
+fn refused(refusal: Result<String, AllocError>) -> ListEnding {
+    let is_accepted = match &refusal {
+        Ok(words) => words.is_empty(),
+        Err(_) => false,
+    };
+    ListEnding {
+        outcome: Outcome::Status(if is_accepted { 0 } else { 2 }),
+        refusal,
+    }
+}
+
+/// An ending by what failed.
+fn failed(alloc: Global, fault: CommandFault) -> ListEnding {
+    ListEnding {
+        outcome: Outcome::Failed(fault),
+        refusal: Ok(String::new(alloc)),
+    }
+}
+
+/// Lists a unit, and says why it isn't accepted for a class model, if there is one and it isn't.
+fn list_unit<S: Sink>(
+    alloc: Global,
+    sink: &mut S,
     code: Input<'_>,
     model: Option<&ClassModel>,
-) -> Result<(), AllocError> {
-    let unit = match read_unit(alloc, code.bytes) {
-        Ok(unit) => unit,
-        Err(CodeFault::At { flaw, offset }) => {
-            return explain_code_flaw(alloc, &mut listing.refusal, code, flaw, offset);
-        }
-        Err(CodeFault::OutOfMemory) => return Err(AllocError),
-    };
-    list_unit(alloc, &mut listing.words, &unit, model)?;
-    match model {
-        Some(model) => on_listed(alloc, &mut listing.refusal, code, model, unit),
-        None => Ok(()),
+    unit: Unit,
+) -> ListEnding
+    requires { S.has_failed sink.old ≡ false }
+{
+    if let Err(fault) = write_unit(alloc, sink, &unit, model) {
+        return failed(alloc, fault);
     }
+    match model {
+        Some(model) => refused(refusal_of(alloc, code, model, unit)),
+        None => refused(Ok(String::new(alloc))),
+    }
+}
+
+/// Why a code file is refused.
+fn flaw_of(
+    alloc: Global,
+    code: Input<'_>,
+    flaw: CodeFlaw,
+    offset: usize,
+) -> Result<String, AllocError> {
+    let mut out = String::new(alloc);
+    explain_code_flaw(alloc, &mut out, code, flaw, offset)?;
+    Ok(out)
+}
+
+/// Lists a code file, with the kinds on the stack where there is a class model.
+fn list_over<S: Sink>(
+    alloc: Global,
+    sink: &mut S,
+    code: Input<'_>,
+    model: Option<&ClassModel>,
+) -> ListEnding
+    requires { S.has_failed sink.old ≡ false }
+{
+    match read_unit(alloc, code.bytes) {
+        Ok(unit) => list_unit(alloc, sink, code, model, unit),
+        Err(CodeFault::At { flaw, offset }) => refused(flaw_of(alloc, code, flaw, offset)),
+        Err(CodeFault::OutOfMemory) => failed(alloc, CommandFault::OutOfMemory),
+    }
+}
+
+/// Why a class model is refused.
+fn model_refusal(alloc: Global, model: Input<'_>, fault: ModelFault) -> Result<String, AllocError> {
+    let mut out = String::new(alloc);
+    explain_model(alloc, &mut out, model, fault)?;
+    Ok(out)
 }
 
 /// Lists a code file with a class model, which is read first.
-fn list_with(
-    alloc: Global,
-    listing: &mut Listing,
-    code: Input<'_>,
-    model: Input<'_>,
-) -> Result<(), AllocError> {
+fn list_with<S: Sink>(alloc: Global, sink: &mut S, code: Input<'_>, model: Input<'_>) -> ListEnding
+    requires { S.has_failed sink.old ≡ false }
+{
     match ClassModel::read(alloc, model.bytes) {
-        Ok(read) => list_over(alloc, listing, code, Some(&read)),
-        Err(ModelFault::OutOfMemory) => Err(AllocError),
-        Err(fault) => explain_model(alloc, &mut listing.refusal, model, fault),
+        Ok(read) => list_over(alloc, sink, code, Some(&read)),
+        Err(ModelFault::OutOfMemory) => failed(alloc, CommandFault::OutOfMemory),
+        Err(fault) => refused(model_refusal(alloc, model, fault)),
     }
 }
 
-/// Lists a code file: its counts, and rule by rule an instruction a line, with its offset in the file. With a class model
-/// the kinds of the operands on the stack stand beside each instruction, and it is said why the code isn't accepted, if it
-/// isn't.
-pub fn list_code(
+/// Lists a code file: its counts, and rule by rule an instruction a line, with its offset in the file. Each rule is written
+/// as soon as it is put together. With a class model the kinds of the operands on the stack stand beside each instruction,
+/// and it is said why the code isn't accepted, if it isn't.
+pub fn list_code<S: Sink>(
     alloc: Global,
     code: Input<'_>,
     model: Option<Input<'_>>,
-) -> Result<Listing, AllocError> {
-    let mut listing = Listing {
-        words: String::new(alloc),
-        refusal: String::new(alloc),
-    };
+    sink: &mut S,
+) -> ListEnding
+    requires { S.has_failed sink.old ≡ false }
+{
     match model {
-        Some(model) => list_with(alloc, &mut listing, code, model)?,
-        None => list_over(alloc, &mut listing, code, None)?,
+        Some(model) => list_with(alloc, sink, code, model),
+        None => list_over(alloc, sink, code, None),
     }
-    Ok(listing)
 }

@@ -6,14 +6,15 @@ ghost use Rattle.std.specs.Prelude.{◌≡◌};
 use crate::rules::unit_of_text;
 use explain_notes::{Input, Note};
 use explain_types::warn_of_rule;
-use imkl_delivery::load;
-use imkl_model::ClassModel;
+use imkl_delivery::{DeliveryFault, load};
+use imkl_model::{ClassModel, ModelFault};
 use imkl_population::Population;
 use ocl_check::{JudgeOptions, RulesForm};
 use ocl_text::{SurfaceRule, parse_rules};
+use ocl_tokens::TextFault;
 use rule_code::{CodeFault, Unit, read_unit};
-use rule_cost::{Admitted, admit};
-use rule_verify::{Accepted, verify};
+use rule_cost::{Admitted, CostFault, admit};
+use rule_verify::{Accepted, VerifyFault, verify};
 use std::alloc::{AllocError, Global};
 
 /// The charges of a rule over all objects that it judges from which on it is warned of. (They take some ten seconds.)
@@ -80,7 +81,8 @@ fn rules_of(alloc: Global, input: Input<'_>) -> Result<Vec<SurfaceRule>, AllocEr
     };
     match parse_rules(alloc, text) {
         Ok(rules) => Ok(rules),
-        Err(_) => Ok(Vec::new(alloc)),
+        Err(TextFault::At { .. }) => Ok(Vec::new(alloc)),
+        Err(TextFault::OutOfMemory) => Err(AllocError),
     }
 }
 
@@ -154,13 +156,15 @@ fn warn_of_accepted(
     requires { population.now.content.model ≡ accepted.now.model }
 {
     let sizes = population.sizes(alloc)?;
-    if let Ok(admitted) = admit(alloc, accepted, &sizes, judged.options.budget) {
-        if judged.options.form == RulesForm::Text {
-            warn_of_text(alloc, out, judged.rules, population)?;
-        }
-        warn_of_long_runs(out, judged.rules, population, &admitted)?;
+    let admitted = match admit(alloc, accepted, &sizes, judged.options.budget) {
+        Ok(admitted) => admitted,
+        Err(CostFault::TooCostly { .. }) => return Ok(()),
+        Err(CostFault::OutOfMemory) => return Err(AllocError),
+    };
+    if judged.options.form == RulesForm::Text {
+        warn_of_text(alloc, out, judged.rules, population)?;
     }
-    Ok(())
+    warn_of_long_runs(out, judged.rules, population, &admitted)
 }
 
 /// Writes the warnings of a unit; nothing where it isn't accepted.
@@ -173,6 +177,7 @@ fn warn_of_unit(
 ) -> Result<(), AllocError> {
     match verify(alloc, population.model(), unit) {
         Ok(accepted) => warn_of_accepted(alloc, out, judged, population, &accepted),
+        Err((VerifyFault::OutOfMemory, _)) => Err(AllocError),
         Err(_) => Ok(()),
     }
 }
@@ -201,12 +206,23 @@ fn warn_on_model(
     judged: Judged<'_>,
     model: &ClassModel,
 ) -> Result<(), AllocError> {
-    let Ok(population) = load(alloc, judged.delivery.bytes, model) else {
-        return Ok(());
+    let population = match load(alloc, judged.delivery.bytes, model) {
+        Ok(population) => population,
+        Err(DeliveryFault::OutOfMemory) => return Err(AllocError),
+        Err(_) => return Ok(()),
     };
     match unit_of(alloc, judged, model)? {
         Some(unit) => warn_of_unit(alloc, out, judged, &population, unit),
         None => Ok(()),
+    }
+}
+
+/// The class model of an input; none where it is refused.
+fn model_of(alloc: Global, input: Input<'_>) -> Result<Option<ClassModel>, AllocError> {
+    match ClassModel::read(alloc, input.bytes) {
+        Ok(model) => Ok(Some(model)),
+        Err(ModelFault::OutOfMemory) => Err(AllocError),
+        Err(_) => Ok(None),
     }
 }
 
@@ -221,7 +237,7 @@ pub fn warn_judge(
     rules: Input<'_>,
 ) -> Result<String, AllocError> {
     let mut out = String::new(alloc);
-    if let Ok(read) = ClassModel::read(alloc, model.bytes) {
+    if let Some(read) = model_of(alloc, model)? {
         let judged = Judged {
             options,
             delivery,
@@ -239,7 +255,7 @@ pub fn warn_compile(
     rules: Input<'_>,
 ) -> Result<String, AllocError> {
     let mut out = String::new(alloc);
-    if let Ok(read) = ClassModel::read(alloc, model.bytes) {
+    if let Some(read) = model_of(alloc, model)? {
         let surface = rules_of(alloc, rules)?;
         warn_of_rules(alloc, &mut out, rules, &read, &surface)?;
     }

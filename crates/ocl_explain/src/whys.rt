@@ -1,8 +1,9 @@
 //! The command `why`, of inputs that were read already.
 
-ghost use Rattle.std.specs.Prelude.{◌≡◌, false};
-ghost use Rattle.ocl_check.specs.Answers.{IsAnswered, IsAnsweredBy, IsFlushedBy, KeepsUnread, fails_write};
+ghost use Rattle.std.specs.Prelude.{◌≡◌, ◌⊎◌, true, false};
+ghost use Rattle.ocl_check.specs.Answers.{IsAnswered, IsAnsweredBy, IsFlushedBy, KeepsUnread, fails_read, fails_write};
 ghost use Rattle.ocl_check.specs.JudgeText.{JudgeAnswers};
+ghost use Rattle.ocl_explain.specs.Inputs.{IsTooLong};
 ghost use Rattle.ocl_explain.specs.Judged.{printed};
 ghost use Rattle.ocl_explain.specs.WhyAnswers.{shown_answer, WhyAnswers};
 
@@ -38,6 +39,7 @@ fn write_why<S: Sink>(alloc: Global, sink: &mut S, why: Why, lines: usize) -> Wh
     ensures sink { S.has_failed sink.new ≡ fails_write result.outcome }
     ensures flushed { IsFlushedBy S.flushes S.has_pending result.outcome sink.old sink.new }
     ensures kept { KeepsUnread result.outcome sink.old sink.new }
+    ensures read { fails_read result.outcome ≡ false }
 {
     match why {
         Why::Explained(text) => match cut_text(alloc, text.as_bytes(), lines) {
@@ -73,6 +75,8 @@ fn write_refusal<S: Sink>(alloc: Global, asked: WhyAsked<'_>, sink: &mut S) -> W
     ensures sink { S.has_failed sink.new ≡ fails_write result.outcome }
     ensures flushed { IsFlushedBy S.flushes S.has_pending result.outcome sink.old sink.new }
     ensures kept { KeepsUnread result.outcome sink.old sink.new }
+    ensures read_fault { fails_read result.outcome ≡ true → IsTooLong asked.entry.model.bytes.now ⊎ (IsTooLong asked.entry.delivery.bytes.now ⊎
+        IsTooLong asked.entry.rules.bytes.now) }
 {
     let (model, delivery) = (asked.model.bytes, asked.delivery.bytes);
     let rules = asked.rules.bytes;
@@ -103,6 +107,8 @@ pub fn answer_why<S: Sink>(alloc: Global, asked: WhyAsked<'_>, sink: &mut S) -> 
     ensures sink { S.has_failed sink.new ≡ fails_write result.outcome }
     ensures flushed { IsFlushedBy S.flushes S.has_pending result.outcome sink.old sink.new }
     ensures kept { KeepsUnread result.outcome sink.old sink.new }
+    ensures read_fault { fails_read result.outcome ≡ true → IsTooLong asked.entry.model.bytes.now ⊎ (IsTooLong asked.entry.delivery.bytes.now ⊎
+        IsTooLong asked.entry.rules.bytes.now) }
 {
     readings_are_determined();
     each_text_is_read();

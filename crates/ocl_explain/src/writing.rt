@@ -1,7 +1,7 @@
 //! Writing a text that was put together whole.
 
 ghost use Rattle.std.specs.Prelude.{◌≡◌, false};
-ghost use Rattle.ocl_check.specs.Answers.{IsAnswered, IsFlushedBy, KeepsSink, fails_write};
+ghost use Rattle.ocl_check.specs.Answers.{IsAnswered, IsFlushedBy, KeepsSink, fails_read, fails_write};
 
 use ocl_check::{CommandFault, Outcome, Sink};
 use rule_report::write_and_flush;
@@ -14,6 +14,7 @@ pub(crate) fn write_answer<S: Sink>(sink: &mut S, text: &[u8], status: u8) -> Ou
     ensures sink { S.has_failed sink.new ≡ fails_write result }
     ensures flushed { IsFlushedBy S.flushes S.has_pending result sink.old sink.new }
     ensures kept { KeepsSink result sink.old sink.new }
+    ensures read { fails_read result ≡ false }
 {
     match write_and_flush(sink, text) {
         Ok(()) => Outcome::Status(status),

@@ -5,9 +5,9 @@ use crate::files::{read_file, report_write};
 use explain_notes::Input;
 use ocl_check::{CommandFault, JudgeOptions, Outcome, Telling};
 use ocl_explain::{
-    Keeping, Listing, answer_bound, answer_compile, answer_desk, answer_judge, answer_judge_json,
-    answer_verify, explain_bound, explain_compile, explain_desk, explain_judge, explain_verify,
-    list_code, warn_compile, warn_judge,
+    Keeping, ListEnding, answer_bound, answer_compile, answer_desk, answer_judge,
+    answer_judge_json, answer_verify, explain_bound, explain_compile, explain_desk, explain_judge,
+    explain_verify, list_code, warn_compile, warn_judge,
 };
 use ocl_programs::{CompileFiles, Creating, DeskFiles, Request, RuleFiles, VerifyFiles};
 use std::alloc::AllocError;
@@ -62,9 +62,7 @@ fn judge_inputs<'i>(
 ) -> Outcome {
     let options = judging.options;
     // (before the report, which may take long; where memory runs out the report is asked for all the same)
-    if let Ok(words) = warn_judge(rt.alloc(), options, model, delivery, rules) {
-        let _ = rt.eprint(words.as_str());
-    }
+    say(rt, warn_judge(rt.alloc(), options, model, delivery, rules));
     let outcome = print_report(rt, judging, model, delivery, rules);
     if is_refusal(outcome) {
         say(
@@ -204,23 +202,17 @@ pub fn answer(rt: &HostRuntime, request: Request<'_>, is_json: bool) -> Outcome 
     }
 }
 
-/// Prints a listing, and why something is refused, if it is.
-fn print_listing(rt: &HostRuntime, listing: Listing) -> Outcome {
-    if let Err(error) = rt.print(listing.words.as_str()) {
-        report_write(rt, "standard output", Some(error));
-        return Outcome::Failed(CommandFault::Write);
-    }
-    if listing.refusal.is_empty() {
-        return Outcome::Status(0);
-    }
-    say(rt, Ok(listing.refusal));
-    Outcome::Status(2)
-}
-
-/// Lists a code file that was read, with a class model if there is one.
+/// Lists a code file that was read, with a class model if there is one, and says why something is refused, if it is.
 fn list_inputs(rt: &HostRuntime, code: Input<'_>, model: Option<Input<'_>>) -> Outcome {
-    match list_code(rt.alloc(), code, model) {
-        Ok(listing) => print_listing(rt, listing),
+    let mut sink = Telling::new(Keeping::new(io::writer(rt)));
+    let ListEnding { outcome, refusal } = list_code(rt.alloc(), code, model, &mut sink);
+    report_write(rt, "standard output", sink.into_inner().error());
+    match refusal {
+        Ok(words) => {
+            say(rt, Ok(words));
+            outcome
+        }
+        // (then it isn't known whether the code is accepted)
         Err(_) => Outcome::Failed(CommandFault::OutOfMemory),
     }
 }

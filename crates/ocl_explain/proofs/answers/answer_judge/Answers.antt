@@ -1,5 +1,5 @@
 use Rattle.std.proofs.Common.{rules}
-use Rattle.ocl_explain.proofs.Known.{read_known}
+use Rattle.ocl_explain.proofs.Known.{read_known, too_long, either}
 use Rattle.ocl_explain.proofs.answers.answer_judge.Goals as goal
 
 pub returns-clause-answered : goal.returns-clause-answered
@@ -8,3 +8,6 @@ returns-clause-answered g c =
     read_known _ o _ c.args.rules.now (search rules)
     (read_known _ o _ c.args.delivery.now (search rules)
     (read_known _ o _ c.args.model.now (search rules) c.run_judge.ensures.answered))
+
+pub returns-clause-read_fault : goal.returns-clause-read_fault
+returns-clause-read_fault g c = λ h. (either (too_long c.new.result.0 c.args.model.now c.run_judge.new.model.0 (search rules)) (either (too_long c.new-2.result.0 c.args.delivery.now c.run_judge.new.delivery.0 (search rules)) (too_long c.new-3.result.0 c.args.rules.now c.run_judge.new.rules.0 (search rules)))) (c.run_judge.ensures.read_fault h)

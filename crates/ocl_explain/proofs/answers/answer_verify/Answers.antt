@@ -1,5 +1,5 @@
 use Rattle.std.proofs.Common.{rules}
-use Rattle.ocl_explain.proofs.Known.{read_known}
+use Rattle.ocl_explain.proofs.Known.{read_known, too_long, either}
 use Rattle.ocl_explain.proofs.answers.answer_verify.Goals as goal
 
 pub returns-clause-answered : goal.returns-clause-answered
@@ -7,3 +7,6 @@ returns-clause-answered g c =
     let o = c.run_verify.result in
     read_known _ o _ c.args.code.now (search rules)
     (read_known _ o _ c.args.model.now (search rules) c.run_verify.ensures.answered)
+
+pub returns-clause-read_fault : goal.returns-clause-read_fault
+returns-clause-read_fault g c = λ h. (either (too_long c.new.result.0 c.args.model.now c.run_verify.new.model.0 (search rules)) (too_long c.new-2.result.0 c.args.code.now c.run_verify.new.code.0 (search rules))) (c.run_verify.ensures.read_fault h)
