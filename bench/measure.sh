@@ -32,7 +32,10 @@ PYTHON
 # The heap is set as the launcher sets it.
 export GLIBC_TUNABLES="${GLIBC_TUNABLES-glibc.malloc.hugetlb=1:glibc.malloc.mxfast=0}"
 
-# The built program, which the launcher builds if need be; what is measured is the program alone.
-"$root/ocl_check" --help >/dev/null || fail "the program isn't built"
-program=$(ls -1t "$root"/out/built/*/ocl_check | head -n 1)
-[ -x "$program" ] || fail "the built program isn't where the launcher keeps it: $program"
+# The built program, OCL_CHECK or the launcher's, which the launcher builds if need be; what is measured is the program alone.
+program=$OCL_CHECK
+if [ -z "$program" ]; then
+    "$root/ocl_check" --help >/dev/null || fail "the program isn't built"
+    program=$root/out/built/ocl_check
+fi
+[ -x "$program" ] || fail "the built program isn't there: $program"
