@@ -1,6 +1,6 @@
 #!/bin/sh
-# Seconds of judge where a rule asks a text of 1 MB 4,000 times for its length, or for a part of it. The text is of letters
-# (one byte a character), or has one longer character at its end.
+# Seconds of judge where a rule asks a text of 1 MB 4,000 times for its length or for a part of it, or compares it with itself.
+# The text has one byte a character (letters), or one longer character at its end.
 
 here=$(dirname -- "$(readlink -f -- "$0")")
 . "$here/measure.sh"
