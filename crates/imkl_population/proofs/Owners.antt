@@ -8,7 +8,8 @@ use Rattle.std.proofs.lemmas.List.Elements.{All-append, All-nil}
 use Rattle.std.proofs.lemmas.List.Folds.{list_any-append}
 use Rattle.imkl_model.specs.ClassModel.{conforms, feature_at}
 use Rattle.imkl_population.specs.Order.{AreInOrder}
-use Rattle.imkl_population.specs.Required.{Requirements, AreOwned, inherited, is_needed, is_on, is_one_of, is_owned, is_required, required}
+use Rattle.imkl_population.specs.Required.{Requirements, is_on, is_one_of, is_required, required}
+use Rattle.imkl_population.specs.Owners.{AreListedByOwner, inherited, is_needed, is_owned}
 use Rattle.imkl_population.proofs.Orders.{ordered, one_of-places, places-same, places-small}
 
 one_of-more : (xs ys : List ℕ) (f : ℕ) (b : Bool) → is_one_of (xs ++ (if b then ys else [])) f ≡ (is_one_of xs f || (b && is_one_of ys f))
@@ -19,7 +20,7 @@ abbrev owner_of : Requirements → ℕ → ℕ
 owner_of r f = (feature_at r.model f).owner
 
 -- with the list of one owner more
-next : (r : Requirements) (lists : List (List ℕ)) (c f k : ℕ) → AreOwned r (length r.model.features) lists → f < length r.model.features → k < length r.model.classes
+next : (r : Requirements) (lists : List (List ℕ)) (c f k : ℕ) → AreListedByOwner r (length r.model.features) lists → f < length r.model.features → k < length r.model.classes
     → is_one_of (inherited r.model c lists (suc k)) f ≡ (is_one_of (inherited r.model c lists k) f || (conforms r.model c k && is_owned r k f))
 next r lists c f k owned lt within =
     one_of-more (inherited r.model c lists k) (get_or lists k []) f (conforms r.model c k)
@@ -38,7 +39,7 @@ other_owner r c f k other =
     ∙ none_by (conforms r.model c k) (is_needed r.side (feature_at r.model f))
 
 -- before its owner's turn a feature is not there
-none_yet : (r : Requirements) (lists : List (List ℕ)) (c f k : ℕ) → AreOwned r (length r.model.features) lists → f < length r.model.features → k ≤ length r.model.classes → k ≤ owner_of r f
+none_yet : (r : Requirements) (lists : List (List ℕ)) (c f k : ℕ) → AreListedByOwner r (length r.model.features) lists → f < length r.model.features → k ≤ length r.model.classes → k ≤ owner_of r f
     → is_one_of (inherited r.model c lists k) f ≡ false
 none_yet r lists c f zero owned lt within before = refl
 none_yet r lists c f (suc k) owned lt within before =
@@ -56,7 +57,7 @@ own_by false true true false true none same = refl
 own_by false true true true true none same = refl
 
 -- after its owner's turn it is there if the class requires it
-found_after : (r : Requirements) (lists : List (List ℕ)) (c f k : ℕ) → AreOwned r (length r.model.features) lists → f < length r.model.features → k ≤ length r.model.classes → owner_of r f < k
+found_after : (r : Requirements) (lists : List (List ℕ)) (c f k : ℕ) → AreListedByOwner r (length r.model.features) lists → f < length r.model.features → k ≤ length r.model.classes → owner_of r f < k
     → is_one_of (inherited r.model c lists k) f ≡ is_required r c f
 found_after r lists c f zero owned lt within after = absurd (omega (arith, after))
 found_after r lists c f (suc k) owned lt within after =
@@ -79,7 +80,7 @@ all_by P xs ys true all more = All-append P xs ys all more
 all_by P xs ys false all more = All-append P xs [] all (All-nil P)
 
 -- what a class inherits are features of the model
-inherited-small : (r : Requirements) (lists : List (List ℕ)) (c k : ℕ) → AreOwned r (length r.model.features) lists → k ≤ length r.model.classes
+inherited-small : (r : Requirements) (lists : List (List ℕ)) (c k : ℕ) → AreListedByOwner r (length r.model.features) lists → k ≤ length r.model.classes
     → All (λ f. f < length r.model.features) (inherited r.model c lists k)
 inherited-small r lists c zero owned within = All-nil (λ f. f < length r.model.features)
 inherited-small r lists c (suc k) owned within =
@@ -88,7 +89,7 @@ inherited-small r lists c (suc k) owned within =
     (places-small (is_owned r k) (length r.model.features) (get_or lists k []) (owned.parts k (omega (arith, within))))
 
 -- what a class inherits of all owners is in order what it requires
-pub inherited-required : (r : Requirements) (lists : List (List ℕ)) (c : ℕ) (xs zs : List ℕ) → ((f : ℕ) → f < length r.model.features → owner_of r f < length r.model.classes) → AreOwned r (length r.model.features) lists
+pub inherited-required : (r : Requirements) (lists : List (List ℕ)) (c : ℕ) (xs zs : List ℕ) → ((f : ℕ) → f < length r.model.features → owner_of r f < length r.model.classes) → AreListedByOwner r (length r.model.features) lists
     → xs ≡ inherited r.model c lists (length r.model.classes) → AreInOrder nat_cmp eqb xs zs → zs ≡ required r c
 inherited-required r lists c xs zs owners owned are order =
     let n : ℕ = length r.model.classes in

@@ -5,9 +5,13 @@ use Rattle.std.specs.Hash.FoldHasher as folding
 use Rattle.std.specs.Map.{update}
 use Rattle.imkl_population.specs.declared.object.Head.{Head}
 
+-- the hash of an id
+unfoldable pub hash_of : List ℕ → ℕ
+hash_of id = folding.finish (folding.write folding.initial id)
+
 -- the slot of an id, of so many
 unfoldable pub slot_of : List ℕ → ℕ → ℕ
-slot_of id n = folding.finish (folding.write folding.initial id) % n
+slot_of id n = hash_of id % n
 
 -- whether an object is there and has an id
 abbrev pub has_id : List Head → ℕ → List ℕ → Bool

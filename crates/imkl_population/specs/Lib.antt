@@ -14,6 +14,8 @@ pub mod Seen
 pub mod Draft
 pub mod Adding
 pub mod IdIndex
+pub mod Given
+pub mod Owners
 pub mod Ends
 pub mod Store
 pub mod Layout

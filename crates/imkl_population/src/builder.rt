@@ -1,6 +1,6 @@
 //! Building a population object by object.
 
-ghost use Rattle.std.specs.Prelude.{◌≡◌, ◌<◌, ◌≤◌, ℕ, [], true, length, ◌+◌, All, IfOk, OnOk, IfSome, Ok, string_bytes};
+ghost use Rattle.std.specs.Prelude.{◌≡◌, ◌<◌, ◌≤◌, ℕ, [], ◌∷◌, true, length, ◌+◌, All, IfOk, OnOk, IfSome, Ok};
 ghost use Rattle.imkl_model.specs.ClassModel.{feature_at};
 ghost use Rattle.imkl_population.specs.Population.{class_of, written_at, object_number, pairs};
 ghost use Rattle.std.specs.List.{list_all};
@@ -11,13 +11,15 @@ ghost use Rattle.imkl_population.specs.declared.fault.PopulationFault.{Populatio
 ghost use Rattle.imkl_population.specs.Store.{maps_of, object_row};
 ghost use Rattle.imkl_population.specs.Layout.{stored_content};
 ghost use Rattle.imkl_population.specs.Adding.{AddsNew};
-ghost use Rattle.imkl_population.specs.Building.{BuilderAnswers, KeepsObjects, object_fault, add_outcome, set_outcome, link_outcome, attribute_fault, list_fault, source_fault, targets_fault, with_values, as_objects};
+ghost use Rattle.imkl_population.specs.Building.{BuilderAnswers, KeepsObjects, object_fault, add_outcome, set_outcome, link_outcome, attribute_fault, list_fault, source_fault, targets_fault, value_fault, with_values, as_objects};
+ghost use Rattle.imkl_population.specs.Given.{given_values};
 
 use crate::checks::{are_of_type, bounds_fault, is_id};
 use crate::ends::opposite_ends;
 use crate::fault::PopulationFault;
 use crate::finishing::{first_end_fault, first_gap};
-use crate::id_index::IdIndex;
+use crate::given::GivenValues;
+use crate::id_index::{HashedId, IdIndex};
 use crate::layout::lay_out;
 use crate::limits::MAX_OBJECTS;
 use crate::numbers::ObjectNo;
@@ -30,6 +32,7 @@ use imkl_model::{ClassModel, ClassNo, ElementType, FeatureNo};
 use ocl_base::Text;
 use std::alloc::{AllocError, Global};
 use std::marker::Model;
+use std::slice;
 
 /// A population in the making. Contracts see the population of what was added so far.
 #[derive(Drop)]
@@ -101,22 +104,22 @@ impl<'m> PopulationBuilder<'m> {
         ensures count { OnOk result (length self.new.objects ≡ length self.old.objects + 1) }
         ensures model { self.new.model ≡ self.old.model }
     {
+        let id = HashedId::new(id);
         if let Some(fault) = self.object_fault(id, class) {
             return Err(fault);
         }
-        let id = String::from_str(self.alloc, id)?;
         Ok(self.add_new(id, class)?)
     }
 
     /// What is wrong with one more object of an id and a class.
-    fn object_fault(&self, id: &str, class: ClassNo) -> Option<PopulationFault>
+    fn object_fault(&self, id: HashedId<'_>, class: ClassNo) -> Option<PopulationFault>
         requires { class < length self.now.model.classes }
-        ensures { result ≡ object_fault self.now id.now class }
+        ensures { result ≡ object_fault self.now id.entry.text.now class }
     {
-        if !is_id(id) {
+        if !is_id(id.text) {
             return Some(PopulationFault::BadId);
         }
-        if self.object(id).is_some() {
+        if self.object_of(id).is_some() {
             return Some(PopulationFault::DuplicateId);
         }
         if self.model.is_abstract(class) {
@@ -129,15 +132,16 @@ impl<'m> PopulationBuilder<'m> {
     }
 
     /// Adds an object with which nothing is wrong.
-    fn add_new(&mut self, id: String, class: ClassNo) -> Result<ObjectNo, AllocError>
+    fn add_new(&mut self, id: HashedId<'_>, class: ClassNo) -> Result<ObjectNo, AllocError>
         requires class { class < length self.old.model.classes }
-        requires sound { object_fault self.old (string_bytes id) class ≡ None }
-        ensures { AddsNew result self.old (string_bytes id) class self.new }
+        requires sound { object_fault self.old id.text.now class ≡ None }
+        ensures { AddsNew result self.old id.entry.text.now class self.new }
     {
+        let text = String::from_str(self.alloc, id.text)?;
         let number = self.objects();
         self.heads.reserve(1)?;
-        self.ids.add(self.alloc, id.as_str(), number)?;
-        let id = Text::new(id);
+        self.ids.add(self.alloc, id, number)?;
+        let id = Text::new(text);
         self.heads.push_reserved(Head { id, class });
         Ok(ObjectNo::new(number))
     }
@@ -159,6 +163,14 @@ impl<'m> PopulationBuilder<'m> {
     /// The object that has an id.
     pub fn object(&self, id: &str) -> Option<ObjectNo>
         ensures number { result ≡ object_number self.now id.now }
+        ensures known { IfSome result (λ o. o < length self.now.objects) }
+    {
+        self.object_of(HashedId::new(id))
+    }
+
+    /// The object that has an id whose hash is known.
+    fn object_of(&self, id: HashedId<'_>) -> Option<ObjectNo>
+        ensures number { result ≡ object_number self.now id.entry.text.now }
         ensures known { IfSome result (λ o. o < length self.now.objects) }
     {
         self.within_limit();
@@ -340,16 +352,15 @@ impl<'m> PopulationBuilder<'m> {
         &mut self,
         object: ObjectNo,
         feature: FeatureNo,
-        values: Vec<Scalar>,
+        values: GivenValues,
     ) -> Result<(), PopulationFault>
         requires object { object < length self.old.objects }
         requires feature { feature < length self.old.model.features }
-        requires sound { is_sound self.old object (feature, values.items) ≡ true }
+        requires sound { is_sound self.old object (feature, given_values values) ≡ true }
         ensures answers { BuilderAnswers result
-            (Ok (with_values self.old object feature values.items)) self.old self.new }
+            (Ok (with_values self.old object feature (given_values values))) self.old self.new }
         ensures kept { KeepsObjects self.old self.new }
     {
-        let mut values = values;
         let size = StoreSize {
             objects: self.objects(),
             features: self.model.feature_count(),
@@ -358,7 +369,7 @@ impl<'m> PopulationBuilder<'m> {
             object: object.index(),
             feature: feature.index(),
         };
-        self.written.put(self.alloc, size, cell, &mut values)?;
+        self.written.put(self.alloc, size, cell, values)?;
         Ok(())
     }
 
@@ -385,8 +396,48 @@ impl<'m> PopulationBuilder<'m> {
         let unique = self.model.feature_info(feature).is_unique();
         match self.list_fault(object, feature, unique, &values)? {
             Some(fault) => Err(fault),
-            None => self.put(object, feature, values),
+            None => self.put(object, feature, GivenValues::Many(values)),
         }
+    }
+
+    /// What is wrong with a single value at an attribute.
+    fn one_fault(
+        &self,
+        object: ObjectNo,
+        feature: FeatureNo,
+        value: &Scalar,
+    ) -> Option<PopulationFault>
+        requires object { object < length self.now.objects }
+        requires feature { feature < length self.now.model.features }
+        ensures { result ≡ value_fault self.now object feature (feature_at self.now.model
+            feature) (value.now ∷ []) }
+    {
+        if let Some(fault) = self.attribute_fault(object, feature, slice::from_ref(value)) {
+            return Some(fault);
+        }
+        bounds_fault(self.model.feature_info(feature), object, feature, 1)
+    }
+
+    /// Sets the single value of an attribute, as `set_value` does with a list of it alone, but
+    /// without one. All its faults come before anything is allocated; refused, it changes nothing.
+    pub fn set_one(
+        &mut self,
+        object: ObjectNo,
+        feature: FeatureNo,
+        value: Scalar,
+    ) -> Result<(), PopulationFault>
+        requires object { object < length self.old.objects }
+        requires feature { feature < length self.old.model.features }
+        ensures answers { BuilderAnswers result (set_outcome self.old object feature (value ∷ []))
+            self.old self.new }
+        ensures refused { (fault : PopulationFault) →
+            set_outcome self.old object feature (value ∷ []) ≡ Err fault → result ≡ Err fault }
+        ensures kept { KeepsObjects self.old self.new }
+    {
+        if let Some(fault) = self.one_fault(object, feature, &value) {
+            return Err(fault);
+        }
+        self.put(object, feature, GivenValues::One(value))
     }
 
     /// Sets the targets of a source end; a second call replaces the first. Refused with
@@ -412,7 +463,7 @@ impl<'m> PopulationBuilder<'m> {
         let targets = as_objects(self.alloc, targets)?;
         match self.targets_fault(object, feature, &targets)? {
             Some(fault) => Err(fault),
-            None => self.put(object, feature, targets),
+            None => self.put(object, feature, GivenValues::Many(targets)),
         }
     }
 

@@ -1,16 +1,18 @@
 //! The values at one feature, of all objects that have some.
 
-ghost use Rattle.std.specs.Prelude.{◌≡◌, ◌<◌, ◌++◌, ℕ, [], false, length, map, min, slice_range, IfOk, OnOk, OnErr};
+ghost use Rattle.std.specs.Prelude.{◌≡◌, ◌<◌, ◌++◌, ℕ, [], ◌∷◌, false, length, map, min, slice_range, IfOk, OnOk, OnErr};
 ghost use Rattle.std.specs.Ordering.{nat_cmp};
 ghost use Rattle.std.specs.BTreeMap.{insert_entry};
 ghost use Rattle.imkl_population.specs.Written.{written_in, IsMap};
 ghost use Rattle.imkl_population.specs.Population.{pairs_of};
 ghost use Rattle.imkl_population.specs.Values.{is_over};
+ghost use Rattle.imkl_population.specs.Given.{given_values};
 ghost use Rattle.imkl_population.specs.Store.{IsEntry, AreRangesWithin, map_of, pairs_in, shifted, standing, AllStand};
 
 use crate::checks::is_over;
 use crate::column_ranges::ColumnRanges;
 use crate::entries::{Entry, find_entry, put_entry};
+use crate::given::GivenValues;
 use crate::ranks::Ranks;
 use crate::scalar::Scalar;
 use std::alloc::{AllocError, Global};
@@ -132,6 +134,33 @@ impl Column {
         let end = self.scalars.len();
         let entry = Entry { object, start, end };
         put_entry(&mut self.entries, entry)
+    }
+
+    /// Moves one value to an object, as `set` does with those of a list.
+    fn set_one(&mut self, object: usize, value: Scalar) -> Result<(), AllocError>
+        ensures ok { OnOk result (map_of self.new ≡
+            insert_entry nat_cmp (map_of self.old) object (value ∷ [])) }
+        ensures err { OnErr result (map_of self.new ≡ map_of self.old) }
+    {
+        let start = self.scalars.len();
+        self.scalars.push(value)?;
+        let end = self.scalars.len();
+        put_entry(&mut self.entries, Entry { object, start, end })
+    }
+
+    /// Moves values to an object, in the place of those that it has.
+    pub(crate) fn put(&mut self, object: usize, values: GivenValues) -> Result<(), AllocError>
+        ensures ok { OnOk result (map_of self.new ≡
+            insert_entry nat_cmp (map_of self.old) object (given_values values)) }
+        ensures err { OnErr result (map_of self.new ≡ map_of self.old) }
+    {
+        match values {
+            GivenValues::One(value) => self.set_one(object, value),
+            GivenValues::Many(values) => {
+                let mut values = values;
+                self.set(object, &mut values)
+            }
+        }
     }
 
     /// Makes room for the values of an object. Where a list is full, it gets room for what is expected of all objects, which

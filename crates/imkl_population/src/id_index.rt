@@ -5,7 +5,7 @@ ghost use Rattle.std.specs.Map.{update};
 ghost use Rattle.std.specs.BTreeMap.{get_by_text};
 ghost use Rattle.imkl_population.specs.declared.object.Head.{Head};
 ghost use Rattle.imkl_population.specs.declared.limits.TheConstants.{MAX_OBJECTS};
-ghost use Rattle.imkl_population.specs.IdIndex.{slot_of, has_id, number_found, IsGuarded, TakesSlot, IsOccupied, AddsId};
+ghost use Rattle.imkl_population.specs.IdIndex.{hash_of, slot_of, has_id, number_found, IsGuarded, TakesSlot, IsOccupied, AddsId};
 
 use crate::object::Head;
 use std::alloc::{AllocError, Global};
@@ -24,15 +24,43 @@ pub(crate) struct IdIndex {
     ghost guarded: { IsGuarded slots.items (get_by_text others) },
 }
 
-/// The slot of an id, of so many.
-fn slot_of(id: &str, slots: usize) -> usize
-    requires { 0 < slots }
-    ensures slot { result ≡ slot_of id.now slots }
-    ensures known { result < slots }
+/// An id with its hash, which is computed once for all that is done with the id.
+#[derive(Clone, Copy)]
+pub(crate) struct HashedId<'i> {
+    /// The id.
+    pub(crate) text: &'i str,
+    hash: u64,
+    ghost hashed: { hash ≡ hash_of text.now },
+}
+
+impl<'i> HashedId<'i> {
+    /// Hashes an id.
+    pub(crate) fn new(text: &'i str) -> HashedId<'i>
+        ensures { result.text.now ≡ text.now }
+    {
+        let hash = hash_of(text);
+        HashedId { text, hash }
+    }
+
+    /// Its slot, of so many.
+    #[tactic(auto, unfolding(crate::specs::IdIndex::slot_of))]
+    fn slot_of(self, slots: usize) -> usize
+        requires { 0 < slots }
+        ensures slot { result ≡ slot_of self.entry.text.now slots }
+        ensures known { result < slots }
+    {
+        self.hash as usize % slots
+    }
+}
+
+/// The hash of an id.
+#[tactic(auto, unfolding(crate::specs::IdIndex::hash_of))]
+fn hash_of(id: &str) -> u64
+    ensures { result ≡ hash_of id.now }
 {
     let mut hasher = FoldHasher::default();
     hasher.write(id.as_bytes());
-    hasher.finish() as usize % slots
+    hasher.finish()
 }
 
 /// Whether an object is there and has an id.
@@ -86,48 +114,54 @@ impl IdIndex {
     }
 
     /// The number of the object that has an id.
-    pub(crate) fn find(&self, heads: &[Head], id: &str) -> Option<usize>
+    pub(crate) fn find(&self, heads: &[Head], id: HashedId<'_>) -> Option<usize>
         ensures { result ≡ number_found self.now.slots.items (get_by_text self.now.others)
-            heads.now id.now }
+            heads.now id.entry.text.now }
     {
         if self.slots.is_empty() {
-            return self.others.get(id).copied();
+            return self.others.get(id.text).copied();
         }
-        let held = self.slots[slot_of(id, self.slots.len())];
+        let held = self.slots[id.slot_of(self.slots.len())];
         let number = held.checked_sub(1)? as usize;
-        if has_id(heads, number, id) {
+        if has_id(heads, number, id.text) {
             return Some(number);
         }
-        self.others.get(id).copied()
+        self.others.get(id.text).copied()
     }
 
     /// Gives the id of the next object its number.
-    pub(crate) fn add(&mut self, alloc: Global, id: &str, number: usize) -> Result<(), AllocError>
+    pub(crate) fn add(
+        &mut self,
+        alloc: Global,
+        id: HashedId<'_>,
+        number: usize,
+    ) -> Result<(), AllocError>
         requires { number < MAX_OBJECTS }
         ensures { AddsId result
-            (number_found self.old.slots.items (get_by_text self.old.others)) id.now number
+            (number_found self.old.slots.items (get_by_text self.old.others)) id.entry.text.now
+            number
             (number_found self.new.slots.items (get_by_text self.new.others)) }
     {
         if self.take_slot(id, number) {
             return Ok(());
         }
-        put_number(alloc, &mut self.others, id, number)?;
+        put_number(alloc, &mut self.others, id.text, number)?;
         Ok(())
     }
 
     /// Gives an id's slot to a number, if no id has it, and answers whether it did.
-    fn take_slot(&mut self, id: &str, number: usize) -> bool
+    fn take_slot(&mut self, id: HashedId<'_>, number: usize) -> bool
         requires { number < MAX_OBJECTS }
         ensures taken { result ≡ true →
-            TakesSlot self.old.slots.items id.now number self.new.slots.items }
+            TakesSlot self.old.slots.items id.entry.text.now number self.new.slots.items }
         ensures others { result ≡ true → self.new.others ≡ self.old.others }
-        ensures full { result ≡ false → IsOccupied self.old.slots.items id.now }
+        ensures full { result ≡ false → IsOccupied self.old.slots.items id.entry.text.now }
         ensures same { result ≡ false → self.new ≡ self.old }
     {
         if self.slots.is_empty() {
             return false;
         }
-        let slot = slot_of(id, self.slots.len());
+        let slot = id.slot_of(self.slots.len());
         if self.slots[slot] != 0 {
             return false;
         }

@@ -9,6 +9,7 @@ mod ends;
 mod entries;
 mod fault;
 mod finishing;
+mod given;
 mod id_index;
 mod instances;
 pub mod laws;

@@ -1,7 +1,8 @@
 //! The features that a class needs values at.
 
 ghost use Rattle.std.specs.Prelude.{◌≡◌, ◌<◌, ◌++◌, ◌==◌, ◌&&◌, ℕ, [], ◌∷◌, length, slice_index_or, if◌then◌else◌, All, IfOk, IfSome, OnErr, OnOk};
-ghost use Rattle.imkl_population.specs.Required.{is_needed, is_on, inherited, required, with_required, AreOwned, AreOwnedIfAny};
+ghost use Rattle.imkl_population.specs.Required.{is_on, required, with_required};
+ghost use Rattle.imkl_population.specs.Owners.{is_needed, inherited, AreListedByOwner, AreListedIfAny};
 
 use crate::order::in_order;
 use imkl_model::{ClassModel, ClassNo, FeatureInfo, FeatureNo, Role};
@@ -67,7 +68,8 @@ pub struct RequiredFeatures<'m> {
 impl<'m> Model for RequiredFeatures<'m> {
     ghost use Rattle.std.specs.BTreeMap.{get};
     ghost use Rattle.std.specs.Ordering.{nat_cmp};
-    ghost use Rattle.imkl_population.specs.Required.{Requirements, AreRequired, AreOwnedIfAny};
+    ghost use Rattle.imkl_population.specs.Required.{Requirements};
+    ghost use Rattle.imkl_population.specs.Owners.{AreRequired, AreListedIfAny};
 
     ghost Value = { Requirements };
 
@@ -75,7 +77,7 @@ impl<'m> Model for RequiredFeatures<'m> {
 
     ghost invariant = { λ r.
         AreRequired (record { model = r.model.now; side = r.side }) (get nat_cmp r.lists) ×
-        AreOwnedIfAny (record { model = r.model.now; side = r.side }) r.owned.items };
+        AreListedIfAny (record { model = r.model.now; side = r.side }) r.owned.items };
 }
 
 fn is_on(side: Side, role: Role) -> bool
@@ -127,7 +129,7 @@ fn add_needed(
 
 /// For each class the features on a side that it owns and that have a lower bound above zero.
 fn list_owned(alloc: Global, model: &ClassModel, side: Side) -> Result<Vec<FeatureList>, AllocError>
-    ensures { IfOk result (λ v. AreOwned (record { model = model.now; side = side })
+    ensures { IfOk result (λ v. AreListedByOwner (record { model = model.now; side = side })
         (length model.now.features) v.items) }
 {
     model.well_formed();
@@ -146,8 +148,8 @@ fn fill_owned(
     model: &ClassModel,
     side: Side,
 ) -> Result<(), AllocError>
-    requires { AreOwnedIfAny (record { model = model.now; side = side }) owned.old.items }
-    ensures filled { OnOk result (AreOwned (record { model = model.now; side = side })
+    requires { AreListedIfAny (record { model = model.now; side = side }) owned.old.items }
+    ensures filled { OnOk result (AreListedByOwner (record { model = model.now; side = side })
         (length model.now.features) owned.new.items) }
     ensures kept { OnErr result (owned.new ≡ owned.old) }
 {

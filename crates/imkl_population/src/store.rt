@@ -5,10 +5,12 @@ ghost use Rattle.std.specs.Ordering.{nat_cmp};
 ghost use Rattle.std.specs.BTreeMap.{insert_entry};
 ghost use Rattle.imkl_population.specs.Written.{written_in, IsMap};
 ghost use Rattle.imkl_population.specs.Values.{is_over};
+ghost use Rattle.imkl_population.specs.Given.{given_values};
 ghost use Rattle.imkl_population.specs.Store.{AreRangesWithin, AllStand, maps_of, column_at, object_row, pairs_in, ranges_from, scalars_of};
 
 use crate::column::Column;
 use crate::column_ranges::ColumnRanges;
+use crate::given::GivenValues;
 use crate::scalar::Scalar;
 use std::alloc::{AllocError, Global};
 use std::marker::Model;
@@ -102,22 +104,17 @@ impl Store {
     }
 
     /// Moves values to an object at a feature that has a column.
-    fn set(
-        &mut self,
-        feature: usize,
-        object: usize,
-        values: &mut Vec<Scalar>,
-    ) -> Result<(), AllocError>
+    fn set(&mut self, feature: usize, object: usize, values: GivenValues) -> Result<(), AllocError>
         requires { feature < length self.old }
         ensures ok { OnOk result ((o : ℕ) → object_row (maps_of self.new) o ≡
             (if o == object
-            then insert_entry nat_cmp (object_row (maps_of self.old) o) feature values.old.items
+            then insert_entry nat_cmp (object_row (maps_of self.old) o) feature (given_values values)
             else object_row (maps_of self.old) o)) }
         ensures err { OnErr result ((o : ℕ) →
             object_row (maps_of self.new) o ≡ object_row (maps_of self.old) o) }
     {
         let column = &mut self.columns[feature];
-        let result = column.set(object, values);
+        let result = column.put(object, values);
         column.within();
         result
     }
@@ -145,12 +142,13 @@ impl Store {
         alloc: Global,
         size: StoreSize,
         cell: Cell,
-        values: &mut Vec<Scalar>,
+        values: GivenValues,
     ) -> Result<(), AllocError>
         requires { cell.feature < size.features }
         ensures ok { OnOk result ((o : ℕ) → object_row (maps_of self.new) o ≡
             (if o == cell.object
-            then insert_entry nat_cmp (object_row (maps_of self.old) o) cell.feature values.old.items
+            then insert_entry nat_cmp (object_row (maps_of self.old) o) cell.feature
+            (given_values values)
             else object_row (maps_of self.old) o)) }
         ensures err { OnErr result ((o : ℕ) →
             object_row (maps_of self.new) o ≡ object_row (maps_of self.old) o) }

@@ -1,5 +1,5 @@
 use Rattle.std.proofs.Common.{◌≡◌}
-use Rattle.imkl_population.specs.Required.{inherited}
+use Rattle.imkl_population.specs.Owners.{inherited}
 use Rattle.imkl_population.proofs.required.gather.Given as goal
 
 abbrev pub invariant-loop-owner : goal.invariant-loop-owner

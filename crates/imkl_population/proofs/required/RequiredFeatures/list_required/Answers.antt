@@ -1,5 +1,6 @@
 use Rattle.std.proofs.Common.{ℕ, List, ap, inr, length, ◌∙◌}
-use Rattle.imkl_population.specs.Required.{Requirements, inherited, required}
+use Rattle.imkl_population.specs.Required.{Requirements, required}
+use Rattle.imkl_population.specs.Owners.{inherited}
 use Rattle.imkl_population.proofs.Owners.{inherited-required}
 use Rattle.imkl_population.proofs.required.RequiredFeatures.list_required.Goals as goal
 
