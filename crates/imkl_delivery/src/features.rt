@@ -14,7 +14,7 @@ ghost use Rattle.imkl_delivery.specs.Taken.{TakesOnly};
 
 use crate::fault::DeliveryFault;
 use crate::guesses::Guesses;
-use crate::scalars::{Targets, scalars_of, targets_of, values_of};
+use crate::scalars::{Targets, scalar_of, scalars_of, targets_of, values_of};
 use crate::taking::take_member;
 use imkl_model::{ClassModel, ClassNo, FeatureInfo, FeatureNo, Role};
 use imkl_population::{ObjectNo, PopulationBuilder, PopulationFault, RequiredFeatures};
@@ -32,8 +32,60 @@ pub(crate) fn placed_fault(object: usize, fault: PopulationFault) -> DeliveryFau
     }
 }
 
-/// Puts the values of an attribute on an object.
+/// Puts the values of an attribute that a list writes on an object.
 #[tactic(auto, unfolding(crate::specs::Loading::put_values))]
+fn put_list(
+    builder: &mut PopulationBuilder<'_>,
+    alloc: Global,
+    object: ObjectNo,
+    feature: FeatureNo,
+    values: Vec<Value>,
+) -> Result<(), DeliveryFault>
+    requires object { object < length builder.old.objects }
+    requires feature { feature < length builder.old.model.features }
+    ensures leaves { Leaves result (put_values object feature (map view values.items)
+        builder.old) builder.new }
+    ensures kept { KeepsObjects builder.old builder.new }
+{
+    let model = builder.model();
+    model.well_formed();
+    let info = model.feature_info(feature);
+    let Some(scalars) = scalars_of(alloc, model, info, values)? else {
+        return Err(placed_fault(object.index(), PopulationFault::WrongKind));
+    };
+    match builder.set_value(object, feature, scalars) {
+        Ok(()) => Ok(()),
+        Err(fault) => Err(placed_fault(object.index(), fault)),
+    }
+}
+
+/// Puts the one value of an attribute on an object, for which no list is made.
+#[tactic(auto, unfolding(crate::specs::Loading::put_values))]
+fn put_one(
+    builder: &mut PopulationBuilder<'_>,
+    object: ObjectNo,
+    feature: FeatureNo,
+    value: Value,
+) -> Result<(), DeliveryFault>
+    requires object { object < length builder.old.objects }
+    requires feature { feature < length builder.old.model.features }
+    ensures leaves { Leaves result (put_values object feature (view value ∷ [])
+        builder.old) builder.new }
+    ensures kept { KeepsObjects builder.old builder.new }
+{
+    let model = builder.model();
+    model.well_formed();
+    let info = model.feature_info(feature);
+    let Some(scalar) = scalar_of(model, info.element, value) else {
+        return Err(placed_fault(object.index(), PopulationFault::WrongKind));
+    };
+    match builder.set_one(object, feature, scalar) {
+        Ok(()) => Ok(()),
+        Err(fault) => Err(placed_fault(object.index(), fault)),
+    }
+}
+
+/// Puts the values of an attribute that a member writes on an object.
 fn put_values(
     builder: &mut PopulationBuilder<'_>,
     alloc: Global,
@@ -47,15 +99,10 @@ fn put_values(
         builder.old) builder.new }
     ensures kept { KeepsObjects builder.old builder.new }
 {
-    let model = builder.model();
-    model.well_formed();
-    let info = model.feature_info(feature);
-    let Some(scalars) = scalars_of(alloc, model, info, value)? else {
-        return Err(placed_fault(object.index(), PopulationFault::WrongKind));
-    };
-    match builder.set_value(object, feature, scalars) {
-        Ok(()) => Ok(()),
-        Err(fault) => Err(placed_fault(object.index(), fault)),
+    match value {
+        Value::Null => put_list(builder, alloc, object, feature, Vec::new(alloc)),
+        Value::Array(values) => put_list(builder, alloc, object, feature, values),
+        value => put_one(builder, object, feature, value),
     }
 }
 
@@ -201,9 +248,9 @@ fn feature_of(
 }
 
 /// The features of the class that the members name, or nothing where a member names none. Each is guessed to be that
-/// near the same place of a list.
+/// near the same place of a list. They are written to a list, of which only the room is used again.
 fn named_features(
-    alloc: Global,
+    list: Vec<FeatureNo>,
     model: &ClassModel,
     class: ClassNo,
     members: &Map<String, Value>,
@@ -215,7 +262,8 @@ fn named_features(
     ensures in_range { IfOk result (λ r. IfSome r (λ v. All (λ f.
         f < length model.now.features) v.items)) }
 {
-    let mut features = Vec::with_capacity(alloc, members.len())?;
+    let mut features = list;
+    features.clear();
     for (name, _) in members {
         let place = features.len();
         match feature_of(model, class, guesses, place, name.as_str()) {
@@ -246,7 +294,8 @@ pub(crate) fn put_members(
     let model = builder.model();
     model.well_formed();
     let class = builder.class_of(object);
-    let Some(named) = named_features(alloc, model, class, &members, guesses.of(class))? else {
+    let list = guesses.take_list(alloc);
+    let Some(named) = named_features(list, model, class, &members, guesses.of(class))? else {
         return Err(DeliveryFault::UnknownFeature {
             object: object.index(),
         });
@@ -256,5 +305,6 @@ pub(crate) fn put_members(
     for feature in &features {
         put_member(builder, alloc, object, *feature, &mut members)?;
     }
+    guesses.give_back(features);
     Ok(())
 }
