@@ -104,18 +104,21 @@ class Build:
                     os.killpg(process.pid, signal.SIGKILL)
 
     def start_ready(self):
-        """Starts what can be proved now. Half as many jobs again as there are processors keep these busy."""
+        """Starts what can be proved now. Half as many jobs again as there are processors keep these busy. The crate that most
+        others wait for has the jobs that are left when each other has one, and goes first."""
         ready = [it for it in self.left if all(use in self.found for use in self.tree.own_uses(it))]
-        for place, crate in enumerate(sorted(ready, key=self.height, reverse=True)):
+        ready.sort(key=self.height, reverse=True)
+        tallest = max([*ready, *self.running], key=self.height, default=None)
+        for place, crate in enumerate(ready):
             cores = prover.cores() if not self.running else len(os.sched_getaffinity(0))
             idle = cores + cores // 2 - sum(jobs for _, jobs in self.running.values())
-            jobs = min(4, max(1, idle // (len(ready) - place)))
+            jobs = min(4, max(1, idle - (len(ready) - place - 1)))
             if idle < 1 or (self.running and prover.cores() < 1):
                 break
             self.left.remove(crate)
-            self.running[crate] = self.start(crate, jobs), jobs
+            self.running[crate] = self.start(crate, jobs, 0 if crate == tallest else 5), jobs
 
-    def start(self, crate, jobs):
+    def start(self, crate, jobs, nice):
         room = STORE / f"new-{crate}"
         shutil.rmtree(room, ignore_errors=True)
         room.mkdir(parents=True)
@@ -124,7 +127,7 @@ class Build:
         flags = ["--jobs", str(jobs), *(more if is_program else ["--statements", "-o", f"{room}/{crate}.rlib"])]
         libraries = {it: made(self.tree, it) if self.found[it] is None else self.found[it] for it in self.tree.below(crate)}
         with open(LOGS / f"{crate}.log", "w", encoding="utf-8") as log:
-            return prover.start(prover.command(self.tree, crate, "build", libraries, *flags), self.tree.folder(crate), log)
+            return prover.start(prover.command(self.tree, crate, "build", libraries, *flags), self.tree.folder(crate), log, nice)
 
     def take_ended(self):
         for crate, (process, _) in list(self.running.items()):

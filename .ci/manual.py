@@ -18,7 +18,7 @@ def arguments(body, shared):
     """What a command's body names: the arguments that must be given, each with what it is."""
     flat = re.sub(r"\s+", " ", body)
     named = r'file\( ?alloc, "(\w+)", "([^"]+)"'
-    alone = r'Arg::new\(alloc, "(\w+)"\) ?\.required\(true\) ?\.help\("([^"]+)"\)'
+    alone = r'Arg::new\(alloc, "(\w+)"\) ?\.required\(true\)(?: ?\.allow_\w+\(true\))* ?\.help\("([^"]+)"\)'
     below = re.search(r'on_delivery\( ?alloc, \w+, "(\w+)", "([^"]+)"', flat)
     first = re.findall(named, re.sub(r"\s+", " ", shared)) + [below.groups()] if below else []
     return first + re.findall(named, flat) + re.findall(alone, flat)
@@ -37,6 +37,10 @@ def options(body, functions):
         value = re.search(r'value_name\("(\w+)"\)', option)
         written = "--" + re.search(r'long\("([\w-]+)"\)', option)[1] + (f" {value[1]}" if value else "")
         found.append((written, re.search(r'\.help\("([^"]+)"\)', option)[1]))
+    flat = re.sub(r"\s+", " ", body)
+    for name, more, meaning in re.findall(r'Arg::new\(alloc, "\w+"\) ?\.long\("([\w-]+)"\)((?: ?\.\w+\((?!")[^)]*\)+| ?\.value_name\("\w+"\))*) ?\.help\("([^"]+)"\)', flat):
+        value = re.search(r'value_name\("(\w+)"\)', more)
+        found.append((f"--{name}" + (f" {value[1]}" if value else ""), meaning))
     return found
 
 

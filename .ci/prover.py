@@ -120,15 +120,17 @@ def command(tree, crate, verb, libraries, *flags):
     return [*words, "--links", f"{crate}=", *flags]
 
 
-def dies_with_this():
+def dies_with_this(nice):
     """Has a started process end when this one does, however that ends; and not by the terminal's interrupt, which this one passes on."""
     ctypes.CDLL(None).prctl(1, signal.SIGKILL)
     os.setpgrp()
+    os.nice(nice)
 
 
-def start(words, cwd, to):
-    """Starts a call with its output going to a file."""
-    return subprocess.Popen(words, cwd=cwd, stdin=subprocess.DEVNULL, stdout=to, stderr=subprocess.STDOUT, preexec_fn=dies_with_this)
+def start(words, cwd, to, nice=0):
+    """Starts a call with its output going to a file, behind other work by so much as `nice` says."""
+    how = {"stdin": subprocess.DEVNULL, "stdout": to, "stderr": subprocess.STDOUT}
+    return subprocess.Popen(words, cwd=cwd, preexec_fn=lambda: dies_with_this(nice), **how)
 
 
 def cores():

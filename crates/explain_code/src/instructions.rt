@@ -5,6 +5,7 @@ ghost use Rattle.std.specs.Prelude.{◌≤◌};
 use crate::symbols::{kind_words, scalar_words, symbol_words, text_of};
 use explain_notes::quote;
 use rule_code::{Instr, Unit, WrittenKind, WrittenScalar};
+use rule_verify::{Shape, shape_of};
 use std::alloc::{AllocError, Global};
 
 /// The name of an instruction, as `docs/formats/code-file.md` has it.
@@ -72,19 +73,10 @@ pub(crate) fn name_of(instruction: &Instr) -> &'static str {
 
 /// The numbers of instructions of the bodies that follow an instruction: of its only body, or of its two branches.
 pub(crate) fn bodies_of(instruction: &Instr) -> Option<(usize, usize)> {
-    match instruction {
-        Instr::If(_, first, second) => Some((usize::from(*first), usize::from(*second))),
-        Instr::Let(count)
-        | Instr::ForAll(count)
-        | Instr::Exists(count)
-        | Instr::One(count)
-        | Instr::Select(count)
-        | Instr::Reject(count)
-        | Instr::Collect(count)
-        | Instr::CollectFlat(count)
-        | Instr::IsUnique(_, count)
-        | Instr::Fold(_, count) => Some((usize::from(*count), 0)),
-        _ => None,
+    match shape_of(*instruction) {
+        Shape::Single => None,
+        Shape::OneBody(length) => Some((length, 0)),
+        Shape::TwoBodies(first, second) => Some((first, second)),
     }
 }
 

@@ -1,12 +1,13 @@
 //! Code files in words: a listing, which field of a file is wrong, and which instruction isn't accepted.
 #![tactic(auto)]
 
-mod beside;
 mod fields;
 mod flaws;
 mod instructions;
+mod kinds;
 mod listing;
 mod missing;
+mod seen;
 mod symbols;
 mod verifying;
 

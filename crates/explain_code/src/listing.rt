@@ -1,10 +1,10 @@
 //! A unit in words: rule by rule, an instruction a line.
 
-use crate::beside::Beside;
 use crate::instructions::{bodies_of, instruction_words, length_of};
+use crate::seen::Seen;
 use crate::symbols::{symbol_words, text_of};
-use imkl_model::ClassModel;
-use rule_code::{Instr, Rule, Symbol, Unit, Version};
+use rule_code::{Instr, Symbol, Unit, Version};
+use rule_verify::Resolved;
 use std::alloc::{AllocError, Global};
 
 /// A block that is open: the index after its bodies, and where its second branch begins, if it has one.
@@ -82,6 +82,24 @@ fn instruction_line(
     Ok(line)
 }
 
+/// Writes the line of the instruction of an index, with the kinds beside it.
+fn write_line(
+    out: &mut String,
+    line: &str,
+    seen: Option<&Seen<'_>>,
+    index: usize,
+) -> Result<(), AllocError> {
+    let kinds = match seen {
+        Some(seen) => seen.operands_before(index),
+        None => "",
+    };
+    if kinds.is_empty() {
+        writeln!(out, "{line}")
+    } else {
+        writeln!(out, "{line:<48} {kinds}")
+    }
+}
+
 /// Writes the instructions of a rule, the first of which begins at an offset, and the kinds beside them; answers where they
 /// end.
 fn list_code(
@@ -89,7 +107,7 @@ fn list_code(
     out: &mut String,
     unit: &Unit,
     code: &[Instr],
-    beside: &mut Beside<'_>,
+    seen: Option<&Seen<'_>>,
     begin: usize,
 ) -> Result<usize, AllocError> {
     let mut offset = begin;
@@ -97,7 +115,7 @@ fn list_code(
     for (index, instruction) in code.iter().enumerate() {
         close(out, &mut open, index)?;
         let line = instruction_line(alloc, unit, instruction, offset, open.len())?;
-        beside.write(alloc, out, line.as_str(), index, instruction)?;
+        write_line(out, line.as_str(), seen, index)?;
         offset = offset.saturating_add(length_of(instruction));
         if let Some(block) = open_block(instruction, index) {
             open.push(block)?;
@@ -121,24 +139,30 @@ pub fn list_counts(out: &mut String, unit: &Unit) -> Result<usize, AllocError> {
 }
 
 /// Writes a rule of a unit that begins at an offset of the file: a line, and then one for each of its instructions, which
-/// begins with the offset; the bodies of a block are indented. With a class model the kinds of the operands that are on the
-/// stack before the instruction stand beside it, as far as the code is right. Answers where the rule ends.
+/// begins with the offset; the bodies of a block are indented. Of a unit whose symbols were looked up in a class model the
+/// kinds of the operands on the stack are beside each instruction, up to the rule's first fault. Returns where the rule ends.
 pub fn list_rule(
     alloc: Global,
     out: &mut String,
     unit: &Unit,
-    rule: &Rule,
-    model: Option<&ClassModel>,
+    resolved: Option<&Resolved<'_>>,
+    rule: usize,
     begin: usize,
 ) -> Result<usize, AllocError> {
-    let name = text_of(unit, rule.name);
-    let context = symbol_words(alloc, unit, rule.context)?;
-    let count = rule.code.len();
+    let Some(listed) = unit.rules.get(rule) else {
+        return Ok(begin);
+    };
+    let name = text_of(unit, listed.name);
+    let context = symbol_words(alloc, unit, listed.context)?;
+    let count = listed.code.len();
     writeln!(
         out,
         "rule {name}, context {context}, {count} instructions, at byte {begin}"
     )?;
-    let mut beside = Beside::new(alloc, unit, model, rule)?;
+    let seen = match resolved {
+        Some(resolved) => Some(Seen::of_rule(alloc, resolved, rule)?),
+        None => None,
+    };
     let first = begin.saturating_add(6);
-    list_code(alloc, out, unit, &rule.code, &mut beside, first)
+    list_code(alloc, out, unit, &listed.code, seen.as_ref(), first)
 }

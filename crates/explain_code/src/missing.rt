@@ -1,10 +1,11 @@
 //! What a class model doesn't have that code names.
 
-use code_kinds::Names;
+use crate::symbols::text_of;
 use explain_notes::{Nearest, quote};
 use imkl_model::{ClassModel, ClassNo, EnumNo};
 use model_names::{offer_classes, offer_enumerations, offer_features, offer_literals};
 use rule_code::{Symbol, SymbolNumber};
+use rule_verify::Resolved;
 use std::alloc::{AllocError, Global};
 
 /// Writes that there is no such thing, and what may have been meant.
@@ -76,17 +77,17 @@ fn write_missing_literal(
 pub(crate) fn write_missing_symbol(
     alloc: Global,
     out: &mut String,
-    names: &Names<'_>,
+    resolved: &Resolved<'_>,
     symbol: SymbolNumber,
 ) -> Result<(), AllocError> {
-    let model = names.model;
-    match names.unit.symbols.get(usize::from(symbol.0)) {
-        Some(Symbol::Class(class)) => write_missing_class(alloc, out, model, names.text(*class)),
+    let (model, unit) = (resolved.model(), resolved.unit());
+    match unit.symbols.get(usize::from(symbol.0)) {
+        Some(Symbol::Class(class)) => write_missing_class(alloc, out, model, text_of(unit, *class)),
         Some(Symbol::Enumeration(enumeration)) => {
-            write_missing_enumeration(alloc, out, model, names.text(*enumeration))
+            write_missing_enumeration(alloc, out, model, text_of(unit, *enumeration))
         }
         Some(Symbol::Feature { class, feature }) => {
-            let (class, feature) = (names.text(*class), names.text(*feature));
+            let (class, feature) = (text_of(unit, *class), text_of(unit, *feature));
             match model.linked_class(class) {
                 Some(owner) => write_missing_feature(alloc, out, model, owner, class, feature),
                 None => write_missing_class(alloc, out, model, class),
@@ -98,7 +99,7 @@ pub(crate) fn write_missing_symbol(
                 literal,
             },
         ) => {
-            let (enumeration, literal) = (names.text(*enumeration), names.text(*literal));
+            let (enumeration, literal) = (text_of(unit, *enumeration), text_of(unit, *literal));
             match model.enumeration(enumeration) {
                 Some(owner) => {
                     write_missing_literal(alloc, out, model, owner, enumeration, literal)

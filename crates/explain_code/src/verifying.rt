@@ -1,16 +1,17 @@
 //! Why code isn't accepted for a class model.
 
 use crate::instructions::{bodies_of, instruction_words};
+use crate::kinds::wanted_list;
 use crate::missing::write_missing_symbol;
+use crate::seen::Seen;
 use crate::symbols::{symbol_words, text_of};
-use code_kinds::{
-    Names, Operands, Stop, Walk, body_ends_with, kind_list, operands_of, rule_ends_with,
-    wanted_list,
-};
 use explain_notes::Input;
 use imkl_model::ClassModel;
+use ocl_kinds::{Kind, ScalarKind};
 use rule_code::{Instr, Rule, Unit};
-use rule_verify::VerifyFlaw;
+use rule_verify::{
+    Operands, Pattern, Resolved, VerifyFlaw, ending_wanted, operands_wanted, resolve, symbol_used,
+};
 use std::alloc::{AllocError, Global};
 
 /// What the verifier found.
@@ -85,65 +86,54 @@ fn write_operands(
     alloc: Global,
     out: &mut String,
     model: &ClassModel,
-    walk: &Walk<'_>,
+    seen: &Seen<'_>,
     wanted: &Operands,
 ) -> Result<(), AllocError> {
-    let kinds = kind_list(alloc, model, walk.operands())?;
     let wanted = wanted_list(alloc, model, wanted)?;
-    let on_stack = if kinds.is_empty() {
-        "nothing"
-    } else {
-        kinds.as_str()
+    let on_stack = match seen.last_operands() {
+        "" => "nothing",
+        kinds => kinds,
     };
     writeln!(out, "  on the stack: {on_stack}")?;
     writeln!(out, "  wanted: {wanted}")
 }
 
-/// Writes the variables that are there.
-fn write_variables(
-    alloc: Global,
-    out: &mut String,
-    model: &ClassModel,
-    walk: &Walk<'_>,
-) -> Result<(), AllocError> {
-    let kinds = kind_list(alloc, model, walk.variables())?;
-    writeln!(out, "  variables, from 0: {kinds}")
-}
-
 /// Writes how long the bodies of a block are, and how much is left for them.
-fn write_lengths(
-    out: &mut String,
-    walk: &Walk<'_>,
-    instruction: &Instr,
-    at: usize,
-) -> Result<(), AllocError> {
+fn write_lengths(out: &mut String, seen: &Seen<'_>, instruction: &Instr) -> Result<(), AllocError> {
     let (first, second) = bodies_of(instruction).unwrap_or((0, 0));
-    let length = first.saturating_add(second);
-    let left = walk.remaining(at.saturating_add(1));
+    let (length, left) = (first.saturating_add(second), seen.left());
     writeln!(out, "  instructions in its bodies: {length}; left: {left}")
 }
 
-/// Writes what an instruction found.
-fn write_found(
+/// Writes what an instruction names that the class model doesn't have.
+fn write_name(
     alloc: Global,
     out: &mut String,
-    names: Names<'_>,
-    walk: &Walk<'_>,
-    instruction: &Instr,
-    refused: Refused,
+    resolved: &Resolved<'_>,
+    instruction: Instr,
 ) -> Result<(), AllocError> {
-    let model = names.model;
-    match refused.flaw {
-        VerifyFlaw::NoSuchName => match names.missing_symbol(*instruction) {
-            Some(symbol) => write_missing_symbol(alloc, out, &names, symbol),
-            None => Ok(()),
-        },
-        VerifyFlaw::MissingOperand | VerifyFlaw::WrongKind => {
-            write_operands(alloc, out, model, walk, &operands_of(&names, *instruction))
+    match symbol_used(instruction) {
+        Some(symbol) => write_missing_symbol(alloc, out, resolved, symbol),
+        None => Ok(()),
+    }
+}
+
+/// What the operands at the place of a fault may be: those of an instruction, or the one that a body or the rule ends with.
+fn wanted_at(
+    resolved: &Resolved<'_>,
+    refused: Refused,
+    instruction: Option<Instr>,
+) -> Option<Operands> {
+    let truth = Pattern::Fitting(Kind::Scalar(ScalarKind::Boolean));
+    match (refused.flaw, instruction) {
+        (VerifyFlaw::MissingOperand | VerifyFlaw::WrongKind, Some(instruction)) => {
+            operands_wanted(resolved, refused.rule, instruction)
         }
-        VerifyFlaw::BadVariable => write_variables(alloc, out, model, walk),
-        VerifyFlaw::BadNesting => write_lengths(out, walk, instruction, refused.at),
-        VerifyFlaw::LeftOver | VerifyFlaw::StackLimit | VerifyFlaw::NestLimit => Ok(()),
+        (VerifyFlaw::LeftOver, Some(block)) => {
+            Some(Operands::One(ending_wanted(resolved, refused.rule, block)?))
+        }
+        (VerifyFlaw::LeftOver, None) => Some(Operands::One(truth)),
+        _ => None,
     }
 }
 
@@ -151,29 +141,22 @@ fn write_found(
 fn write_state(
     alloc: Global,
     out: &mut String,
-    names: Names<'_>,
+    resolved: &Resolved<'_>,
     rule: &Rule,
     refused: Refused,
 ) -> Result<(), AllocError> {
-    let mut walk = Walk::new(alloc, names, rule)?;
-    for (index, instruction) in rule.code.iter().enumerate() {
-        walk.come_to(index)?;
-        walk.take(alloc, index, *instruction)?;
+    let seen = Seen::of_rule(alloc, resolved, refused.rule)?;
+    let instruction = rule.code.get(refused.at).copied();
+    if let Some(wanted) = wanted_at(resolved, refused, instruction) {
+        return write_operands(alloc, out, resolved.model(), &seen, &wanted);
     }
-    walk.finish()?;
-    let at = refused.at;
-    match (walk.stop(), rule.code.get(at)) {
-        (Some(Stop::Instruction(index)), Some(instruction)) if index == at => {
-            write_found(alloc, out, names, &walk, instruction, refused)
+    let variables = seen.last_variables();
+    match (refused.flaw, instruction) {
+        (VerifyFlaw::NoSuchName, Some(instruction)) => {
+            write_name(alloc, out, resolved, instruction)
         }
-        (Some(Stop::Body(index)), Some(block)) if index == at => {
-            let wanted = Operands::One(body_ends_with(&names, *block));
-            write_operands(alloc, out, names.model, &walk, &wanted)
-        }
-        (Some(Stop::Rule), None) => {
-            let wanted = Operands::One(rule_ends_with());
-            write_operands(alloc, out, names.model, &walk, &wanted)
-        }
+        (VerifyFlaw::BadVariable, _) => writeln!(out, "  variables, from 0: {variables}"),
+        (VerifyFlaw::BadNesting, Some(block)) => write_lengths(out, &seen, &block),
         _ => Ok(()),
     }
 }
@@ -183,41 +166,54 @@ fn explain_context(
     alloc: Global,
     out: &mut String,
     input: Input<'_>,
-    names: &Names<'_>,
+    resolved: &Resolved<'_>,
     rule: &Rule,
 ) -> Result<(), AllocError> {
     let path = input.path;
-    let name = text_of(names.unit, rule.name);
-    let class = symbol_words(alloc, names.unit, rule.context)?;
+    let name = text_of(resolved.unit(), rule.name);
+    let class = symbol_words(alloc, resolved.unit(), rule.context)?;
     writeln!(
         out,
         "{path}: rule `{name}`, its context class {class}: the class model doesn't have it (verify 1)"
     )?;
-    write_missing_symbol(alloc, out, names, rule.context)
+    write_missing_symbol(alloc, out, resolved, rule.context)
 }
 
-/// Writes why code isn't accepted for a class model.
-pub fn explain_verify_flaw(
+/// Writes why a rule isn't accepted.
+fn explain_rule(
     alloc: Global,
     out: &mut String,
     input: Input<'_>,
-    unit: &Unit,
-    model: &ClassModel,
+    resolved: &Resolved<'_>,
     refused: Refused,
 ) -> Result<(), AllocError> {
     let (words, help) = words_of(refused.flaw);
-    let names = Names { model, unit };
-    let Some(rule) = unit.rules.get(refused.rule) else {
+    let Some(rule) = resolved.unit().rules.get(refused.rule) else {
         return Ok(());
     };
-    if names.name_of(rule.context).is_none() {
-        explain_context(alloc, out, input, &names, rule)?;
+    if resolved.named(rule.context).is_none() {
+        explain_context(alloc, out, input, resolved, rule)?;
     } else {
-        write_place(alloc, out, input, unit, rule, refused, words)?;
-        write_state(alloc, out, names, rule, refused)?;
+        write_place(alloc, out, input, resolved.unit(), rule, refused, words)?;
+        write_state(alloc, out, resolved, rule, refused)?;
     }
     if help.is_empty() {
         return Ok(());
     }
     writeln!(out, "  {help}")
+}
+
+/// Writes why a unit isn't accepted for a class model.
+pub fn explain_verify_flaw(
+    alloc: Global,
+    out: &mut String,
+    input: Input<'_>,
+    model: &ClassModel,
+    unit: Unit,
+    refused: Refused,
+) -> Result<(), AllocError> {
+    match resolve(alloc, model, unit) {
+        Ok(resolved) => explain_rule(alloc, out, input, &resolved, refused),
+        Err((failed, _unit)) => Err(failed),
+    }
 }

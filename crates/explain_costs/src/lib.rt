@@ -1,9 +1,6 @@
 //! Why a rule may be charged so much: its iterations, and the instructions that go over collections.
 #![tactic(auto)]
 
-mod charges;
-mod cut;
-mod lengths;
 mod parts;
 mod words;
 

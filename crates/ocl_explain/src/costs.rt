@@ -2,7 +2,6 @@
 
 ghost use Rattle.std.specs.Prelude.{◌≡◌};
 
-use code_kinds::Names;
 use explain_costs::explain_charges;
 use explain_notes::Input;
 use imkl_population::Sizes;
@@ -43,29 +42,9 @@ pub(crate) fn explain_cost(
             "{path}: rule `{name}` may be charged 2^63 or more for an object, which no budget allows (cost 1)"
         )?;
     }
-    write_iterations(alloc, out, accepted, sizes, rule, charges)?;
+    explain_charges(alloc, out, accepted, sizes, rule)?;
     writeln!(
         out,
         "  each iteration costs its body as often as there may be elements, and one inside another multiplies"
     )
-}
-
-/// Writes the iterations of a rule that has this bound.
-fn write_iterations(
-    alloc: Global,
-    out: &mut String,
-    accepted: &Accepted<'_>,
-    sizes: &Sizes<'_>,
-    rule: usize,
-    bound: u64,
-) -> Result<(), AllocError> {
-    let unit = accepted.unit();
-    let names = Names {
-        model: accepted.model(),
-        unit,
-    };
-    match unit.rules.get(rule) {
-        Some(rule) => explain_charges(alloc, out, names, sizes, rule, bound),
-        None => Ok(()),
-    }
 }

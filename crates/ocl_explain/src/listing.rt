@@ -7,9 +7,9 @@ use explain_inputs::explain_model;
 use explain_notes::Input;
 use imkl_model::{ClassModel, ModelFault};
 use ocl_check::{CommandFault, Outcome, Sink};
-use rule_code::{CodeFault, CodeFlaw, Rule, Unit, read_unit};
+use rule_code::{CodeFault, CodeFlaw, Unit, read_unit};
 use rule_report::write_and_flush;
-use rule_verify::{VerifyFault, verify};
+use rule_verify::{Resolved, VerifyFault, resolve, verify};
 use std::alloc::{AllocError, Global};
 
 /// How a listing ended, and why something is refused.
@@ -32,20 +32,20 @@ fn write_part<S: Sink>(sink: &mut S, part: &str) -> Result<(), CommandFault>
     }
 }
 
-/// Writes a rule of a unit that begins at an offset; answers where it ends.
+/// Writes a rule of a unit that begins at an offset; returns where it ends.
 fn write_rule<S: Sink>(
     alloc: Global,
     sink: &mut S,
     unit: &Unit,
-    rule: &Rule,
-    model: Option<&ClassModel>,
+    resolved: Option<&Resolved<'_>>,
+    rule: usize,
     begin: usize,
 ) -> Result<usize, CommandFault>
     requires { S.has_failed sink.old ≡ false }
     ensures { OnOk result (S.has_failed sink.new ≡ false) }
 {
     let mut part = String::new(alloc);
-    let Ok(end) = list_rule(alloc, &mut part, unit, rule, model, begin) else {
+    let Ok(end) = list_rule(alloc, &mut part, unit, resolved, rule, begin) else {
         return Err(CommandFault::OutOfMemory);
     };
     write_part(sink, part.as_str())?;
@@ -57,7 +57,7 @@ fn write_unit<S: Sink>(
     alloc: Global,
     sink: &mut S,
     unit: &Unit,
-    model: Option<&ClassModel>,
+    resolved: Option<&Resolved<'_>>,
 ) -> Result<(), CommandFault>
     requires { S.has_failed sink.old ≡ false }
 {
@@ -67,8 +67,8 @@ fn write_unit<S: Sink>(
     };
     write_part(sink, counts.as_str())?;
     let mut offset = first;
-    for rule in &unit.rules {
-        offset = write_rule(alloc, sink, unit, rule, model, offset)?;
+    for rule in 0..unit.rules.len() {
+        offset = write_rule(alloc, sink, unit, resolved, rule, offset)?;
     }
     Ok(())
 }
@@ -85,7 +85,7 @@ fn on_listed(
         Ok(_) => Ok(()),
         Err((VerifyFault::At { flaw, rule, at }, unit)) => {
             let refused = Refused { flaw, rule, at };
-            explain_verify_flaw(alloc, out, code, &unit, model, refused)
+            explain_verify_flaw(alloc, out, code, model, unit, refused)
         }
         Err((VerifyFault::OutOfMemory, _unit)) => Err(AllocError),
     }
@@ -123,6 +123,22 @@ fn failed(alloc: Global, fault: CommandFault) -> ListEnding {
     }
 }
 
+/// Lists a unit whose symbols were looked up in a class model, and says why it isn't accepted for it, if it isn't.
+fn list_resolved<S: Sink>(
+    alloc: Global,
+    sink: &mut S,
+    code: Input<'_>,
+    resolved: Resolved<'_>,
+) -> ListEnding
+    requires { S.has_failed sink.old ≡ false }
+{
+    if let Err(fault) = write_unit(alloc, sink, resolved.unit(), Some(&resolved)) {
+        return failed(alloc, fault);
+    }
+    let model = resolved.model();
+    refused(refusal_of(alloc, code, model, resolved.into_unit()))
+}
+
 /// Lists a unit, and says why it isn't accepted for a class model, if there is one and it isn't.
 fn list_unit<S: Sink>(
     alloc: Global,
@@ -133,12 +149,15 @@ fn list_unit<S: Sink>(
 ) -> ListEnding
     requires { S.has_failed sink.old ≡ false }
 {
-    if let Err(fault) = write_unit(alloc, sink, &unit, model) {
-        return failed(alloc, fault);
-    }
-    match model {
-        Some(model) => refused(refusal_of(alloc, code, model, unit)),
-        None => refused(Ok(String::new(alloc))),
+    let Some(model) = model else {
+        return match write_unit(alloc, sink, &unit, None) {
+            Ok(()) => refused(Ok(String::new(alloc))),
+            Err(fault) => failed(alloc, fault),
+        };
+    };
+    match resolve(alloc, model, unit) {
+        Ok(resolved) => list_resolved(alloc, sink, code, resolved),
+        Err(_failed) => failed(alloc, CommandFault::OutOfMemory),
     }
 }
 

@@ -124,7 +124,7 @@ fn on_unit(
         Ok(accepted) => on_accepted(alloc, out, asked, population, &accepted),
         Err((VerifyFault::At { flaw, rule, at }, unit)) => {
             let refused = Refused { flaw, rule, at };
-            explain_verify_flaw(alloc, out, asked.rules, &unit, population.model(), refused)
+            explain_verify_flaw(alloc, out, asked.rules, population.model(), unit, refused)
         }
         Err((VerifyFault::OutOfMemory, _unit)) => Err(AllocError),
     }
@@ -299,7 +299,7 @@ fn on_code(
         Ok(_) => Ok(()),
         Err((VerifyFault::At { flaw, rule, at }, unit)) => {
             let refused = Refused { flaw, rule, at };
-            explain_verify_flaw(alloc, out, code, &unit, model, refused)
+            explain_verify_flaw(alloc, out, code, model, unit, refused)
         }
         Err((VerifyFault::OutOfMemory, _unit)) => Err(AllocError),
     }

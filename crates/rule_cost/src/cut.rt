@@ -57,6 +57,13 @@ impl Cut {
         Cut::new(self.number.saturating_mul(other.number))
     }
 
+    /// The number, at most 2^63.
+    pub(crate) fn number(self) -> u64
+        ensures { result ≡ self }
+    {
+        self.number
+    }
+
     /// The greater number.
     pub(crate) fn max(self, other: Cut) -> Cut
         ensures { result ≡ max self other }

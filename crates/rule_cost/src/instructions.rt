@@ -133,14 +133,21 @@ fn ending_charge(block: Option<BlockInstr>, source: Cut) -> Cut
     }
 }
 
+/// The charges of a turn of an iteration, by those of its body and the length of what the body ends with.
+pub(crate) fn turn_charges(block: Option<BlockInstr>, body: Cut, ended: Cut) -> Cut
+    ensures { SameCut result (1 + body + spec.block_taking_charge block ended) }
+{
+    let made = Cut::new(1).plus(body);
+    made.plus(taking_charge(block, ended))
+}
+
 /// The charges of an iteration, by the length of its source, the charges of its body and the length of what the body ends
 /// with.
 fn turns_charges(block: Option<BlockInstr>, source: Cut, body: Cut, ended: Cut) -> Cut
     ensures { SameCut result (spec.turns_charges source body
         (spec.block_taking_charge block ended) (spec.block_ending_charge block source)) }
 {
-    let made = Cut::new(1).plus(body);
-    let turn = made.plus(taking_charge(block, ended));
+    let turn = turn_charges(block, body, ended);
     let turns = Cut::new(2).plus(source.times(turn));
     turns.plus(ending_charge(block, source))
 }

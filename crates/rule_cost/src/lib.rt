@@ -13,9 +13,11 @@ mod operands;
 mod place;
 mod sized;
 mod walk;
+mod watch;
 
 pub use admission::admit;
 pub use admitted::Admitted;
-pub use bounding::bound;
+pub use bounding::{bound, watch_bound};
 pub use cut::{Bound, STEP_LIMIT};
 pub use fault::CostFault;
+pub use watch::{Passed, Turns, Watch};

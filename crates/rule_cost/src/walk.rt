@@ -6,11 +6,12 @@ ghost use Rattle.rule_cost.specs.CostWalk.{IsSizedCode, IsRange, Advances, Total
 
 use crate::cut::Cut;
 use crate::instructions::{
-    bind, block_charges, branch_charges, length_given, length_yielded, plain_charge,
+    bind, block_charges, branch_charges, length_given, length_yielded, plain_charge, turn_charges,
 };
 use crate::operands::{block_length, take, take_operands, top_length};
 use crate::place::{Advance, Place, Total};
 use crate::sized::SizedCode;
+use crate::watch::{Passed, Turns, Watch};
 use ocl_base::Stack;
 use rule_code::Instr;
 use rule_verify::{Shape, block_of, bound_count, shape_of};
@@ -24,12 +25,13 @@ fn put(lengths: &mut Stack<Cut>, length: Cut) -> Result<(), AllocError>
 }
 
 /// An instruction without a body.
-fn plain(
+fn plain<W: Watch>(
     code: &SizedCode<'_>,
     variables: &Stack<Cut>,
     operands: &mut Stack<Cut>,
     place: Place,
     instr: Instr,
+    watch: &mut W,
 ) -> Result<Advance, AllocError>
     requires code { IsSizedCode code.now }
     requires place { IsRange code.now place }
@@ -42,6 +44,11 @@ fn plain(
     let charges = plain_charge(operands, instr);
     take_operands(operands, instr);
     put(operands, length)?;
+    watch.pass(Passed {
+        at: place.at,
+        charges: charges.number(),
+        turns: None,
+    });
     Ok(Advance {
         next: place.at + 1,
         charges,
@@ -51,11 +58,12 @@ fn plain(
 /// The charges of the sequence that begins at a place, with no operand before it, and the length of
 /// the operand that it ends with.
 #[cycle(walk)]
-pub(crate) fn sequence(
+pub(crate) fn sequence<W: Watch>(
     alloc: Global,
     code: &SizedCode<'_>,
     variables: &mut Stack<Cut>,
     place: Place,
+    watch: &mut W,
 ) -> Result<Total, AllocError>
     requires code { IsSizedCode code.now }
     requires place { IsRange code.now place }
@@ -67,7 +75,7 @@ pub(crate) fn sequence(
     let mut at = place.at;
     'instructions: while at < place.end {
         let here = Place { at, ..place };
-        let advance = step(alloc, code, variables, &mut operands, here)?;
+        let advance = step(alloc, code, variables, &mut operands, here, watch)?;
         charges = charges.plus(advance.charges);
         at = advance.next;
     }
@@ -80,12 +88,13 @@ pub(crate) fn sequence(
 /// An instruction with its bodies. A block that is longer than what is left ends its sequence, as
 /// in the tree of the code; accepted code has none.
 #[cycle(walk)]
-fn step(
+fn step<W: Watch>(
     alloc: Global,
     code: &SizedCode<'_>,
     variables: &mut Stack<Cut>,
     operands: &mut Stack<Cut>,
     place: Place,
+    watch: &mut W,
 ) -> Result<Advance, AllocError>
     requires code { IsSizedCode code.now }
     requires place { IsRange code.now place }
@@ -97,9 +106,11 @@ fn step(
     let instr = code.code[place.at];
     let left = place.end - place.at - 1;
     match shape_of(instr) {
-        Shape::Single => plain(code, variables, operands, place, instr),
+        Shape::Single => plain(code, variables, operands, place, instr, watch),
         Shape::OneBody(length) if length <= left => {
-            block(alloc, code, variables, operands, place, instr, length)
+            block(
+                alloc, code, variables, operands, place, instr, length, watch,
+            )
         }
         Shape::TwoBodies(first, second) if first <= left && second <= left - first => {
             branches(
@@ -110,6 +121,7 @@ fn step(
                 place,
                 instr,
                 (first, second),
+                watch,
             )
         }
         _ => Ok(Advance {
@@ -121,7 +133,7 @@ fn step(
 
 /// A block with one body of `length` instructions, which has more variables.
 #[cycle(walk)]
-fn block(
+fn block<W: Watch>(
     alloc: Global,
     code: &SizedCode<'_>,
     variables: &mut Stack<Cut>,
@@ -129,6 +141,7 @@ fn block(
     place: Place,
     instr: Instr,
     length: usize,
+    watch: &mut W,
 ) -> Result<Advance, AllocError>
     requires code { IsSizedCode code.now }
     requires place { IsRange code.now place }
@@ -140,24 +153,31 @@ fn block(
     ensures advances { IfOk result (λ a. Advances code.now variables.old place operands.old a
         operands.new) }
 {
+    watch.open(place.at);
     let source = block_length(operands, instr);
     bind(variables, instr, source)?;
     let at = place.at + 1;
     let end = at + length;
-    let body = sequence(alloc, code, variables, Place { at, end })?;
+    let body = sequence(alloc, code, variables, Place { at, end }, watch)?;
     take(variables, bound_count(instr));
     take_operands(operands, instr);
     let opened = block_of(instr);
     put(operands, length_yielded(opened, source, body.length))?;
-    Ok(Advance {
-        next: end,
-        charges: block_charges(opened, source, body.charges, body.length),
-    })
+    let charges = block_charges(opened, source, body.charges, body.length);
+    watch.pass(Passed {
+        at: place.at,
+        charges: charges.number(),
+        turns: Some(Turns {
+            source: source.number(),
+            charges: turn_charges(opened, body.charges, body.length).number(),
+        }),
+    });
+    Ok(Advance { next: end, charges })
 }
 
 /// A block with two bodies, of `lengths` instructions.
 #[cycle(walk)]
-fn branches(
+fn branches<W: Watch>(
     alloc: Global,
     code: &SizedCode<'_>,
     variables: &mut Stack<Cut>,
@@ -165,6 +185,7 @@ fn branches(
     place: Place,
     instr: Instr,
     lengths: (usize, usize),
+    watch: &mut W,
 ) -> Result<Advance, AllocError>
     requires code { IsSizedCode code.now }
     requires place { IsRange code.now place }
@@ -176,15 +197,19 @@ fn branches(
     ensures advances { IfOk result (λ a. Advances code.now variables.old place operands.old a
         operands.new) }
 {
+    watch.open(place.at);
     let at = place.at + 1;
     let middle = at + lengths.0;
     let end = middle + lengths.1;
-    let first = sequence(alloc, code, variables, Place { at, end: middle })?;
-    let second = sequence(alloc, code, variables, Place { at: middle, end })?;
+    let first = sequence(alloc, code, variables, Place { at, end: middle }, watch)?;
+    let second = sequence(alloc, code, variables, Place { at: middle, end }, watch)?;
     take_operands(operands, instr);
     put(operands, first.length.max(second.length))?;
-    Ok(Advance {
-        next: end,
-        charges: branch_charges(first.charges, second.charges),
-    })
+    let charges = branch_charges(first.charges, second.charges);
+    watch.pass(Passed {
+        at: place.at,
+        charges: charges.number(),
+        turns: None,
+    });
+    Ok(Advance { next: end, charges })
 }

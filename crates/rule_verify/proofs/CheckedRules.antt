@@ -37,34 +37,6 @@ use Rattle.rule_verify.specs.UnitRules.{empty_rule, unit_rule, context_class, ch
 use Rattle.rule_verify.specs.Walk.{surroundings_of, AreSymbols, kinds_from, depths_from, Walked}
 use Rattle.rule_verify.proofs.Stretches.{code_tree_count}
 
--- ---- the symbols of code
-
-module _ (texts : ℕ) (u : Content) where
-  scalar_there : (k : WrittenScalar) → ScalarKindFits u.symbols k → AreSymbols u (scalar_symbols k)
-  scalar_there (scalars.Enumeration s) h = (is_symbol_of-lt tags.Enumeration u.symbols s.0 h, tt)
-  scalar_there (scalars.Class s) h = (is_symbol_of-lt tags.Class u.symbols s.0 h, tt)
-  scalar_there k h = tt
-
-  field_there : (f : FieldValue) → FieldFits texts u.symbols f → AreSymbols u (field_symbols f)
-  field_there (symbol_field tag n) h = (is_symbol_of-lt tag u.symbols n h, tt)
-  field_there (scalar_field k) h = scalar_there k h
-  field_there (collection_field c k) h = scalar_there k h
-  field_there (kind_field (kinds.Scalar k)) h = scalar_there k h
-  field_there (kind_field (kinds.Collection c k)) h = scalar_there k h
-  field_there f h = tt
-
-  both_there : (ns ms : List ℕ) → AreSymbols u ns → AreSymbols u ms → AreSymbols u (ns ++ ms)
-  both_there [] ms h g = g
-  both_there (n ∷ ns) ms h g = (h.0, both_there ns ms h.1 g)
-
-  fields_there : (fs : List FieldValue) → AllByRecursion (FieldFits texts u.symbols) fs → AreSymbols u (fields_symbols fs)
-  fields_there [] h = tt
-  fields_there (f ∷ fs) h = both_there (field_symbols f) (fields_symbols fs) (field_there f h.0) (fields_there fs h.1)
-
--- the symbols of instructions that fit a unit are there
-pub symbols_there : (u : Content) (v : Content) → u ≡ v → (code : List Instr) → All (InstrFits (length u.texts) u.symbols) code → All (λ i. AreSymbols v (symbols_used i)) code
-symbols_there u v same code h i d lt = subst (λ (w : Content). AreSymbols w (symbols_used (get_or code i d))) same (fields_there (length u.texts) u (row_of (get_or code i d)).fields (h i d lt))
-
 -- ---- one rule
 
 -- the rule of an index is the one that the unit has there

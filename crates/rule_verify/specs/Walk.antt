@@ -1,13 +1,11 @@
 -- The verifier's walk: its code and how it stands to the definitions.
-use Rattle.std.specs.Prelude.{◌≡◌, ℕ, ◌+◌, ◌<◌, ◌≤◌, List, [], ◌∷◌, length, Bool, true, false, Option, Some, None, Result, Ok, Err, slice_range, All}
-use Rattle.std.specs.List.{AllByRecursion}
+use Rattle.std.specs.Prelude.{◌≡◌, ℕ, ◌+◌, ◌<◌, ◌≤◌, List, [], ◌∷◌, length, Bool, true, false, Option, Some, None, Result, Ok, Err, slice_range}
 use Rattle.imkl_model.specs.ClassModel.{Model}
 use Rattle.imkl_model.specs.WellFormed.{IsClassModel}
 use Rattle.ocl_base.specs.Steps.{◌>>=◌, Fails}
 use Rattle.ocl_kinds.specs.declared.kind.Kind.{Kind}
 use Rattle.rule_code.specs.declared.symbol.SymbolNumber.{SymbolNumber}
 use Rattle.rule_code.specs.declared.instruction.Instr.{Instr}
-use Rattle.rule_code.specs.Content.{Content}
 use Rattle.rule_verify.specs.declared.fault.VerifyFault.{VerifyFault}
 use Rattle.rule_verify.specs.declared.code.RuleCode.{RuleCode}
 use Rattle.rule_verify.specs.declared.pattern.Pattern.{Pattern}
@@ -20,7 +18,7 @@ use Rattle.rule_verify.specs.declared.shape.Shape.TheVariants.{Single, OneBody, 
 use Rattle.rule_verify.specs.CodeTree.{code_tree}
 use Rattle.rule_verify.specs.CodeDepths.{deeper, deepest}
 use Rattle.rule_verify.specs.Faults.{verify_fault}
-use Rattle.rule_verify.specs.InstrKinds.{Surroundings, surroundings, symbols_used, block_operand, ends_with}
+use Rattle.rule_verify.specs.InstrKinds.{Surroundings, surroundings, block_operand, ends_with}
 use Rattle.rule_verify.specs.declared.limits.TheConstants.{MAX_BLOCKS, MAX_OPERANDS}
 use Rattle.rule_verify.specs.KindRules.{InstrFault, Enclosing, taken, ended_with, kinds_after}
 use Rattle.rule_verify.specs.Known.{AreKnownKinds}
@@ -43,10 +41,6 @@ operand_list (Three p q r) = p ∷ q ∷ r ∷ []
 abbrev pub surroundings_of : RuleCode → Surroundings
 surroundings_of r = surroundings r.resolved.now.model r.resolved.now.unit r.index r.context
 
--- they are numbers of the unit's symbols
-abbrev pub AreSymbols : Content → List ℕ → Type 0
-AreSymbols u ns = AllByRecursion (λ n. n < length u.symbols) ns
-
 -- the operands are taken, if each is what it may be
 abbrev pub AreTaken : Model → List Pattern → List Kind → Bool → List Kind → Type 0
 AreTaken m ws old true new = (all_match m ws old ≡ true) × (new ≡ below ws old)
@@ -59,11 +53,10 @@ Leads (Err e) given later = Fails verify_fault e given
 
 -- ---- places
 
--- the context class is one of the class model, and what the code uses are symbols of the unit
+-- the context class is one of the class model
 pub record IsRuleCode (r : RuleCode) : Type 0 where
   pub model : IsClassModel r.resolved.now.model
   pub context : r.context < length r.resolved.now.model.classes
-  pub symbols : All (λ i. AreSymbols r.resolved.now.unit (symbols_used i)) r.code.now
 
 -- an instruction of the code or the end of its sequence, with operands and variables within the limits
 pub record IsPlace (r : RuleCode) (variables : List Kind) (p : Place) (operands : List Kind) : Type 0 where

@@ -102,7 +102,6 @@ impl<'m> Accepted<'m> {
 
     /// What a symbol names; none where the class model doesn't have it. It has what each used symbol names.
     pub fn named(&self, symbol: SymbolNumber) -> Option<Named>
-        requires { symbol.0 < length self.now.unit.symbols }
         ensures name { result ≡ named_at self.now.model self.now.unit symbol.0 }
         ensures known { IfSome result (IsKnownName self.now.model) }
     {

@@ -3,7 +3,7 @@
 ghost use Rattle.std.specs.Prelude.{◌≡◌, ◌++◌, drop, OnOk};
 ghost use Rattle.rule_verify.specs.CodeTree.{block_of, shape_of};
 ghost use Rattle.rule_verify.specs.InstrKinds as spec;
-ghost use Rattle.rule_verify.specs.Walk.{surroundings_of, AreSymbols};
+ghost use Rattle.rule_verify.specs.Walk.{surroundings_of};
 
 use crate::block_instr::BlockInstr;
 use crate::code::RuleCode;
@@ -115,7 +115,6 @@ pub(crate) fn bind(
     instr: Instr,
     operand: &Kind,
 ) -> Result<(), AllocError>
-    requires { AreSymbols rule.now.resolved.now.unit (spec.symbols_used instr) }
     ensures { OnOk result (variables.new ≡
         spec.binds (surroundings_of rule.now) instr operand.now ++ variables.old) }
 {
@@ -162,7 +161,6 @@ pub(crate) fn unbind(variables: &mut Stack<Kind>, instr: Instr)
 
 /// What the bodies of a block end with.
 pub(crate) fn ends_with(rule: &RuleCode<'_, '_>, instr: Instr) -> Pattern
-    requires { AreSymbols rule.now.resolved.now.unit (spec.symbols_used instr) }
     ensures { result ≡ spec.ends_with (surroundings_of rule.now) instr }
 {
     let boolean = Pattern::Fitting(Kind::Scalar(ScalarKind::Boolean));
@@ -181,7 +179,6 @@ pub(crate) fn ends_with(rule: &RuleCode<'_, '_>, instr: Instr) -> Pattern
 
 /// What a block gives, by the operand that it takes and by what its body ended with.
 pub(crate) fn yields(rule: &RuleCode<'_, '_>, instr: Instr, operand: &Kind, ended: &Kind) -> Kind
-    requires { AreSymbols rule.now.resolved.now.unit (spec.symbols_used instr) }
     ensures { result ≡ spec.yields (surroundings_of rule.now) instr operand.now ended.now }
 {
     let boolean = Kind::Scalar(ScalarKind::Boolean);

@@ -3,7 +3,7 @@
 ghost use Rattle.std.specs.Prelude.{◌≡◌, ◌<◌, length};
 ghost use Rattle.rule_verify.specs.InstrKinds as spec;
 ghost use Rattle.rule_verify.specs.Symbols.{named_at};
-ghost use Rattle.rule_verify.specs.Walk.{surroundings_of, AreSymbols};
+ghost use Rattle.rule_verify.specs.Walk.{surroundings_of};
 
 use crate::code::RuleCode;
 use crate::named::Named;
@@ -12,7 +12,6 @@ use rule_code::{SymbolNumber, WrittenKind, WrittenScalar};
 
 /// The kind of the objects of the class that a symbol names.
 pub(crate) fn class_kind(rule: &RuleCode<'_, '_>, symbol: SymbolNumber) -> ScalarKind
-    requires { symbol.0 < length rule.now.resolved.now.unit.symbols }
     ensures { result ≡ spec.class_kind (named_at rule.now.resolved.now.model
         rule.now.resolved.now.unit symbol.0) }
 {
@@ -27,7 +26,6 @@ pub(crate) fn class_kind(rule: &RuleCode<'_, '_>, symbol: SymbolNumber) -> Scala
 
 /// The kind of the literals of the enumeration that a symbol names.
 fn enumeration_kind(rule: &RuleCode<'_, '_>, symbol: SymbolNumber) -> ScalarKind
-    requires { symbol.0 < length rule.now.resolved.now.unit.symbols }
     ensures { result ≡ spec.enumeration_kind (named_at rule.now.resolved.now.model
         rule.now.resolved.now.unit symbol.0) }
 {
@@ -42,7 +40,6 @@ fn enumeration_kind(rule: &RuleCode<'_, '_>, symbol: SymbolNumber) -> ScalarKind
 
 /// The kind of the literal that a symbol names.
 pub(crate) fn literal_kind(rule: &RuleCode<'_, '_>, symbol: SymbolNumber) -> ScalarKind
-    requires { symbol.0 < length rule.now.resolved.now.unit.symbols }
     ensures { result ≡ spec.literal_kind (named_at rule.now.resolved.now.model
         rule.now.resolved.now.unit symbol.0) }
 {
@@ -57,7 +54,6 @@ pub(crate) fn literal_kind(rule: &RuleCode<'_, '_>, symbol: SymbolNumber) -> Sca
 
 /// The kind of the objects of the class that a feature's symbol names.
 pub(crate) fn owner_kind(rule: &RuleCode<'_, '_>, symbol: SymbolNumber) -> ScalarKind
-    requires { symbol.0 < length rule.now.resolved.now.unit.symbols }
     ensures { result ≡ spec.owner_kind (named_at rule.now.resolved.now.model
         rule.now.resolved.now.unit symbol.0) }
 {
@@ -72,7 +68,6 @@ pub(crate) fn owner_kind(rule: &RuleCode<'_, '_>, symbol: SymbolNumber) -> Scala
 
 /// The kind of the feature that a symbol names.
 pub(crate) fn feature_read(rule: &RuleCode<'_, '_>, symbol: SymbolNumber) -> Kind
-    requires { symbol.0 < length rule.now.resolved.now.unit.symbols }
     ensures { result ≡ spec.feature_read rule.now.resolved.now.model
         (named_at rule.now.resolved.now.model rule.now.resolved.now.unit symbol.0) }
 {
@@ -87,7 +82,6 @@ pub(crate) fn feature_read(rule: &RuleCode<'_, '_>, symbol: SymbolNumber) -> Kin
 
 /// The kind that the kind of a single value in a code file means.
 pub(crate) fn scalar_meant(rule: &RuleCode<'_, '_>, kind: WrittenScalar) -> ScalarKind
-    requires { AreSymbols rule.now.resolved.now.unit (spec.scalar_symbols kind) }
     ensures { result ≡ spec.scalar_meant (surroundings_of rule.now) kind }
 {
     match kind {
@@ -103,7 +97,6 @@ pub(crate) fn scalar_meant(rule: &RuleCode<'_, '_>, kind: WrittenScalar) -> Scal
 
 /// The kind that a kind of a code file means.
 pub(crate) fn kind_meant(rule: &RuleCode<'_, '_>, kind: WrittenKind) -> Kind
-    requires { AreSymbols rule.now.resolved.now.unit (spec.kind_symbols kind) }
     ensures { result ≡ spec.kind_meant (surroundings_of rule.now) kind }
 {
     match kind {

@@ -4,7 +4,7 @@ ghost use Rattle.std.specs.Prelude.{◌≡◌, length};
 ghost use Rattle.rule_verify.specs.CodeTree.{block_of};
 ghost use Rattle.rule_verify.specs.InstrKinds as spec;
 ghost use Rattle.rule_verify.specs.InstrKinds.{Surroundings};
-ghost use Rattle.rule_verify.specs.Walk.{surroundings_of, operand_list, AreSymbols};
+ghost use Rattle.rule_verify.specs.Walk.{surroundings_of, operand_list};
 
 use crate::block_instr::BlockInstr;
 use crate::blocks::block_of;
@@ -63,7 +63,6 @@ fn fixed_operands(instr: Instr) -> Operands
 
 /// What the operands of a block may be; where the instruction is none, they depend on none of its fields.
 fn block_operands(rule: &RuleCode<'_, '_>, instr: Instr) -> Operands
-    requires { AreSymbols rule.now.resolved.now.unit (spec.symbols_used instr) }
     ensures { operand_list result ≡ spec.block_takes (surroundings_of rule.now) (block_of instr)
         (spec.fixed_operands instr) }
 {
@@ -84,7 +83,6 @@ fn block_operands(rule: &RuleCode<'_, '_>, instr: Instr) -> Operands
 
 /// What the operands of an instruction may be, the topmost first.
 pub(crate) fn operands_of(rule: &RuleCode<'_, '_>, instr: Instr) -> Operands
-    requires { AreSymbols rule.now.resolved.now.unit (spec.symbols_used instr) }
     ensures { operand_list result ≡ spec.operands_of (surroundings_of rule.now) instr }
 {
     match instr {

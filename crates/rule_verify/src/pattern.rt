@@ -24,7 +24,7 @@ pub enum Pattern {
 
 /// What the operands of an instruction may be, the topmost first.
 #[derive(Clone, Copy)]
-pub(crate) enum Operands {
+pub enum Operands {
     /// It takes none.
     Nothing,
     /// It takes one.

@@ -17,9 +17,10 @@ pub(crate) struct Place {
     pub(crate) open_blocks: usize,
 }
 
-/// What changes as the walk goes on: the variables, the newest on top, and how deep the code went.
+/// What changes as the walk goes on: the variables, the newest on top, how deep the code went, and who watches.
 #[derive(Drop)]
-pub(crate) struct Walk {
+pub(crate) struct Walk<'w, W> {
     pub(crate) variables: Stack<Kind>,
     pub(crate) depths: Depths,
+    pub(crate) watch: &'w mut W,
 }

@@ -1,6 +1,6 @@
 //! Units whose symbols have been looked up in a class model.
 
-ghost use Rattle.std.specs.Prelude.{◌≡◌, ◌<◌, length, map, IfOk, IfErr, IfSome, Some};
+ghost use Rattle.std.specs.Prelude.{◌≡◌, ◌<◌, length, map, IfOk, IfErr, IfSome};
 ghost use Rattle.imkl_model.specs.ClassModel.{belongs};
 ghost use Rattle.rule_code.specs.View.{content};
 ghost use Rattle.rule_code.specs.WellFormed.{SymbolFits};
@@ -15,7 +15,7 @@ use std::marker::Model;
 
 /// A unit, with what each of its symbols names in a class model.
 #[derive(Drop)]
-pub(crate) struct Resolved<'m> {
+pub struct Resolved<'m> {
     model: &'m ClassModel,
     unit: Unit,
     names: Vec<Option<Named>>,
@@ -82,7 +82,7 @@ fn names_of(
 }
 
 /// Looks up what each symbol of a unit names, each once. Where memory runs out the unit comes back.
-pub(crate) fn resolve<'m>(
+pub fn resolve<'m>(
     alloc: Global,
     model: &'m ClassModel,
     unit: Unit,
@@ -99,7 +99,7 @@ pub(crate) fn resolve<'m>(
 
 impl<'m> Resolved<'m> {
     /// The unit again.
-    pub(crate) fn into_unit(self) -> Unit
+    pub fn into_unit(self) -> Unit
         ensures { content result ≡ self.entry.unit }
     {
         let Resolved {
@@ -111,31 +111,32 @@ impl<'m> Resolved<'m> {
     }
 
     /// The class model.
-    pub(crate) fn model(&self) -> &'m ClassModel
+    pub fn model(&self) -> &'m ClassModel
         ensures { result.now ≡ self.now.model }
     {
         self.model
     }
 
     /// The unit.
-    pub(crate) fn unit(&self) -> &Unit
+    pub fn unit(&self) -> &Unit
         ensures { content result.now ≡ self.now.unit }
     {
         &self.unit
     }
 
     /// What a symbol names, if it is there.
-    pub(crate) fn named(&self, symbol: SymbolNumber) -> Option<Named>
-        requires { symbol.0 < length self.now.unit.symbols }
+    pub fn named(&self, symbol: SymbolNumber) -> Option<Named>
         ensures name { result ≡ named_at self.now.model self.now.unit symbol.0 }
         ensures known { IfSome result (IsKnownName self.now.model) }
     {
-        self.names[usize::from(symbol.0)]
+        match self.names.get(usize::from(symbol.0)) {
+            Some(name) => *name,
+            None => None,
+        }
     }
 
     /// The class that a symbol names, if it names one that is there.
-    pub(crate) fn class(&self, symbol: SymbolNumber) -> Option<ClassNo>
-        requires { symbol.0 < length self.now.unit.symbols }
+    pub fn class(&self, symbol: SymbolNumber) -> Option<ClassNo>
         ensures class { result ≡ class_in (named_at self.now.model self.now.unit symbol.0) }
         ensures in_range { IfSome result (λ c. c < length self.now.model.classes) }
     {

@@ -3,7 +3,7 @@
 ghost use Rattle.std.specs.Prelude.{◌≡◌, List};
 ghost use Rattle.ocl_kinds.specs.declared.kind.Kind.{Kind};
 ghost use Rattle.rule_verify.specs.InstrKinds as spec;
-ghost use Rattle.rule_verify.specs.Walk.{surroundings_of, AreSymbols};
+ghost use Rattle.rule_verify.specs.Walk.{surroundings_of};
 
 use crate::code::RuleCode;
 use crate::meant::{class_kind, feature_read, literal_kind, scalar_meant};
@@ -52,7 +52,6 @@ pub(crate) fn result_kind(
     instr: Instr,
     topmost: &Kind,
 ) -> Kind
-    requires { AreSymbols rule.now.resolved.now.unit (spec.symbols_used instr) }
     ensures { (operands : List Kind) → topmost.now ≡ spec.topmost operands → result ≡
         spec.result_kind (surroundings_of rule.now) variables.now instr operands }
 {

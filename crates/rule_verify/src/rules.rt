@@ -13,12 +13,18 @@ use crate::place::{Place, Walk};
 use crate::resolved::Resolved;
 use crate::taking::put;
 use crate::walk::{ended_with, sequence};
+use crate::watch::{Unwatched, Watch};
 use ocl_base::Stack;
 use ocl_kinds::{Kind, ScalarKind};
 use std::alloc::Global;
 
-/// Checks a rule: how deep it goes, or its first fault.
-fn check_rule(alloc: Global, resolved: &Resolved<'_>, index: usize) -> Result<Depths, VerifyFault>
+/// Checks a rule: how deep it goes, or its first fault. The walk is watched, and ends at the fault.
+pub fn check_rule<W: Watch>(
+    alloc: Global,
+    resolved: &Resolved<'_>,
+    index: usize,
+    watch: &mut W,
+) -> Result<Depths, VerifyFault>
     requires { index < length resolved.now.unit.rules }
     ensures checked { Gives verify_fault (λ _. tt) result (spec.check_rule resolved.now.model
         resolved.now.unit index (spec.unit_rule resolved.now.unit index)) }
@@ -47,6 +53,7 @@ fn check_rule(alloc: Global, resolved: &Resolved<'_>, index: usize) -> Result<De
             variables: 0,
             blocks: 0,
         },
+        watch,
     };
     put(
         &mut walk.variables,
@@ -76,7 +83,7 @@ pub(crate) fn check_rules(
 {
     let mut depths = Vec::new(alloc);
     for index in 0..resolved.unit().rules.len() {
-        let reached = check_rule(alloc, resolved, index)?;
+        let reached = check_rule(alloc, resolved, index, &mut Unwatched)?;
         depths.push(reached)?;
     }
     Ok(depths)

@@ -2,7 +2,7 @@
 
 ghost use Rattle.std.specs.Prelude.{◌≡◌};
 ghost use Rattle.rule_verify.specs.InstrKinds as spec;
-ghost use Rattle.rule_verify.specs.Walk.{symbol_list, surroundings_of, AreSymbols};
+ghost use Rattle.rule_verify.specs.Walk.{symbol_list, surroundings_of};
 
 use crate::code::RuleCode;
 use rule_code::{Instr, SymbolNumber, WrittenKind, WrittenScalar};
@@ -29,7 +29,7 @@ fn symbol_of_kind(kind: WrittenKind) -> Option<SymbolNumber>
 }
 
 /// The symbol that an instruction uses, if it uses one.
-pub(crate) fn symbol_used(instr: Instr) -> Option<SymbolNumber>
+pub fn symbol_used(instr: Instr) -> Option<SymbolNumber>
     ensures { symbol_list result ≡ spec.symbols_used instr }
 {
     match instr {
@@ -61,7 +61,6 @@ pub(crate) fn symbol_used(instr: Instr) -> Option<SymbolNumber>
 
 /// Whether what an instruction names is in the class model.
 pub(crate) fn has_names(rule: &RuleCode<'_, '_>, instr: Instr) -> bool
-    requires { AreSymbols rule.now.resolved.now.unit (spec.symbols_used instr) }
     ensures { result ≡ spec.has_names (surroundings_of rule.now) instr }
 {
     match symbol_used(instr) {

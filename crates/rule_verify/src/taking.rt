@@ -6,7 +6,7 @@ ghost use Rattle.rule_verify.specs.InstrKinds as spec;
 ghost use Rattle.rule_verify.specs.KindRules.{taken};
 ghost use Rattle.rule_verify.specs.Known.{AreKnownKinds};
 ghost use Rattle.rule_verify.specs.Patterns.{are_there, ArePatterns};
-ghost use Rattle.rule_verify.specs.Walk.{surroundings_of, operand_list, AreSymbols, AreTaken, Leads, IsRuleCode};
+ghost use Rattle.rule_verify.specs.Walk.{surroundings_of, operand_list, AreTaken, Leads, IsRuleCode};
 
 use crate::code::RuleCode;
 use crate::fault::{VerifyFault, VerifyFlaw};
@@ -84,7 +84,6 @@ pub(crate) fn take(
     instr: Instr,
     at: usize,
 ) -> Result<(), VerifyFault>
-    requires symbols { AreSymbols rule.now.resolved.now.unit (spec.symbols_used instr) }
     requires operands { AreKnownKinds rule.now.resolved.now.model operands.old }
     ensures taken { Leads result
         (taken (surroundings_of rule.now) variables.now instr at operands.old)

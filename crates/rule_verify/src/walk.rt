@@ -7,12 +7,12 @@ ghost use Rattle.ocl_kinds.specs.Kinds.{IsKindOf};
 ghost use Rattle.rule_verify.specs.CodeTree.{shape_of};
 ghost use Rattle.rule_verify.specs.CodeDepths as depth;
 ghost use Rattle.rule_verify.specs.Faults.{verify_fault};
-ghost use Rattle.rule_verify.specs.InstrKinds.{symbols_used, ends_with};
+ghost use Rattle.rule_verify.specs.InstrKinds.{ends_with};
 ghost use Rattle.rule_verify.specs.KindRules as spec;
 ghost use Rattle.rule_verify.specs.Known.{AreKnownKinds};
 ghost use Rattle.rule_verify.specs.Patterns.{IsPatternOf};
 ghost use Rattle.rule_verify.specs.Walk as walks;
-ghost use Rattle.rule_verify.specs.Walk.{surroundings_of, AreSymbols, IsRuleCode, IsPlace, kinds_from, depth_at, Goes, IsBlock, Opens, body_ends, Walked};
+ghost use Rattle.rule_verify.specs.Walk.{surroundings_of, IsRuleCode, IsPlace, kinds_from, depth_at, Goes, IsBlock, Opens, body_ends, Walked};
 
 use crate::blocks::{bind, block_operand, ends_with, shape_of, unbind, yields};
 use crate::code::RuleCode;
@@ -24,6 +24,7 @@ use crate::place::{Place, Walk};
 use crate::results::result_kind;
 use crate::shape::Shape;
 use crate::taking::{put, take, topmost};
+use crate::watch::{Reached, Watch};
 use ocl_base::Stack;
 use ocl_kinds::{Kind, elements_kind};
 use rule_code::Instr;
@@ -40,8 +41,8 @@ fn deeper(depths: Depths, others: Depths) -> Depths
     }
 }
 
-/// Notes how deep a place is.
-fn reach(walk: &mut Walk, place: Place, operands: &Stack<Kind>)
+/// Notes how deep a place is, and has it watched.
+fn reach<W: Watch>(walk: &mut Walk<'_, W>, place: Place, operands: &Stack<Kind>)
     requires { place.covered + length operands.now ≤ MAX_OPERANDS }
     ensures variables { walk.new.variables ≡ walk.old.variables }
     ensures depths { walk.new.depths ≡ depth.deeper walk.old.depths
@@ -53,6 +54,12 @@ fn reach(walk: &mut Walk, place: Place, operands: &Stack<Kind>)
         blocks: place.open_blocks,
     };
     walk.depths = deeper(walk.depths, here);
+    walk.watch.reach(Reached {
+        at: place.at,
+        end: place.end,
+        operands,
+        variables: &walk.variables,
+    });
 }
 
 /// What the operands at the end of a body or a rule come to: the one value that it ends with.
@@ -80,9 +87,9 @@ pub(crate) fn ended_with(
 }
 
 /// An instruction without a body.
-fn plain(
+fn plain<W: Watch>(
     rule: &RuleCode<'_, '_>,
-    walk: &mut Walk,
+    walk: &mut Walk<'_, W>,
     place: Place,
     operands: &mut Stack<Kind>,
     instr: Instr,
@@ -92,7 +99,6 @@ fn plain(
     requires inside { place.at < place.end }
     requires here { slice_get rule.now.code.now place.at ≡ Some instr }
     requires shape { shape_of instr ≡ Shape.Single }
-    requires symbols { AreSymbols rule.now.resolved.now.unit (symbols_used instr) }
     ensures { Goes rule.now walk.old.variables walk.old.depths place operands.old result
         walk.new.variables walk.new.depths operands.new }
 {
@@ -110,9 +116,9 @@ fn plain(
 }
 
 /// Opens a block whose bodies have `length` instructions: takes its operand.
-fn open_block(
+fn open_block<W: Watch>(
     rule: &RuleCode<'_, '_>,
-    walk: &mut Walk,
+    walk: &mut Walk<'_, W>,
     place: Place,
     operands: &mut Stack<Kind>,
     instr: Instr,
@@ -122,7 +128,6 @@ fn open_block(
     requires inside { place.at < place.end }
     requires here { slice_get rule.now.code.now place.at ≡ Some instr }
     requires shape { IsBlock (shape_of instr) length }
-    requires symbols { AreSymbols rule.now.resolved.now.unit (symbols_used instr) }
     ensures { Opens rule.now walk.old.variables walk.old.depths place operands.old instr length
         result walk.new.variables walk.new.depths operands.new }
 {
@@ -154,10 +159,10 @@ fn inside(place: Place, left: &Stack<Kind>, at: usize, end: usize) -> Place
 
 /// The operands at the end of the sequence that begins at a place, with none before it.
 #[cycle(walk)]
-pub(crate) fn sequence(
+pub(crate) fn sequence<W: Watch>(
     alloc: Global,
     rule: &RuleCode<'_, '_>,
-    walk: &mut Walk,
+    walk: &mut Walk<'_, W>,
     place: Place,
 ) -> Result<Stack<Kind>, VerifyFault>
     requires rule { IsRuleCode rule.now }
@@ -179,10 +184,10 @@ pub(crate) fn sequence(
 
 /// An instruction with its bodies: the index after them.
 #[cycle(walk)]
-fn step(
+fn step<W: Watch>(
     alloc: Global,
     rule: &RuleCode<'_, '_>,
-    walk: &mut Walk,
+    walk: &mut Walk<'_, W>,
     place: Place,
     operands: &mut Stack<Kind>,
 ) -> Result<usize, VerifyFault>
@@ -204,17 +209,16 @@ fn step(
 
 /// A body of a block at an index: what it ends with.
 #[cycle(walk)]
-fn body(
+fn body<W: Watch>(
     alloc: Global,
     rule: &RuleCode<'_, '_>,
-    walk: &mut Walk,
+    walk: &mut Walk<'_, W>,
     place: Place,
     instr: Instr,
     at: usize,
 ) -> Result<Kind, VerifyFault>
     requires rule { IsRuleCode rule.now }
     requires place { IsPlace rule.now walk.old.variables place [] }
-    requires symbols { AreSymbols rule.now.resolved.now.unit (symbols_used instr) }
     ensures gives { Gives verify_fault (λ k. k) result
         (body_ends rule.now walk.old.variables place instr at) }
     ensures walked { OnOk result (Walked rule.now walk.old.variables walk.old.depths place
@@ -227,10 +231,10 @@ fn body(
 
 /// A block with one body of `length` instructions, which has more variables.
 #[cycle(walk)]
-fn block(
+fn block<W: Watch>(
     alloc: Global,
     rule: &RuleCode<'_, '_>,
-    walk: &mut Walk,
+    walk: &mut Walk<'_, W>,
     place: Place,
     operands: &mut Stack<Kind>,
     instr: Instr,
@@ -241,7 +245,6 @@ fn block(
     requires inside { place.at < place.end }
     requires here { slice_get rule.now.code.now place.at ≡ Some instr }
     requires shape { shape_of instr ≡ Shape.OneBody length }
-    requires symbols { AreSymbols rule.now.resolved.now.unit (symbols_used instr) }
     ensures { Goes rule.now walk.old.variables walk.old.depths place operands.old result
         walk.new.variables walk.new.depths operands.new }
 {
@@ -258,10 +261,10 @@ fn block(
 
 /// A block with two bodies, of `lengths` instructions.
 #[cycle(walk)]
-fn branches(
+fn branches<W: Watch>(
     alloc: Global,
     rule: &RuleCode<'_, '_>,
-    walk: &mut Walk,
+    walk: &mut Walk<'_, W>,
     place: Place,
     operands: &mut Stack<Kind>,
     instr: Instr,
@@ -272,7 +275,6 @@ fn branches(
     requires inside { place.at < place.end }
     requires here { slice_get rule.now.code.now place.at ≡ Some instr }
     requires shape { shape_of instr ≡ Shape.TwoBodies lengths.0 lengths.1 }
-    requires symbols { AreSymbols rule.now.resolved.now.unit (symbols_used instr) }
     ensures { Goes rule.now walk.old.variables walk.old.depths place operands.old result
         walk.new.variables walk.new.depths operands.new }
 {

@@ -18,9 +18,9 @@ block-returns-clause-advances t c =
     record {
       forward = omega arith;
       within = omega (arith, c.requires.nests);
-      cost = block_advances code c.args.variables.now c.args.place c.args.instr c.requires.inside c.requires.place.within c.requires.here c.args.operands.now c.args.length c.requires.shape c.requires.nests yielded c.block_charges.result (at + c.args.length) c.bind.new.variables c.put.new.lengths (record { at = at; end = at + c.args.length }) total refl refl refl
+      cost = block_advances code c.args.variables.now c.args.place c.args.instr c.requires.inside c.requires.place.within c.requires.here c.args.operands.now c.args.length c.requires.shape c.requires.nests yielded c.block_charges-charges.result (at + c.args.length) c.bind.new.variables c.put.new.lengths (record { at = at; end = at + c.args.length }) total refl refl refl
           (subst (λ l. SameLengths c.bind.new.variables (spec.lengths_bound_by c.args.instr l ++ c.args.variables.now)) source c.in_ok-bind.ensures.bound) c.in_ok-body.ensures.totals
-          (subst (λ l. SameCut c.block_charges.result (spec.block_charges c.args.instr l total.charges total.length)) source (subst (λ b. SameCut c.block_charges.result (spec.block_body_charges b c.block_length-source.result total.charges (spec.block_taking_charge b total.length) (spec.block_ending_charge b c.block_length-source.result))) c.block_of-opened.ensures c.block_charges.ensures))
+          (subst (λ l. SameCut c.block_charges-charges.result (spec.block_charges c.args.instr l total.charges total.length)) source (subst (λ b. SameCut c.block_charges-charges.result (spec.block_body_charges b c.block_length-source.result total.charges (spec.block_taking_charge b total.length) (spec.block_ending_charge b c.block_length-source.result))) c.block_of-opened.ensures c.block_charges-charges.ensures))
           (subst (λ l. SameCut yielded (spec.length_yielded c.args.instr l total.length)) source (subst (λ b. SameCut yielded (spec.block_yields_length b c.block_length-source.result total.length)) c.block_of-opened.ensures c.length_yielded.ensures))
           (c.in_ok-put.ensures ∙ ap (λ l. yielded ∷ l) (c.take_operands.ensures (surroundings_of_code code)));
     }
@@ -35,8 +35,8 @@ branches-returns-clause-advances t c =
     record {
       forward = omega arith;
       within = omega (arith, c.requires.nests);
-      cost = branches_advance code c.args.variables.now c.args.place c.args.instr c.requires.inside c.requires.place.within c.requires.here c.args.operands.now c.args.lengths.0 c.args.lengths.1 c.requires.shape c.requires.nests c.max.result c.branch_charges.result end c.put.new.lengths (record { at = at; end = middle }) (record { at = middle; end = end }) c.in_ok-first.first c.in_ok-second.second refl refl refl refl refl
-          c.in_ok-first.ensures.totals (subst (λ vs. Totals code vs (record { at = middle; end = end }) c.in_ok-second.second) c.in_ok-first.ensures.kept c.in_ok-second.ensures.totals) c.branch_charges.ensures (ap capped c.max.ensures)
+      cost = branches_advance code c.args.variables.now c.args.place c.args.instr c.requires.inside c.requires.place.within c.requires.here c.args.operands.now c.args.lengths.0 c.args.lengths.1 c.requires.shape c.requires.nests c.max.result c.branch_charges-charges.result end c.put.new.lengths (record { at = at; end = middle }) (record { at = middle; end = end }) c.in_ok-first.first c.in_ok-second.second refl refl refl refl refl
+          c.in_ok-first.ensures.totals (subst (λ vs. Totals code vs (record { at = middle; end = end }) c.in_ok-second.second) c.in_ok-first.ensures.kept c.in_ok-second.ensures.totals) c.branch_charges-charges.ensures (ap capped c.max.ensures)
           (c.in_ok-put.ensures ∙ ap (λ l. c.max.result ∷ l) (c.take_operands.ensures (surroundings_of_code code)));
     }
 

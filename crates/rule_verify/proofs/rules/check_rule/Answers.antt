@@ -1,24 +1,17 @@
 use Rattle.std.proofs.Common.{List, ◌∷◌, length, refl, sym, subst, ap, ◌∙◌}
 use Rattle.std.proofs.lemmas.Result.{err_from_is_err_and}
-use Rattle.std.specs.Prelude.{All}
 use Rattle.ocl_kinds.specs.declared.kind.Kind.{Kind}
 use Rattle.ocl_kinds.specs.declared.kind.Kind.TheVariants.{Scalar}
 use Rattle.ocl_kinds.specs.declared.kind.ScalarKind.TheVariants as element
-use Rattle.rule_code.specs.declared.instruction.Instr.{Instr}
 use Rattle.rule_code.specs.Content.{rule_content}
 use Rattle.rule_code.specs.View.{content}
 use Rattle.rule_verify.specs.declared.code.RuleCode.{RuleCode}
-use Rattle.rule_verify.specs.InstrKinds.{symbols_used}
-use Rattle.rule_verify.specs.Walk.{AreSymbols}
-use Rattle.rule_verify.proofs.CheckedRules.{symbols_there, code_wrong, end_wrong, rule_passes, rule_goes_deep}
+use Rattle.rule_verify.proofs.CheckedRules.{code_wrong, end_wrong, rule_passes, rule_goes_deep}
 use Rattle.rule_verify.proofs.rules.check_rule.Goals as goal
 
 pub sequence-requires-clause-rule : goal.sequence-requires-clause-rule
 sequence-requires-clause-rule c =
-    let v = c.args.resolved.now.unit in
-    let P : List Instr → Type 0 = λ code. All (λ i. AreSymbols v (symbols_used i)) code in
-    let symbols = symbols_there (content c.unit.result.now) v c.unit.ensures c.rule-rule.result.now.code.items c.rule-rule.ensures.code in
-    record { model = rw (← c.model.ensures) c.well_formed-2.ensures; context = c.in-Some.ensures.in_range; symbols = subst P (sym c.as_slice.ensures.value) symbols }
+    record { model = rw (← c.model.ensures) c.well_formed-2.ensures; context = c.in-Some.ensures.in_range }
 
 pub returns-in_err-operands-clause-checked : goal.returns-in_err-operands-clause-checked
 returns-in_err-operands-clause-checked c =

@@ -33,7 +33,7 @@ block-body-requires t c =
     let place = inner_place r c.args.walk.now.variables c.args.place c.args.operands.now c.args.instr c.requires.inside c.requires.here c.requires.place c.args.walk.now.depths c.open_block.new.walk.depths c.args.length c.in_ok-operand.operand c.open_block.new.walk.variables c.open_block.new.operands o c.bind.new.variables c.inside-inner.result _ _ (omega arith) o.nests known c.inside-inner.ensures in
     let from = ap (λ (q : Place). q.at) c.inside-inner.ensures in
     let to = ap (λ (q : Place). q.end) c.inside-inner.ensures in
-    (omega (arith, from, to, o.nests), (c.requires.rule, (place, c.requires.symbols)))
+    (omega (arith, from, to, o.nests), (c.requires.rule, place))
 
 pub block-returns-in_err-ended : goal.block-returns-in_err-ended
 block-returns-in_err-ended t c =
@@ -87,7 +87,7 @@ branches-body-requires-2 t c =
     let place = inner_place r c.args.walk.now.variables c.args.place c.args.operands.now c.args.instr c.requires.inside c.requires.here c.requires.place c.args.walk.now.depths c.open_block.new.walk.depths (n + m) c.in_ok-operand.operand c.open_block.new.walk.variables c.open_block.new.operands o c.body.new.walk.variables c.inside-second.result _ _ (omega arith) (omega (arith, o.nests)) known c.inside-second.ensures in
     let from = ap (λ (q : Place). q.at) c.inside-second.ensures in
     let to = ap (λ (q : Place). q.end) c.inside-second.ensures in
-    (omega (arith, from, to, o.nests), (c.requires.rule, (place, c.requires.symbols)))
+    (omega (arith, from, to, o.nests), (c.requires.rule, place))
 
 pub branches-returns-in_err-body : goal.branches-returns-in_err-body
 branches-returns-in_err-body t c =

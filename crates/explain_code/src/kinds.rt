@@ -1,11 +1,14 @@
 //! Kinds in words.
 
-use crate::operands::Operands;
 use imkl_model::ClassModel;
 use model_names::{class_name, enumeration_name};
+use ocl_base::Stack;
 use ocl_kinds::{Kind, ScalarKind};
-use rule_verify::Pattern;
+use rule_verify::{Operands, Pattern};
 use std::alloc::{AllocError, Global};
+
+/// The most kinds of a list that are written.
+const MAX_KINDS: usize = 8;
 
 fn scalar_words<'m>(model: &'m ClassModel, kind: &ScalarKind) -> &'m str {
     match kind {
@@ -19,9 +22,6 @@ fn scalar_words<'m>(model: &'m ClassModel, kind: &ScalarKind) -> &'m str {
     }
 }
 
-/// The most kinds of a list that are written.
-const MAX_KINDS: usize = 8;
-
 /// Writes a kind, as `Set(KabelOfLeiding)`.
 fn write_kind(out: &mut String, model: &ClassModel, kind: &Kind) -> Result<(), AllocError> {
     match kind {
@@ -30,6 +30,15 @@ fn write_kind(out: &mut String, model: &ClassModel, kind: &Kind) -> Result<(), A
             let element = scalar_words(model, element);
             write!(out, "{collection:?}({element})")
         }
+    }
+}
+
+/// Writes a comma, unless nothing is written yet.
+fn separate(out: &mut String) -> Result<(), AllocError> {
+    if out.is_empty() {
+        Ok(())
+    } else {
+        out.push_str(", ")
     }
 }
 
@@ -51,36 +60,48 @@ fn write_pattern(
     }
 }
 
-/// The last eight kinds of a list one after another, as `Integer, Set(KabelOfLeiding)`; where there are more, how many are
-/// before them.
-pub fn kind_list(alloc: Global, model: &ClassModel, kinds: &[Kind]) -> Result<String, AllocError> {
+/// The topmost eight kinds of a stack, the topmost last, as `Integer, Set(KabelOfLeiding)`; where there are more, how many
+/// are before them.
+pub(crate) fn kind_list(
+    alloc: Global,
+    model: &ClassModel,
+    kinds: &Stack<Kind>,
+) -> Result<String, AllocError> {
     let mut out = String::new(alloc);
     let more = kinds.len().saturating_sub(MAX_KINDS);
     if more > 0 {
         write!(out, "{more} more")?;
     }
-    for kind in kinds.iter().skip(more) {
-        if !out.is_empty() {
-            out.push_str(", ")?;
+    for number in more..kinds.len() {
+        if let Some(kind) = kinds.from_bottom(number) {
+            separate(&mut out)?;
+            write_kind(&mut out, model, &kind)?;
         }
-        write_kind(&mut out, model, kind)?;
     }
     Ok(out)
 }
 
-/// What is wanted, one after another.
-pub fn wanted_list(
+/// What operands may be, the topmost last.
+pub(crate) fn wanted_list(
     alloc: Global,
     model: &ClassModel,
     wanted: &Operands,
 ) -> Result<String, AllocError> {
     let mut out = String::new(alloc);
-    for index in 0..wanted.count() {
-        if index > 0 {
-            out.push_str(", ")?;
+    match wanted {
+        Operands::Nothing => (),
+        Operands::One(only) => write_pattern(&mut out, model, only)?,
+        Operands::Two(top, below) => {
+            write_pattern(&mut out, model, below)?;
+            separate(&mut out)?;
+            write_pattern(&mut out, model, top)?;
         }
-        if let Some(pattern) = wanted.at(index) {
-            write_pattern(&mut out, model, pattern)?;
+        Operands::Three(top, middle, lowest) => {
+            write_pattern(&mut out, model, lowest)?;
+            separate(&mut out)?;
+            write_pattern(&mut out, model, middle)?;
+            separate(&mut out)?;
+            write_pattern(&mut out, model, top)?;
         }
     }
     Ok(out)
