@@ -6,7 +6,7 @@ from generated import ROOT, slug
 
 MOST_LINES = 180
 MOST_WORDS = 30
-LANGUAGES = {"console", "sh", "json", "ocl", "text", "ebnf", "python", "toml"}
+LANGUAGES = {"console", "dockerfile", "sh", "json", "ocl", "text", "ebnf", "python", "toml"}
 # what names pages, besides the pages themselves
 SOURCES = ["ocl_check", ".ci/*", ".ci/forms/*.py", "bench/*", "examples/*.sh", "tests/*.rows"]
 PROMISES = ROOT / "docs" / "proofs" / "promises.md"
