@@ -17,10 +17,9 @@ pub(crate) struct Place {
     pub(crate) open_blocks: usize,
 }
 
-/// What changes as the walk goes on: the variables, the newest on top, how deep the code went, and who watches.
+/// What changes as the walk goes on: the variables, the newest on top, and how deep the code went.
 #[derive(Drop)]
-pub(crate) struct Walk<'w, W> {
+pub(crate) struct Walk {
     pub(crate) variables: Stack<Kind>,
     pub(crate) depths: Depths,
-    pub(crate) watch: &'w mut W,
 }

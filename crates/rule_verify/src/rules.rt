@@ -53,7 +53,6 @@ pub fn check_rule<W: Watch>(
             variables: 0,
             blocks: 0,
         },
-        watch,
     };
     put(
         &mut walk.variables,
@@ -65,7 +64,7 @@ pub fn check_rule<W: Watch>(
         covered: 0,
         open_blocks: 0,
     };
-    let operands = sequence(alloc, &code, &mut walk, place)?;
+    let operands = sequence(alloc, &code, &mut walk, watch, place)?;
     let truth = Pattern::Fitting(Kind::Scalar(ScalarKind::Boolean));
     ended_with(&code, &truth, place.end, &operands)?;
     Ok(walk.depths)

@@ -42,7 +42,7 @@ fn deeper(depths: Depths, others: Depths) -> Depths
 }
 
 /// Notes how deep a place is, and has it watched.
-fn reach<W: Watch>(walk: &mut Walk<'_, W>, place: Place, operands: &Stack<Kind>)
+fn reach<W: Watch>(walk: &mut Walk, watch: &mut W, place: Place, operands: &Stack<Kind>)
     requires { place.covered + length operands.now ≤ MAX_OPERANDS }
     ensures variables { walk.new.variables ≡ walk.old.variables }
     ensures depths { walk.new.depths ≡ depth.deeper walk.old.depths
@@ -54,7 +54,7 @@ fn reach<W: Watch>(walk: &mut Walk<'_, W>, place: Place, operands: &Stack<Kind>)
         blocks: place.open_blocks,
     };
     walk.depths = deeper(walk.depths, here);
-    walk.watch.reach(Reached {
+    watch.reach(Reached {
         at: place.at,
         end: place.end,
         operands,
@@ -89,7 +89,8 @@ pub(crate) fn ended_with(
 /// An instruction without a body.
 fn plain<W: Watch>(
     rule: &RuleCode<'_, '_>,
-    walk: &mut Walk<'_, W>,
+    walk: &mut Walk,
+    watch: &mut W,
     place: Place,
     operands: &mut Stack<Kind>,
     instr: Instr,
@@ -102,7 +103,7 @@ fn plain<W: Watch>(
     ensures { Goes rule.now walk.old.variables walk.old.depths place operands.old result
         walk.new.variables walk.new.depths operands.new }
 {
-    reach(walk, place, operands);
+    reach(walk, watch, place, operands);
     let operand = topmost(operands);
     take(rule, &walk.variables, operands, instr, place.at)?;
     if operands.len() >= MAX_OPERANDS - place.covered {
@@ -118,7 +119,8 @@ fn plain<W: Watch>(
 /// Opens a block whose bodies have `length` instructions: takes its operand.
 fn open_block<W: Watch>(
     rule: &RuleCode<'_, '_>,
-    walk: &mut Walk<'_, W>,
+    walk: &mut Walk,
+    watch: &mut W,
     place: Place,
     operands: &mut Stack<Kind>,
     instr: Instr,
@@ -131,7 +133,7 @@ fn open_block<W: Watch>(
     ensures { Opens rule.now walk.old.variables walk.old.depths place operands.old instr length
         result walk.new.variables walk.new.depths operands.new }
 {
-    reach(walk, place, operands);
+    reach(walk, watch, place, operands);
     let operand = block_operand(instr, operands);
     take(rule, &walk.variables, operands, instr, place.at)?;
     if length >= place.end - place.at {
@@ -162,7 +164,8 @@ fn inside(place: Place, left: &Stack<Kind>, at: usize, end: usize) -> Place
 pub(crate) fn sequence<W: Watch>(
     alloc: Global,
     rule: &RuleCode<'_, '_>,
-    walk: &mut Walk<'_, W>,
+    walk: &mut Walk,
+    watch: &mut W,
     place: Place,
 ) -> Result<Stack<Kind>, VerifyFault>
     requires rule { IsRuleCode rule.now }
@@ -176,9 +179,16 @@ pub(crate) fn sequence<W: Watch>(
     let mut operands = Stack::new(alloc);
     let mut at = place.at;
     'instructions: while at < place.end {
-        at = step(alloc, rule, walk, Place { at, ..place }, &mut operands)?;
+        at = step(
+            alloc,
+            rule,
+            walk,
+            watch,
+            Place { at, ..place },
+            &mut operands,
+        )?;
     }
-    reach(walk, Place { at, ..place }, &operands);
+    reach(walk, watch, Place { at, ..place }, &operands);
     Ok(operands)
 }
 
@@ -187,7 +197,8 @@ pub(crate) fn sequence<W: Watch>(
 fn step<W: Watch>(
     alloc: Global,
     rule: &RuleCode<'_, '_>,
-    walk: &mut Walk<'_, W>,
+    walk: &mut Walk,
+    watch: &mut W,
     place: Place,
     operands: &mut Stack<Kind>,
 ) -> Result<usize, VerifyFault>
@@ -199,10 +210,19 @@ fn step<W: Watch>(
 {
     let instr = rule.code[place.at];
     match shape_of(instr) {
-        Shape::Single => plain(rule, walk, place, operands, instr),
-        Shape::OneBody(length) => block(alloc, rule, walk, place, operands, instr, length),
+        Shape::Single => plain(rule, walk, watch, place, operands, instr),
+        Shape::OneBody(length) => block(alloc, rule, walk, watch, place, operands, instr, length),
         Shape::TwoBodies(first, second) => {
-            branches(alloc, rule, walk, place, operands, instr, (first, second))
+            branches(
+                alloc,
+                rule,
+                walk,
+                watch,
+                place,
+                operands,
+                instr,
+                (first, second),
+            )
         }
     }
 }
@@ -212,7 +232,8 @@ fn step<W: Watch>(
 fn body<W: Watch>(
     alloc: Global,
     rule: &RuleCode<'_, '_>,
-    walk: &mut Walk<'_, W>,
+    walk: &mut Walk,
+    watch: &mut W,
     place: Place,
     instr: Instr,
     at: usize,
@@ -225,7 +246,7 @@ fn body<W: Watch>(
         walk.new.variables walk.new.depths) }
     ensures known { IfOk result (IsKindOf rule.now.resolved.now.model) }
 {
-    let operands = sequence(alloc, rule, walk, place)?;
+    let operands = sequence(alloc, rule, walk, watch, place)?;
     ended_with(rule, &ends_with(rule, instr), at, &operands)
 }
 
@@ -234,7 +255,8 @@ fn body<W: Watch>(
 fn block<W: Watch>(
     alloc: Global,
     rule: &RuleCode<'_, '_>,
-    walk: &mut Walk<'_, W>,
+    walk: &mut Walk,
+    watch: &mut W,
     place: Place,
     operands: &mut Stack<Kind>,
     instr: Instr,
@@ -248,12 +270,12 @@ fn block<W: Watch>(
     ensures { Goes rule.now walk.old.variables walk.old.depths place operands.old result
         walk.new.variables walk.new.depths operands.new }
 {
-    let operand = open_block(rule, walk, place, operands, instr, length)?;
+    let operand = open_block(rule, walk, watch, place, operands, instr, length)?;
     let _element = elements_kind(&operand);
     bind(rule, &mut walk.variables, instr, &operand)?;
     let end = place.at + 1 + length;
     let inner = inside(place, operands, place.at + 1, end);
-    let ended = body(alloc, rule, walk, inner, instr, place.at)?;
+    let ended = body(alloc, rule, walk, watch, inner, instr, place.at)?;
     unbind(&mut walk.variables, instr);
     put(operands, yields(rule, instr, &operand, &ended))?;
     Ok(end)
@@ -264,7 +286,8 @@ fn block<W: Watch>(
 fn branches<W: Watch>(
     alloc: Global,
     rule: &RuleCode<'_, '_>,
-    walk: &mut Walk<'_, W>,
+    walk: &mut Walk,
+    watch: &mut W,
     place: Place,
     operands: &mut Stack<Kind>,
     instr: Instr,
@@ -281,14 +304,14 @@ fn branches<W: Watch>(
     let Some(length) = lengths.0.checked_add(lengths.1) else {
         unreachable!()
     };
-    let operand = open_block(rule, walk, place, operands, instr, length)?;
+    let operand = open_block(rule, walk, watch, place, operands, instr, length)?;
     let _element = elements_kind(&operand);
     let middle = place.at + 1 + lengths.0;
     let end = middle + lengths.1;
     let first = inside(place, operands, place.at + 1, middle);
-    let ended = body(alloc, rule, walk, first, instr, place.at)?;
+    let ended = body(alloc, rule, walk, watch, first, instr, place.at)?;
     let second = inside(place, operands, middle, end);
-    body(alloc, rule, walk, second, instr, place.at)?;
+    body(alloc, rule, walk, watch, second, instr, place.at)?;
     put(operands, yields(rule, instr, &operand, &ended))?;
     Ok(end)
 }

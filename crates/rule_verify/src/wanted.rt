@@ -9,20 +9,13 @@ use crate::code::RuleCode;
 use crate::operands::operands_of;
 use crate::pattern::{Operands, Pattern};
 use crate::resolved::Resolved;
+use imkl_model::ClassNo;
 use rule_code::Instr;
 
-/// The code of a rule, if it is there with its context class.
-fn code_of<'a, 'm>(resolved: &'a Resolved<'m>, rule: usize) -> Option<RuleCode<'a, 'm>>
-    ensures { IfSome result (λ c. (c.resolved.now ≡ resolved.entry.now) × (c.index ≡ rule)) }
-{
+/// The context class of a rule, if both are there.
+fn context_of(resolved: &Resolved<'_>, rule: usize) -> Option<ClassNo> {
     let found = resolved.unit().rules.get(rule)?;
-    let context = resolved.class(found.context)?;
-    Some(RuleCode {
-        resolved,
-        index: rule,
-        context,
-        code: found.code.as_slice(),
-    })
+    resolved.class(found.context)
 }
 
 /// What the operands of an instruction of a rule may be, the topmost first; none where the rule isn't there with its context
@@ -31,7 +24,13 @@ pub fn operands_wanted(resolved: &Resolved<'_>, rule: usize, instr: Instr) -> Op
     ensures { (context : ℕ) → IfSome result (λ o. operand_list o ≡ spec.operands_of
         (spec.surroundings resolved.now.model resolved.now.unit rule context) instr) }
 {
-    let code = code_of(resolved, rule)?;
+    let context = context_of(resolved, rule)?;
+    let code = RuleCode {
+        resolved,
+        index: rule,
+        context,
+        code: &[],
+    };
     Some(operands_of(&code, instr))
 }
 
@@ -40,6 +39,12 @@ pub fn ending_wanted(resolved: &Resolved<'_>, rule: usize, block: Instr) -> Opti
     ensures { (context : ℕ) → IfSome result (λ p. p ≡ spec.ends_with
         (spec.surroundings resolved.now.model resolved.now.unit rule context) block) }
 {
-    let code = code_of(resolved, rule)?;
+    let context = context_of(resolved, rule)?;
+    let code = RuleCode {
+        resolved,
+        index: rule,
+        context,
+        code: &[],
+    };
     Some(ends_with(&code, block))
 }
