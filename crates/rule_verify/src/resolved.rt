@@ -124,14 +124,16 @@ impl<'m> Resolved<'m> {
         &self.unit
     }
 
-    /// What a symbol names, if it is there.
+    /// What a symbol names, if it is there; nothing where the unit has no symbol of the number.
     pub fn named(&self, symbol: SymbolNumber) -> Option<Named>
         ensures name { result ≡ named_at self.now.model self.now.unit symbol.0 }
         ensures known { IfSome result (IsKnownName self.now.model) }
     {
-        match self.names.get(usize::from(symbol.0)) {
-            Some(name) => *name,
-            None => None,
+        let number = usize::from(symbol.0);
+        if number < self.names.len() {
+            self.names[number]
+        } else {
+            None
         }
     }
 
