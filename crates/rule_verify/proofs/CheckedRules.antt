@@ -1,7 +1,6 @@
 -- The rules of a unit, and what is known where they are accepted.
 use Rattle.std.proofs.Common.{◌≡◌, ℕ, zero, suc, ◌+◌, ◌-◌, ◌<◌, ◌≤◌, List, [], ◌∷◌, ◌++◌, length, get_or, drop, Result, Ok, Err, Option, Some, None, refl, sym, ap, ◌∙◌, subst, arith, append_assoc, zero-add}
-use Rattle.std.specs.Prelude.{slice_get, slice_range, unwrap_or, All}
-use Rattle.std.specs.List.{AllByRecursion}
+use Rattle.std.specs.Prelude.{slice_get, slice_range, unwrap_or}
 use Rattle.std.proofs.lemmas.List.{drop_more, drop_all, take_all, append-nil}
 use Rattle.std.proofs.lemmas.Option.{get_or_from_slice_get}
 use Rattle.std.proofs.Math.Nat.{zero-max}
@@ -12,14 +11,7 @@ use Rattle.ocl_kinds.specs.declared.kind.Kind.{Kind}
 use Rattle.ocl_kinds.specs.declared.kind.Kind.TheVariants.{Scalar}
 use Rattle.ocl_kinds.specs.declared.kind.ScalarKind.TheVariants as element
 use Rattle.rule_code.specs.declared.instruction.Instr.{Instr}
-use Rattle.rule_code.specs.declared.symbol.SymbolTag.TheVariants as tags
-use Rattle.rule_code.specs.declared.kind.WrittenScalar.{WrittenScalar}
-use Rattle.rule_code.specs.declared.kind.WrittenScalar.TheVariants as scalars
-use Rattle.rule_code.specs.declared.kind.WrittenKind.TheVariants as kinds
-use Rattle.rule_code.specs.InstrRows.{FieldValue, symbol_field, scalar_field, collection_field, kind_field, row_of}
-use Rattle.rule_code.specs.WellFormed.{ScalarKindFits, FieldFits, InstrFits}
 use Rattle.rule_code.specs.Content.{Content, RuleContent}
-use Rattle.rule_code.proofs.ForAbove.{is_symbol_of-lt}
 use Rattle.rule_verify.specs.declared.fault.VerifyFlaw.TheVariants as flaws
 use Rattle.rule_verify.specs.declared.fault.VerifyFault.{VerifyFault}
 use Rattle.rule_verify.specs.declared.fault.VerifyFault.TheVariants.{At, OutOfMemory}
@@ -29,12 +21,12 @@ use Rattle.rule_verify.specs.declared.place.Place.{Place}
 use Rattle.rule_verify.specs.CodeTree.{CodeTree, code_tree}
 use Rattle.rule_verify.specs.CodeDepths.{deeper, rule_depths}
 use Rattle.rule_verify.specs.Faults.{verify_fault}
-use Rattle.rule_verify.specs.InstrKinds.{surroundings, scalar_symbols, field_symbols, fields_symbols, symbols_used}
+use Rattle.rule_verify.specs.InstrKinds.{surroundings}
 use Rattle.rule_verify.specs.KindRules.{InstrFault, instr_fault, kinds_after, ended_with, rule_ends}
 use Rattle.rule_verify.specs.Patterns.{a_boolean}
 use Rattle.rule_verify.specs.Symbols.{named_at, class_in}
 use Rattle.rule_verify.specs.UnitRules.{empty_rule, unit_rule, context_class, check_rule, check_rules, check_unit, IsAcceptedUnit, depths_of, depths_of_rules}
-use Rattle.rule_verify.specs.Walk.{surroundings_of, AreSymbols, kinds_from, depths_from, Walked}
+use Rattle.rule_verify.specs.Walk.{surroundings_of, kinds_from, depths_from, Walked}
 use Rattle.rule_verify.proofs.Stretches.{code_tree_count}
 
 -- ---- one rule

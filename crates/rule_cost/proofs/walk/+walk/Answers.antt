@@ -9,7 +9,7 @@ use Rattle.rule_cost.proofs.walk.+walk.Goals as goal
 
 -- src/walk.rt:121:1
 pub block-returns-clause-advances : goal.block-returns-clause-advances
-block-returns-clause-advances t c =
+block-returns-clause-advances g t c =
     let code = c.args.code.now in
     let at = c.args.place.at + 1 in
     let source = c.block_length-source.ensures in
@@ -27,7 +27,7 @@ block-returns-clause-advances t c =
 
 -- src/walk.rt:156:1
 pub branches-returns-clause-advances : goal.branches-returns-clause-advances
-branches-returns-clause-advances t c =
+branches-returns-clause-advances g t c =
     let code = c.args.code.now in
     let at = c.args.place.at + 1 in
     let middle = at + c.args.lengths.0 in
@@ -42,18 +42,18 @@ branches-returns-clause-advances t c =
 
 -- src/walk.rt:66:5
 pub sequence-instructions-init : goal.sequence-instructions-init
-sequence-instructions-init t c =
+sequence-instructions-init g t c =
     reached_first c.args.code.now c.args.variables.now c.args.place c.new-charges.result c.new-operands.result c.requires.place.before c.new-charges.ensures c.new-operands.ensures
 
 -- src/walk.rt:66:5
 pub sequence-instructions-preserved : goal.sequence-instructions-preserved
-sequence-instructions-preserved t c =
+sequence-instructions-preserved g t c =
     reached_next c.args.code.now c.args.variables.now c.args.place (record { at = c.instructions.at; end = c.args.place.end }) c.instructions.charges c.plus-charges.result c.instructions.at c.in_ok-advance.advance c.instructions.variables c.step.new.variables c.instructions.operands c.step.new.operands c.instructions.invariant refl refl
     c.in_ok-advance.ensures.kept c.in_ok-advance.ensures.advances c.plus-charges.ensures
 
 -- src/walk.rt:80:1
 pub step-returns-in_default-clause-advances : goal.step-returns-in_default-clause-advances
-step-returns-in_default-clause-advances t c =
+step-returns-in_default-clause-advances g t c =
     let code = c.args.code.now in
     let lt : c.args.place.at < length code.code.now = omega (arith, c.requires.inside, c.requires.place.within) in
     record {

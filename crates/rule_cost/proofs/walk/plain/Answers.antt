@@ -5,7 +5,7 @@ use Rattle.rule_cost.proofs.walk.plain.Goals as goal
 
 -- src/walk.rt:26:1
 pub returns : goal.returns
-returns c =
+returns g c =
     let code = c.args.code.now in
     let length = c.length_given-length.result in
     record {

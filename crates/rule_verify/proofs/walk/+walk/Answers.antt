@@ -13,16 +13,16 @@ use Rattle.rule_verify.proofs.WalkingBlocks.{room_left, inner_place, bound, bloc
 use Rattle.rule_verify.proofs.walk.+walk.Goals as goal
 
 pub body-ended_with-requires-clause-wanted : goal.body-ended_with-requires-clause-wanted
-body-ended_with-requires-clause-wanted t c =
+body-ended_with-requires-clause-wanted g t c =
     let P : Pattern → Type 0 = λ w. IsPatternOf c.args.rule.now.resolved.now.model w in
     subst P (sym c.ends_with.ensures) (ends_known (surroundings_of c.args.rule.now) c.args.instr)
 
 pub block-inside-inner-requires-clause-room : goal.block-inside-inner-requires-clause-room
-block-inside-inner-requires-clause-room t c =
+block-inside-inner-requires-clause-room g t c =
     room_left c.args.rule.now c.args.walk.now.variables c.args.place c.args.operands.now c.args.instr c.requires.inside c.requires.here c.requires.place c.args.walk.now.depths c.open_block.new.walk.depths c.args.length c.in_ok-operand.operand c.open_block.new.walk.variables c.open_block.new.operands c.in_ok-operand.ensures
 
 pub block-body-requires : goal.block-body-requires
-block-body-requires t c =
+block-body-requires g t c =
     let r = c.args.rule.now in
     let o = c.in_ok-operand.ensures in
     let m = r.resolved.now.model in
@@ -33,10 +33,10 @@ block-body-requires t c =
     let place = inner_place r c.args.walk.now.variables c.args.place c.args.operands.now c.args.instr c.requires.inside c.requires.here c.requires.place c.args.walk.now.depths c.open_block.new.walk.depths c.args.length c.in_ok-operand.operand c.open_block.new.walk.variables c.open_block.new.operands o c.bind.new.variables c.inside-inner.result _ _ (omega arith) o.nests known c.inside-inner.ensures in
     let from = ap (λ (q : Place). q.at) c.inside-inner.ensures in
     let to = ap (λ (q : Place). q.end) c.inside-inner.ensures in
-    (omega (arith, from, to, o.nests), (c.requires.rule, place))
+    λ κs lives. (omega (arith, from, to, o.nests), (lives, (c.requires.rule, place)))
 
 pub block-returns-in_err-ended : goal.block-returns-in_err-ended
-block-returns-in_err-ended t c =
+block-returns-in_err-ended g t c =
     let r = c.args.rule.now in
     let o = c.in_ok-operand.ensures in
     let p = err_from_is_err_and c.from_residual-in_err-ended.result c.from_residual-in_err-ended.ensures.1 in
@@ -45,7 +45,7 @@ block-returns-in_err-ended t c =
     (block_wrong r c.args.walk.now.variables c.args.place c.args.operands.now c.args.instr c.requires.inside c.requires.here c.requires.place c.args.walk.now.depths c.open_block.new.walk.depths c.args.length c.in_ok-operand.operand c.open_block.new.walk.variables c.open_block.new.operands o c.requires.shape _ _ v c.inside-inner.ensures _ c.in_err-ended.ensures.gives)
 
 pub block-returns : goal.block-returns
-block-returns t c =
+block-returns g t c =
     let r = c.args.rule.now in
     let s = surroundings_of r in
     let m = r.resolved.now.model in
@@ -60,11 +60,11 @@ block-returns t c =
     )
 
 pub branches-inside-second-requires-clause-room : goal.branches-inside-second-requires-clause-room
-branches-inside-second-requires-clause-room t c =
+branches-inside-second-requires-clause-room g t c =
     room_left c.args.rule.now c.args.walk.now.variables c.args.place c.args.operands.now c.args.instr c.requires.inside c.requires.here c.requires.place c.args.walk.now.depths c.open_block.new.walk.depths c.in-Some.length c.in_ok-operand.operand c.open_block.new.walk.variables c.open_block.new.operands c.in_ok-operand.ensures
 
 pub branches-returns-in_err-ended : goal.branches-returns-in_err-ended
-branches-returns-in_err-ended t c =
+branches-returns-in_err-ended g t c =
     let r = c.args.rule.now in
     let n = c.args.lengths.0 in
     let m = c.args.lengths.1 in
@@ -75,7 +75,7 @@ branches-returns-in_err-ended t c =
     rw (p.1, p.2) (first_wrong r c.args.walk.now.variables c.args.place c.args.operands.now c.args.instr c.requires.inside c.requires.here c.requires.place c.args.walk.now.depths c.open_block.new.walk.depths n m c.in_ok-operand.operand c.open_block.new.walk.variables c.open_block.new.operands o c.requires.shape c.inside-first.result c.inside-first.ensures _ c.in_err-ended.ensures.gives)
 
 pub branches-body-requires-2 : goal.branches-body-requires-2
-branches-body-requires-2 t c =
+branches-body-requires-2 g t c =
     let r = c.args.rule.now in
     let n = c.args.lengths.0 in
     let m = c.args.lengths.1 in
@@ -87,10 +87,10 @@ branches-body-requires-2 t c =
     let place = inner_place r c.args.walk.now.variables c.args.place c.args.operands.now c.args.instr c.requires.inside c.requires.here c.requires.place c.args.walk.now.depths c.open_block.new.walk.depths (n + m) c.in_ok-operand.operand c.open_block.new.walk.variables c.open_block.new.operands o c.body.new.walk.variables c.inside-second.result _ _ (omega arith) (omega (arith, o.nests)) known c.inside-second.ensures in
     let from = ap (λ (q : Place). q.at) c.inside-second.ensures in
     let to = ap (λ (q : Place). q.end) c.inside-second.ensures in
-    (omega (arith, from, to, o.nests), (c.requires.rule, place))
+    λ κs lives. (omega (arith, from, to, o.nests), (lives, (c.requires.rule, place)))
 
 pub branches-returns-in_err-body : goal.branches-returns-in_err-body
-branches-returns-in_err-body t c =
+branches-returns-in_err-body g t c =
     let r = c.args.rule.now in
     let n = c.args.lengths.0 in
     let m = c.args.lengths.1 in
@@ -101,7 +101,7 @@ branches-returns-in_err-body t c =
     rw (p.1, p.2) (second_wrong r c.args.walk.now.variables c.args.place c.args.operands.now c.args.instr c.requires.inside c.requires.here c.requires.place c.args.walk.now.depths c.open_block.new.walk.depths n m c.in_ok-operand.operand c.open_block.new.walk.variables c.open_block.new.operands o c.requires.shape c.inside-first.result c.inside-first.ensures c.in_ok-ended.ended c.body.new.walk.depths c.body.new.walk.variables c.in_ok-ended.ensures.gives c.in_ok-ended.ensures.walked c.inside-second.result c.inside-second.ensures _ c.in_err-body.ensures.gives)
 
 pub branches-returns : goal.branches-returns
-branches-returns t c =
+branches-returns g t c =
     let r = c.args.rule.now in
     let n = c.args.lengths.0 in
     let m = c.args.lengths.1 in
