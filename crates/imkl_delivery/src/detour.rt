@@ -2,7 +2,7 @@
 
 use crate::fault::DeliveryFault;
 use json::Invalid;
-use std::alloc::AllocError;
+use std::alloc::{AllocError, AllocFailed};
 use token_tree::NoTree;
 
 /// Why a delivery isn't loaded straight from its tokens.
@@ -16,6 +16,12 @@ pub(crate) enum Detour {
 
 impl From<AllocError> for Detour {
     fn from(_error: AllocError) -> Detour {
+        Detour::OutOfMemory
+    }
+}
+
+impl<T: Drop> From<AllocFailed<T>> for Detour {
+    fn from(_error: AllocFailed<T>) -> Detour {
         Detour::OutOfMemory
     }
 }

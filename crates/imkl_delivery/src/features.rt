@@ -1,21 +1,20 @@
 //! What is written at the features of one object.
 
-ghost use Rattle.std.specs.Prelude.{◌≡◌, ◌<◌, true, [], ◌∷◌, Option, Some, All, map, length, option_map, IfOk, IfSome};
-ghost use Rattle.serde_json.specs.Data.{Data};
+ghost use Rattle.std.specs.Prelude.{◌≡◌, ◌<◌, true, false, [], ◌∷◌, Option, Some, None, All, map, length, option_map, slice_set, IfOk, IfSome, OnOk};
+ghost use Rattle.serde_json.specs.Data.{Data, Members};
 ghost use Rattle.serde_json.specs.View.{view, members_view};
 ghost use Rattle.imkl_model.specs.ClassModel.{feature_at, feature_number};
 ghost use Rattle.imkl_population.specs.Population.{Population, class_of};
 ghost use Rattle.imkl_population.specs.Building.{KeepsObjects};
 ghost use Rattle.imkl_delivery.specs.Steps.{Leaves, placed_fault};
 ghost use Rattle.imkl_delivery.specs.Scalars.{is_absent, values_from};
-ghost use Rattle.imkl_delivery.specs.Loading.{put_values, put_targets, put_by, put_member, put_members};
-ghost use Rattle.imkl_delivery.specs.Named.{named_features, written_requirements};
-ghost use Rattle.imkl_delivery.specs.Taken.{TakesOnly};
+ghost use Rattle.imkl_delivery.specs.Loading.{are_features, put_values, put_targets, put_by, put_member, put_members};
+ghost use Rattle.imkl_delivery.specs.Named.{written_requirements};
+ghost use Rattle.imkl_delivery.specs.Pending.{pending_at, NonePending, IsPendingOnly, IsPendingAt, ArePending};
 
 use crate::fault::DeliveryFault;
 use crate::guesses::Guesses;
 use crate::scalars::{Targets, scalar_of, scalars_of, targets_of, values_of};
-use crate::taking::take_member;
 use imkl_model::{ClassModel, ClassNo, FeatureInfo, FeatureNo, Role};
 use imkl_population::{ObjectNo, PopulationBuilder, PopulationFault, RequiredFeatures};
 use serde_json::{Map, Value};
@@ -170,30 +169,29 @@ fn left_out(object: ObjectNo, feature: FeatureNo, info: &FeatureInfo) -> Result<
     Err(placed_fault(object.index(), PopulationFault::TooFew { object, feature }))
 }
 
-/// Puts what is written at a feature, where it belongs to the object's class, and takes its member out.
-#[tactic(auto, unfolding(crate::specs::Loading::put_member))]
+/// Puts what is pending at a feature, where it belongs to the object's class.
 fn put_member(
     builder: &mut PopulationBuilder<'_>,
     alloc: Global,
     object: ObjectNo,
     feature: FeatureNo,
-    members: &mut Map<String, Value>,
+    pending: &mut [Option<Value>],
 ) -> Result<(), DeliveryFault>
     requires object { object < length builder.old.objects }
     requires feature { feature < length builder.old.model.features }
-    ensures leaves { Leaves result
-        (put_member object (members_view members.old.entries) feature builder.old) builder.new }
+    requires room { feature < length pending.old }
+    ensures leaves { (ms : Members) →
+        IsPendingAt builder.old.model (class_of builder.old object) ms pending.old feature →
+        Leaves result (put_member object ms feature builder.old) builder.new }
     ensures kept { KeepsObjects builder.old builder.new }
-    ensures taken { TakesOnly builder.old.model (class_of builder.old object) (feature ∷ [])
-        (members_view members.old.entries) (members_view members.new.entries) }
+    ensures taken { pending.new ≡ slice_set pending.old feature None }
 {
+    let value = pending[feature.index()].take();
     let model = builder.model();
-    model.well_formed();
     if !model.belongs(builder.class_of(object), feature) {
         return Ok(());
     }
-    let name = model.feature_info(feature).name.as_str();
-    put_written(builder, alloc, object, feature, take_member(members, name))
+    put_written(builder, alloc, object, feature, value)
 }
 
 /// Whether a feature is the one that a class has of a name.
@@ -227,7 +225,7 @@ fn right_guess(
 }
 
 /// The feature that a class has of a name. Where a guess, the one at a place or the next, is right, nothing is searched.
-fn feature_of(
+pub(crate) fn feature_of(
     model: &ClassModel,
     class: ClassNo,
     guesses: &[FeatureNo],
@@ -247,64 +245,136 @@ fn feature_of(
     model.feature(class, name)
 }
 
-/// The features of the class that the members name, or nothing where a member names none. Each is guessed to be that
-/// near the same place of a list. They are written to a list, of which only the room is used again.
-fn named_features(
-    list: Vec<FeatureNo>,
-    model: &ClassModel,
-    class: ClassNo,
-    members: &Map<String, Value>,
-    guesses: &[FeatureNo],
-) -> Result<Option<Vec<FeatureNo>>, AllocError>
-    requires { class < length model.now.classes }
-    ensures named { IfOk result (λ r. option_map (λ v. v.items) r ≡
-        named_features model.now class (members_view members.now.entries)) }
-    ensures in_range { IfOk result (λ r. IfSome r (λ v. All (λ f.
-        f < length model.now.features) v.items)) }
-{
-    let mut features = list;
-    features.clear();
-    for (name, _) in members {
-        let place = features.len();
-        match feature_of(model, class, guesses, place, name.as_str()) {
-            Some(feature) => features.push(feature)?,
-            None => return Ok(None),
-        }
-    }
-    Ok(Some(features))
-}
-
-/// Puts all that is written on an object, in the class model's order of features. A feature that no member names and that
+/// Puts all that is pending on an object, in the class model's order of features. A feature that no member names and that
 /// the class doesn't require is passed over, since there is nothing to put.
-pub(crate) fn put_members(
+pub(crate) fn put_pending(
     builder: &mut PopulationBuilder<'_>,
     alloc: Global,
     object: ObjectNo,
-    mut members: Map<String, Value>,
+    named: Vec<FeatureNo>,
+    pending: &mut [Option<Value>],
     required: &mut RequiredFeatures<'_>,
     guesses: &mut Guesses,
 ) -> Result<(), DeliveryFault>
     requires object { object < length builder.old.objects }
+    requires named { All (λ f. f < length builder.old.model.features) named.items }
+    requires room { length pending.old ≡ length builder.old.model.features }
+    requires only { IsPendingOnly named.items pending.old }
     requires required { required.old ≡ written_requirements builder.old.model }
-    ensures leaves { Leaves result
-        (put_members object (members_view members.entries) builder.old) builder.new }
+    ensures leaves { (ms : Members) →
+        ArePending builder.old.model (class_of builder.old object) ms pending.old →
+        Leaves result (put_members object ms builder.old) builder.new }
     ensures kept { KeepsObjects builder.old builder.new }
+    ensures room { length pending.new ≡ length pending.old }
+    ensures none { OnOk result (NonePending pending.new) }
     ensures same { required.new ≡ required.old }
 {
     let model = builder.model();
     model.well_formed();
     let class = builder.class_of(object);
+    guesses.keep(alloc, class, &named)?;
+    let features = required.with_required(class, named)?;
+    for feature in &features {
+        let put = put_member(builder, alloc, object, *feature, pending);
+        if put.is_err() {
+            return put;
+        }
+    }
+    guesses.give_back(features);
+    Ok(())
+}
+
+/// Takes the members of an object's features. What they write is pending then. `None` where one names no feature of the class.
+/// The features are written to a list of which only the room is used again.
+fn take_members(
+    pending: &mut [Option<Value>],
+    model: &ClassModel,
+    class: ClassNo,
+    members: Map<String, Value>,
+    guesses: &[FeatureNo],
+    list: Vec<FeatureNo>,
+) -> Result<Option<Vec<FeatureNo>>, AllocError>
+    requires class { class < length model.now.classes }
+    requires room { length pending.old ≡ length model.now.features }
+    requires none { NonePending pending.old }
+    ensures there { IfOk result (λ r. IfSome r (λ fs.
+        ArePending model.now class (members_view members.entries) pending.new)) }
+    ensures only { IfOk result (λ r. IfSome r (λ fs. IsPendingOnly fs.items pending.new)) }
+    ensures in_range { IfOk result (λ r. IfSome r (λ fs. All (λ f.
+        f < length model.now.features) fs.items)) }
+    ensures unnamed { IfOk result (λ r. r ≡ None →
+        are_features model.now class (members_view members.entries) ≡ false) }
+    ensures room { length pending.new ≡ length pending.old }
+{
+    model.well_formed();
+    let mut named = list;
+    named.clear();
+    for (name, value) in members {
+        let Some(feature) = feature_of(model, class, guesses, named.len(), name.as_str()) else {
+            return Ok(None);
+        };
+        keep_first(pending, feature, value);
+        named.push(feature)?;
+    }
+    Ok(Some(named))
+}
+
+/// Has a value pending at a feature, if nothing is.
+fn keep_first(pending: &mut [Option<Value>], feature: FeatureNo, value: Value)
+    requires { feature < length pending.old }
+    ensures kept { (d : Data) → pending_at pending.old feature ≡ Some d →
+        pending.new ≡ pending.old }
+    ensures put { pending_at pending.old feature ≡ None →
+        pending.new ≡ slice_set pending.old feature (Some value) }
+{
+    if pending[feature.index()].is_none() {
+        pending[feature.index()] = Some(value);
+    }
+}
+
+/// Puts all that the members of an object's features write.
+pub(crate) fn put_members(
+    builder: &mut PopulationBuilder<'_>,
+    alloc: Global,
+    object: ObjectNo,
+    members: Map<String, Value>,
+    pending: &mut [Option<Value>],
+    required: &mut RequiredFeatures<'_>,
+    guesses: &mut Guesses,
+) -> Result<(), DeliveryFault>
+    requires object { object < length builder.old.objects }
+    requires room { length pending.old ≡ length builder.old.model.features }
+    requires none { NonePending pending.old }
+    requires required { required.old ≡ written_requirements builder.old.model }
+    ensures leaves { Leaves result
+        (put_members object (members_view members.entries) builder.old) builder.new }
+    ensures kept { KeepsObjects builder.old builder.new }
+    ensures room { length pending.new ≡ length pending.old }
+    ensures none { OnOk result (NonePending pending.new) }
+    ensures same { required.new ≡ required.old }
+{
+    let model = builder.model();
+    let class = builder.class_of(object);
     let list = guesses.take_list(alloc);
-    let Some(named) = named_features(list, model, class, &members, guesses.of(class))? else {
+    let Some(named) = take_members(pending, model, class, members, guesses.of(class), list)? else {
         return Err(DeliveryFault::UnknownFeature {
             object: object.index(),
         });
     };
-    guesses.keep(alloc, class, &named)?;
-    let features = required.with_required(class, named)?;
-    for feature in &features {
-        put_member(builder, alloc, object, *feature, &mut members)?;
+    put_pending(builder, alloc, object, named, pending, required, guesses)
+}
+
+/// For each feature of a class model nothing.
+pub(crate) fn none_pending(
+    alloc: Global,
+    model: &ClassModel,
+) -> Result<Vec<Option<Value>>, AllocError>
+    ensures none { IfOk result (λ v. NonePending v.items) }
+    ensures room { IfOk result (λ v. length v.items ≡ length model.now.features) }
+{
+    let mut pending = Vec::with_capacity(alloc, model.feature_count())?;
+    for _ in 0..model.feature_count() {
+        pending.push(None)?;
     }
-    guesses.give_back(features);
-    Ok(())
+    Ok(pending)
 }

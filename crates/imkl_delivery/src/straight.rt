@@ -9,6 +9,7 @@ ghost use Rattle.imkl_population.specs.Finishing.{finish_outcome};
 ghost use Rattle.imkl_delivery.specs.Loading.{describes_population};
 
 use crate::detour::Detour;
+use crate::features::none_pending;
 use crate::guesses::Guesses;
 use crate::outline::outline;
 use crate::tokens::{closes, opens};
@@ -32,12 +33,14 @@ fn written_straight<'m>(
     let mut builder = outline(alloc, text, model, &mut scratch)?;
     let mut required = RequiredFeatures::new(alloc, model, Side::Written);
     let mut guesses = Guesses::new(alloc, model.class_count())?;
+    let mut pending = none_pending(alloc, model)?;
     let mut reader = Reader::new(text, &mut scratch)?;
     opens(&mut reader, model)?;
     put_all(
         &mut builder,
         alloc,
         &mut reader,
+        &mut pending,
         &mut required,
         &mut guesses,
     )?;

@@ -3,7 +3,7 @@ use Rattle.serde_json.specs.View.{view}
 use Rattle.imkl_model.specs.ClassModel.{feature_at}
 use Rattle.imkl_population.specs.Building.{set_outcome}
 use Rattle.imkl_delivery.specs.Steps.{at_object, placed_fault}
-use Rattle.imkl_delivery.specs.Scalars.{scalar_from, all_found}
+use Rattle.imkl_delivery.specs.Scalars.{scalar_from}
 use Rattle.imkl_delivery.specs.Loading.{put_values}
 use Rattle.ocl_base.proofs.ForAbove.{fails_along}
 use Rattle.imkl_delivery.specs.Faults.{delivery_fault}

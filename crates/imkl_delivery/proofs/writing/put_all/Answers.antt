@@ -8,6 +8,8 @@ use Rattle.imkl_delivery.proofs.writing.put_all.Goals as goal
 pub loop-place-init : goal.loop-place-init
 loop-place-init c = record {
   kept = record { model = refl; count = refl };
+  room = refl;
+  none = c.requires.none;
   same = refl;
   put = none_put c.args.reader.now c.args.builder.now;
 }
@@ -22,6 +24,8 @@ loop-place-preserved c =
     let put : IsEntryPut l.place l.reader l.builder new u = subst (λ (x : List Token). IsEntryPut l.place x l.builder new u) going.1 here in
     record {
       kept = record { model = c.put_entry.ensures.kept.model ∙ l.invariant.kept.model; count = c.put_entry.ensures.kept.count ∙ l.invariant.kept.count };
+      room = c.put_entry.ensures.room ∙ l.invariant.room;
+      none = c.in_ok-put_entry.ensures.none;
       same = c.put_entry.ensures.same ∙ l.invariant.same;
       put = one_put c.args.reader.now l.place c.args.builder.now l.reader new l.builder u l.invariant.put going.0 put;
     }
