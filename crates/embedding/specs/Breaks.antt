@@ -2,7 +2,7 @@
 use Rattle.std.specs.Prelude.{◌≡◌, Some}
 use Rattle.imkl_population.specs.Population.{Population}
 use Rattle.rule_code.specs.Content.{Content}
-use Rattle.rule_machine.specs.declared.verdict.Verdict.TheVariants.{Fails}
+use Rattle.rule_values.specs.declared.verdict.Verdict.TheVariants.{Fails}
 use Rattle.rule_machine.specs.Laws.{verdict_at}
 use Rattle.embedding.specs.declared.judging.Broken.{Broken}
 

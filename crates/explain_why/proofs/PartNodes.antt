@@ -17,14 +17,14 @@ use Rattle.ocl_core.specs.Core as tree
 use Rattle.ocl_core.specs.Core.{CoreTree, lets_of}
 use Rattle.ocl_core.specs.CoreView.{core_view, core_link_of, core_spine}
 use Rattle.ocl_core.proofs.ForAbove.{core_view-Spine, core_view-Let, core_view-If}
-use Rattle.ocl_compile.specs.Meaning.{meaning}
+use Rattle.ocl_semantics.specs.Meaning.{meaning}
 use Rattle.rule_values.specs.Value.{Element, Value, Collection, element_value}
 use Rattle.rule_values.specs.Operations.{is_true, is_false}
 use Rattle.rule_values.specs.Endings.{kept_by}
 use Rattle.owned_values.specs.declared.value.Element.{Element as OwnedElement}
 use Rattle.owned_values.specs.Meant.{meant_element, meant_elements}
-use Rattle.ocl_meaning.specs.Evaluated.{bindings, on_null, link_value}
-use Rattle.ocl_meaning.proofs.ForAbove.{link_meaning, iterate_is, fold_is}
+use Rattle.ocl_semantics.specs.Evaluated.{bindings, on_null, link_value}
+use Rattle.ocl_semantics.proofs.ForAbove.{link_meaning, iterate_is, fold_is}
 use Rattle.explain_why.specs.Values.{value_text}
 use Rattle.explain_why.specs.Texts.{text_of}
 use Rattle.explain_why.specs.TextWalk.{tree_text, link_text}

@@ -8,13 +8,13 @@ use Rattle.ocl_core.specs.declared.core_tree.Iteration.{Iteration}
 use Rattle.ocl_core.specs.declared.core_tree.Iteration.TheVariants as iteration
 use Rattle.ocl_core.specs.Core as tree
 use Rattle.ocl_core.specs.Core.{CoreTree, CoreTrees, CheckedRule}
-use Rattle.rule_machine.specs.declared.verdict.Verdict.{Verdict}
-use Rattle.rule_machine.specs.declared.verdict.Verdict.TheVariants as verdict
+use Rattle.rule_values.specs.declared.verdict.Verdict.{Verdict}
+use Rattle.rule_values.specs.declared.verdict.Verdict.TheVariants as verdict
 use Rattle.rule_values.specs.Value as value
 use Rattle.rule_values.specs.Value.{Element, Value, object_value, element_value}
 use Rattle.rule_values.specs.Operations.{or_invalid, value_read, is_true, is_false, is_invalid}
 use Rattle.rule_values.specs.Endings.{is_undecided, kept_by}
-use Rattle.ocl_compile.specs.Meaning.{operation_value, meaning, meanings, meant_verdict}
+use Rattle.ocl_semantics.specs.Meaning.{operation_value, meaning, meanings, meant_verdict}
 use Rattle.explain_why.specs.declared.deciding.Deciding as declared
 use Rattle.explain_why.specs.declared.deciding.Deciding.TheVariants as held
 use Rattle.explain_why.specs.Values.{max_shown, value_text}

@@ -6,8 +6,8 @@ use Rattle.ocl_core.specs.Core as tree
 use Rattle.ocl_core.specs.Core.{CoreTree, lets_of}
 use Rattle.ocl_core.specs.CoreView.{core_link_of}
 use Rattle.rule_values.specs.Value.{Element, Value, element_value}
-use Rattle.ocl_compile.specs.Meaning.{meaning, meanings}
-use Rattle.ocl_meaning.specs.Evaluated.{on_null, link_value}
+use Rattle.ocl_semantics.specs.Meaning.{meaning, meanings}
+use Rattle.ocl_semantics.specs.Evaluated.{on_null, link_value}
 use Rattle.explain_why.specs.Reasons.{operation_reason, feature_reason}
 use Rattle.explain_why.specs.Explanation.{iteration_lines, accumulation_lines, part_of, next_line, step_line, explained, all_explained}
 

@@ -4,7 +4,7 @@ use Rattle.imkl_model.specs.ClassModel.{Model}
 use Rattle.ocl_core.specs.declared.core_tree.CoreLink.{CoreLink}
 use Rattle.ocl_core.specs.Core as tree
 use Rattle.ocl_core.specs.Core.{CoreTree}
-use Rattle.ocl_meaning.specs.Evaluated.{on_null}
+use Rattle.ocl_semantics.specs.Evaluated.{on_null}
 use Rattle.explain_why.specs.declared.texts.Text.{Text}
 use Rattle.explain_why.specs.Texts.{variable_name, operator_form, operator_word, class_asked, is_form_open, is_open, wrapped, feature_text, operation_text, conversion_text, iterate_text, fold_text, let_front, text_of, others_text}
 

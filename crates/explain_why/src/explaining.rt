@@ -4,12 +4,12 @@ ghost use Rattle.std.specs.Prelude.{◌≡◌, [], ◌∷◌, ◌++◌, ◌+◌,
 ghost use Rattle.std.specs.List.{AllByRecursion, flat_map};
 ghost use Rattle.ocl_core.specs.Core.{cores_of, lets_of};
 ghost use Rattle.ocl_core.specs.CoreView.{core_view, core_link_of, core_spine, checked_rule_of};
-ghost use Rattle.ocl_compile.specs.Meaning.{meaning};
-ghost use Rattle.rule_machine.specs.Verdict.{verdict_of};
+ghost use Rattle.ocl_semantics.specs.Meaning.{meaning};
+ghost use Rattle.rule_values.specs.Verdict.{verdict_of};
 ghost use Rattle.rule_values.specs.Value.{element_value, object_value};
 ghost use Rattle.owned_values.specs.Meant.{meant, meant_element, meant_elements, IsElementThere, AreElementsThere, IsValueThere};
-ghost use Rattle.ocl_meaning.specs.Resolved.{IsResolved, AreResolved, AreThere};
-ghost use Rattle.ocl_meaning.specs.Evaluated.{bindings, on_null, IsLinkResolved, AreLinksResolved};
+ghost use Rattle.ocl_semantics.specs.Resolved.{IsResolved, AreResolved, AreThere};
+ghost use Rattle.ocl_semantics.specs.Evaluated.{bindings, on_null, IsLinkResolved, AreLinksResolved};
 ghost use Rattle.explain_why.specs.Values.{value_text};
 ghost use Rattle.explain_why.specs.Explanation.{part_line, named_value, binding_line, bindings_line, iteration_lines, steps_lines, accumulation_lines, part_of, explained, all_explained, verdict_word, verdict_line, explanation};
 ghost use Rattle.explain_why.specs.PartWalk.{node_reason, node_line, nodes_lines, element_lines, step_lines, link_lines, links_lines, bound_lines, lets_lines};
@@ -22,7 +22,7 @@ use crate::values::{MAX_SHOWN, put_element, put_value};
 use imkl_population::{ObjectNo, Population};
 use ocl_base::OutOfMemory;
 use ocl_core::{Core, CoreLink, CoreRule, Iteration};
-use ocl_meaning::{
+use ocl_semantics::{
     Variables, evaluate, evaluate_all, evaluate_bodies, evaluate_link, evaluate_links,
 };
 use owned_values::{Element, Value, element_value, is_false, is_true};

@@ -4,7 +4,7 @@ ghost use Rattle.std.specs.Prelude.{◌≡◌, ◌++◌, ◌∷◌, ◌<◌, len
 ghost use Rattle.std.specs.List.{list_any};
 ghost use Rattle.rule_values.specs.Operations.{is_null, is_invalid};
 ghost use Rattle.owned_values.specs.Meant.{meant, meant_element, meant_elements, IsValueThere};
-ghost use Rattle.ocl_meaning.specs.Resolved.{IsOperatorOf};
+ghost use Rattle.ocl_semantics.specs.Resolved.{IsOperatorOf};
 ghost use Rattle.explain_why.specs.Reasons.{is_null_element, sum_reason, divisor_reason, quotient_reason, plain_reason, other_class_reason, cast_reason, class_reason, own_reason, invalid_reason, operation_reason, absent_reason, feature_reason, choice_reason};
 
 use crate::pieces::put;

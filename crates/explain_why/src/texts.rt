@@ -5,8 +5,8 @@ ghost use Rattle.std.specs.List.{AllByRecursion};
 ghost use Rattle.ocl_core.specs.Core.{cores_of, lets_of};
 ghost use Rattle.ocl_core.specs.CoreView.{constant_of, core_view, core_link_of, core_spine};
 ghost use Rattle.ocl_core.specs.Typing.{IsConstantOf};
-ghost use Rattle.ocl_meaning.specs.Resolved.{IsOperatorOf, IsResolved, AreResolved};
-ghost use Rattle.ocl_meaning.specs.Evaluated.{on_null, IsLinkResolved, AreLinksResolved};
+ghost use Rattle.ocl_semantics.specs.Resolved.{IsOperatorOf, IsResolved, AreResolved};
+ghost use Rattle.ocl_semantics.specs.Evaluated.{on_null, IsLinkResolved, AreLinksResolved};
 ghost use Rattle.explain_why.specs.Texts.{variable_name, constant_text, class_asked, operator_form, operator_word, is_form_open, is_open, wrapped, instances_text, operation_text, fold_front, let_front, text_of, others_text};
 ghost use Rattle.explain_why.specs.TextWalk.{written_text, tree_text, node_text, link_text, links_text, lets_front, are_lets_open};
 

@@ -14,8 +14,8 @@ use Rattle.ocl_core.specs.Core.{CheckedRule}
 use Rattle.rule_code.specs.Content.{Content}
 use Rattle.rule_code.specs.WellFormed.{IsUnit}
 use Rattle.rule_machine.specs.Laws.{verdict_at}
-use Rattle.rule_machine.specs.declared.verdict.Verdict.{Verdict}
-use Rattle.ocl_compile.specs.Meaning.{meant_verdict}
+use Rattle.rule_values.specs.declared.verdict.Verdict.{Verdict}
+use Rattle.ocl_semantics.specs.Meaning.{meant_verdict}
 use Rattle.ocl_compile.specs.Compiling.{compile_of}
 use Rattle.ocl_compile.specs.CompileLaws.{AreTypedRules, KeepsRules}
 use Rattle.ocl_compile.proofs.ForAbove.{compiled_keeps_rules, verdicts_are_meant}

@@ -3,8 +3,8 @@ use Rattle.std.specs.Prelude.{ℕ, List, ◌++◌, Option, Some, length, map}
 use Rattle.std.specs.List.{flat_map}
 use Rattle.imkl_population.specs.Population.{Population, object_at, instances}
 use Rattle.ocl_core.specs.Core.{CheckedRule}
-use Rattle.rule_machine.specs.declared.verdict.Verdict.{Verdict}
-use Rattle.ocl_compile.specs.Meaning.{meant_verdict}
+use Rattle.rule_values.specs.declared.verdict.Verdict.{Verdict}
+use Rattle.ocl_semantics.specs.Meaning.{meant_verdict}
 use Rattle.rule_report.specs.declared.summary.Summary.{Summary}
 use Rattle.rule_report.specs.Report.{line_of, rule_line_of, total_line, counts_of}
 

@@ -15,20 +15,21 @@ use Rattle.rule_values.specs.Value as value
 use Rattle.rule_values.specs.Value.{Value, element_value}
 use Rattle.rule_values.specs.Operations.{or_invalid, all_instances}
 use Rattle.rule_machine.specs.Machine.{Setting, judged_by, literal_named, on_class_named, value_named_read, Piece, Sequence, Configuration, configuration, step, run}
-use Rattle.rule_machine.specs.Verdict.{outcome}
-use Rattle.ocl_compile.specs.Meaning.{constant_value, operation_value, meaning, meanings}
+use Rattle.rule_machine.specs.Outcome.{outcome}
+use Rattle.ocl_semantics.specs.Meaning.{constant_value, operation_value, meaning, meanings}
 use Rattle.ocl_compile.specs.Numbering.{Numbering, Use, tree_uses, trees_uses, constant_uses, scalar_uses, kind_uses, iteration_uses, owned_feature}
-use Rattle.ocl_compile.specs.Translation.{constant_instr, variable_instr, operator_instr, iteration_block, fold_block, let_block, if_block, written_scalar, written_kind, symbol_of_unit, translate, translate_all}
-use Rattle.ocl_compile.proofs.Resolved.{AreResolved, of_first, of_rest}
+use Rattle.ocl_compile.specs.Translation.{constant_instr, variable_instr, operator_instr, iteration_instr, iteration_block, fold_block, let_block, if_block, written_scalar, written_kind, symbol_of_unit, translate, translate_all}
+use Rattle.ocl_compile.specs.ResolvedUses.{AreUsesResolved}
+use Rattle.ocl_compile.proofs.Resolved.{of_first, of_rest}
 use Rattle.ocl_compile.proofs.Operating.{stacked, operands_counted, meanings_counted, operates}
-use Rattle.ocl_compile.proofs.Reaching.{Reached, plain_reached, let_reached, if_reached, iteration_reached, fold_reached}
+use Rattle.ocl_compile.proofs.Reaching.{Reached, is_iterating, plain_reached, let_reached, if_reached, iteration_reached, fold_reached}
 
 module _ (s : Setting) (first : Configuration) (goes_on : (k : ℕ) (c : Configuration) → run s k first ≡ Some c → outcome c ≡ None → (d : Configuration) × (step s c ≡ Some d)) (n : Numbering) where
   abbrev At : CodeTree → List Piece → List Value → List Value → Type 0
   At t ps vars os = Reached s first goes_on (configuration (Sequence t ∷ ps) vars os)
 
   abbrev Known : List Use → Type 0
-  Known us = AreResolved s.population.model s.unit n us
+  Known us = AreUsesResolved s.population.model s.unit n us
 
   constant_reached : (c : Constant) → Known (constant_uses c) → (rest : CodeTree) (ps : List Piece) (vars os : List Value) → At (code.Plain (constant_instr n c) rest) ps vars os → At rest ps vars (constant_value c ∷ os)
   constant_reached (tree.Boolean b) h rest ps vars os r = plain_reached s first goes_on (instrs.Bool b) rest ps vars os r
@@ -84,7 +85,7 @@ module _ (s : Setting) (first : Configuration) (goes_on : (k : ℕ) (c : Configu
         let after = of_rest m s.unit n (tree_uses m source) _ h in
         let in_body = of_rest m s.unit n (iteration_uses it) _ after in
         let below = tree_reached source g _ t.4 (of_first m s.unit n (tree_uses m source) _ h) (iteration_block n it b rest) ps vars os r in
-        iteration_reached s first goes_on n it (instr_count b) b rest ps vars os (meaning s.population source vars) (λ e. meaning s.population body (element_value e ∷ vars)) below
+        iteration_reached s first goes_on (iteration_instr n it (instr_count b)) it (is_iterating s first goes_on n it (instr_count b)) b rest ps vars os (meaning s.population source vars) (λ e. meaning s.population body (element_value e ∷ vars)) below
         (λ e q begun. tree_reached body _ t.3 t.6 in_body code.End q (element_value e ∷ vars) os begun)
     tree_reached (tree.Fold x source start body) g k t h rest ps vars os r =
         let m = s.population.model in

@@ -17,12 +17,13 @@ use Rattle.rule_values.specs.Value.{object_value}
 use Rattle.rule_machine.specs.Machine.{setting_of, configuration, run, start}
 use Rattle.rule_machine.specs.Laws.{IsAcceptedRun, tree_of_rule, rule_bound, verdict_at}
 use Rattle.rule_machine.proofs.ForAbove.{goes_on, within_bound, verdict_found}
-use Rattle.ocl_compile.specs.Meaning.{meaning, meant_verdict}
+use Rattle.ocl_semantics.specs.Meaning.{meaning, meant_verdict}
 use Rattle.ocl_compile.specs.Numbering.{Numbering, rule_uses, rules_uses, numbering_of}
 use Rattle.ocl_compile.specs.Translation.{rule_tree, translate_rule, translate_rules}
 use Rattle.ocl_compile.specs.Compiling.{first_passed}
 use Rattle.ocl_compile.specs.CompileLaws.{KeepsRules, CompiledKeepsRules, IsCompiledRun, CompiledIsAccepted, RunsEndWithMeaning, VerdictsAreMeant}
-use Rattle.ocl_compile.proofs.Resolved.{AreResolved, of_first, of_rest}
+use Rattle.ocl_compile.specs.ResolvedUses.{AreUsesResolved}
+use Rattle.ocl_compile.proofs.Resolved.{of_first, of_rest}
 use Rattle.ocl_compile.proofs.Resolving.{rules_resolved}
 use Rattle.ocl_compile.proofs.Compiled.{tree_reached}
 use Rattle.ocl_compile.proofs.CompiledUnits.{compiled_is, rule_code_is, context_is, unit_accepted}
@@ -39,11 +40,11 @@ typed_at m [] n r h e = cc
 typed_at m (x ∷ rs) zero r h e = let same : x ≡ r = cc in subst (IsTypedRule m) same h.0
 typed_at m (x ∷ rs) (suc n) r h e = typed_at m rs n r h.1 e
 
-resolved_at : (m : Model) (u : Content) (k : Numbering) (rs : List CheckedRule) (n : ℕ) (r : CheckedRule) → AreResolved m u k (rules_uses m rs) → slice_get rs n ≡ Some r → AreResolved m u k (rule_uses m r)
+resolved_at : (m : Model) (u : Content) (k : Numbering) (rs : List CheckedRule) (n : ℕ) (r : CheckedRule) → AreUsesResolved m u k (rules_uses m rs) → slice_get rs n ≡ Some r → AreUsesResolved m u k (rule_uses m r)
 resolved_at m u k [] n r h e = cc
 resolved_at m u k (x ∷ rs) zero r h e =
     let same : x ≡ r = cc in
-    subst (λ (y : CheckedRule). AreResolved m u k (rule_uses m y)) same (of_first m u k (rule_uses m x) (rules_uses m rs) h)
+    subst (λ (y : CheckedRule). AreUsesResolved m u k (rule_uses m y)) same (of_first m u k (rule_uses m x) (rules_uses m rs) h)
 resolved_at m u k (x ∷ rs) (suc n) r h e = resolved_at m u k rs n r (of_rest m u k (rule_uses m x) (rules_uses m rs) h) e
 
 -- the rule in a place of the unit of rules
@@ -60,7 +61,7 @@ module _ (m : Model) (model : IsClassModel m) (rs : List CheckedRule) (typed : A
   inside : n < length (translate_rules m rs).rules
   inside = slice_get_within (translate_rules m rs).rules n code code_at
 
-  resolved : AreResolved m (translate_rules m rs) (numbering_of m rs) (rule_uses m r)
+  resolved : AreUsesResolved m (translate_rules m rs) (numbering_of m rs) (rule_uses m r)
   resolved = resolved_at m (translate_rules m rs) (numbering_of m rs) rs n r (rules_resolved m model rs typed) at
 
   name_kept : text_at (translate_rules m rs).texts (unit_rule (translate_rules m rs) n).name ≡ r.name

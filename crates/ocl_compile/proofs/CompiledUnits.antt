@@ -30,7 +30,8 @@ use Rattle.ocl_compile.specs.declared.fault.Limit.{Limit}
 use Rattle.ocl_compile.specs.Numbering.{Numbering, rule_uses, rules_uses, numbering_of}
 use Rattle.ocl_compile.specs.Translation.{rule_tree, translate_rule, translate_rules}
 use Rattle.ocl_compile.specs.Compiling.{is_too_large, compiled_depths, limit_passed, LimitAt, or_later, first_passed, unless_passed}
-use Rattle.ocl_compile.proofs.Resolved.{AreResolved, of_first, of_rest}
+use Rattle.ocl_compile.specs.ResolvedUses.{AreUsesResolved}
+use Rattle.ocl_compile.proofs.Resolved.{of_first, of_rest}
 use Rattle.ocl_compile.proofs.Flat.{tree_flat, translated_cut}
 use Rattle.ocl_compile.proofs.Kinded.{Narrower}
 use Rattle.ocl_compile.proofs.TreeKinds.{tree_past}
@@ -66,7 +67,7 @@ pub rule_code_is : (m : Model) (n : Numbering) (r : CheckedRule) → code_tree (
 rule_code_is m n r = tree_flat (rule_tree m n r) (translated_cut m n r.tree End tt)
 
 -- the context class of a rule stands under its number
-pub context_is : (m : Model) (u : Content) (n : Numbering) (r : CheckedRule) → AreResolved m u n (rule_uses m r) → context_class m u (translate_rule m n r) ≡ Some r.context
+pub context_is : (m : Model) (u : Content) (n : Numbering) (r : CheckedRule) → AreUsesResolved m u n (rule_uses m r) → context_class m u (translate_rule m n r) ≡ Some r.context
 context_is m u n r h = ap (λ (o : Option Named). class_in o) h.1.0
 
 -- the object is the one variable
@@ -84,7 +85,7 @@ none_later i None later e = (refl, e)
 
 module _ (m : Model) (all : List CheckedRule) where
   -- the code of a typed rule that passes no limit ends with a truth value
-  rule_has_kinds : (before : List CheckedRule) (r : CheckedRule) → IsTypedRule m r → AreResolved m (translate_rules m all) (numbering_of m all) (rule_uses m r) → limit_passed m all before r ≡ None
+  rule_has_kinds : (before : List CheckedRule) (r : CheckedRule) → IsTypedRule m r → AreUsesResolved m (translate_rules m all) (numbering_of m all) (rule_uses m r) → limit_passed m all before r ≡ None
       → (k : Kind) × (rule_ends (surroundings m (translate_rules m all) (length before) r.context) (rule_tree m (numbering_of m all) r) ≡ Ok k)
   rule_has_kinds before r typed resolved none =
       let n = numbering_of m all in
@@ -101,7 +102,7 @@ module _ (m : Model) (all : List CheckedRule) where
             ∙ ap (λ (b : Bool). check b (instr_fault flaws.LeftOver s.rule count) >>= (λ _. Ok p.kind)) fit,
       )
 
-  rule_checks : (before : List CheckedRule) (r : CheckedRule) → IsTypedRule m r → AreResolved m (translate_rules m all) (numbering_of m all) (rule_uses m r) → limit_passed m all before r ≡ None
+  rule_checks : (before : List CheckedRule) (r : CheckedRule) → IsTypedRule m r → AreUsesResolved m (translate_rules m all) (numbering_of m all) (rule_uses m r) → limit_passed m all before r ≡ None
       → check_rule m (translate_rules m all) (length before) (translate_rule m (numbering_of m all) r) ≡ Ok tt
   rule_checks before r typed resolved none =
       let n = numbering_of m all in
@@ -115,7 +116,7 @@ module _ (m : Model) (all : List CheckedRule) where
 
   -- ---- the rules in their order
 
-  rules_check : (before rs : List CheckedRule) → AllByRecursion (IsTypedRule m) rs → AreResolved m (translate_rules m all) (numbering_of m all) (rules_uses m rs) → first_passed m all before rs ≡ None
+  rules_check : (before rs : List CheckedRule) → AllByRecursion (IsTypedRule m) rs → AreUsesResolved m (translate_rules m all) (numbering_of m all) (rules_uses m rs) → first_passed m all before rs ≡ None
       → check_rules m (translate_rules m all) (length before) (map (translate_rule m (numbering_of m all)) rs) ≡ Ok tt
   rules_check before [] typed resolved none = refl
   rules_check before (r ∷ rs) typed resolved none =

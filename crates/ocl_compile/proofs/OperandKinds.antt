@@ -35,7 +35,7 @@ use Rattle.rule_verify.specs.Patterns.{matches, are_there, all_match, below}
 use Rattle.rule_verify.specs.Symbols.{named_at}
 use Rattle.ocl_compile.specs.Numbering.{Numbering, Use, symbol_number, scalar_uses, kind_uses, operator_uses}
 use Rattle.ocl_compile.specs.Translation.{written_scalar, written_kind, plain_instr, operator_instr}
-use Rattle.ocl_compile.proofs.Resolved.{AreResolved}
+use Rattle.ocl_compile.specs.ResolvedUses.{AreUsesResolved}
 use Rattle.ocl_compile.proofs.Kinded.{TakesKinds}
 
 -- ---- lists of kinds
@@ -56,7 +56,7 @@ kinds_stacked (l ∷ ls) ks = kinds_stacked ls (l ∷ ks)
 
 module _ (s : Surroundings) (n : Numbering) where
   abbrev Known : List Use → Type 0
-  Known us = AreResolved s.model s.unit n us
+  Known us = AreUsesResolved s.model s.unit n us
 
   -- a scalar kind means itself once it is written, where its symbol stands under its number
   pub scalar_is : (k : ScalarKind) → Known (scalar_uses k) → scalar_meant s (written_scalar n k) ≡ k

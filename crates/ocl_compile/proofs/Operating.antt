@@ -22,10 +22,10 @@ use Rattle.rule_verify.specs.InstrKinds.{operands_of}
 use Rattle.rule_values.specs.Value.{Value}
 use Rattle.rule_values.specs.Operations.{or_invalid, kind_test, type_test, cast}
 use Rattle.rule_machine.specs.Machine.{Setting, judged_by, result_of, on_class_named}
-use Rattle.ocl_compile.specs.Meaning.{operation_value, meanings}
+use Rattle.ocl_semantics.specs.Meaning.{operation_value, meanings}
 use Rattle.ocl_compile.specs.Numbering.{Numbering, operator_uses}
 use Rattle.ocl_compile.specs.Translation.{operator_instr}
-use Rattle.ocl_compile.proofs.Resolved.{AreResolved}
+use Rattle.ocl_compile.specs.ResolvedUses.{AreUsesResolved}
 
 -- operands put one after another on those below
 abbrev pub stacked : List Value → List Value → List Value
@@ -154,7 +154,7 @@ module _ (s : Setting) (n : Numbering) (vars : List Value) (v : Value) (os : Lis
   element_operates of_elements.ExcludesAll k ws e = with_one _ ws e (λ w. record { gives = refl; leaves = refl })
   element_operates of_elements.AsSet k ws e = with_none _ ws (none_more ws e) (record { gives = refl; leaves = refl })
 
-  class_operates : (operator : ClassOperator) (c : ℕ) → AreResolved s.population.model s.unit n (operator_uses (OfClass operator c)) → Operates (OfClass operator c) []
+  class_operates : (operator : ClassOperator) (c : ℕ) → AreUsesResolved s.population.model s.unit n (operator_uses (OfClass operator c)) → Operates (OfClass operator c) []
   class_operates of_class.IsKindOf c h =
       record { gives = ap (λ (x : Option Named). or_invalid (on_class_named (λ d. kind_test s.population d v) x)) h.0; leaves = refl }
   class_operates of_class.IsTypeOf c h =
@@ -163,7 +163,7 @@ module _ (s : Setting) (n : Numbering) (vars : List Value) (v : Value) (os : Lis
       record { gives = ap (λ (x : Option Named). or_invalid (on_class_named (λ d. cast s.population d v) x)) h.0; leaves = refl }
 
   -- the instruction of each operator gives its value, where there are as many operands as it takes
-  pub operates : (operator : Operator) (ws : List Value) → suc (length ws) ≡ operand_count operator → AreResolved s.population.model s.unit n (operator_uses operator) → Operates operator ws
+  pub operates : (operator : Operator) (ws : List Value) → suc (length ws) ≡ operand_count operator → AreUsesResolved s.population.model s.unit n (operator_uses operator) → Operates operator ws
   operates (Plain operator) ws e h = plain_operates operator ws e
   operates (OfClass operator c) ws e h = with_none _ ws (none_more ws e) (class_operates operator c h)
   operates (OfElements operator k) ws e h = element_operates operator k ws e

@@ -1,4 +1,4 @@
--- Runs of compiled code: what stands for a core tree puts the value that the tree means on the operands.
+-- Runs of accepted code, an instruction or a block at a time: what it puts on the operands.
 use Rattle.std.proofs.Common.{◌≡◌, ℕ, ◌+◌, Bool, true, false, List, [], ◌∷◌, ◌++◌, map, length, drop, Option, Some, None, refl, sym, ap, ◌∙◌, subst, append_assoc, append-nil, if◌then◌else◌}
 use Rattle.std.specs.Prelude.{option_and_then, nat_le, ◌&&◌}
 use Rattle.std.specs.Option.{option_map}
@@ -13,11 +13,12 @@ use Rattle.ocl_core.specs.declared.core_tree.Iteration.TheVariants as iteration
 use Rattle.rule_values.specs.Value as value
 use Rattle.rule_values.specs.Value.{Element, Value, element_value}
 use Rattle.rule_values.specs.Operations.{or_invalid}
-use Rattle.rule_values.specs.Endings.{Source, ending}
+use Rattle.rule_values.specs.Endings.{Source}
+use Rattle.rule_machine.specs.IterationResults.{ending}
 use Rattle.rule_machine.specs.Machine.{Setting, judged_by, is_what, operands_below, result_of, performed, Piece, Sequence, LetEnd, Opened, Turning, Skipped, Configuration, configuration, branched, opened_over, block_opened, keeping, turned, on_operand, step, run}
-use Rattle.rule_machine.specs.Verdict.{outcome}
+use Rattle.rule_machine.specs.Outcome.{outcome}
 use Rattle.rule_machine.proofs.ForAbove.{one_bound, element_bound, one_kept, run_more}
-use Rattle.ocl_compile.specs.Meaning.{iteration_value, iterated, fold_over, folded, chosen}
+use Rattle.ocl_semantics.specs.Meaning.{iteration_value, iterated, fold_over, folded, chosen}
 use Rattle.ocl_compile.specs.Numbering.{Numbering}
 use Rattle.ocl_compile.specs.Translation.{iteration_instr}
 
@@ -132,13 +133,14 @@ module _ (s : Setting) (first : Configuration) (goes_on : (k : ℕ) (c : Configu
       (turns_reached i one body source ps vars os f go left (kept ++ f e ∷ []) next)
 
   -- an iteration takes one operand, is opened over it, and ends as its value is defined
-  record IsIterating (n : Numbering) (it : Iteration) (len : ℕ) : Type 0 where
-    topmost : operands_above (iteration_instr n it len) ≡ 0
-    one : length (operands_of (judged_by s) (iteration_instr n it len)) ≡ 1
-    opens : (body : CodeTree) (v : Value) (os : List Value) (ps : List Piece) (vars left : List Value) → block_opened (iteration_instr n it len) body (v ∷ os) ps vars left ≡ opened_over (iteration_instr n it len) body v [] ps vars left
-    ends : (source : Source) (bs : List Value) → ending (iteration_instr n it len) source bs ≡ iteration_value it source bs
+  pub record IsIterating (i : Instr) (it : Iteration) : Type 0 where
+    pub topmost : operands_above i ≡ 0
+    pub one : length (operands_of (judged_by s) i) ≡ 1
+    pub opens : (body : CodeTree) (v : Value) (os : List Value) (ps : List Piece) (vars left : List Value) → block_opened i body (v ∷ os) ps vars left ≡ opened_over i body v [] ps vars left
+    pub ends : (source : Source) (bs : List Value) → ending i source bs ≡ iteration_value it source bs
 
-  is_iterating : (n : Numbering) (it : Iteration) (len : ℕ) → IsIterating n it len
+  -- so do those that stand for iterations
+  pub is_iterating : (n : Numbering) (it : Iteration) (len : ℕ) → IsIterating (iteration_instr n it len) it
   is_iterating n iteration.ForAll len = record { topmost = refl; one = refl; opens = λ body v os ps vars left. refl; ends = λ source bs. refl }
   is_iterating n iteration.Exists len = record { topmost = refl; one = refl; opens = λ body v os ps vars left. refl; ends = λ source bs. refl }
   is_iterating n iteration.One len = record { topmost = refl; one = refl; opens = λ body v os ps vars left. refl; ends = λ source bs. refl }
@@ -149,26 +151,23 @@ module _ (s : Setting) (first : Configuration) (goes_on : (k : ℕ) (c : Configu
   is_iterating n (iteration.IsUnique k) len = record { topmost = refl; one = refl; opens = λ body v os ps vars left. refl; ends = λ source bs. refl }
 
   -- and one that comes to an iteration comes past it, with the value over all turns
-  pub iteration_reached : (n : Numbering) (it : Iteration) (len : ℕ) (body rest : CodeTree) (ps : List Piece) (vars os : List Value) (v : Value) (f : Element → Value)
-      → Reached (configuration (Sequence (Block (iteration_instr n it len) body rest) ∷ ps) vars (v ∷ os))
+  pub iteration_reached : (i : Instr) (it : Iteration) (known : IsIterating i it) (body rest : CodeTree) (ps : List Piece) (vars os : List Value) (v : Value) (f : Element → Value)
+      → Reached (configuration (Sequence (Block i body rest) ∷ ps) vars (v ∷ os))
       → ((e : Element) (q : List Piece) → Reached (configuration (Sequence body ∷ q) (element_value e ∷ vars) os) → Reached (configuration q (element_value e ∷ vars) (f e ∷ os)))
       → Reached (configuration (Sequence rest ∷ ps) vars (iterated it v f ∷ os))
-  iteration_reached n it len body rest ps vars os v f r go =
-      let i = iteration_instr n it len in
-      let known = is_iterating n it len in
+  iteration_reached i it known body rest ps vars os v f r go =
       let c = configuration (Sequence (Block i body rest) ∷ ps) vars (v ∷ os) in
       let m = goes_on r.0 c r.1 refl in
       let opened = one_operand s i v os (λ o left. block_opened i body (o ∷ os) (Sequence rest ∷ ps) vars left) m.0 known.one m.1 in
       by_value v m.0 (sym (known.opens body v os (Sequence rest ∷ ps) vars os) ∙ opened) (on_to c m.0 r m.1)
     where
-      by_value : (w : Value) (d : Configuration) → opened_over (iteration_instr n it len) body w [] (Sequence rest ∷ ps) vars os ≡ Some d → Reached d → Reached (configuration (Sequence rest ∷ ps) vars (iterated it w f ∷ os))
+      by_value : (w : Value) (d : Configuration) → opened_over i body w [] (Sequence rest ∷ ps) vars os ≡ Some d → Reached d → Reached (configuration (Sequence rest ∷ ps) vars (iterated it w f ∷ os))
       by_value (value.Collection k es) d e r =
-          let i = iteration_instr n it len in
           let source : Source = record { kind = k; elements = es } in
           let c = configuration (Opened i body source [] ∷ Sequence rest ∷ ps) vars os in
           let same : d ≡ c = cc in
           let begun = on_to c (turned i body source es [] (Sequence rest ∷ ps) vars os) (subst Reached same r) refl in
-          subst (λ x. Reached (configuration (Sequence rest ∷ ps) vars (x ∷ os))) ((is_iterating n it len).ends source (map f es)) (turns_reached i (is_iterating n it len).topmost body source (Sequence rest ∷ ps) vars os f go es [] begun)
+          subst (λ x. Reached (configuration (Sequence rest ∷ ps) vars (x ∷ os))) (known.ends source (map f es)) (turns_reached i known.topmost body source (Sequence rest ∷ ps) vars os f go es [] begun)
       by_value value.Invalid d e r =
           let c = configuration (Skipped ∷ Sequence rest ∷ ps) vars os in
           let same : d ≡ c = cc in

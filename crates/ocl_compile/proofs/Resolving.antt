@@ -33,7 +33,7 @@ use Rattle.rule_verify.specs.Symbols.{named_by, named_at}
 use Rattle.ocl_compile.specs.NumberWalk.{IsNamedIn, IsUseOf, AreUsesOf}
 use Rattle.ocl_compile.specs.Numbering.{same_named, literal_name, names_of_symbol, Use, UsedText, UsedSymbol, constant_uses, scalar_uses, kind_uses, operator_uses, iteration_uses, tree_uses, trees_uses, rule_uses, rules_uses, Numbering, no_numbers, once_more, with_texts, with_use, with_uses, numbering_of, text_number, symbol_number}
 use Rattle.ocl_compile.specs.Translation.{translate_symbol, unit_with}
-use Rattle.ocl_compile.proofs.Resolved.{IsResolved, AreResolved}
+use Rattle.ocl_compile.specs.ResolvedUses.{IsUseResolved, AreUsesResolved}
 
 -- ---- numbers of what stands in a list
 
@@ -265,7 +265,7 @@ module _ (m : Model) (model : IsClassModel m) (n : Numbering) (rs : List Checked
       ∙ ap (λ (t : List ℕ). option_map (named.Literal e) (literal_number m e t)) (text_stands n (literal_name m e l) h.1.0)
       ∙ ap (option_map (named.Literal e)) ((literals_have_names m model e there.0 (literal_name m e l) l).1 (there.1, refl))
 
-  use_resolved : (u : Use) → IsUseOf m u → Has m n u → IsResolved m (unit_with m n rs) n u
+  use_resolved : (u : Use) → IsUseOf m u → Has m n u → IsUseResolved m (unit_with m n rs) n u
   use_resolved (UsedText t) there h = text_stands n t h
   use_resolved (UsedSymbol x) there h =
       let p = numbered same_named n.symbols x h.0 in
@@ -275,11 +275,11 @@ module _ (m : Model) (model : IsClassModel m) (n : Numbering) (rs : List Checked
       ∙ ap (option_and_then (named_by m n.texts)) (slice_get-map (translate_symbol m n) n.symbols p.0 ∙ ap (option_map (translate_symbol m n)) is)
       ∙ symbol_stands x there h.1
 
-  uses_resolved : (us : List Use) → AreUsesOf m us → AllByRecursion (Has m n) us → AreResolved m (unit_with m n rs) n us
+  uses_resolved : (us : List Use) → AreUsesOf m us → AllByRecursion (Has m n) us → AreUsesResolved m (unit_with m n rs) n us
   uses_resolved [] there h = tt
   uses_resolved (u ∷ us) there h = (use_resolved u there.0 h.0, uses_resolved us there.1 h.1)
 
 -- all that typed rules use is resolved in their unit
-pub rules_resolved : (m : Model) → IsClassModel m → (rs : List CheckedRule) → AllByRecursion (IsTypedRule m) rs → AreResolved m (unit_with m (numbering_of m rs) rs) (numbering_of m rs) (rules_uses m rs)
+pub rules_resolved : (m : Model) → IsClassModel m → (rs : List CheckedRule) → AllByRecursion (IsTypedRule m) rs → AreUsesResolved m (unit_with m (numbering_of m rs) rs) (numbering_of m rs) (rules_uses m rs)
 rules_resolved m model rs typed =
     uses_resolved m model (numbering_of m rs) rs (rules_uses m rs) (rules_there m rs typed) (has_uses m no_numbers (rules_uses m rs))

@@ -30,13 +30,14 @@ use Rattle.rule_verify.specs.Patterns.{matches}
 use Rattle.rule_verify.specs.KindRules.{Enclosing, in_block, kinds_after}
 use Rattle.ocl_compile.specs.Numbering.{Numbering, Use, tree_uses, trees_uses, constant_uses, scalar_uses, kind_uses, iteration_uses, owned_feature}
 use Rattle.ocl_compile.specs.Translation.{constant_instr, variable_instr, operator_instr, iteration_instr, iteration_block, fold_block, let_block, if_block, written_scalar, written_kind, symbol_of_unit, translate, translate_all}
-use Rattle.ocl_compile.proofs.Resolved.{AreResolved, of_first, of_rest}
+use Rattle.ocl_compile.specs.ResolvedUses.{AreUsesResolved}
+use Rattle.ocl_compile.proofs.Resolved.{of_first, of_rest}
 use Rattle.ocl_compile.proofs.Kinded.{Narrower, bound_too, StandsDeep, IsShallow, TakesKinds, Past, past_plain, past_block, past_branch}
 use Rattle.ocl_compile.proofs.OperandKinds.{AllNarrower, kinds_stacked, TakesAndGives, scalar_is, kind_is, one_named, scalar_named, kind_named, is_fitting, takes_none, takes_one, takes_two, operator_takes}
 
 module _ (s : Surroundings) (n : Numbering) where
   abbrev Known : List Use → Type 0
-  Known us = AreResolved s.model s.unit n us
+  Known us = AreUsesResolved s.model s.unit n us
 
   -- ---- what has no operand
 

@@ -13,7 +13,7 @@ use Rattle.rule_verify.specs.UnitRules.{unit_rule, context_class, IsAcceptedUnit
 use Rattle.rule_values.specs.Value.{object_value}
 use Rattle.rule_machine.specs.Machine.{setting_of, configuration, run, start}
 use Rattle.rule_machine.specs.Laws.{tree_of_rule, verdict_at}
-use Rattle.ocl_compile.specs.Meaning.{meaning, meant_verdict}
+use Rattle.ocl_semantics.specs.Meaning.{meaning, meant_verdict}
 use Rattle.ocl_compile.specs.Compiling.{compile_of}
 
 abbrev pub AreTypedRules : Model → List CheckedRule → Type 0

@@ -1,6 +1,6 @@
 -- Definitions: what contracts mean.
-pub mod Meaning
 pub mod Numbering
+pub mod ResolvedUses
 pub mod Translation
 pub mod Compiling
 pub mod CompileFaults

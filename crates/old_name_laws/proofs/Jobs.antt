@@ -5,7 +5,7 @@ use Rattle.imkl_population.specs.declared.object.Object.{Object}
 use Rattle.imkl_population.specs.Population.{Population}
 use Rattle.rule_machine.specs.Machine.{Setting, setting_of, Configuration, step, start}
 use Rattle.rule_machine.specs.Charges.{charge_of}
-use Rattle.rule_machine.specs.Verdict.{outcome}
+use Rattle.rule_machine.specs.Outcome.{outcome}
 use Rattle.rule_machine.specs.Laws.{tree_of_rule, verdict_at}
 use Rattle.rule_report.specs.Report.{context_objects, verdicts_below, counts_of, name_of, object_line, rule_line_of, total_line, after_last, parts_below, report_parts}
 use Rattle.rule_report.specs.Cursor.{pairs_of_rules, all_pairs}

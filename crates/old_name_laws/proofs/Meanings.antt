@@ -6,9 +6,9 @@ use Rattle.ocl_core.specs.Core as tree
 use Rattle.ocl_core.specs.Core.{CoreTree, CoreTrees, CheckedRule}
 use Rattle.rule_values.specs.Value.{Value, element_value, object_value}
 use Rattle.rule_values.specs.Operations.{or_invalid, as_collection}
-use Rattle.rule_machine.specs.Verdict.{verdict_of}
+use Rattle.rule_values.specs.Verdict.{verdict_of}
 use Rattle.rule_report.specs.Report.{line_of, rule_line_of, total_line, counts_of}
-use Rattle.ocl_compile.specs.Meaning.{operation_value, iterated, folded, chosen, meaning, meanings, meant_verdict}
+use Rattle.ocl_semantics.specs.Meaning.{operation_value, iterated, folded, chosen, meaning, meanings, meant_verdict}
 use Rattle.ocl_check.specs.MeantReport.{meant_summary, meant_report}
 use Rattle.old_name_laws.specs.OldNames.{population_with}
 use Rattle.old_name_laws.proofs.Values.{read_alike}

@@ -2,9 +2,9 @@
 use Rattle.std.proofs.Common.{◌≡◌, ◌∙◌, ℕ, zero, suc, List, All, Option, Some, None, refl, ap, option_and_then}
 use Rattle.imkl_population.specs.declared.object.Object.{Object}
 use Rattle.imkl_population.specs.Population.{Population}
-use Rattle.rule_machine.specs.declared.verdict.Verdict.{Verdict}
+use Rattle.rule_values.specs.declared.verdict.Verdict.{Verdict}
 use Rattle.rule_machine.specs.Machine.{Setting, setting_of, Configuration, step, start}
-use Rattle.rule_machine.specs.Verdict.{outcome}
+use Rattle.rule_machine.specs.Outcome.{outcome}
 use Rattle.rule_machine.specs.Laws.{tree_of_rule, first_there, verdict_within, verdict_at}
 use Rattle.old_name_laws.proofs.Symbols.{Case, in_one, in_other, IsAlike, RuleAgrees}
 use Rattle.old_name_laws.proofs.Checks.{code_agrees}

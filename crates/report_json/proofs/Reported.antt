@@ -14,7 +14,7 @@ use Rattle.rule_code.specs.WellFormed.{IsUnit, RuleFits}
 use Rattle.rule_code.proofs.ForAbove.{EachFits-at}
 use Rattle.rule_verify.specs.UnitRules.{unit_rule}
 use Rattle.ocl_core.specs.Core.{CheckedRule}
-use Rattle.ocl_compile.specs.Meaning.{meant_verdict}
+use Rattle.ocl_semantics.specs.Meaning.{meant_verdict}
 use Rattle.rule_report.specs.Report.{Verdicts, context_objects, rule_verdicts, all_verdicts, counts_of, name_of, reports_below, report_of_rule, report_by}
 use Rattle.ocl_check.specs.MeantReport.{meant_verdicts, meant_summary, meant_report, meant_report_of_rule}
 use Rattle.report_json.specs.JsonLines.{json_of_report}

@@ -2,7 +2,7 @@
 use Rattle.std.proofs.Common.{◌≡◌, ℕ, List, [], ◌∷◌, ◌++◌, codes, Some, None, refl, ap, ◌∙◌, append_assoc}
 use Rattle.std.specs.List.{AllByRecursion, join_with_byte, flat_map}
 use Rattle.std.specs.Fmt.{decimal}
-use Rattle.rule_machine.specs.declared.verdict.Verdict.TheVariants.{Holds, Fails, Undecided}
+use Rattle.rule_values.specs.declared.verdict.Verdict.TheVariants.{Holds, Fails, Undecided}
 use Rattle.report_json.specs.JsonLines.{json_of_report}
 use Rattle.report_json.specs.ReportLines.{ReportLine, OfObject, OfRule, OfAll, written_as_text, written_as_json}
 use Rattle.report_json.proofs.Words.{IsAbove, line_first}

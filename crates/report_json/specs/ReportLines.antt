@@ -5,9 +5,9 @@ use Rattle.std.specs.Fmt.{decimal}
 use Rattle.imkl_population.specs.Population.{Population, object_at, instances}
 use Rattle.rule_code.specs.Content.{Content}
 use Rattle.ocl_core.specs.Core.{CheckedRule}
-use Rattle.ocl_compile.specs.Meaning.{meant_verdict}
-use Rattle.rule_machine.specs.declared.verdict.Verdict.{Verdict}
-use Rattle.rule_machine.specs.declared.verdict.Verdict.TheVariants.{Fails, Undecided}
+use Rattle.ocl_semantics.specs.Meaning.{meant_verdict}
+use Rattle.rule_values.specs.declared.verdict.Verdict.{Verdict}
+use Rattle.rule_values.specs.declared.verdict.Verdict.TheVariants.{Fails, Undecided}
 use Rattle.rule_report.specs.declared.summary.Summary.{Summary}
 use Rattle.rule_report.specs.Report.{Verdicts, context_objects, rule_verdicts, all_verdicts, counts_of, name_of, line_of, rule_line_of, total_line}
 use Rattle.ocl_check.specs.MeantReport.{meant_verdicts, meant_summary}

@@ -6,11 +6,11 @@ use Rattle.rule_code.specs.Content.{Content}
 use Rattle.rule_verify.specs.UnitRules.{unit_rule, takes_memory}
 use Rattle.rule_cost.specs.Admission.{Admission}
 use Rattle.ocl_base.specs.declared.memory.OutOfMemory.{OutOfMemory}
-use Rattle.rule_machine.specs.declared.verdict.Verdict.{Verdict}
+use Rattle.rule_values.specs.declared.verdict.Verdict.{Verdict}
 use Rattle.rule_machine.specs.declared.progress.Progress.{Progress}
 use Rattle.rule_machine.specs.declared.progress.Progress.TheVariants.{Paused, Done}
 use Rattle.rule_machine.specs.Machine.{Configuration}
-use Rattle.rule_machine.specs.Verdict.{outcome}
+use Rattle.rule_machine.specs.Outcome.{outcome}
 use Rattle.rule_machine.specs.Laws.{verdict_at}
 use Rattle.rule_machine.specs.Seen.{Seen, Represents}
 use Rattle.rule_machine.specs.Contract.{SameTask, Ran, IsCount}

@@ -16,7 +16,7 @@ use Rattle.rule_verify.specs.UnitRules.{context_class, unit_rule}
 use Rattle.rule_cost.specs.Admission.{Admission, Fits, IsAdmission, rule_step_bound}
 use Rattle.rule_machine.specs.Machine.{setting_of, Configuration, run, start}
 use Rattle.rule_machine.specs.Charges.{charge_of, work_of}
-use Rattle.rule_machine.specs.Verdict.{outcome}
+use Rattle.rule_machine.specs.Outcome.{outcome}
 use Rattle.rule_machine.specs.Laws.{IsAcceptedRun, tree_of_rule, rule_bound}
 use Rattle.rule_machine.proofs.ForAbove.{charged}
 use Rattle.rule_report.specs.Report.{instances_of, context_objects}

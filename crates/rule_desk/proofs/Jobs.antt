@@ -7,12 +7,12 @@ use Rattle.imkl_population.specs.Population.{Population}
 use Rattle.rule_code.specs.Content.{Content}
 use Rattle.rule_cost.specs.Admission.{Admission, Fits, IsAdmission}
 use Rattle.ocl_base.specs.declared.memory.OutOfMemory.{OutOfMemory}
-use Rattle.rule_machine.specs.declared.verdict.Verdict.{Verdict}
+use Rattle.rule_values.specs.declared.verdict.Verdict.{Verdict}
 use Rattle.rule_machine.specs.declared.progress.Progress.{Progress}
 use Rattle.rule_machine.specs.declared.progress.Progress.TheVariants.{Paused, Done}
 use Rattle.rule_machine.specs.Machine.{Setting, setting_of, Configuration, run, start}
 use Rattle.rule_machine.specs.Charges.{charge_of, work_of}
-use Rattle.rule_machine.specs.Verdict.{outcome}
+use Rattle.rule_machine.specs.Outcome.{outcome}
 use Rattle.rule_machine.specs.Laws.{tree_of_rule, rule_bound, verdict_at}
 use Rattle.rule_machine.specs.Seen.{Seen, Represents}
 use Rattle.rule_machine.specs.Contract.{Ran, IsCount, Further}

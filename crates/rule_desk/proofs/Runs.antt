@@ -5,10 +5,10 @@ use Rattle.std.specs.Option.{option_map}
 use Rattle.imkl_population.specs.Population.{Population}
 use Rattle.rule_code.specs.Content.{Content}
 use Rattle.rule_values.specs.Value.{Value}
-use Rattle.rule_machine.specs.declared.verdict.Verdict.{Verdict}
+use Rattle.rule_values.specs.declared.verdict.Verdict.{Verdict}
 use Rattle.rule_machine.specs.Machine.{Setting, setting_of, Piece, Configuration, step, run, start}
 use Rattle.rule_machine.specs.Charges.{charge_of, work_of}
-use Rattle.rule_machine.specs.Verdict.{outcome, final_verdict}
+use Rattle.rule_machine.specs.Outcome.{outcome, final_verdict}
 use Rattle.rule_machine.specs.Laws.{IsAcceptedRun, tree_of_rule, rule_bound}
 use Rattle.rule_machine.proofs.ForAbove.{charged, work_first, work_more, steps_within, ends_within}
 use Rattle.rule_desk.specs.Job.{charges_within, pair_cost, greatest_total}

@@ -11,7 +11,7 @@ use Rattle.rule_code.specs.WellFormed.{IsUnit}
 use Rattle.rule_verify.specs.UnitRules.{IsAcceptedUnit}
 use Rattle.rule_machine.specs.Machine.{Setting, setting_of, Configuration, step, start}
 use Rattle.rule_machine.specs.Charges.{charge_of}
-use Rattle.rule_machine.specs.Verdict.{outcome}
+use Rattle.rule_machine.specs.Outcome.{outcome}
 use Rattle.rule_machine.specs.Laws.{tree_of_rule, rule_bound, verdict_at}
 use Rattle.rule_report.specs.Report.{context_objects}
 use Rattle.rule_report.specs.Cursor.{all_pairs, report_until}

@@ -3,7 +3,7 @@ use Rattle.std.specs.Prelude.{◌≡◌, ℕ, ◌+◌, ◌<◌, ◌≤◌, Bool,
 use Rattle.imkl_population.specs.Population.{Population}
 use Rattle.rule_cost.specs.Admission.{Admission, Fits, IsAdmission}
 use Rattle.rule_machine.specs.Machine.{Configuration}
-use Rattle.rule_machine.specs.Verdict.{outcome}
+use Rattle.rule_machine.specs.Outcome.{outcome}
 use Rattle.rule_machine.specs.Laws.{verdict_at}
 use Rattle.rule_machine.specs.Seen.{Seen, Represents}
 use Rattle.rule_report.specs.Cursor.{CursorSeen, told_pairs, due, IsToldBy, report_until, room_of}

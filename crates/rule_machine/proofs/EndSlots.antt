@@ -18,7 +18,8 @@ use Rattle.rule_verify.specs.InstrKinds.{scalar_meant, operands_above, ends_with
 use Rattle.rule_values.specs.Value as value
 use Rattle.rule_values.specs.Value.{Element, Value, as_element, same_element, truth_value, is_in, is_scalar_in, is_element_in}
 use Rattle.rule_values.specs.Operations.{is_true, is_false, is_invalid}
-use Rattle.rule_values.specs.Endings.{Source, kept_by, joined, collection_elements, is_undecided, count_true, accumulator, ending}
+use Rattle.rule_values.specs.Endings.{Source, kept_by, joined, collection_elements, is_undecided, count_true}
+use Rattle.rule_machine.specs.IterationResults.{accumulator, ending}
 use Rattle.rule_machine.specs.Machine.{Setting, judged_by, is_what}
 use Rattle.rule_slots.specs.declared.slot.Slot.{Slot}
 use Rattle.rule_slots.specs.declared.slot.Mark.{Mark}

@@ -24,7 +24,8 @@ use Rattle.rule_verify.specs.InstrKinds.{ends_with, collection_of}
 use Rattle.rule_values.specs.Value as value
 use Rattle.rule_values.specs.Value.{Element, Value, truth_value, as_element, same_element, is_element_in, are_elements, is_collection_in, is_in}
 use Rattle.rule_values.specs.Operations.{is_true, is_false, is_invalid}
-use Rattle.rule_values.specs.Endings.{Source, is_undecided, kept_by, collection_elements, joined, count_true, accumulator, ending, for_all, exists, collect, collect_flat}
+use Rattle.rule_values.specs.Endings.{Source, is_undecided, kept_by, collection_elements, joined, count_true, for_all, exists, collect, collect_flat}
+use Rattle.rule_machine.specs.IterationResults.{accumulator, ending}
 use Rattle.rule_machine.specs.Machine.{Setting, judged_by}
 use Rattle.rule_machine.specs.Places.{Place, place, long, At, EachAt, kept_place, yielded}
 use Rattle.rule_machine.specs.Live.{is_iteration, HasKept, turns_kept}

@@ -11,7 +11,8 @@ use Rattle.rule_verify.specs.InstrKinds.{operands_above, bound_count, scalar_mea
 use Rattle.rule_values.specs.Value as value
 use Rattle.rule_values.specs.Value.{Element, Value, element_value}
 use Rattle.rule_values.specs.Operations.{is_true, is_false, is_invalid}
-use Rattle.rule_values.specs.Endings.{Source, ending}
+use Rattle.rule_values.specs.Endings.{Source}
+use Rattle.rule_machine.specs.IterationResults.{ending}
 use Rattle.rule_machine.specs.Machine.{Setting, judged_by, is_what, Piece, Sequence, LetEnd, Opened, Turning, Skipped, Configuration, configuration, bound_values, keeping, turned, step}
 use Rattle.rule_machine.specs.Shown.{HasNext}
 use Rattle.rule_slots.specs.declared.slot.Slot.{Slot}

@@ -28,9 +28,10 @@ use Rattle.rule_verify.specs.InstrKinds.{has_names, scalar_meant, operands_of, o
 use Rattle.rule_cost.specs.Bounds.{taking_charge, ending_charge, block_charges}
 use Rattle.rule_values.specs.Value as value
 use Rattle.rule_values.specs.Value.{Element, Value, element_value, is_element_in, are_elements, is_collection_in, is_in}
-use Rattle.rule_values.specs.Endings.{Source, ending}
+use Rattle.rule_values.specs.Endings.{Source}
+use Rattle.rule_machine.specs.IterationResults.{ending}
 use Rattle.rule_machine.specs.Machine.{Setting, judged_by, is_what, are_what, operands_below, result_of, performed, Piece, Sequence, LetEnd, Opened, Turning, Skipped, Configuration, configuration, branched, opened_over, block_opened, bound_values, keeping, turned, step}
-use Rattle.rule_machine.specs.Verdict.{outcome}
+use Rattle.rule_machine.specs.Outcome.{outcome}
 use Rattle.rule_machine.specs.Places.{Place, place, kinds_of, long, At, AllAt, EachAt, given, places_left, bound_by, top_place, operand_place, kept_place, block_marked, yielded, end_place, Stand, stand, Mark, Here, Iterating, now_at, sequence_marked, marked, marks_for, AllHeldAt}
 use Rattle.rule_machine.specs.Charges.{turn_charge, charge_of}
 use Rattle.rule_machine.specs.Live.{AllBelow, IsTaken, is_iteration, block_gives, branch_gives, Kinded, HasKept, turns_kept, IsOpenIteration, IsOneBoolean, GoesNoDeeper, HasRoom, Going, IsThere, IsSettled, Live}

@@ -12,12 +12,12 @@ use Rattle.rule_machine.specs.Places.{Place, AllAt, now_at, Mark, Here, Iteratin
 use Rattle.rule_machine.specs.Live.{IsOneBoolean, Going}
 use Rattle.imkl_population.specs.Population.{Population}
 use Rattle.ocl_base.specs.declared.memory.OutOfMemory.{OutOfMemory}
-use Rattle.rule_machine.specs.declared.verdict.Verdict.{Verdict}
+use Rattle.rule_values.specs.declared.verdict.Verdict.{Verdict}
 use Rattle.rule_machine.specs.declared.state.State.{State}
 use Rattle.rule_machine.specs.declared.state.Started.{Started}
 use Rattle.rule_machine.specs.declared.task.Task.{Task}
 use Rattle.rule_machine.specs.Machine.{Setting, setting_of, is_what, Piece, Configuration, step, run, start}
-use Rattle.rule_machine.specs.Verdict.{outcome}
+use Rattle.rule_machine.specs.Outcome.{outcome}
 use Rattle.rule_machine.specs.Laws.{IsAcceptedRun, tree_of_rule, rule_bound, rule_depths_in, first_there, verdict_within, verdict_at}
 use Rattle.rule_machine.specs.Shown.{setting_in, task_lists, depths_in, HasNext, Is, IsTruth, EndsInTruth, CanGoOn, HasRoomFor, Room, SameRoom, Same, Stepped, IsAtFront, IsStartOf, IsTaskOf}
 use Rattle.rule_machine.specs.Charges.{charge_of, work_of}

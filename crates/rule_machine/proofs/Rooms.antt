@@ -17,7 +17,7 @@ use Rattle.rule_machine.specs.declared.piece.Piece.TheVariants as piece
 use Rattle.rule_machine.specs.declared.state.State.{State}
 use Rattle.rule_machine.specs.declared.task.Task.{Task}
 use Rattle.rule_machine.specs.Machine.{Setting, Piece, Sequence, LetEnd, Opened, Turning, Skipped, Configuration, configuration}
-use Rattle.rule_machine.specs.Verdict.{outcome}
+use Rattle.rule_machine.specs.Outcome.{outcome}
 use Rattle.rule_machine.specs.Laws.{StaysWithin}
 use Rattle.rule_machine.specs.StandFor.{StandsFor, TopStandsFor, IsAt}
 use Rattle.rule_machine.specs.Shown.{code_in, setting_in, task_lists, Is, IsFirstMark, IsAtFront, LiesIn, HasRoomFor, Room}

@@ -6,7 +6,7 @@ use Rattle.imkl_population.specs.Consistency.{IsConsistent}
 use Rattle.rule_verify.specs.declared.depths.Depths.{Depths}
 use Rattle.rule_values.specs.Value.{Value}
 use Rattle.rule_machine.specs.Machine.{Setting, Piece, Configuration, step, run}
-use Rattle.rule_machine.specs.Verdict.{outcome}
+use Rattle.rule_machine.specs.Outcome.{outcome}
 use Rattle.rule_machine.specs.Places.{Mark, marked, marks_for, marks_after}
 use Rattle.rule_machine.specs.Charges.{work_of}
 use Rattle.rule_machine.specs.Live.{Live}

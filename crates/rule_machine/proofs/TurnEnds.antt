@@ -13,7 +13,7 @@ use Rattle.std.proofs.lemmas.List.{length-take-le}
 use Rattle.ocl_base.specs.Lists.{repeats}
 use Rattle.rule_code.specs.declared.kind.WrittenScalar.{WrittenScalar}
 use Rattle.rule_values.specs.Value.{Value, as_element, same_element, is_in}
-use Rattle.rule_values.specs.Endings.{ending}
+use Rattle.rule_machine.specs.IterationResults.{ending}
 use Rattle.rule_values.specs.Operations.{is_true, is_false, is_invalid}
 use Rattle.rule_machine.specs.Machine.{Setting, judged_by, is_what, Piece, Turning, Configuration, step}
 use Rattle.rule_machine.specs.Shown.{HasNext}

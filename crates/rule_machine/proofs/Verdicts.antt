@@ -9,7 +9,8 @@ use Rattle.rule_slots.specs.Slots.{Lists, SlotIs}
 use Rattle.rule_machine.specs.declared.piece.Piece.{Piece as Pending}
 use Rattle.rule_machine.specs.declared.piece.Piece.TheVariants as piece
 use Rattle.rule_machine.specs.Machine.{Setting, Piece, Sequence, Configuration, configuration}
-use Rattle.rule_machine.specs.Verdict.{verdict_of, outcome}
+use Rattle.rule_values.specs.Verdict.{verdict_of}
+use Rattle.rule_machine.specs.Outcome.{outcome}
 use Rattle.rule_machine.specs.Counts.{LeavesOne}
 use Rattle.rule_machine.specs.StandFor.{TopStandsFor, IsAt, verdict_slot}
 use Rattle.rule_machine.specs.Shown.{IsTruth, EndsInTruth, IsMark}

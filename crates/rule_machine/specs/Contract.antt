@@ -1,12 +1,12 @@
 -- What the calls of a machine promise.
 use Rattle.std.specs.Prelude.{◌≡◌, ℕ, [], length, vec_capacity, suc, ◌+◌, ◌-◌, ◌^◌, ◌<◌, ◌≤◌, min, Some, None, Result, Ok, Err}
 use Rattle.ocl_base.specs.declared.memory.OutOfMemory.{OutOfMemory}
-use Rattle.rule_machine.specs.declared.verdict.Verdict.{Verdict}
+use Rattle.rule_values.specs.declared.verdict.Verdict.{Verdict}
 use Rattle.rule_machine.specs.declared.progress.Progress.{Progress}
 use Rattle.rule_machine.specs.declared.progress.Progress.TheVariants.{Paused, Done}
 use Rattle.rule_machine.specs.Machine.{Setting, setting_of, Configuration, run, start}
 use Rattle.rule_machine.specs.Charges.{work_of}
-use Rattle.rule_machine.specs.Verdict.{outcome}
+use Rattle.rule_machine.specs.Outcome.{outcome}
 use Rattle.rule_machine.specs.Laws.{tree_of_rule, rule_bound}
 use Rattle.rule_machine.specs.Seen.{Seen, Represents}
 use Rattle.rule_machine.specs.Shown.{HasRoomForRulesAlone}

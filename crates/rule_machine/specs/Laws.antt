@@ -15,8 +15,8 @@ use Rattle.rule_cost.specs.Bounds.{cost_of}
 use Rattle.rule_cost.specs.Admission.{rule_step_bound, Admission, IsAdmission, Fits}
 use Rattle.rule_machine.specs.Machine.{setting_of, judged_by, Setting, Configuration, step, run, start}
 use Rattle.rule_machine.specs.Charges.{work_of}
-use Rattle.rule_machine.specs.declared.verdict.Verdict.{Verdict}
-use Rattle.rule_machine.specs.Verdict.{outcome}
+use Rattle.rule_values.specs.declared.verdict.Verdict.{Verdict}
+use Rattle.rule_machine.specs.Outcome.{outcome}
 use Rattle.rule_machine.specs.Places.{Place, kinds_of, lengths_of, sizes_in, places_after, Mark, marks_before, marks_after, StandsAt}
 
 -- A unit that is accepted in a class model, a consistent population of it, the index of a rule, and an object of the

@@ -1,6 +1,7 @@
 -- Definitions: what contracts mean.
+pub mod IterationResults
 pub mod Machine
-pub mod Verdict
+pub mod Outcome
 pub mod Places
 pub mod Charges
 pub mod Laws

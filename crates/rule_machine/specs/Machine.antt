@@ -21,7 +21,8 @@ use Rattle.rule_verify.specs.InstrKinds.{Surroundings, surroundings, has_names, 
 use Rattle.rule_values.specs.Value as value
 use Rattle.rule_values.specs.Value.{Element, Value, is_in, is_collection_in, truth_value, object_value, element_value}
 use Rattle.rule_values.specs.Operations.{addition, subtraction, multiplication, division, remainder, lesser, greater, negative, absolute, less_than, at_most, negation, conjunction, disjunction, exclusive_disjunction, implication, equality, both_null, undefined_test, invalid_test, text_length, substring, kind_test, type_test, cast, value_read, all_instances, as_collection, collection_size, emptiness, membership, occurrence_count, inclusion, exclusion, summation, as_set}
-use Rattle.rule_values.specs.Endings.{Source, ending}
+use Rattle.rule_values.specs.Endings.{Source}
+use Rattle.rule_machine.specs.IterationResults.{ending}
 
 -- what code is run over: a unit, the index of a rule and its context class, and a population
 pub record Setting : Type 0 where

@@ -22,7 +22,7 @@ use Rattle.rule_machine.specs.declared.piece.Piece.TheVariants as piece
 use Rattle.rule_machine.specs.declared.state.State.{State}
 use Rattle.rule_machine.specs.declared.task.Task.{Task}
 use Rattle.rule_machine.specs.Machine.{Setting, setting_of, Piece, Configuration, step, start}
-use Rattle.rule_machine.specs.Verdict.{outcome}
+use Rattle.rule_machine.specs.Outcome.{outcome}
 use Rattle.rule_machine.specs.Live.{is_iteration}
 use Rattle.rule_machine.specs.StandFor.{IsAt, Between}
 

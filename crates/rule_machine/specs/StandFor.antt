@@ -18,8 +18,8 @@ use Rattle.rule_values.specs.Operations.{is_true, is_false, is_invalid}
 use Rattle.rule_values.specs.Endings.{Source, kept_by, joined}
 use Rattle.rule_machine.specs.Machine.{Setting, judged_by, is_what, are_what, result_of, performed, step, Piece, Sequence, LetEnd, Opened, Turning, Skipped, Configuration, configuration, turned}
 use Rattle.rule_slots.specs.declared.slot.Slot.{Slot}
-use Rattle.rule_machine.specs.declared.verdict.Verdict.{Verdict}
-use Rattle.rule_machine.specs.declared.verdict.Verdict.TheVariants.{Holds, Fails, Undecided}
+use Rattle.rule_values.specs.declared.verdict.Verdict.{Verdict}
+use Rattle.rule_values.specs.declared.verdict.Verdict.TheVariants.{Holds, Fails, Undecided}
 use Rattle.rule_slots.specs.Slots.{Lists, ElementsAre, PartIs, SlotIs, SlotsAre, plain_mark, invalid_mark, held_slots, truth_slot, invalid_slot, part_slot, POOL}
 use Rattle.rule_slots.specs.Operands.{is_number, known_slot}
 use Rattle.rule_slots.specs.Compared.{covers}

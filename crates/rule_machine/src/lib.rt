@@ -21,4 +21,4 @@ mod verdict;
 
 pub use machine::Machine;
 pub use progress::Progress;
-pub use verdict::Verdict;
+pub use rule_values::Verdict;

@@ -1,6 +1,6 @@
 //! How far a run came.
 
-use crate::verdict::Verdict;
+use rule_values::Verdict;
 
 /// How far a run came.
 #[derive(Clone, Copy, Debug, PartialEq, Eq)]

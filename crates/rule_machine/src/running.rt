@@ -11,9 +11,9 @@ use crate::charging::with_charge;
 use crate::progress::Progress;
 use crate::state::State;
 use crate::task::Task;
-use crate::verdict::Verdict;
 use imkl_population::ObjectNo;
 use ocl_base::OutOfMemory;
+use rule_values::Verdict;
 use std::marker::Brand;
 use std::sync::ledger::{Blank, Ledger};
 

@@ -2,17 +2,18 @@
 
 ghost use Rattle.std.specs.Prelude.{◌≡◌, ◌≤◌, ◌+◌, max, None, length, vec_capacity, IfOk, OnOk, MatchOption};
 ghost use Rattle.rule_machine.specs.Machine.{Configuration};
-ghost use Rattle.rule_machine.specs.Verdict.{outcome};
+ghost use Rattle.rule_machine.specs.Outcome.{outcome};
 ghost use Rattle.rule_machine.specs.Laws.{IsAcceptedRun};
 ghost use Rattle.rule_machine.specs.Shown.{depths_in, IsTask, LiesIn, CanGoOn, Same, IsStartOf, IsAtFront, HasRoomFor, HasNoItems, HasNoRoom, HasRoomOfBoth, SameRoom};
 
 use crate::piece::Piece;
 use crate::stack::ReservedStack;
 use crate::task::Task;
-use crate::verdict::{Verdict, verdict_of};
+use crate::verdict::verdict_of;
 use imkl_population::ObjectNo;
 use ocl_base::OutOfMemory;
 use rule_slots::{Slot, index_slot};
+use rule_values::Verdict;
 use rule_verify::Depths;
 use std::alloc::Global;
 

@@ -1,20 +1,10 @@
-//! What a rule says of an object.
+//! The verdict of a slot.
 
 ghost use Rattle.std.specs.Prelude.{◌≡◌};
 ghost use Rattle.rule_machine.specs.StandFor.{verdict_slot};
 
 use rule_slots::{Slot, is_false, is_true};
-
-/// What a rule says of an object.
-#[derive(Clone, Copy, Debug, PartialEq, Eq)]
-pub enum Verdict {
-    /// The rule is true of it.
-    Holds,
-    /// The rule is false of it.
-    Fails,
-    /// The rule is null or invalid there.
-    Undecided,
-}
+use rule_values::Verdict;
 
 /// The verdict of a truth value, null or invalid.
 pub(crate) fn verdict_of(value: Slot) -> Verdict

@@ -17,8 +17,8 @@ use Rattle.imkl_population.specs.Consistency.{IsConsistent}
 use Rattle.rule_code.specs.Content.{Content}
 use Rattle.rule_code.specs.WellFormed.{IsUnit}
 use Rattle.rule_verify.specs.UnitRules.{context_class, unit_rule}
-use Rattle.rule_machine.specs.declared.verdict.Verdict.{Verdict}
-use Rattle.rule_machine.specs.declared.verdict.Verdict.TheVariants.{Holds, Fails, Undecided}
+use Rattle.rule_values.specs.declared.verdict.Verdict.{Verdict}
+use Rattle.rule_values.specs.declared.verdict.Verdict.TheVariants.{Holds, Fails, Undecided}
 use Rattle.rule_report.specs.declared.summary.Summary.{Summary}
 use Rattle.rule_report.specs.Report.{Verdicts, context_objects, rule_verdicts, verdicts_below, count, counts_of, name_of, line_of, object_line, rule_line_of, rule_line, total_line, report_of_rule, reports_below, report_by, all_undecided, longest_report}
 use Rattle.rule_report.specs.Counting.{counted, counts_joined}

@@ -12,8 +12,8 @@ use Rattle.imkl_population.specs.declared.limits.TheConstants.{MAX_OBJECTS}
 use Rattle.imkl_population.specs.Consistency.{IsConsistent}
 use Rattle.rule_code.specs.Content.{Content}
 use Rattle.rule_verify.specs.UnitRules.{context_class, unit_rule}
-use Rattle.rule_machine.specs.declared.verdict.Verdict.{Verdict}
-use Rattle.rule_machine.specs.declared.verdict.Verdict.TheVariants.{Holds, Fails, Undecided}
+use Rattle.rule_values.specs.declared.verdict.Verdict.{Verdict}
+use Rattle.rule_values.specs.declared.verdict.Verdict.TheVariants.{Holds, Fails, Undecided}
 use Rattle.rule_report.specs.declared.summary.Summary.{Summary}
 use Rattle.rule_report.specs.Report.{Verdicts, context_objects, verdicts_below, all_verdicts, counts_of, name_of, line_of, object_line, rule_line, rule_line_of, total_line, reports_below}
 use Rattle.rule_report.specs.Counting.{all_counted, counted, counts_joined}

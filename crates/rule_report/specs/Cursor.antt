@@ -5,8 +5,8 @@ use Rattle.std.specs.List.{concat}
 use Rattle.imkl_population.specs.Population.{Population, object_at}
 use Rattle.imkl_population.specs.declared.limits.TheConstants.{MAX_OBJECTS}
 use Rattle.rule_code.specs.Content.{Content}
-use Rattle.rule_machine.specs.declared.verdict.Verdict.{Verdict}
-use Rattle.rule_machine.specs.declared.verdict.Verdict.TheVariants.{Holds, Fails, Undecided}
+use Rattle.rule_values.specs.declared.verdict.Verdict.{Verdict}
+use Rattle.rule_values.specs.declared.verdict.Verdict.TheVariants.{Holds, Fails, Undecided}
 use Rattle.rule_report.specs.declared.summary.Summary.{Summary}
 use Rattle.rule_report.specs.Report.{Verdicts, context_objects, verdicts_below, counts_of, name_of, line_of, rule_line_of, total_line, report_parts}
 use Rattle.rule_report.specs.Counting.{all_counted, counted, counts_joined}

@@ -5,7 +5,7 @@ ghost use Rattle.std.specs.List.{flat_map};
 ghost use Rattle.imkl_population.specs.Population.{object_at};
 ghost use Rattle.rule_code.specs.declared.limits.TheConstants.{MAX_TEXT_BYTES};
 ghost use Rattle.imkl_population.specs.declared.limits.TheConstants.{MAX_OBJECTS};
-ghost use Rattle.rule_machine.specs.declared.verdict.Verdict.TheVariants.{Undecided};
+ghost use Rattle.rule_values.specs.declared.verdict.Verdict.TheVariants.{Undecided};
 ghost use Rattle.rule_report.specs.Report.{all_undecided, context_objects, line_of, longest_report, report_of_rule};
 
 use crate::lines::{object_line_length, rule_line_length, total_line_length};

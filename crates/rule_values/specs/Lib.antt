@@ -3,4 +3,5 @@ pub mod Value
 pub mod Equality
 pub mod Operations
 pub mod Endings
+pub mod Verdict
 pub mod Laws

@@ -3,11 +3,11 @@ use Rattle.std.specs.Prelude.{min}
 use Rattle.std.proofs.lemmas.Result.{on_ok_weaker}
 use Rattle.ocl_core.specs.declared.core_tree.Core.{the_lemmas}
 use Rattle.ocl_core.specs.CoreView.{core_view}
-use Rattle.ocl_compile.specs.Meaning.{meaning}
+use Rattle.ocl_semantics.specs.Meaning.{meaning}
 use Rattle.rule_values.specs.Value.{element_value}
 use Rattle.owned_values.specs.Meant.{meant, meant_elements, AreElementsThere}
 use Rattle.owned_values.proofs.ForAbove.{kept_there}
-use Rattle.ocl_meaning.proofs.ForAbove.{spine_names, let_names}
+use Rattle.ocl_semantics.proofs.ForAbove.{spine_names, let_names}
 use Rattle.explain_why.proofs.Left.{first_there}
 use Rattle.explain_why.specs.Values.{max_shown}
 use Rattle.explain_why.specs.Explanation.{deciding_of, steps_lines}

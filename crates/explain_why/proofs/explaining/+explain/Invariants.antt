@@ -4,9 +4,9 @@ use Rattle.ocl_core.specs.Core.{cores_of, lets_of}
 use Rattle.ocl_core.specs.CoreView.{core_view}
 use Rattle.rule_values.specs.Value.{element_value}
 use Rattle.owned_values.specs.Meant.{meant, meant_elements, IsValueThere, AreElementsThere}
-use Rattle.ocl_compile.specs.Meaning.{meaning}
-use Rattle.ocl_meaning.specs.Resolved.{IsResolved, AreResolved, AreThere}
-use Rattle.ocl_meaning.specs.Evaluated.{bindings, AreLinksResolved}
+use Rattle.ocl_semantics.specs.Meaning.{meaning}
+use Rattle.ocl_semantics.specs.Resolved.{IsResolved, AreResolved, AreThere}
+use Rattle.ocl_semantics.specs.Evaluated.{bindings, AreLinksResolved}
 use Rattle.explain_why.specs.Explanation.{steps_lines, all_explained}
 use Rattle.explain_why.specs.PartWalk.{element_lines, step_lines, links_lines, lets_lines}
 use Rattle.explain_why.proofs.explaining.+explain.Given as goal

@@ -1,7 +1,7 @@
 use Rattle.std.proofs.Common.{sym, ◌∙◌}
 use Rattle.std.proofs.lemmas.Result.{IfOk-weaker}
 use Rattle.ocl_core.specs.CoreView.{core_view}
-use Rattle.ocl_meaning.proofs.ForAbove.{spine_meaning}
+use Rattle.ocl_semantics.proofs.ForAbove.{spine_meaning}
 use Rattle.explain_why.proofs.explaining.spine_value.Goals as goal
 
 pub returns-clause-value : goal.returns-clause-value

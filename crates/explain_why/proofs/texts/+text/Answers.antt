@@ -1,6 +1,6 @@
 use Rattle.std.proofs.Common.{rules}
 use Rattle.ocl_core.specs.declared.core_tree.Core.{the_lemmas}
-use Rattle.ocl_meaning.proofs.ForAbove.{spine_names, let_names}
+use Rattle.ocl_semantics.proofs.ForAbove.{spine_names, let_names}
 use Rattle.explain_why.proofs.TextNodes.{spine_written, let_written, let_wraps, bytes_where, wraps_where}
 use Rattle.explain_why.proofs.texts.+text.Goals as goal
 

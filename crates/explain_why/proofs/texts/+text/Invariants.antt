@@ -2,8 +2,8 @@ use Rattle.std.proofs.Common.{◌≡◌, ◌+◌, ◌++◌, length, map, drop, s
 use Rattle.std.specs.List.{AllByRecursion}
 use Rattle.ocl_core.specs.Core.{cores_of}
 use Rattle.ocl_core.specs.CoreView.{core_view}
-use Rattle.ocl_meaning.specs.Resolved.{IsResolved, AreResolved}
-use Rattle.ocl_meaning.specs.Evaluated.{AreLinksResolved}
+use Rattle.ocl_semantics.specs.Resolved.{IsResolved, AreResolved}
+use Rattle.ocl_semantics.specs.Evaluated.{AreLinksResolved}
 use Rattle.explain_why.specs.Texts.{others_text}
 use Rattle.explain_why.specs.TextWalk.{written_text, links_text, lets_front}
 use Rattle.explain_why.proofs.texts.+text.Given as goal

@@ -1,7 +1,7 @@
 use Rattle.std.proofs.Common.{◌≡◌, ◌*◌, ◌≤◌, length, take, Some}
 use Rattle.std.specs.List.{flat_map}
 use Rattle.imkl_population.specs.Population.{object_at}
-use Rattle.rule_machine.specs.declared.verdict.Verdict.TheVariants.{Undecided}
+use Rattle.rule_values.specs.declared.verdict.Verdict.TheVariants.{Undecided}
 use Rattle.rule_report.specs.Report.{line_of}
 use Rattle.rule_report.proofs.longest.undecided_lines_length.Given as goal
 

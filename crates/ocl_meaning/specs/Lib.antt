@@ -1,4 +1,0 @@
--- Definitions: what contracts mean.
-pub mod Resolved
--- Bookkeeping: how links are evaluated, one after another.
-pub mod Evaluated
