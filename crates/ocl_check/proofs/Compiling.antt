@@ -8,20 +8,26 @@ use Rattle.imkl_model.specs.declared.fault.ModelFault.{ModelFault}
 use Rattle.rule_code.specs.Content.{Content}
 use Rattle.rule_code.specs.WellFormed.{IsUnit}
 use Rattle.rule_code.specs.Spelling.{spelling}
-use Rattle.ocl_check.specs.declared.reply.Reply as reply
+use Rattle.ocl_base.specs.Steps.{Fails}
+use Rattle.ocl_base.proofs.ForAbove.{ok_is, not_okay}
 use Rattle.ocl_check.specs.declared.outcome.CommandFault.{CommandFault}
 use Rattle.ocl_check.specs.declared.outcome.CommandFault.TheVariants.{OutOfMemory, Read, Write}
 use Rattle.ocl_check.specs.declared.outcome.Outcome.{Outcome}
 use Rattle.ocl_check.specs.declared.outcome.Outcome.TheVariants.{Status, Failed}
 use Rattle.ocl_check.specs.declared.commands.compile.Compiled.{Compiled}
-use Rattle.ocl_check.specs.declared.commands.compile.Compiled.TheVariants as compiled
 use Rattle.ocl_check.specs.Answers.{is_write}
-use Rattle.ocl_check.specs.Reply.{Answer, said}
-use Rattle.ocl_check.specs.TextReading.{TextReading, ReadsAs}
-use Rattle.ocl_check.specs.ThreeInputs.{model_of}
-use Rattle.ocl_check.specs.CompiledRules.{CompiledRules, TextRefusal, compiled_rules}
+use Rattle.ocl_check.specs.Reply.{Answer, refused}
+use Rattle.ocl_pipeline.specs.TextReading.{TextReading, ReadsAs}
+use Rattle.ocl_pipeline.specs.Inputs.{model_of}
+use Rattle.ocl_pipeline.specs.CompiledRules.{CompiledRules, TextRefusal, InText, InTypes, InCode, compiled_rules, IsUnitOf}
+use Rattle.ocl_pipeline.specs.declared.refusal.Refusal.{Refusal}
+use Rattle.ocl_pipeline.specs.declared.refusal.Refusal.TheVariants as refusal
+use Rattle.ocl_pipeline.specs.declared.stopped.Stopped.{Stopped}
+use Rattle.ocl_pipeline.specs.declared.stopped.Stopped.TheVariants as stop
+use Rattle.ocl_pipeline.specs.Stops.{stopped}
+use Rattle.ocl_pipeline.specs.Steps.{refused_as, text_refusal, model_in, text_in}
 use Rattle.ocl_check.specs.Compile.{CompileAnswer, nothing_compiled, compiled_code, compiled_answer, compile_model_answer, compile_answer, HasUnit, HasUnitFor, WholeUnless, IsCodeWritten, IsOfUnit}
-use Rattle.ocl_check.specs.TextParts.{IsUnitOf, compiled_seen, is_ended, IsRefusalOf}
+use Rattle.ocl_check.specs.CompileParts.{compiled_seen, is_ended, IsNothingFor}
 
 -- one answer for another that is equal
 pub seen_as : {E : Type 0} (result : Result Compiled E) (a b : CompileAnswer) → a ≡ b → IfOk result (λ c. compiled_seen c ≡ a) → IfOk result (λ c. compiled_seen c ≡ b)
@@ -46,22 +52,58 @@ pub no_unit_for : (x : Result Model ModelFault) (t : TextReading) (a : Answer) �
 no_unit_for (Err e) t a h = tt
 no_unit_for (Ok m) t a h = no_unit (compiled_rules m t) a h
 
--- a reply to a refused input goes with what an answer without code says
-pub refusal_keeps : {E : Type 0} (made : Result reply.Reply E) (result : Result Compiled E) (answer : CompileAnswer) (K : Type 0) → ((a : Answer) → nothing_compiled a ≡ answer → K)
-    → IfOk made (λ r. nothing_compiled (said r) ≡ answer) → IsRefusalOf made result → IfOk result (λ c. K)
-refusal_keeps (Ok r) result answer K kept h is = subst (λ (x : Result Compiled _). IfOk x (λ c. K)) (sym is) (kept (said r) h)
-refusal_keeps (Err e) result answer K kept h is = subst (λ (x : Result Compiled _). IfOk x (λ c. K)) (sym is) tt
+-- what is compiled of what the pipeline gives
+abbrev pub given_compiled : {A : Type 0} → (A → CompileAnswer) → Result A Refusal → CompileAnswer
+given_compiled f (Ok x) = f x
+given_compiled f (Err r) = nothing_compiled (refused r)
 
--- a reply that says what is answered of a refused input
-pub refusal_seen : {E : Type 0} (made : Result reply.Reply E) (result : Result Compiled E) (answer : CompileAnswer) → IfOk made (λ r. nothing_compiled (said r) ≡ answer) → IsRefusalOf made result → IfOk result (λ c. compiled_seen c ≡ answer)
-refusal_seen (Ok r) result answer h is = subst (λ (x : Result Compiled _). IfOk x (λ c. compiled_seen c ≡ answer)) (sym is) h
-refusal_seen (Err e) result answer h is = subst (λ (x : Result Compiled _). IfOk x (λ c. compiled_seen c ≡ answer)) (sym is) tt
+-- nothing, where the pipeline stopped
+nothing_given : {A : Type 0} (why : Stopped) (given : Result A Refusal) (f : A → CompileAnswer) (seen : CompileAnswer) → Fails stopped why given → IsNothingFor why seen → seen ≡ given_compiled f given
+nothing_given (stop.Refused r) given f seen h is = is ∙ sym (ap (given_compiled f) h)
+nothing_given stop.OutOfMemory given f seen h is = absurd is
 
--- the same where the answer says what rules out a case
-pub refusal_unless : {E : Type 0} (made : Result reply.Reply E) (C : Type 0) (a : Answer) (b : CompileAnswer) → ((C → ⊥) → nothing_compiled a ≡ b)
-    → IfOk made (λ r. said r ≡ a) → IfOk made (λ r. C → ⊥) → IfOk made (λ r. nothing_compiled (said r) ≡ b)
-refusal_unless (Ok r) C a b same h other = ap nothing_compiled h ∙ same other
-refusal_unless (Err e) C a b same h other = tt
+pub refusal_seen : {A E : Type 0} (result : Result Compiled E) (why : Stopped) (given : Result A Refusal) (f : A → CompileAnswer) → Fails stopped why given → IfOk result (λ c. IsNothingFor why (compiled_seen c))
+    → IfOk result (λ c. compiled_seen c ≡ given_compiled f given)
+refusal_seen (Ok c) why given f h is = nothing_given why given f (compiled_seen c) h is
+refusal_seen (Err e) why given f h is = tt
+
+-- a refusal goes with what an answer without code says
+nothing_keeps : (why : Stopped) (seen answer : CompileAnswer) (K : Type 0) → ((a : Answer) → nothing_compiled a ≡ answer → K) → IsNothingFor why seen → seen ≡ answer → K
+nothing_keeps (stop.Refused r) seen answer K kept is same = kept (refused r) (sym is ∙ same)
+nothing_keeps stop.OutOfMemory seen answer K kept is same = absurd is
+
+pub refusal_keeps : {E : Type 0} (result : Result Compiled E) (why : Stopped) (answer : CompileAnswer) (K : Type 0) → ((a : Answer) → nothing_compiled a ≡ answer → K)
+    → IfOk result (λ c. IsNothingFor why (compiled_seen c)) → IfOk result (λ c. compiled_seen c ≡ answer) → IfOk result (λ c. K)
+refusal_keeps (Ok c) why answer K kept is same = nothing_keeps why (compiled_seen c) answer K kept is same
+refusal_keeps (Err e) why answer K kept is same = tt
+
+-- what is compiled of a text, and of the class model before it
+rules_given : (o : Result CompiledRules TextRefusal) → given_compiled (λ (c : CompiledRules). compiled_code c.unit) (refused_as text_refusal o) ≡ compiled_answer o
+rules_given (Ok c) = refl
+rules_given (Err (InText f)) = refl
+rules_given (Err (InTypes f)) = refl
+rules_given (Err (InCode l)) = refl
+
+pub text_given : (m : Model) (t : TextReading) → given_compiled (λ (c : CompiledRules). compiled_code c.unit) (text_in m t) ≡ compiled_answer (compiled_rules m t)
+text_given m t = rules_given (compiled_rules m t)
+
+abbrev pub compiled_for : TextReading → Model → CompileAnswer
+compiled_for t m = compiled_answer (compiled_rules m t)
+
+model_given : (t : TextReading) (o : Result Model ModelFault) → given_compiled (compiled_for t) (refused_as refusal.Model o) ≡ compile_model_answer o t
+model_given t (Ok m) = refl
+model_given t (Err e) = refl
+
+pub inputs_given : (t : TextReading) (model : List ℕ) → given_compiled (compiled_for t) (model_in model) ≡ compile_answer model t
+inputs_given t model = model_given t (model_of model)
+
+-- a class model that was read is the one described
+read_is : (o : Result Model ModelFault) (m : Model) → refused_as refusal.Model o ≡ Ok m → o ≡ Ok m
+read_is (Ok n) m h = ap Ok (ok_is n m h)
+read_is (Err e) m h = absurd (not_okay (refusal.Model e) m h)
+
+pub model_is_read : (bytes : List ℕ) (m : Model) → model_in bytes ≡ Ok m → model_of bytes ≡ Ok m
+model_is_read bytes m h = read_is (model_of bytes) m h
 
 -- equal inputs are compiled alike
 abbrev IsCompiled : {E : Type 0} → Result Compiled E → List ℕ → List ℕ → Type 0

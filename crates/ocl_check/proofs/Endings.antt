@@ -26,6 +26,13 @@ pub ending_as : {S : Type 0} {contents : S → Option (List ℕ)} {has_failed : 
     → a ≡ b → IsEnding contents has_failed flushes has_pending is_whole a old o new → IsEnding contents has_failed flushes has_pending is_whole b old o new
 ending_as {S} {contents} {has_failed} {flushes} {has_pending} {is_whole} {a} {b} {old} {new} {o} same h = subst (λ (x : Answer). IsEnding contents has_failed flushes has_pending is_whole x old o new) same h
 
+-- equal inputs are answered alike
+pub three_alike : (answer : List ℕ → List ℕ → List ℕ → Answer) (a b c x y z : List ℕ) → a ≡ x → b ≡ y → c ≡ z → answer a b c ≡ answer x y z
+three_alike answer a b c x y z ax by cz = ap (λ (l : List ℕ). answer l b c) ax ∙ ap (λ (l : List ℕ). answer x l c) by ∙ ap (answer x y) cz
+
+pub four_alike : (answer : List ℕ → List ℕ → List ℕ → List ℕ → Answer) (a b c d x y z w : List ℕ) → a ≡ x → b ≡ y → c ≡ z → d ≡ w → answer a b c d ≡ answer x y z w
+four_alike answer a b c d x y z w ax by cz dw = ap (λ (l : List ℕ). answer l b c d) ax ∙ three_alike (answer x) b c d y z w by cz dw
+
 -- an input within the limit is within it however the command ends
 pub within : (o : Outcome) (xs : List ℕ) → length xs ≤ MAX_INPUT → IsWithin o xs
 within (Status s) xs h = h

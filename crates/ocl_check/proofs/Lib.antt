@@ -1,14 +1,8 @@
+pub mod Said
 pub mod Endings
-pub mod Accepting
-pub mod Budgets
-pub mod Scripts
 pub mod Inputs
-pub mod Described
-pub mod TextReadings
-pub mod OneReading
-pub mod TextCompiled
 pub mod MeantReports
 pub mod TextReports
-pub mod Asked
+pub mod Given
+pub mod Judging
 pub mod Compiling
-pub mod ForAbove

@@ -1,28 +1,26 @@
 -- What is answered of compiled rules is what is answered of their text.
-use Rattle.std.proofs.Common.{◌≡◌, ℕ, List, Result, Ok, Err, sym, ap, ◌∙◌, subst, refl}
+use Rattle.std.proofs.Common.{◌≡◌, ℕ, List, Result, Ok, Err, sym, ap, ◌∙◌, refl}
 use Rattle.imkl_model.specs.WellFormed.{IsClassModel}
 use Rattle.imkl_population.specs.Population.{Population}
 use Rattle.imkl_population.specs.Consistency.{IsConsistent}
 use Rattle.imkl_population.specs.Sizes.{sizes_of}
-use Rattle.ocl_base.specs.Steps.{◌>>=◌}
-use Rattle.ocl_base.proofs.ForAbove.{both_steps, ok_is, not_okay}
-use Rattle.imkl_model.specs.ClassModel.{Model}
-use Rattle.ocl_text.specs.Tree.{Rule}
 use Rattle.ocl_core.specs.Core.{CheckedRule}
-use Rattle.ocl_types.specs.AllRules.{RulesFaultAt, elaborate_rules}
 use Rattle.ocl_types.proofs.ForAbove.{all_typed}
 use Rattle.rule_code.specs.Content.{Content}
 use Rattle.rule_code.specs.WellFormed.{IsUnit}
 use Rattle.rule_cost.specs.Admission.{admission}
-use Rattle.ocl_compile.specs.Compiling.{LimitAt, compile_of}
+use Rattle.ocl_compile.specs.Compiling.{compile_of}
 use Rattle.ocl_compile.specs.CompileLaws.{AreTypedRules}
 use Rattle.ocl_compile.proofs.ForAbove.{compiled_is_accepted}
 use Rattle.rule_report.specs.Report.{summary_of}
 use Rattle.ocl_check.specs.CodeRules.{unit_answer, code_answer}
-use Rattle.ocl_check.specs.TextReading.{TextReading}
-use Rattle.ocl_check.specs.CompiledRules.{CompiledRules, TextRefusal, InTypes, InCode, in_text, in_types, in_code, compiled_rules}
+use Rattle.ocl_pipeline.specs.TextReading.{TextReading}
+use Rattle.ocl_pipeline.specs.CompiledRules.{CompiledRules, compiled_rules}
+use Rattle.ocl_pipeline.specs.Asked.{AreCompiledFor}
+use Rattle.ocl_pipeline.proofs.ForAbove.{compiled_parts}
 use Rattle.ocl_check.specs.Judge.{status_of, report_answer, admitted_answer, budget_answer}
 use Rattle.ocl_check.specs.JudgeText.{meant_answer, within_answer, rules_answer, text_answer}
+use Rattle.ocl_check.specs.Given.{meant_within}
 use Rattle.ocl_check.specs.MeantReport.{meant_report}
 use Rattle.ocl_check.proofs.MeantReports.{report_is_meant, summary_is_meant}
 
@@ -37,31 +35,14 @@ module _ (p : Population) (rs : List CheckedRule) (u : Content) (model : IsClass
   by_cost (Err r) = refl
   by_cost (Ok x) = answer_is_meant
 
-  -- the unit is accepted, and its report within a budget is that of the text
+  -- the report within a budget is that of the rules
+  pub report_is_within : (budget : ℕ) → budget_answer budget p u ≡ within_answer p rs (admission u (sizes_of p) budget)
+  report_is_within budget = by_cost (admission u (sizes_of p) budget)
+
+  -- and the unit is accepted
   text_is_answered : (budget : ℕ) → code_answer (budget_answer budget) p (Ok u) ≡ within_answer p rs (admission u (sizes_of p) budget)
   text_is_answered budget =
       ap (unit_answer (budget_answer budget) p u) (compiled_is_accepted p.model rs u model typed compiled) ∙ by_cost (admission u (sizes_of p) budget)
-
--- ---- compiled texts
-
-types_are : (o : Result (List CheckedRule) RulesFaultAt) (rs : List CheckedRule) → in_types o ≡ Ok rs → o ≡ Ok rs
-types_are (Ok xs) rs e = ap Ok (ok_is xs rs e)
-types_are (Err f) rs e = absurd (not_okay (InTypes f) rs e)
-
-code_is : (rs : List CheckedRule) (o : Result Content LimitAt) (c : CompiledRules) → in_code rs o ≡ Ok c → (rs ≡ c.rules) × (o ≡ Ok c.unit)
-code_is rs (Ok u) c e = let same = ok_is (record { rules = rs; unit = u }) c e in (ap (λ (x : CompiledRules). x.rules) same, ap (λ (x : CompiledRules). Ok x.unit) same)
-code_is rs (Err l) c e = absurd (not_okay (InCode l) c e)
-
--- the rules of a compiled text have types, and are what is compiled
-compiled_parts : (m : Model) (t : TextReading) (c : CompiledRules) → compiled_rules m t ≡ Ok c → (rules : List Rule) × (elaborate_rules m 0 rules ≡ Ok c.rules) × (compile_of m c.rules ≡ Ok c.unit)
-compiled_parts m t c e =
-    let a = both_steps (in_text t) (λ rules. in_types (elaborate_rules m 0 rules) >>= (λ typed. in_code typed (compile_of m typed))) c e in
-    let b = both_steps (in_types (elaborate_rules m 0 a.0)) (λ typed. in_code typed (compile_of m typed)) c a.2 in
-    let d = code_is b.0 (compile_of m b.0) c b.2 in (
-      a.0,
-      types_are (elaborate_rules m 0 a.0) b.0 b.1 ∙ ap Ok d.0,
-      subst (λ (rs : List CheckedRule). compile_of m rs ≡ Ok c.unit) d.0 d.1,
-    )
 
 -- the unit of a text is accepted, and its report within a budget is that of the text
 pub text_report : (budget : ℕ) (p : Population) (t : TextReading) (c : CompiledRules) → IsClassModel p.model → IsConsistent p → compiled_rules p.model t ≡ Ok c → IsUnit c.unit
@@ -70,3 +51,9 @@ text_report budget p t c model consistent compiled unit =
     let parts = compiled_parts p.model t c compiled in
     text_is_answered p c.rules c.unit model consistent (all_typed p.model model 0 parts.0 c.rules parts.1) parts.2 unit budget
     ∙ sym (ap (rules_answer budget p) compiled)
+
+-- the report by the unit of a text is the one that its rules mean
+pub meant_report_is : (budget : ℕ) (p : Population) (t : TextReading) (c : CompiledRules) → AreCompiledFor p t c → budget_answer budget p c.unit ≡ meant_within budget (p, c)
+meant_report_is budget p t c h =
+    let parts = compiled_parts p.model t c h.compiled in
+    report_is_within p c.rules c.unit h.model h.population (all_typed p.model h.model 0 parts.0 c.rules parts.1) parts.2 h.unit budget

@@ -9,10 +9,10 @@ use Rattle.rule_code.specs.WellFormed.{IsUnit}
 use Rattle.ocl_check.specs.declared.outcome.Outcome.{Outcome}
 use Rattle.ocl_check.specs.declared.outcome.Outcome.TheVariants.{Status, Failed}
 use Rattle.ocl_check.specs.declared.outcome.CommandFault.TheVariants.{Write}
-use Rattle.ocl_check.specs.ThreeInputs.{model_of}
+use Rattle.ocl_pipeline.specs.Inputs.{model_of}
 use Rattle.ocl_check.specs.Reply.{Answer, refused_model, refused_rules, compiled_reply}
-use Rattle.ocl_check.specs.TextReading.{TextReading}
-use Rattle.ocl_check.specs.CompiledRules.{CompiledRules, TextRefusal, compiled_rules}
+use Rattle.ocl_pipeline.specs.TextReading.{TextReading}
+use Rattle.ocl_pipeline.specs.CompiledRules.{CompiledRules, TextRefusal, compiled_rules}
 
 -- the code file, unless an input is refused, and what is printed
 pub record CompileAnswer : Type 0 where

@@ -1,5 +1,5 @@
 -- What `judge` answers of rules that come as text: the report of what they mean.
-use Rattle.std.specs.Prelude.{ℕ, ◌+◌, ◌≡◌, List, Result, Ok, Err}
+use Rattle.std.specs.Prelude.{ℕ, ◌≡◌, List, Result, Ok, Err}
 use Rattle.imkl_population.specs.Population.{Population}
 use Rattle.imkl_population.specs.Sizes.{sizes_of}
 use Rattle.ocl_core.specs.Core.{CheckedRule}
@@ -8,8 +8,8 @@ use Rattle.ocl_check.specs.declared.commands.judge.RulesForm.{RulesForm}
 use Rattle.ocl_check.specs.declared.commands.judge.RulesForm.TheVariants.{Code, Text}
 use Rattle.ocl_check.specs.declared.commands.judge.JudgeOptions.{JudgeOptions}
 use Rattle.ocl_check.specs.Reply.{Answer, refused_cost, refused_rules}
-use Rattle.ocl_check.specs.TextReading.{TextReading, ReadsAs}
-use Rattle.ocl_check.specs.CompiledRules.{CompiledRules, TextRefusal, compiled_rules}
+use Rattle.ocl_pipeline.specs.TextReading.{TextReading, ReadsAs}
+use Rattle.ocl_pipeline.specs.CompiledRules.{CompiledRules, TextRefusal, compiled_rules}
 use Rattle.ocl_check.specs.MeantReport.{meant_report, meant_summary}
 use Rattle.ocl_check.specs.ThreeInputs.{inputs_answer}
 use Rattle.ocl_check.specs.Judge.{status_of, judge_answer}

@@ -5,8 +5,6 @@ pub mod Answers
 pub mod ThreeInputs
 pub mod CodeRules
 pub mod Judge
-pub mod TextReading
-pub mod CompiledRules
 pub mod MeantReport
 pub mod JudgeText
 pub mod Bound
@@ -16,5 +14,5 @@ pub mod Compile
 pub mod TextLaws
 -- Bookkeeping: what only private contracts use.
 pub mod Ending
-pub mod Asking
-pub mod TextParts
+pub mod Given
+pub mod CompileParts

@@ -6,7 +6,7 @@ use Rattle.rule_code.specs.Content.{Content}
 use Rattle.rule_code.specs.CodeFile.{CodeFaultAt, unit_of}
 use Rattle.rule_verify.specs.KindRules.{InstrFault}
 use Rattle.rule_verify.specs.UnitRules.{check_unit}
-use Rattle.ocl_check.specs.ThreeInputs.{model_of}
+use Rattle.ocl_pipeline.specs.Inputs.{model_of}
 use Rattle.ocl_check.specs.Reply.{Answer, refused_model, refused_code, refused_verify, accepted_reply}
 
 -- a unit with a fault is refused, else it is accepted

@@ -1,27 +1,8 @@
-//! Laws of rule texts, over the definitions alone.
+//! A law of rule texts and code files, over the definitions alone.
 
-ghost use Rattle.ocl_check.specs.TextLaws.{EachTextIsRead, ReadingsAreDetermined, CompiledFileIsJudgedAsItsText};
+ghost use Rattle.ocl_check.specs.TextLaws.{CompiledFileIsJudgedAsItsText};
 
-use ocl_text::{each_list_spells_or_is_refused, rules_are_determined};
-use ocl_tokens::{each_text_has_tokens_or_a_fault, tokens_are_determined};
 use rule_code::laws::reading_undoes_spelling;
-
-/// All bytes are read as a rule text: as its rules, or as a flaw that it has.
-pub fn each_text_is_read()
-    ensures { EachTextIsRead }
-{
-    each_text_has_tokens_or_a_fault();
-    each_list_spells_or_is_refused();
-}
-
-/// Bytes are read in one way, unless they are refused as Syntax or TooDeep, which may be reported of
-/// different tokens.
-pub fn readings_are_determined()
-    ensures { ReadingsAreDetermined }
-{
-    tokens_are_determined();
-    rules_are_determined();
-}
 
 /// Judging a population by the code file that a text is compiled to gives the answer of judging it by the text.
 pub fn compiled_file_is_judged_as_its_text()

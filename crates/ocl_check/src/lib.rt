@@ -2,13 +2,12 @@
 #![tactic(auto)]
 
 mod commands;
-mod compiled_rules;
 mod input;
 pub mod laws;
 mod outcome;
 mod reply;
 mod source;
-mod text_reading;
+mod three_inputs;
 
 pub use commands::bound::run_bound;
 pub use commands::compile::run_compile;

@@ -5,11 +5,14 @@ ghost use Rattle.ocl_check.specs.declared.outcome.CommandFault.TheVariants as fa
 ghost use Rattle.ocl_check.specs.Reply.{Answer, said};
 ghost use Rattle.ocl_check.specs.Answers.{exit_status, failure_line, input_failure};
 ghost use Rattle.ocl_check.specs.Ending.{IsEnding};
+ghost use Rattle.ocl_check.specs.Given.{IsDueFor};
 
 use crate::input::InputFault;
-use crate::reply::Reply;
+use crate::reply::{Reply, refusal_reply};
 use ocl_base::OutOfMemory;
+use ocl_pipeline::Stopped;
 use rule_report::{Sink, write_and_flush};
+use std::alloc::Global;
 
 /// Why a command failed.
 #[derive(Clone, Copy, Debug, PartialEq, Eq)]
@@ -97,4 +100,13 @@ pub(crate) fn answer<S: Sink>(sink: &mut S, reply: Result<Reply, OutOfMemory>) -
         Ok(reply) => say(sink, &reply),
         Err(OutOfMemory) => Outcome::Failed(CommandFault::OutOfMemory),
     }
+}
+
+/// Writes the line of a refusal, if that is why there is no other answer.
+pub(crate) fn stop<S: Sink>(alloc: Global, why: Stopped, sink: &mut S) -> Outcome
+    requires { S.has_failed sink.old ≡ false }
+    ensures { (is_whole : Bool) (a : Answer) → IsDueFor why a → IsEnding S.contents S.has_failed
+        S.flushes S.has_pending is_whole a sink.old result sink.new }
+{
+    answer(sink, refusal_reply(alloc, why))
 }

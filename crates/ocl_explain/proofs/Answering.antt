@@ -14,9 +14,10 @@ use Rattle.rule_cost.specs.Admission.{admission}
 use Rattle.ocl_compile.specs.Compiling.{LimitAt, compile_of}
 use Rattle.ocl_check.specs.declared.commands.judge.TheConstants.{MAX_BUDGET}
 use Rattle.ocl_check.specs.Reply.{Answer}
-use Rattle.ocl_check.specs.TextReading.{TextReading, ReadsAs}
-use Rattle.ocl_check.specs.CompiledRules.{in_types, in_code}
-use Rattle.ocl_check.specs.ThreeInputs.{model_of, population_of, delivery_answer, model_answer}
+use Rattle.ocl_pipeline.specs.TextReading.{TextReading, ReadsAs}
+use Rattle.ocl_pipeline.specs.CompiledRules.{in_types, in_code}
+use Rattle.ocl_pipeline.specs.Inputs.{model_of, population_of}
+use Rattle.ocl_check.specs.ThreeInputs.{delivery_answer, model_answer}
 use Rattle.ocl_check.specs.JudgeText.{meant_answer, within_answer, rules_answer, text_answer, judge_text_answer}
 use Rattle.ocl_explain.specs.WhyAnswers.{why_text, why_answer, IsToldOf, IsToldIn, shown_answer, WhyAnswers}
 use Rattle.ocl_explain.specs.Judged.{typed_answer}

@@ -14,7 +14,7 @@ use Rattle.ocl_check.specs.declared.commands.judge.TheConstants.{MAX_BUDGET}
 use Rattle.ocl_base.specs.Steps.{◌>>=◌}
 use Rattle.ocl_text.specs.Tree.{Rule}
 use Rattle.ocl_types.specs.AllRules.{RulesFaultAt, elaborate_rules}
-use Rattle.ocl_check.specs.CompiledRules.{in_types, in_code}
+use Rattle.ocl_pipeline.specs.CompiledRules.{in_types, in_code}
 use Rattle.ocl_check.specs.JudgeText.{within_answer, rules_answer, text_answer}
 use Rattle.ocl_explain.specs.Judged.{is_admitted, is_accepted, typed_answer, IsJudged}
 

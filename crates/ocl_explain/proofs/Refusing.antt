@@ -8,9 +8,10 @@ use Rattle.imkl_delivery.specs.declared.fault.DeliveryFault.TheVariants as deliv
 use Rattle.ocl_check.specs.declared.commands.judge.RulesForm.TheVariants.{Text}
 use Rattle.ocl_check.specs.declared.commands.judge.TheConstants.{MAX_BUDGET}
 use Rattle.ocl_check.specs.Reply.{Answer, refused_delivery}
-use Rattle.ocl_check.specs.TextReading.{TextReading, ReadsAs}
-use Rattle.ocl_check.specs.TextLaws.{ReadingsAreDetermined, is_loose}
-use Rattle.ocl_check.specs.ThreeInputs.{PopulationAnswer, model_of, population_of, delivery_answer, model_answer}
+use Rattle.ocl_pipeline.specs.TextReading.{TextReading, ReadsAs}
+use Rattle.ocl_pipeline.specs.ReadingLaws.{ReadingsAreDetermined, is_loose}
+use Rattle.ocl_pipeline.specs.Inputs.{model_of, population_of}
+use Rattle.ocl_check.specs.ThreeInputs.{PopulationAnswer, delivery_answer, model_answer}
 use Rattle.ocl_check.specs.JudgeText.{text_answer, judge_text_answer, JudgeAnswersBy}
 use Rattle.ocl_explain.specs.WhyAnswers.{IsRefusedBy}
 

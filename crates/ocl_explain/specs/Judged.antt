@@ -9,7 +9,7 @@ use Rattle.rule_cost.specs.Admission.{admission}
 use Rattle.ocl_compile.specs.Compiling.{compile_of}
 use Rattle.ocl_check.specs.declared.commands.judge.TheConstants.{MAX_BUDGET}
 use Rattle.ocl_check.specs.Reply.{Answer}
-use Rattle.ocl_check.specs.CompiledRules.{in_code}
+use Rattle.ocl_pipeline.specs.CompiledRules.{in_code}
 use Rattle.ocl_check.specs.JudgeText.{meant_answer, rules_answer}
 use Rattle.ocl_explain.specs.declared.verdicts.Why.{Why}
 use Rattle.ocl_explain.specs.declared.verdicts.Why.TheVariants.{Explained, Unknown}

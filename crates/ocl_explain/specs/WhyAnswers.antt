@@ -9,8 +9,8 @@ use Rattle.ocl_types.specs.AllRules.{elaborate_rules}
 use Rattle.ocl_check.specs.declared.commands.judge.RulesForm.TheVariants.{Text}
 use Rattle.ocl_check.specs.declared.commands.judge.TheConstants.{MAX_BUDGET}
 use Rattle.ocl_check.specs.Reply.{Answer}
-use Rattle.ocl_check.specs.TextReading.{ReadsAs}
-use Rattle.ocl_check.specs.ThreeInputs.{model_of, population_of}
+use Rattle.ocl_pipeline.specs.TextReading.{ReadsAs}
+use Rattle.ocl_pipeline.specs.Inputs.{model_of, population_of}
 use Rattle.ocl_check.specs.JudgeText.{meant_answer, text_answer, JudgeAnswersBy}
 use Rattle.explain_notes.specs.Lines.{cut_text}
 use Rattle.explain_why.specs.Explanation.{explanation}

@@ -7,7 +7,7 @@ ghost use Rattle.ocl_check.specs.Bound.{bound_answer};
 ghost use Rattle.ocl_check.specs.Compile.{IsCodeWritten, IsOfUnit, compile_answer};
 ghost use Rattle.ocl_check.specs.Desk.{desk_answer};
 ghost use Rattle.ocl_check.specs.JudgeText.{JudgeAnswers};
-ghost use Rattle.ocl_check.specs.TextReading.{TextReading, ReadsAs};
+ghost use Rattle.ocl_pipeline.specs.TextReading.{TextReading, ReadsAs};
 ghost use Rattle.ocl_check.specs.Verify.{verify_answer};
 ghost use Rattle.ocl_explain.specs.Inputs.{IsTooLong};
 

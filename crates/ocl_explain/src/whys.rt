@@ -12,8 +12,8 @@ use crate::refusals::explain_judge;
 use crate::verdicts::{Why, WhyAsked, find_why};
 use crate::writing::write_answer;
 use explain_notes::cut_text;
-use ocl_check::laws::{each_text_is_read, readings_are_determined};
 use ocl_check::{CommandFault, JudgeOptions, MAX_BUDGET, Outcome, RulesForm, Sink};
+use ocl_pipeline::laws::{each_text_is_read, readings_are_determined};
 use std::alloc::{AllocError, Global};
 
 /// How `why` ended.

@@ -18,7 +18,8 @@ use Rattle.rule_cost.specs.Limits.{limited_bound}
 use Rattle.desk_script.specs.declared.call.Call.{Call}
 use Rattle.desk_script.specs.Script.{script_of}
 use Rattle.ocl_check.specs.declared.commands.judge.TheConstants.{MAX_BUDGET}
-use Rattle.ocl_check.specs.ThreeInputs.{json_of, model_by, population_by, PopulationAnswer, delivery_answer, model_answer, inputs_answer}
+use Rattle.ocl_pipeline.specs.Inputs.{json_of, model_by, population_by}
+use Rattle.ocl_check.specs.ThreeInputs.{PopulationAnswer, delivery_answer, model_answer, inputs_answer}
 use Rattle.ocl_check.specs.CodeRules.{UnitAnswer, unit_answer, code_answer, code_file_answer}
 use Rattle.ocl_check.specs.Verify.{checked_answer, verify_code_answer, verify_model_answer, verify_answer}
 use Rattle.ocl_check.specs.Bound.{bound_line_of, bounds_below, bounds_answer}

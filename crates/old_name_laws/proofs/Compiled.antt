@@ -17,8 +17,8 @@ use Rattle.rule_verify.specs.declared.limits.TheConstants.{MAX_BLOCKS, MAX_OPERA
 use Rattle.ocl_compile.specs.declared.fault.Limit.TheVariants as limits
 use Rattle.ocl_compile.specs.Translation.{translate_rules}
 use Rattle.ocl_compile.specs.Compiling.{is_too_large, compiled_tree, compiled_depths, limit_passed, or_later, first_passed, unless_passed, compile_of}
-use Rattle.ocl_check.specs.TextReading.{TextReading}
-use Rattle.ocl_check.specs.CompiledRules.{in_text, in_types, in_code, compiled_rules}
+use Rattle.ocl_pipeline.specs.TextReading.{TextReading}
+use Rattle.ocl_pipeline.specs.CompiledRules.{in_text, in_types, in_code, compiled_rules}
 use Rattle.old_name_laws.specs.OldNames.{with_old_names}
 
 -- ---- depths: how many operands an instruction takes, its names don't decide

@@ -18,8 +18,8 @@ use Rattle.ocl_compile.specs.Compiling.{LimitAt, compile_of}
 use Rattle.ocl_compile.specs.CompileLaws.{CompiledIsAccepted}
 use Rattle.ocl_check.specs.Judge.{status_of}
 use Rattle.ocl_check.specs.JudgeText.{within_answer, rules_answer, text_answer}
-use Rattle.ocl_check.specs.TextReading.{TextReading}
-use Rattle.ocl_check.specs.CompiledRules.{CompiledRules, TextRefusal, in_text, in_types, in_code, compiled_rules}
+use Rattle.ocl_pipeline.specs.TextReading.{TextReading}
+use Rattle.ocl_pipeline.specs.CompiledRules.{CompiledRules, TextRefusal, in_text, in_types, in_code, compiled_rules}
 use Rattle.ocl_check.specs.Compile.{compiled_answer, compile_model_answer}
 use Rattle.old_name_laws.specs.OldNames.{with_old_names, population_with}
 use Rattle.old_name_laws.specs.Laws.{CompileStays, JudgeTextStays}

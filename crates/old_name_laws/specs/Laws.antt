@@ -12,12 +12,12 @@ use Rattle.rule_verify.specs.UnitRules.{check_unit}
 use Rattle.rule_cost.specs.Admission.{rule_step_bound, admission}
 use Rattle.rule_machine.specs.Laws.{verdict_at}
 use Rattle.rule_report.specs.Report.{report_of, summary_of}
-use Rattle.ocl_check.specs.ThreeInputs.{model_of}
+use Rattle.ocl_pipeline.specs.Inputs.{model_of}
 use Rattle.ocl_check.specs.Verify.{verify_answer}
 use Rattle.ocl_check.specs.Bound.{bound_answer}
 use Rattle.ocl_check.specs.Judge.{judge_answer}
 use Rattle.ocl_check.specs.Desk.{desk_answer}
-use Rattle.ocl_check.specs.TextReading.{TextReading}
+use Rattle.ocl_pipeline.specs.TextReading.{TextReading}
 use Rattle.ocl_check.specs.Compile.{compile_answer}
 use Rattle.ocl_check.specs.JudgeText.{judge_text_answer}
 use Rattle.old_name_laws.specs.OldNames.{with_old_names, DifferInOldNames, described_with}

@@ -4,17 +4,19 @@ ghost use Rattle.std.specs.Prelude.{◌≡◌, ◌⊎◌, ◌||◌, ◌++◌, tr
 ghost use Rattle.std.specs.Io.KnownBytes.{IsAtEnd};
 ghost use Rattle.ocl_check.specs.declared.input.TheConstants.{MAX_INPUT};
 ghost use Rattle.ocl_check.specs.Answers.{IsAnswered, IsFlushedBy, IsReadWithinLimits, IsUnread, KeepsSink, ReadBy, fails_read, fails_write};
-ghost use Rattle.ocl_check.specs.Bound.{bound_line_of, bound_lines, bound_answer};
+ghost use Rattle.ocl_check.specs.Bound.{bound_line_of, bound_lines, bounds_answer, bound_answer};
+ghost use Rattle.ocl_check.specs.Ending.{IsEnding};
+ghost use Rattle.ocl_check.specs.Given.{given_answer, pair_answer};
 ghost use Rattle.ocl_check.specs.Input.{CantBeRead, ConsumesAtMost};
 ghost use Rattle.ocl_check.specs.Reply.{said};
 
-use crate::commands::rules::{Asked, Question};
-use crate::commands::three_inputs::ask;
-use crate::outcome::Outcome;
+use crate::outcome::{CommandFault, Outcome, answer, stop};
 use crate::reply::Reply;
 use crate::source::Source;
-use imkl_population::Sizes;
+use crate::three_inputs::read_inputs;
+use imkl_population::{Population, Sizes};
 use ocl_base::OutOfMemory;
+use ocl_pipeline::{CodeAsker, OfCode, Place, Stopped, ask_inputs};
 use rule_cost::{Bound, bound};
 use rule_report::Sink;
 use rule_verify::Accepted;
@@ -33,7 +35,7 @@ fn put_bound_line(out: &mut String, name: &str, bound: Bound) -> Result<(), Allo
 }
 
 /// The reply with the bound of each rule, in populations of these sizes.
-pub(crate) fn bounds_reply(
+fn bounds_reply(
     alloc: Global,
     sizes: &Sizes<'_>,
     accepted: &Accepted<'_>,
@@ -49,6 +51,55 @@ pub(crate) fn bounds_reply(
         put_bound_line(&mut text, accepted.rule_name(rule), bound)?;
     }
     Ok(Reply { text, status: 0 })
+}
+
+/// Asks for the bounds of all rules.
+#[derive(Clone, Copy)]
+struct Bounds;
+
+impl<S: Sink> CodeAsker<S> for Bounds {
+    type Output = Outcome;
+
+    ghost can_ask = { λ s. S.has_failed s ≡ false };
+
+    ghost answers = { λ _ given old o new. IsEnding S.contents S.has_failed S.flushes S.has_pending
+        true (given_answer (pair_answer bounds_answer) given) old o new };
+
+    fn ask(
+        &self,
+        alloc: Global,
+        population: &Population<'_>,
+        accepted: &Accepted<'_>,
+        sink: &mut S,
+    ) -> Outcome {
+        match population.sizes(alloc) {
+            Ok(sizes) => answer(sink, bounds_reply(alloc, &sizes, accepted)),
+            Err(_failed) => Outcome::Failed(CommandFault::OutOfMemory),
+        }
+    }
+
+    fn stop(&self, alloc: Global, _place: Place<'_, '_>, why: Stopped, sink: &mut S) -> Outcome {
+        stop(alloc, why, sink)
+    }
+}
+
+/// Answers with the bounds of the rules of a code file.
+fn bound_inputs<S: Sink>(
+    alloc: Global,
+    model: &[u8],
+    delivery: &[u8],
+    code: &[u8],
+    sink: &mut S,
+) -> Outcome
+    requires { S.has_failed sink.old ≡ false }
+    ensures { IsEnding S.contents S.has_failed S.flushes S.has_pending true
+        (bound_answer model.now delivery.now code.now) sink.old result sink.new }
+{
+    let asker = OfCode {
+        asker: &Bounds,
+        code,
+    };
+    ask_inputs(alloc, &asker, model, delivery, sink)
 }
 
 /// Bounds the rules of a code file: reads the class model, the delivery and the code file, each
@@ -96,12 +147,8 @@ pub fn run_bound<M: Source, D: Source, C: Source, S: Sink>(
     ensures delivery_waits { IsAtEnd (M.remaining model.new) ⊎ (delivery.new ≡ delivery.old) }
     ensures code_waits { IsAtEnd (D.remaining delivery.new) ⊎ (code.new ≡ code.old) }
 {
-    ask(
-        alloc,
-        Asked::Code(Question::Bounds),
-        model,
-        delivery,
-        code,
-        sink,
-    )
+    match read_inputs(alloc, model, delivery, code) {
+        Ok(inputs) => bound_inputs(alloc, &inputs.model, &inputs.delivery, &inputs.rules, sink),
+        Err(fault) => Outcome::Failed(CommandFault::from(fault)),
+    }
 }

@@ -9,19 +9,19 @@ ghost use Rattle.ocl_check.specs.Answers.{IsAnswered, IsFlushedBy, IsReadWithinL
 ghost use Rattle.ocl_check.specs.Compile.{CompileAnswer, compiled_code, compiled_answer, compile_answer, HasUnit, HasUnitFor, IsCodeWritten, IsOfUnit};
 ghost use Rattle.ocl_check.specs.Input.{CantBeRead, ConsumesAtMost};
 ghost use Rattle.ocl_check.specs.Reply.{said};
-ghost use Rattle.ocl_check.specs.TextReading.{TextReading, ReadsAs};
-ghost use Rattle.ocl_check.specs.ThreeInputs.{model_of};
-ghost use Rattle.ocl_check.specs.TextParts.{compiled_seen, is_ended, IsRefusalOf};
-ghost use Rattle.ocl_check.specs.CompiledRules.{compiled_rules};
+ghost use Rattle.ocl_pipeline.specs.TextReading.{TextReading, ReadsAs};
+ghost use Rattle.ocl_pipeline.specs.Inputs.{model_of};
+ghost use Rattle.ocl_check.specs.CompileParts.{compiled_seen, is_ended, IsNothingFor};
+ghost use Rattle.ocl_pipeline.specs.CompiledRules.{compiled_rules};
 
-use crate::compiled_rules::compile_text;
 use crate::input::read_two;
-use crate::laws::each_text_is_read;
 use crate::outcome::{CommandFault, Outcome, say};
-use crate::reply::{Reply, compiled_reply, refused_model, refused_text};
+use crate::reply::{Reply, compiled_reply, refusal_reply};
 use crate::source::Source;
 use imkl_model::ClassModel;
 use ocl_base::OutOfMemory;
+use ocl_pipeline::laws::each_text_is_read;
+use ocl_pipeline::{Stopped, compile_text, read_model};
 use rule_code::{Unit, write_unit};
 use rule_report::{Sink, write_and_flush};
 use std::alloc::Global;
@@ -35,14 +35,12 @@ pub(crate) enum Compiled {
     Refused(Reply),
 }
 
-/// The result of compiling where an input is refused, if there was memory for the reply.
-fn refusal(reply: Result<Reply, OutOfMemory>) -> Result<Compiled, OutOfMemory>
-    ensures { IsRefusalOf reply result }
+/// The result of compiling where an input is refused. Running out of memory is not a refusal.
+fn refusal(alloc: Global, why: Stopped) -> Result<Compiled, OutOfMemory>
+    ensures { IfOk result (λ c. IsNothingFor why (compiled_seen c)) }
 {
-    match reply {
-        Ok(reply) => Ok(Compiled::Refused(reply)),
-        Err(OutOfMemory) => Err(OutOfMemory),
-    }
+    let reply = refusal_reply(alloc, why)?;
+    Ok(Compiled::Refused(reply))
 }
 
 /// The code file of a unit, and the reply.
@@ -71,7 +69,7 @@ fn compile_rule_text(
             unit.well_formed();
             compiled_unit(alloc, &unit)
         }
-        Err(fault) => refusal(refused_text(alloc, fault)),
+        Err(why) => refusal(alloc, why),
     }
 }
 
@@ -82,9 +80,9 @@ fn compile_inputs(alloc: Global, model: &[u8], text: &[u8]) -> Result<Compiled, 
         IfOk result (λ c. HasUnitFor (model_of model.now) t) }
 {
     each_text_is_read();
-    match ClassModel::read(alloc, model) {
+    match read_model(alloc, model) {
         Ok(model) => compile_rule_text(alloc, &model, text),
-        Err(fault) => refusal(refused_model(alloc, &fault)),
+        Err(why) => refusal(alloc, why),
     }
 }
 

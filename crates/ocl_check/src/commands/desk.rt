@@ -2,26 +2,27 @@
 
 ghost use Rattle.std.specs.Prelude.{◌≡◌, ◌≢◌, ◌⊎◌, ◌||◌, true, false, Ok, Err, IfOk};
 ghost use Rattle.std.specs.Io.KnownBytes.{IsAtEnd};
-ghost use Rattle.imkl_population.specs.Sizes.{sizes_of};
 ghost use Rattle.rule_cost.specs.Admission.{Fits};
 ghost use Rattle.desk_script.specs.Script.{script_of};
 ghost use Rattle.ocl_check.specs.declared.input.InputFault.TheVariants as fault;
 ghost use Rattle.ocl_check.specs.Answers.{IsAnswered, IsFlushedBy, IsReadWithinLimits, IsUnread, KeepsUnread, ReadBy, fails_read, fails_write};
 ghost use Rattle.ocl_check.specs.Desk.{script_answer, calls_answer, desk_answer};
 ghost use Rattle.ocl_check.specs.Ending.{IsEnding, IsInput};
+ghost use Rattle.ocl_check.specs.Given.{given_answer, pair_answer};
 ghost use Rattle.ocl_check.specs.Input.{CantBeRead, ConsumesAtMost};
 
 use crate::commands::judge::MAX_BUDGET;
-use crate::commands::rules::{Asked, Question};
-use crate::commands::three_inputs::{Inputs, answer_inputs, read_inputs};
 use crate::input::{InputFault, MAX_INPUT, read_input};
-use crate::outcome::{CommandFault, Outcome, answer};
-use crate::reply::{refused_cost, refused_script};
+use crate::outcome::{CommandFault, Outcome, stop};
 use crate::source::Source;
+use crate::three_inputs::{Inputs, read_inputs};
 use desk_replies::answer_calls;
 use desk_script::{Call, ScriptFault, read_script};
-use imkl_population::{Population, Sizes};
-use rule_cost::{Admitted, CostFault, admit};
+use imkl_population::Population;
+use ocl_pipeline::{
+    AdmittedAsker, CodeAsker, OfCode, Place, Refusal, Stopped, ask_admitted, ask_inputs,
+};
+use rule_cost::Admitted;
 use rule_report::{ReportFault, Sink};
 use rule_verify::Accepted;
 use std::alloc::Global;
@@ -61,32 +62,85 @@ fn reply_admitted<S: Sink>(
 {
     match read_script(alloc, script) {
         Ok(calls) => reply_calls(alloc, population, admitted, &calls, sink),
-        Err(ScriptFault::At { line }) => answer(sink, refused_script(alloc, line)),
+        Err(ScriptFault::At { line }) => {
+            stop(alloc, Stopped::Refused(Refusal::Script { line }), sink)
+        }
         Err(ScriptFault::OutOfMemory) => Outcome::Failed(CommandFault::OutOfMemory),
     }
 }
 
-/// Answers a script on a population of these sizes and accepted code, of which each rule must be within the greatest
-/// budget.
-pub(crate) fn reply_within<S: Sink>(
+/// Asks for the replies to a script, by rules that are within the greatest budget.
+#[derive(Clone, Copy)]
+struct Replies<'a> {
+    /// The script.
+    script: &'a [u8],
+}
+
+impl<S: Sink> AdmittedAsker<S> for Replies<'_> {
+    type Output = Outcome;
+
+    ghost can_ask = { λ s. S.has_failed s ≡ false };
+
+    ghost answers = { λ r p given old o new. IsEnding S.contents S.has_failed S.flushes
+        S.has_pending false
+        (given_answer (λ a. script_answer a p (script_of r.script.now)) given) old o new };
+
+    fn ask(
+        &self,
+        alloc: Global,
+        population: &Population<'_>,
+        admitted: &Admitted<'_>,
+        sink: &mut S,
+    ) -> Outcome {
+        reply_admitted(alloc, self.script, population, admitted, sink)
+    }
+
+    fn stop(&self, alloc: Global, _place: Place<'_, '_>, why: Stopped, sink: &mut S) -> Outcome {
+        stop(alloc, why, sink)
+    }
+}
+
+impl<S: Sink> CodeAsker<S> for Replies<'_> {
+    type Output = Outcome;
+
+    ghost can_ask = { λ s. S.has_failed s ≡ false };
+
+    ghost answers = { λ r given old o new. IsEnding S.contents S.has_failed S.flushes S.has_pending
+        false (given_answer (pair_answer (calls_answer r.script.now)) given) old o new };
+
+    fn ask(
+        &self,
+        alloc: Global,
+        population: &Population<'_>,
+        accepted: &Accepted<'_>,
+        sink: &mut S,
+    ) -> Outcome {
+        ask_admitted(alloc, self, MAX_BUDGET, population, accepted, sink)
+    }
+
+    fn stop(&self, alloc: Global, _place: Place<'_, '_>, why: Stopped, sink: &mut S) -> Outcome {
+        stop(alloc, why, sink)
+    }
+}
+
+/// Answers a script on a delivery and a code file.
+fn reply_inputs<S: Sink>(
     alloc: Global,
+    model: &[u8],
+    delivery: &[u8],
+    code: &[u8],
     script: &[u8],
-    population: &Population<'_>,
-    sizes: &Sizes<'_>,
-    accepted: &Accepted<'_>,
     sink: &mut S,
 ) -> Outcome
-    requires one_model { population.now.content.model ≡ accepted.now.model }
-    requires sizes { sizes.now ≡ sizes_of population.now.content }
-    requires well { S.has_failed sink.old ≡ false }
-    ensures { IsEnding S.contents S.has_failed S.flushes S.has_pending false (calls_answer
-        script.now population.now.content accepted.now.unit) sink.old result sink.new }
+    requires { S.has_failed sink.old ≡ false }
+    ensures { IsEnding S.contents S.has_failed S.flushes S.has_pending false
+        (desk_answer model.now delivery.now code.now script.now) sink.old result sink.new }
 {
-    match admit(alloc, accepted, sizes, MAX_BUDGET) {
-        Ok(admitted) => reply_admitted(alloc, script, population, &admitted, sink),
-        Err(CostFault::TooCostly { rule }) => answer(sink, refused_cost(alloc, rule)),
-        Err(CostFault::OutOfMemory) => Outcome::Failed(CommandFault::OutOfMemory),
-    }
+    let asker = OfCode {
+        asker: &Replies { script },
+        code,
+    };
+    ask_inputs(alloc, &asker, model, delivery, sink)
 }
 
 /// Reads three inputs and a script, one after another, each whole.
@@ -197,17 +251,14 @@ pub fn run_desk<M: Source, D: Source, C: Source, P: Source, S: Sink>(
     ensures script_waits { IsAtEnd (C.remaining code.new) ⊎ (script.new ≡ script.old) }
 {
     match read_all(alloc, model, delivery, code, script) {
-        Ok((inputs, script)) => {
-            let question = Question::Replies { script: &script };
-            answer_inputs(
-                alloc,
-                Asked::Code(question),
-                &inputs.model,
-                &inputs.delivery,
-                &inputs.rules,
-                sink,
-            )
-        }
+        Ok((inputs, script)) => reply_inputs(
+            alloc,
+            &inputs.model,
+            &inputs.delivery,
+            &inputs.rules,
+            &script,
+            sink,
+        ),
         Err(fault) => Outcome::Failed(CommandFault::from(fault)),
     }
 }

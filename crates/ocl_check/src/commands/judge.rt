@@ -2,23 +2,25 @@
 
 ghost use Rattle.std.specs.Prelude.{◌≡◌, ◌⊎◌, ◌||◌, ◌+◌, true, false};
 ghost use Rattle.std.specs.Io.KnownBytes.{IsAtEnd};
-ghost use Rattle.imkl_population.specs.Sizes.{sizes_of};
 ghost use Rattle.rule_cost.specs.Admission.{Fits};
 ghost use Rattle.ocl_check.specs.declared.input.TheConstants.{MAX_INPUT};
 ghost use Rattle.ocl_check.specs.Answers.{IsAnsweredBy, IsFlushedBy, IsReadWithinLimits, IsUnread, KeepsUnread, ReadBy, fails_read, fails_write};
 ghost use Rattle.ocl_check.specs.Ending.{IsEnding};
+ghost use Rattle.ocl_check.specs.Given.{given_answer, pair_answer, meant_within};
 ghost use Rattle.ocl_check.specs.Input.{CantBeRead, ConsumesAtMost};
 ghost use Rattle.ocl_check.specs.Judge.{status_of, report_answer, budget_answer};
 ghost use Rattle.ocl_check.specs.JudgeText.{JudgeAnswers};
-ghost use Rattle.ocl_check.specs.Asking.{asked_by};
+ghost use Rattle.ocl_check.specs.Reply.{Answer};
 
-use crate::commands::rules::{Asked, Question};
-use crate::commands::three_inputs::ask;
-use crate::outcome::{CommandFault, Outcome, answer};
-use crate::reply::refused_cost;
+use crate::outcome::{CommandFault, Outcome, stop};
 use crate::source::Source;
-use imkl_population::{Population, Sizes};
-use rule_cost::{Admitted, CostFault, admit};
+use crate::three_inputs::read_inputs;
+use imkl_population::Population;
+use ocl_pipeline::laws::each_text_is_read;
+use ocl_pipeline::{
+    AdmittedAsker, CodeAsker, OfCode, OfText, Place, Stopped, TextAsker, ask_admitted, ask_inputs,
+};
+use rule_cost::Admitted;
 use rule_report::{ReportFault, Sink, Summary, write_report};
 use rule_verify::Accepted;
 use std::alloc::Global;
@@ -57,25 +59,79 @@ fn judge_admitted<S: Sink>(
     }
 }
 
-/// Judges a population of these sizes by accepted code, of which each rule must be within a budget.
-pub(crate) fn judge_within<S: Sink>(
-    alloc: Global,
+/// Asks for the report, by rules that are within a budget.
+#[derive(Clone, Copy)]
+struct Report {
+    /// The greatest bound that a rule may have, in charges for an object.
     budget: u64,
-    population: &Population<'_>,
-    sizes: &Sizes<'_>,
-    accepted: &Accepted<'_>,
-    sink: &mut S,
-) -> Outcome
-    requires one_model { population.now.content.model ≡ accepted.now.model }
-    requires sizes { sizes.now ≡ sizes_of population.now.content }
-    requires well { S.has_failed sink.old ≡ false }
-    ensures { IsEnding S.contents S.has_failed S.flushes S.has_pending false (budget_answer budget
-        population.now.content accepted.now.unit) sink.old result sink.new }
-{
-    match admit(alloc, accepted, sizes, budget) {
-        Ok(admitted) => judge_admitted(alloc, population, &admitted, sink),
-        Err(CostFault::TooCostly { rule }) => answer(sink, refused_cost(alloc, rule)),
-        Err(CostFault::OutOfMemory) => Outcome::Failed(CommandFault::OutOfMemory),
+}
+
+impl<S: Sink> AdmittedAsker<S> for Report {
+    type Output = Outcome;
+
+    ghost can_ask = { λ s. S.has_failed s ≡ false };
+
+    ghost answers = { λ _ p given old o new. IsEnding S.contents S.has_failed S.flushes
+        S.has_pending false (given_answer (λ a. report_answer p a.resolved.unit) given) old o new };
+
+    fn ask(
+        &self,
+        alloc: Global,
+        population: &Population<'_>,
+        admitted: &Admitted<'_>,
+        sink: &mut S,
+    ) -> Outcome {
+        judge_admitted(alloc, population, admitted, sink)
+    }
+
+    fn stop(&self, alloc: Global, _place: Place<'_, '_>, why: Stopped, sink: &mut S) -> Outcome {
+        stop(alloc, why, sink)
+    }
+}
+
+impl<S: Sink> CodeAsker<S> for Report {
+    type Output = Outcome;
+
+    ghost can_ask = { λ s. S.has_failed s ≡ false };
+
+    ghost answers = { λ r given old o new. IsEnding S.contents S.has_failed S.flushes S.has_pending
+        false (given_answer (pair_answer (budget_answer r.budget)) given) old o new };
+
+    fn ask(
+        &self,
+        alloc: Global,
+        population: &Population<'_>,
+        accepted: &Accepted<'_>,
+        sink: &mut S,
+    ) -> Outcome {
+        ask_admitted(alloc, self, self.budget, population, accepted, sink)
+    }
+
+    fn stop(&self, alloc: Global, _place: Place<'_, '_>, why: Stopped, sink: &mut S) -> Outcome {
+        stop(alloc, why, sink)
+    }
+}
+
+impl<S: Sink> TextAsker<S> for Report {
+    type Output = Outcome;
+
+    ghost can_ask = { λ s. S.has_failed s ≡ false };
+
+    ghost answers = { λ r given old o new. IsEnding S.contents S.has_failed S.flushes S.has_pending
+        false (given_answer (meant_within r.budget) given) old o new };
+
+    fn ask(
+        &self,
+        alloc: Global,
+        population: &Population<'_>,
+        accepted: &Accepted<'_>,
+        sink: &mut S,
+    ) -> Outcome {
+        ask_admitted(alloc, self, self.budget, population, accepted, sink)
+    }
+
+    fn stop(&self, alloc: Global, _place: Place<'_, '_>, why: Stopped, sink: &mut S) -> Outcome {
+        stop(alloc, why, sink)
     }
 }
 
@@ -97,15 +153,30 @@ pub struct JudgeOptions {
     pub budget: u64,
 }
 
-impl JudgeOptions {
-    /// What these options ask of a population and rules.
-    fn asked(self) -> Asked<'static>
-        ensures { result ≡ asked_by self.form self.budget }
-    {
-        let budget = self.budget;
-        match self.form {
-            RulesForm::Code => Asked::Code(Question::Report { budget }),
-            RulesForm::Text => Asked::Text { budget },
+/// Answers with the report on a delivery.
+fn judge_inputs<S: Sink>(
+    alloc: Global,
+    options: JudgeOptions,
+    model: &[u8],
+    delivery: &[u8],
+    rules: &[u8],
+    sink: &mut S,
+) -> Outcome
+    requires { S.has_failed sink.old ≡ false }
+    ensures { (a : Answer) × JudgeAnswers options model.now delivery.now rules.now a
+        × IsEnding S.contents S.has_failed S.flushes S.has_pending false a sink.old result sink.new }
+{
+    let asker = &Report {
+        budget: options.budget,
+    };
+    match options.form {
+        RulesForm::Code => {
+            let asker = OfCode { asker, code: rules };
+            ask_inputs(alloc, &asker, model, delivery, sink)
+        }
+        RulesForm::Text => {
+            let asker = OfText { asker, text: rules };
+            ask_inputs(alloc, &asker, model, delivery, sink)
         }
     }
 }
@@ -165,5 +236,16 @@ pub fn run_judge<M: Source, D: Source, R: Source, S: Sink>(
     ensures delivery_waits { IsAtEnd (M.remaining model.new) ⊎ (delivery.new ≡ delivery.old) }
     ensures rules_wait { IsAtEnd (D.remaining delivery.new) ⊎ (rules.new ≡ rules.old) }
 {
-    ask(alloc, options.asked(), model, delivery, rules, sink)
+    each_text_is_read();
+    match read_inputs(alloc, model, delivery, rules) {
+        Ok(inputs) => judge_inputs(
+            alloc,
+            options,
+            &inputs.model,
+            &inputs.delivery,
+            &inputs.rules,
+            sink,
+        ),
+        Err(fault) => Outcome::Failed(CommandFault::from(fault)),
+    }
 }

@@ -2,46 +2,30 @@
 
 ghost use Rattle.std.specs.Prelude.{◌≡◌, ◌⊎◌, ◌||◌, true, false, Ok, IfOk};
 ghost use Rattle.std.specs.Io.KnownBytes.{IsAtEnd};
-ghost use Rattle.rule_code.specs.View.{content};
 ghost use Rattle.rule_code.specs.CodeFile.{unit_of};
-ghost use Rattle.rule_verify.specs.UnitRules.{check_unit};
 ghost use Rattle.ocl_check.specs.Reply.{said};
 ghost use Rattle.ocl_check.specs.declared.input.TheConstants.{MAX_INPUT};
 ghost use Rattle.ocl_check.specs.Answers.{IsAnswered, IsFlushedBy, IsReadWithinLimits, IsUnread, KeepsSink, ReadBy, fails_read, fails_write};
 ghost use Rattle.ocl_check.specs.Input.{CantBeRead, ConsumesAtMost};
-ghost use Rattle.ocl_check.specs.Verify.{checked_answer, verify_code_answer, verify_answer};
+ghost use Rattle.ocl_check.specs.Verify.{verify_code_answer, verify_answer};
 
 use crate::input::read_two;
 use crate::outcome::{CommandFault, Outcome, answer};
-use crate::reply::{Reply, accepted_reply, refused_code, refused_model, refused_verify};
+use crate::reply::{Reply, accepted_reply, refusal_reply};
 use crate::source::Source;
 use imkl_model::ClassModel;
 use ocl_base::OutOfMemory;
-use rule_code::{CodeFault, Unit, read_unit};
+use ocl_pipeline::{accept_code, read_model};
 use rule_report::Sink;
-use rule_verify::{VerifyFault, verify};
 use std::alloc::Global;
-
-/// The reply to a unit.
-fn verify_unit(alloc: Global, model: &ClassModel, unit: Unit) -> Result<Reply, OutOfMemory>
-    ensures { IfOk result (λ r. said r ≡ checked_answer (content unit)
-        (check_unit model.now (content unit))) }
-{
-    match verify(alloc, model, unit) {
-        Ok(accepted) => accepted_reply(alloc, accepted.rules()),
-        Err((VerifyFault::At { flaw, rule, at }, _unit)) => refused_verify(alloc, flaw, rule, at),
-        Err((VerifyFault::OutOfMemory, _unit)) => Err(OutOfMemory),
-    }
-}
 
 /// The reply to a code file.
 fn verify_code(alloc: Global, model: &ClassModel, code: &[u8]) -> Result<Reply, OutOfMemory>
     ensures { IfOk result (λ r. said r ≡ verify_code_answer model.now (unit_of code.now)) }
 {
-    match read_unit(alloc, code) {
-        Ok(unit) => verify_unit(alloc, model, unit),
-        Err(CodeFault::At { flaw, offset }) => refused_code(alloc, flaw, offset),
-        Err(CodeFault::OutOfMemory) => Err(OutOfMemory),
+    match accept_code(alloc, model, code) {
+        Ok(accepted) => accepted_reply(alloc, accepted.rules()),
+        Err(rejected) => refusal_reply(alloc, rejected.why),
     }
 }
 
@@ -49,9 +33,9 @@ fn verify_code(alloc: Global, model: &ClassModel, code: &[u8]) -> Result<Reply, 
 fn verify_inputs(alloc: Global, model: &[u8], code: &[u8]) -> Result<Reply, OutOfMemory>
     ensures { IfOk result (λ r. said r ≡ verify_answer model.now code.now) }
 {
-    match ClassModel::read(alloc, model) {
+    match read_model(alloc, model) {
         Ok(model) => verify_code(alloc, &model, code),
-        Err(fault) => refused_model(alloc, &fault),
+        Err(why) => refusal_reply(alloc, why),
     }
 }
 

@@ -1,9 +1,10 @@
 use Rattle.std.proofs.Common.{Ok, ap}
 use Rattle.ocl_check.specs.declared.commands.judge.TheConstants.{MAX_BUDGET}
 use Rattle.ocl_check.specs.Reply.{refused_delivery}
-use Rattle.ocl_check.specs.ThreeInputs.{delivery_answer, population_of}
+use Rattle.ocl_pipeline.specs.Inputs.{population_of}
+use Rattle.ocl_check.specs.ThreeInputs.{delivery_answer}
 use Rattle.ocl_check.specs.JudgeText.{text_answer}
-use Rattle.ocl_check.proofs.ForAbove.{population_is, population_is_refused}
+use Rattle.ocl_pipeline.proofs.ForAbove.{population_is, population_is_refused}
 use Rattle.ocl_explain.proofs.Refusing.{delivery_refused}
 use Rattle.ocl_explain.proofs.Told.{found_as, refused_as}
 use Rattle.ocl_explain.proofs.verdicts.answer_delivery.Goals as goal

@@ -3,8 +3,8 @@ use Rattle.std.specs.Str.Lossy.{utf8_valid_len}
 use Rattle.ocl_tokens.specs.declared.fault.TextFlaw.TheVariants.{BadCharacter}
 use Rattle.ocl_text.specs.declared.tree.SurfaceRule.{SurfaceRule}
 use Rattle.ocl_text.specs.View.{rule_of}
-use Rattle.ocl_check.specs.TextReading.{text_fault_at, ReadsAs}
-use Rattle.ocl_check.proofs.ForAbove.{text_read, text_refused, ill_formed_read}
+use Rattle.ocl_pipeline.specs.TextReading.{text_fault_at, ReadsAs}
+use Rattle.ocl_pipeline.proofs.ForAbove.{text_read, text_refused, ill_formed_read}
 use Rattle.ocl_explain.proofs.Told.{found_as, printed_is}
 use Rattle.ocl_explain.proofs.verdicts.answer_text.Goals as goal
 

@@ -3,9 +3,10 @@ use Rattle.imkl_model.specs.declared.fault.ModelFault.{ModelFault}
 use Rattle.imkl_model.specs.ClassModel.{Model}
 use Rattle.ocl_check.specs.declared.commands.judge.TheConstants.{MAX_BUDGET}
 use Rattle.ocl_check.specs.Reply.{refused_model}
-use Rattle.ocl_check.specs.ThreeInputs.{model_answer, delivery_answer, population_of}
+use Rattle.ocl_pipeline.specs.Inputs.{population_of}
+use Rattle.ocl_check.specs.ThreeInputs.{model_answer, delivery_answer}
 use Rattle.ocl_check.specs.JudgeText.{text_answer, judge_text_answer}
-use Rattle.ocl_check.proofs.ForAbove.{model_is, model_is_refused}
+use Rattle.ocl_pipeline.proofs.ForAbove.{model_is, model_is_refused}
 use Rattle.ocl_explain.proofs.Told.{found_as, refused_as}
 use Rattle.ocl_explain.proofs.verdicts.find_why.Goals as goal
 

@@ -1,12 +1,64 @@
-use Rattle.ocl_check.proofs.Asked.{read_of_each}
-use Rattle.ocl_check.proofs.Endings.{kept_whole}
+use Rattle.std.proofs.Common.{sym, ◌∙◌}
+use Rattle.std.proofs.lemmas.Bool.{false≢true}
+use Rattle.ocl_check.specs.Bound.{bound_answer}
+use Rattle.ocl_check.proofs.Endings.{ending_as, three_alike, within, kept_whole, untouched, no_write, failed_read, read_fails, not_read, was_read, nothing_said, unflushed}
+use Rattle.ocl_check.proofs.Inputs.{known_bytes, has_known}
 use Rattle.ocl_check.proofs.commands.bound.run_bound.Goals as goal
 
-pub returns-clause-answered : goal.returns-clause-answered
-returns-clause-answered g c =
-    let o = c.ask.result in
-    read_of_each o _ _ _ (λ xs. read_of_each o _ _ _ (λ ys. read_of_each o _ _ _ (λ zs h. h.1)))
-    c.ask.ensures.answered
+pub returns-in-Ok-clause-answered : goal.returns-in-Ok-clause-answered
+returns-in-Ok-clause-answered g c =
+    let i = c.in-Ok.inputs in
+    let read = c.in-Ok.ensures in
+    let o = c.bound_inputs.result in
+    let whole = ending_as (three_alike bound_answer _ _ _ i.model.items i.delivery.items i.rules.items c.deref.ensures.value c.deref-in-Ok.ensures.value c.deref-in-Ok-2.ensures.value) c.bound_inputs.ensures in (
+      i.model.items,
+      read.model.0,
+      within o i.model.items read.model.1,
+      (
+        i.delivery.items,
+        read.delivery.0,
+        within o i.delivery.items read.delivery.1,
+        (i.rules.items, read.rules.0, within o i.rules.items read.rules.1, whole.answered),
+      ),
+    )
 
-pub returns-clause-kept : goal.returns-clause-kept
-returns-clause-kept g c = kept_whole c.ask.result c.args.sink.now c.ask.new.sink c.ask.ensures.kept
+pub returns-in-Ok-clause-kept : goal.returns-in-Ok-clause-kept
+returns-in-Ok-clause-kept g c = kept_whole c.bound_inputs.result c.args.sink.now c.bound_inputs.new.sink c.bound_inputs.ensures.kept
+
+pub returns-in-Ok-clause-read_fault : goal.returns-in-Ok-clause-read_fault
+returns-in-Ok-clause-read_fault g c = λ h. absurd (false≢true (sym c.bound_inputs.ensures.read ∙ h))
+
+pub returns-in-Ok-clause-failed : goal.returns-in-Ok-clause-failed
+returns-in-Ok-clause-failed g c = λ h. absurd (was_read c.in-Ok.inputs (c.in-Ok.ensures.failed h))
+
+pub returns-in-Err-clause-answered : goal.returns-in-Err-clause-answered
+returns-in-Err-clause-answered g c =
+    let model = g.M.Source.remaining c.args.model.now in
+    let delivery = g.D.Source.remaining c.args.delivery.now in
+    let code = g.C.Source.remaining c.args.code.now in (
+      known_bytes model,
+      has_known model,
+      tt,
+      (known_bytes delivery, has_known delivery, tt, (known_bytes code, has_known code, tt, nothing_said _ c.from.result (g.S.Sink.contents c.args.sink.now))),
+    )
+
+pub returns-in-Err-clause-sink : goal.returns-in-Err-clause-sink
+returns-in-Err-clause-sink g c = c.requires.sink ∙ sym (no_write c.from.result c.in-Err.fault c.from.ensures)
+
+pub returns-in-Err-clause-kept : goal.returns-in-Err-clause-kept
+returns-in-Err-clause-kept g c = untouched c.from.result c.args.sink.now
+
+pub returns-in-Err-clause-read_fault : goal.returns-in-Err-clause-read_fault
+returns-in-Err-clause-read_fault g c = λ h. c.in-Err.ensures.read_fault (failed_read c.from.result c.in-Err.fault c.from.ensures h)
+
+pub returns-in-Err-clause-failed : goal.returns-in-Err-clause-failed
+returns-in-Err-clause-failed g c = λ h. read_fails c.from.result c.in-Err.fault c.from.ensures (c.in-Err.ensures.failed h)
+
+pub returns-in-Ok-clause-within : goal.returns-in-Ok-clause-within
+returns-in-Ok-clause-within g c = λ h. c.in-Ok.ensures.within (was_read c.in-Ok.inputs)
+
+pub returns-in-Err-clause-within : goal.returns-in-Err-clause-within
+returns-in-Err-clause-within g c = λ h. c.in-Err.ensures.within (not_read c.from.result c.in-Err.fault c.from.ensures h)
+
+pub returns-in-Err-clause-flushed : goal.returns-in-Err-clause-flushed
+returns-in-Err-clause-flushed g c = unflushed g.S.Sink.flushes g.S.Sink.has_pending c.from.result c.args.sink.now

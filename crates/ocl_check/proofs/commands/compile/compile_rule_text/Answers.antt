@@ -1,9 +1,7 @@
-use Rattle.std.proofs.Common.{◌≡◌, refl}
-use Rattle.ocl_check.specs.TextParts.{text_rules_fault}
-use Rattle.ocl_check.specs.CompiledRules.{compiled_rules}
-use Rattle.ocl_check.specs.Compile.{nothing_compiled, compiled_answer, HasUnit}
-use Rattle.ocl_check.proofs.TextCompiled.{refusal_said}
-use Rattle.ocl_check.proofs.Compiling.{unit_seen, unit_kept, no_unit, refusal_seen, refusal_keeps}
+use Rattle.ocl_pipeline.specs.CompiledRules.{compiled_rules}
+use Rattle.ocl_pipeline.specs.Steps.{text_in}
+use Rattle.ocl_check.specs.Compile.{compiled_code, compiled_answer, HasUnit}
+use Rattle.ocl_check.proofs.Compiling.{unit_seen, unit_kept, no_unit, text_given, seen_as, refusal_seen, refusal_keeps}
 use Rattle.ocl_check.proofs.commands.compile.compile_rule_text.Goals as goal
 
 pub returns-in-Ok : goal.returns-in-Ok
@@ -18,10 +16,12 @@ returns-in-Ok c =
 pub returns-in-Err : goal.returns-in-Err
 returns-in-Err c =
     let h = c.in-Err.ensures in
-    let x = compiled_rules c.args.model.now h.0 in
-    let said = refusal_said c.refused_text.result (text_rules_fault c.in-Err.fault) x nothing_compiled compiled_answer (λ f. refl) h.3 c.refused_text.ensures in (
+    let m = c.args.model.now in
+    let x = compiled_rules m h.0 in
+    let why = c.in-Err.why in
+    let seen = seen_as c.refusal.result _ (compiled_answer x) (text_given m h.0) (refusal_seen c.refusal.result why (text_in m h.0) (λ c. compiled_code c.unit) h.3 c.refusal.ensures) in (
       h.0,
       h.1,
-      refusal_seen c.refused_text.result c.refusal.result (compiled_answer x) said c.refusal.ensures,
-      refusal_keeps c.refused_text.result c.refusal.result (compiled_answer x) (HasUnit x) (no_unit x) said c.refusal.ensures,
+      seen,
+      refusal_keeps c.refusal.result why (compiled_answer x) (HasUnit x) (no_unit x) c.refusal.ensures seen,
     )

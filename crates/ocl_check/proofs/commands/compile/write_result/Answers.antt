@@ -1,4 +1,4 @@
-use Rattle.std.proofs.Common.{◌≡◌, true, subst}
+use Rattle.std.proofs.Common.{true, subst}
 use Rattle.ocl_check.specs.Compile.{CompileAnswer}
 use Rattle.ocl_check.specs.Answers.{IsAnswered}
 use Rattle.ocl_check.proofs.Endings.{kept_whole}

@@ -1,10 +1,8 @@
 use Rattle.std.proofs.Common.{◌≡◌, rules, false, Ok, Err, List, ap, sym, ◌∙◌}
 use Rattle.desk_script.specs.declared.call.Call.{Call}
 use Rattle.desk_script.specs.Script.{script_of}
-use Rattle.ocl_check.specs.Reply.{refused_script}
 use Rattle.ocl_check.specs.Desk.{script_answer}
 use Rattle.ocl_check.proofs.Endings.{ending_as}
-use Rattle.ocl_check.proofs.Described.{said_as}
 use Rattle.ocl_check.proofs.commands.desk.reply_admitted.Goals as goal
 
 pub returns-in-Ok : goal.returns-in-Ok
@@ -18,5 +16,4 @@ pub returns-in-Err-At : goal.returns-in-Err-At
 returns-in-Err-At g c =
     let answer = script_answer c.args.admitted.now c.args.population.now.content in
     let wrong : script_of c.args.script.now ≡ Err c.in-Err-At.line = search rules in
-    c.answer.ensures false (answer (script_of c.args.script.now))
-    (said_as c.refused_script.result (refused_script c.in-Err-At.line) (answer (script_of c.args.script.now)) (sym (ap answer wrong)) c.refused_script.ensures)
+    c.stop.ensures false (answer (script_of c.args.script.now)) (sym (ap answer wrong))

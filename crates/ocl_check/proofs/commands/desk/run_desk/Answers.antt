@@ -1,9 +1,9 @@
 use Rattle.std.proofs.Common.{false, sym, ◌∙◌}
 use Rattle.std.proofs.lemmas.Bool.{false≢true}
 use Rattle.ocl_check.specs.declared.outcome.Outcome.TheVariants.{Failed}
-use Rattle.ocl_check.proofs.Endings.{within, kept_unread, kept_untouched, no_write, failed_read, read_fails, not_read, was_read, nothing_said, unflushed}
+use Rattle.ocl_check.specs.Desk.{desk_answer}
+use Rattle.ocl_check.proofs.Endings.{ending_as, four_alike, within, kept_unread, kept_untouched, no_write, failed_read, read_fails, not_read, was_read, nothing_said, unflushed}
 use Rattle.ocl_check.proofs.Inputs.{known_bytes, has_known}
-use Rattle.ocl_check.proofs.Scripts.{desk_alike}
 use Rattle.ocl_check.proofs.commands.desk.run_desk.Goals as goal
 
 pub returns-in-Ok-clause-answered : goal.returns-in-Ok-clause-answered
@@ -11,8 +11,8 @@ returns-in-Ok-clause-answered g c =
     let i = c.in-Ok.inputs in
     let script = c.in-Ok.script.items in
     let read = c.in-Ok.ensures in
-    let o = c.answer_inputs.result in
-    let whole = desk_alike g.S.Sink.contents g.S.Sink.has_failed g.S.Sink.flushes g.S.Sink.has_pending c.args.sink.now o c.answer_inputs.new.sink _ _ _ _ i.model.items i.delivery.items i.rules.items script c.deref-in-Ok.ensures.value c.deref-in-Ok-2.ensures.value c.deref-in-Ok-3.ensures.value c.deref.ensures.value c.answer_inputs.ensures.1 in (
+    let o = c.reply_inputs.result in
+    let whole = ending_as (four_alike desk_answer _ _ _ _ i.model.items i.delivery.items i.rules.items script c.deref.ensures.value c.deref-in-Ok.ensures.value c.deref-in-Ok-2.ensures.value c.deref-in-Ok-3.ensures.value) c.reply_inputs.ensures in (
       i.model.items,
       read.model.0,
       within o i.model.items read.model.1,
@@ -30,10 +30,10 @@ returns-in-Ok-clause-answered g c =
     )
 
 pub returns-in-Ok-clause-kept : goal.returns-in-Ok-clause-kept
-returns-in-Ok-clause-kept g c = kept_unread false c.answer_inputs.result c.args.sink.now c.answer_inputs.new.sink c.answer_inputs.ensures.1.kept
+returns-in-Ok-clause-kept g c = kept_unread false c.reply_inputs.result c.args.sink.now c.reply_inputs.new.sink c.reply_inputs.ensures.kept
 
 pub returns-in-Ok-clause-read_fault : goal.returns-in-Ok-clause-read_fault
-returns-in-Ok-clause-read_fault g c = λ h. absurd (false≢true (sym c.answer_inputs.ensures.1.read ∙ h))
+returns-in-Ok-clause-read_fault g c = λ h. absurd (false≢true (sym c.reply_inputs.ensures.read ∙ h))
 
 pub returns-in-Ok-clause-failed : goal.returns-in-Ok-clause-failed
 returns-in-Ok-clause-failed g c = λ h. absurd (was_read (c.in-Ok.inputs, c.in-Ok.script) (c.in-Ok.ensures.failed h))

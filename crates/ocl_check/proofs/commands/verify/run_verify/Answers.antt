@@ -1,7 +1,7 @@
-use Rattle.std.proofs.Common.{◌≡◌, false, true, sym, ◌∙◌}
+use Rattle.std.proofs.Common.{true, sym, ◌∙◌}
 use Rattle.std.proofs.lemmas.Bool.{false≢true}
 use Rattle.ocl_check.specs.Verify.{verify_answer}
-use Rattle.ocl_check.proofs.Described.{verified_alike}
+use Rattle.ocl_check.proofs.Said.{verified_alike}
 use Rattle.ocl_check.proofs.Endings.{within, kept_whole, untouched, no_write, failed_read, read_fails, not_read, was_read, nothing_said, unflushed}
 use Rattle.ocl_check.proofs.Inputs.{known_bytes, has_known}
 use Rattle.ocl_check.proofs.commands.verify.run_verify.Goals as goal
