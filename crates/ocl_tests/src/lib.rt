@@ -9,6 +9,8 @@ mod budgets;
 #[cfg(test)]
 mod long;
 #[cfg(test)]
+mod places;
+#[cfg(test)]
 mod readers;
 #[cfg(test)]
 mod writers;
