@@ -65,7 +65,7 @@ impl CodeAsker<()> for HowFar {
     }
 }
 
-fn reached(alloc: Global, model: &str, delivery: &str, code: &[u8]) -> Reached {
+fn how_far_it_came(alloc: Global, model: &str, delivery: &str, code: &[u8]) -> Reached {
     let asker = OfCode {
         asker: &HowFar,
         code,
@@ -83,23 +83,23 @@ fn reached(alloc: Global, model: &str, delivery: &str, code: &[u8]) -> Reached {
 fn the_pipeline_stops_at_the_input_that_is_refused(rt: HostRuntime) {
     let (model, delivery) = (CATALOGUE, DUCT);
     assert_eq!(rt;
-        reached(rt.alloc(), "", delivery, DEEPER_THAN_600),
+        how_far_it_came(rt.alloc(), "", delivery, DEEPER_THAN_600),
         Reached::Model
     );
     assert_eq!(rt;
-        reached(rt.alloc(), model, "", DEEPER_THAN_600),
+        how_far_it_came(rt.alloc(), model, "", DEEPER_THAN_600),
         Reached::Delivery
     );
     assert_eq!(rt;
-        reached(rt.alloc(), model, delivery, b"OCL"),
+        how_far_it_came(rt.alloc(), model, delivery, b"OCL"),
         Reached::Rules(3)
     );
     assert_eq!(rt;
-        reached(rt.alloc(), model, delivery, OF_NO_CLASS),
+        how_far_it_came(rt.alloc(), model, delivery, OF_NO_CLASS),
         Reached::Unit(1, 3)
     );
     assert_eq!(rt;
-        reached(rt.alloc(), model, delivery, DEEPER_THAN_600),
+        how_far_it_came(rt.alloc(), model, delivery, DEEPER_THAN_600),
         Reached::Asked(3)
     );
 }
