@@ -4,6 +4,7 @@ import re
 import answers
 import assembly
 import case
+import several
 import shorthand
 
 # The faults as docs/use/delivery.md numbers them: those of a delivery, the last three with an object, and those of its population.
@@ -79,6 +80,25 @@ POPULATIONS = {
         't T {"literal":"b","number":[-7,9223372036854775807],"text":["a\\"\\\\\\/\\n\\u00e9\\ud83d\\ude00",""],"truth":true}; '
         'u T {"text":"one"}',
     ),
+    # Six cables, whose entries have their members in each order.
+    "orders": (
+        LINES,
+        '{"id":"a","class":"Cable","features":{"volts":1}}; {"id":"b","features":{"volts":2},"class":"Cable"}; '
+        '{"class":"Cable","id":"c","features":{"volts":3}}; {"class":"Cable","features":{"volts":4},"id":"d"}; '
+        '{"features":{"volts":5},"id":"e","class":"Cable"}; {"features":{"volts":6},"class":"Cable","id":"f"}',
+    ),
+    # Names that are written twice: of each the last counts.
+    "twice": (
+        LINES,
+        '{"id":"a","class":"Cable","features":{"volts":1,"depth":7},"features":{"volts":2}}; '
+        '{"class":"Duct","features":{"volts":[3,4],"depth":8,"volts":[5]},"class":"Cable","id":"a","id":"b"}',
+    ),
+    # Escapes in an id, a class, names of features, a target, a text and a literal.
+    "escapes": (
+        DUCTS,
+        '{"id":"\\u006b","class":"K\\u0061bel","features":{"na\\u0061m":"gl\\u0061s\\u00e9","them\\u0061s":"g\\u0061s"}}; '
+        'b Buis {"omvat":"\\u006b"}; c Buis {"omv\\u0061t":["\\u006b"]}',
+    ),
     # Two nets that have lines, which stand behind them.
     "nets": (NETS, 'b Net {"lines":["l","k"]}; a Net {"lines":["k"]}; k Line; l Line'),
     # The duct M1 holds the duct M2.
@@ -114,6 +134,16 @@ def as_text(room, _, text, answer):
     """Loading this text, which may begin `400 spaces, then `, answers so."""
     document = re.sub(r"^(\d+) spaces, then ", lambda found: " " * int(found[1]), text)
     return loading(room, LINES, document, answer)
+
+
+def cut(room, _, document):
+    """No first bytes of a delivery that don't reach its end are JSON."""
+    whole = document.encode()
+    case.write(room, "model.json", LINES)
+    case.write(room, "none.code", assembly.NO_RULES)
+    names = [case.write(room, f"{length}.json", whole[:length]) for length in range(len(whole))]
+    refused = (2, line_of("NotJson"))
+    return several.several(room, [case.Case(["ocl_check", "judge", "model.json", name, "none.code"], refused) for name in names])
 
 
 def of_lines(room, _, objects, answer):
@@ -163,11 +193,11 @@ def for_catalogue(room, _, objects, answer):
 
 
 def write_population(room, name):
-    """Writes a population's class model and delivery; gives the classes of its objects by their ids."""
+    """Writes a population's class model and delivery; gives the classes of its objects by their ids, but for those in JSON."""
     model, objects, *model_name = POPULATIONS[name]
     case.write(room, "model.json", model)
     case.write(room, "delivery.json", shorthand.delivery(objects, *model_name))
-    return dict(item.split(" ")[:2] for item in objects.split("; ") if item != "-")
+    return dict(item.split(" ")[:2] for item in objects.split("; ") if item[0] not in "-{")
 
 
 def true_of(room, _, population, objects, rule):
@@ -209,6 +239,7 @@ def size(room, _, population, what, number):
 
 FORMS = {
     "delivery as text": as_text,
+    "delivery cut at each byte": cut,
     "delivery of cables and ducts": of_lines,
     "delivery of nets and lines": of_nets,
     "features of a cable": of_cable,

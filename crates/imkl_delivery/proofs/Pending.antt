@@ -8,10 +8,9 @@ use Rattle.std.proofs.lemmas.Bool.Decides.{eqb_tells, leb_tells}
 use Rattle.std.proofs.lemmas.List.{get_or-set_same, get_or-set_other, length-set, take_more, take-append-drop}
 use Rattle.std.proofs.lemmas.Cmp.{nat_eq_equiv}
 use Rattle.std.proofs.lemmas.List.Folds.{list_any-append}
-use Rattle.serde_json.specs.declared.value.Value.{Value}
 use Rattle.serde_json.specs.Data.{Data, Members, no_members, member, put}
 use Rattle.serde_json.specs.Find.{get_member}
-use Rattle.serde_json.specs.View.{view, members_view}
+use Rattle.serde_json.specs.View.{members_view}
 use Rattle.std.specs.Option.{option_or}
 use Rattle.serde_json.proofs.Views.{Entry, member_here, member_later, get_member-put, get_member-put_other}
 use Rattle.ocl_base.specs.Lists.{repeats}
@@ -22,21 +21,23 @@ use Rattle.imkl_model.specs.WellFormed.{IsClassModel}
 use Rattle.imkl_population.specs.Population.{Population, class_of}
 use Rattle.imkl_population.specs.Required.{Requirements, is_required, is_one_of, with_required}
 use Rattle.imkl_delivery.specs.Loading.{are_features}
-use Rattle.imkl_delivery.specs.Pending.{pending_at, NonePending, IsPendingOnly, IsPendingAt, ArePending}
+use Rattle.imkl_delivery.specs.declared.pending_value.Pending.{Pending}
+use Rattle.imkl_delivery.specs.declared.pending_value.Pending.TheVariants.{Tree}
+use Rattle.imkl_delivery.specs.Pending.{pending_view, pending_at, NonePending, IsPendingOnly, IsPendingAt, ArePending}
 use Rattle.imkl_delivery.proofs.Passed.{IsSameAt, feature_is, feature_named}
 
 -- ---- one value more, or one fewer
 
 -- a value at a feature
-here_set : (values : List (Option Value)) (f g : ℕ) (x : Option Value) → g ≡ f → f < length values → pending_at (set values f x) g ≡ option_map view x
-here_set values f g x same lt = ap (pending_at (set values f x)) same ∙ ap (option_map view) (get_or-set_same values f x None lt)
+here_set : (values : List (Option Pending)) (f g : ℕ) (x : Option Pending) → g ≡ f → f < length values → pending_at (set values f x) g ≡ option_map pending_view x
+here_set values f g x same lt = ap (pending_at (set values f x)) same ∙ ap (option_map pending_view) (get_or-set_same values f x None lt)
 
 -- the others stay
-other_set : (values : List (Option Value)) (f g : ℕ) (x : Option Value) → g ≢ f → pending_at (set values f x) g ≡ pending_at values g
-other_set values f g x apart = ap (option_map view) (get_or-set_other values f g x None apart)
+other_set : (values : List (Option Pending)) (f g : ℕ) (x : Option Pending) → g ≢ f → pending_at (set values f x) g ≡ pending_at values g
+other_set values f g x apart = ap (option_map pending_view) (get_or-set_other values f g x None apart)
 
 -- one feature more at which something may be pending
-pub only-push : (fs : List ℕ) (values : List (Option Value)) (f : ℕ) (x : Option Value) → IsPendingOnly fs values → IsPendingOnly (fs ++ f ∷ []) (set values f x)
+pub only-push : (fs : List ℕ) (values : List (Option Pending)) (f : ℕ) (x : Option Pending) → IsPendingOnly fs values → IsPendingOnly (fs ++ f ∷ []) (set values f x)
 only-push fs values f x only = λ g no.
     let parts = or_parts (is_one_of fs g) (is_one_of (f ∷ []) g) (sym (list_any-append (λ h. g == h) fs (f ∷ [])) ∙ no) in
     other_set values f g x (eqb-false g f (or_parts (g == f) false parts.1).0) ∙ only g parts.0
@@ -58,16 +59,16 @@ are_features-put m c k d no_members here all = rw here refl
 are_features-put m c k d (member l e ms) here all = put_named_at (slice_cmp nat_cmp k l) m c k l d e ms here all (are_features-put m c k d ms here)
 
 -- what one member more writes is pending
-pub pending-put : (m : Model) (c f : ℕ) (k : List ℕ) (v : Value) (ms : Members) (values : List (Option Value)) → IsClassModel m → feature_number m c k ≡ Some f → f < length values
-    → ArePending m c ms values → ArePending m c (put k (view v) ms) (set values f (Some v))
+pub pending-put : (m : Model) (c f : ℕ) (k : List ℕ) (v : Pending) (ms : Members) (values : List (Option Pending)) → IsClassModel m → feature_number m c k ≡ Some f → f < length values
+    → ArePending m c ms values → ArePending m c (put k (pending_view v) ms) (set values f (Some v))
 pending-put m c f k v ms values formed found lt before = record {
-  named = are_features-put m c k (view v) ms (ap is_some found) before.named;
+  named = are_features-put m c k (pending_view v) ms (ap is_some found) before.named;
   written = λ g below here. elim (eqb_tells g f) [
     | inl at ↦
         let name : (feature_at m g).name ≡ k = ap (λ (h : ℕ). (feature_at m h).name) at.1 ∙ feature_named m c f k found in
-        ap (λ (n : List ℕ). get_member n (put k (view v) ms)) name ∙ get_member-put k (view v) ms ∙ sym (here_set values f g (Some v) at.1 lt)
+        ap (λ (n : List ℕ). get_member n (put k (pending_view v) ms)) name ∙ get_member-put k (pending_view v) ms ∙ sym (here_set values f g (Some v) at.1 lt)
     | inr apart ↦
-        get_member-put_other (feature_at m g).name k (view v) ms (λ same. apart.1 (feature_is m c g f k formed below here found same))
+        get_member-put_other (feature_at m g).name k (pending_view v) ms (λ same. apart.1 (feature_is m c g f k formed below here found same))
         ∙ before.written g below here ∙ sym (other_set values f g (Some v) apart.1)
   ];
 }
@@ -75,49 +76,49 @@ pending-put m c f k v ms values formed found lt before = record {
 -- ---- the members of a tree, one after another
 
 -- a value is pending at a feature where nothing was
-abbrev pub KeepsFirst : List (Option Value) → ℕ → Value → List (Option Value) → Type 0
+abbrev pub KeepsFirst : List (Option Pending) → ℕ → Pending → List (Option Pending) → Type 0
 KeepsFirst old f v new = ((d : Data) → pending_at old f ≡ Some d → new ≡ old) × (pending_at old f ≡ None → new ≡ set old f (Some v))
 
-module _ (m : Model) (c f : ℕ) (e : Entry) (es : List Entry) (old new : List (Option Value)) (formed : IsClassModel m) (found : feature_number m c (string_bytes e.0) ≡ Some f) (lt : f < length old) where
+module _ (m : Model) (c f : ℕ) (e : Entry) (es : List Entry) (old new : List (Option Pending)) (formed : IsClassModel m) (found : feature_number m c (string_bytes e.0) ≡ Some f) (lt : f < length old) where
   abbrev pub Next : ℕ → Type 0
   Next g = option_or (pending_at new g) (get_member (feature_at m g).name (members_view es)) ≡ option_or (pending_at old g) (get_member (feature_at m g).name (members_view (e ∷ es)))
 
-  next_by : (o : Option Data) → pending_at old f ≡ o → KeepsFirst old f e.1 new → (g : ℕ) → g < length m.features → belongs m c g ≡ true
+  next_by : (o : Option Data) → pending_at old f ≡ o → KeepsFirst old f (Tree e.1) new → (g : ℕ) → g < length m.features → belongs m c g ≡ true
       → (((g == f) ≡ true) × (g ≡ f)) ⊎ (((g == f) ≡ false) × (g ≢ f)) → Next g
   next_by (Some d) was kept g below here (inl at) =
       let is : pending_at old g ≡ Some d = ap (pending_at old) at.1 ∙ was in
       rw (kept.0 d was, is) refl
   next_by None was kept g below here (inl at) =
       let name : (feature_at m g).name ≡ string_bytes e.0 = ap (λ (h : ℕ). (feature_at m h).name) at.1 ∙ feature_named m c f (string_bytes e.0) found in
-      let now : pending_at new g ≡ Some (view e.1) = ap (λ (values : List (Option Value)). pending_at values g) (kept.1 was) ∙ here_set old f g (Some e.1) at.1 lt in
+      let now : pending_at new g ≡ Some (pending_view (Tree e.1)) = ap (λ (values : List (Option Pending)). pending_at values g) (kept.1 was) ∙ here_set old f g (Some (Tree e.1)) at.1 lt in
       let before : pending_at old g ≡ None = ap (pending_at old) at.1 ∙ was in
       rw (now, before) (sym (member_here (feature_at m g).name e es name))
   next_by (Some d) was kept g below here (inr apart) =
       rw (kept.0 d was) (ap (option_or (pending_at old g)) (sym (member_later (feature_at m g).name e es (λ same. apart.1 (feature_is m c g f (string_bytes e.0) formed below here found same)))))
   next_by None was kept g below here (inr apart) =
-      ap (λ (values : List (Option Value)). option_or (pending_at values g) (get_member (feature_at m g).name (members_view es))) (kept.1 was)
-      ∙ ap (λ (o : Option Data). option_or o (get_member (feature_at m g).name (members_view es))) (other_set old f g (Some e.1) apart.1)
+      ap (λ (values : List (Option Pending)). option_or (pending_at values g) (get_member (feature_at m g).name (members_view es))) (kept.1 was)
+      ∙ ap (λ (o : Option Data). option_or o (get_member (feature_at m g).name (members_view es))) (other_set old f g (Some (Tree e.1)) apart.1)
       ∙ ap (option_or (pending_at old g)) (sym (member_later (feature_at m g).name e es (λ same. apart.1 (feature_is m c g f (string_bytes e.0) formed below here found same))))
 
   -- what is pending and what is still to come are all along what the members write
-  pub tree_next : KeepsFirst old f e.1 new → (g : ℕ) → g < length m.features → belongs m c g ≡ true → Next g
+  pub tree_next : KeepsFirst old f (Tree e.1) new → (g : ℕ) → g < length m.features → belongs m c g ≡ true → Next g
   tree_next kept g below here = next_by (pending_at old f) refl kept g below here (eqb_tells g f)
 
 -- at another feature nothing more is pending, and the room stays
-only_by : (fs : List ℕ) (old new : List (Option Value)) (f : ℕ) (v : Value) (o : Option Data) → pending_at old f ≡ o → KeepsFirst old f v new → IsPendingOnly fs old → IsPendingOnly (fs ++ f ∷ []) new
+only_by : (fs : List ℕ) (old new : List (Option Pending)) (f : ℕ) (v : Pending) (o : Option Data) → pending_at old f ≡ o → KeepsFirst old f v new → IsPendingOnly fs old → IsPendingOnly (fs ++ f ∷ []) new
 only_by fs old new f v (Some d) was kept only = λ g no.
     let parts = or_parts (is_one_of fs g) (is_one_of (f ∷ []) g) (sym (list_any-append (λ h. g == h) fs (f ∷ [])) ∙ no) in
-    ap (λ (values : List (Option Value)). pending_at values g) (kept.0 d was) ∙ only g parts.0
-only_by fs old new f v None was kept only = λ g no. ap (λ (values : List (Option Value)). pending_at values g) (kept.1 was) ∙ only-push fs old f (Some v) only g no
+    ap (λ (values : List (Option Pending)). pending_at values g) (kept.0 d was) ∙ only g parts.0
+only_by fs old new f v None was kept only = λ g no. ap (λ (values : List (Option Pending)). pending_at values g) (kept.1 was) ∙ only-push fs old f (Some v) only g no
 
-pub only-kept : (fs : List ℕ) (old new : List (Option Value)) (f : ℕ) (v : Value) → KeepsFirst old f v new → IsPendingOnly fs old → IsPendingOnly (fs ++ f ∷ []) new
+pub only-kept : (fs : List ℕ) (old new : List (Option Pending)) (f : ℕ) (v : Pending) → KeepsFirst old f v new → IsPendingOnly fs old → IsPendingOnly (fs ++ f ∷ []) new
 only-kept fs old new f v kept only = only_by fs old new f v (pending_at old f) refl kept only
 
-room_by : (old new : List (Option Value)) (f : ℕ) (v : Value) (o : Option Data) → pending_at old f ≡ o → KeepsFirst old f v new → length new ≡ length old
+room_by : (old new : List (Option Pending)) (f : ℕ) (v : Pending) (o : Option Data) → pending_at old f ≡ o → KeepsFirst old f v new → length new ≡ length old
 room_by old new f v (Some d) was kept = ap length (kept.0 d was)
 room_by old new f v None was kept = ap length (kept.1 was) ∙ length-set old f (Some v)
 
-pub room-kept : (old new : List (Option Value)) (f : ℕ) (v : Value) → KeepsFirst old f v new → length new ≡ length old
+pub room-kept : (old new : List (Option Pending)) (f : ℕ) (v : Pending) → KeepsFirst old f v new → length new ≡ length old
 room-kept old new f v kept = room_by old new f v (pending_at old f) refl kept
 
 pub nothing_more : (o : Option Data) → option_or o None ≡ o
@@ -146,20 +147,20 @@ last_false true b x y h = refl
 last_false false b x y h = rw h refl
 
 -- what was pending at features that were put is so no longer
-abbrev pub AreTaken : List ℕ → List (Option Value) → List (Option Value) → Type 0
+abbrev pub AreTaken : List ℕ → List (Option Pending) → List (Option Pending) → Type 0
 AreTaken fs old now = (f : ℕ) → pending_at now f ≡ (if is_one_of fs f then None else pending_at old f)
 
-module _ (old now : List (Option Value)) (ks : List ℕ) (i k : ℕ) (lt : i < length ks) (is : k ≡ get_or ks i k) (taken : AreTaken (take i ks) old now) where
+module _ (old now : List (Option Pending)) (ks : List ℕ) (i k : ℕ) (lt : i < length ks) (is : k ≡ get_or ks i k) (taken : AreTaken (take i ks) old now) where
   -- at the next feature what was pending still is
   pub pending_next : repeats nat_eq ks ≡ false → pending_at now k ≡ pending_at old k
   pending_next apart = taken k ∙ rw (not_before ks i k apart lt is) refl
 
-  pub taken_next : (new : List (Option Value)) → k < length now → new ≡ set now k None → AreTaken (take (i + 1) ks) old new
+  pub taken_next : (new : List (Option Pending)) → k < length now → new ≡ set now k None → AreTaken (take (i + 1) ks) old new
   taken_next new below put = λ f.
       let more : take (i + 1) ks ≡ take i ks ++ k ∷ [] = take_more ks i k lt ∙ ap (λ (x : ℕ). take i ks ++ x ∷ []) (sym is) in
       let test : is_one_of (take (i + 1) ks) f ≡ (is_one_of (take i ks) f || is_one_of (k ∷ []) f) = ap (λ (l : List ℕ). is_one_of l f) more ∙ list_any-append (λ g. f == g) (take i ks) (k ∷ []) in
       let old_at = pending_at old f in
-      ap (λ (values : List (Option Value)). pending_at values f) put
+      ap (λ (values : List (Option Pending)). pending_at values f) put
       ∙ elim (eqb_tells f k) [
         | inl at ↦ here_set now k f None at.1 below ∙ sym (last_true (is_one_of (take i ks) f) (is_one_of (k ∷ []) f) None old_at (rw at.0 refl))
         | inr apart ↦ other_set now k f None apart.1 ∙ taken f ∙ sym (last_false (is_one_of (take i ks) f) (is_one_of (k ∷ []) f) None old_at (rw apart.0 refl))
@@ -167,7 +168,7 @@ module _ (old now : List (Option Value)) (ks : List ℕ) (i k : ℕ) (lt : i < l
       ∙ ap (λ (b : Bool). if b then None else old_at) (sym test)
 
 -- what is pending at a feature still is where the model and the object's class are the same
-pub pending_still : (ms : Members) (o : ℕ) (p q : Population) (values now : List (Option Value)) (k : ℕ) → IsSameAt o p q → ArePending p.model (class_of p o) ms values → k < length p.model.features
+pub pending_still : (ms : Members) (o : ℕ) (p q : Population) (values now : List (Option Pending)) (k : ℕ) → IsSameAt o p q → ArePending p.model (class_of p o) ms values → k < length p.model.features
     → pending_at now k ≡ pending_at values k → IsPendingAt q.model (class_of q o) ms now k
 pending_still ms o p q values now k stays pending below still =
     subst (λ (c : ℕ). IsPendingAt q.model c ms now k) (sym stays.class) (subst (λ (m : Model). IsPendingAt m (class_of p o) ms now k) (sym stays.model) (λ mine. pending.written k below mine ∙ sym still))
@@ -198,13 +199,13 @@ or_true : (a : Bool) → (a || true) ≡ true
 or_true true = refl
 or_true false = refl
 
-beyond : (values : List (Option Value)) (f : ℕ) → length values ≤ f → get_or values f None ≡ None
+beyond : (values : List (Option Pending)) (f : ℕ) → length values ≤ f → get_or values f None ≡ None
 beyond [] f le = refl
 beyond (v ∷ values) zero le = absurd (omega (arith, le))
 beyond (v ∷ values) (suc f) le = beyond values f (omega (arith, le))
 
 -- once all were put, nothing is pending
-pub none_left : (r : Requirements) (c : ℕ) (fs ks : List ℕ) (i : ℕ) (old now : List (Option Value)) → ks ≡ with_required r c fs → length ks ≤ i → length old ≡ length r.model.features → IsPendingOnly fs old
+pub none_left : (r : Requirements) (c : ℕ) (fs ks : List ℕ) (i : ℕ) (old now : List (Option Pending)) → ks ≡ with_required r c fs → length ks ≤ i → length old ≡ length r.model.features → IsPendingOnly fs old
     → AreTaken (take i ks) old now → NonePending now
 none_left r c fs ks i old now is end room only taken = λ f. by_listed f (is_one_of ks f) refl
   where
@@ -215,7 +216,7 @@ none_left r c fs ks i old now is end room only taken = λ f. by_listed f (is_one
     unlisted f false named listed = only f named
     unlisted f true named listed =
         elim (leb_tells (length r.model.features) f) [
-          | inl le ↦ ap (option_map view) (beyond old f (omega (arith, le, room)))
+          | inl le ↦ ap (option_map pending_view) (beyond old f (omega (arith, le, room)))
           | inr less ↦
               let there : is_one_of ks f ≡ true = ap (λ (l : List ℕ). is_one_of l f) is ∙ among_places (λ g. is_required r c g || is_one_of fs g) (length r.model.features) f less.1 (rw named (or_true (is_required r c f))) in
               absurd (let bad : false ≡ true = sym listed ∙ there in cc)

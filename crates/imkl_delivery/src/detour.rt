@@ -3,7 +3,7 @@
 use crate::fault::DeliveryFault;
 use json::Invalid;
 use std::alloc::{AllocError, AllocFailed};
-use token_tree::NoTree;
+use token_tree::NoSingle;
 
 /// Why a delivery isn't loaded straight from its tokens.
 #[derive(Clone, Copy, Debug, PartialEq, Eq)]
@@ -40,11 +40,11 @@ pub(crate) fn detour_of(written: &Result<(), DeliveryFault>) -> Detour {
     }
 }
 
-impl From<NoTree> for Detour {
-    fn from(error: NoTree) -> Detour {
+impl From<NoSingle> for Detour {
+    fn from(error: NoSingle) -> Detour {
         match error {
-            NoTree::Unfit => Detour::ByTree,
-            NoTree::OutOfMemory => Detour::OutOfMemory,
+            NoSingle::Unfit => Detour::ByTree,
+            NoSingle::OutOfMemory => Detour::OutOfMemory,
         }
     }
 }

@@ -1,24 +1,32 @@
 //! What is written at the features of one object.
 
-ghost use Rattle.std.specs.Prelude.{◌≡◌, ◌<◌, true, false, [], ◌∷◌, Option, Some, None, All, map, length, option_map, slice_set, IfOk, IfSome, OnOk};
-ghost use Rattle.serde_json.specs.Data.{Data, Members};
+ghost use Rattle.std.specs.Prelude.{◌≡◌, ◌<◌, true, false, List, [], ◌∷◌, Option, Some, None, All, length, option_map, slice_set, IfOk, IfSome, OnOk};
+ghost use Rattle.serde_json.specs.Data.{Data, string, Members};
+ghost use Rattle.serde_json.specs.Find.{as_str};
 ghost use Rattle.serde_json.specs.View.{view, members_view};
 ghost use Rattle.imkl_model.specs.ClassModel.{feature_at, feature_number};
 ghost use Rattle.imkl_population.specs.Population.{Population, class_of};
 ghost use Rattle.imkl_population.specs.Building.{KeepsObjects};
 ghost use Rattle.imkl_delivery.specs.Steps.{Leaves, placed_fault};
-ghost use Rattle.imkl_delivery.specs.Scalars.{is_absent, values_from};
+ghost use Rattle.imkl_delivery.specs.Scalars.{is_absent, values_from, scalar_from, all_found};
 ghost use Rattle.imkl_delivery.specs.Loading.{are_features, put_values, put_targets, put_by, put_member, put_members};
+ghost use Rattle.imkl_delivery.specs.Seen.{texts_view};
 ghost use Rattle.imkl_delivery.specs.Named.{written_requirements};
-ghost use Rattle.imkl_delivery.specs.Pending.{pending_at, NonePending, IsPendingOnly, IsPendingAt, ArePending};
+ghost use Rattle.imkl_delivery.specs.Pending.{pending_view, pending_at, NonePending, IsPendingOnly, IsPendingAt, ArePending};
 
 use crate::fault::DeliveryFault;
 use crate::guesses::Guesses;
-use crate::scalars::{Targets, scalar_of, scalars_of, targets_of, values_of};
+use crate::pending_value::Pending;
+use crate::scalars::{
+    objects_of, scalar_of, scalar_of_single, scalars_of, scalars_of_singles, texts_of,
+    texts_of_singles, values_of,
+};
 use imkl_model::{ClassModel, ClassNo, FeatureInfo, FeatureNo, Role};
-use imkl_population::{ObjectNo, PopulationBuilder, PopulationFault, RequiredFeatures};
+use imkl_population::{ObjectNo, PopulationBuilder, PopulationFault, RequiredFeatures, Scalar};
 use serde_json::{Map, Value};
 use std::alloc::{AllocError, Global};
+use std::slice;
+use token_tree::Single;
 
 /// The delivery's fault for a fault that a call on the population answered at an object: out of memory is the delivery's
 /// own.
@@ -31,25 +39,22 @@ pub(crate) fn placed_fault(object: usize, fault: PopulationFault) -> DeliveryFau
     }
 }
 
-/// Puts the values of an attribute that a list writes on an object.
+/// Puts values on an object, if each is of the attribute's type.
 #[tactic(auto, unfolding(crate::specs::Loading::put_values))]
-fn put_list(
+fn put_scalars(
     builder: &mut PopulationBuilder<'_>,
-    alloc: Global,
     object: ObjectNo,
     feature: FeatureNo,
-    values: Vec<Value>,
+    scalars: Option<Vec<Scalar>>,
 ) -> Result<(), DeliveryFault>
     requires object { object < length builder.old.objects }
     requires feature { feature < length builder.old.model.features }
-    ensures leaves { Leaves result (put_values object feature (map view values.items)
-        builder.old) builder.new }
+    ensures leaves { (ds : List Data) → option_map (λ v. v.items) scalars ≡
+        all_found (scalar_from builder.old.model (feature_at builder.old.model feature).element)
+        ds → Leaves result (put_values object feature ds builder.old) builder.new }
     ensures kept { KeepsObjects builder.old builder.new }
 {
-    let model = builder.model();
-    model.well_formed();
-    let info = model.feature_info(feature);
-    let Some(scalars) = scalars_of(alloc, model, info, values)? else {
+    let Some(scalars) = scalars else {
         return Err(placed_fault(object.index(), PopulationFault::WrongKind));
     };
     match builder.set_value(object, feature, scalars) {
@@ -58,24 +63,22 @@ fn put_list(
     }
 }
 
-/// Puts the one value of an attribute on an object, for which no list is made.
+/// Puts the one value of an attribute on an object, for which no list is made, if it is of the attribute's type.
 #[tactic(auto, unfolding(crate::specs::Loading::put_values))]
-fn put_one(
+fn put_scalar(
     builder: &mut PopulationBuilder<'_>,
     object: ObjectNo,
     feature: FeatureNo,
-    value: Value,
+    scalar: Option<Scalar>,
 ) -> Result<(), DeliveryFault>
     requires object { object < length builder.old.objects }
     requires feature { feature < length builder.old.model.features }
-    ensures leaves { Leaves result (put_values object feature (view value ∷ [])
-        builder.old) builder.new }
+    ensures leaves { (d : Data) → scalar ≡
+        scalar_from builder.old.model (feature_at builder.old.model feature).element d →
+        Leaves result (put_values object feature (d ∷ []) builder.old) builder.new }
     ensures kept { KeepsObjects builder.old builder.new }
 {
-    let model = builder.model();
-    model.well_formed();
-    let info = model.feature_info(feature);
-    let Some(scalar) = scalar_of(model, info.element, value) else {
+    let Some(scalar) = scalar else {
         return Err(placed_fault(object.index(), PopulationFault::WrongKind));
     };
     match builder.set_one(object, feature, scalar) {
@@ -84,8 +87,8 @@ fn put_one(
     }
 }
 
-/// Puts the values of an attribute that a member writes on an object.
-fn put_values(
+/// Puts the values of an attribute that a JSON value writes on an object.
+fn put_tree(
     builder: &mut PopulationBuilder<'_>,
     alloc: Global,
     object: ObjectNo,
@@ -98,37 +101,134 @@ fn put_values(
         builder.old) builder.new }
     ensures kept { KeepsObjects builder.old builder.new }
 {
+    let model = builder.model();
+    model.well_formed();
+    let info = model.feature_info(feature);
     match value {
-        Value::Null => put_list(builder, alloc, object, feature, Vec::new(alloc)),
-        Value::Array(values) => put_list(builder, alloc, object, feature, values),
-        value => put_one(builder, object, feature, value),
+        Value::Null => put_scalars(builder, object, feature, Some(Vec::new(alloc))),
+        Value::Array(values) => {
+            let scalars = scalars_of(alloc, model, info, values)?;
+            put_scalars(builder, object, feature, scalars)
+        }
+        value => {
+            let scalar = scalar_of(model, info.element, value);
+            put_scalar(builder, object, feature, scalar)
+        }
     }
 }
 
-/// Puts the targets of a source end on an object.
+/// Puts the values of an attribute that a member writes on an object.
+fn put_values(
+    builder: &mut PopulationBuilder<'_>,
+    alloc: Global,
+    object: ObjectNo,
+    feature: FeatureNo,
+    value: Pending<'_>,
+) -> Result<(), DeliveryFault>
+    requires object { object < length builder.old.objects }
+    requires feature { feature < length builder.old.model.features }
+    ensures leaves { Leaves result (put_values object feature (values_from
+        (pending_view value.entry)) builder.old) builder.new }
+    ensures kept { KeepsObjects builder.old builder.new }
+{
+    let model = builder.model();
+    model.well_formed();
+    let info = model.feature_info(feature);
+    match value {
+        Pending::Nothing => put_scalars(builder, object, feature, Some(Vec::new(alloc))),
+        Pending::One(single) => {
+            let scalar = scalar_of_single(alloc, model, info.element, single)?;
+            put_scalar(builder, object, feature, scalar)
+        }
+        Pending::Many(singles) => {
+            let scalars = scalars_of_singles(alloc, model, info, &singles)?;
+            put_scalars(builder, object, feature, scalars)
+        }
+        Pending::Tree(value) => put_tree(builder, alloc, object, feature, value),
+    }
+}
+
+/// Puts the targets of a source end on an object: the objects of these ids. Where there are none, some value isn't a string.
 #[tactic(auto, unfolding(crate::specs::Loading::put_targets))]
 fn put_targets(
     builder: &mut PopulationBuilder<'_>,
     alloc: Global,
     object: ObjectNo,
     feature: FeatureNo,
-    values: &[Value],
+    ids: Option<Vec<&str>>,
 ) -> Result<(), DeliveryFault>
     requires object { object < length builder.old.objects }
     requires feature { feature < length builder.old.model.features }
-    ensures leaves { Leaves result (put_targets object feature (map view values.now)
-        builder.old) builder.new }
+    ensures leaves { (ds : List Data) → option_map (λ v. texts_view v.items) ids.entry ≡
+        all_found as_str ds → Leaves result (put_targets object feature ds builder.old)
+        builder.new }
     ensures kept { KeepsObjects builder.old builder.new }
 {
-    match targets_of(alloc, builder, values)? {
-        Targets::NotTexts => Err(placed_fault(object.index(), PopulationFault::WrongKind)),
-        Targets::Unknown => Err(DeliveryFault::UnknownTarget {
+    let Some(ids) = ids else {
+        return Err(placed_fault(object.index(), PopulationFault::WrongKind));
+    };
+    let Some(targets) = objects_of(alloc, builder, &ids)? else {
+        return Err(DeliveryFault::UnknownTarget {
             object: object.index(),
-        }),
-        Targets::Found(targets) => match builder.link(object, feature, &targets) {
-            Ok(()) => Ok(()),
-            Err(fault) => Err(placed_fault(object.index(), fault)),
-        },
+        });
+    };
+    match builder.link(object, feature, &targets) {
+        Ok(()) => Ok(()),
+        Err(fault) => Err(placed_fault(object.index(), fault)),
+    }
+}
+
+/// Puts the one target of a source end on an object, for which no list is made: the object of this id.
+#[tactic(auto, unfolding(crate::specs::Loading::put_targets))]
+fn put_target(
+    builder: &mut PopulationBuilder<'_>,
+    object: ObjectNo,
+    feature: FeatureNo,
+    id: &str,
+) -> Result<(), DeliveryFault>
+    requires object { object < length builder.old.objects }
+    requires feature { feature < length builder.old.model.features }
+    ensures leaves { Leaves result (put_targets object feature (string id.now ∷ []) builder.old)
+        builder.new }
+    ensures kept { KeepsObjects builder.old builder.new }
+{
+    let Some(target) = builder.object(id) else {
+        return Err(DeliveryFault::UnknownTarget {
+            object: object.index(),
+        });
+    };
+    match builder.link(object, feature, slice::from_ref(&target)) {
+        Ok(()) => Ok(()),
+        Err(fault) => Err(placed_fault(object.index(), fault)),
+    }
+}
+
+/// Puts the targets of a source end that a member writes on an object.
+fn put_ends(
+    builder: &mut PopulationBuilder<'_>,
+    alloc: Global,
+    object: ObjectNo,
+    feature: FeatureNo,
+    value: Pending<'_>,
+) -> Result<(), DeliveryFault>
+    requires object { object < length builder.old.objects }
+    requires feature { feature < length builder.old.model.features }
+    ensures leaves { Leaves result (put_targets object feature (values_from
+        (pending_view value.entry)) builder.old) builder.new }
+    ensures kept { KeepsObjects builder.old builder.new }
+{
+    match value {
+        Pending::Nothing => { put_targets(builder, alloc, object, feature, Some(Vec::new(alloc))) }
+        Pending::One(Single::Text(id)) => put_target(builder, object, feature, id),
+        Pending::One(_) => put_targets(builder, alloc, object, feature, None),
+        Pending::Many(singles) => {
+            let ids = texts_of_singles(alloc, &singles)?;
+            put_targets(builder, alloc, object, feature, ids)
+        }
+        Pending::Tree(value) => {
+            let ids = texts_of(alloc, values_of(&value))?;
+            put_targets(builder, alloc, object, feature, ids)
+        }
     }
 }
 
@@ -138,22 +238,22 @@ fn put_written(
     alloc: Global,
     object: ObjectNo,
     feature: FeatureNo,
-    value: Option<Value>,
+    value: Option<Pending<'_>>,
 ) -> Result<(), DeliveryFault>
     requires object { object < length builder.old.objects }
     requires feature { feature < length builder.old.model.features }
     ensures leaves { Leaves result (put_by (feature_at builder.old.model feature).role object
-        feature (option_map view value) builder.old) builder.new }
+        feature (option_map pending_view value.entry) builder.old) builder.new }
     ensures kept { KeepsObjects builder.old builder.new }
 {
     let info = builder.model().feature_info(feature);
     let value = match value {
-        Some(value) if !value.is_null() => value,
+        Some(value) if !value.is_nothing() => value,
         _ => return left_out(object, feature, info),
     };
     match info.role {
         Role::Attribute => put_values(builder, alloc, object, feature, value),
-        Role::SourceEnd { .. } => put_targets(builder, alloc, object, feature, values_of(&value)),
+        Role::SourceEnd { .. } => put_ends(builder, alloc, object, feature, value),
         Role::OppositeEnd { .. } => Err(placed_fault(object.index(), PopulationFault::Derived)),
     }
 }
@@ -175,7 +275,7 @@ fn put_member(
     alloc: Global,
     object: ObjectNo,
     feature: FeatureNo,
-    pending: &mut [Option<Value>],
+    pending: &mut [Option<Pending<'_>>],
 ) -> Result<(), DeliveryFault>
     requires object { object < length builder.old.objects }
     requires feature { feature < length builder.old.model.features }
@@ -252,7 +352,7 @@ pub(crate) fn put_pending(
     alloc: Global,
     object: ObjectNo,
     named: Vec<FeatureNo>,
-    pending: &mut [Option<Value>],
+    pending: &mut [Option<Pending<'_>>],
     required: &mut RequiredFeatures<'_>,
     guesses: &mut Guesses,
 ) -> Result<(), DeliveryFault>
@@ -287,7 +387,7 @@ pub(crate) fn put_pending(
 /// Takes the members of an object's features. What they write is pending then. `None` where one names no feature of the class.
 /// The features are written to a list of which only the room is used again.
 fn take_members(
-    pending: &mut [Option<Value>],
+    pending: &mut [Option<Pending<'_>>],
     model: &ClassModel,
     class: ClassNo,
     members: Map<String, Value>,
@@ -320,15 +420,15 @@ fn take_members(
 }
 
 /// Has a value pending at a feature, if nothing is.
-fn keep_first(pending: &mut [Option<Value>], feature: FeatureNo, value: Value)
+fn keep_first(pending: &mut [Option<Pending<'_>>], feature: FeatureNo, value: Value)
     requires { feature < length pending.old }
     ensures kept { (d : Data) → pending_at pending.old feature ≡ Some d →
         pending.new ≡ pending.old }
     ensures put { pending_at pending.old feature ≡ None →
-        pending.new ≡ slice_set pending.old feature (Some value) }
+        pending.new ≡ slice_set pending.old feature (Some (Pending.Tree value)) }
 {
     if pending[feature.index()].is_none() {
-        pending[feature.index()] = Some(value);
+        pending[feature.index()] = Some(Pending::Tree(value));
     }
 }
 
@@ -338,7 +438,7 @@ pub(crate) fn put_members(
     alloc: Global,
     object: ObjectNo,
     members: Map<String, Value>,
-    pending: &mut [Option<Value>],
+    pending: &mut [Option<Pending<'_>>],
     required: &mut RequiredFeatures<'_>,
     guesses: &mut Guesses,
 ) -> Result<(), DeliveryFault>
@@ -365,10 +465,10 @@ pub(crate) fn put_members(
 }
 
 /// For each feature of a class model nothing.
-pub(crate) fn none_pending(
+pub(crate) fn none_pending<'a>(
     alloc: Global,
     model: &ClassModel,
-) -> Result<Vec<Option<Value>>, AllocError>
+) -> Result<Vec<Option<Pending<'a>>>, AllocError>
     ensures none { IfOk result (λ v. NonePending v.items) }
     ensures room { IfOk result (λ v. length v.items ≡ length model.now.features) }
 {

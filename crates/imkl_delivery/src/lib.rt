@@ -9,6 +9,7 @@ mod guesses;
 pub mod laws;
 mod loading;
 mod outline;
+mod pending_value;
 mod scalars;
 mod straight;
 mod taking;

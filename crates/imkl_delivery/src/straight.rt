@@ -1,12 +1,15 @@
 //! A delivery loaded straight from its tokens, in two passes.
 
-ghost use Rattle.std.specs.Prelude.{◌≡◌, Some, Ok, IfOk};
-ghost use Rattle.serde_json.specs.Data.{Data};
+ghost use Rattle.std.specs.Prelude.{◌≡◌, List, Some, Ok, IfOk};
+ghost use Rattle.serde_json.specs.Data.{Data, Items};
 ghost use Rattle.serde_json.specs.Read.{read};
-ghost use Rattle.imkl_json.specs.Json.{IsTree};
+ghost use Rattle.token_tree.specs.Tokens.{items_at};
+ghost use Rattle.imkl_json.specs.Json.{IsTree, elements_of};
+ghost use Rattle.ocl_base.specs.Steps.{each};
 ghost use Rattle.imkl_population.specs.Population.{Population as SpecPopulation};
 ghost use Rattle.imkl_population.specs.Finishing.{finish_outcome};
-ghost use Rattle.imkl_delivery.specs.Loading.{describes_population};
+ghost use Rattle.imkl_delivery.specs.Document.{Written, entry_from};
+ghost use Rattle.imkl_delivery.specs.Loading.{put_entries, describes_population};
 
 use crate::detour::Detour;
 use crate::features::none_pending;
@@ -18,6 +21,32 @@ use imkl_model::ClassModel;
 use imkl_population::{Population, PopulationBuilder, PopulationFault, RequiredFeatures, Side};
 use json::{Reader, Scratch};
 use std::alloc::Global;
+
+/// Writes on each object what its entry says, up to the end of the entries' list.
+fn put_objects(
+    builder: &mut PopulationBuilder<'_>,
+    alloc: Global,
+    reader: &mut Reader<'_>,
+    model: &ClassModel,
+) -> Result<(), Detour>
+    requires { builder.old.model ≡ model.now }
+    ensures { IfOk result (λ x. (all : Items) ×
+        (items_at 125 reader.old ≡ Some (all, reader.new)) ×
+        ((ws : List Written) → each entry_from (elements_of all) ≡ Ok ws →
+        put_entries ws builder.old ≡ Ok builder.new)) }
+{
+    let mut required = RequiredFeatures::new(alloc, model, Side::Written);
+    let mut guesses = Guesses::new(alloc, model.class_count())?;
+    let mut pending = none_pending(alloc, model)?;
+    put_all(
+        builder,
+        alloc,
+        reader,
+        &mut pending,
+        &mut required,
+        &mut guesses,
+    )
+}
 
 /// A builder of the population that a delivery's text describes, with all that is written.
 fn written_straight<'m>(
@@ -31,19 +60,9 @@ fn written_straight<'m>(
 {
     let mut scratch = Scratch::new(alloc);
     let mut builder = outline(alloc, text, model, &mut scratch)?;
-    let mut required = RequiredFeatures::new(alloc, model, Side::Written);
-    let mut guesses = Guesses::new(alloc, model.class_count())?;
-    let mut pending = none_pending(alloc, model)?;
     let mut reader = Reader::new(text, &mut scratch)?;
     opens(&mut reader, model)?;
-    put_all(
-        &mut builder,
-        alloc,
-        &mut reader,
-        &mut pending,
-        &mut required,
-        &mut guesses,
-    )?;
+    put_objects(&mut builder, alloc, &mut reader, model)?;
     closes(&mut reader)?;
     Ok(builder)
 }

@@ -12,7 +12,7 @@ use imkl_model::ClassModel;
 use json::{Reader, Token};
 
 /// The token that comes next.
-fn next<'a>(reader: &mut Reader<'a>) -> Result<Token<'a>, Detour>
+pub(crate) fn next<'a>(reader: &mut Reader<'a>) -> Result<Token<'a>, Detour>
     ensures { IfOk result (λ t. reader.old ≡ token_of t ∷ reader.new) }
 {
     reader.next().ok_or(Detour::ByTree)

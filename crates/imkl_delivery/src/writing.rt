@@ -18,13 +18,12 @@ ghost use Rattle.imkl_delivery.specs.Straight.{StopsBefore, EndsWith, IsEntryPut
 use crate::detour::{Detour, detour_of};
 use crate::features::{feature_of, put_pending};
 use crate::guesses::Guesses;
+use crate::pending_value::{Pending, read_pending};
 use crate::tokens::{opens_object, string};
 use imkl_model::{ClassModel, ClassNo, FeatureNo};
 use imkl_population::{ObjectNo, PopulationBuilder, RequiredFeatures};
 use json::Reader;
-use serde_json::Value;
 use std::alloc::{AllocError, Global};
-use token_tree::value_of;
 
 /// Passes over members up to the name of the features. Refused where one that isn't a string comes first.
 fn skip_before(reader: &mut Reader<'_>) -> Result<(), Detour>
@@ -65,14 +64,14 @@ fn skip_behind(reader: &mut Reader<'_>) -> Result<(), Detour>
 
 /// Has a value pending at a feature, in the place of any before it. The feature is named where nothing was pending, so that
 /// a name that is repeated takes no memory.
-fn keep_last(
-    pending: &mut [Option<Value>],
+fn keep_last<'a>(
+    pending: &mut [Option<Pending<'a>>],
     named: &mut Vec<FeatureNo>,
     feature: FeatureNo,
-    value: Value,
+    value: Pending<'a>,
 ) -> Result<(), AllocError>
     requires { feature < length pending.old }
-    ensures put { OnOk result (pending.new ≡ slice_set pending.old feature (Some value)) }
+    ensures put { OnOk result (pending.new ≡ slice_set pending.old feature (Some value.entry)) }
     ensures only { OnOk result (IsPendingOnly named.old.items pending.old →
         IsPendingOnly named.new.items pending.new) }
     ensures in_range { OnOk result ((n : ℕ) → feature < n →
@@ -88,10 +87,10 @@ fn keep_last(
 
 /// Reads the members of an entry's features up to their end. What they write is pending then; of a name that stands twice the
 /// last value is. The features are written to a list of which only the room is used again.
-fn read_members(
-    pending: &mut [Option<Value>],
+fn read_members<'a>(
+    pending: &mut [Option<Pending<'a>>],
     alloc: Global,
-    reader: &mut Reader<'_>,
+    reader: &mut Reader<'a>,
     model: &ClassModel,
     class: ClassNo,
     guesses: &[FeatureNo],
@@ -117,7 +116,7 @@ fn read_members(
                 let Some(feature) = feature_of(model, class, guesses, named.len(), name) else {
                     return Err(Detour::ByTree);
                 };
-                let value = value_of(alloc, reader, 123)?;
+                let value = read_pending(alloc, reader)?;
                 keep_last(pending, &mut named, feature, value)?;
             }
             Err(_) => return Err(Detour::ByTree),
@@ -127,12 +126,12 @@ fn read_members(
 }
 
 /// Writes on an object what the entry that comes next says.
-fn put_entry(
+fn put_entry<'a>(
     builder: &mut PopulationBuilder<'_>,
     alloc: Global,
     object: ObjectNo,
-    reader: &mut Reader<'_>,
-    pending: &mut [Option<Value>],
+    reader: &mut Reader<'a>,
+    pending: &mut [Option<Pending<'a>>],
     required: &mut RequiredFeatures<'_>,
     guesses: &mut Guesses,
 ) -> Result<(), Detour>
@@ -171,11 +170,11 @@ fn put_entry(
 }
 
 /// Writes on each object what its entry says, up to the end of the entries' list.
-pub(crate) fn put_all(
+pub(crate) fn put_all<'a>(
     builder: &mut PopulationBuilder<'_>,
     alloc: Global,
-    reader: &mut Reader<'_>,
-    pending: &mut [Option<Value>],
+    reader: &mut Reader<'a>,
+    pending: &mut [Option<Pending<'a>>],
     required: &mut RequiredFeatures<'_>,
     guesses: &mut Guesses,
 ) -> Result<(), Detour>

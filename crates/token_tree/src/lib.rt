@@ -1,6 +1,7 @@
-//! JSON trees from the tokens of a text, a part at a time.
+//! The simple values of a JSON text straight from its tokens, without a tree of them.
 #![tactic(auto)]
 
-mod tree;
+mod numbers;
+mod single;
 
-pub use tree::{NoTree, members_of, value_of};
+pub use single::{NoSingle, Single, single_of, singles_of};

@@ -6,6 +6,7 @@ use Rattle.serde_json.specs.View.{members_view}
 use Rattle.serde_json.proofs.Views.{Entry}
 use Rattle.imkl_model.specs.ClassModel.{feature_at, feature_number}
 use Rattle.imkl_delivery.specs.Loading.{are_features}
+use Rattle.imkl_delivery.specs.declared.pending_value.Pending.TheVariants.{Tree}
 use Rattle.imkl_delivery.specs.Pending.{pending_at, IsPendingOnly}
 use Rattle.imkl_delivery.proofs.Pending.{KeepsFirst, tree_next, only-kept, room-kept}
 use Rattle.imkl_delivery.proofs.features.take_members.Goals as goal
@@ -30,7 +31,7 @@ loop-name-preserved c =
     let steps = c.in-Some.ensures.steps in
     let found : feature_number m class (string_bytes c.in-Some.name) ≡ Some f = ap (feature_number m class) (sym c.as_str.ensures.value) ∙ sym c.in-Some-feature_of.ensures.number in
     let below : f < length l.pending = omega (arith, c.in-Some-feature_of.ensures.in_range, l.invariant.room, c.requires.room) in
-    let kept : KeepsFirst l.pending f c.in-Some.value new = (c.keep_first.ensures.kept, c.keep_first.ensures.put) in
+    let kept : KeepsFirst l.pending f (Tree c.in-Some.value) new = (c.keep_first.ensures.kept, c.keep_first.ensures.put) in
     let rest : are_features m class (members_view es) ≡ are_features m class (members_view (e ∷ es)) = rw found refl in
     let items = c.in_ok-push.ensures.items in
     record {
@@ -40,7 +41,7 @@ loop-name-preserved c =
           tree_next m class f e es l.pending new c.well_formed-2.ensures found below kept g inside here
           ∙ ap (λ (xs : List Entry). option_or (pending_at l.pending g) (get_member (feature_at m g).name (members_view xs))) (sym steps) ∙ l.invariant.written g inside here;
       named = rest ∙ ap (λ (xs : List Entry). are_features m class (members_view xs)) (sym steps) ∙ l.invariant.named;
-      only = subst (λ (fs : List ℕ). IsPendingOnly fs new) (sym items) (only-kept l.named.items l.pending new f c.in-Some.value kept l.invariant.only);
+      only = subst (λ (fs : List ℕ). IsPendingOnly fs new) (sym items) (only-kept l.named.items l.pending new f (Tree c.in-Some.value) kept l.invariant.only);
       in_range = subst (All (λ g. g < length m.features)) (sym items) (All-push (λ g. g < length m.features) l.named.items f l.invariant.in_range c.in-Some-feature_of.ensures.in_range);
-      room = room-kept l.pending new f c.in-Some.value kept ∙ l.invariant.room;
+      room = room-kept l.pending new f (Tree c.in-Some.value) kept ∙ l.invariant.room;
     }

@@ -17,7 +17,7 @@ returns c =
     let text = c.args.text.now in
     let b = c.in_ok-builder.builder in
     let is : c.in_ok-reader.reader ≡ tokens text = search rules in
-    let put = c.in_ok-put_all.ensures in
+    let put = c.in_ok-put_objects.ensures in
     let ts = c.opens.new.reader in
     let list : items_at 125 ts ≡ Some (put.0, end_object ∷ []) = put.1 ∙ ap (λ (x : List Token). Some (put.0, x)) c.in_ok-closes.ensures in
     let d = document_data m.name put.0 in
@@ -26,4 +26,4 @@ returns c =
     let objects : added.objects ≡ elements_of put.0 = same_there added.objects (elements_of put.0) _ added.taken (objects_are m.name put.0) in
     let entries = subst (λ (x : List Data). each entry_from x ≡ Ok added.entries) objects added.written in
     let done = put.2 added.entries entries in
-    (d, read, λ p finished. added.whole ∙ finished_is added.entries b c.put_all.new.builder p done finished)
+    (d, read, λ p finished. added.whole ∙ finished_is added.entries b c.put_objects.new.builder p done finished)

@@ -1,10 +1,9 @@
 use Rattle.std.proofs.Common.{◌≡◌, ◌∙◌, ◌<◌, Some, length, refl, sym, subst, arith}
 use Rattle.std.proofs.lemmas.List.Elements.{All-nil}
 use Rattle.serde_json.specs.Data.{no_members, put}
-use Rattle.serde_json.specs.View.{view}
 use Rattle.token_tree.proofs.Reading.{members_over, members_next}
 use Rattle.imkl_model.specs.ClassModel.{feature_number}
-use Rattle.imkl_delivery.specs.Pending.{ArePending}
+use Rattle.imkl_delivery.specs.Pending.{pending_view, ArePending}
 use Rattle.imkl_delivery.proofs.Pending.{pending-put}
 use Rattle.imkl_delivery.proofs.writing.read_members.Goals as goal
 
@@ -37,9 +36,9 @@ loop-preserved c =
     let kept = c.in_ok-keep_last-in-Ok-Some.ensures in
     record {
       found = (
-        put k (view v) now.0,
-        now.1 ∙ members_next 123 now.0 k l.reader c.next_key.new.self c.value_of.new.reader (view v) key c.in_ok-value-in-Ok-Some.ensures.value,
-        subst (ArePending m class (put k (view v) now.0)) (sym kept.put) (pending-put m class f k v now.0 l.pending c.well_formed-2.ensures number below now.2),
+        put k (pending_view v) now.0,
+        now.1 ∙ members_next 123 now.0 k l.reader c.next_key.new.self c.read_pending.new.reader (pending_view v) key c.in_ok-value-in-Ok-Some.ensures,
+        subst (ArePending m class (put k (pending_view v) now.0)) (sym kept.put) (pending-put m class f k v now.0 l.pending c.well_formed-2.ensures number below now.2),
       );
       only = kept.only l.invariant.only;
       in_range = kept.in_range (length m.features) c.in-Some.ensures.in_range l.invariant.in_range;

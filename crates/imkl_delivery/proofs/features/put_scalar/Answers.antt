@@ -1,5 +1,4 @@
 use Rattle.std.proofs.Common.{◌≡◌, [], ◌∷◌, ap, refl, sym, ◌∙◌, Some}
-use Rattle.serde_json.specs.View.{view}
 use Rattle.imkl_model.specs.ClassModel.{feature_at}
 use Rattle.imkl_population.specs.Building.{set_outcome}
 use Rattle.imkl_delivery.specs.Steps.{at_object, placed_fault}
@@ -8,22 +7,22 @@ use Rattle.imkl_delivery.specs.Loading.{put_values}
 use Rattle.ocl_base.proofs.ForAbove.{fails_along}
 use Rattle.imkl_delivery.specs.Faults.{delivery_fault}
 use Rattle.imkl_delivery.proofs.Refusals.{refused, values_there}
-use Rattle.imkl_delivery.proofs.features.put_one.Goals as goal
+use Rattle.imkl_delivery.proofs.features.put_scalar.Goals as goal
 
 pub returns-in-Ok-clause-leaves : goal.returns-in-Ok-clause-leaves
-returns-in-Ok-clause-leaves c =
+returns-in-Ok-clause-leaves c = λ d is.
     let p = c.args.builder.now in
     let vs = c.in-Some.scalar ∷ [] in
-    let one : scalar_from p.model (feature_at p.model c.args.feature).element (view c.args.value) ≡ Some c.in-Some.scalar = rw (← c.model-model.ensures, ← c.feature_info-info.ensures) (sym (rw c.in-Some.is at c.scalar_of.ensures)) in
-    sym (values_there c.args.object c.args.feature (view c.args.value ∷ []) p vs (rw one refl)) ∙ ap (at_object c.args.object) c.in-Ok.ensures.answers
+    let one : scalar_from p.model (feature_at p.model c.args.feature).element d ≡ Some c.in-Some.scalar = sym is ∙ c.in-Some.is in
+    sym (values_there c.args.object c.args.feature (d ∷ []) p vs (rw one refl)) ∙ ap (at_object c.args.object) c.in-Ok.ensures.answers
 
 pub returns-in-Err-clause-leaves : goal.returns-in-Err-clause-leaves
-returns-in-Err-clause-leaves c =
+returns-in-Err-clause-leaves c = λ d is.
     let p = c.args.builder.now in
     let o = c.args.object in
     let f = c.args.feature in
-    let ds = view c.args.value ∷ [] in
+    let ds = d ∷ [] in
     let vs = c.in-Some.scalar ∷ [] in
-    let one : scalar_from p.model (feature_at p.model f).element (view c.args.value) ≡ Some c.in-Some.scalar = rw (← c.model-model.ensures, ← c.feature_info-info.ensures) (sym (rw c.in-Some.is at c.scalar_of.ensures)) in
+    let one : scalar_from p.model (feature_at p.model f).element d ≡ Some c.in-Some.scalar = sym is ∙ c.in-Some.is in
     let fault : c.placed_fault-in-Err.result ≡ placed_fault o c.in-Err.fault = c.placed_fault-in-Err.ensures ∙ ap (λ x. placed_fault x c.in-Err.fault) c.index-in-Err.ensures in
     rw fault (fails_along delivery_fault (placed_fault o c.in-Err.fault) (at_object o (set_outcome p o f vs)) (put_values o f ds p) (values_there o f ds p vs (rw one refl)) (refused (Unit {0}) o c.in-Err.fault (set_outcome p o f vs) p c.set_one.new.self c.in-Err.ensures.answers))
