@@ -85,8 +85,8 @@ fn look_at_objects(
     alloc: Global,
     report: &mut Report<'_>,
     document: Document<'_, '_>,
-    offsets: &[usize],
 ) -> Result<(), AllocError> {
+    let offsets = offsets_of(alloc, report.bytes())?;
     for (index, entry) in document.entries.iter().enumerate() {
         if report.is_full() {
             return Ok(());
@@ -97,30 +97,36 @@ fn look_at_objects(
     Ok(())
 }
 
-/// The lines on all faults of a document, with their number.
-fn lines_of(
+/// Says all that is wrong with objects, once the first of each id is known.
+fn look_with_ids<'v>(
     alloc: Global,
-    input: Input<'_>,
+    report: &mut Report<'_>,
     model: &ClassModel,
-    document: &Value,
-) -> Result<(String, usize), AllocError> {
-    let entries = entries_of(alloc, document)?;
-    let ids = ids_of(alloc, &entries)?;
-    let holders = holders_of(alloc, model, &entries, &ids)?;
-    let offsets = offsets_of(alloc, input.bytes)?;
-    let mut report = Report::new(alloc, input);
+    entries: &[Entry<'v>],
+    ids: &BTreeMap<&'v str, usize>,
+) -> Result<(), AllocError> {
+    let holders = holders_of(alloc, model, entries, ids)?;
     let document = Document {
         model,
-        entries: &entries,
-        ids: &ids,
+        entries,
+        ids,
         holders: &holders,
     };
-    look_at_objects(alloc, &mut report, document, &offsets)?;
-    let faults = report.faults();
-    Ok((report.into_lines(), faults))
+    look_at_objects(alloc, report, document)
 }
 
-/// Writes all faults of the objects of a delivery.
+/// Says all that is wrong with objects.
+fn look_at_entries(
+    alloc: Global,
+    report: &mut Report<'_>,
+    model: &ClassModel,
+    entries: &[Entry<'_>],
+) -> Result<(), AllocError> {
+    let ids = ids_of(alloc, entries)?;
+    look_with_ids(alloc, report, model, entries, &ids)
+}
+
+/// Writes all faults of the objects of a delivery, and how many they are; the fault that is known where none is found.
 fn explain_objects(
     alloc: Global,
     out: &mut String,
@@ -129,9 +135,11 @@ fn explain_objects(
     document: &Value,
     fault: &DeliveryFault,
 ) -> Result<(), AllocError> {
-    let (lines, faults) = lines_of(alloc, input, model, document)?;
-    out.push_str(lines.as_str())?;
-    let path = input.path;
+    let mut report = Report::new(alloc, input);
+    let entries = entries_of(alloc, document)?;
+    look_at_entries(alloc, &mut report, model, &entries)?;
+    out.push_str(report.lines())?;
+    let (path, faults) = (input.path, report.faults());
     match faults {
         0 => writeln!(out, "{path}: {fault}"),
         1 => writeln!(out, "{path}: 1 fault"),

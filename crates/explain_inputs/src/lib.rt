@@ -12,6 +12,7 @@ mod objects;
 mod old_names;
 mod report;
 mod shapes;
+mod stop;
 mod values;
 
 pub use deliveries::explain_delivery;

@@ -1,15 +1,13 @@
 //! The faults of a class model that has the shape of one.
 
 use crate::drafts::{Draft, DraftClass, draft_of, items, text, texts};
-use crate::old_names::{absent_name, clashing_name, taken_name};
+use crate::old_names::{look_for_absent, look_for_old_names, look_for_taken};
+use crate::stop::Stop;
 use explain_notes::{Nearest, quote};
 use imkl_model::ModelFault;
 use serde_json::Value;
 use std::alloc::{AllocError, Global};
 use std::collections::BTreeMap;
-
-/// What is wrong, in words, if this is.
-pub(crate) type Flaw = Option<String>;
 
 /// The first name that stands twice in a list.
 fn first_repeat<'v>(alloc: Global, names: &[&'v str]) -> Result<Option<&'v str>, AllocError> {
@@ -23,14 +21,14 @@ fn first_repeat<'v>(alloc: Global, names: &[&'v str]) -> Result<Option<&'v str>,
     Ok(None)
 }
 
-/// What is said of a name that stands twice in a list.
-fn repeat_flaw(alloc: Global, names: &[&str], what: &str) -> Result<Flaw, AllocError> {
+/// Looks for a name that stands twice in a list.
+fn look_for_repeats(alloc: Global, names: &[&str], what: &str) -> Result<(), Stop> {
     match first_repeat(alloc, names)? {
         Some(name) => {
             let name = quote(alloc, name)?;
-            Ok(Some(format!(in alloc; "{what} `{name}` stands twice")?))
+            Err(Stop::Flaw(format!(in alloc; "{what} `{name}` stands twice")?))
         }
-        None => Ok(None),
+        None => Ok(()),
     }
 }
 
@@ -62,141 +60,141 @@ fn type_names(alloc: Global, document: &Value) -> Result<Vec<&str>, AllocError> 
     Ok(names)
 }
 
-/// A class or an enumeration that has the name of a type which is always there, or of a kind of collections.
-fn predefined_flaw(alloc: Global, names: &[&str]) -> Result<Flaw, AllocError> {
+/// Looks for a class or an enumeration that has the name of a type which is always there, or of a kind of collections.
+fn look_for_predefined(alloc: Global, names: &[&str]) -> Result<(), Stop> {
     for name in names {
         if is_predefined(name) {
-            return Ok(Some(format!(in alloc;
+            return Err(Stop::Flaw(format!(in alloc;
                 "no class or enumeration may be named `{name}`, which OCL has"
             )?));
         }
     }
-    Ok(None)
+    Ok(())
 }
 
-/// A feature that stands twice on one class.
-fn feature_flaw(alloc: Global, draft: &Draft<'_>) -> Result<Flaw, AllocError> {
+/// Looks for a feature that stands twice on one class.
+fn look_for_features(alloc: Global, draft: &Draft<'_>) -> Result<(), Stop> {
     let mut seen = BTreeMap::new(alloc);
     for feature in &draft.features {
         let title = format!(in alloc; "{}.{}", feature.owner, feature.name)?;
         if seen.contains_key(title.as_str()) {
-            return Ok(Some(format!(in alloc; "the feature {title} stands twice")?));
+            return Err(Stop::Flaw(format!(in alloc; "the feature {title} stands twice")?));
         }
         seen.insert(title, ())?;
     }
-    Ok(None)
+    Ok(())
 }
 
-/// A literal of an enumeration, or a superclass of a class, that stands twice.
-fn inner_flaw(alloc: Global, document: &Value) -> Result<Flaw, AllocError> {
-    for enumeration in items(document, "enums") {
-        let names = texts(alloc, items(enumeration, "literals"))?;
-        let flaw = repeat_flaw(alloc, &names, "the literal")?;
-        if flaw.is_some() {
-            return Ok(flaw);
-        }
+/// Looks for a text that stands twice in a member of values.
+fn look_for_texts(alloc: Global, values: &[Value], member: &str, what: &str) -> Result<(), Stop> {
+    for value in values {
+        let names = texts(alloc, items(value, member))?;
+        look_for_repeats(alloc, &names, what)?;
     }
-    for class in items(document, "classes") {
-        let names = texts(alloc, items(class, "supers"))?;
-        let flaw = repeat_flaw(alloc, &names, "the superclass")?;
-        if flaw.is_some() {
-            return Ok(flaw);
-        }
-    }
-    Ok(None)
+    Ok(())
 }
 
-/// A name that stands twice where names must differ.
-fn duplicate_flaw(alloc: Global, document: &Value, draft: &Draft<'_>) -> Result<Flaw, AllocError> {
+/// Looks for a class, an enumeration or an old name that stands twice, or is one that OCL has.
+fn look_for_types(alloc: Global, document: &Value) -> Result<(), Stop> {
     let names = type_names(alloc, document)?;
-    let flaw = predefined_flaw(alloc, &names)?;
-    if flaw.is_some() {
-        return Ok(flaw);
-    }
-    let flaw = repeat_flaw(alloc, &names, "the class or enumeration")?;
-    if flaw.is_some() {
-        return Ok(flaw);
-    }
-    let flaw = taken_name(alloc, document, &names)?;
-    if flaw.is_some() {
-        return Ok(flaw);
-    }
-    let associations = names_of(alloc, items(document, "associations"))?;
-    let flaw = repeat_flaw(alloc, &associations, "the association")?;
-    if flaw.is_some() {
-        return Ok(flaw);
-    }
-    let flaw = inner_flaw(alloc, document)?;
-    if flaw.is_some() {
-        return Ok(flaw);
-    }
-    feature_flaw(alloc, draft)
+    look_for_predefined(alloc, &names)?;
+    look_for_repeats(alloc, &names, "the class or enumeration")?;
+    look_for_taken(alloc, document, &names)
 }
 
-/// What is said of a name that isn't among others.
-pub(crate) fn absent_flaw<'n>(
+/// Looks for an association that stands twice.
+fn look_for_associations(alloc: Global, document: &Value) -> Result<(), Stop> {
+    let names = names_of(alloc, items(document, "associations"))?;
+    look_for_repeats(alloc, &names, "the association")
+}
+
+/// Looks for a name that stands twice where names must differ.
+fn look_for_duplicates(alloc: Global, document: &Value, draft: &Draft<'_>) -> Result<(), Stop> {
+    look_for_types(alloc, document)?;
+    look_for_associations(alloc, document)?;
+    look_for_texts(alloc, items(document, "enums"), "literals", "the literal")?;
+    look_for_texts(
+        alloc,
+        items(document, "classes"),
+        "supers",
+        "the superclass",
+    )?;
+    look_for_features(alloc, draft)
+}
+
+/// What is said of a name that isn't there, where another one may be near.
+fn absent_words(
+    alloc: Global,
+    what: &str,
+    name: &str,
+    nearest: &Nearest<'_>,
+) -> Result<String, AllocError> {
+    let written = quote(alloc, name)?;
+    match nearest.name() {
+        Some(near) => format!(in alloc; "{what} `{written}` isn't there; did you mean `{near}`?"),
+        None => format!(in alloc; "{what} `{written}` isn't there"),
+    }
+}
+
+/// Looks for a name among others.
+pub(crate) fn look_among<'n>(
     alloc: Global,
     name: &'n str,
     names: &[&'n str],
     what: &str,
-) -> Result<Flaw, AllocError> {
+) -> Result<(), Stop> {
     let mut nearest = Nearest::to(name);
     for other in names {
         if *other == name {
-            return Ok(None);
+            return Ok(());
         }
         nearest.offer(alloc, *other)?;
     }
-    let written = quote(alloc, name)?;
-    Ok(Some(match nearest.name() {
-        Some(near) => format!(in alloc; "{what} `{written}` isn't there; did you mean `{near}`?")?,
-        None => format!(in alloc; "{what} `{written}` isn't there")?,
-    }))
+    Err(Stop::Flaw(absent_words(alloc, what, name, &nearest)?))
 }
 
-/// The type of an attribute, or the class of an end, that isn't there.
-fn unknown_in_features<'n>(
+/// Looks for the type of an attribute, or the class of an end, that isn't there.
+fn look_at_features<'n>(
     alloc: Global,
     draft: &Draft<'n>,
     classes: &[&'n str],
     types: &[&'n str],
-) -> Result<Flaw, AllocError> {
+) -> Result<(), Stop> {
     for feature in &draft.features {
-        let flaw = match feature.element {
-            Some(element) => absent_flaw(alloc, element, types, "the type")?,
-            None => absent_flaw(alloc, feature.owner, classes, "the class of an end")?,
-        };
-        if flaw.is_some() {
-            return Ok(flaw);
+        match feature.element {
+            Some(element) => look_among(alloc, element, types, "the type")?,
+            None => look_among(alloc, feature.owner, classes, "the class of an end")?,
         }
     }
-    Ok(None)
+    Ok(())
 }
 
-/// A name that names nothing.
-fn unknown_flaw<'n>(
-    alloc: Global,
-    document: &'n Value,
-    draft: &Draft<'n>,
-) -> Result<Flaw, AllocError> {
-    let classes = names_of(alloc, items(document, "classes"))?;
+/// Looks for a superclass that isn't there.
+fn look_at_supers<'n>(alloc: Global, draft: &Draft<'n>, classes: &[&'n str]) -> Result<(), Stop> {
+    for class in &draft.classes {
+        for above in &class.supers {
+            look_among(alloc, *above, classes, "the superclass")?;
+        }
+    }
+    Ok(())
+}
+
+/// The names of the types that an attribute can have.
+fn attribute_types(alloc: Global, document: &Value) -> Result<Vec<&str>, AllocError> {
     let mut types = names_of(alloc, items(document, "enums"))?;
     for basic in ["Boolean", "Integer", "String"] {
         types.push(basic)?;
     }
-    for class in &draft.classes {
-        for above in &class.supers {
-            let flaw = absent_flaw(alloc, *above, &classes, "the superclass")?;
-            if flaw.is_some() {
-                return Ok(flaw);
-            }
-        }
-    }
-    let flaw = unknown_in_features(alloc, draft, &classes, &types)?;
-    if flaw.is_some() {
-        return Ok(flaw);
-    }
-    absent_name(alloc, document, draft, &classes)
+    Ok(types)
+}
+
+/// Looks for a name that names nothing.
+fn look_for_unknown<'n>(alloc: Global, document: &'n Value, draft: &Draft<'n>) -> Result<(), Stop> {
+    let classes = names_of(alloc, items(document, "classes"))?;
+    let types = attribute_types(alloc, document)?;
+    look_at_supers(alloc, draft, &classes)?;
+    look_at_features(alloc, draft, &classes, &types)?;
+    look_for_absent(alloc, document, draft, &classes)
 }
 
 /// A class, by its name.
@@ -252,20 +250,20 @@ fn cycle_words<'v>(
     Ok(words)
 }
 
-/// A class that is above itself.
-fn cycle_flaw(alloc: Global, draft: &Draft<'_>) -> Result<Flaw, AllocError> {
+/// Looks for a class that is above itself.
+fn look_for_cycle(alloc: Global, draft: &Draft<'_>) -> Result<(), Stop> {
     for class in &draft.classes {
         let before = above_of(alloc, draft, class.name)?;
         if before.contains_key(class.name) {
             let words = cycle_words(alloc, class.name, &before)?;
-            return Ok(Some(format!(in alloc; "a class is above itself: {words}")?));
+            return Err(Stop::Flaw(format!(in alloc; "a class is above itself: {words}")?));
         }
     }
-    Ok(None)
+    Ok(())
 }
 
-/// Two features of one name, and different owners, of one class.
-fn clash_of(alloc: Global, draft: &Draft<'_>, class: &DraftClass<'_>) -> Result<Flaw, AllocError> {
+/// Looks for two features of one name, and different owners, of one class.
+fn look_for_clash(alloc: Global, draft: &Draft<'_>, class: &DraftClass<'_>) -> Result<(), Stop> {
     let above = above_of(alloc, draft, class.name)?;
     let mut named = BTreeMap::new(alloc);
     for (index, feature) in draft.features.iter().enumerate() {
@@ -276,53 +274,51 @@ fn clash_of(alloc: Global, draft: &Draft<'_>, class: &DraftClass<'_>) -> Result<
             && let Some(other) = draft.features.get(first)
             && other.owner != feature.owner
         {
-            return Ok(Some(format!(in alloc;
+            return Err(Stop::Flaw(format!(in alloc;
                 "{} has two features named `{}`: that of {} and that of {}",
                 class.name, feature.name, other.owner, feature.owner
             )?));
         }
     }
-    Ok(None)
+    Ok(())
 }
 
-fn clash_flaw(alloc: Global, document: &Value, draft: &Draft<'_>) -> Result<Flaw, AllocError> {
+/// Looks for two features of one name in each class, and for an old name that is taken.
+fn look_for_clashes(alloc: Global, document: &Value, draft: &Draft<'_>) -> Result<(), Stop> {
     for class in &draft.classes {
-        let flaw = clash_of(alloc, draft, class)?;
-        if flaw.is_some() {
-            return Ok(flaw);
-        }
+        look_for_clash(alloc, draft, class)?;
     }
-    clashing_name(alloc, document, draft)
+    look_for_old_names(alloc, document, draft)
 }
 
-/// A multiplicity that nothing meets.
-fn multiplicity_flaw(alloc: Global, draft: &Draft<'_>) -> Result<Flaw, AllocError> {
+/// Looks for a multiplicity that nothing meets.
+fn look_at_multiplicities(alloc: Global, draft: &Draft<'_>) -> Result<(), Stop> {
     for feature in &draft.features {
         let (name, owner, lower) = (feature.name, feature.owner, feature.lower);
         if let Some(upper) = feature.upper
             && (upper == 0 || lower > upper)
         {
-            return Ok(Some(format!(in alloc;
+            return Err(Stop::Flaw(format!(in alloc;
                 "`{name}` of {owner} wants {lower} to {upper}, which nothing meets"
             )?));
         }
     }
-    Ok(None)
+    Ok(())
 }
 
-/// What is wrong with a class model that has this fault, in words, where it is found.
-pub(crate) fn model_fault_words(
+/// Looks for what is wrong with a class model that has this fault.
+pub(crate) fn look_for_fault(
     alloc: Global,
     document: &Value,
     fault: ModelFault,
-) -> Result<Flaw, AllocError> {
+) -> Result<(), Stop> {
     let draft = draft_of(alloc, document)?;
     match fault {
-        ModelFault::DuplicateName => duplicate_flaw(alloc, document, &draft),
-        ModelFault::UnknownName => unknown_flaw(alloc, document, &draft),
-        ModelFault::Cycle => cycle_flaw(alloc, &draft),
-        ModelFault::FeatureClash => clash_flaw(alloc, document, &draft),
-        ModelFault::BadMultiplicity => multiplicity_flaw(alloc, &draft),
-        _ => Ok(None),
+        ModelFault::DuplicateName => look_for_duplicates(alloc, document, &draft),
+        ModelFault::UnknownName => look_for_unknown(alloc, document, &draft),
+        ModelFault::Cycle => look_for_cycle(alloc, &draft),
+        ModelFault::FeatureClash => look_for_clashes(alloc, document, &draft),
+        ModelFault::BadMultiplicity => look_at_multiplicities(alloc, &draft),
+        _ => Ok(()),
     }
 }

@@ -1,8 +1,9 @@
 //! Why a class model is refused.
 
 use crate::json_notes::explain_json;
-use crate::model_faults::model_fault_words;
+use crate::model_faults::look_for_fault;
 use crate::shapes::model_shape;
+use crate::stop::Stop;
 use explain_notes::Input;
 use imkl_model::ModelFault;
 use serde_json::Value;
@@ -18,9 +19,10 @@ fn explain_content(
 ) -> Result<(), AllocError> {
     let path = input.path;
     let number = fault.number();
-    match model_fault_words(alloc, document, fault)? {
-        Some(words) => writeln!(out, "{path}: {words} (model {number})"),
-        None => writeln!(out, "{path}: {fault} (model {number})"),
+    match look_for_fault(alloc, document, fault) {
+        Err(Stop::Flaw(words)) => writeln!(out, "{path}: {words} (model {number})"),
+        Err(Stop::OutOfMemory) => Err(AllocError),
+        Ok(()) => writeln!(out, "{path}: {fault} (model {number})"),
     }
 }
 

@@ -2,7 +2,7 @@
 
 use crate::entries::Entry;
 use crate::report::{Report, Subject};
-use crate::values::{is_of_type, number_of, quote_value, values_of, words_of_type};
+use crate::values::{is_of_type, number_of, quote_value, values_of, write_type};
 use explain_notes::{Nearest, quote};
 use imkl_model::{ClassModel, ClassNo, ElementType, FeatureInfo, FeatureNo, Role};
 use imkl_population::{MAX_ID_LENGTH, PopulationFault};
@@ -34,11 +34,17 @@ fn is_id(id: &str) -> bool {
         })
 }
 
-/// What is asked of a name that is near a wanted one.
-fn suggestion(alloc: Global, nearest: &Nearest<'_>) -> Result<String, AllocError> {
+/// Writes a name, and asks whether one was meant that is near it.
+fn write_name(
+    alloc: Global,
+    out: &mut String,
+    name: &str,
+    nearest: &Nearest<'_>,
+) -> Result<(), AllocError> {
+    let name = quote(alloc, name)?;
     match nearest.name() {
-        Some(name) => format!(in alloc; "; did you mean `{name}`?"),
-        None => Ok(String::new(alloc)),
+        Some(near) => write!(out, "`{name}`; did you mean `{near}`?"),
+        None => write!(out, "`{name}`"),
     }
 }
 
@@ -68,6 +74,15 @@ fn look_at_id(
     }
 }
 
+/// What is said of a class that isn't there.
+fn unknown_class(alloc: Global, model: &ClassModel, name: &str) -> Result<String, AllocError> {
+    let mut message = String::from_str(alloc, "there is no class ")?;
+    let mut nearest = Nearest::to(name);
+    offer_classes(alloc, model, &mut nearest)?;
+    write_name(alloc, &mut message, name, &nearest)?;
+    Ok(message)
+}
+
 /// Says what is wrong with the class of an object; gives the class if it is there.
 fn look_at_class(
     alloc: Global,
@@ -76,11 +91,7 @@ fn look_at_class(
     subject: &Subject<'_>,
 ) -> Result<Option<ClassNo>, AllocError> {
     let Some(class) = model.class(subject.class) else {
-        let mut nearest = Nearest::to(subject.class);
-        offer_classes(alloc, model, &mut nearest)?;
-        let name = quote(alloc, subject.class)?;
-        let near = suggestion(alloc, &nearest)?;
-        let message = format!(in alloc; "there is no class `{name}`{near}")?;
+        let message = unknown_class(alloc, model, subject.class)?;
         report.say(alloc, subject, "delivery 4", message.as_str())?;
         return Ok(None);
     };
@@ -97,6 +108,21 @@ fn look_at_class(
     Ok(Some(class))
 }
 
+/// What is said of a member that is no feature of a class.
+fn unknown_feature(
+    alloc: Global,
+    model: &ClassModel,
+    class: ClassNo,
+    name: &str,
+) -> Result<String, AllocError> {
+    let owner = class_name(model, class);
+    let mut message = format!(in alloc; "{owner} has no feature ")?;
+    let mut nearest = Nearest::to(name);
+    offer_features(alloc, model, class, &mut nearest)?;
+    write_name(alloc, &mut message, name, &nearest)?;
+    Ok(message)
+}
+
 /// Says which members of an object are no features of its class.
 fn look_at_members(
     alloc: Global,
@@ -108,26 +134,11 @@ fn look_at_members(
 ) -> Result<(), AllocError> {
     for (name, _) in entry.features {
         if feature_named(model, class, name.as_str()).is_none() {
-            let mut nearest = Nearest::to(name.as_str());
-            offer_features(alloc, model, class, &mut nearest)?;
-            let near = suggestion(alloc, &nearest)?;
-            let written = quote(alloc, name.as_str())?;
-            let owner = class_name(model, class);
-            let message = format!(in alloc; "{owner} has no feature `{written}`{near}")?;
+            let message = unknown_feature(alloc, model, class, name.as_str())?;
             report.say(alloc, subject, "delivery 5", message.as_str())?;
         }
     }
     Ok(())
-}
-
-/// Bounds in words: how many values a feature wants.
-fn bounds(alloc: Global, feature: &FeatureInfo) -> Result<String, AllocError> {
-    let lower = feature.lower;
-    match feature.upper {
-        Some(upper) if upper == lower => format!(in alloc; "wants {lower}"),
-        Some(upper) => format!(in alloc; "wants {lower} to {upper}"),
-        None => format!(in alloc; "wants {lower} or more"),
-    }
 }
 
 /// The numbers of the faults that a feature has too few or too many values.
@@ -147,6 +158,31 @@ fn count_fault(feature: &FeatureInfo, count: usize) -> Option<u8> {
     }
 }
 
+/// Writes how many values a feature wants.
+fn write_bounds(out: &mut String, feature: &FeatureInfo) -> Result<(), AllocError> {
+    let lower = feature.lower;
+    match feature.upper {
+        Some(upper) if upper == lower => write!(out, "wants {lower}"),
+        Some(upper) => write!(out, "wants {lower} to {upper}"),
+        None => write!(out, "wants {lower} or more"),
+    }
+}
+
+/// What is said of a feature that has so many values.
+fn wrong_count(alloc: Global, feature: &FeatureInfo, count: usize) -> Result<String, AllocError> {
+    let name = feature.name.as_str();
+    let mut message = format!(in alloc; "`{name}` ")?;
+    write_bounds(&mut message, feature)?;
+    let what = match (feature.role, count) {
+        (Role::Attribute, 1) => "value",
+        (Role::Attribute, _) => "values",
+        (_, 1) => "object",
+        (_, _) => "objects",
+    };
+    write!(&mut message, ", and has {count} {what}")?;
+    Ok(message)
+}
+
 /// Says whether a feature has too few or too many values.
 fn look_at_count(
     alloc: Global,
@@ -158,16 +194,23 @@ fn look_at_count(
     let Some(fault) = count_fault(feature, count) else {
         return Ok(());
     };
-    let name = feature.name.as_str();
-    let bounds = bounds(alloc, feature)?;
-    let what = match (feature.role, count) {
-        (Role::Attribute, 1) => "value",
-        (Role::Attribute, _) => "values",
-        (_, 1) => "object",
-        (_, _) => "objects",
-    };
-    let message = format!(in alloc; "`{name}` {bounds}, and has {count} {what}")?;
+    let message = wrong_count(alloc, feature, count)?;
     report.refuse(alloc, subject, fault, message.as_str())
+}
+
+/// What is said of a value of another type than a feature wants.
+fn wrong_type(
+    alloc: Global,
+    model: &ClassModel,
+    feature: &FeatureInfo,
+    value: &Value,
+) -> Result<String, AllocError> {
+    let name = feature.name.as_str();
+    let mut message = format!(in alloc; "`{name}` wants ")?;
+    write_type(&mut message, model, feature.element)?;
+    let value = quote_value(alloc, value)?;
+    write!(&mut message, ", and not {value}")?;
+    Ok(message)
 }
 
 /// Says which value of a feature is of another type; whether there is one.
@@ -179,12 +222,9 @@ fn look_at_types(
     feature: &FeatureInfo,
     values: &[Value],
 ) -> Result<bool, AllocError> {
-    let name = feature.name.as_str();
     for value in values {
         if !is_of_type(model, feature.element, value) {
-            let value = quote_value(alloc, value)?;
-            let wanted = words_of_type(alloc, model, feature.element)?;
-            let message = format!(in alloc; "`{name}` wants {wanted}, and not {value}")?;
+            let message = wrong_type(alloc, model, feature, value)?;
             report.refuse(
                 alloc,
                 subject,
@@ -195,6 +235,26 @@ fn look_at_types(
         }
     }
     Ok(false)
+}
+
+/// What is said of an end that names what is no object.
+fn unknown_target(alloc: Global, name: &str, id: &str) -> Result<String, AllocError> {
+    let target = quote(alloc, id)?;
+    format!(in alloc; "`{name}` names `{target}`, and no object has that id")
+}
+
+/// What is said of an end that wants objects of a class, and names one of another.
+fn wrong_target(
+    alloc: Global,
+    model: &ClassModel,
+    name: &str,
+    class: ClassNo,
+    id: &str,
+    own: &str,
+) -> Result<String, AllocError> {
+    let target = quote(alloc, id)?;
+    let wanted = class_name(model, class);
+    format!(in alloc; "`{name}` wants objects of {wanted}, and `{target}` is of {own}")
 }
 
 /// Says what is wrong with a target of an end that holds objects of a class; whether there is something.
@@ -208,9 +268,8 @@ fn look_at_target(
     id: &str,
 ) -> Result<bool, AllocError> {
     let model = document.model;
-    let target = quote(alloc, id)?;
     let Some(index) = document.ids.get(id) else {
-        let message = format!(in alloc; "`{name}` names `{target}`, and no object has that id")?;
+        let message = unknown_target(alloc, name, id)?;
         report.say(alloc, subject, "delivery 6", message.as_str())?;
         return Ok(true);
     };
@@ -220,10 +279,7 @@ fn look_at_target(
     };
     match model.class(own) {
         Some(found) if !is_class_below(model, found, class) => {
-            let wanted = class_name(model, class);
-            let message = format!(in alloc;
-                "`{name}` wants objects of {wanted}, and `{target}` is of {own}"
-            )?;
+            let message = wrong_target(alloc, model, name, class, id, own)?;
             report.refuse(
                 alloc,
                 subject,

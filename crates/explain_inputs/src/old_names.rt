@@ -1,7 +1,8 @@
 //! The faults that entries of `renames` cause in a class model that has the shape of one.
 
 use crate::drafts::{Draft, DraftClass, items, text};
-use crate::model_faults::{Flaw, above_of, absent_flaw, is_predefined};
+use crate::model_faults::{above_of, is_predefined, look_among};
+use crate::stop::Stop;
 use explain_notes::quote;
 use serde_json::Value;
 use std::alloc::{AllocError, Global};
@@ -17,12 +18,9 @@ fn is_of_feature(entry: &Value) -> bool {
     entry.get("class").is_some()
 }
 
-/// The old name of a class that is taken: by one of these classes and enumerations, by a type of OCL, or by another entry.
-pub(crate) fn taken_name(
-    alloc: Global,
-    document: &Value,
-    types: &[&str],
-) -> Result<Flaw, AllocError> {
+/// Looks for an old name of a class that is taken: by one of these classes and enumerations, by a type of OCL, or by another
+/// entry.
+pub(crate) fn look_for_taken(alloc: Global, document: &Value, types: &[&str]) -> Result<(), Stop> {
     let mut taken = BTreeMap::new(alloc);
     for name in types {
         taken.insert(*name, "is that of a class or an enumeration")?;
@@ -39,12 +37,12 @@ pub(crate) fn taken_name(
         };
         if let Some(by) = by {
             let old = quote(alloc, old)?;
-            return Ok(Some(format!(in alloc;
+            return Err(Stop::Flaw(format!(in alloc;
                 "entry {index} of `renames`: the old name `{old}` {by}"
             )?));
         }
     }
-    Ok(None)
+    Ok(())
 }
 
 /// The names of the features that a class owns.
@@ -62,58 +60,57 @@ fn names_owned<'v>(
     Ok(names)
 }
 
-/// What an entry names that isn't there: a class, or a feature that the class itself owns.
-fn absent_in_entry<'n>(
+/// Looks for a class among those that are there.
+fn look_for_class<'n>(
     alloc: Global,
     index: usize,
-    entry: &'n Value,
-    draft: &Draft<'n>,
+    class: &'n str,
     classes: &[&'n str],
-) -> Result<Flaw, AllocError> {
-    let new = text(entry, "new");
-    if !is_of_feature(entry) {
-        let what = format!(in alloc; "entry {index} of `renames`: the class")?;
-        return absent_flaw(alloc, new, classes, what.as_str());
-    }
-    let class = text(entry, "class");
+) -> Result<(), Stop> {
     let what = format!(in alloc; "entry {index} of `renames`: the class")?;
-    let flaw = absent_flaw(alloc, class, classes, what.as_str())?;
-    if flaw.is_some() {
-        return Ok(flaw);
-    }
-    let what = format!(in alloc; "entry {index} of `renames`: {class}'s own feature")?;
-    absent_flaw(
-        alloc,
-        new,
-        &names_owned(alloc, draft, class)?,
-        what.as_str(),
-    )
+    look_among(alloc, class, classes, what.as_str())
 }
 
-/// The first name of an entry that names nothing.
-pub(crate) fn absent_name<'n>(
+/// Looks for a feature among those that a class itself owns.
+fn look_for_own<'n>(
+    alloc: Global,
+    index: usize,
+    class: &str,
+    feature: &'n str,
+    draft: &Draft<'n>,
+) -> Result<(), Stop> {
+    let what = format!(in alloc; "entry {index} of `renames`: {class}'s own feature")?;
+    let names = names_owned(alloc, draft, class)?;
+    look_among(alloc, feature, &names, what.as_str())
+}
+
+/// Looks for the first name of an entry that names nothing: a class, or a feature that the class itself owns.
+pub(crate) fn look_for_absent<'n>(
     alloc: Global,
     document: &'n Value,
     draft: &Draft<'n>,
     classes: &[&'n str],
-) -> Result<Flaw, AllocError> {
+) -> Result<(), Stop> {
     for (index, entry) in entries(document).iter().enumerate() {
-        let flaw = absent_in_entry(alloc, index, entry, draft, classes)?;
-        if flaw.is_some() {
-            return Ok(flaw);
+        let (class, new) = (text(entry, "class"), text(entry, "new"));
+        if is_of_feature(entry) {
+            look_for_class(alloc, index, class, classes)?;
+            look_for_own(alloc, index, class, new, draft)?;
+        } else {
+            look_for_class(alloc, index, new, classes)?;
         }
     }
-    Ok(None)
+    Ok(())
 }
 
-/// What is wrong with the old names that hold for a class: one is the name of a feature that belongs to the class, or of two
+/// Looks at the old names that hold for a class: one may be the name of a feature that belongs to the class, or of two
 /// entries.
-fn clash_in_class(
+fn look_at_class(
     alloc: Global,
     document: &Value,
     draft: &Draft<'_>,
     class: &DraftClass<'_>,
-) -> Result<Flaw, AllocError> {
+) -> Result<(), Stop> {
     let above = above_of(alloc, draft, class.name)?;
     let mut taken = BTreeMap::new(alloc);
     for feature in &draft.features {
@@ -128,28 +125,25 @@ fn clash_in_class(
         }
         if let Some(by) = taken.insert(old, "the old name of an entry before it")? {
             let name = class.name;
-            return Ok(Some(format!(in alloc;
+            return Err(Stop::Flaw(format!(in alloc;
                 "entry {index} of `renames`: `{old}` is, for objects of {name}, {by}, too"
             )?));
         }
     }
-    Ok(None)
+    Ok(())
 }
 
-/// The first class for which an old name of a feature is taken.
-pub(crate) fn clashing_name(
+/// Looks for a class for which an old name of a feature is taken.
+pub(crate) fn look_for_old_names(
     alloc: Global,
     document: &Value,
     draft: &Draft<'_>,
-) -> Result<Flaw, AllocError> {
+) -> Result<(), Stop> {
     if entries(document).is_empty() {
-        return Ok(None);
+        return Ok(());
     }
     for class in &draft.classes {
-        let flaw = clash_in_class(alloc, document, draft, class)?;
-        if flaw.is_some() {
-            return Ok(flaw);
-        }
+        look_at_class(alloc, document, draft, class)?;
     }
-    Ok(None)
+    Ok(())
 }

@@ -48,13 +48,13 @@ impl<'a> Report<'a> {
     }
 
     /// What is written.
-    pub(crate) fn into_lines(self) -> String {
-        let Report {
-            input: _,
-            lines,
-            faults: _,
-        } = self;
-        lines
+    pub(crate) fn lines(&self) -> &str {
+        self.lines.as_str()
+    }
+
+    /// The bytes of the delivery.
+    pub(crate) fn bytes(&self) -> &'a [u8] {
+        self.input.bytes
     }
 
     /// Says something of an object, with the numbers of the fault as they are printed.

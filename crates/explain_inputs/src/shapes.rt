@@ -1,5 +1,7 @@
 //! What a JSON document has that it shouldn't, and what it lacks.
 
+use crate::drafts::items;
+use crate::stop::Stop;
 use explain_notes::{Input, quote};
 use imkl_model::{MAX_BOUND, MAX_NAME_LENGTH};
 use ocl_base::is_name;
@@ -20,191 +22,67 @@ enum Is {
     Object,
 }
 
-/// A member that an object must have.
-struct Member {
-    name: &'static str,
-    is: Is,
-}
+/// A member of an object: its name, and what it is.
+type Member = (&'static str, Is);
 
 /// A list that a class model may have.
 const RENAMES: &str = "renames";
 
 /// What may be left out of an object.
-static OPTIONAL: [Member; 1] = [Member {
-    name: RENAMES,
-    is: Is::List,
-}];
+static OPTIONAL: [Member; 1] = [(RENAMES, Is::List)];
 
 static NONE_OPTIONAL: [Member; 0] = [];
 
-static CLASS_RENAME: [Member; 2] = [
-    Member {
-        name: "old",
-        is: Is::Name,
-    },
-    Member {
-        name: "new",
-        is: Is::Name,
-    },
-];
+static CLASS_RENAME: [Member; 2] = [("old", Is::Name), ("new", Is::Name)];
 
-static FEATURE_RENAME: [Member; 3] = [
-    Member {
-        name: "class",
-        is: Is::Name,
-    },
-    Member {
-        name: "old",
-        is: Is::Name,
-    },
-    Member {
-        name: "new",
-        is: Is::Name,
-    },
-];
+static FEATURE_RENAME: [Member; 3] = [("class", Is::Name), ("old", Is::Name), ("new", Is::Name)];
 
-static DELIVERY: [Member; 2] = [
-    Member {
-        name: "model",
-        is: Is::Text,
-    },
-    Member {
-        name: "objects",
-        is: Is::List,
-    },
-];
+static DELIVERY: [Member; 2] = [("model", Is::Text), ("objects", Is::List)];
 
 static OBJECT: [Member; 3] = [
-    Member {
-        name: "id",
-        is: Is::Text,
-    },
-    Member {
-        name: "class",
-        is: Is::Text,
-    },
-    Member {
-        name: "features",
-        is: Is::Object,
-    },
+    ("id", Is::Text),
+    ("class", Is::Text),
+    ("features", Is::Object),
 ];
 
 static MODEL: [Member; 4] = [
-    Member {
-        name: "model",
-        is: Is::Title,
-    },
-    Member {
-        name: "enums",
-        is: Is::List,
-    },
-    Member {
-        name: "classes",
-        is: Is::List,
-    },
-    Member {
-        name: "associations",
-        is: Is::List,
-    },
+    ("model", Is::Title),
+    ("enums", Is::List),
+    ("classes", Is::List),
+    ("associations", Is::List),
 ];
 
-static ENUMERATION: [Member; 2] = [
-    Member {
-        name: "name",
-        is: Is::Name,
-    },
-    Member {
-        name: "literals",
-        is: Is::Names,
-    },
-];
+static ENUMERATION: [Member; 2] = [("name", Is::Name), ("literals", Is::Names)];
 
 static CLASS: [Member; 4] = [
-    Member {
-        name: "name",
-        is: Is::Name,
-    },
-    Member {
-        name: "abstract",
-        is: Is::Truth,
-    },
-    Member {
-        name: "supers",
-        is: Is::Names,
-    },
-    Member {
-        name: "attributes",
-        is: Is::List,
-    },
+    ("name", Is::Name),
+    ("abstract", Is::Truth),
+    ("supers", Is::Names),
+    ("attributes", Is::List),
 ];
 
 static ATTRIBUTE: [Member; 6] = [
-    Member {
-        name: "name",
-        is: Is::Name,
-    },
-    Member {
-        name: "type",
-        is: Is::Name,
-    },
-    Member {
-        name: "lower",
-        is: Is::Lower,
-    },
-    Member {
-        name: "upper",
-        is: Is::Upper,
-    },
-    Member {
-        name: "ordered",
-        is: Is::Truth,
-    },
-    Member {
-        name: "unique",
-        is: Is::Truth,
-    },
+    ("name", Is::Name),
+    ("type", Is::Name),
+    ("lower", Is::Lower),
+    ("upper", Is::Upper),
+    ("ordered", Is::Truth),
+    ("unique", Is::Truth),
 ];
 
 static ASSOCIATION: [Member; 5] = [
-    Member {
-        name: "name",
-        is: Is::Name,
-    },
-    Member {
-        name: "from",
-        is: Is::Name,
-    },
-    Member {
-        name: "to",
-        is: Is::Name,
-    },
-    Member {
-        name: "end",
-        is: Is::Object,
-    },
-    Member {
-        name: "opposite",
-        is: Is::Object,
-    },
+    ("name", Is::Name),
+    ("from", Is::Name),
+    ("to", Is::Name),
+    ("end", Is::Object),
+    ("opposite", Is::Object),
 ];
 
 static END: [Member; 4] = [
-    Member {
-        name: "name",
-        is: Is::Name,
-    },
-    Member {
-        name: "lower",
-        is: Is::Lower,
-    },
-    Member {
-        name: "upper",
-        is: Is::Upper,
-    },
-    Member {
-        name: "ordered",
-        is: Is::Truth,
-    },
+    ("name", Is::Name),
+    ("lower", Is::Lower),
+    ("upper", Is::Upper),
+    ("ordered", Is::Truth),
 ];
 
 /// Whether a value is the name of something in a class model.
@@ -271,82 +149,75 @@ impl Is {
     }
 }
 
-/// Something that is wrong with the shape of a document, in words.
-type Flaw = Option<String>;
-
-/// What is wrong with a value that should be an object of these members.
-fn record_flaw(
+/// Looks at a value that should be an object of these members.
+fn look_at_record(
     alloc: Global,
     what: &str,
     value: &Value,
     members: &[Member],
-) -> Result<Flaw, AllocError> {
-    object_flaw(alloc, what, value, members, &NONE_OPTIONAL)
+) -> Result<(), Stop> {
+    look_at_object(alloc, what, value, members, &NONE_OPTIONAL)
 }
 
-/// What is wrong with a member of an object, where it isn't what is wanted.
-fn member_flaw(
-    alloc: Global,
-    what: &str,
-    member: &Member,
-    value: &Value,
-) -> Result<Flaw, AllocError> {
-    if member.is.holds(value) {
-        return Ok(None);
+/// Looks at a member of an object.
+fn look_at_member(alloc: Global, what: &str, member: &Member, value: &Value) -> Result<(), Stop> {
+    let (name, is) = *member;
+    if is.holds(value) {
+        return Ok(());
     }
-    let (name, wanted) = (member.name, member.is.words());
-    Ok(Some(format!(in alloc; "the member `{name}` of {what} is not {wanted}")?))
+    let wanted = is.words();
+    Err(Stop::Flaw(format!(in alloc; "the member `{name}` of {what} is not {wanted}")?))
 }
 
-/// What is wrong with a value that should be an object of these members, and may have those that are optional.
-fn object_flaw(
+/// Looks at a value that should be an object of these members, and may have those that are optional.
+fn look_at_object(
     alloc: Global,
     what: &str,
     value: &Value,
     members: &[Member],
     optional: &[Member],
-) -> Result<Flaw, AllocError> {
+) -> Result<(), Stop> {
     let Some(map) = value.as_object() else {
-        return Ok(Some(format!(in alloc; "{what} is no JSON object")?));
+        return Err(Stop::Flaw(format!(in alloc; "{what} is no JSON object")?));
     };
     for member in members {
-        let name = member.name;
+        let name = member.0;
         let Some(value) = map.get(name) else {
-            return Ok(Some(format!(in alloc; "{what} has no member `{name}`")?));
+            return Err(Stop::Flaw(format!(in alloc; "{what} has no member `{name}`")?));
         };
-        let flaw = member_flaw(alloc, what, member, value)?;
-        if flaw.is_some() {
-            return Ok(flaw);
-        }
+        look_at_member(alloc, what, member, value)?;
     }
     for (name, value) in map {
-        let flaw = other_flaw(alloc, what, name.as_str(), value, members, optional)?;
-        if flaw.is_some() {
-            return Ok(flaw);
+        if member_of(members, name.as_str()).is_none() {
+            look_at_other(alloc, what, name.as_str(), value, optional)?;
         }
     }
-    Ok(None)
+    Ok(())
 }
 
-/// What is wrong with a member that is none of those which must be there.
-fn other_flaw(
+/// The member of a name.
+fn member_of<'m>(members: &'m [Member], name: &str) -> Option<&'m Member> {
+    for member in members {
+        if member.0 == name {
+            return Some(member);
+        }
+    }
+    None
+}
+
+/// Looks at a member that is none of those which must be there.
+fn look_at_other(
     alloc: Global,
     what: &str,
     name: &str,
     value: &Value,
-    members: &[Member],
     optional: &[Member],
-) -> Result<Flaw, AllocError> {
-    if members.iter().any(|member| member.name == name) {
-        return Ok(None);
-    }
-    for member in optional {
-        if member.name == name {
-            return member_flaw(alloc, what, member, value);
-        }
+) -> Result<(), Stop> {
+    if let Some(member) = member_of(optional, name) {
+        return look_at_member(alloc, what, member, value);
     }
     let name = quote(alloc, name)?;
-    Ok(Some(format!(in alloc; "{what} has a member `{name}`, which it can't have")?))
+    Err(Stop::Flaw(format!(in alloc; "{what} has a member `{name}`, which it can't have")?))
 }
 
 /// What a value is called: what sort it is of, its place among the others, and its name, if it has one.
@@ -366,78 +237,86 @@ fn title_of(
     }
 }
 
-/// What is wrong with the first of some values that should each be an object of these members.
-fn list_flaw(
+/// Looks at values that should each be an object of these members.
+fn look_at_list(
     alloc: Global,
     sort: &str,
-    list: Option<&Value>,
+    values: &[Value],
     name: &str,
     members: &[Member],
-) -> Result<Flaw, AllocError> {
-    let Some(values) = list.and_then(Value::as_array) else {
-        return Ok(None);
-    };
+) -> Result<(), Stop> {
     for (index, value) in values.iter().enumerate() {
         let title = title_of(alloc, sort, index, value, name)?;
-        let flaw = record_flaw(alloc, title.as_str(), value, members)?;
-        if flaw.is_some() {
-            return Ok(flaw);
-        }
+        look_at_record(alloc, title.as_str(), value, members)?;
     }
-    Ok(None)
+    Ok(())
 }
 
-/// What is wrong with the attributes of a class, or the ends of an association.
-fn inner_flaw(
-    alloc: Global,
-    classes: Option<&Value>,
-    associations: Option<&Value>,
-) -> Result<Flaw, AllocError> {
-    if let Some(classes) = classes.and_then(Value::as_array) {
-        for class in classes {
-            let attributes = class.get("attributes");
-            let flaw = list_flaw(alloc, "attribute", attributes, "name", &ATTRIBUTE)?;
-            if flaw.is_some() {
-                return Ok(flaw);
-            }
-        }
-    }
-    if let Some(associations) = associations.and_then(Value::as_array) {
-        for association in associations {
-            let flaw = ends_flaw(alloc, association)?;
-            if flaw.is_some() {
-                return Ok(flaw);
-            }
-        }
-    }
-    Ok(None)
+/// Looks at an end of an association.
+fn look_at_end(alloc: Global, association: &Value, member: &str) -> Result<(), Stop> {
+    let Some(end) = association.get(member) else {
+        return Ok(());
+    };
+    let title = title_of(alloc, member, 0, end, "name")?;
+    look_at_record(alloc, title.as_str(), end, &END)
 }
 
-/// What is wrong with the ends of an association.
-fn ends_flaw(alloc: Global, association: &Value) -> Result<Flaw, AllocError> {
-    for end in ["end", "opposite"] {
-        if let Some(value) = association.get(end) {
-            let title = title_of(alloc, end, 0, value, "name")?;
-            let flaw = record_flaw(alloc, title.as_str(), value, &END)?;
-            if flaw.is_some() {
-                return Ok(flaw);
-            }
-        }
+/// Looks at the attributes of classes, and at the ends of associations.
+fn look_inside(alloc: Global, document: &Value) -> Result<(), Stop> {
+    for class in items(document, "classes") {
+        let attributes = items(class, "attributes");
+        look_at_list(alloc, "attribute", attributes, "name", &ATTRIBUTE)?;
     }
-    Ok(None)
+    for association in items(document, "associations") {
+        look_at_end(alloc, association, "end")?;
+        look_at_end(alloc, association, "opposite")?;
+    }
+    Ok(())
 }
 
-/// Writes what is wrong with the shape of a document.
-fn write_flaw(
+/// Looks at the entries of `renames`: each is of a feature where it has a member `class`, else of a class.
+fn look_at_renames(alloc: Global, document: &Value) -> Result<(), Stop> {
+    for (index, entry) in items(document, RENAMES).iter().enumerate() {
+        let title = format!(in alloc; "entry {index} of `{RENAMES}`")?;
+        if entry.get("class").is_some() {
+            look_at_record(alloc, title.as_str(), entry, &FEATURE_RENAME)?;
+        } else {
+            look_at_record(alloc, title.as_str(), entry, &CLASS_RENAME)?;
+        }
+    }
+    Ok(())
+}
+
+/// Looks at the shape of a class model.
+fn look_at_model(alloc: Global, document: &Value) -> Result<(), Stop> {
+    look_at_object(alloc, "the class model", document, &MODEL, &OPTIONAL)?;
+    let (enums, classes) = (items(document, "enums"), items(document, "classes"));
+    look_at_list(alloc, "enumeration", enums, "name", &ENUMERATION)?;
+    look_at_list(alloc, "class", classes, "name", &CLASS)?;
+    let associations = items(document, "associations");
+    look_at_list(alloc, "association", associations, "name", &ASSOCIATION)?;
+    look_inside(alloc, document)?;
+    look_at_renames(alloc, document)
+}
+
+/// Looks at the shape of a delivery.
+fn look_at_delivery(alloc: Global, document: &Value) -> Result<(), Stop> {
+    look_at_record(alloc, "the delivery", document, &DELIVERY)?;
+    look_at_list(alloc, "object", items(document, "objects"), "id", &OBJECT)
+}
+
+/// Writes what a look at the shape of a document found.
+fn write_found(
     out: &mut String,
     input: Input<'_>,
-    flaw: &Flaw,
+    found: &Result<(), Stop>,
     fault: &str,
 ) -> Result<(), AllocError> {
     let path = input.path;
-    match flaw {
-        Some(message) => writeln!(out, "{path}: {message} ({fault})"),
-        None => writeln!(out, "{path}: it has not the shape that is wanted ({fault})"),
+    match found {
+        Err(Stop::Flaw(words)) => writeln!(out, "{path}: {words} ({fault})"),
+        Err(Stop::OutOfMemory) => Err(AllocError),
+        Ok(()) => writeln!(out, "{path}: it has not the shape that is wanted ({fault})"),
     }
 }
 
@@ -448,63 +327,7 @@ pub(crate) fn delivery_shape(
     input: Input<'_>,
     document: &Value,
 ) -> Result<(), AllocError> {
-    let mut flaw = record_flaw(alloc, "the delivery", document, &DELIVERY)?;
-    if flaw.is_none() {
-        flaw = list_flaw(alloc, "object", document.get("objects"), "id", &OBJECT)?;
-    }
-    write_flaw(out, input, &flaw, "delivery 2")
-}
-
-/// What is wrong with the shape of a class model.
-fn model_flaw(alloc: Global, document: &Value) -> Result<Flaw, AllocError> {
-    let (classes, associations) = (document.get("classes"), document.get("associations"));
-    let flaw = object_flaw(alloc, "the class model", document, &MODEL, &OPTIONAL)?;
-    if flaw.is_some() {
-        return Ok(flaw);
-    }
-    let flaw = list_flaw(
-        alloc,
-        "enumeration",
-        document.get("enums"),
-        "name",
-        &ENUMERATION,
-    )?;
-    if flaw.is_some() {
-        return Ok(flaw);
-    }
-    let flaw = list_flaw(alloc, "class", classes, "name", &CLASS)?;
-    if flaw.is_some() {
-        return Ok(flaw);
-    }
-    let flaw = list_flaw(alloc, "association", associations, "name", &ASSOCIATION)?;
-    if flaw.is_some() {
-        return Ok(flaw);
-    }
-    let flaw = inner_flaw(alloc, classes, associations)?;
-    if flaw.is_some() {
-        return Ok(flaw);
-    }
-    renames_flaw(alloc, document.get(RENAMES))
-}
-
-/// What is wrong with the first entry of `renames` that isn't one: of a feature where it has a member `class`, else of a
-/// class.
-fn renames_flaw(alloc: Global, renames: Option<&Value>) -> Result<Flaw, AllocError> {
-    let Some(entries) = renames.and_then(Value::as_array) else {
-        return Ok(None);
-    };
-    for (index, entry) in entries.iter().enumerate() {
-        let title = format!(in alloc; "entry {index} of `{RENAMES}`")?;
-        let flaw = if entry.get("class").is_some() {
-            record_flaw(alloc, title.as_str(), entry, &FEATURE_RENAME)?
-        } else {
-            record_flaw(alloc, title.as_str(), entry, &CLASS_RENAME)?
-        };
-        if flaw.is_some() {
-            return Ok(flaw);
-        }
-    }
-    Ok(None)
+    write_found(out, input, &look_at_delivery(alloc, document), "delivery 2")
 }
 
 /// Writes what is wrong with the shape of a class model.
@@ -514,6 +337,5 @@ pub(crate) fn model_shape(
     input: Input<'_>,
     document: &Value,
 ) -> Result<(), AllocError> {
-    let flaw = model_flaw(alloc, document)?;
-    write_flaw(out, input, &flaw, "model 2")
+    write_found(out, input, &look_at_model(alloc, document), "model 2")
 }

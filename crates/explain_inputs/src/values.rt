@@ -1,7 +1,7 @@
 //! The values of a feature as they are written, and the notes on them.
 
 use explain_notes::quote;
-use imkl_model::{ClassModel, ElementType};
+use imkl_model::{ClassModel, ElementType, EnumNo};
 use model_names::{class_name, enumeration_name, is_literal, literal_count, literal_name};
 use serde_json::Value;
 use std::alloc::{AllocError, Global};
@@ -46,43 +46,43 @@ pub(crate) fn number_of(value: &Value) -> Option<i64> {
     }
 }
 
-/// The literals of an enumeration, as they are listed.
-fn literals(alloc: Global, model: &ClassModel, element: ElementType) -> Result<String, AllocError> {
-    let mut names = String::new(alloc);
-    let ElementType::Enumeration(enumeration) = element else {
-        return Ok(names);
-    };
+/// Writes the literals of an enumeration, as they are listed.
+fn write_literals(
+    out: &mut String,
+    model: &ClassModel,
+    enumeration: EnumNo,
+) -> Result<(), AllocError> {
     for index in 0..literal_count(model, enumeration) {
         if index != 0 {
-            names.push_str(", ")?;
+            out.push_str(", ")?;
         }
         if index == MAX_LISTED {
-            names.push_str("..")?;
-            return Ok(names);
+            return out.push_str("..");
         }
-        names.push_str(literal_name(model, enumeration, index))?;
+        out.push_str(literal_name(model, enumeration, index))?;
     }
-    Ok(names)
+    Ok(())
 }
 
-/// What a value of an element type is, in words.
-pub(crate) fn words_of_type(
-    alloc: Global,
+/// Writes what a value of an element type is, in words.
+pub(crate) fn write_type(
+    out: &mut String,
     model: &ClassModel,
     element: ElementType,
-) -> Result<String, AllocError> {
+) -> Result<(), AllocError> {
     match element {
-        ElementType::Boolean => String::from_str(alloc, "true or false"),
-        ElementType::Integer => String::from_str(alloc, "a whole number without a point"),
-        ElementType::String => String::from_str(alloc, "a text in double quotes"),
+        ElementType::Boolean => out.push_str("true or false"),
+        ElementType::Integer => out.push_str("a whole number without a point"),
+        ElementType::String => out.push_str("a text in double quotes"),
         ElementType::Enumeration(enumeration) => {
             let name = enumeration_name(model, enumeration);
-            let literals = literals(alloc, model, element)?;
-            format!(in alloc; "a literal of {name} ({literals})")
+            write!(out, "a literal of {name} (")?;
+            write_literals(out, model, enumeration)?;
+            out.push_str(")")
         }
         ElementType::Class(class) => {
             let name = class_name(model, class);
-            format!(in alloc; "the id of an object of {name}")
+            write!(out, "the id of an object of {name}")
         }
     }
 }

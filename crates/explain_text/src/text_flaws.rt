@@ -1,6 +1,6 @@
 //! Why a rule text doesn't spell rules.
 
-use crate::wanted::wanted_at;
+use crate::wanted::write_wanted;
 use explain_notes::{Input, Note, visible_text, write_marked};
 use ocl_tokens::{TextFault, TextFlaw, Token, TokenKind, tokens};
 use std::alloc::{AllocError, Global};
@@ -14,21 +14,62 @@ struct Saying {
     help: &'static str,
 }
 
+impl Saying {
+    /// Nothing yet.
+    fn new(alloc: Global) -> Saying {
+        Saying {
+            length: 1,
+            message: String::new(alloc),
+            label: String::new(alloc),
+            help: "",
+        }
+    }
+
+    /// Says this of so many bytes.
+    fn say(
+        &mut self,
+        length: usize,
+        message: &str,
+        label: &str,
+        help: &'static str,
+    ) -> Result<(), AllocError> {
+        self.length = length;
+        self.help = help;
+        self.message.push_str(message)?;
+        self.label.push_str(label)
+    }
+}
+
+/// Characters that begin no token, with what to write in their place.
+static REPLACED: [(&str, &str); 14] = [
+    ("\"", "a string stands in single quotes, as 'water'"),
+    ("!", "`<>` says that two values differ, and `not` negates"),
+    ("&", "`and` joins two conditions"),
+    ("/", "`div` divides whole numbers"),
+    ("{", NO_BRACKETS),
+    ("}", NO_BRACKETS),
+    ("[", NO_BRACKETS),
+    ("]", NO_BRACKETS),
+    ("@", "there is no `@pre`"),
+    ("\u{feff}", "save the text without a byte order mark"),
+    ("\u{2018}", STRAIGHT_QUOTES),
+    ("\u{2019}", STRAIGHT_QUOTES),
+    ("\u{201c}", STRAIGHT_QUOTES),
+    ("\u{201d}", STRAIGHT_QUOTES),
+];
+
+const NO_BRACKETS: &str = "there are no collection literals and no indices";
+
+const STRAIGHT_QUOTES: &str = "a string stands in straight single quotes, as 'water'";
+
 /// What to write in place of a character that begins no token.
 fn instead_of(character: &str) -> &'static str {
-    match character {
-        "\"" => "a string stands in single quotes, as 'water'",
-        "!" => "`<>` says that two values differ, and `not` negates",
-        "&" => "`and` joins two conditions",
-        "/" => "`div` divides whole numbers",
-        "{" | "}" | "[" | "]" => "there are no collection literals and no indices",
-        "@" => "there is no `@pre`",
-        "\u{feff}" => "save the text without a byte order mark",
-        "\u{2018}" | "\u{2019}" | "\u{201c}" | "\u{201d}" => {
-            "a string stands in straight single quotes, as 'water'"
+    for (replaced, help) in &REPLACED {
+        if *replaced == character {
+            return *help;
         }
-        _ => "",
     }
+    ""
 }
 
 /// The first character of some bytes, with what follows it; nothing where they begin with no character.
@@ -43,67 +84,61 @@ fn first_character(bytes: &[u8]) -> &str {
     ""
 }
 
-/// A character that begins no token, or a byte that is no text.
-fn bad_character(alloc: Global, bytes: &[u8], offset: usize) -> Result<Saying, AllocError> {
-    let rest = bytes.get(offset..).unwrap_or(&[]);
-    let character = first_character(rest);
-    if character.is_empty() {
-        return Ok(Saying {
-            length: 1,
-            message: String::from_str(alloc, "this isn't UTF-8 text")?,
-            label: match rest.first() {
-                Some(byte) => format!(in alloc; "the byte {byte:02x} can't stand here")?,
-                None => String::new(alloc),
-            },
-            help: "save the text as UTF-8; if it is a code file, leave --text out",
-        });
-    }
-    let written = visible_text(alloc, character.as_bytes())?;
-    Ok(Saying {
-        length: character.len(),
-        message: format!(in alloc; "`{written}` begins nothing here")?,
-        label: String::from_str(alloc, "no token begins with this character")?,
-        help: instead_of(character),
-    })
+/// What some bytes have from an offset on.
+fn rest_of(bytes: &[u8], offset: usize) -> &[u8] {
+    bytes.get(offset..).unwrap_or(&[])
 }
 
-/// A flaw of which nothing more is to be found out.
-fn plain(
+/// A byte that is no text.
+fn bad_byte(saying: &mut Saying, rest: &[u8]) -> Result<(), AllocError> {
+    let help = "save the text as UTF-8; if it is a code file, leave --text out";
+    saying.say(1, "this isn't UTF-8 text", "", help)?;
+    match rest.first() {
+        Some(byte) => write!(&mut saying.label, "the byte {byte:02x} can't stand here"),
+        None => Ok(()),
+    }
+}
+
+/// A character that begins no token, or a byte that is no text.
+fn bad_character(
     alloc: Global,
-    length: usize,
-    message: &str,
-    label: &str,
-    help: &'static str,
-) -> Result<Saying, AllocError> {
-    Ok(Saying {
-        length,
-        message: String::from_str(alloc, message)?,
-        label: String::from_str(alloc, label)?,
-        help,
-    })
+    saying: &mut Saying,
+    bytes: &[u8],
+    offset: usize,
+) -> Result<(), AllocError> {
+    let rest = rest_of(bytes, offset);
+    let character = first_character(rest);
+    if character.is_empty() {
+        return bad_byte(saying, rest);
+    }
+    let label = "no token begins with this character";
+    saying.say(character.len(), "", label, instead_of(character))?;
+    let written = visible_text(alloc, character.as_bytes())?;
+    write!(&mut saying.message, "`{written}` begins nothing here")
 }
 
 /// The escape that begins at a byte, which is none of the eight.
-fn bad_escape(alloc: Global, bytes: &[u8], offset: usize) -> Result<Saying, AllocError> {
-    let after = bytes
-        .get(offset..)
-        .and_then(|rest| rest.get(1..))
-        .unwrap_or(&[]);
+fn bad_escape(
+    alloc: Global,
+    saying: &mut Saying,
+    bytes: &[u8],
+    offset: usize,
+) -> Result<(), AllocError> {
+    let label = r#"the escapes are \b \t \n \f \r \" \' \\"#;
+    saying.say(2, "", label, r"write \\ for a backslash")?;
+    let after = rest_of(bytes, offset.saturating_add(1));
     let written = visible_text(alloc, first_character(after).as_bytes())?;
-    Ok(Saying {
-        length: 2,
-        message: format!(in alloc; "`\\{written}` is no escape")?,
-        label: String::from_str(alloc, r#"the escapes are \b \t \n \f \r \" \' \\"#)?,
-        help: r"write \\ for a backslash",
-    })
+    write!(&mut saying.message, "`\\{written}` is no escape")
 }
 
 /// How many digits some bytes begin with.
 fn digits(bytes: &[u8]) -> usize {
-    match bytes.iter().position(|byte| !byte.is_ascii_digit()) {
-        Some(end) => end,
-        None => bytes.len(),
+    for (index, byte) in bytes.iter().enumerate() {
+        if !byte.is_ascii_digit() {
+            return index;
+        }
     }
+    bytes.len()
 }
 
 /// The token that begins at an offset.
@@ -116,60 +151,62 @@ fn token_at<'a>(tokens: &[Token<'a>], offset: usize) -> Option<Token<'a>> {
     None
 }
 
+/// Bytes between which a token can't stand, with what may have been meant.
+static MEANT: [(u8, u8, &str); 5] = [
+    (b'=', b'=', "`=` alone says that two values are equal"),
+    (b'-', b'>', "`implies` says that one follows from the other"),
+    (b'=', b'>', "`implies` says that one follows from the other"),
+    (b'|', b'|', "`or` joins two conditions"),
+    (b'\'', b'\'', r"a quote inside a string is written \'"),
+];
+
 /// What may have been meant where a token can't stand.
 fn meant_by(text: &str, offset: usize) -> &'static str {
-    let rest = text.as_bytes().get(offset..).unwrap_or(&[]);
-    let before = text.as_bytes().get(..offset).unwrap_or(&[]);
-    match (before.last(), rest.first()) {
-        (Some(b'='), Some(b'=')) => "`=` alone says that two values are equal",
-        (Some(b'-' | b'='), Some(b'>')) => "`implies` says that one follows from the other",
-        (Some(b'|'), Some(b'|')) => "`or` joins two conditions",
-        (Some(b'\''), Some(b'\'')) => r"a quote inside a string is written \'",
-        _ => "",
+    let bytes = text.as_bytes();
+    let Some(end) = offset.checked_sub(1) else {
+        return "";
+    };
+    let (Some(before), Some(after)) = (bytes.get(end), bytes.get(offset)) else {
+        return "";
+    };
+    for (first, second, meant) in &MEANT {
+        if *first == *before && *second == *after {
+            return *meant;
+        }
     }
+    ""
 }
 
 /// A token that can't follow those before it, or a text that ends too early.
 fn syntax(
     alloc: Global,
+    saying: &mut Saying,
     text: &str,
     tokens: &[Token<'_>],
     offset: usize,
-) -> Result<Saying, AllocError> {
-    let wanted = wanted_at(alloc, text, tokens, offset)?;
-    let label = if wanted.is_empty() {
-        String::new(alloc)
-    } else {
-        format!(in alloc; "wanted: {wanted}")?
-    };
-    let help = meant_by(text, offset);
+) -> Result<(), AllocError> {
+    write_wanted(alloc, &mut saying.label, text, tokens, offset)?;
+    saying.help = meant_by(text, offset);
     match token_at(tokens, offset) {
         Some(token) => {
+            saying.length = token.text.len();
             let written = visible_text(alloc, token.text.as_bytes())?;
-            Ok(Saying {
-                length: token.text.len(),
-                message: format!(in alloc; "`{written}` can't stand here")?,
-                label,
-                help,
-            })
+            write!(&mut saying.message, "`{written}` can't stand here")
         }
-        None => Ok(Saying {
-            length: 0,
-            message: String::from_str(alloc, "the text ends too early")?,
-            label,
-            help,
-        }),
+        None => {
+            saying.length = 0;
+            saying.message.push_str("the text ends too early")
+        }
     }
 }
 
 /// A token that has too much round it, or before it.
-fn too_deep(alloc: Global, tokens: &[Token<'_>], offset: usize) -> Result<Saying, AllocError> {
+fn too_deep(saying: &mut Saying, tokens: &[Token<'_>], offset: usize) -> Result<(), AllocError> {
     let length = match token_at(tokens, offset) {
         Some(token) => token.text.len(),
         None => 1,
     };
-    plain(
-        alloc,
+    saying.say(
         length,
         "too much is nested here, or too much is chained",
         "at most 64 constructs may be open, and a chain has at most 256 operators or steps",
@@ -186,49 +223,42 @@ fn rule_name<'a>(tokens: &[Token<'a>], index: usize) -> Option<&'a str> {
     }
 }
 
-/// The index of the rule, among all of the text, whose `inv` begins at an offset.
-fn number_of_rule(tokens: &[Token<'_>], offset: usize) -> usize {
-    tokens
-        .iter()
-        .filter(|token| matches!(token.kind, TokenKind::Inv) && token.span.start <= offset)
-        .count()
+/// The name of the rule whose `inv` is the token of an index; one without a name is named by its number in the text.
+fn name_of(alloc: Global, tokens: &[Token<'_>], index: usize) -> Result<String, AllocError> {
+    if let Some(written) = rule_name(tokens, index) {
+        return String::from_str(alloc, written);
+    }
+    let mut number = 0usize;
+    for (other, token) in tokens.iter().enumerate() {
+        if other <= index && matches!(token.kind, TokenKind::Inv) {
+            number = number.saturating_add(1);
+        }
+    }
+    format!(in alloc; "inv{number}")
 }
 
-/// The `inv` of the first rule of this name, a name that was made up too.
+/// Where the `inv` of the first rule of this name stands.
 fn first_of_name(
     alloc: Global,
     tokens: &[Token<'_>],
     name: &str,
 ) -> Result<Option<usize>, AllocError> {
     for (index, token) in tokens.iter().enumerate() {
-        if !matches!(token.kind, TokenKind::Inv) {
-            continue;
-        }
-        let is_named = match rule_name(tokens, index) {
-            Some(written) => written == name,
-            None => {
-                let number = number_of_rule(tokens, token.span.start);
-                format!(in alloc; "inv{number}")?.as_str() == name
-            }
-        };
-        if is_named {
+        if matches!(token.kind, TokenKind::Inv) && name_of(alloc, tokens, index)?.as_str() == name {
             return Ok(Some(token.span.start));
         }
     }
     Ok(None)
 }
 
-/// The name of the rule whose `inv` begins at an offset.
-fn name_at(alloc: Global, tokens: &[Token<'_>], offset: usize) -> Result<String, AllocError> {
+/// The index of the token that begins at an offset.
+fn index_at(tokens: &[Token<'_>], offset: usize) -> usize {
     for (index, token) in tokens.iter().enumerate() {
-        if token.span.start == offset
-            && let Some(written) = rule_name(tokens, index)
-        {
-            return String::from_str(alloc, written);
+        if token.span.start == offset {
+            return index;
         }
     }
-    let number = number_of_rule(tokens, offset);
-    format!(in alloc; "inv{number}")
+    tokens.len()
 }
 
 /// A rule whose name an earlier one has: both are shown.
@@ -239,7 +269,7 @@ fn write_duplicate(
     tokens: &[Token<'_>],
     offset: usize,
 ) -> Result<(), AllocError> {
-    let name = name_at(alloc, tokens, offset)?;
+    let name = name_of(alloc, tokens, index_at(tokens, offset))?;
     let message = format!(in alloc; "a second rule is named `{name}`")?;
     let note = Note {
         input,
@@ -258,53 +288,53 @@ fn write_duplicate(
 }
 
 /// What is said of a flaw that the tokens show.
-fn saying_of_tokens(
+fn say_of_tokens(
     alloc: Global,
+    saying: &mut Saying,
     text: &str,
     tokens: &[Token<'_>],
     flaw: TextFlaw,
     offset: usize,
-) -> Result<Saying, AllocError> {
+) -> Result<(), AllocError> {
     match flaw {
-        TextFlaw::TooDeep => too_deep(alloc, tokens, offset),
-        _ => syntax(alloc, text, tokens, offset),
+        TextFlaw::TooDeep => too_deep(saying, tokens, offset),
+        _ => syntax(alloc, saying, text, tokens, offset),
     }
 }
 
 /// What is said of a flaw that leaves no tokens.
-fn saying_of_bytes(
+fn say_of_bytes(
     alloc: Global,
+    saying: &mut Saying,
     bytes: &[u8],
     flaw: TextFlaw,
     offset: usize,
-) -> Result<Saying, AllocError> {
+) -> Result<(), AllocError> {
     match flaw {
-        TextFlaw::OpenString => plain(
-            alloc,
+        TextFlaw::OpenString => saying.say(
             1,
             "this string never closes",
             "it opens here",
             r"a string ends with the next single quote; a quote inside it is written \'",
         ),
-        TextFlaw::BadEscape => bad_escape(alloc, bytes, offset),
-        TextFlaw::NumberTooLarge => plain(
-            alloc,
-            digits(bytes.get(offset..).unwrap_or(&[])),
+        TextFlaw::BadEscape => bad_escape(alloc, saying, bytes, offset),
+        TextFlaw::NumberTooLarge => saying.say(
+            digits(rest_of(bytes, offset)),
             "this number is too large",
             "the largest is 9223372036854775807",
             "",
         ),
-        TextFlaw::OpenComment => plain(
-            alloc,
+        TextFlaw::OpenComment => saying.say(
             2,
             "this comment never ends",
             "it opens here",
             "end it by `*/`; comments don't nest",
         ),
-        _ => bad_character(alloc, bytes, offset),
+        _ => bad_character(alloc, saying, bytes, offset),
     }
 }
 
+/// Writes the note on a flaw.
 fn write_saying(
     alloc: Global,
     out: &mut String,
@@ -340,7 +370,26 @@ fn explain_tokens(
     if let TextFlaw::DuplicateRule = flaw {
         return write_duplicate(alloc, out, input, tokens, offset);
     }
-    let saying = saying_of_tokens(alloc, text, tokens, flaw, offset)?;
+    let mut saying = Saying::new(alloc);
+    say_of_tokens(alloc, &mut saying, text, tokens, flaw, offset)?;
+    write_saying(alloc, out, input, flaw, offset, &saying)
+}
+
+/// Writes why bytes are refused that leave no tokens, or are no text.
+fn explain_bytes(
+    alloc: Global,
+    out: &mut String,
+    input: Input<'_>,
+    is_text: bool,
+    flaw: TextFlaw,
+    offset: usize,
+) -> Result<(), AllocError> {
+    let mut saying = Saying::new(alloc);
+    if is_text {
+        say_of_bytes(alloc, &mut saying, input.bytes, flaw, offset)?;
+    } else {
+        bad_character(alloc, &mut saying, input.bytes, offset)?;
+    }
     write_saying(alloc, out, input, flaw, offset, &saying)
 }
 
@@ -367,17 +416,12 @@ pub fn explain_text_flaw(
     flaw: TextFlaw,
     offset: usize,
 ) -> Result<(), AllocError> {
-    let bytes = input.bytes;
-    let Ok(text) = str::from_utf8(bytes) else {
-        let saying = bad_character(alloc, bytes, offset)?;
-        return write_saying(alloc, out, input, flaw, offset, &saying);
+    let Ok(text) = str::from_utf8(input.bytes) else {
+        return explain_bytes(alloc, out, input, false, flaw, offset);
     };
     match tokens(alloc, text) {
         Ok(tokens) => explain_tokens(alloc, out, input, text, &tokens, flaw, offset),
-        Err(TextFault::At { .. }) => {
-            let saying = saying_of_bytes(alloc, bytes, flaw, offset)?;
-            write_saying(alloc, out, input, flaw, offset, &saying)
-        }
+        Err(TextFault::At { .. }) => explain_bytes(alloc, out, input, true, flaw, offset),
         Err(TextFault::OutOfMemory) => Err(AllocError),
     }
 }

@@ -12,6 +12,12 @@ static MARKS: [&str; 11] = [
     ")", ",", ":", ";", "|", "then", "else", "endif", "in", "inv", "context",
 ];
 
+/// What begins an operand, or else binds a name.
+static OPERANDS: [(&str, &str); 2] = [("1", "an expression"), ("x", "a name")];
+
+/// What follows an operand, or else the name of a variable.
+static OPERATORS: [(&str, &str); 2] = [("and", "an operator, `.`, `->`"), ("=", "`=`")];
+
 /// What is before a place, from the last `context` on.
 fn context_before<'t>(text: &'t str, tokens: &[Token<'_>], offset: usize) -> &'t [u8] {
     let mut start = 0;
@@ -37,60 +43,70 @@ fn can_follow(alloc: Global, part: &str, token: &str) -> Result<bool, AllocError
     }
 }
 
-/// Adds one more to what could stand there, each but the first after a comma.
+/// Adds one more to what could stand there.
 fn add(out: &mut String, one: &str) -> Result<(), AllocError> {
-    if !out.is_empty() {
-        out.push_str(", ")?;
-    }
+    let before = if out.is_empty() { "wanted: " } else { ", " };
+    out.push_str(before)?;
     out.push_str(one)
 }
 
-/// Adds the marks and words that can follow, as they are written.
-fn add_marks(alloc: Global, out: &mut String, part: &str) -> Result<(), AllocError> {
-    for mark in &MARKS {
-        if can_follow(alloc, part, mark)? {
-            if !out.is_empty() {
-                out.push_str(", ")?;
-            }
-            write!(out, "`{mark}`")?;
+/// Adds the first of some tokens that can follow, in its words.
+fn add_first(
+    alloc: Global,
+    out: &mut String,
+    part: &str,
+    tokens: &[(&str, &str)],
+) -> Result<(), AllocError> {
+    for (token, words) in tokens {
+        if can_follow(alloc, part, *token)? {
+            return add(out, *words);
         }
     }
     Ok(())
 }
 
-/// What can follow a part of a text, in words.
-fn followers(alloc: Global, part: &str) -> Result<String, AllocError> {
-    let mut out = String::new(alloc);
-    if can_follow(alloc, part, "1")? {
-        add(&mut out, "an expression")?;
-    } else if can_follow(alloc, part, "x")? {
-        add(&mut out, "a name")?;
+/// Adds the marks and words that can follow, as they are written.
+fn add_marks(alloc: Global, out: &mut String, part: &str) -> Result<(), AllocError> {
+    for mark in &MARKS {
+        if can_follow(alloc, part, *mark)? {
+            add(out, "`")?;
+            out.push_str(*mark)?;
+            out.push_str("`")?;
+        }
     }
-    if can_follow(alloc, part, "and")? {
-        add(&mut out, "an operator, `.`, `->`")?;
-    } else if can_follow(alloc, part, "=")? {
-        add(&mut out, "`=`")?;
-    } else if can_follow(alloc, part, "(")? && out.is_empty() {
-        add(&mut out, "`(`")?;
-    }
-    add_marks(alloc, &mut out, part)?;
-    match parse_rules(alloc, part) {
-        Ok(_) => add(&mut out, "the end of the text")?,
-        Err(TextFault::At { .. }) => {}
-        Err(TextFault::OutOfMemory) => return Err(AllocError),
-    }
-    Ok(out)
+    Ok(())
 }
 
-/// What can stand at a place of a text with these tokens, in words; empty where too much is before it to look.
-pub(crate) fn wanted_at(
+/// Adds the end, if a part of a text can end there.
+fn add_end(alloc: Global, out: &mut String, part: &str) -> Result<(), AllocError> {
+    match parse_rules(alloc, part) {
+        Ok(_) => add(out, "the end of the text"),
+        Err(TextFault::At { .. }) => Ok(()),
+        Err(TextFault::OutOfMemory) => Err(AllocError),
+    }
+}
+
+/// Writes what can follow a part of a text, in words.
+fn write_followers(alloc: Global, out: &mut String, part: &str) -> Result<(), AllocError> {
+    add_first(alloc, out, part, &OPERANDS)?;
+    add_first(alloc, out, part, &OPERATORS)?;
+    if out.is_empty() && can_follow(alloc, part, "(")? {
+        add(out, "`(`")?;
+    }
+    add_marks(alloc, out, part)?;
+    add_end(alloc, out, part)
+}
+
+/// Writes what can stand at a place of a text with these tokens, in words; nothing where too much is before it to look.
+pub(crate) fn write_wanted(
     alloc: Global,
+    out: &mut String,
     text: &str,
     tokens: &[Token<'_>],
     offset: usize,
-) -> Result<String, AllocError> {
+) -> Result<(), AllocError> {
     match str::from_utf8(context_before(text, tokens, offset)) {
-        Ok(part) if part.len() <= MAX_PARSED => followers(alloc, part),
-        _ => Ok(String::new(alloc)),
+        Ok(part) if part.len() <= MAX_PARSED => write_followers(alloc, out, part),
+        _ => Ok(()),
     }
 }

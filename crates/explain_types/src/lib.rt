@@ -6,11 +6,11 @@ mod fates;
 mod found;
 mod operations;
 mod reading;
-mod sayings;
 mod scope;
 mod type_flaws;
 mod type_names;
 mod warnings;
+mod words;
 
 pub use type_flaws::explain_type_flaw;
 pub use warnings::warn_of_rule;

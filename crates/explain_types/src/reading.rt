@@ -1,38 +1,20 @@
-//! A reading of a rule's types that stops at a fault which is known to be there. Before the fault all has types, so only
-//! the type of each part is asked for; the part at the fault is looked at closely.
+//! A reading of a rule by the types of its parts. Where its types are wrong it stops at the fault, which is known to be
+//! there: before it all has types, and what is at the fault is looked at closely. Where they are right it goes through the
+//! whole rule, and gathers what there are warnings of.
 
-use crate::conforming::{have_something_in_common, is_below};
-use crate::found::Stop;
+use crate::conforming::{are_taken, have_something_in_common, is_equality, is_integer, is_taken};
+use crate::fates::{Part, branches_part, iteration_fate, operator_part};
+use crate::found::{Finding, Stop};
 use crate::operations::{operation_on, takes_class};
-use crate::sayings;
 use crate::scope::{Scope, kind_of_feature};
-use imkl_model::{ClassModel, CollectionKind};
+use imkl_model::{ClassModel, ClassNo, CollectionKind};
 use ocl_kinds::{Kind, ScalarKind, collected_kind, elements_kind};
 use ocl_text::{
     BinaryOperator, Binding, DeclaredType, Expression, IteratorKind, Keyword, Link, Name,
-    Navigation, PrefixOperator, Variable, Variables,
+    Navigation, PrefixOperator, SurfaceRule, Variable, Variables,
 };
 use ocl_types::TypeFlaw;
-use std::alloc::Global;
-
-/// What a reading goes by: the class model, and the fault.
-#[derive(Clone, Copy)]
-pub(crate) struct Reading<'r> {
-    pub(crate) model: &'r ClassModel,
-    /// What is wrong.
-    pub(crate) flaw: TypeFlaw,
-    /// Where, in bytes from 0.
-    pub(crate) offset: usize,
-    /// Where the expression of the rule stands.
-    pub(crate) rule_offset: usize,
-}
-
-impl Reading<'_> {
-    /// Whether this is the fault.
-    fn is_fault(&self, flaw: TypeFlaw, offset: usize) -> bool {
-        self.offset == offset && self.flaw.number() == flaw.number()
-    }
-}
+use std::alloc::{AllocError, Global};
 
 const BOOLEAN: Kind = Kind::Scalar(ScalarKind::Boolean);
 
@@ -42,16 +24,22 @@ const STRING: Kind = Kind::Scalar(ScalarKind::String);
 
 const VOID: Kind = Kind::Scalar(ScalarKind::Void);
 
-/// The type of what stands at an offset; the fault may be that it isn't Boolean.
-fn kind_at(alloc: Global, reading: &Reading<'_>, kind: Kind, offset: usize) -> Result<Kind, Stop> {
-    if reading.is_fault(TypeFlaw::NotBoolean, offset) {
-        let is_rule = offset == reading.rule_offset;
-        return Err(sayings::not_boolean(alloc, reading.model, &kind, is_rule)?);
-    }
-    if reading.is_fault(TypeFlaw::NestedCollection, offset) {
-        return Err(sayings::nested_body(alloc, reading.model, &kind)?);
-    }
-    Ok(kind)
+/// A reading of a rule.
+#[derive(Drop)]
+pub(crate) struct Reading<'t> {
+    pub(crate) model: &'t ClassModel,
+    /// What is wrong.
+    pub(crate) flaw: TypeFlaw,
+    /// Where, in bytes from 0.
+    pub(crate) offset: usize,
+    /// Where the expression of the rule stands.
+    pub(crate) rule_offset: usize,
+    /// What the reading sees at the place that it has come to.
+    pub(crate) scope: Scope<'t>,
+    /// What is at the fault, once the reading has come to it.
+    pub(crate) finding: Option<Finding>,
+    /// The name that is at the fault, if one is.
+    pub(crate) name: &'t str,
 }
 
 /// The type that a name writes: one that is there, and no collection.
@@ -77,139 +65,6 @@ fn collection_kind(name: &str) -> Option<CollectionKind> {
     }
 }
 
-/// The type that a name alone writes.
-fn scalar_declared(
-    alloc: Global,
-    reading: &Reading<'_>,
-    name: &str,
-    offset: usize,
-) -> Result<ScalarKind, Stop> {
-    match named_type(reading.model, name) {
-        Some(kind) => Ok(kind),
-        None if reading.is_fault(TypeFlaw::UnknownName, offset) => {
-            Err(sayings::unknown_type(alloc, reading.model, name)?)
-        }
-        None => Err(Stop::Lost),
-    }
-}
-
-/// The type that is declared.
-fn declared_kind(
-    alloc: Global,
-    reading: &Reading<'_>,
-    declared: &DeclaredType,
-) -> Result<Kind, Stop> {
-    match declared {
-        DeclaredType::Named { name, offset } => Ok(Kind::Scalar(scalar_declared(
-            alloc,
-            reading,
-            name.as_str(),
-            *offset,
-        )?)),
-        DeclaredType::Collection {
-            name,
-            element,
-            offset,
-        } => {
-            let Some(collection) = collection_kind(name.as_str()) else {
-                return if reading.is_fault(TypeFlaw::UnknownName, *offset) {
-                    Err(sayings::no_collection(alloc, name.as_str())?)
-                } else {
-                    Err(Stop::Lost)
-                };
-            };
-            match &**element {
-                DeclaredType::Named { name, offset } => {
-                    let element = scalar_declared(alloc, reading, name.as_str(), *offset)?;
-                    Ok(Kind::Collection(collection, element))
-                }
-                DeclaredType::Collection { offset, .. }
-                    if reading.is_fault(TypeFlaw::NestedCollection, *offset) => {
-                    Err(sayings::nested_type(alloc)?)
-                }
-                DeclaredType::Collection { .. } => Err(Stop::Lost),
-            }
-        }
-    }
-}
-
-/// The type that a variable has for elements of a type.
-fn variable_kind(
-    alloc: Global,
-    reading: &Reading<'_>,
-    element: &ScalarKind,
-    declared: &Option<DeclaredType>,
-) -> Result<Kind, Stop> {
-    let Some(written) = declared else {
-        return Ok(Kind::Scalar(*element));
-    };
-    let kind = declared_kind(alloc, reading, written)?;
-    if reading.is_fault(TypeFlaw::WrongType, written.offset()) {
-        let found = Kind::Scalar(*element);
-        return Err(sayings::does_not_conform(alloc, reading.model, "an element", &found, &kind)?);
-    }
-    Ok(kind)
-}
-
-/// The type of a bare name.
-fn name_kind(
-    alloc: Global,
-    reading: &Reading<'_>,
-    scope: &mut Scope<'_>,
-    name: &str,
-    offset: usize,
-) -> Result<Kind, Stop> {
-    match scope.kind_of_name(reading.model, name) {
-        Some(kind) => Ok(kind),
-        None if reading.is_fault(TypeFlaw::UnknownName, offset) => {
-            Err(sayings::unknown_name(alloc, reading.model, scope, name)?)
-        }
-        None => Err(Stop::Lost),
-    }
-}
-
-/// The type of a literal of an enumeration.
-fn literal_kind(
-    alloc: Global,
-    reading: &Reading<'_>,
-    enumeration: &str,
-    literal: &str,
-    offset: usize,
-) -> Result<Kind, Stop> {
-    let model = reading.model;
-    if reading.is_fault(TypeFlaw::UnknownName, offset) {
-        return Err(match model.enumeration(enumeration) {
-            Some(number) => sayings::unknown_literal(alloc, model, number, literal)?,
-            None => sayings::unknown_enumeration(alloc, model, enumeration)?,
-        });
-    }
-    match model.enumeration(enumeration) {
-        Some(number) => Ok(Kind::Scalar(ScalarKind::Enumeration(number))),
-        None => Err(Stop::Lost),
-    }
-}
-
-/// The type of a feature after a dot.
-fn property_kind(
-    alloc: Global,
-    reading: &Reading<'_>,
-    left: Kind,
-    name: &str,
-    offset: usize,
-) -> Result<Kind, Stop> {
-    let model = reading.model;
-    if reading.is_fault(TypeFlaw::UnknownName, offset) {
-        return Err(sayings::unknown_feature(alloc, model, &left, name)?);
-    }
-    let ScalarKind::Class(class) = elements_kind(&left) else {
-        return Err(Stop::Lost);
-    };
-    let Some(own) = kind_of_feature(model, class, name) else {
-        return Err(Stop::Lost);
-    };
-    Ok(collection_of(left, own))
-}
-
 /// The type of what is asked after a dot of a value of a type, where one element gives a value of another.
 fn collection_of(left: Kind, one: Kind) -> Kind {
     match left {
@@ -220,108 +75,58 @@ fn collection_of(left: Kind, one: Kind) -> Kind {
     }
 }
 
-/// The type of an operator's value.
-pub(crate) fn operator_kind(operator: BinaryOperator) -> Kind {
-    match operator {
-        BinaryOperator::Multiply
-        | BinaryOperator::Divide
-        | BinaryOperator::Modulo
-        | BinaryOperator::Add
-        | BinaryOperator::Subtract => INTEGER,
+/// The elements over which an iteration goes.
+fn source_of(left: &Kind) -> (CollectionKind, ScalarKind) {
+    match left {
+        Kind::Scalar(element) => (CollectionKind::Set, *element),
+        Kind::Collection(collection, element) => (*collection, *element),
+    }
+}
+
+/// What an operation is called on: after a dot one element, after an arrow the collection.
+pub(crate) fn called_on(navigation: Navigation, left: &Kind) -> Kind {
+    let (collection, element) = source_of(left);
+    match navigation {
+        Navigation::Dot => Kind::Scalar(element),
+        Navigation::Arrow => Kind::Collection(collection, element),
+    }
+}
+
+/// The type of an iteration's value.
+fn iteration_kind(iterator: IteratorKind, left: &Kind, body: &Kind) -> Kind {
+    let (collection, element) = source_of(left);
+    match iterator {
+        IteratorKind::Select | IteratorKind::Reject => Kind::Collection(collection, element),
+        IteratorKind::Collect => {
+            Kind::Collection(collected_kind(collection), elements_kind(body))
+        }
         _ => BOOLEAN,
     }
 }
 
-/// Whether an operator asks whether two values are equal.
-fn is_equality(operator: BinaryOperator) -> bool {
-    matches!(operator, BinaryOperator::Equal | BinaryOperator::NotEqual)
+/// Whether an accumulator can have a type: it is one of four sorts.
+fn is_accumulators(kind: &Kind) -> bool {
+    matches!(
+        kind,
+        Kind::Scalar(
+            ScalarKind::Boolean
+                | ScalarKind::Integer
+                | ScalarKind::Enumeration(_)
+                | ScalarKind::Class(_)
+        )
+    )
 }
 
-/// What an operation is called on: after a dot one element, after an arrow the collection.
-fn called_on(navigation: Navigation, left: &Kind) -> Kind {
-    match left {
-        Kind::Scalar(element) => match navigation {
-            Navigation::Dot => Kind::Scalar(*element),
-            Navigation::Arrow => Kind::Collection(CollectionKind::Set, *element),
-        },
-        Kind::Collection(collection, element) => match navigation {
-            Navigation::Dot => Kind::Scalar(*element),
-            Navigation::Arrow => Kind::Collection(*collection, *element),
-        },
-    }
-}
-
-/// The type of a call's value.
-fn call_kind(
-    alloc: Global,
-    reading: &Reading<'_>,
-    navigation: Navigation,
-    name: &str,
-    left: Kind,
-    arguments: &[Expression],
-    kinds: &[Kind],
-    offset: usize,
-) -> Result<Kind, Stop> {
-    let model = reading.model;
-    let on = called_on(navigation, &left);
-    if reading.is_fault(TypeFlaw::UnknownOperation, offset) {
-        return Err(sayings::unknown_operation(alloc, model, navigation, name, &left, &on)?);
-    }
-    let Some(operation) = operation_on(name, &on) else {
-        return Err(Stop::Lost);
-    };
-    if reading.is_fault(TypeFlaw::WrongArgumentCount, offset) {
-        return Err(sayings::argument_count(alloc, operation, arguments.len())?);
-    }
-    if reading.is_fault(TypeFlaw::WrongType, offset)
-        && let Some(stop) = sayings::arguments(alloc, model, operation, &on, kinds)?
-    {
-        return Err(stop);
-    }
-    let one = match operation.result(&on) {
-        Some(kind) => kind,
-        None => class_argument(model, arguments).ok_or(Stop::Lost)?,
-    };
-    Ok(match navigation {
-        Navigation::Dot => collection_of(left, one),
-        Navigation::Arrow => one,
-    })
-}
-
-/// The class that the first argument names.
-fn class_argument(model: &ClassModel, arguments: &[Expression]) -> Option<Kind> {
+/// The class that an argument names.
+fn class_argument(model: &ClassModel, arguments: &[Expression]) -> Option<ClassNo> {
     match arguments.first()? {
-        Expression::Name { name, .. } => {
-            let class = model.class(name.as_str())?;
-            Some(Kind::Scalar(ScalarKind::Class(class)))
-        }
+        Expression::Name { name, .. } => model.class(name.as_str()),
         _ => None,
     }
 }
 
-/// Looks at arguments that should each be the name of a class.
-fn look_at_classes(
-    alloc: Global,
-    reading: &Reading<'_>,
-    arguments: &[Expression],
-) -> Result<(), Stop> {
-    for argument in arguments {
-        if reading.is_fault(TypeFlaw::UnknownName, argument.offset()) {
-            let name = match argument {
-                Expression::Name { name, .. } => Some(name.as_str()),
-                _ => None,
-            };
-            return Err(sayings::unknown_class(alloc, reading.model, name)?);
-        }
-    }
-    Ok(())
-}
-
-/// The class before a link that lists all of its objects.
-pub(crate) fn class_before<'t>(
-    first: &'t Expression,
-    links: &'t [Link],
-) -> Option<(&'t Name, usize)> {
+/// The class before a link that lists all of its objects, with the offset of that link.
+fn class_before<'t>(first: &'t Expression, links: &'t [Link]) -> Option<(&'t Name, usize)> {
     let Expression::Name { name, .. } = first else {
         return None;
     };
@@ -336,420 +141,588 @@ pub(crate) fn class_before<'t>(
     }
 }
 
-/// The type of all objects of a class.
-pub(crate) fn instances_kind(
-    alloc: Global,
-    reading: &Reading<'_>,
-    class: &Name,
-    class_offset: usize,
-    offset: usize,
-) -> Result<Kind, Stop> {
-    let model = reading.model;
-    let Some(number) = model.class(class.as_str()) else {
-        return if reading.is_fault(TypeFlaw::UnknownName, class_offset) {
-            Err(sayings::unknown_class(alloc, model, Some(class.as_str()))?)
-        } else {
-            Err(Stop::Lost)
+impl<'t> Reading<'t> {
+    /// A reading of a rule of a context class, which has this flaw at an offset.
+    pub(crate) fn of_rule(
+        alloc: Global,
+        model: &'t ClassModel,
+        context: ClassNo,
+        rule: &SurfaceRule,
+        flaw: TypeFlaw,
+        offset: usize,
+    ) -> Result<Reading<'t>, AllocError> {
+        Ok(Reading {
+            model,
+            flaw,
+            offset,
+            rule_offset: rule.expression.offset(),
+            scope: Scope::of_context(alloc, context)?,
+            finding: None,
+            name: "",
+        })
+    }
+
+    /// Whether this is the fault.
+    fn is_fault(&self, flaw: TypeFlaw, offset: usize) -> bool {
+        self.offset == offset && self.flaw.number() == flaw.number()
+    }
+
+    /// Stops where this is the fault, with what was found there.
+    fn look(&mut self, flaw: TypeFlaw, offset: usize, found: Finding) -> Result<(), Stop> {
+        if self.is_fault(flaw, offset) {
+            self.finding = Some(found);
+            return Err(Stop::Fault);
+        }
+        Ok(())
+    }
+
+    /// Stops where a name is the fault since it isn't known, with what was found there.
+    fn look_up(&mut self, name: &'t str, offset: usize, found: Finding) -> Result<(), Stop> {
+        self.name = name;
+        self.look(TypeFlaw::UnknownName, offset, found)
+    }
+
+    /// The part that stands at an offset; the fault may be that it isn't Boolean, or is a collection.
+    fn part_at(&mut self, part: Part, offset: usize) -> Result<Part, Stop> {
+        self.look(TypeFlaw::NotBoolean, offset, Finding::NotBoolean(part.kind))?;
+        self.look(
+            TypeFlaw::NestedCollection,
+            offset,
+            Finding::NestedBody(part.kind),
+        )?;
+        Ok(part)
+    }
+
+    /// The type that a name alone writes.
+    fn scalar_declared(&mut self, name: &'t Name, offset: usize) -> Result<ScalarKind, Stop> {
+        match named_type(self.model, name.as_str()) {
+            Some(kind) => Ok(kind),
+            None => {
+                self.look_up(name.as_str(), offset, Finding::Type)?;
+                Err(Stop::Fault)
+            }
+        }
+    }
+
+    /// The type of the elements of a collection that is declared.
+    fn element_declared(&mut self, declared: &'t DeclaredType) -> Result<ScalarKind, Stop> {
+        match declared {
+            DeclaredType::Named { name, offset } => self.scalar_declared(name, *offset),
+            DeclaredType::Collection { offset, .. } => {
+                self.look(TypeFlaw::NestedCollection, *offset, Finding::NestedType)?;
+                Err(Stop::Fault)
+            }
+        }
+    }
+
+    /// The type that is declared.
+    fn declared_kind(&mut self, declared: &'t DeclaredType) -> Result<Kind, Stop> {
+        match declared {
+            DeclaredType::Named { name, offset } => {
+                let scalar = self.scalar_declared(name, *offset)?;
+                Ok(Kind::Scalar(scalar))
+            }
+            DeclaredType::Collection {
+                name,
+                element,
+                offset,
+            } => {
+                let Some(collection) = collection_kind(name.as_str()) else {
+                    self.look_up(name.as_str(), *offset, Finding::Collection)?;
+                    return Err(Stop::Fault);
+                };
+                let element = self.element_declared(element)?;
+                Ok(Kind::Collection(collection, element))
+            }
+        }
+    }
+
+    /// The type that a variable has for elements of a type.
+    fn variable_kind(
+        &mut self,
+        element: &ScalarKind,
+        variable: &'t Variable,
+    ) -> Result<Kind, Stop> {
+        let Some(written) = &variable.declared else {
+            return Ok(Kind::Scalar(*element));
         };
-    };
-    if reading.is_fault(TypeFlaw::WrongArgumentCount, offset) {
-        return Err(sayings::no_arguments(alloc, "allInstances")?);
+        let declared = self.declared_kind(written)?;
+        let given = Kind::Scalar(*element);
+        self.look_at_bound(true, &given, &declared, written.offset())?;
+        Ok(declared)
     }
-    Ok(Kind::Collection(CollectionKind::Set, ScalarKind::Class(number)))
-}
 
-/// The elements over which an iteration goes.
-fn source_of(left: &Kind) -> (CollectionKind, ScalarKind) {
-    match left {
-        Kind::Scalar(element) => (CollectionKind::Set, *element),
-        Kind::Collection(collection, element) => (*collection, *element),
-    }
-}
-
-/// The type of an iteration's value.
-pub(crate) fn iteration_kind(iterator: IteratorKind, left: &Kind, body: &Kind) -> Kind {
-    let (collection, element) = source_of(left);
-    match iterator {
-        IteratorKind::Select | IteratorKind::Reject => Kind::Collection(collection, element),
-        IteratorKind::Collect => {
-            Kind::Collection(collected_kind(collection), elements_kind(body))
-        }
-        _ => BOOLEAN,
-    }
-}
-
-/// Puts the variables of an iteration into the scope.
-pub(crate) fn push_variables<'t>(
-    alloc: Global,
-    reading: &Reading<'_>,
-    scope: &mut Scope<'t>,
-    left: &Kind,
-    variables: &'t Variables,
-) -> Result<(), Stop> {
-    let element = elements_kind(left);
-    match variables {
-        Variables::Unnamed => scope.push_unnamed(Kind::Scalar(element))?,
-        Variables::Single(variable) => {
-            let kind = variable_kind(alloc, reading, &element, &variable.declared)?;
-            scope.push_named(&variable.name, kind)?;
-        }
-        Variables::Pair(first, second) => {
-            let one = variable_kind(alloc, reading, &element, &first.declared)?;
-            let other = variable_kind(alloc, reading, &element, &second.declared)?;
-            scope.push_named(&first.name, one)?;
-            scope.push_named(&second.name, other)?;
-        }
-    }
-    Ok(())
-}
-
-/// The wider of the types of two branches.
-fn branches_kind(
-    alloc: Global,
-    reading: &Reading<'_>,
-    one: Kind,
-    other: Kind,
-    offset: usize,
-) -> Result<Kind, Stop> {
-    if reading.is_fault(TypeFlaw::NoCommonType, offset) {
-        return Err(sayings::no_common_type(alloc, reading.model, &one, &other)?);
-    }
-    Ok(if is_below(reading.model, &one, &other) {
-        other
-    } else {
-        one
-    })
-}
-
-/// Looks at the value of a binding of a type.
-fn look_at_bound(
-    alloc: Global,
-    reading: &Reading<'_>,
-    found: &Kind,
-    declared: &Kind,
-    offset: usize,
-) -> Result<(), Stop> {
-    if reading.is_fault(TypeFlaw::WrongType, offset) {
-        return Err(sayings::does_not_conform(alloc, reading.model, "the value", found, declared)?);
-    }
-    Ok(())
-}
-
-/// The type of what a word stands for.
-fn keyword_kind(scope: &Scope<'_>, keyword: Keyword) -> Kind {
-    match keyword {
-        Keyword::True | Keyword::False => BOOLEAN,
-        Keyword::Null | Keyword::Invalid => VOID,
-        Keyword::SelfObject => scope.context_kind(),
-    }
-}
-
-/// The type of a prefix operator's value, whose operand has a type.
-fn prefix_kind(
-    alloc: Global,
-    reading: &Reading<'_>,
-    operator: PrefixOperator,
-    operand: Kind,
-    offset: usize,
-) -> Result<Kind, Stop> {
-    match operator {
-        PrefixOperator::Not => Ok(BOOLEAN),
-        PrefixOperator::Negate => {
-            if reading.is_fault(TypeFlaw::WrongType, offset)
-                && !is_below(reading.model, &operand, &INTEGER)
-            {
-                return Err(sayings::no_integer(alloc, reading.model, &operand)?);
+    /// The part that a bare name is.
+    fn name(&mut self, name: &'t Name, offset: usize) -> Result<Part, Stop> {
+        match self.scope.kind_of_name(self.model, name.as_str()) {
+            Some(kind) => Ok(Part::of_kind(kind)),
+            None => {
+                self.look_up(name.as_str(), offset, Finding::Name)?;
+                Err(Stop::Fault)
             }
-            Ok(INTEGER)
         }
     }
-}
 
-/// The type of an operator's value, whose operands have types.
-fn binary_kind(
-    alloc: Global,
-    reading: &Reading<'_>,
-    scope: &mut Scope<'_>,
-    operator: BinaryOperator,
-    left: &Kind,
-    right: &Kind,
-    offset: usize,
-) -> Result<Kind, Stop> {
-    if reading.is_fault(TypeFlaw::WrongType, offset)
-        && let Some(stop) = sayings::operands(alloc, reading.model, operator, left, right)?
-    {
-        return Err(stop);
+    /// The part that a literal of an enumeration is.
+    fn literal(
+        &mut self,
+        enumeration: &'t Name,
+        literal: &'t Name,
+        offset: usize,
+    ) -> Result<Part, Stop> {
+        let Some(number) = self.model.enumeration(enumeration.as_str()) else {
+            self.look_up(enumeration.as_str(), offset, Finding::Enumeration)?;
+            return Err(Stop::Fault);
+        };
+        self.look_up(literal.as_str(), offset, Finding::Literal(number))?;
+        Ok(Part::of_value(Kind::Scalar(ScalarKind::Enumeration(number))))
     }
-    if is_equality(operator) && !have_something_in_common(left, right) {
-        scope.note_unequal(offset, left, right)?;
-    }
-    Ok(operator_kind(operator))
-}
 
-/// The type of an accumulator: one of four sorts.
-fn accumulator_kind(
-    alloc: Global,
-    reading: &Reading<'_>,
-    declared: &DeclaredType,
-) -> Result<Kind, Stop> {
-    let kind = declared_kind(alloc, reading, declared)?;
-    let is_one = matches!(
-        kind,
-        Kind::Scalar(
-            ScalarKind::Boolean
-                | ScalarKind::Integer
-                | ScalarKind::Enumeration(_)
-                | ScalarKind::Class(_)
-        )
-    );
-    if !is_one && reading.is_fault(TypeFlaw::WrongType, declared.offset()) {
-        return Err(sayings::no_accumulator(alloc, reading.model, &kind)?);
-    }
-    Ok(kind)
-}
-
-/// The type of an expression, unless the fault is in it.
-#[cycle(reading)]
-pub(crate) fn kind_of<'t>(
-    alloc: Global,
-    reading: &Reading<'_>,
-    scope: &mut Scope<'t>,
-    expression: &'t Expression,
-) -> Result<Kind, Stop> {
-    let kind = match expression {
-        Expression::Number { .. } => INTEGER,
-        Expression::String { .. } => STRING,
-        Expression::Keyword { keyword, .. } => keyword_kind(scope, *keyword),
-        Expression::Name { name, offset } => {
-            name_kind(alloc, reading, scope, name.as_str(), *offset)?
+    /// The part that a word is.
+    fn keyword(&self, keyword: Keyword) -> Part {
+        match keyword {
+            Keyword::True | Keyword::False => Part::of_value(BOOLEAN),
+            Keyword::SelfObject => Part::of_value(self.scope.context_kind()),
+            Keyword::Null | Keyword::Invalid => Part::of_kind(VOID),
         }
-        Expression::EnumerationLiteral {
-            enumeration,
-            literal,
-            offset,
-        } => literal_kind(
-            alloc,
-            reading,
-            enumeration.as_str(),
-            literal.as_str(),
-            *offset,
-        )?,
-        Expression::Prefix {
-            operator,
-            operand,
-            offset,
-        } => {
-            let kind = kind_of(alloc, reading, scope, operand)?;
-            prefix_kind(alloc, reading, *operator, kind, *offset)?
-        }
-        Expression::Spine { first, links } => {
-            return match class_before(first, links) {
-                Some((class, offset)) => {
-                    let left = instances_kind(alloc, reading, class, first.offset(), offset)?;
-                    let left = kind_at(alloc, reading, left, offset)?;
-                    links_kind(alloc, reading, scope, links, 1, left)
+    }
+
+    /// The part that a prefix operator makes of its operand.
+    fn prefix(
+        &mut self,
+        operator: PrefixOperator,
+        operand: Part,
+        offset: usize,
+    ) -> Result<Part, Stop> {
+        match operator {
+            PrefixOperator::Not => Ok(Part {
+                kind: BOOLEAN,
+                fate: operand.fate.opposite(),
+                is_there: operand.is_there,
+            }),
+            PrefixOperator::Negate => {
+                if !is_integer(&operand.kind) {
+                    let found = Finding::NoInteger(operand.kind);
+                    self.look(TypeFlaw::WrongType, offset, found)?;
                 }
-                None => {
-                    let left = kind_of(alloc, reading, scope, first)?;
-                    links_kind(alloc, reading, scope, links, 0, left)
-                }
-            };
-        }
-        Expression::Let {
-            first,
-            others,
-            body,
-            ..
-        } => {
-            let outside = scope.len();
-            bind(alloc, reading, scope, first)?;
-            for other in others {
-                bind(alloc, reading, scope, other)?;
+                Ok(Part::of_kind(INTEGER))
             }
-            let kind = kind_of(alloc, reading, scope, body)?;
-            scope.cut(outside)?;
-            kind
         }
-        Expression::If {
-            condition,
-            then_branch,
-            else_branch,
-            offset,
-        } => {
-            kind_of(alloc, reading, scope, condition)?;
-            let one = kind_of(alloc, reading, scope, then_branch)?;
-            let other = kind_of(alloc, reading, scope, else_branch)?;
-            branches_kind(alloc, reading, one, other, *offset)?
-        }
-    };
-    kind_at(alloc, reading, kind, expression.offset())
-}
-
-/// Puts a variable into the scope, once its type and its value were looked at.
-#[cycle(reading)]
-pub(crate) fn bind<'t>(
-    alloc: Global,
-    reading: &Reading<'_>,
-    scope: &mut Scope<'t>,
-    binding: &'t Binding,
-) -> Result<(), Stop> {
-    let declared = declared_kind(alloc, reading, &binding.declared)?;
-    let found = kind_of(alloc, reading, scope, &binding.value)?;
-    look_at_bound(alloc, reading, &found, &declared, binding.declared.offset())?;
-    scope.push_bound(&binding.name, declared, binding.offset)?;
-    Ok(())
-}
-
-/// The type of the links from an index on, after what has a type.
-#[cycle(reading)]
-fn links_kind<'t>(
-    alloc: Global,
-    reading: &Reading<'_>,
-    scope: &mut Scope<'t>,
-    links: &'t [Link],
-    from: usize,
-    left: Kind,
-) -> Result<Kind, Stop> {
-    let mut value = left;
-    for index in from..links.len() {
-        let link = &links[index];
-        let kind = link_kind(alloc, reading, scope, link, value)?;
-        value = kind_at(alloc, reading, kind, link.offset())?;
     }
-    Ok(value)
-}
 
-/// The type of a link after what has a type.
-#[cycle(reading)]
-pub(crate) fn link_kind<'t>(
-    alloc: Global,
-    reading: &Reading<'_>,
-    scope: &mut Scope<'t>,
-    link: &'t Link,
-    left: Kind,
-) -> Result<Kind, Stop> {
-    match link {
-        Link::Binary {
+    /// Looks at operands of an operator.
+    fn look_at_operands(
+        &mut self,
+        operator: BinaryOperator,
+        left: Kind,
+        right: Kind,
+        offset: usize,
+    ) -> Result<(), Stop> {
+        if are_taken(operator, &left, &right) {
+            return Ok(());
+        }
+        let found = Finding::Operands {
             operator,
-            right,
-            offset,
-        } => {
-            let other = kind_of(alloc, reading, scope, right)?;
-            binary_kind(alloc, reading, scope, *operator, &left, &other, *offset)
-        }
-        Link::Property { name, offset } => {
-            property_kind(alloc, reading, left, name.as_str(), *offset)
-        }
-        Link::Call {
-            navigation,
-            name,
-            arguments,
-            offset,
-        } => call_link(
-            alloc,
-            reading,
-            scope,
-            *navigation,
-            name.as_str(),
-            arguments,
             left,
-            *offset,
-        ),
-        Link::Iterate {
-            iterator,
-            variables,
+            right,
+        };
+        self.look(TypeFlaw::WrongType, offset, found)
+    }
+
+    /// The part that an operator makes of its operands.
+    fn binary(
+        &mut self,
+        operator: BinaryOperator,
+        left: Part,
+        right: Part,
+        offset: usize,
+    ) -> Result<Part, Stop> {
+        self.look_at_operands(operator, left.kind, right.kind, offset)?;
+        if is_equality(operator) && !have_something_in_common(&left.kind, &right.kind) {
+            self.scope.note_unequal(offset, left.kind, right.kind)?;
+        }
+        Ok(operator_part(operator, &left, &right))
+    }
+
+    /// The part that a feature after a dot is.
+    fn property(&mut self, left: Kind, name: &'t Name, offset: usize) -> Result<Part, Stop> {
+        let name = name.as_str();
+        self.look_up(name, offset, Finding::Feature(left))?;
+        let ScalarKind::Class(class) = elements_kind(&left) else {
+            return Err(Stop::Fault);
+        };
+        match kind_of_feature(self.model, class, name) {
+            Some(own) => Ok(Part::of_kind(collection_of(left, own))),
+            None => Err(Stop::Fault),
+        }
+    }
+
+    /// The part that all objects of a class are.
+    fn instances(
+        &mut self,
+        class: &'t Name,
+        class_offset: usize,
+        offset: usize,
+    ) -> Result<Part, Stop> {
+        let Some(number) = self.model.class(class.as_str()) else {
+            self.look_up(class.as_str(), class_offset, Finding::Class)?;
+            return Err(Stop::Fault);
+        };
+        self.look(TypeFlaw::WrongArgumentCount, offset, Finding::NoArguments)?;
+        let kind = Kind::Collection(CollectionKind::Set, ScalarKind::Class(number));
+        self.part_at(Part::of_kind(kind), offset)
+    }
+
+    /// The part that a call is whose arguments were looked at.
+    fn called(
+        &self,
+        navigation: Navigation,
+        name: &str,
+        arguments: &[Expression],
+        left: Kind,
+    ) -> Result<Part, Stop> {
+        let on = called_on(navigation, &left);
+        let operation = operation_on(name, &on).ok_or(Stop::Fault)?;
+        let class = class_argument(self.model, arguments);
+        let one = match operation.result(&on) {
+            Some(kind) => kind,
+            None => Kind::Scalar(ScalarKind::Class(class.ok_or(Stop::Fault)?)),
+        };
+        let part = Part::of_kind(match navigation {
+            Navigation::Dot => collection_of(left, one),
+            Navigation::Arrow => one,
+        });
+        Ok(match class {
+            Some(class) => part.of_test(self.model, name, &left, class),
+            None => part,
+        })
+    }
+
+    /// Looks at arguments that should each be the name of a class.
+    fn look_at_classes(&mut self, arguments: &'t [Expression]) -> Result<(), Stop> {
+        for argument in arguments {
+            match argument {
+                Expression::Name { name, offset } => {
+                    self.look_up(name.as_str(), *offset, Finding::Class)?;
+                }
+                _ => self.look_up("", argument.offset(), Finding::NoClass)?,
+            }
+        }
+        Ok(())
+    }
+
+    /// Looks at a value, or an element, that should be of the type that is declared.
+    fn look_at_bound(
+        &mut self,
+        is_element: bool,
+        given: &Kind,
+        declared: &Kind,
+        offset: usize,
+    ) -> Result<(), Stop> {
+        let found = Finding::OtherType {
+            is_element,
+            given: *given,
+            declared: *declared,
+        };
+        self.look(TypeFlaw::WrongType, offset, found)
+    }
+
+    /// Looks at a call of an operation that may not be there, or that takes another number of arguments.
+    fn look_at_call(
+        &mut self,
+        navigation: Navigation,
+        left: &Kind,
+        given: usize,
+        offset: usize,
+    ) -> Result<(), Stop> {
+        let unknown = Finding::Operation {
+            left: *left,
+            navigation,
+        };
+        self.look(TypeFlaw::UnknownOperation, offset, unknown)?;
+        let count = Finding::ArgumentCount {
+            on: called_on(navigation, left),
+            given,
+        };
+        self.look(TypeFlaw::WrongArgumentCount, offset, count)
+    }
+
+    /// Puts a variable for elements of a type into the scope.
+    fn push_variable(&mut self, element: &ScalarKind, variable: &'t Variable) -> Result<(), Stop> {
+        let kind = self.variable_kind(element, variable)?;
+        self.scope.push_named(&variable.name, kind, None)?;
+        Ok(())
+    }
+
+    /// Puts the variables of an iteration over elements of a type into the scope.
+    fn push_variables(
+        &mut self,
+        element: &ScalarKind,
+        variables: &'t Variables,
+    ) -> Result<(), Stop> {
+        match variables {
+            Variables::Unnamed => {
+                self.scope.push_unnamed(Kind::Scalar(*element))?;
+                Ok(())
+            }
+            Variables::Single(variable) => self.push_variable(element, variable),
+            Variables::Pair(first, second) => {
+                self.push_variable(element, first)?;
+                self.push_variable(element, second)
+            }
+        }
+    }
+
+    /// The type that is declared of an accumulator: one of four sorts.
+    fn accumulator_kind(&mut self, declared: &'t DeclaredType) -> Result<Kind, Stop> {
+        let kind = self.declared_kind(declared)?;
+        if !is_accumulators(&kind) {
+            let found = Finding::NoAccumulator(kind);
+            self.look(TypeFlaw::WrongType, declared.offset(), found)?;
+        }
+        Ok(kind)
+    }
+
+    /// Puts the variable of a `let` into the scope, once its value was looked at.
+    fn push_bound(
+        &mut self,
+        binding: &'t Binding,
+        given: &Kind,
+        declared: Kind,
+    ) -> Result<(), Stop> {
+        self.look_at_bound(false, given, &declared, binding.declared.offset())?;
+        let offset = Some(binding.offset);
+        self.scope.push_named(&binding.name, declared, offset)?;
+        Ok(())
+    }
+
+    /// The part that one of two branches is, once they were looked at.
+    fn joined(&mut self, one: &Part, other: &Part, offset: usize) -> Result<Part, Stop> {
+        let found = Finding::Branches {
+            one: one.kind,
+            other: other.kind,
+        };
+        self.look(TypeFlaw::NoCommonType, offset, found)?;
+        Ok(branches_part(self.model, one, other))
+    }
+
+    /// Puts the variable of a fold and its accumulator into the scope.
+    fn push_folded(
+        &mut self,
+        variable: &'t Variable,
+        element: Kind,
+        accumulator: &'t Binding,
+        kind: Kind,
+    ) -> Result<(), Stop> {
+        self.scope.push_named(&variable.name, element, None)?;
+        self.scope.push_named(&accumulator.name, kind, None)?;
+        Ok(())
+    }
+
+    /// The part that an expression is, unless the fault is in it.
+    #[cycle(reading)]
+    pub(crate) fn part_of(&mut self, expression: &'t Expression) -> Result<Part, Stop> {
+        let part = match expression {
+            Expression::Number { .. } => Part::of_value(INTEGER),
+            Expression::String { .. } => Part::of_value(STRING),
+            Expression::Keyword { keyword, .. } => self.keyword(*keyword),
+            Expression::Name { name, offset } => self.name(name, *offset)?,
+            Expression::EnumerationLiteral {
+                enumeration,
+                literal,
+                offset,
+            } => self.literal(enumeration, literal, *offset)?,
+            Expression::Prefix {
+                operator,
+                operand,
+                offset,
+            } => {
+                let operand = self.part_of(operand)?;
+                self.prefix(*operator, operand, *offset)?
+            }
+            Expression::Spine { first, links } => {
+                return match class_before(first, links) {
+                    Some((class, offset)) => {
+                        let part = self.instances(class, first.offset(), offset)?;
+                        self.links(links, 1, part)
+                    }
+                    None => {
+                        let part = self.part_of(first)?;
+                        self.links(links, 0, part)
+                    }
+                };
+            }
+            Expression::Let {
+                first,
+                others,
+                body,
+                ..
+            } => {
+                let outside = self.scope.len();
+                self.bind(first)?;
+                for other in others {
+                    self.bind(other)?;
+                }
+                let part = self.part_of(body)?;
+                self.scope.cut(outside)?;
+                part
+            }
+            Expression::If {
+                condition,
+                then_branch,
+                else_branch,
+                offset,
+            } => {
+                self.part_of(condition)?;
+                let one = self.part_of(then_branch)?;
+                let other = self.part_of(else_branch)?;
+                self.joined(&one, &other, *offset)?
+            }
+        };
+        self.part_at(part, expression.offset())
+    }
+
+    /// Puts a variable into the scope, once its type and its value were looked at.
+    #[cycle(reading)]
+    fn bind(&mut self, binding: &'t Binding) -> Result<(), Stop> {
+        match self.declared_kind(&binding.declared) {
+            Ok(declared) => match self.part_of(&binding.value) {
+                Ok(value) => self.push_bound(binding, &value.kind, declared),
+                Err(stop) => Err(stop),
+            },
+            Err(stop) => Err(stop),
+        }
+    }
+
+    /// The part that the links from an index on make of one.
+    #[cycle(reading)]
+    fn links(&mut self, links: &'t [Link], from: usize, left: Part) -> Result<Part, Stop> {
+        let mut part = left;
+        for index in from..links.len() {
+            let link = &links[index];
+            match self.link(link, part) {
+                Ok(next) => match self.part_at(next, link.offset()) {
+                    Ok(next) => part = next,
+                    Err(stop) => return Err(stop),
+                },
+                Err(stop) => return Err(stop),
+            }
+        }
+        Ok(part)
+    }
+
+    /// The part that a link makes of one.
+    #[cycle(reading)]
+    fn link(&mut self, link: &'t Link, left: Part) -> Result<Part, Stop> {
+        match link {
+            Link::Binary {
+                operator,
+                right,
+                offset,
+            } => match self.part_of(right) {
+                Ok(right) => self.binary(*operator, left, right, *offset),
+                Err(stop) => Err(stop),
+            },
+            Link::Property { name, offset } => self.property(left.kind, name, *offset),
+            Link::Call {
+                navigation,
+                name,
+                arguments,
+                offset,
+            } => self.call(*navigation, name.as_str(), arguments, left.kind, *offset),
+            Link::Iterate {
+                iterator,
+                variables,
+                body,
+                ..
+            } => self.iteration(*iterator, variables, body, left.kind),
+            Link::Fold { .. } => self.fold(link, left.kind),
+        }
+    }
+
+    /// The part that a call makes of what it is called on.
+    #[cycle(reading)]
+    fn call(
+        &mut self,
+        navigation: Navigation,
+        name: &'t str,
+        arguments: &'t [Expression],
+        left: Kind,
+        offset: usize,
+    ) -> Result<Part, Stop> {
+        let on = called_on(navigation, &left);
+        let untaken = self.arguments(name, &on, arguments)?;
+        self.name = name;
+        self.look_at_call(navigation, &left, arguments.len(), offset)?;
+        if let Some((index, given)) = untaken {
+            let found = Finding::Argument { on, index, given };
+            self.look(TypeFlaw::WrongType, offset, found)?;
+        }
+        self.called(navigation, name, arguments, left)
+    }
+
+    /// Looks at the arguments of an operation; gives the index and the type of the first that it doesn't take.
+    #[cycle(reading)]
+    fn arguments(
+        &mut self,
+        name: &str,
+        on: &Kind,
+        arguments: &'t [Expression],
+    ) -> Result<Option<(usize, Kind)>, Stop> {
+        let mut untaken = None;
+        if takes_class(name) {
+            self.look_at_classes(arguments)?;
+            return Ok(untaken);
+        }
+        for (index, argument) in arguments.iter().enumerate() {
+            let part = self.part_of(argument)?;
+            if untaken.is_none() && !is_taken(name, on, index, &part.kind) {
+                untaken = Some((index, part.kind));
+            }
+        }
+        Ok(untaken)
+    }
+
+    /// The part that an iteration makes of its source.
+    #[cycle(reading)]
+    fn iteration(
+        &mut self,
+        iterator: IteratorKind,
+        variables: &'t Variables,
+        body: &'t Expression,
+        left: Kind,
+    ) -> Result<Part, Stop> {
+        let outside = self.scope.len();
+        self.push_variables(&elements_kind(&left), variables)?;
+        let inner = self.part_of(body)?;
+        self.scope.cut(outside)?;
+        Ok(Part {
+            fate: iteration_fate(iterator, inner.fate),
+            ..Part::of_kind(iteration_kind(iterator, &left, &inner.kind))
+        })
+    }
+
+    /// The part that a fold makes of its source.
+    #[cycle(reading)]
+    fn fold(&mut self, link: &'t Link, left: Kind) -> Result<Part, Stop> {
+        let Link::Fold {
+            variable,
+            accumulator,
             body,
             ..
-        } => iterate_link(alloc, reading, scope, *iterator, variables, body, left),
-        Link::Fold { .. } => fold_kind(alloc, reading, scope, link, left),
+        } = link
+        else {
+            return Err(Stop::Fault);
+        };
+        let outside = self.scope.len();
+        let element = self.variable_kind(&elements_kind(&left), variable)?;
+        let kind = self.accumulator_kind(&accumulator.declared)?;
+        let start = self.part_of(&accumulator.value)?;
+        self.look_at_bound(false, &start.kind, &kind, accumulator.declared.offset())?;
+        self.push_folded(variable, element, accumulator, kind)?;
+        let found = self.part_of(body)?;
+        self.scope.cut(outside)?;
+        self.look_at_bound(false, &found.kind, &kind, body.offset())?;
+        Ok(Part::of_kind(kind))
     }
-}
-
-/// The type of a call's value, once its arguments were looked at.
-#[cycle(reading)]
-fn call_link<'t>(
-    alloc: Global,
-    reading: &Reading<'_>,
-    scope: &mut Scope<'t>,
-    navigation: Navigation,
-    name: &str,
-    arguments: &'t [Expression],
-    left: Kind,
-    offset: usize,
-) -> Result<Kind, Stop> {
-    let kinds = argument_kinds(alloc, reading, scope, name, arguments)?;
-    call_kind(
-        alloc, reading, navigation, name, left, arguments, &kinds, offset,
-    )
-}
-
-/// The type of an iteration's value, once its body was looked at.
-#[cycle(reading)]
-fn iterate_link<'t>(
-    alloc: Global,
-    reading: &Reading<'_>,
-    scope: &mut Scope<'t>,
-    iterator: IteratorKind,
-    variables: &'t Variables,
-    body: &'t Expression,
-    left: Kind,
-) -> Result<Kind, Stop> {
-    let outside = scope.len();
-    push_variables(alloc, reading, scope, &left, variables)?;
-    let kind = kind_of(alloc, reading, scope, body)?;
-    scope.cut(outside)?;
-    Ok(iteration_kind(iterator, &left, &kind))
-}
-
-/// The types of arguments; none of those that are names of classes.
-#[cycle(reading)]
-fn argument_kinds<'t>(
-    alloc: Global,
-    reading: &Reading<'_>,
-    scope: &mut Scope<'t>,
-    name: &str,
-    arguments: &'t [Expression],
-) -> Result<Vec<Kind>, Stop> {
-    let mut kinds = Vec::new(alloc);
-    if takes_class(name) {
-        look_at_classes(alloc, reading, arguments)?;
-        return Ok(kinds);
-    }
-    for argument in arguments {
-        let kind = kind_of(alloc, reading, scope, argument)?;
-        kinds.push(kind)?;
-    }
-    Ok(kinds)
-}
-
-/// The type of a fold's value.
-#[cycle(reading)]
-fn fold_kind<'t>(
-    alloc: Global,
-    reading: &Reading<'_>,
-    scope: &mut Scope<'t>,
-    link: &'t Link,
-    left: Kind,
-) -> Result<Kind, Stop> {
-    let Link::Fold {
-        variable,
-        accumulator,
-        body,
-        ..
-    } = link
-    else {
-        return Err(Stop::Lost);
-    };
-    let outside = scope.len();
-    let source = elements_kind(&left);
-    let element = variable_kind(alloc, reading, &source, &variable.declared)?;
-    let kind = accumulator_kind(alloc, reading, &accumulator.declared)?;
-    let start = kind_of(alloc, reading, scope, &accumulator.value)?;
-    look_at_bound(alloc, reading, &start, &kind, accumulator.declared.offset())?;
-    scope.push_named(&variable.name, element)?;
-    scope.push_named(&accumulator.name, kind)?;
-    let found = kind_of(alloc, reading, scope, body)?;
-    scope.cut(outside)?;
-    look_at_bound(alloc, reading, &found, &kind, body.offset())?;
-    Ok(kind)
 }

@@ -1,6 +1,5 @@
 //! The variables that a part of a rule sees.
 
-use crate::found::Stop;
 use explain_notes::Nearest;
 use imkl_model::{ClassModel, ClassNo};
 use model_names::{feature_info, feature_named, offer_features};
@@ -50,7 +49,7 @@ pub(crate) fn kind_of_feature(model: &ClassModel, class: ClassNo, name: &str) ->
 }
 
 /// Puts an item at a list's end.
-fn push<T: Drop>(items: &mut Vec<T>, item: T) -> Result<(), Stop> {
+fn push<T: Drop>(items: &mut Vec<T>, item: T) -> Result<(), AllocError> {
     items.push(item)?;
     Ok(())
 }
@@ -68,7 +67,7 @@ fn kind_lent(model: &ClassModel, variable: &Variable<'_>, name: &str) -> Option<
 
 impl<'t> Scope<'t> {
     /// The context object alone.
-    pub(crate) fn of_context(alloc: Global, context: ClassNo) -> Result<Scope<'t>, Stop> {
+    pub(crate) fn of_context(alloc: Global, context: ClassNo) -> Result<Scope<'t>, AllocError> {
         let mut scope = Scope {
             context,
             variables: Vec::new(alloc),
@@ -90,35 +89,24 @@ impl<'t> Scope<'t> {
         self.variables.len()
     }
 
-    /// One more variable, of this name.
-    pub(crate) fn push_named(&mut self, name: &'t Name, kind: Kind) -> Result<(), Stop> {
-        push(&mut self.is_read, false)?;
-        let variable = Variable {
-            name: Some(name.as_str()),
-            kind,
-            bound: None,
-        };
-        push(&mut self.variables, variable)
-    }
-
-    /// One more variable, of a `let`, whose name stands at an offset.
-    pub(crate) fn push_bound(
+    /// One more variable, of this name, with the offset of the name if it is of a `let`.
+    pub(crate) fn push_named(
         &mut self,
         name: &'t Name,
         kind: Kind,
-        offset: usize,
-    ) -> Result<(), Stop> {
+        bound: Option<usize>,
+    ) -> Result<(), AllocError> {
         push(&mut self.is_read, false)?;
         let variable = Variable {
             name: Some(name.as_str()),
             kind,
-            bound: Some(offset),
+            bound,
         };
         push(&mut self.variables, variable)
     }
 
     /// One more variable, which lends its features.
-    pub(crate) fn push_unnamed(&mut self, kind: Kind) -> Result<(), Stop> {
+    pub(crate) fn push_unnamed(&mut self, kind: Kind) -> Result<(), AllocError> {
         push(&mut self.is_read, false)?;
         let variable = Variable {
             name: None,
@@ -129,7 +117,7 @@ impl<'t> Scope<'t> {
     }
 
     /// The outermost variables alone, so many; notes those of the others that nothing read.
-    pub(crate) fn cut(&mut self, len: usize) -> Result<(), Stop> {
+    pub(crate) fn cut(&mut self, len: usize) -> Result<(), AllocError> {
         for index in len..self.variables.len() {
             if let Some(variable) = self.variables.get(index)
                 && let Some(offset) = variable.bound
@@ -147,13 +135,13 @@ impl<'t> Scope<'t> {
     pub(crate) fn note_unequal(
         &mut self,
         offset: usize,
-        left: &Kind,
-        right: &Kind,
-    ) -> Result<(), Stop> {
+        left: Kind,
+        right: Kind,
+    ) -> Result<(), AllocError> {
         let unequal = Unequal {
             offset,
-            left: *left,
-            right: *right,
+            left,
+            right,
         };
         push(&mut self.unequal, unequal)
     }

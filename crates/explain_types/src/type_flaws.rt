@@ -1,68 +1,93 @@
 //! Why the types of a rule are refused.
 
-use crate::found::{Found, Stop};
-use crate::reading::{Reading, kind_of};
-use crate::sayings::unknown_class;
-use crate::scope::Scope;
+use crate::found::Stop;
+use crate::reading::Reading;
+use crate::words::{Words, unknown_class, write_finding};
 use explain_notes::{Input, Note};
 use explain_text::length_of_token;
 use imkl_model::ClassModel;
-use ocl_text::SurfaceRule;
+use ocl_text::{Expression, SurfaceRule};
 use ocl_types::TypeFlaw;
 use std::alloc::{AllocError, Global};
 
-/// What a reading finds out about the fault of a rule.
-fn stop_of(
+/// Writes what a reading finds at the fault of a rule, if it finds it.
+fn write_read<'t>(
     alloc: Global,
+    words: &mut Words,
+    reading: &mut Reading<'t>,
+    expression: &'t Expression,
+) -> Result<(), AllocError> {
+    if let Err(Stop::OutOfMemory) = reading.part_of(expression) {
+        return Err(AllocError);
+    }
+    match reading.finding {
+        Some(finding) => write_finding(alloc, words, reading, finding),
+        None => Ok(()),
+    }
+}
+
+/// Writes what is said of the fault of a rule.
+fn write_words(
+    alloc: Global,
+    words: &mut Words,
     model: &ClassModel,
     rule: &SurfaceRule,
     flaw: TypeFlaw,
     offset: usize,
-) -> Result<Stop, AllocError> {
-    let Some(class) = model.class(rule.context.as_str()) else {
-        return unknown_class(alloc, model, Some(rule.context.as_str()));
-    };
-    let mut scope = match Scope::of_context(alloc, class) {
-        Ok(scope) => scope,
-        Err(stop) => return Ok(stop),
-    };
-    let reading = Reading {
-        model,
-        flaw,
-        offset,
-        rule_offset: rule.expression.offset(),
-    };
-    match kind_of(alloc, &reading, &mut scope, &rule.expression) {
-        Ok(_) => Ok(Stop::Lost),
-        Err(stop) => Ok(stop),
+) -> Result<(), AllocError> {
+    let context = rule.context.as_str();
+    match model.class(context) {
+        Some(class) => {
+            let mut reading = Reading::of_rule(alloc, model, class, rule, flaw, offset)?;
+            write_read(alloc, words, &mut reading, &rule.expression)
+        }
+        None => unknown_class(alloc, words, model, context),
     }
 }
 
-/// What is said of a fault of which the reading found no more.
-fn plain(alloc: Global, flaw: TypeFlaw) -> Result<Found, AllocError> {
-    Ok(Found {
-        message: format!(in alloc; "{flaw}")?,
-        label: String::new(alloc),
-        help: String::new(alloc),
-    })
-}
-
-/// What is said of the fault of a rule.
-fn found_of(
+/// What is said of the fault of a rule; the flaw's name alone where a reading finds no more.
+fn words_of(
     alloc: Global,
     model: &ClassModel,
     rule: Option<&SurfaceRule>,
     flaw: TypeFlaw,
     offset: usize,
-) -> Result<Found, AllocError> {
-    let Some(rule) = rule else {
-        return plain(alloc, flaw);
+) -> Result<Words, AllocError> {
+    let mut words = Words {
+        message: String::new(alloc),
+        label: String::new(alloc),
+        help: String::new(alloc),
     };
-    match stop_of(alloc, model, rule, flaw, offset)? {
-        Stop::Found(found) => Ok(found),
-        Stop::Lost => plain(alloc, flaw),
-        Stop::OutOfMemory => Err(AllocError),
+    if let Some(rule) = rule {
+        write_words(alloc, &mut words, model, rule, flaw, offset)?;
     }
+    if words.message.is_empty() {
+        write!(&mut words.message, "{flaw}")?;
+    }
+    Ok(words)
+}
+
+/// Writes the note on a fault.
+fn write_note(
+    alloc: Global,
+    out: &mut String,
+    input: Input<'_>,
+    words: &Words,
+    flaw: TypeFlaw,
+    offset: usize,
+) -> Result<(), AllocError> {
+    let number = flaw.number();
+    let fault = format!(in alloc; "types {number}")?;
+    let note = Note {
+        input,
+        offset,
+        length: length_of_token(alloc, input.bytes, offset)?,
+        message: words.message.as_str(),
+        fault: fault.as_str(),
+        label: words.label.as_str(),
+        help: words.help.as_str(),
+    };
+    note.write(alloc, out)
 }
 
 /// Writes why the rules of a text are refused of which this one has this flaw at an offset.
@@ -76,17 +101,6 @@ pub fn explain_type_flaw(
     rule: usize,
     offset: usize,
 ) -> Result<(), AllocError> {
-    let found = found_of(alloc, model, rules.get(rule), flaw, offset)?;
-    let number = flaw.number();
-    let fault = format!(in alloc; "types {number}")?;
-    let note = Note {
-        input,
-        offset,
-        length: length_of_token(alloc, input.bytes, offset)?,
-        message: found.message.as_str(),
-        fault: fault.as_str(),
-        label: found.label.as_str(),
-        help: found.help.as_str(),
-    };
-    note.write(alloc, out)
+    let words = words_of(alloc, model, rules.get(rule), flaw, offset)?;
+    write_note(alloc, out, input, &words, flaw, offset)
 }

@@ -1,13 +1,13 @@
 //! Warnings of rules whose types are right.
 
-use crate::fates::{Fate, fate_of};
+use crate::fates::Fate;
 use crate::found::Stop;
-use crate::reading::{Reading, kind_of};
+use crate::reading::Reading;
 use crate::scope::{Scope, Unequal};
 use crate::type_names::a_type;
 use explain_notes::{Input, Note};
 use explain_text::length_of_token;
-use imkl_model::{ClassModel, ClassNo, EnumNo};
+use imkl_model::{ClassModel, EnumNo};
 use model_names::{enumeration_name, literal_name};
 use ocl_kinds::{Kind, ScalarKind};
 use ocl_text::SurfaceRule;
@@ -50,8 +50,7 @@ fn write_unequal(
     model: &ClassModel,
     unequal: &Unequal,
 ) -> Result<(), AllocError> {
-    let left = a_type(alloc, model, &unequal.left)?;
-    let right = a_type(alloc, model, &unequal.right)?;
+    let (left, right) = (a_type(model, &unequal.left), a_type(model, &unequal.right));
     let label = format!(in alloc; "{left} on its left, {right} on its right")?;
     let help = equality_advice(alloc, model, &unequal.left, &unequal.right)?;
     let note = Note {
@@ -134,22 +133,21 @@ fn write_fate(
     note.write(alloc, out)
 }
 
-/// Writes a warning of a rule that no object of its context class can keep or break, by its types alone.
-fn warn_of_fate(
+/// Writes what there are warnings of in a rule, once it is read.
+fn write_read<'t>(
     alloc: Global,
     out: &mut String,
     input: Input<'_>,
-    reading: &Reading<'_>,
-    class: ClassNo,
-    rule: &SurfaceRule,
+    reading: &mut Reading<'t>,
+    rule: &'t SurfaceRule,
 ) -> Result<(), AllocError> {
-    let Ok(mut scope) = Scope::of_context(alloc, class) else {
-        return Err(AllocError);
-    };
-    match fate_of(alloc, reading, &mut scope, &rule.expression) {
-        Ok(fate) => write_fate(alloc, out, input, rule, fate),
+    match reading.part_of(&rule.expression) {
+        Ok(part) => {
+            write_gathered(alloc, out, input, reading.model, &reading.scope)?;
+            write_fate(alloc, out, input, rule, part.fate)
+        }
         Err(Stop::OutOfMemory) => Err(AllocError),
-        Err(_) => Ok(()),
+        Err(Stop::Fault) => Ok(()),
     }
 }
 
@@ -165,20 +163,8 @@ pub fn warn_of_rule(
     let Some(class) = model.class(rule.context.as_str()) else {
         return Ok(());
     };
-    let Ok(mut scope) = Scope::of_context(alloc, class) else {
-        return Err(AllocError);
-    };
     // (no fault stands there, so the reading goes through the whole rule)
-    let reading = Reading {
-        model,
-        flaw: TypeFlaw::UnknownName,
-        offset: usize::MAX,
-        rule_offset: rule.expression.offset(),
-    };
-    match kind_of(alloc, &reading, &mut scope, &rule.expression) {
-        Ok(_) => write_gathered(alloc, out, input, model, &scope)?,
-        Err(Stop::OutOfMemory) => return Err(AllocError),
-        Err(_) => return Ok(()),
-    }
-    warn_of_fate(alloc, out, input, &reading, class, rule)
+    let flaw = TypeFlaw::UnknownName;
+    let mut reading = Reading::of_rule(alloc, model, class, rule, flaw, usize::MAX)?;
+    write_read(alloc, out, input, &mut reading, rule)
 }
