@@ -1,5 +1,5 @@
 -- What is left: characters of a text, the first elements of a list, and links.
-use Rattle.std.proofs.Common.{◌≡◌, ℕ, zero, suc, List, [], ◌∷◌, ◌++◌, length, take, Result, Ok, Err, OnOk, refl, sym, ap, ◌∙◌, subst, append_assoc}
+use Rattle.std.proofs.Common.{◌≡◌, ℕ, zero, suc, List, [], ◌∷◌, ◌++◌, length, take, drop, Result, Ok, Err, OnOk, refl, sym, ap, ◌∙◌, subst, append_assoc}
 use Rattle.imkl_population.specs.Population.{Population}
 use Rattle.std.specs.Prelude.{encode_utf8}
 use Rattle.std.specs.List.{flat_map}
@@ -60,6 +60,12 @@ pub first_all : {X : Type 0} (P : X → Type 0) (xs : List X) (n : ℕ) → AllB
 first_all P xs zero h = tt
 first_all P [] (suc n) h = tt
 first_all P (x ∷ xs) (suc n) h = (h.0, first_all P xs n h.1)
+
+-- and of the others
+pub left_all : {X : Type 0} (P : X → Type 0) (xs : List X) (n : ℕ) → AllByRecursion P xs → AllByRecursion P (drop n xs)
+left_all P xs zero h = h
+left_all P [] (suc n) h = tt
+left_all P (x ∷ xs) (suc n) h = left_all P xs n h.1
 
 pub first_there : (p : Population) (items : List OwnedElement) (n : ℕ) → AreElementsThere p (meant_elements items) → AreElementsThere p (meant_elements (take n items))
 first_there p items n h = subst (AreElementsThere p) (take-map meant_element n items) (first_all (IsElementThere p) (meant_elements items) n h)

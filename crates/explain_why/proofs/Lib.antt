@@ -1,3 +1,4 @@
 pub mod Left
 pub mod TextNodes
 pub mod PartNodes
+pub mod LeftOut

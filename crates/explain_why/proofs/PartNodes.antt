@@ -1,8 +1,9 @@
 -- The parts of nodes as they lie in memory, by those of what they are made of.
 use Rattle.std.proofs.Common.{◌≡◌, ℕ, suc, ◌+◌, ◌-◌, ◌<◌, ◌≤◌, Bool, true, false, if◌then◌else◌, List, [], ◌∷◌, ◌++◌, length, get_or, map, refl, sym, ap, ◌∙◌, rules, arith, append_assoc, Box, Vec, Global}
 use Rattle.std.proofs.lemmas.Int.{clamps}
-use Rattle.std.proofs.lemmas.List.{append-nil, length-append, length-map, take_min, take_more, take-map}
-use Rattle.std.specs.Prelude.{min, take}
+use Rattle.std.proofs.lemmas.List.{append-nil, length-map, take_all, take_min, take_more, take-map}
+use Rattle.std.specs.Prelude.{min, take, drop}
+use Rattle.std.proofs.Math.Seq.{drop-cons, drop-length}
 use Rattle.imkl_population.specs.Population.{Population}
 use Rattle.ocl_core.specs.declared.core_tree.Core.{Core, the_lemmas}
 use Rattle.ocl_core.specs.declared.core_tree.Core.TheVariants as v
@@ -30,12 +31,17 @@ use Rattle.explain_why.specs.Texts.{text_of}
 use Rattle.explain_why.specs.TextWalk.{tree_text, link_text}
 use Rattle.explain_why.proofs.TextNodes.{link_text_is}
 use Rattle.explain_why.specs.Reasons.{choice_reason}
-use Rattle.explain_why.specs.Explanation.{Deciding, decides, deciding, most_deciding, more_line, deciding_lines, chosen_lines, part_line, part_of, iteration_lines, accumulation_lines, explained}
-use Rattle.explain_why.specs.PartWalk.{node_reason, node_line, nodes_lines, element_lines, step_lines, rest_lines, link_lines, links_lines, bound_lines, lets_lines}
+use Rattle.explain_why.specs.Explanation.{lines_if, Batch, decides, deciding, beside, more_line, deciding_lines, batch_lines, chosen_lines, part_line, part_of, iteration_lines, accumulation_lines, explained}
+use Rattle.explain_why.specs.PartWalk.{node_reason, node_line, is_source_shown, spine_lines, below_lines, element_lines, step_lines, rest_lines, link_lines, links_lines, bound_lines, lets_lines}
+
+-- a link after others stands on what they make
+spine_last : (before : List CoreLink) (link : CoreLink) (first : CoreTree) → core_spine first (map core_link_of (before ++ link ∷ [])) ≡ core_link_of link (core_spine first (map core_link_of before))
+spine_last [] link first = refl
+spine_last (l ∷ ls) link first = spine_last ls link (core_link_of l first)
 
 module _ (p : Population) (vars : List Value) where
-  -- a link on a tree: the link, the tree, and what else the link has
-  pub link_explained : (link : CoreLink) (left : CoreTree) (k : ℕ) → node_line p link left k vars ++ (explained p left (suc k) vars ++ link_lines p link (suc k) vars (meaning p left vars)) ≡ explained p (core_link_of link left) k vars
+  -- a link on a tree: the link, the tree where it is shown, and what else the link has
+  pub link_explained : (link : CoreLink) (left : CoreTree) (k : ℕ) → node_line p link left k vars ++ (lines_if (is_source_shown p (on_null link) vars (meaning p left vars)) (explained p left (suc k) vars) ++ link_lines p link (suc k) vars (meaning p left vars)) ≡ explained p (core_link_of link left) k vars
   link_explained (Feature feature) left k = search (rules, the_lemmas)
   link_explained (Operation' operator others row) left k = search (rules, the_lemmas)
   link_explained (AsCollection collection element) left k = search (rules, the_lemmas)
@@ -43,41 +49,56 @@ module _ (p : Population) (vars : List Value) where
   link_explained (Fold' kind start row body) left k = search (rules, the_lemmas)
 
   -- lists of lines, grouped by nodes
-  regrouped : (a b c d e : List ℕ) → (a ++ b) ++ (c ++ (d ++ e)) ≡ a ++ ((b ++ (c ++ d)) ++ e)
-  regrouped a b c d e =
-      append_assoc a b (c ++ (d ++ e))
-      ∙ ap (λ xs. a ++ (b ++ xs)) (sym (append_assoc c d e))
-      ∙ ap (λ xs. a ++ xs) (sym (append_assoc b (c ++ d) e))
+  regrouped : (a b c d : List ℕ) → (a ++ (b ++ c)) ++ d ≡ a ++ (b ++ (c ++ d))
+  regrouped a b c d = append_assoc a (b ++ c) d ∙ ap (λ xs. a ++ xs) (append_assoc b c d)
 
-  -- and so do links one after another
-  pub spine_explained : (links : List CoreLink) (first : CoreTree) (k : ℕ) → nodes_lines p links first k vars ++ (explained p first (k + length links) vars ++ links_lines p links (k + length links) vars (meaning p first vars)) ≡ explained p (core_spine first (map core_link_of links)) k vars
-  spine_explained [] first k =
-      let same : k + 0 ≡ k = omega arith in
-      append-nil (explained p first (k + 0) vars) ∙ ap (λ n. explained p first n vars) same
-  spine_explained (l ∷ ls) first k =
-      let j = k + length ls in
-      let v = meaning p first vars in
-      let up : k + suc (length ls) ≡ suc j = omega arith in
-      let down : suc j - 1 ≡ j = omega arith in
-      let above = links_lines p ls j vars (link_value p vars v l) in
-      ap (λ n. (nodes_lines p ls (core_link_of l first) k vars ++ node_line p l first j vars) ++ (explained p first n vars ++ (link_lines p l n vars v ++ links_lines p ls (n - 1) vars (link_value p vars v l)))) up
-      ∙ ap (λ n. (nodes_lines p ls (core_link_of l first) k vars ++ node_line p l first j vars) ++ (explained p first (suc j) vars ++ (link_lines p l (suc j) vars v ++ links_lines p ls n vars (link_value p vars v l)))) down
-      ∙ regrouped (nodes_lines p ls (core_link_of l first) k vars) (node_line p l first j vars) (explained p first (suc j) vars) (link_lines p l (suc j) vars v) above
-      ∙ ap (λ xs. nodes_lines p ls (core_link_of l first) k vars ++ (xs ++ above)) (link_explained l first j)
-      ∙ ap (λ w. nodes_lines p ls (core_link_of l first) k vars ++ (explained p (core_link_of l first) j vars ++ links_lines p ls j vars w)) (sym (link_meaning p vars l first))
-      ∙ spine_explained ls (core_link_of l first) k
+  -- the last link of a spine, and what is left of it
+  spine_step : (before after : List CoreLink) (link : CoreLink) (first : CoreTree) (k : ℕ) → spine_lines p first (before ++ link ∷ []) after k vars ≡ node_line p link (core_spine first (map core_link_of before)) k vars ++ (lines_if (is_source_shown p (on_null link) vars (meaning p (core_spine first (map core_link_of before)) vars)) (explained p (core_spine first (map core_link_of before)) (suc k) vars) ++ links_lines p (link ∷ after) (suc k) vars (meaning p (core_spine first (map core_link_of before)) vars))
+  spine_step before after link first k =
+      let left = core_spine first (map core_link_of before) in
+      let v = meaning p left vars in
+      let source = lines_if (is_source_shown p (on_null link) vars v) (explained p left (suc k) vars) in
+      let down : k ≡ suc k - 1 = omega arith in
+      ap (λ (t : CoreTree). explained p t k vars ++ links_lines p after k vars (meaning p t vars)) (spine_last before link first)
+      ∙ ap (λ xs. xs ++ links_lines p after k vars (meaning p (core_link_of link left) vars)) (sym (link_explained link left k))
+      ∙ regrouped (node_line p link left k vars) source (link_lines p link (suc k) vars v) (links_lines p after k vars (meaning p (core_link_of link left) vars))
+      ∙ ap (λ (w : Value). node_line p link left k vars ++ (source ++ (link_lines p link (suc k) vars v ++ links_lines p after k vars w))) (link_meaning p vars link left)
+      ∙ ap (λ n. node_line p link left k vars ++ (source ++ (link_lines p link (suc k) vars v ++ links_lines p after n vars (link_value p vars v link)))) down
 
-  -- the last link stands above the others
-  pub last_node : (ls : List CoreLink) (l : CoreLink) (first : CoreTree) (k : ℕ) → nodes_lines p (ls ++ l ∷ []) first k vars ≡ node_line p l (core_spine first (map core_link_of ls)) k vars ++ nodes_lines p ls first (suc k) vars
-  last_node [] l first k =
-      let same : k + 0 ≡ k = omega arith in
-      ap (λ n. node_line p l first n vars) same ∙ sym (append-nil (node_line p l first k vars))
-  last_node (h ∷ hs) l first k =
-      let longer : length (hs ++ l ∷ []) ≡ length hs + 1 = length-append hs (l ∷ []) in
-      let more : k + length (hs ++ l ∷ []) ≡ suc k + length hs = omega (arith, longer) in
-      ap (λ xs. xs ++ node_line p h first (k + length (hs ++ l ∷ [])) vars) (last_node hs l (core_link_of h first) k)
-      ∙ append_assoc (node_line p l (core_spine (core_link_of h first) (map core_link_of hs)) k vars) (nodes_lines p hs (core_link_of h first) (suc k) vars) (node_line p h first (k + length (hs ++ l ∷ [])) vars)
-      ∙ ap (λ n. node_line p l (core_spine (core_link_of h first) (map core_link_of hs)) k vars ++ (nodes_lines p hs (core_link_of h first) (suc k) vars ++ node_line p h first n vars)) more
+  -- at the start all links are left
+  pub all_links : (first : CoreTree) (links : List CoreLink) (k : ℕ) → spine_lines p first (take (length links) links) (drop (length links) links) k vars ≡ explained p (core_spine first (map core_link_of links)) k vars
+  all_links first links k =
+      ap (λ (ls : List CoreLink). spine_lines p first ls (drop (length links) links) k vars) (take_all (length links) links (omega arith))
+      ∙ ap (λ (ls : List CoreLink). spine_lines p first links ls k vars) (drop-length links)
+      ∙ append-nil (explained p (core_spine first (map core_link_of links)) k vars)
+
+  -- the last of the links that are left is put, above what is left of the others
+  node_put : (all before rest after : List CoreLink) (link : CoreLink) (first : CoreTree) (shown : Bool) (k above : ℕ) (out more whole : List ℕ) → all ≡ before ++ link ∷ [] → rest ≡ link ∷ after → above ≡ suc k → shown ≡ is_source_shown p (on_null link) vars (meaning p (core_spine first (map core_link_of before)) vars) → more ≡ out ++ node_line p link (core_spine first (map core_link_of before)) k vars → out ++ spine_lines p first all after k vars ≡ whole → more ++ (lines_if shown (explained p (core_spine first (map core_link_of before)) above vars) ++ links_lines p rest above vars (meaning p (core_spine first (map core_link_of before)) vars)) ≡ whole
+  node_put all before rest after link first shown k above out more whole last next up which put so_far =
+      let left = core_spine first (map core_link_of before) in
+      let v = meaning p left vars in
+      ap (λ n. more ++ (lines_if shown (explained p left n vars) ++ links_lines p rest n vars v)) up
+      ∙ ap (λ (ls : List CoreLink). more ++ (lines_if shown (explained p left (suc k) vars) ++ links_lines p ls (suc k) vars v)) next
+      ∙ ap (λ (b : Bool). more ++ (lines_if b (explained p left (suc k) vars) ++ links_lines p (link ∷ after) (suc k) vars v)) which
+      ∙ ap (λ xs. xs ++ (lines_if (is_source_shown p (on_null link) vars v) (explained p left (suc k) vars) ++ links_lines p (link ∷ after) (suc k) vars v)) put
+      ∙ append_assoc out (node_line p link left k vars) (lines_if (is_source_shown p (on_null link) vars v) (explained p left (suc k) vars) ++ links_lines p (link ∷ after) (suc k) vars v)
+      ∙ ap (λ xs. out ++ xs) (sym (spine_step before after link first k))
+      ∙ ap (λ (ls : List CoreLink). out ++ spine_lines p first ls after k vars) (sym last)
+      ∙ so_far
+
+  -- where the operand is shown, it is left with the other links
+  pub node_goes_on : (all before rest after : List CoreLink) (link : CoreLink) (first : CoreTree) (shown : Bool) (k above : ℕ) (out more whole : List ℕ) → shown ≡ true → all ≡ before ++ link ∷ [] → rest ≡ link ∷ after → above ≡ suc k → shown ≡ is_source_shown p (on_null link) vars (meaning p (core_spine first (map core_link_of before)) vars) → more ≡ out ++ node_line p link (core_spine first (map core_link_of before)) k vars → out ++ spine_lines p first all after k vars ≡ whole → more ++ spine_lines p first before rest above vars ≡ whole
+  node_goes_on all before rest after link first shown k above out more whole is last next up which put so_far =
+      let left = core_spine first (map core_link_of before) in
+      ap (λ (b : Bool). more ++ (lines_if b (explained p left above vars) ++ links_lines p rest above vars (meaning p left vars))) (sym is)
+      ∙ node_put all before rest after link first shown k above out more whole last next up which put so_far
+
+  -- else no operand is left
+  pub node_ends : (links : List CoreLink) (i : ℕ) (all after : List CoreLink) (link : CoreLink) (first : CoreTree) (shown : Bool) (k above : ℕ) (out more whole : List ℕ) → shown ≡ false → all ≡ take i links ++ link ∷ [] → drop i links ≡ link ∷ after → above ≡ suc k → shown ≡ is_source_shown p (on_null link) vars (meaning p (core_spine first (map core_link_of (take i links))) vars) → more ≡ out ++ node_line p link (core_spine first (map core_link_of (take i links))) k vars → out ++ spine_lines p first all after k vars ≡ whole → more ++ below_lines p first links above i false vars ≡ whole
+  node_ends links i all after link first shown k above out more whole is last next up which put so_far =
+      let left = core_spine first (map core_link_of (take i links)) in
+      ap (λ (b : Bool). more ++ (lines_if b (explained p left above vars) ++ links_lines p (drop i links) above vars (meaning p left vars))) (sym is)
+      ∙ node_put all (take i links) (drop i links) after link first shown k above out more whole last next up which put so_far
 
 -- values as variables, and the body that sees them
 pub lets_explained : (p : Population) (vs : List CoreTree) (body : CoreTree) (k : ℕ) (vars : List Value) → lets_lines p vs body k vars ++ explained p body (k + length vs) (bindings p vs vars) ≡ explained p (lets_of vs body) k vars
@@ -99,11 +120,16 @@ lets_explained p (w ∷ ws) body k vars =
 
 -- a first operand with its links
 module _ (core : Core) (first : Box Core Global) (links : Vec CoreLink Global) (is : core ≡ v.Spine first links) where
-  pub spine_parts : (p : Population) (vars : List Value) (k below : ℕ) → below ≡ k + length links.items → nodes_lines p links.items (core_view first.value) k vars ++ (explained p (core_view first.value) below vars ++ links_lines p links.items below vars (meaning p (core_view first.value) vars)) ≡ explained p (core_view core) k vars
-  spine_parts p vars k below deep =
-      ap (λ n. nodes_lines p links.items (core_view first.value) k vars ++ (explained p (core_view first.value) n vars ++ links_lines p links.items n vars (meaning p (core_view first.value) vars))) deep
-      ∙ spine_explained p vars links.items (core_view first.value) k
-      ∙ ap (λ t. explained p t k vars) (sym (ap core_view is ∙ core_view-Spine first links))
+  -- what is left below the nodes is put: the first operand, where it is shown, and what else the links have
+  pub spine_put : (p : Population) (vars : List Value) (k below from : ℕ) (whole : Bool) (w : Value) (out nodes operand new : List ℕ) → nodes ++ below_lines p (core_view first.value) links.items below from whole vars ≡ out ++ explained p (core_spine (core_view first.value) (map core_link_of links.items)) k vars → operand ≡ nodes ++ lines_if whole (explained p (core_view first.value) below vars) → w ≡ meaning p (core_spine (core_view first.value) (map core_link_of (take from links.items))) vars → new ≡ operand ++ links_lines p (drop from links.items) below vars w → new ≡ out ++ explained p (core_view core) k vars
+  spine_put p vars k below from whole w out nodes operand new before first_put value last =
+      let source = lines_if whole (explained p (core_view first.value) below vars) in
+      last
+      ∙ ap (λ (x : Value). operand ++ links_lines p (drop from links.items) below vars x) value
+      ∙ ap (λ xs. xs ++ links_lines p (drop from links.items) below vars (meaning p (core_spine (core_view first.value) (map core_link_of (take from links.items))) vars)) first_put
+      ∙ append_assoc nodes source (links_lines p (drop from links.items) below vars (meaning p (core_spine (core_view first.value) (map core_link_of (take from links.items))) vars))
+      ∙ before
+      ∙ ap (λ (t : CoreTree). out ++ explained p t k vars) (sym (ap core_view is ∙ core_view-Spine first links))
 
 -- values as variables, and the body that sees them
 module _ (core : Core) (values : Vec Core Global) (body : Box Core Global) (is : core ≡ v.Let values body) where
@@ -146,15 +172,11 @@ last_taken ls n l some within is =
     let same : n ≡ (n - 1) + 1 = omega (arith, some) in
     ap (λ m. take m ls) same ∙ take_more ls (n - 1) l (omega (arith, some, within)) ∙ ap (λ (x : CoreLink). take (n - 1) ls ++ x ∷ []) (sym is)
 
--- the last of the links that are left is put, above the others
-pub node_put : (p : Population) (vars : List Value) (first : CoreTree) (all before : List CoreLink) (link : CoreLink) (k above : ℕ) (out more whole : List ℕ) → all ≡ before ++ link ∷ [] → above ≡ suc k → more ≡ out ++ node_line p link (core_spine first (map core_link_of before)) k vars → out ++ nodes_lines p all first k vars ≡ whole → more ++ nodes_lines p before first above vars ≡ whole
-node_put p vars first all before link k above out more whole last up put so_far =
-    ap (λ xs. xs ++ nodes_lines p before first above vars) put
-    ∙ ap (λ n. (out ++ node_line p link (core_spine first (map core_link_of before)) k vars) ++ nodes_lines p before first n vars) up
-    ∙ append_assoc out (node_line p link (core_spine first (map core_link_of before)) k vars) (nodes_lines p before first (suc k) vars)
-    ∙ ap (λ xs. out ++ xs) (sym (last_node p vars before link first k))
-    ∙ ap (λ ls. out ++ nodes_lines p ls first k vars) (sym last)
-    ∙ so_far
+-- and off the front of those after it
+pub next_left : (ls : List CoreLink) (n : ℕ) (l : CoreLink) → 0 < n → n ≤ length ls → l ≡ get_or ls (n - 1) l → drop (n - 1) ls ≡ l ∷ drop n ls
+next_left ls n l some within is =
+    let same : suc (n - 1) ≡ n = omega (arith, some) in
+    drop-cons ls (n - 1) l (omega (arith, some, within)) ∙ ap (λ (x : CoreLink). x ∷ drop (suc (n - 1)) ls) (sym is) ∙ ap (λ m. l ∷ drop m ls) same
 
 -- the first of some elements, and how many more there are
 pub shown_lines : (f : List Element → List ℕ) (k most n : ℕ) (items : List OwnedElement) (es : List Element) → meant_elements items ≡ es → n ≡ min (length items) most → f (meant_elements (take n items)) ++ more_line k (length items - n) ≡ f (take most es) ++ more_line k (length es - most)
@@ -212,10 +234,15 @@ module _ (core : Core) (kind : Kind) (condition then_branch else_branch : Box Co
 
 -- ---- elements that decide
 
--- of those that decide so many are shown, and how many more there are
-pub iteration_shown : (i : Iteration) (show : Element → List ℕ) (body : Element → Value) (k : ℕ) (c : CollectionKind) (es : List Element) (items : List OwnedElement) (bs : List Value) (those : Deciding) (most n : ℕ) → bs ≡ map body es → those ≡ deciding i bs → most ≡ most_deciding those → meant_elements items ≡ kept_by (decides those) es bs → n ≡ min (length items) most → flat_map show (meant_elements (take n items)) ++ more_line k (length items - n) ≡ iteration_lines i show body k (Collection c es)
-iteration_shown i show body k c es items bs those most n bodies which most_is held is =
-    shown_lines (flat_map show) k most n items (kept_by (decides those) es bs) held is
-    ∙ ap (λ m. deciding_lines show k m (kept_by (decides those) es bs)) most_is
-    ∙ ap (λ (d : Deciding). deciding_lines show k (most_deciding d) (kept_by (decides d) es bs)) which
-    ∙ ap (λ xs. deciding_lines show k (most_deciding (deciding i xs)) (kept_by (decides (deciding i xs)) es xs)) bodies
+-- of a batch so many are shown, and how many more there are
+pub batch_shown : (show : Element → List ℕ) (k : ℕ) (g : Batch) (es : List Element) (bs : List Value) (items : List OwnedElement) (most n : ℕ) → most ≡ g.most → meant_elements items ≡ kept_by (decides g.which) es bs → n ≡ min (length items) most → flat_map show (meant_elements (take n items)) ++ more_line k (length items - n) ≡ batch_lines show k g es bs
+batch_shown show k g es bs items most n most_is held is =
+    shown_lines (flat_map show) k most n items (kept_by (decides g.which) es bs) held is
+    ∙ ap (λ m. deciding_lines show k m (kept_by (decides g.which) es bs)) most_is
+
+-- of an iteration two batches
+pub iteration_shown : (i : Iteration) (show : Element → List ℕ) (body : Element → Value) (k : ℕ) (c : CollectionKind) (es : List Element) (bs : List Value) (first second : Batch) → bs ≡ map body es → first ≡ deciding i bs → second ≡ beside i bs → batch_lines show k first es bs ++ batch_lines show k second es bs ≡ iteration_lines i show body k (Collection c es)
+iteration_shown i show body k c es bs first second bodies first_is second_is =
+    ap (λ (g : Batch). batch_lines show k g es bs ++ batch_lines show k second es bs) first_is
+    ∙ ap (λ (g : Batch). batch_lines show k (deciding i bs) es bs ++ batch_lines show k g es bs) second_is
+    ∙ ap (λ (xs : List Value). batch_lines show k (deciding i xs) es xs ++ batch_lines show k (beside i xs) es xs) bodies

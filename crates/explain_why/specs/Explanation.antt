@@ -1,9 +1,13 @@
 -- Why a rule has its verdict for an object: the verdict, and indented below it each part of the expression with its value.
 -- Each value is the part's meaning in the values of its variables.
-use Rattle.std.specs.Prelude.{ℕ, suc, ◌-◌, ◌*◌, ◌==◌, Bool, true, List, [], ◌∷◌, ◌++◌, length, take, map, replicate, codes, if◌then◌else◌}
+use Rattle.std.specs.Prelude.{ℕ, suc, ◌-◌, ◌*◌, ◌==◌, ◌||◌, Bool, true, false, not, List, [], ◌∷◌, ◌++◌, length, take, map, replicate, codes, if◌then◌else◌}
 use Rattle.std.specs.Fmt.{decimal}
 use Rattle.std.specs.List.{list_any, flat_map}
 use Rattle.imkl_population.specs.Population.{Population, object_at}
+use Rattle.ocl_core.specs.declared.operator.PlainOperator.{PlainOperator}
+use Rattle.ocl_core.specs.declared.operator.PlainOperator.TheVariants as plain
+use Rattle.ocl_core.specs.declared.operator.Operator.{Operator}
+use Rattle.ocl_core.specs.declared.operator.Operator.TheVariants.{Plain}
 use Rattle.ocl_core.specs.declared.core_tree.Iteration.{Iteration}
 use Rattle.ocl_core.specs.declared.core_tree.Iteration.TheVariants as iteration
 use Rattle.ocl_core.specs.Core as tree
@@ -12,11 +16,12 @@ use Rattle.rule_values.specs.declared.verdict.Verdict.{Verdict}
 use Rattle.rule_values.specs.declared.verdict.Verdict.TheVariants as verdict
 use Rattle.rule_values.specs.Value as value
 use Rattle.rule_values.specs.Value.{Element, Value, object_value, element_value}
-use Rattle.rule_values.specs.Operations.{or_invalid, value_read, is_true, is_false, is_invalid}
+use Rattle.rule_values.specs.Operations.{is_true, is_false, is_null, is_invalid}
 use Rattle.rule_values.specs.Endings.{is_undecided, kept_by}
-use Rattle.ocl_semantics.specs.Meaning.{operation_value, meaning, meanings, meant_verdict}
+use Rattle.ocl_semantics.specs.Meaning.{meaning, meanings, meant_verdict}
 use Rattle.explain_why.specs.declared.deciding.Deciding as declared
 use Rattle.explain_why.specs.declared.deciding.Deciding.TheVariants as held
+use Rattle.explain_why.specs.declared.deciding.Batch as declared_batch
 use Rattle.explain_why.specs.Values.{max_shown, value_text}
 use Rattle.explain_why.specs.Texts.{variable_name, text_of}
 use Rattle.explain_why.specs.Reasons.{operation_reason, feature_reason, choice_reason}
@@ -42,70 +47,140 @@ binding_line k n value = indent k ++ (named_value n value ++ 10 ∷ [])
 abbrev pub bindings_line : ℕ → ℕ → List ℕ → List ℕ → List ℕ
 bindings_line k n first second = indent k ++ (named_value n first ++ (codes ", " ++ (named_value (suc n) second ++ 10 ∷ [])))
 
+-- lines that are shown or left out
+abbrev pub lines_if : Bool → List ℕ → List ℕ
+lines_if shown lines = if shown then lines else []
+
+-- ---- operands that decide an operation
+
+-- whether the first operand decides, whatever the second is
+abbrev pub first_decides : PlainOperator → Value → Bool
+first_decides plain.And v = is_false v
+first_decides plain.Or v = is_true v
+first_decides plain.Implies v = is_false v
+first_decides operator v = false
+
+-- whether the second operand decides, whatever the first is
+abbrev pub second_decides : PlainOperator → Value → Bool
+second_decides plain.And w = is_false w
+second_decides plain.Or w = is_true w
+second_decides plain.Implies w = is_true w
+second_decides operator w = false
+
+-- the first operand is left out where it doesn't decide and the second does
+abbrev pub is_first_shown : Operator → Value → List Value → Bool
+is_first_shown (Plain operator) v (w ∷ ws) = first_decides operator v || not (second_decides operator w)
+is_first_shown operator v ws = true
+
+-- those after it are left out where it decides
+abbrev pub are_others_shown : Operator → Value → Bool
+are_others_shown (Plain operator) v = not (first_decides operator v)
+are_others_shown operator v = true
+
 -- ---- elements that decide an iteration
 
--- which bodies decide: those that are true, false, neither, invalid, or all
+-- which bodies: those that are true, false, neither, null, not null, invalid, all, or none
 pub data Deciding : Type 0 where
   True : Deciding
   False : Deciding
   Undecided : Deciding
+  Absent : Deciding
+  Present : Deciding
   Invalid : Deciding
   All : Deciding
+  Nothing : Deciding
 
 abbrev pub deciding_of : declared.Deciding → Deciding
 deciding_of held.True = True
 deciding_of held.False = False
 deciding_of held.Undecided = Undecided
+deciding_of held.Absent = Absent
+deciding_of held.Present = Present
 deciding_of held.Invalid = Invalid
 deciding_of held.All = All
+deciding_of held.Nothing = Nothing
 
 abbrev pub decides : Deciding → Value → Bool
 decides True b = is_true b
 decides False b = is_false b
 decides Undecided b = is_undecided b
+decides Absent b = is_null b
+decides Present b = not (is_null b)
 decides Invalid b = is_invalid b
 decides All b = true
+decides Nothing b = false
 
--- where a body is so those are, else all are
-abbrev pub those_or_all : Deciding → List Value → Deciding
-those_or_all d bs = if list_any (decides d) bs then d else All
+-- a batch of elements: those whose bodies are so, of which no more than that number are shown
+pub record Batch : Type 0 where
+  pub which : Deciding
+  pub most : ℕ
 
--- one that is so decides alone
-abbrev pub that_or_undecided : Deciding → List Value → Deciding
-that_or_undecided d bs = if list_any (decides d) bs then d else those_or_all Undecided bs
+abbrev pub batch_of : declared_batch.Batch → Batch
+batch_of g = record { which = deciding_of g.which; most = g.most }
 
-abbrev pub deciding : Iteration → List Value → Deciding
-deciding iteration.ForAll bs = that_or_undecided False bs
-deciding iteration.Exists bs = that_or_undecided True bs
-deciding iteration.One bs = those_or_all Undecided bs
-deciding iteration.Select bs = those_or_all Undecided bs
-deciding iteration.Reject bs = those_or_all Undecided bs
-deciding iteration.Collect bs = those_or_all Invalid bs
-deciding iteration.CollectFlat bs = those_or_all Invalid bs
-deciding (iteration.IsUnique k) bs = those_or_all Invalid bs
+-- as many as are shown of those that decide
+abbrev pub deciding_batch : Deciding → Batch
+deciding_batch d = record { which = d; most = max_shown }
+
+-- as many as are shown of those of which none stands out
+abbrev pub max_beside : ℕ
+max_beside = 3
+
+abbrev pub beside_batch : Deciding → Batch
+beside_batch d = record { which = d; most = max_beside }
+
+-- one batch where a body is so, else another
+abbrev pub where_any : Deciding → Batch → Batch → List Value → Batch
+where_any d g h bs = if list_any (decides d) bs then g else h
+
+-- another batch, unless a body is undecided
+abbrev pub unless_undecided : Batch → List Value → Batch
+unless_undecided g bs = where_any Undecided (deciding_batch Undecided) g bs
+
+-- the first batch that is shown of an iteration: the elements that decide, else some of all
+abbrev pub deciding : Iteration → List Value → Batch
+deciding iteration.ForAll bs = where_any False (deciding_batch False) (unless_undecided (beside_batch All) bs) bs
+deciding iteration.Exists bs =
+    where_any True (record { which = True; most = 1 }) (unless_undecided (beside_batch All) bs) bs
+deciding iteration.One bs = unless_undecided (where_any True (deciding_batch True) (beside_batch All) bs) bs
+deciding iteration.Select bs = unless_undecided (deciding_batch True) bs
+deciding iteration.Reject bs = unless_undecided (deciding_batch False) bs
+deciding iteration.Collect bs =
+    where_any Invalid (deciding_batch Invalid) (where_any Absent (deciding_batch Absent) (deciding_batch All) bs) bs
+deciding iteration.CollectFlat bs = where_any Invalid (deciding_batch Invalid) (deciding_batch All) bs
+deciding (iteration.IsUnique k) bs = where_any Invalid (deciding_batch Invalid) (beside_batch All) bs
+
+-- no batch
+abbrev pub no_batch : Batch
+no_batch = record { which = Nothing; most = 0 }
+
+-- the second batch: of `select` and `reject` the elements that aren't kept, of `collect` those that aren't null beside those that are
+abbrev pub beside : Iteration → List Value → Batch
+beside iteration.Select bs = where_any Undecided no_batch (beside_batch False) bs
+beside iteration.Reject bs = where_any Undecided no_batch (beside_batch True) bs
+beside iteration.Collect bs = where_any Invalid no_batch (where_any Absent (beside_batch Present) no_batch bs) bs
+beside i bs = no_batch
 
 -- an element that is to be kept, in a list
 abbrev pub kept_element : Bool → Element → List Element
 kept_element keep e = if keep then e ∷ [] else []
 
--- so many of them are shown
-abbrev pub most_deciding : Deciding → ℕ
-most_deciding True = 1
-most_deciding False = 1
-most_deciding d = max_shown
-
 -- how many more there are, where there are more
 abbrev pub more_line : ℕ → ℕ → List ℕ
 more_line k n = if n == 0 then [] else (indent k ++ (codes "and " ++ (decimal n ++ codes " more\n")))
 
--- the lines of the elements that decide, of which no more than that number are shown
+-- the lines of elements, of which no more than that number are shown
 abbrev pub deciding_lines : (Element → List ℕ) → ℕ → ℕ → List Element → List ℕ
 deciding_lines show k most es = flat_map show (take most es) ++ more_line k (length es - most)
+
+-- the lines of a batch, by what the body gives for each element
+abbrev pub batch_lines : (Element → List ℕ) → ℕ → Batch → List Element → List Value → List ℕ
+batch_lines show k g es bs = deciding_lines show k g.most (kept_by (decides g.which) es bs)
 
 -- the lines of an iteration over a collection, by what its body gives for each element
 abbrev pub iteration_lines : Iteration → (Element → List ℕ) → (Element → Value) → ℕ → Value → List ℕ
 iteration_lines i show body k (value.Collection c es) =
-    deciding_lines show k (most_deciding (deciding i (map body es))) (kept_by (decides (deciding i (map body es))) es (map body es))
+    batch_lines show k (deciding i (map body es)) es (map body es) ++ batch_lines show k (beside i (map body es)) es (map body es)
 iteration_lines i show body k v = []
 
 -- the lines of elements of a fold, each with what is accumulated before it
@@ -149,7 +224,8 @@ module _ (p : Population) where
         ++ explained source (suc k) vars
     explained (tree.Operation operator first others) k vars =
         part_of (tree.Operation operator first others) k vars (operation_reason p operator (meaning p first vars) (meanings p others vars) (meaning p (tree.Operation operator first others) vars))
-        ++ (explained first (suc k) vars ++ all_explained others (suc k) vars)
+        ++ (lines_if (is_first_shown operator (meaning p first vars) (meanings p others vars)) (explained first (suc k) vars)
+        ++ lines_if (are_others_shown operator (meaning p first vars)) (all_explained others (suc k) vars))
     explained (tree.AsCollection c kind source) k vars =
         part_of (tree.AsCollection c kind source) k vars [] ++ explained source (suc k) vars
     explained (tree.Iterate i source body) k vars =

@@ -3,6 +3,7 @@ pub mod Values
 pub mod Texts
 pub mod Reasons
 pub mod Explanation
+pub mod Laws
 -- Bookkeeping: what only proofs and private contracts use.
 pub mod TextWalk
 pub mod PartWalk

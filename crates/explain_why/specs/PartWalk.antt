@@ -1,15 +1,15 @@
 -- Explanations in parts: of a link on what stands before it, of an element, of a variable, and of lists of them.
-use Rattle.std.specs.Prelude.{ℕ, suc, ◌+◌, ◌-◌, List, [], ◌∷◌, ◌++◌, length}
+use Rattle.std.specs.Prelude.{ℕ, suc, ◌-◌, Bool, true, List, [], ◌∷◌, ◌++◌, map, take, drop}
 use Rattle.imkl_population.specs.Population.{Population}
 use Rattle.ocl_core.specs.declared.core_tree.CoreLink.{CoreLink}
 use Rattle.ocl_core.specs.Core as tree
 use Rattle.ocl_core.specs.Core.{CoreTree, lets_of}
-use Rattle.ocl_core.specs.CoreView.{core_link_of}
+use Rattle.ocl_core.specs.CoreView.{core_link_of, core_spine}
 use Rattle.rule_values.specs.Value.{Element, Value, element_value}
 use Rattle.ocl_semantics.specs.Meaning.{meaning, meanings}
 use Rattle.ocl_semantics.specs.Evaluated.{on_null, link_value}
 use Rattle.explain_why.specs.Reasons.{operation_reason, feature_reason}
-use Rattle.explain_why.specs.Explanation.{iteration_lines, accumulation_lines, part_of, next_line, step_line, explained, all_explained}
+use Rattle.explain_why.specs.Explanation.{lines_if, is_first_shown, are_others_shown, iteration_lines, accumulation_lines, part_of, next_line, step_line, explained, all_explained}
 
 module _ (p : Population) where
   -- why what a node makes of the value of its first operand is null or invalid
@@ -23,11 +23,6 @@ module _ (p : Population) where
   node_line link left k vars =
       part_of p (core_link_of link left) k vars (node_reason (on_null link) vars (meaning p left vars) (meaning p (core_link_of link left) vars))
 
-  -- links one after another on a tree, the last first
-  abbrev pub nodes_lines : List CoreLink → CoreTree → ℕ → List Value → List ℕ
-  nodes_lines [] first k vars = []
-  nodes_lines (l ∷ ls) first k vars = nodes_lines ls (core_link_of l first) k vars ++ node_line l first (k + length ls) vars
-
   -- an element with the parts of a body
   abbrev pub element_lines : CoreTree → ℕ → List Value → Element → List ℕ
   element_lines body k vars e = next_line p k vars (element_value e) ++ explained p body (suc k) (element_value e ∷ vars)
@@ -38,7 +33,7 @@ module _ (p : Population) where
 
   -- the parts of a node besides its first operand, which has this value
   abbrev pub rest_lines : CoreTree → ℕ → List Value → Value → List ℕ
-  rest_lines (tree.Operation operator first others) k vars v = all_explained p others k vars
+  rest_lines (tree.Operation operator first others) k vars v = lines_if (are_others_shown operator v) (all_explained p others k vars)
   rest_lines (tree.Iterate i source body) k vars v =
       iteration_lines i (element_lines body k vars) (λ e. meaning p body (element_value e ∷ vars)) k v
   rest_lines (tree.Fold kind source start body) k vars v =
@@ -52,6 +47,21 @@ module _ (p : Population) where
   abbrev pub links_lines : List CoreLink → ℕ → List Value → Value → List ℕ
   links_lines [] k vars v = []
   links_lines (l ∷ ls) k vars v = link_lines l k vars v ++ links_lines ls (k - 1) vars (link_value p vars v l)
+
+  -- whether a node's first operand, which has this value, is shown
+  abbrev pub is_source_shown : CoreTree → List Value → Value → Bool
+  is_source_shown (tree.Operation operator first others) vars v = is_first_shown operator v (meanings p others vars)
+  is_source_shown t vars v = true
+
+  -- links on a tree, up to a link and from there on: the parts of what stands before that link, and those of the links after it
+  abbrev pub spine_lines : CoreTree → List CoreLink → List CoreLink → ℕ → List Value → List ℕ
+  spine_lines first before after k vars =
+      explained p (core_spine first (map core_link_of before)) k vars ++ links_lines after k vars (meaning p (core_spine first (map core_link_of before)) vars)
+
+  -- what is left where the nodes from a link on are put: the first operand, where it is shown, and what else those links have
+  abbrev pub below_lines : CoreTree → List CoreLink → ℕ → ℕ → Bool → List Value → List ℕ
+  below_lines first links k from whole vars =
+      lines_if whole (explained p first k vars) ++ links_lines (drop from links) k vars (meaning p (core_spine first (map core_link_of (take from links))) vars)
 
   -- a variable that is bound to what a tree means, with the tree's parts
   abbrev pub bound_lines : CoreTree → ℕ → List Value → List ℕ

@@ -1,18 +1,21 @@
-//! Which elements decide the result of an iteration.
+//! Which elements decide the result of an iteration, and how many of them are shown.
 
 ghost use Rattle.std.specs.Prelude.{◌≡◌, ◌++◌, length, map, IfOk, OnOk};
 ghost use Rattle.std.specs.List.{list_any};
 ghost use Rattle.rule_values.specs.Endings.{kept_by};
 ghost use Rattle.owned_values.specs.Meant.{meant, meant_element, meant_elements};
-ghost use Rattle.explain_why.specs.Explanation.{deciding_of, decides, those_or_all, that_or_undecided, deciding, most_deciding, kept_element};
+ghost use Rattle.explain_why.specs.Explanation.{deciding_of, decides, batch_of, deciding_batch, max_beside, beside_batch, where_any, unless_undecided, deciding, no_batch, beside, kept_element};
 
 use crate::values::MAX_SHOWN;
 use ocl_base::{OutOfMemory, push};
 use ocl_core::Iteration;
-use owned_values::{Element, Value, copy_of, is_false, is_invalid, is_true};
+use owned_values::{Element, Value, copy_of, is_false, is_invalid, is_null, is_true};
 use std::alloc::Global;
 
-/// Which bodies decide.
+/// The greatest number of elements that are shown of those of which none stands out.
+const MAX_BESIDE: usize = 3;
+
+/// Bodies of an iteration.
 #[derive(Clone, Copy, Debug)]
 pub(crate) enum Deciding {
     /// Those that are true.
@@ -21,14 +24,20 @@ pub(crate) enum Deciding {
     False,
     /// Those that are neither.
     Undecided,
+    /// Those that are null.
+    Absent,
+    /// Those that are not null.
+    Present,
     /// Those that are invalid.
     Invalid,
     /// All.
     All,
+    /// None.
+    Nothing,
 }
 
 impl Deciding {
-    /// Whether a body is one of those that decide.
+    /// Whether a body is one of those.
     fn decides(self, body: &Value<'_>) -> bool
         ensures { result ≡ decides (deciding_of self) (meant body.now) }
     {
@@ -36,8 +45,11 @@ impl Deciding {
             Deciding::True => is_true(body),
             Deciding::False => is_false(body),
             Deciding::Undecided => !(is_true(body) || is_false(body)),
+            Deciding::Absent => is_null(body),
+            Deciding::Present => !is_null(body),
             Deciding::Invalid => is_invalid(body),
             Deciding::All => true,
+            Deciding::Nothing => false,
         }
     }
 
@@ -52,53 +64,124 @@ impl Deciding {
         }
         false
     }
+}
 
+/// Elements of which some are shown: those whose bodies are so, and at most so many.
+#[derive(Clone, Copy, Debug)]
+pub(crate) struct Batch {
+    /// Which they are.
+    pub(crate) which: Deciding,
     /// The greatest number of them that is shown.
-    pub(crate) fn most(self) -> usize
-        ensures { result ≡ most_deciding (deciding_of self) }
-    {
-        match self {
-            Deciding::True | Deciding::False => 1,
-            _ => MAX_SHOWN,
+    pub(crate) most: usize,
+}
+
+/// Those, as many as are shown of elements that decide.
+fn deciding_batch(which: Deciding) -> Batch
+    ensures { batch_of result ≡ deciding_batch (deciding_of which) }
+{
+    Batch {
+        which,
+        most: MAX_SHOWN,
+    }
+}
+
+/// Those, as many as are shown of elements of which none stands out.
+fn beside_batch(which: Deciding) -> Batch
+    ensures { batch_of result ≡ beside_batch (deciding_of which) }
+{
+    Batch {
+        which,
+        most: MAX_BESIDE,
+    }
+}
+
+/// No elements.
+fn no_batch() -> Batch
+    ensures { batch_of result ≡ no_batch }
+{
+    Batch {
+        which: Deciding::Nothing,
+        most: 0,
+    }
+}
+
+/// One batch where one of the bodies is one of those, else another.
+fn where_any(those: Deciding, batch: Batch, other: Batch, bodies: &[Value<'_>]) -> Batch
+    ensures { batch_of result ≡
+        where_any (deciding_of those) (batch_of batch) (batch_of other) (map meant bodies.now) }
+{
+    if those.is_any(bodies) { batch } else { other }
+}
+
+/// The elements whose bodies are undecided where there are some, else another batch.
+fn unless_undecided(other: Batch, bodies: &[Value<'_>]) -> Batch
+    ensures { batch_of result ≡ unless_undecided (batch_of other) (map meant bodies.now) }
+{
+    let undecided = deciding_batch(Deciding::Undecided);
+    where_any(Deciding::Undecided, undecided, other, bodies)
+}
+
+/// The first batch that is shown of an iteration: the elements that decide, else some of all.
+pub(crate) fn batch_that_decides(iteration: &Iteration, bodies: &[Value<'_>]) -> Batch
+    ensures { batch_of result ≡ deciding iteration.now (map meant bodies.now) }
+{
+    let some = beside_batch(Deciding::All);
+    let invalid = deciding_batch(Deciding::Invalid);
+    match iteration {
+        Iteration::ForAll => {
+            let other = unless_undecided(some, bodies);
+            let those = deciding_batch(Deciding::False);
+            where_any(Deciding::False, those, other, bodies)
         }
+        Iteration::Exists => {
+            let other = unless_undecided(some, bodies);
+            let first = Batch {
+                which: Deciding::True,
+                most: 1,
+            };
+            where_any(Deciding::True, first, other, bodies)
+        }
+        Iteration::One => {
+            let those = deciding_batch(Deciding::True);
+            let other = where_any(Deciding::True, those, some, bodies);
+            unless_undecided(other, bodies)
+        }
+        Iteration::Select => unless_undecided(deciding_batch(Deciding::True), bodies),
+        Iteration::Reject => unless_undecided(deciding_batch(Deciding::False), bodies),
+        Iteration::Collect => {
+            let all = deciding_batch(Deciding::All);
+            let absent = deciding_batch(Deciding::Absent);
+            let other = where_any(Deciding::Absent, absent, all, bodies);
+            where_any(Deciding::Invalid, invalid, other, bodies)
+        }
+        Iteration::CollectFlat => {
+            let all = deciding_batch(Deciding::All);
+            where_any(Deciding::Invalid, invalid, all, bodies)
+        }
+        Iteration::IsUnique(_) => where_any(Deciding::Invalid, invalid, some, bodies),
     }
 }
 
-/// Those where there are some, else all.
-fn those_or_all(those: Deciding, bodies: &[Value<'_>]) -> Deciding
-    ensures { deciding_of result ≡ those_or_all (deciding_of those) (map meant bodies.now) }
-{
-    if those.is_any(bodies) {
-        those
-    } else {
-        Deciding::All
-    }
-}
-
-/// Those where there are some, else those that are undecided where there are some, else all.
-fn that_or_undecided(that: Deciding, bodies: &[Value<'_>]) -> Deciding
-    ensures { deciding_of result ≡ that_or_undecided (deciding_of that) (map meant bodies.now) }
-{
-    if that.is_any(bodies) {
-        that
-    } else {
-        those_or_all(Deciding::Undecided, bodies)
-    }
-}
-
-/// Which bodies decide what an iteration gives.
-pub(crate) fn bodies_that_decide(iteration: Iteration, bodies: &[Value<'_>]) -> Deciding
-    ensures { deciding_of result ≡ deciding iteration (map meant bodies.now) }
+/// The second batch that is shown of an iteration: of `select` and `reject` the elements that aren't kept, of `collect` those
+/// that aren't null beside those that are.
+pub(crate) fn batch_beside(iteration: &Iteration, bodies: &[Value<'_>]) -> Batch
+    ensures { batch_of result ≡ beside iteration.now (map meant bodies.now) }
 {
     match iteration {
-        Iteration::ForAll => that_or_undecided(Deciding::False, bodies),
-        Iteration::Exists => that_or_undecided(Deciding::True, bodies),
-        Iteration::One | Iteration::Select | Iteration::Reject => {
-            those_or_all(Deciding::Undecided, bodies)
+        Iteration::Select => {
+            let others = beside_batch(Deciding::False);
+            where_any(Deciding::Undecided, no_batch(), others, bodies)
         }
-        Iteration::Collect | Iteration::CollectFlat | Iteration::IsUnique(_) => {
-            those_or_all(Deciding::Invalid, bodies)
+        Iteration::Reject => {
+            let others = beside_batch(Deciding::True);
+            where_any(Deciding::Undecided, no_batch(), others, bodies)
         }
+        Iteration::Collect => {
+            let others = beside_batch(Deciding::Present);
+            let beside = where_any(Deciding::Absent, others, no_batch(), bodies);
+            where_any(Deciding::Invalid, no_batch(), beside, bodies)
+        }
+        _ => no_batch(),
     }
 }
 
@@ -117,7 +200,7 @@ fn keep_if<'a>(
     Ok(())
 }
 
-/// The elements whose bodies decide.
+/// The elements whose bodies are those.
 pub(crate) fn deciding_elements<'a>(
     alloc: Global,
     deciding: Deciding,

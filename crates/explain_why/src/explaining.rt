@@ -1,6 +1,6 @@
 //! The explanation of a verdict, part by part.
 
-ghost use Rattle.std.specs.Prelude.{◌≡◌, [], ◌∷◌, ◌++◌, ◌+◌, ◌<◌, length, map, drop, IfOk, OnOk, string_bytes};
+ghost use Rattle.std.specs.Prelude.{◌≡◌, [], ◌∷◌, ◌++◌, ◌+◌, ◌<◌, ◌≤◌, length, map, take, drop, IfOk, OnOk, string_bytes};
 ghost use Rattle.std.specs.List.{AllByRecursion, flat_map};
 ghost use Rattle.ocl_core.specs.Core.{cores_of, lets_of};
 ghost use Rattle.ocl_core.specs.CoreView.{core_view, core_link_of, core_spine, checked_rule_of};
@@ -11,10 +11,11 @@ ghost use Rattle.owned_values.specs.Meant.{meant, meant_element, meant_elements,
 ghost use Rattle.ocl_semantics.specs.Resolved.{IsResolved, AreResolved, AreThere};
 ghost use Rattle.ocl_semantics.specs.Evaluated.{bindings, on_null, IsLinkResolved, AreLinksResolved};
 ghost use Rattle.explain_why.specs.Values.{value_text};
-ghost use Rattle.explain_why.specs.Explanation.{part_line, named_value, binding_line, bindings_line, iteration_lines, steps_lines, accumulation_lines, part_of, explained, all_explained, verdict_word, verdict_line, explanation};
-ghost use Rattle.explain_why.specs.PartWalk.{node_reason, node_line, nodes_lines, element_lines, step_lines, link_lines, links_lines, bound_lines, lets_lines};
+ghost use Rattle.explain_why.specs.Explanation.{lines_if, part_line, named_value, binding_line, bindings_line, batch_of, batch_lines, iteration_lines, steps_lines, accumulation_lines, part_of, explained, all_explained, verdict_word, verdict_line, explanation};
+ghost use Rattle.explain_why.specs.PartWalk.{node_reason, node_line, is_source_shown, below_lines, element_lines, step_lines, link_lines, links_lines, bound_lines, lets_lines};
 
-use crate::deciding::{bodies_that_decide, deciding_elements};
+use crate::deciding::{Batch, batch_beside, batch_that_decides, deciding_elements};
+use crate::operands::{are_others_shown, is_first_shown};
 use crate::pieces::{put, put_indent, put_more};
 use crate::reasons::{choice_reason, put_feature_reason, put_operation_reason};
 use crate::texts::{let_text, link_text, next, put_variable, spine_text, text_of};
@@ -151,9 +152,18 @@ fn explain<'a>(
         Core::AllInstances { .. } => put_tree(alloc, out, population, level, core, "", variables),
         Core::Spine { first, links } => {
             let below = put_nodes(alloc, out, population, level, first, links, variables)?;
-            explain(alloc, out, population, below, first, variables)?;
-            let value = evaluate(alloc, population, first, variables)?;
-            explain_links(alloc, out, population, below, value, links, variables)
+            let (level, from) = (below.level, below.from);
+            explain_if(
+                alloc,
+                out,
+                population,
+                level,
+                below.is_whole,
+                first,
+                variables,
+            )?;
+            let value = value_before(alloc, population, first, links, from, variables)?;
+            explain_links(alloc, out, population, level, value, links, from, variables)
         }
         Core::Let { values, body } => {
             let whole = evaluate(alloc, population, core, variables)?;
@@ -184,6 +194,29 @@ fn explain<'a>(
             }
         }
     }
+}
+
+/// Puts the parts of a tree at a level, and below it, if it is shown.
+#[cycle(explain)]
+fn explain_if<'a>(
+    alloc: Global,
+    out: &mut String,
+    population: &'a Population<'_>,
+    level: usize,
+    is_shown: bool,
+    core: &'a Core,
+    variables: &mut Variables<'a>,
+) -> Result<(), OutOfMemory>
+    requires resolved { IsResolved population.now.content.model (core_view core.now) }
+    requires there { AreThere population.now.content variables.old }
+    ensures text { OnOk result (string_bytes out.new ≡ string_bytes out.old ++ lines_if is_shown
+        (explained population.now.content (core_view core.now) level variables.old)) }
+    ensures kept { OnOk result (variables.new ≡ variables.old) }
+{
+    if is_shown {
+        return explain(alloc, out, population, level, core, variables);
+    }
+    Ok(())
 }
 
 /// Puts each of values as variables of a body: the `let` with the values that are left and the body, and below it the
@@ -275,8 +308,40 @@ fn spine_value<'a>(
     evaluate_links(alloc, population, value, links, variables)
 }
 
-/// Puts links on a first operand, the last first, each below what stands on it, with its value. It answers the level of
-/// the first operand.
+/// Computes the value of a first operand with the links before the one of this number.
+fn value_before<'a>(
+    alloc: Global,
+    population: &'a Population<'_>,
+    first: &'a Core,
+    links: &'a [CoreLink],
+    from: usize,
+    variables: &mut Variables<'a>,
+) -> Result<Value<'a>, OutOfMemory>
+    requires first { IsResolved population.now.content.model (core_view first.now) }
+    requires links { AreLinksResolved population.now.content.model links.now }
+    requires from { from ≤ length links.now }
+    requires there { AreThere population.now.content variables.old }
+    ensures value { IfOk result (λ v. meant v ≡ meaning population.now.content (core_spine
+        (core_view first.now) (map core_link_of (take from links.now))) variables.old) }
+    ensures there { IfOk result (λ v. IsValueThere population.now.content (meant v)) }
+    ensures kept { OnOk result (variables.new ≡ variables.old) }
+{
+    spine_value(alloc, population, first, &links[..from], variables)
+}
+
+/// What is left to put below the nodes of links.
+#[derive(Clone, Copy, Debug)]
+struct Below {
+    /// The level of what is left.
+    level: usize,
+    /// The number of the first link whose node was put.
+    from: usize,
+    /// Whether the first operand is to be put too.
+    is_whole: bool,
+}
+
+/// Puts links on a first operand, the last first, each below what stands on it, with its value, down to one that is decided
+/// without what stands before it. It answers what is left.
 fn put_nodes<'a>(
     alloc: Global,
     out: &mut String,
@@ -285,28 +350,42 @@ fn put_nodes<'a>(
     first: &'a Core,
     links: &'a [CoreLink],
     variables: &mut Variables<'a>,
-) -> Result<usize, OutOfMemory>
+) -> Result<Below, OutOfMemory>
     requires first { IsResolved population.now.content.model (core_view first.now) }
     requires links { AreLinksResolved population.now.content.model links.now }
     requires there { AreThere population.now.content variables.old }
-    ensures text { OnOk result (string_bytes out.new ≡ string_bytes out.old ++ nodes_lines
-        population.now.content links.now (core_view first.now) level variables.old) }
-    ensures level { IfOk result (λ n. n ≡ level + length links.now) }
+    ensures text { IfOk result (λ b. string_bytes out.new ++ below_lines population.now.content
+        (core_view first.now) links.now b.level b.from b.is_whole variables.old ≡
+        string_bytes out.old ++ explained population.now.content
+        (core_spine (core_view first.now) (map core_link_of links.now)) level variables.old) }
+    ensures within { IfOk result (λ b. b.from ≤ length links.now) }
     ensures kept { OnOk result (variables.new ≡ variables.old) }
 {
     let mut level = level;
     for index in (0..links.len()).rev() {
         let (before, link) = (&links[..index], &links[index]);
-        put_node(
+        let is_shown = put_node(
             alloc, out, population, level, first, before, link, variables,
         )?;
         level = next(level)?;
+        if !is_shown {
+            return Ok(Below {
+                level,
+                from: index,
+                is_whole: false,
+            });
+        }
     }
-    Ok(level)
+    Ok(Below {
+        level,
+        from: 0,
+        is_whole: true,
+    })
 }
 
-/// Puts the parts of links on an operand of this value besides that operand: other operands, and the bodies of the elements
-/// that decide. The first link's stand at a level, those of each later one a level above.
+/// Puts the parts of the links from one of this number on, besides the operand of that one, which has this value: other
+/// operands, and the bodies of the elements that decide. The first link's stand at a level, those of each later one a level
+/// above.
 #[cycle(explain)]
 fn explain_links<'a>(
     alloc: Global,
@@ -315,18 +394,21 @@ fn explain_links<'a>(
     level: usize,
     first: Value<'a>,
     links: &'a [CoreLink],
+    from: usize,
     variables: &mut Variables<'a>,
 ) -> Result<(), OutOfMemory>
     requires first { IsValueThere population.now.content (meant first) }
     requires links { AreLinksResolved population.now.content.model links.now }
+    requires from { from ≤ length links.now }
     requires there { AreThere population.now.content variables.old }
     ensures text { OnOk result (string_bytes out.new ≡ string_bytes out.old ++ links_lines
-        population.now.content links.now level variables.old (meant first.entry)) }
+        population.now.content (drop from links.now) level variables.old (meant first.entry)) }
     ensures kept { OnOk result (variables.new ≡ variables.old) }
 {
     let mut level = level;
     let mut value = first;
-    'links: for link in links {
+    'links: for index in from..links.len() {
+        let link = &links[index];
         explain_link(alloc, out, population, level, &value, link, variables)?;
         value = evaluate_link(alloc, population, &value, link, variables)?;
         level = level.saturating_sub(1);
@@ -334,7 +416,8 @@ fn explain_links<'a>(
     Ok(())
 }
 
-/// Puts a link on what stands before it, with its value, and why that is null or invalid.
+/// Puts a link on what stands before it, with its value, and why that is null or invalid. It answers whether what stands
+/// before it is shown.
 fn put_node<'a>(
     alloc: Global,
     out: &mut String,
@@ -344,7 +427,7 @@ fn put_node<'a>(
     before: &'a [CoreLink],
     link: &'a CoreLink,
     variables: &mut Variables<'a>,
-) -> Result<(), OutOfMemory>
+) -> Result<bool, OutOfMemory>
     requires first { IsResolved population.now.content.model (core_view first.now) }
     requires before { AreLinksResolved population.now.content.model before.now }
     requires link { IsLinkResolved population.now.content.model link.now }
@@ -352,6 +435,9 @@ fn put_node<'a>(
     ensures text { OnOk result (string_bytes out.new ≡ string_bytes out.old ++ node_line
         population.now.content link.now
         (core_spine (core_view first.now) (map core_link_of before.now)) level variables.old) }
+    ensures shown { IfOk result (λ b. b ≡ is_source_shown population.now.content
+        (on_null link.now) variables.old (meaning population.now.content
+        (core_spine (core_view first.now) (map core_link_of before.now)) variables.old)) }
     ensures kept { OnOk result (variables.new ≡ variables.old) }
 {
     let seen = variables.len();
@@ -360,7 +446,33 @@ fn put_node<'a>(
     let source = spine_value(alloc, population, first, before, variables)?;
     let gave = evaluate_link(alloc, population, &source, link, variables)?;
     let reason = link_reason(alloc, population, link, &source, &gave, variables)?;
-    put_part(alloc, out, population, level, &text.text, &gave, &reason)
+    put_part(alloc, out, population, level, &text.text, &gave, &reason)?;
+    is_source_shown(alloc, population, link, &source, variables)
+}
+
+/// Whether what stands before a link, which has this value, is shown.
+#[tactic(auto, using(ocl_core::proofs::ForAbove::views))]
+fn is_source_shown<'a>(
+    alloc: Global,
+    population: &'a Population<'_>,
+    link: &'a CoreLink,
+    source: &Value<'a>,
+    variables: &mut Variables<'a>,
+) -> Result<bool, OutOfMemory>
+    requires link { IsLinkResolved population.now.content.model link.now }
+    requires there { AreThere population.now.content variables.old }
+    ensures shown { IfOk result (λ b. b ≡ is_source_shown population.now.content
+        (on_null link.now) variables.old (meant source.now)) }
+    ensures kept { OnOk result (variables.new ≡ variables.old) }
+{
+    match link {
+        CoreLink::Operation { operator, others } => {
+            let others = evaluate_all(alloc, population, others, variables)?;
+            Ok(is_first_shown(*operator, source, &others))
+        }
+        CoreLink::Feature { .. } | CoreLink::AsCollection { .. } => Ok(true),
+        CoreLink::Iterate { .. } | CoreLink::Fold { .. } => Ok(true),
+    }
 }
 
 /// Why what a link makes of a value is null or invalid.
@@ -415,8 +527,12 @@ fn explain_link<'a>(
 {
     match link {
         CoreLink::Feature { .. } | CoreLink::AsCollection { .. } => Ok(()),
-        CoreLink::Operation { others, .. } => {
-            explain_all(alloc, out, population, level, others, variables)
+        CoreLink::Operation { operator, others } => {
+            if are_others_shown(*operator, source) {
+                explain_all(alloc, out, population, level, others, variables)
+            } else {
+                Ok(())
+            }
         }
         CoreLink::Iterate { iteration, body } => {
             explain_iteration(
@@ -456,7 +572,7 @@ fn explain_all<'a>(
     Ok(())
 }
 
-/// Puts the elements that decide an iteration, each with the parts of its body.
+/// Puts the elements that decide an iteration, and some of the others, each with the parts of its body.
 #[cycle(explain)]
 fn explain_iteration<'a>(
     alloc: Global,
@@ -482,9 +598,40 @@ fn explain_iteration<'a>(
         return Ok(());
     };
     let bodies = evaluate_bodies(alloc, population, elements, body, variables)?;
-    let those = bodies_that_decide(iteration, &bodies);
-    let chosen = deciding_elements(alloc, those, elements, &bodies)?;
-    let shown = chosen.len().min(those.most());
+    let first = batch_that_decides(&iteration, &bodies);
+    explain_batch(
+        alloc, out, population, level, &first, elements, &bodies, body, variables,
+    )?;
+    let second = batch_beside(&iteration, &bodies);
+    explain_batch(
+        alloc, out, population, level, &second, elements, &bodies, body, variables,
+    )
+}
+
+/// Puts a batch of elements by their bodies, each with the parts of its body, and how many more there are.
+#[cycle(explain)]
+fn explain_batch<'a>(
+    alloc: Global,
+    out: &mut String,
+    population: &'a Population<'_>,
+    level: usize,
+    batch: &Batch,
+    elements: &[Element<'a>],
+    bodies: &[Value<'a>],
+    body: &'a Core,
+    variables: &mut Variables<'a>,
+) -> Result<(), OutOfMemory>
+    requires bodies { length bodies.now ≡ length elements.now }
+    requires elements { AreElementsThere population.now.content (meant_elements elements.now) }
+    requires body { IsResolved population.now.content.model (core_view body.now) }
+    requires there { AreThere population.now.content variables.old }
+    ensures text { OnOk result (string_bytes out.new ≡ string_bytes out.old ++ batch_lines
+        (element_lines population.now.content (core_view body.now) level variables.old) level
+        (batch_of batch.now) (meant_elements elements.now) (map meant bodies.now)) }
+    ensures kept { OnOk result (variables.new ≡ variables.old) }
+{
+    let chosen = deciding_elements(alloc, batch.which, elements, bodies)?;
+    let shown = chosen.len().min(batch.most);
     explain_elements(
         alloc,
         out,

@@ -4,6 +4,8 @@
 
 mod deciding;
 mod explaining;
+pub mod laws;
+mod operands;
 mod pieces;
 mod reasons;
 mod texts;

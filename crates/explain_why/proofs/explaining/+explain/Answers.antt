@@ -8,11 +8,11 @@ use Rattle.rule_values.specs.Value.{element_value}
 use Rattle.owned_values.specs.Meant.{meant, meant_elements, AreElementsThere}
 use Rattle.owned_values.proofs.ForAbove.{kept_there}
 use Rattle.ocl_semantics.proofs.ForAbove.{spine_names, let_names}
-use Rattle.explain_why.proofs.Left.{first_there}
+use Rattle.explain_why.proofs.Left.{first_there, left_all}
 use Rattle.explain_why.specs.Values.{max_shown}
-use Rattle.explain_why.specs.Explanation.{deciding_of, steps_lines}
+use Rattle.explain_why.specs.Explanation.{batch_of, steps_lines}
 use Rattle.explain_why.specs.PartWalk.{element_lines, step_lines}
-use Rattle.explain_why.proofs.PartNodes.{let_value, spine_parts, let_parts, first_parts, second_parts, no_parts, iterate_lines, fold_lines, shown_lines, iteration_shown, two_put, three_put}
+use Rattle.explain_why.proofs.PartNodes.{let_value, spine_put, let_parts, first_parts, second_parts, no_parts, iterate_lines, fold_lines, shown_lines, batch_shown, iteration_shown, two_put, three_put}
 use Rattle.explain_why.proofs.explaining.+explain.Goals as goal
 
 -- ---- a first operand with its links
@@ -27,23 +27,29 @@ explain-put_nodes-requires-clause-links t c =
     let p = spine_names c.args.core.now c.in-Spine.first c.in-Spine.links c.in-Spine.is c.args.population.now.content.model c.requires.resolved in
     rw c.deref-in-Spine.ensures.value p.1
 
-pub explain-explain-requires : goal.explain-explain-requires
-explain-explain-requires t c =
+pub explain-explain_if-requires : goal.explain-explain_if-requires
+explain-explain_if-requires t c =
     let p = spine_names c.args.core.now c.in-Spine.first c.in-Spine.links c.in-Spine.is c.args.population.now.content.model c.requires.resolved in
     (search (rules, the_lemmas), (rw (c.deref-in-Spine-2.ensures, c.in_ok-below-in-Spine.ensures.kept) (p.0, c.requires.there)))
 
-pub explain-evaluate-requires : goal.explain-evaluate-requires
-explain-evaluate-requires t c =
+pub explain-value_before-requires : goal.explain-value_before-requires
+explain-value_before-requires t c =
     let p = spine_names c.args.core.now c.in-Spine.first c.in-Spine.links c.in-Spine.is c.args.population.now.content.model c.requires.resolved in
     record {
-      resolved = rw c.deref-in-Spine-3.ensures p.0;
-      there = rw (c.in_ok-explain-in-Spine.ensures.kept, c.in_ok-below-in-Spine.ensures.kept) c.requires.there;
+      first = rw c.deref-in-Spine-3.ensures p.0;
+      links = rw c.deref-in-Spine-4.ensures.value p.1;
+      from = rw c.deref-in-Spine-4.ensures.value (rw c.deref-in-Spine.ensures.value at c.in_ok-below-in-Spine.ensures.within);
+      there = rw (c.in_ok-explain_if-in-Spine.ensures.kept, c.in_ok-below-in-Spine.ensures.kept) c.requires.there;
     }
 
 pub explain-explain_links-requires : goal.explain-explain_links-requires
 explain-explain_links-requires t c =
     let p = spine_names c.args.core.now c.in-Spine.first c.in-Spine.links c.in-Spine.is c.args.population.now.content.model c.requires.resolved in
-    (search (rules, the_lemmas), (rw (c.deref-in-Spine-4.ensures.value, c.in_ok-value-in-Spine.ensures.kept, c.in_ok-explain-in-Spine.ensures.kept, c.in_ok-below-in-Spine.ensures.kept) (c.in_ok-value-in-Spine.ensures.there, (p.1, c.requires.there))))
+    let within = rw c.deref-in-Spine.ensures.value at c.in_ok-below-in-Spine.ensures.within in
+    (search (rules, the_lemmas), (rw (c.deref-in-Spine-5.ensures.value, c.in_ok-value-in-Spine.ensures.kept, c.in_ok-explain_if-in-Spine.ensures.kept, c.in_ok-below-in-Spine.ensures.kept) (c.in_ok-value-in-Spine.ensures.there, (p.1, (within, c.requires.there)))))
+
+pub explain_links-links-init : goal.explain_links-links-init
+explain_links-links-init t c = (refl, (c.requires.first, (left_all _ c.args.links.now c.args.from c.requires.links, refl)))
 
 -- ---- values with the body that sees them
 
@@ -53,18 +59,17 @@ explain-explain_values-requires t c =
     let value = c.in_ok-whole-in-Let.ensures.value ∙ let_value c.args.core.now c.in-Let.values c.in-Let.body c.in-Let.is c.args.population.now.content c.args.variables.now in
     (search (rules, the_lemmas), (rw (c.deref-in-Let.ensures.value, c.deref-in-Let-2.ensures, c.in_ok-whole-in-Let.ensures.kept) (p.0, (p.1, (c.in_ok-whole-in-Let.ensures.there, (c.requires.there, value))))))
 
-pub explain-explain-requires-in-Let : goal.explain-explain-requires-in-Let
-explain-explain-requires-in-Let t c =
+pub explain-explain-requires : goal.explain-explain-requires
+explain-explain-requires t c =
     let p = let_names c.args.core.now c.in-Let.values c.in-Let.body c.in-Let.is c.args.population.now.content.model c.requires.resolved in
     (search (rules, the_lemmas), (rw c.deref-in-Let-3.ensures (p.1, c.in_ok-below-in-Let.ensures.there)))
 
 -- ---- iterations and folds
 
-pub explain_iteration-explain_elements-requires : goal.explain_iteration-explain_elements-requires
-explain_iteration-explain_elements-requires t c =
-    let there = rw c.in-Collection.is at c.requires.source in
-    let chosen : AreElementsThere c.args.population.now.content (meant_elements c.deref-5.result.now) = rw (c.deref-5.ensures.value, c.in_ok-chosen.ensures, c.deref-3.ensures.value) (kept_there c.args.population.now.content _ _ _ there) in
-    (search (rules, the_lemmas), (first_there c.args.population.now.content c.deref-5.result.now c.min-shown.result chosen, (c.requires.body, rw c.in_ok-bodies.ensures.kept c.requires.there)))
+pub explain_batch-explain_elements-requires : goal.explain_batch-explain_elements-requires
+explain_batch-explain_elements-requires t c =
+    let chosen : AreElementsThere c.args.population.now.content (meant_elements c.deref.result.now) = rw (c.deref.ensures.value, c.in_ok-chosen.ensures) (kept_there c.args.population.now.content _ _ _ c.requires.elements) in
+    (search (rules, the_lemmas), (first_there c.args.population.now.content c.deref.result.now c.min-shown.result chosen, (c.requires.body, c.requires.there)))
 
 pub explain_fold-explain_steps-requires : goal.explain_fold-explain_steps-requires
 explain_fold-explain_steps-requires t c =
@@ -76,12 +81,11 @@ explain_fold-explain_steps-requires t c =
 pub explain-returns-in-Spine-clause-text : goal.explain-returns-in-Spine-clause-text
 explain-returns-in-Spine-clause-text t c =
     let nodes = rw (c.deref.ensures, c.deref-in-Spine.ensures.value) at c.in_ok-below-in-Spine.ensures.text in
-    let deep = rw c.deref-in-Spine.ensures.value at c.in_ok-below-in-Spine.ensures.level in
-    let first = rw (c.deref-in-Spine-2.ensures, c.in_ok-below-in-Spine.ensures.kept) at c.in_ok-explain-in-Spine.ensures.text in
-    let value = rw (c.deref-in-Spine-3.ensures, c.in_ok-explain-in-Spine.ensures.kept, c.in_ok-below-in-Spine.ensures.kept) at c.in_ok-value-in-Spine.ensures.value in
-    let links = rw (c.deref-in-Spine-4.ensures.value, value, c.in_ok-value-in-Spine.ensures.kept, c.in_ok-explain-in-Spine.ensures.kept, c.in_ok-below-in-Spine.ensures.kept) at c.explain_links.ensures.text in
-    let whole = spine_parts c.args.core.now c.in-Spine.first c.in-Spine.links c.in-Spine.is c.args.population.now.content c.args.variables.now c.args.level c.in_ok-below-in-Spine.below deep in
-    on_ok_weaker c.explain_links.result (λ h. three_put _ _ _ _ _ _ _ _ nodes first h whole) links
+    let operand = rw (c.deref-in-Spine-2.ensures, c.in_ok-below-in-Spine.ensures.kept) at c.in_ok-explain_if-in-Spine.ensures.text in
+    let value = rw (c.deref-in-Spine-3.ensures, c.deref-in-Spine-4.ensures.value, c.in_ok-explain_if-in-Spine.ensures.kept, c.in_ok-below-in-Spine.ensures.kept) at c.in_ok-value-in-Spine.ensures.value in
+    let links = rw (c.deref-in-Spine-5.ensures.value, c.in_ok-value-in-Spine.ensures.kept, c.in_ok-explain_if-in-Spine.ensures.kept, c.in_ok-below-in-Spine.ensures.kept) at c.explain_links.ensures.text in
+    let below = c.in_ok-below-in-Spine.below in
+    on_ok_weaker c.explain_links.result (λ h. spine_put c.args.core.now c.in-Spine.first c.in-Spine.links c.in-Spine.is c.args.population.now.content c.args.variables.now c.args.level below.level below.from below.is_whole (meant c.in_ok-value-in-Spine.value) _ _ _ _ nodes operand value h) links
 
 pub explain-returns-in-Let-clause-text : goal.explain-returns-in-Let-clause-text
 explain-returns-in-Let-clause-text t c =
@@ -140,14 +144,21 @@ explain_fold-returns-clause-text t c =
     let whole = shown_lines (steps_lines (step_lines c.args.population.now.content (core_view c.args.body.now) c.args.level c.args.variables.now) (λ e a. meaning c.args.population.now.content (core_view c.args.body.now) (a ∷ element_value e ∷ c.args.variables.now)) (meant c.args.start)) c.args.level max_shown c.min-shown.result c.in-Collection.elements.items (meant_elements c.in-Collection.elements.items) refl shown in
     rw c.in-Collection.is (on_ok_weaker c.put_more.result (λ h. two_put _ _ _ _ _ _ steps h whole) more)
 
+pub explain_batch-returns-clause-text : goal.explain_batch-returns-clause-text
+explain_batch-returns-clause-text t c =
+    let shown : c.min-shown.result ≡ min (length c.in_ok-chosen.chosen.items) c.args.batch.now.most = search rules in
+    let many : c.len-2.result ≡ length c.in_ok-chosen.chosen.items = search rules in
+    let elements = rw c.deref.ensures.value at c.in_ok-explain_elements.ensures.text in
+    let more = rw many at c.put_more.ensures in
+    let whole = batch_shown (element_lines c.args.population.now.content (core_view c.args.body.now) c.args.level c.args.variables.now) c.args.level (batch_of c.args.batch.now) (meant_elements c.args.elements.now) (map meant c.args.bodies.now) c.in_ok-chosen.chosen.items c.args.batch.now.most c.min-shown.result refl c.in_ok-chosen.ensures shown in
+    on_ok_weaker c.put_more.result (λ h. two_put _ _ _ _ _ _ elements h whole) more
+
 pub explain_iteration-returns-clause-text : goal.explain_iteration-returns-clause-text
 explain_iteration-returns-clause-text t c =
     let bodies = rw c.deref.ensures.value at c.in_ok-bodies.ensures.bodies in
-    let which = rw c.deref-2.ensures.value at c.bodies_that_decide-those.ensures in
-    let held = rw (c.deref-3.ensures.value, c.deref-4.ensures.value) at c.in_ok-chosen.ensures in
-    let shown : c.min-shown.result ≡ min (length c.in_ok-chosen.chosen.items) c.most.result = search rules in
-    let many : c.len-2.result ≡ length c.in_ok-chosen.chosen.items = search rules in
-    let elements = rw (c.deref-5.ensures.value, c.in_ok-bodies.ensures.kept) at c.in_ok-explain_elements.ensures.text in
-    let more = rw many at c.put_more.ensures in
-    let whole = iteration_shown c.args.iteration (element_lines c.args.population.now.content (core_view c.args.body.now) c.args.level c.args.variables.now) (λ e. meaning c.args.population.now.content (core_view c.args.body.now) (element_value e ∷ c.args.variables.now)) c.args.level c.in-Collection.field-0 (meant_elements c.in-Collection.elements.items) c.in_ok-chosen.chosen.items (map meant c.in_ok-bodies.bodies.items) (deciding_of c.bodies_that_decide-those.result) c.most.result c.min-shown.result bodies which c.most.ensures held shown in
-    rw c.in-Collection.is (on_ok_weaker c.put_more.result (λ h. two_put _ _ _ _ _ _ elements h whole) more)
+    let first_is = rw c.deref-2.ensures.value at c.batch_that_decides-first.ensures in
+    let second_is = rw c.deref-5.ensures.value at c.batch_beside-second.ensures in
+    let first = rw (c.deref-3.ensures.value, c.deref-4.ensures.value, c.in_ok-bodies.ensures.kept) at c.in_ok-explain_batch.ensures.text in
+    let second = rw (c.deref-6.ensures.value, c.deref-7.ensures.value, c.in_ok-explain_batch.ensures.kept, c.in_ok-bodies.ensures.kept) at c.explain_batch-2.ensures.text in
+    let whole = iteration_shown c.args.iteration (element_lines c.args.population.now.content (core_view c.args.body.now) c.args.level c.args.variables.now) (λ e. meaning c.args.population.now.content (core_view c.args.body.now) (element_value e ∷ c.args.variables.now)) c.args.level c.in-Collection.field-0 (meant_elements c.in-Collection.elements.items) (map meant c.in_ok-bodies.bodies.items) (batch_of c.batch_that_decides-first.result) (batch_of c.batch_beside-second.result) bodies first_is second_is in
+    rw c.in-Collection.is (on_ok_weaker c.explain_batch-2.result (λ h. two_put _ _ _ _ _ _ first h whole) second)

@@ -26,10 +26,10 @@ invariant-explain_values-values l =
 -- what was put, the value so far, and the links that are left
 abbrev pub invariant-explain_links-links : goal.invariant-explain_links-links
 invariant-explain_links-links l =
-    (string_bytes l.out ++ links_lines l.population.content (drop l.link-index l.links) l.level l.initial.variables (meant l.value)
-    ≡ string_bytes l.initial.out ++ links_lines l.population.content l.links l.initial.level l.initial.variables (meant l.fn.first))
+    (string_bytes l.out ++ links_lines l.population.content (drop l.index l.links) l.level l.initial.variables (meant l.value)
+    ≡ string_bytes l.initial.out ++ links_lines l.population.content (drop l.from l.links) l.initial.level l.initial.variables (meant l.fn.first))
     × (IsValueThere l.population.content (meant l.value)
-    × (AreLinksResolved l.population.content.model (drop l.link-index l.links) × (l.variables ≡ l.initial.variables)))
+    × (AreLinksResolved l.population.content.model (drop l.index l.links) × (l.variables ≡ l.initial.variables)))
 
 -- what was put, and the trees that are left
 abbrev pub invariant-explain_all-cores : goal.invariant-explain_all-cores

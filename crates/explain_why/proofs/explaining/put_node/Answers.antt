@@ -14,5 +14,10 @@ returns-clause-text c =
     let gave = rw c.in_ok-source.ensures.kept at c.in_ok-gave.ensures.value in
     let reason = rw (c.in_ok-gave.ensures.kept, c.in_ok-source.ensures.kept) at c.in_ok-reason.ensures.reason in
     let line = node_line_is c.args.population.now.content c.args.link.now left c.args.level c.len-seen.result c.args.variables.now (written_text c.in_ok-operand.operand) (written_text c.in_ok-text.text) (meant c.in_ok-source.source) (meant c.in_ok-gave.gave) (string_bytes c.in_ok-reason.reason) c.len-seen.ensures operand text c.in_ok-source.ensures.value gave reason in
-    let put = rw (c.deref.ensures, c.deref-2.ensures) at c.put_part.ensures in
-    on_ok_weaker c.put_part.result (λ h. h ∙ ap (λ xs. string_bytes c.args.out.now ++ xs) line) put
+    let put = rw (c.deref.ensures, c.deref-2.ensures) at c.in_ok-put_part.ensures in
+    on_ok_weaker c.is_source_shown.result (λ h. put ∙ ap (λ xs. string_bytes c.args.out.now ++ xs) line) c.is_source_shown.ensures.kept
+
+pub returns-clause-shown : goal.returns-clause-shown
+returns-clause-shown c =
+    let after = rw (c.in_ok-reason.ensures.kept, c.in_ok-gave.ensures.kept, c.in_ok-source.ensures.kept, c.in_ok-source.ensures.value) at c.is_source_shown.ensures.shown in
+    after

@@ -1,4 +1,4 @@
-use Rattle.std.proofs.Common.{◌≡◌, ◌+◌, ◌++◌, length, map, drop, string_bytes}
+use Rattle.std.proofs.Common.{◌≡◌, ◌+◌, ◌++◌, map, drop, string_bytes}
 use Rattle.std.specs.List.{AllByRecursion}
 use Rattle.ocl_core.specs.Core.{cores_of}
 use Rattle.ocl_core.specs.CoreView.{core_view}
