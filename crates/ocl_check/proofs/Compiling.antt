@@ -9,7 +9,7 @@ use Rattle.rule_code.specs.Content.{Content}
 use Rattle.rule_code.specs.WellFormed.{IsUnit}
 use Rattle.rule_code.specs.Spelling.{spelling}
 use Rattle.ocl_base.specs.Steps.{Fails}
-use Rattle.ocl_base.proofs.ForAbove.{ok_is, not_okay}
+use Rattle.ocl_pipeline.proofs.ForAbove.{not_refused}
 use Rattle.ocl_check.specs.declared.outcome.CommandFault.{CommandFault}
 use Rattle.ocl_check.specs.declared.outcome.CommandFault.TheVariants.{OutOfMemory, Read, Write}
 use Rattle.ocl_check.specs.declared.outcome.Outcome.{Outcome}
@@ -17,7 +17,7 @@ use Rattle.ocl_check.specs.declared.outcome.Outcome.TheVariants.{Status, Failed}
 use Rattle.ocl_check.specs.declared.commands.compile.Compiled.{Compiled}
 use Rattle.ocl_check.specs.Answers.{is_write}
 use Rattle.ocl_check.specs.Reply.{Answer, refused}
-use Rattle.ocl_pipeline.specs.TextReading.{TextReading, ReadsAs}
+use Rattle.ocl_pipeline.specs.TextReading.{TextReading}
 use Rattle.ocl_pipeline.specs.Inputs.{model_of}
 use Rattle.ocl_pipeline.specs.CompiledRules.{CompiledRules, TextRefusal, InText, InTypes, InCode, compiled_rules, IsUnitOf}
 use Rattle.ocl_pipeline.specs.declared.refusal.Refusal.{Refusal}
@@ -98,19 +98,8 @@ pub inputs_given : (t : TextReading) (model : List ℕ) → given_compiled (comp
 inputs_given t model = model_given t (model_of model)
 
 -- a class model that was read is the one described
-read_is : (o : Result Model ModelFault) (m : Model) → refused_as refusal.Model o ≡ Ok m → o ≡ Ok m
-read_is (Ok n) m h = ap Ok (ok_is n m h)
-read_is (Err e) m h = absurd (not_okay (refusal.Model e) m h)
-
 pub model_is_read : (bytes : List ℕ) (m : Model) → model_in bytes ≡ Ok m → model_of bytes ≡ Ok m
-model_is_read bytes m h = read_is (model_of bytes) m h
-
--- equal inputs are compiled alike
-abbrev IsCompiled : {E : Type 0} → Result Compiled E → List ℕ → List ℕ → Type 0
-IsCompiled result model rules = (t : TextReading) × ReadsAs rules t × IfOk result (λ c. compiled_seen c ≡ compile_answer model t) × IfOk result (λ c. HasUnitFor (model_of model) t)
-
-pub compiled_alike : {E : Type 0} (result : Result Compiled E) (model rules model' rules' : List ℕ) → model ≡ model' → rules ≡ rules' → IsCompiled result model rules → IsCompiled result model' rules'
-compiled_alike result model rules model' rules' m r h = subst (IsCompiled result model') r (subst (λ (x : List ℕ). IsCompiled result x rules) m h)
+model_is_read bytes m h = not_refused refusal.Model (model_of bytes) m h
 
 -- where a command ends with a status, something was compiled, and its unit is one
 pub of_unit : {E : Type 0} (o : Outcome) (result : Result Compiled E) (model : List ℕ) (t : TextReading) → (is_ended o ≡ true → IsOk result) → IfOk result (λ c. HasUnitFor (model_of model) t) → IsOfUnit o model t

@@ -26,9 +26,16 @@ pub ending_as : {S : Type 0} {contents : S → Option (List ℕ)} {has_failed : 
     → a ≡ b → IsEnding contents has_failed flushes has_pending is_whole a old o new → IsEnding contents has_failed flushes has_pending is_whole b old o new
 ending_as {S} {contents} {has_failed} {flushes} {has_pending} {is_whole} {a} {b} {old} {new} {o} same h = subst (λ (x : Answer). IsEnding contents has_failed flushes has_pending is_whole x old o new) same h
 
+-- what holds of two inputs holds of equal ones
+pub two_known : (P : List ℕ → List ℕ → Type 0) (a b x y : List ℕ) → a ≡ x → b ≡ y → P a b → P x y
+two_known P a b x y ax by h = subst (P x) by (subst (λ (l : List ℕ). P l b) ax h)
+
 -- equal inputs are answered alike
+pub two_alike : (answer : List ℕ → List ℕ → Answer) (a b x y : List ℕ) → a ≡ x → b ≡ y → answer a b ≡ answer x y
+two_alike answer a b x y ax by = ap (λ (l : List ℕ). answer l b) ax ∙ ap (answer x) by
+
 pub three_alike : (answer : List ℕ → List ℕ → List ℕ → Answer) (a b c x y z : List ℕ) → a ≡ x → b ≡ y → c ≡ z → answer a b c ≡ answer x y z
-three_alike answer a b c x y z ax by cz = ap (λ (l : List ℕ). answer l b c) ax ∙ ap (λ (l : List ℕ). answer x l c) by ∙ ap (answer x y) cz
+three_alike answer a b c x y z ax by cz = ap (λ (l : List ℕ). answer l b c) ax ∙ two_alike (answer x) b c y z by cz
 
 pub four_alike : (answer : List ℕ → List ℕ → List ℕ → List ℕ → Answer) (a b c d x y z w : List ℕ) → a ≡ x → b ≡ y → c ≡ z → d ≡ w → answer a b c d ≡ answer x y z w
 four_alike answer a b c d x y z w ax by cz dw = ap (λ (l : List ℕ). answer l b c d) ax ∙ three_alike (answer x) b c d y z w by cz dw

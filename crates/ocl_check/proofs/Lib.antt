@@ -6,3 +6,4 @@ pub mod TextReports
 pub mod Given
 pub mod Judging
 pub mod Compiling
+pub mod ForAbove

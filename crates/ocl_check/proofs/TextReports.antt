@@ -49,11 +49,11 @@ pub text_report : (budget : ℕ) (p : Population) (t : TextReading) (c : Compile
     → code_answer (budget_answer budget) p (Ok c.unit) ≡ text_answer budget t p
 text_report budget p t c model consistent compiled unit =
     let parts = compiled_parts p.model t c compiled in
-    text_is_answered p c.rules c.unit model consistent (all_typed p.model model 0 parts.0 c.rules parts.1) parts.2 unit budget
+    text_is_answered p c.rules c.unit model consistent (all_typed p.model model 0 parts.0.0 c.rules parts.0.2) parts.1 unit budget
     ∙ sym (ap (rules_answer budget p) compiled)
 
 -- the report by the unit of a text is the one that its rules mean
 pub meant_report_is : (budget : ℕ) (p : Population) (t : TextReading) (c : CompiledRules) → AreCompiledFor p t c → budget_answer budget p c.unit ≡ meant_within budget (p, c)
 meant_report_is budget p t c h =
     let parts = compiled_parts p.model t c h.compiled in
-    report_is_within p c.rules c.unit h.model h.population (all_typed p.model h.model 0 parts.0 c.rules parts.1) parts.2 h.unit budget
+    report_is_within p c.rules c.unit h.model h.population (all_typed p.model h.model 0 parts.0.0 c.rules parts.0.2) parts.1 h.unit budget

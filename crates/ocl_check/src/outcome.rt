@@ -9,8 +9,9 @@ ghost use Rattle.ocl_check.specs.Given.{IsDueFor};
 
 use crate::input::InputFault;
 use crate::reply::{Reply, refusal_reply};
+use crate::watch::Watch;
 use ocl_base::OutOfMemory;
-use ocl_pipeline::Stopped;
+use ocl_pipeline::{Place, Stopped};
 use rule_report::{Sink, write_and_flush};
 use std::alloc::Global;
 
@@ -103,10 +104,17 @@ pub(crate) fn answer<S: Sink>(sink: &mut S, reply: Result<Reply, OutOfMemory>) -
 }
 
 /// Writes the line of a refusal, if that is why there is no other answer.
-pub(crate) fn stop<S: Sink>(alloc: Global, why: Stopped, sink: &mut S) -> Outcome
+pub fn stop<S: Sink, V: Watch>(
+    alloc: Global,
+    watch: &V,
+    place: Place<'_>,
+    why: Stopped,
+    sink: &mut S,
+) -> Outcome
     requires { S.has_failed sink.old ≡ false }
     ensures { (is_whole : Bool) (a : Answer) → IsDueFor why a → IsEnding S.contents S.has_failed
         S.flushes S.has_pending is_whole a sink.old result sink.new }
 {
+    watch.stop(alloc, place, &why);
     answer(sink, refusal_reply(alloc, why))
 }

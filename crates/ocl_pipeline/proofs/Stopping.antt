@@ -1,7 +1,7 @@
 -- Steps of the pipeline that stop, by what a layer returned.
 use Rattle.std.proofs.Common.{◌≡◌, ℕ, List, Result, Ok, Err, ap, sym, ◌∙◌, subst}
 use Rattle.ocl_base.specs.Steps.{◌>>=◌, Fails}
-use Rattle.ocl_base.proofs.ForAbove.{not_okay}
+use Rattle.ocl_base.proofs.ForAbove.{ok_is, not_okay}
 use Rattle.imkl_model.specs.declared.fault.ModelFault.{ModelFault}
 use Rattle.imkl_model.specs.declared.fault.ModelFault.TheVariants as model
 use Rattle.imkl_model.specs.ClassModel.{Model}
@@ -39,6 +39,11 @@ use Rattle.ocl_pipeline.proofs.Described.{model_is, population_is, no_json}
 pub stops_then : {A B : Type 0} (why : Stopped) (given : Result A Refusal) (k : A → Result B Refusal) → Fails stopped why given → Fails stopped why (given >>= k)
 stops_then (Refused r) given k h = ap (λ (x : Result _ Refusal). x >>= k) h
 stops_then OutOfMemory given k h = tt
+
+-- what isn't refused is what the layer gives
+pub not_refused : {A E : Type 0} (f : E → Refusal) (o : Result A E) (x : A) → refused_as f o ≡ Ok x → o ≡ Ok x
+not_refused f (Ok y) x h = ap Ok (ok_is y x h)
+not_refused f (Err e) x h = absurd (not_okay (f e) x h)
 
 -- where nothing is refused, only memory can have run out, and then any answer could have been due
 pub only_memory : {A B : Type 0} (why : Stopped) (x : A) (given : Result B Refusal) → Fails {Y = A} stopped why (Ok x) → Fails stopped why given

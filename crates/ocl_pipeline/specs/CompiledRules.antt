@@ -14,6 +14,9 @@ pub record CompiledRules : Type 0 where
   pub rules : List CheckedRule
   pub unit : Content
 
+abbrev pub rules_with : List CheckedRule → Content → CompiledRules
+rules_with rs u = record { rules = rs; unit = u }
+
 -- the text has a flaw, the types of a rule are at fault, or a rule passes a limit
 pub data TextRefusal : Type 0 where
   InText : (fault : TextFaultAt) → TextRefusal
@@ -29,7 +32,7 @@ in_types (Ok rules) = Ok rules
 in_types (Err fault) = Err (InTypes fault)
 
 abbrev pub in_code : List CheckedRule → Result Content LimitAt → Result CompiledRules TextRefusal
-in_code rules (Ok unit) = Ok (record { rules = rules; unit = unit })
+in_code rules (Ok unit) = Ok (rules_with rules unit)
 in_code rules (Err limit) = Err (InCode limit)
 
 -- types of all rules are checked before the first is compiled
@@ -41,4 +44,4 @@ compiled_rules m t = do
 
 -- the rules of a reading are compiled to this unit
 abbrev pub IsUnitOf : Model → TextReading → Content → Type 0
-IsUnitOf m t u = (rs : List CheckedRule) × (compiled_rules m t ≡ Ok (record { rules = rs; unit = u }))
+IsUnitOf m t u = (rs : List CheckedRule) × (compiled_rules m t ≡ Ok (rules_with rs u))

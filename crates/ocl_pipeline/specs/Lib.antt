@@ -7,3 +7,5 @@ pub mod Refusals
 pub mod Stops
 pub mod Steps
 pub mod Asked
+-- Bookkeeping: what only proofs and private contracts use.
+pub mod TypedRules

@@ -1,14 +1,21 @@
 //! Askers of populations that bring the rules: from a code file, or from a text.
 
-ghost use Rattle.std.specs.Prelude.{◌≡◌};
+ghost use Rattle.std.specs.Prelude.{◌≡◌, Ok, map};
+ghost use Rattle.std.specs.List.{AllByRecursion};
+ghost use Rattle.ocl_core.specs.Core.{HaveOwnNames};
+ghost use Rattle.ocl_core.specs.CoreView.{checked_rule_of};
+ghost use Rattle.ocl_core.specs.Typing.{IsTypedRule};
 ghost use Rattle.ocl_pipeline.specs.TextReading.{TextReading, ReadsAs};
+ghost use Rattle.ocl_pipeline.specs.TypedRules.{AreRulesOf};
 ghost use Rattle.ocl_pipeline.specs.Asked.{code_with, text_with};
 
-use crate::asker::{CodeAsker, Place, PopulationAsker, TextAsker};
+use crate::asker::{CodeAsker, PopulationAsker, TextAsker};
 use crate::laws::each_text_is_read;
-use crate::rules::{Rejected, accept_code, accept_text};
+use crate::place::Place;
+use crate::rules::{accept_code, accept_rules, type_text};
 use crate::stopped::Stopped;
 use imkl_population::Population;
+use ocl_core::CoreRule;
 use std::alloc::Global;
 
 /// Asks about the rules of a code file.
@@ -29,14 +36,6 @@ pub struct OfText<'a, A> {
     pub text: &'a [u8],
 }
 
-/// The place of rules that are rejected.
-fn place_of<'p, 'm>(population: &'p Population<'m>, rejected: &'p Rejected) -> Place<'p, 'm> {
-    match &rejected.unit {
-        Some(unit) => Place::Unit(population, unit),
-        None => Place::Rules(population),
-    }
-}
-
 impl<W, A: CodeAsker<W>> PopulationAsker<W> for OfCode<'_, A> {
     type Output = A::Output;
 
@@ -46,17 +45,43 @@ impl<W, A: CodeAsker<W>> PopulationAsker<W> for OfCode<'_, A> {
         A.answers a.asker.now (code_with a.code.now given) old o new };
 
     fn ask(&self, alloc: Global, population: &Population<'_>, into: &mut W) -> A::Output {
-        match accept_code(alloc, population.model(), self.code) {
+        let model = population.model();
+        match accept_code(alloc, model, self.code) {
             Ok(accepted) => self.asker.ask(alloc, population, &accepted, into),
             Err(rejected) => {
-                let place = place_of(population, &rejected);
-                self.asker.stop(alloc, place, rejected.why, into)
+                let (place, why) = rejected.into_parts(model);
+                self.asker.stop(alloc, place, why, into)
             }
         }
     }
 
-    fn stop(&self, alloc: Global, place: Place<'_, '_>, why: Stopped, into: &mut W) -> A::Output {
+    fn stop(&self, alloc: Global, place: Place<'_>, why: Stopped, into: &mut W) -> A::Output {
         self.asker.stop(alloc, place, why, into)
+    }
+}
+
+/// Asks about the typed rules of a text.
+fn ask_rules<W, A: TextAsker<W>>(
+    alloc: Global,
+    asker: &A,
+    population: &Population<'_>,
+    rules: &[CoreRule],
+    into: &mut W,
+) -> A::Output
+    requires typed { AllByRecursion (IsTypedRule population.now.content.model)
+        (map checked_rule_of rules.now) }
+    requires names { HaveOwnNames (map checked_rule_of rules.now) }
+    requires can { A.can_ask into.old }
+    ensures { (t : TextReading)
+        → AreRulesOf population.now.content.model t (map checked_rule_of rules.now)
+        → A.answers asker.now (text_with t (Ok population.now.content)) into.old result into.new }
+{
+    let model = population.model();
+    model.well_formed();
+    population.consistent();
+    match accept_rules(alloc, model, rules) {
+        Ok(accepted) => asker.ask(alloc, population, rules, &accepted, into),
+        Err(why) => asker.stop(alloc, Place::Rules(model), why, into),
     }
 }
 
@@ -70,18 +95,13 @@ impl<W, A: TextAsker<W>> PopulationAsker<W> for OfText<'_, A> {
 
     fn ask(&self, alloc: Global, population: &Population<'_>, into: &mut W) -> A::Output {
         let model = population.model();
-        model.well_formed();
-        population.consistent();
-        match accept_text(alloc, model, self.text) {
-            Ok(accepted) => self.asker.ask(alloc, population, &accepted, into),
-            Err(rejected) => {
-                let place = place_of(population, &rejected);
-                self.asker.stop(alloc, place, rejected.why, into)
-            }
+        match type_text(alloc, model, self.text) {
+            Ok(rules) => ask_rules(alloc, self.asker, population, &rules, into),
+            Err(why) => self.asker.stop(alloc, Place::Rules(model), why, into),
         }
     }
 
-    fn stop(&self, alloc: Global, place: Place<'_, '_>, why: Stopped, into: &mut W) -> A::Output {
+    fn stop(&self, alloc: Global, place: Place<'_>, why: Stopped, into: &mut W) -> A::Output {
         each_text_is_read();
         self.asker.stop(alloc, place, why, into)
     }

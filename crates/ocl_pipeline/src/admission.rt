@@ -4,7 +4,8 @@ ghost use Rattle.std.specs.Prelude.{◌≡◌};
 ghost use Rattle.imkl_population.specs.Sizes.{sizes_of};
 ghost use Rattle.ocl_pipeline.specs.Asked.{admitted_in};
 
-use crate::asker::{AdmittedAsker, Place};
+use crate::asker::AdmittedAsker;
+use crate::place::{Place, SizedCode};
 use crate::stopped::Stopped;
 use imkl_population::{Population, Sizes};
 use rule_cost::admit;
@@ -30,7 +31,7 @@ fn ask_sized<W, A: AdmittedAsker<W>>(
     match admit(alloc, accepted, sizes, budget) {
         Ok(admitted) => asker.ask(alloc, population, &admitted, into),
         Err(fault) => {
-            let place = Place::Unit(population, accepted.unit());
+            let place = Place::Cost(SizedCode::new(accepted, sizes));
             asker.stop(alloc, place, Stopped::from(fault), into)
         }
     }
@@ -52,9 +53,6 @@ pub fn ask_admitted<W, A: AdmittedAsker<W>>(
 {
     match population.sizes(alloc) {
         Ok(sizes) => ask_sized(alloc, asker, budget, population, &sizes, accepted, into),
-        Err(_failed) => {
-            let place = Place::Unit(population, accepted.unit());
-            asker.stop(alloc, place, Stopped::OutOfMemory, into)
-        }
+        Err(_failed) => asker.stop(alloc, Place::AfterRules, Stopped::OutOfMemory, into),
     }
 }

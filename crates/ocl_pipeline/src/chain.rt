@@ -5,7 +5,8 @@ ghost use Rattle.ocl_base.specs.Steps.{Gives};
 ghost use Rattle.ocl_pipeline.specs.Steps.{inputs_in, model_in, population_in};
 ghost use Rattle.ocl_pipeline.specs.Stops.{stopped};
 
-use crate::asker::{Place, PopulationAsker};
+use crate::asker::PopulationAsker;
+use crate::place::Place;
 use crate::stopped::Stopped;
 use imkl_delivery::load;
 use imkl_model::ClassModel;

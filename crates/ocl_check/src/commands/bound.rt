@@ -14,6 +14,7 @@ use crate::outcome::{CommandFault, Outcome, answer, stop};
 use crate::reply::Reply;
 use crate::source::Source;
 use crate::three_inputs::read_inputs;
+use crate::watch::{Unwatched, Watch};
 use imkl_population::{Population, Sizes};
 use ocl_base::OutOfMemory;
 use ocl_pipeline::{CodeAsker, OfCode, Place, Stopped, ask_inputs};
@@ -55,9 +56,12 @@ fn bounds_reply(
 
 /// Asks for the bounds of all rules.
 #[derive(Clone, Copy)]
-struct Bounds;
+struct Bounds<'a, V> {
+    /// Who watches.
+    watch: &'a V,
+}
 
-impl<S: Sink> CodeAsker<S> for Bounds {
+impl<S: Sink, V: Watch> CodeAsker<S> for Bounds<'_, V> {
     type Output = Outcome;
 
     ghost can_ask = { λ s. S.has_failed s ≡ false };
@@ -78,14 +82,15 @@ impl<S: Sink> CodeAsker<S> for Bounds {
         }
     }
 
-    fn stop(&self, alloc: Global, _place: Place<'_, '_>, why: Stopped, sink: &mut S) -> Outcome {
-        stop(alloc, why, sink)
+    fn stop(&self, alloc: Global, place: Place<'_>, why: Stopped, sink: &mut S) -> Outcome {
+        stop(alloc, self.watch, place, why, sink)
     }
 }
 
-/// Answers with the bounds of the rules of a code file.
-fn bound_inputs<S: Sink>(
+/// Answers with the bounds of the rules of a code file, as `run_bound` does of inputs that it has read.
+pub fn bound_inputs<S: Sink, V: Watch>(
     alloc: Global,
+    watch: &V,
     model: &[u8],
     delivery: &[u8],
     code: &[u8],
@@ -96,7 +101,7 @@ fn bound_inputs<S: Sink>(
         (bound_answer model.now delivery.now code.now) sink.old result sink.new }
 {
     let asker = OfCode {
-        asker: &Bounds,
+        asker: &Bounds { watch },
         code,
     };
     ask_inputs(alloc, &asker, model, delivery, sink)
@@ -148,7 +153,14 @@ pub fn run_bound<M: Source, D: Source, C: Source, S: Sink>(
     ensures code_waits { IsAtEnd (D.remaining delivery.new) ⊎ (code.new ≡ code.old) }
 {
     match read_inputs(alloc, model, delivery, code) {
-        Ok(inputs) => bound_inputs(alloc, &inputs.model, &inputs.delivery, &inputs.rules, sink),
+        Ok(inputs) => bound_inputs(
+            alloc,
+            &Unwatched,
+            &inputs.model,
+            &inputs.delivery,
+            &inputs.rules,
+            sink,
+        ),
         Err(fault) => Outcome::Failed(CommandFault::from(fault)),
     }
 }

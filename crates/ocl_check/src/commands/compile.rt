@@ -18,10 +18,11 @@ use crate::input::read_two;
 use crate::outcome::{CommandFault, Outcome, say};
 use crate::reply::{Reply, compiled_reply, refusal_reply};
 use crate::source::Source;
+use crate::watch::{Unwatched, Watch};
 use imkl_model::ClassModel;
 use ocl_base::OutOfMemory;
 use ocl_pipeline::laws::each_text_is_read;
-use ocl_pipeline::{Stopped, compile_text, read_model};
+use ocl_pipeline::{Place, Stopped, compile_text, read_model};
 use rule_code::{Unit, write_unit};
 use rule_report::{Sink, write_and_flush};
 use std::alloc::Global;
@@ -36,9 +37,15 @@ pub(crate) enum Compiled {
 }
 
 /// The result of compiling where an input is refused. Running out of memory is not a refusal.
-fn refusal(alloc: Global, why: Stopped) -> Result<Compiled, OutOfMemory>
+fn refusal<V: Watch>(
+    alloc: Global,
+    watch: &V,
+    place: Place<'_>,
+    why: Stopped,
+) -> Result<Compiled, OutOfMemory>
     ensures { IfOk result (λ c. IsNothingFor why (compiled_seen c)) }
 {
+    watch.stop(alloc, place, &why);
     let reply = refusal_reply(alloc, why)?;
     Ok(Compiled::Refused(reply))
 }
@@ -55,8 +62,9 @@ fn compiled_unit(alloc: Global, unit: &Unit) -> Result<Compiled, OutOfMemory>
 }
 
 /// Compiles a rule text for a class model.
-fn compile_rule_text(
+fn compile_rule_text<V: Watch>(
     alloc: Global,
+    watch: &V,
     model: &ClassModel,
     text: &[u8],
 ) -> Result<Compiled, OutOfMemory>
@@ -67,22 +75,28 @@ fn compile_rule_text(
     match compile_text(alloc, model, text) {
         Ok(unit) => {
             unit.well_formed();
+            watch.compile(alloc, model);
             compiled_unit(alloc, &unit)
         }
-        Err(why) => refusal(alloc, why),
+        Err(why) => refusal(alloc, watch, Place::Rules(model), why),
     }
 }
 
 /// Compiles a rule text for a class model that is read first.
-fn compile_inputs(alloc: Global, model: &[u8], text: &[u8]) -> Result<Compiled, OutOfMemory>
+fn compile_both<V: Watch>(
+    alloc: Global,
+    watch: &V,
+    model: &[u8],
+    text: &[u8],
+) -> Result<Compiled, OutOfMemory>
     ensures { (t : TextReading) × ReadsAs text.now t ×
         IfOk result (λ c. compiled_seen c ≡ compile_answer model.now t) ×
         IfOk result (λ c. HasUnitFor (model_of model.now) t) }
 {
     each_text_is_read();
     match read_model(alloc, model) {
-        Ok(model) => compile_rule_text(alloc, &model, text),
-        Err(why) => refusal(alloc, why),
+        Ok(model) => compile_rule_text(alloc, watch, &model, text),
+        Err(why) => refusal(alloc, watch, Place::Model, why),
     }
 }
 
@@ -142,6 +156,33 @@ fn write_result<O: Sink, S: Sink>(
     }
 }
 
+/// Writes the code file of a rule text and the reply, as `run_compile` does of inputs that it has read.
+pub fn compile_inputs<O: Sink, S: Sink, V: Watch>(
+    alloc: Global,
+    watch: &V,
+    model: &[u8],
+    rules: &[u8],
+    out: &mut O,
+    sink: &mut S,
+) -> Outcome
+    requires out { O.has_failed out.old ≡ false }
+    requires sink { S.has_failed sink.old ≡ false }
+    ensures answered { (t : TextReading) × ReadsAs rules.now t × IsOfUnit result model.now t
+        × IsCodeWritten O.contents O.has_failed (compile_answer model.now t).code
+        out.old out.new result
+        × IsAnswered (compile_answer model.now t).said
+        (S.contents sink.old) (S.contents sink.new) result }
+    ensures sinks { (O.has_failed out.new || S.has_failed sink.new) ≡ fails_write result }
+    ensures code_flushed { O.has_failed out.new ≡ false → (out.new ≡ out.old)
+        ⊎ IsFlushedOnce O.flushes O.has_pending out.old out.new }
+    ensures code_first { O.has_failed out.new ≡ true → sink.new ≡ sink.old }
+    ensures flushed { IsFlushedBy S.flushes S.has_pending result sink.old sink.new }
+    ensures kept { KeepsSink result sink.old sink.new }
+    ensures read { fails_read result ≡ false }
+{
+    write_result(compile_both(alloc, watch, model, rules), out, sink)
+}
+
 /// Compiles a rule text: reads the class model and the text, each whole, and then writes the code
 /// file, and after it how many rules there are, with status 0; or, with status 2, one line on the
 /// first of them that is refused, and then `out` is untouched. The text is untouched until the class
@@ -192,7 +233,7 @@ pub fn run_compile<M: Source, R: Source, O: Sink, S: Sink>(
 {
     each_text_is_read();
     match read_two(alloc, model, rules) {
-        Ok((model, rules)) => write_result(compile_inputs(alloc, &model, &rules), out, sink),
+        Ok((model, rules)) => compile_inputs(alloc, &Unwatched, &model, &rules, out, sink),
         Err(fault) => Outcome::Failed(CommandFault::from(fault)),
     }
 }

@@ -16,6 +16,7 @@ use crate::input::{InputFault, MAX_INPUT, read_input};
 use crate::outcome::{CommandFault, Outcome, stop};
 use crate::source::Source;
 use crate::three_inputs::{Inputs, read_inputs};
+use crate::watch::{Unwatched, Watch};
 use desk_replies::answer_calls;
 use desk_script::{Call, ScriptFault, read_script};
 use imkl_population::Population;
@@ -48,8 +49,9 @@ fn reply_calls<S: Sink>(
 }
 
 /// Answers a script, which is read whole before its first call is made.
-fn reply_admitted<S: Sink>(
+fn reply_admitted<S: Sink, V: Watch>(
     alloc: Global,
+    watch: &V,
     script: &[u8],
     population: &Population<'_>,
     admitted: &Admitted<'_>,
@@ -63,7 +65,8 @@ fn reply_admitted<S: Sink>(
     match read_script(alloc, script) {
         Ok(calls) => reply_calls(alloc, population, admitted, &calls, sink),
         Err(ScriptFault::At { line }) => {
-            stop(alloc, Stopped::Refused(Refusal::Script { line }), sink)
+            let why = Stopped::Refused(Refusal::Script { line });
+            stop(alloc, watch, Place::AfterRules, why, sink)
         }
         Err(ScriptFault::OutOfMemory) => Outcome::Failed(CommandFault::OutOfMemory),
     }
@@ -71,12 +74,14 @@ fn reply_admitted<S: Sink>(
 
 /// Asks for the replies to a script, by rules that are within the greatest budget.
 #[derive(Clone, Copy)]
-struct Replies<'a> {
+struct Replies<'a, V> {
     /// The script.
     script: &'a [u8],
+    /// Who watches.
+    watch: &'a V,
 }
 
-impl<S: Sink> AdmittedAsker<S> for Replies<'_> {
+impl<S: Sink, V: Watch> AdmittedAsker<S> for Replies<'_, V> {
     type Output = Outcome;
 
     ghost can_ask = { λ s. S.has_failed s ≡ false };
@@ -92,15 +97,16 @@ impl<S: Sink> AdmittedAsker<S> for Replies<'_> {
         admitted: &Admitted<'_>,
         sink: &mut S,
     ) -> Outcome {
-        reply_admitted(alloc, self.script, population, admitted, sink)
+        self.watch.admit(alloc, population, admitted);
+        reply_admitted(alloc, self.watch, self.script, population, admitted, sink)
     }
 
-    fn stop(&self, alloc: Global, _place: Place<'_, '_>, why: Stopped, sink: &mut S) -> Outcome {
-        stop(alloc, why, sink)
+    fn stop(&self, alloc: Global, place: Place<'_>, why: Stopped, sink: &mut S) -> Outcome {
+        stop(alloc, self.watch, place, why, sink)
     }
 }
 
-impl<S: Sink> CodeAsker<S> for Replies<'_> {
+impl<S: Sink, V: Watch> CodeAsker<S> for Replies<'_, V> {
     type Output = Outcome;
 
     ghost can_ask = { λ s. S.has_failed s ≡ false };
@@ -118,14 +124,15 @@ impl<S: Sink> CodeAsker<S> for Replies<'_> {
         ask_admitted(alloc, self, MAX_BUDGET, population, accepted, sink)
     }
 
-    fn stop(&self, alloc: Global, _place: Place<'_, '_>, why: Stopped, sink: &mut S) -> Outcome {
-        stop(alloc, why, sink)
+    fn stop(&self, alloc: Global, place: Place<'_>, why: Stopped, sink: &mut S) -> Outcome {
+        stop(alloc, self.watch, place, why, sink)
     }
 }
 
-/// Answers a script on a delivery and a code file.
-fn reply_inputs<S: Sink>(
+/// Answers a script on a delivery and a code file, as `run_desk` does of inputs that it has read.
+pub fn reply_inputs<S: Sink, V: Watch>(
     alloc: Global,
+    watch: &V,
     model: &[u8],
     delivery: &[u8],
     code: &[u8],
@@ -137,7 +144,7 @@ fn reply_inputs<S: Sink>(
         (desk_answer model.now delivery.now code.now script.now) sink.old result sink.new }
 {
     let asker = OfCode {
-        asker: &Replies { script },
+        asker: &Replies { script, watch },
         code,
     };
     ask_inputs(alloc, &asker, model, delivery, sink)
@@ -253,6 +260,7 @@ pub fn run_desk<M: Source, D: Source, C: Source, P: Source, S: Sink>(
     match read_all(alloc, model, delivery, code, script) {
         Ok((inputs, script)) => reply_inputs(
             alloc,
+            &Unwatched,
             &inputs.model,
             &inputs.delivery,
             &inputs.rules,

@@ -15,7 +15,9 @@ ghost use Rattle.ocl_check.specs.Reply.{Answer};
 use crate::outcome::{CommandFault, Outcome, stop};
 use crate::source::Source;
 use crate::three_inputs::read_inputs;
+use crate::watch::{Unwatched, Watch};
 use imkl_population::Population;
+use ocl_core::CoreRule;
 use ocl_pipeline::laws::each_text_is_read;
 use ocl_pipeline::{
     AdmittedAsker, CodeAsker, OfCode, OfText, Place, Stopped, TextAsker, ask_admitted, ask_inputs,
@@ -61,12 +63,14 @@ fn judge_admitted<S: Sink>(
 
 /// Asks for the report, by rules that are within a budget.
 #[derive(Clone, Copy)]
-struct Report {
+struct Report<'a, V> {
     /// The greatest bound that a rule may have, in charges for an object.
     budget: u64,
+    /// Who watches.
+    watch: &'a V,
 }
 
-impl<S: Sink> AdmittedAsker<S> for Report {
+impl<S: Sink, V: Watch> AdmittedAsker<S> for Report<'_, V> {
     type Output = Outcome;
 
     ghost can_ask = { λ s. S.has_failed s ≡ false };
@@ -81,15 +85,16 @@ impl<S: Sink> AdmittedAsker<S> for Report {
         admitted: &Admitted<'_>,
         sink: &mut S,
     ) -> Outcome {
+        self.watch.admit(alloc, population, admitted);
         judge_admitted(alloc, population, admitted, sink)
     }
 
-    fn stop(&self, alloc: Global, _place: Place<'_, '_>, why: Stopped, sink: &mut S) -> Outcome {
-        stop(alloc, why, sink)
+    fn stop(&self, alloc: Global, place: Place<'_>, why: Stopped, sink: &mut S) -> Outcome {
+        stop(alloc, self.watch, place, why, sink)
     }
 }
 
-impl<S: Sink> CodeAsker<S> for Report {
+impl<S: Sink, V: Watch> CodeAsker<S> for Report<'_, V> {
     type Output = Outcome;
 
     ghost can_ask = { λ s. S.has_failed s ≡ false };
@@ -107,12 +112,12 @@ impl<S: Sink> CodeAsker<S> for Report {
         ask_admitted(alloc, self, self.budget, population, accepted, sink)
     }
 
-    fn stop(&self, alloc: Global, _place: Place<'_, '_>, why: Stopped, sink: &mut S) -> Outcome {
-        stop(alloc, why, sink)
+    fn stop(&self, alloc: Global, place: Place<'_>, why: Stopped, sink: &mut S) -> Outcome {
+        stop(alloc, self.watch, place, why, sink)
     }
 }
 
-impl<S: Sink> TextAsker<S> for Report {
+impl<S: Sink, V: Watch> TextAsker<S> for Report<'_, V> {
     type Output = Outcome;
 
     ghost can_ask = { λ s. S.has_failed s ≡ false };
@@ -124,14 +129,15 @@ impl<S: Sink> TextAsker<S> for Report {
         &self,
         alloc: Global,
         population: &Population<'_>,
+        _rules: &[CoreRule],
         accepted: &Accepted<'_>,
         sink: &mut S,
     ) -> Outcome {
         ask_admitted(alloc, self, self.budget, population, accepted, sink)
     }
 
-    fn stop(&self, alloc: Global, _place: Place<'_, '_>, why: Stopped, sink: &mut S) -> Outcome {
-        stop(alloc, why, sink)
+    fn stop(&self, alloc: Global, place: Place<'_>, why: Stopped, sink: &mut S) -> Outcome {
+        stop(alloc, self.watch, place, why, sink)
     }
 }
 
@@ -153,9 +159,10 @@ pub struct JudgeOptions {
     pub budget: u64,
 }
 
-/// Answers with the report on a delivery.
-fn judge_inputs<S: Sink>(
+/// Answers with the report on a delivery, as `run_judge` does of inputs that it has read.
+pub fn judge_inputs<S: Sink, V: Watch>(
     alloc: Global,
+    watch: &V,
     options: JudgeOptions,
     model: &[u8],
     delivery: &[u8],
@@ -168,6 +175,7 @@ fn judge_inputs<S: Sink>(
 {
     let asker = &Report {
         budget: options.budget,
+        watch,
     };
     match options.form {
         RulesForm::Code => {
@@ -240,6 +248,7 @@ pub fn run_judge<M: Source, D: Source, R: Source, S: Sink>(
     match read_inputs(alloc, model, delivery, rules) {
         Ok(inputs) => judge_inputs(
             alloc,
+            &Unwatched,
             options,
             &inputs.model,
             &inputs.delivery,

@@ -6,6 +6,7 @@ ghost use Rattle.rule_code.specs.CodeFile.{unit_of};
 ghost use Rattle.ocl_check.specs.Reply.{said};
 ghost use Rattle.ocl_check.specs.declared.input.TheConstants.{MAX_INPUT};
 ghost use Rattle.ocl_check.specs.Answers.{IsAnswered, IsFlushedBy, IsReadWithinLimits, IsUnread, KeepsSink, ReadBy, fails_read, fails_write};
+ghost use Rattle.ocl_check.specs.Ending.{IsEnding};
 ghost use Rattle.ocl_check.specs.Input.{CantBeRead, ConsumesAtMost};
 ghost use Rattle.ocl_check.specs.Verify.{verify_code_answer, verify_answer};
 
@@ -13,30 +14,63 @@ use crate::input::read_two;
 use crate::outcome::{CommandFault, Outcome, answer};
 use crate::reply::{Reply, accepted_reply, refusal_reply};
 use crate::source::Source;
+use crate::watch::{Unwatched, Watch};
 use imkl_model::ClassModel;
 use ocl_base::OutOfMemory;
-use ocl_pipeline::{accept_code, read_model};
+use ocl_pipeline::{Place, accept_code, read_model};
 use rule_report::Sink;
 use std::alloc::Global;
 
 /// The reply to a code file.
-fn verify_code(alloc: Global, model: &ClassModel, code: &[u8]) -> Result<Reply, OutOfMemory>
+fn verify_code<V: Watch>(
+    alloc: Global,
+    watch: &V,
+    model: &ClassModel,
+    code: &[u8],
+) -> Result<Reply, OutOfMemory>
     ensures { IfOk result (λ r. said r ≡ verify_code_answer model.now (unit_of code.now)) }
 {
     match accept_code(alloc, model, code) {
         Ok(accepted) => accepted_reply(alloc, accepted.rules()),
-        Err(rejected) => refusal_reply(alloc, rejected.why),
+        Err(rejected) => {
+            let (place, why) = rejected.into_parts(model);
+            watch.stop(alloc, place, &why);
+            refusal_reply(alloc, why)
+        }
     }
 }
 
 /// The reply to a class model and a code file.
-fn verify_inputs(alloc: Global, model: &[u8], code: &[u8]) -> Result<Reply, OutOfMemory>
+fn verify_reply<V: Watch>(
+    alloc: Global,
+    watch: &V,
+    model: &[u8],
+    code: &[u8],
+) -> Result<Reply, OutOfMemory>
     ensures { IfOk result (λ r. said r ≡ verify_answer model.now code.now) }
 {
     match read_model(alloc, model) {
-        Ok(model) => verify_code(alloc, &model, code),
-        Err(why) => refusal_reply(alloc, why),
+        Ok(model) => verify_code(alloc, watch, &model, code),
+        Err(why) => {
+            watch.stop(alloc, Place::Model, &why);
+            refusal_reply(alloc, why)
+        }
     }
+}
+
+/// Answers whether a code file is accepted, as `run_verify` does of inputs that it has read.
+pub fn verify_inputs<S: Sink, V: Watch>(
+    alloc: Global,
+    watch: &V,
+    model: &[u8],
+    code: &[u8],
+    sink: &mut S,
+) -> Outcome
+    requires { S.has_failed sink.old ≡ false }
+    ensures { IsEnding S.contents S.has_failed S.flushes S.has_pending true
+        (verify_answer model.now code.now) sink.old result sink.new }
+{
+    answer(sink, verify_reply(alloc, watch, model, code))
 }
 
 /// Verifies a code file: reads the class model and the code file, each whole, and then writes that
@@ -76,7 +110,7 @@ pub fn run_verify<M: Source, C: Source, S: Sink>(
     ensures code_waits { IsAtEnd (M.remaining model.new) ⊎ (code.new ≡ code.old) }
 {
     match read_two(alloc, model, code) {
-        Ok((model, code)) => answer(sink, verify_inputs(alloc, &model, &code)),
+        Ok((model, code)) => verify_inputs(alloc, &Unwatched, &model, &code, sink),
         Err(fault) => Outcome::Failed(CommandFault::from(fault)),
     }
 }

@@ -1,13 +1,16 @@
-use Rattle.std.proofs.Common.{sym, subst}
-use Rattle.ocl_base.specs.Steps.{Fails}
-use Rattle.ocl_pipeline.specs.declared.stopped.Stopped.{Stopped}
-use Rattle.ocl_pipeline.specs.Stops.{stopped}
-use Rattle.ocl_pipeline.specs.Steps.{text_in}
-use Rattle.ocl_pipeline.proofs.TextCompiled.{flawed_text}
+use Rattle.std.proofs.Common.{List, map, sym, subst}
+use Rattle.ocl_core.specs.declared.core_tree.CoreRule.{CoreRule}
+use Rattle.ocl_core.specs.CoreView.{checked_rule_of}
+use Rattle.rule_code.specs.View.{content}
+use Rattle.ocl_pipeline.specs.TypedRules.{AreRulesOf}
+use Rattle.ocl_pipeline.proofs.TextCompiled.{unit_of_rules}
 use Rattle.ocl_pipeline.proofs.rules.compile_text.Goals as goal
 
-pub returns-in-Err : goal.returns-in-Err
-returns-in-Err c =
+pub returns-in-Ok : goal.returns-in-Ok
+returns-in-Ok c =
     let m = c.args.model.now in
-    let f = flawed_text m c.args.bytes.now c.in-Err.fault (c.each_text_is_read.ensures c.args.bytes.now) c.in-Err.ensures.fault in
-    (f.0, f.1, tt, subst (λ (e : Stopped). Fails stopped e (text_in m f.0)) (sym c.from.ensures) f.2)
+    let h = c.in-Ok.ensures.read in
+    let rs = map checked_rule_of c.deref.result.now in
+    let are = subst (λ (l : List CoreRule). AreRulesOf m h.0 (map checked_rule_of l)) (sym c.deref.ensures.value) h.2 in
+    let made = unit_of_rules content (λ e. e) c.compile_rules.result m h.0 rs are c.compile_rules.ensures.unit c.compile_rules.ensures.fault in
+    (h.0, h.1, made.0, made.1)

@@ -5,7 +5,7 @@ use Rattle.ocl_check.proofs.Compiling.{unit_seen, unit_kept, no_unit, text_given
 use Rattle.ocl_check.proofs.commands.compile.compile_rule_text.Goals as goal
 
 pub returns-in-Ok : goal.returns-in-Ok
-returns-in-Ok c =
+returns-in-Ok g c =
     let h = c.in-Ok.ensures in (
       h.0,
       h.1,
@@ -14,7 +14,7 @@ returns-in-Ok c =
     )
 
 pub returns-in-Err : goal.returns-in-Err
-returns-in-Err c =
+returns-in-Err g c =
     let h = c.in-Err.ensures in
     let m = c.args.model.now in
     let x = compiled_rules m h.0 in

@@ -1,8 +1,10 @@
-use Rattle.std.proofs.Common.{sym, ◌∙◌}
+use Rattle.std.proofs.Common.{ℕ, List, sym, ◌∙◌}
 use Rattle.std.proofs.lemmas.Bool.{false≢true}
-use Rattle.ocl_check.specs.Compile.{compile_answer}
-use Rattle.ocl_check.proofs.Compiling.{compiled_alike, of_unit, nothing_written}
-use Rattle.ocl_check.proofs.Endings.{within, untouched, no_write, failed_read, read_fails, not_read, was_read, nothing_said, unflushed}
+use Rattle.ocl_pipeline.specs.TextReading.{TextReading, ReadsAs}
+use Rattle.ocl_check.specs.Answers.{IsAnswered}
+use Rattle.ocl_check.specs.Compile.{compile_answer, IsCodeWritten, IsOfUnit}
+use Rattle.ocl_check.proofs.Compiling.{nothing_written}
+use Rattle.ocl_check.proofs.Endings.{two_known, within, untouched, no_write, failed_read, read_fails, not_read, was_read, nothing_said, unflushed}
 use Rattle.ocl_check.proofs.Inputs.{known_bytes, has_known}
 use Rattle.ocl_check.proofs.commands.compile.run_compile.Goals as goal
 
@@ -10,22 +12,19 @@ pub returns-in-Ok-clause-answered : goal.returns-in-Ok-clause-answered
 returns-in-Ok-clause-answered g c =
     let model = c.in-Ok.model.items in
     let rules = c.in-Ok.rules.items in
-    let o = c.write_result.result in
-    let h = compiled_alike c.compile_inputs.result c.deref.result.now c.deref-in-Ok.result.now model rules c.deref.ensures.value c.deref-in-Ok.ensures.value c.compile_inputs.ensures in
-    let a = compile_answer model h.0 in (
+    let o = c.compile_inputs.result in
+    let IsWritten : List ℕ → List ℕ → Type 0 = λ xs ys. (t : TextReading) × ReadsAs ys t × IsOfUnit o xs t
+    × IsCodeWritten g.O.Sink.contents g.O.Sink.has_failed (compile_answer xs t).code c.args.out.now c.compile_inputs.new.out o
+    × IsAnswered (compile_answer xs t).said (g.S.Sink.contents c.args.sink.now) (g.S.Sink.contents c.compile_inputs.new.sink) o in
+    let written = two_known IsWritten c.deref.result.now c.deref-in-Ok.result.now model rules c.deref.ensures.value c.deref-in-Ok.ensures.value c.compile_inputs.ensures.answered in (
       model,
       c.in-Ok.ensures.first.0,
       within o model c.in-Ok.ensures.first.1,
-      (
-        rules,
-        c.in-Ok.ensures.second.0,
-        within o rules c.in-Ok.ensures.second.1,
-        (h.0, h.1, of_unit o c.compile_inputs.result model h.0 c.write_result.ensures.ended h.3, c.write_result.ensures.code a h.2, c.write_result.ensures.said a h.2),
-      ),
+      (rules, c.in-Ok.ensures.second.0, within o rules c.in-Ok.ensures.second.1, written),
     )
 
 pub returns-in-Ok-clause-read_fault : goal.returns-in-Ok-clause-read_fault
-returns-in-Ok-clause-read_fault g c = λ h. absurd (false≢true (sym c.write_result.ensures.read ∙ h))
+returns-in-Ok-clause-read_fault g c = λ h. absurd (false≢true (sym c.compile_inputs.ensures.read ∙ h))
 
 pub returns-in-Ok-clause-failed : goal.returns-in-Ok-clause-failed
 returns-in-Ok-clause-failed g c = λ h. absurd (was_read (c.in-Ok.model, c.in-Ok.rules) (c.in-Ok.ensures.failed h))

@@ -1,8 +1,7 @@
-use Rattle.std.proofs.Common.{true, sym, ◌∙◌}
+use Rattle.std.proofs.Common.{sym, ◌∙◌}
 use Rattle.std.proofs.lemmas.Bool.{false≢true}
 use Rattle.ocl_check.specs.Verify.{verify_answer}
-use Rattle.ocl_check.proofs.Said.{verified_alike}
-use Rattle.ocl_check.proofs.Endings.{within, kept_whole, untouched, no_write, failed_read, read_fails, not_read, was_read, nothing_said, unflushed}
+use Rattle.ocl_check.proofs.Endings.{ending_as, two_alike, within, kept_whole, untouched, no_write, failed_read, read_fails, not_read, was_read, nothing_said, unflushed}
 use Rattle.ocl_check.proofs.Inputs.{known_bytes, has_known}
 use Rattle.ocl_check.proofs.commands.verify.run_verify.Goals as goal
 
@@ -10,27 +9,19 @@ pub returns-in-Ok-clause-answered : goal.returns-in-Ok-clause-answered
 returns-in-Ok-clause-answered g c =
     let model = c.in-Ok.model.items in
     let code = c.in-Ok.code.items in
-    let o = c.answer.result in
-    let ending = c.answer.ensures true (verify_answer model code) (verified_alike c.verify_inputs.result c.deref.result.now c.deref-in-Ok.result.now model code c.deref.ensures.value c.deref-in-Ok.ensures.value c.verify_inputs.ensures) in (
+    let o = c.verify_inputs.result in
+    let ending = ending_as (two_alike verify_answer _ _ model code c.deref.ensures.value c.deref-in-Ok.ensures.value) c.verify_inputs.ensures in (
       model,
       c.in-Ok.ensures.first.0,
       within o model c.in-Ok.ensures.first.1,
       (code, c.in-Ok.ensures.second.0, within o code c.in-Ok.ensures.second.1, ending.answered),
     )
 
-pub returns-in-Ok-clause-sink : goal.returns-in-Ok-clause-sink
-returns-in-Ok-clause-sink g c = (c.answer.ensures true (verify_answer c.deref.result.now c.deref-in-Ok.result.now) c.verify_inputs.ensures).sink
-
-pub returns-in-Ok-clause-flushed : goal.returns-in-Ok-clause-flushed
-returns-in-Ok-clause-flushed g c = (c.answer.ensures true (verify_answer c.deref.result.now c.deref-in-Ok.result.now) c.verify_inputs.ensures).flushed
-
 pub returns-in-Ok-clause-kept : goal.returns-in-Ok-clause-kept
-returns-in-Ok-clause-kept g c =
-    kept_whole c.answer.result c.args.sink.now c.answer.new.sink (c.answer.ensures true (verify_answer c.deref.result.now c.deref-in-Ok.result.now) c.verify_inputs.ensures).kept
+returns-in-Ok-clause-kept g c = kept_whole c.verify_inputs.result c.args.sink.now c.verify_inputs.new.sink c.verify_inputs.ensures.kept
 
 pub returns-in-Ok-clause-read_fault : goal.returns-in-Ok-clause-read_fault
-returns-in-Ok-clause-read_fault g c = λ h.
-    absurd (false≢true (sym (c.answer.ensures true (verify_answer c.deref.result.now c.deref-in-Ok.result.now) c.verify_inputs.ensures).read ∙ h))
+returns-in-Ok-clause-read_fault g c = λ h. absurd (false≢true (sym c.verify_inputs.ensures.read ∙ h))
 
 pub returns-in-Ok-clause-failed : goal.returns-in-Ok-clause-failed
 returns-in-Ok-clause-failed g c = λ h. absurd (was_read (c.in-Ok.model, c.in-Ok.code) (c.in-Ok.ensures.failed h))
