@@ -1,95 +1,90 @@
--- Whatever the inputs are, there is an answer of `why`: they are told of, or refused.
-use Rattle.std.proofs.Common.{◌≡◌, ◌⊎◌, inl, inr, ◌∙◌, ℕ, List, Result, Ok, Err, refl, ap}
-use Rattle.imkl_model.specs.declared.fault.ModelFault.{ModelFault}
+-- What is answered of a class model, a delivery and the rules of a text is what `why` may print.
+use Rattle.std.proofs.Common.{◌≡◌, inl, inr, ◌∙◌, ℕ, List, Option, Result, Ok, Err, refl, sym, ap, subst}
+use Rattle.ocl_base.specs.Steps.{◌>>=◌}
+use Rattle.ocl_base.proofs.ForAbove.{both_steps, ok_is, not_okay}
 use Rattle.imkl_model.specs.ClassModel.{Model}
 use Rattle.imkl_population.specs.Population.{Population}
 use Rattle.imkl_population.specs.Sizes.{sizes_of}
-use Rattle.imkl_delivery.specs.declared.fault.DeliveryFault.{DeliveryFault}
-use Rattle.ocl_base.specs.Steps.{◌>>=◌}
 use Rattle.ocl_text.specs.Tree.{Rule}
-use Rattle.ocl_core.specs.Core.{CheckedRule}
-use Rattle.ocl_types.specs.AllRules.{RulesFaultAt, elaborate_rules}
-use Rattle.rule_code.specs.Content.{Content}
+use Rattle.ocl_types.specs.AllRules.{elaborate_rules}
 use Rattle.rule_cost.specs.Admission.{admission}
-use Rattle.ocl_compile.specs.Compiling.{LimitAt, compile_of}
-use Rattle.ocl_check.specs.declared.commands.judge.TheConstants.{MAX_BUDGET}
-use Rattle.ocl_check.specs.Reply.{Answer}
+use Rattle.ocl_pipeline.specs.declared.refusal.Refusal.{Refusal}
+use Rattle.ocl_pipeline.specs.declared.refusal.Refusal.TheVariants as refusal
 use Rattle.ocl_pipeline.specs.TextReading.{TextReading, ReadsAs}
-use Rattle.ocl_pipeline.specs.CompiledRules.{in_types, in_code}
+use Rattle.ocl_pipeline.specs.CompiledRules.{CompiledRules, compiled_rules}
 use Rattle.ocl_pipeline.specs.Inputs.{model_of, population_of}
-use Rattle.ocl_check.specs.ThreeInputs.{delivery_answer, model_answer}
-use Rattle.ocl_check.specs.JudgeText.{meant_answer, within_answer, rules_answer, text_answer, judge_text_answer}
-use Rattle.ocl_explain.specs.WhyAnswers.{why_text, why_answer, IsToldOf, IsToldIn, shown_answer, WhyAnswers}
-use Rattle.ocl_explain.specs.Judged.{typed_answer}
-use Rattle.ocl_explain.proofs.Judging.{text_is_typed}
-use Rattle.ocl_explain.proofs.Refusing.{delivery_refused}
-use Rattle.ocl_explain.proofs.Told.{refused_as}
+use Rattle.ocl_pipeline.specs.Steps.{refused_as, text_refusal, model_in, population_in, inputs_in, text_in}
+use Rattle.ocl_pipeline.specs.Asked.{PopulationAndRules, with_rules, with_text, text_with, admission_for}
+use Rattle.ocl_pipeline.proofs.ForAbove.{compiled_parts, not_refused}
+use Rattle.ocl_check.specs.declared.commands.judge.TheConstants.{MAX_BUDGET}
+use Rattle.ocl_check.specs.Reply.{Answer, refused}
+use Rattle.ocl_check.specs.Given.{given_answer, meant_within}
+use Rattle.ocl_check.specs.JudgeText.{within_answer, rules_answer, judge_text_answer}
+use Rattle.ocl_check.proofs.ForAbove.{text_is_answered}
+use Rattle.ocl_explain.specs.declared.verdicts.Why.{Why}
+use Rattle.ocl_explain.specs.declared.verdicts.Why.TheVariants.{Explained, Unknown}
+use Rattle.ocl_explain.specs.Explained.{printed, IsExplainedBy}
+use Rattle.ocl_explain.specs.WhyAnswers.{why_text, why_answer, why_of, IsToldOf, IsTold, shown_answer, WhyAnswers}
 
-module _ (p : Population) (rs : List CheckedRule) where
-  -- an answer is the report that the rules mean, or has status 2
-  abbrev IsReportOrRefusal : Answer → Type 0
-  IsReportOrRefusal a = (a ≡ meant_answer p rs) ⊎ (a.1 ≡ 2)
+module _ (rules name id : List ℕ) (t : TextReading) (reads : ReadsAs rules t) where
+  module _ (p : Population) (c : CompiledRules) (compiled : compiled_rules p.model t ≡ Ok c) where
+    -- rules that are compiled, and each within the budget, are told of
+    told_of : (x : Unit {0}) → admission c.unit (sizes_of p) MAX_BUDGET ≡ Ok x → IsToldOf p rules name id (why_answer (why_text p c.rules name id))
+    told_of x within =
+        let of_text = (compiled_parts p.model t c compiled).0 in
+        let same = subst (λ (r : TextReading). compiled_rules p.model r ≡ Ok c) of_text.1 compiled in
+        let judged = ap (rules_answer MAX_BUDGET p) same ∙ ap (within_answer p c.rules) within in
+        (of_text.0, c.rules, subst (ReadsAs rules) of_text.1 reads, of_text.2, judged, refl)
 
-  within_decided : (o : Result (Unit {0}) ℕ) → IsReportOrRefusal (within_answer p rs o)
-  within_decided (Ok x) = inl refl
-  within_decided (Err r) = inr refl
+  module _ (model delivery : List ℕ) (lines : ℕ) where
+    abbrev asked : Result PopulationAndRules Refusal
+    asked = text_with t (inputs_in model delivery)
 
-  code_decided : (c : Result Content LimitAt) → IsReportOrRefusal (rules_answer MAX_BUDGET p (in_code rs c))
-  code_decided (Ok u) = within_decided (admission u (sizes_of p) MAX_BUDGET)
-  code_decided (Err limit) = inr refl
+    abbrev Answers : Answer → Type 0
+    Answers = WhyAnswers model delivery rules name id lines
 
-  -- so is that to typed rules
-  typed_decided : IsReportOrRefusal (typed_answer p rs)
-  typed_decided = code_decided (compile_of p.model rs)
+    -- the answer of `judge` to the same
+    judged : (g : Result PopulationAndRules Refusal) → asked ≡ g → given_answer (meant_within MAX_BUDGET) g ≡ judge_text_answer MAX_BUDGET model delivery t
+    judged g is = ap (given_answer (meant_within MAX_BUDGET)) (sym is) ∙ text_is_answered MAX_BUDGET t model delivery
 
-module _ (rules name id : List ℕ) where
-  -- it is told of the bytes of a text, or the text is refused
-  abbrev IsTextDecided : Population → TextReading → Type 0
-  IsTextDecided p t = ((a : Answer) × IsToldOf p rules name id a) ⊎ ((text_answer MAX_BUDGET t p).1 ≡ 2)
+    -- where that is a refusal, so is this
+    refusal_answers : (r : Refusal) → refused r ≡ judge_text_answer MAX_BUDGET model delivery t → Answers (refused r)
+    refusal_answers r is = inr ((t, reads, is), refl)
 
-  typed_text_decided : (p : Population) (t : List Rule) (rs : List CheckedRule) → ReadsAs rules (Ok t) → elaborate_rules p.model 0 t ≡ Ok rs → IsTextDecided p (Ok t)
-  typed_text_decided p t rs reads typed = by (typed_decided p rs)
-    where
-      by : (typed_answer p rs ≡ meant_answer p rs) ⊎ ((typed_answer p rs).1 ≡ 2) → IsTextDecided p (Ok t)
-      by (inl same) = inl (why_answer (why_text p rs name id), (t, rs, reads, typed, text_is_typed p t rs typed ∙ same, refl))
-      by (inr two) = inr (refused_as (text_answer MAX_BUDGET (Ok t) p) (typed_answer p rs) (text_is_typed p t rs typed) two)
+    module _ (p : Population) (c : CompiledRules) (is : asked ≡ Ok (p, c)) where
+      -- the inputs describe the population, and the rules are compiled for its class model
+      inputs_are : (inputs_in model delivery ≡ Ok p) × (compiled_rules p.model t ≡ Ok c)
+      inputs_are =
+          let a = both_steps (inputs_in model delivery) (with_text t) (p, c) is in
+          let b = both_steps (text_in a.0.model t) (with_rules a.0) (p, c) a.2 in
+          let same = ok_is (a.0, b.0) (p, c) b.2 in
+          let compiled = not_refused text_refusal (compiled_rules a.0.model t) b.0 b.1 in
+          let both : (inputs_in model delivery ≡ Ok a.0) × (compiled_rules a.0.model t ≡ Ok b.0) = (a.1, compiled) in
+          subst (λ (x : Population × CompiledRules). (inputs_in model delivery ≡ Ok x.0) × (compiled_rules x.0.model t ≡ Ok x.1)) same both
 
-  rules_decided : (p : Population) (t : List Rule) (o : Result (List CheckedRule) RulesFaultAt) → elaborate_rules p.model 0 t ≡ o → ReadsAs rules (Ok t) → IsTextDecided p (Ok t)
-  rules_decided p t (Ok rs) is reads = typed_text_decided p t rs reads is
-  rules_decided p t (Err fault) is reads =
-      inr (ap (λ (o : Result (List CheckedRule) RulesFaultAt). (rules_answer MAX_BUDGET p (in_types o >>= (λ xs. in_code xs (compile_of p.model xs)))).1) is)
+      -- so they are told of
+      are_told : (x : Unit {0}) → admission c.unit (sizes_of p) MAX_BUDGET ≡ Ok x → IsTold model delivery rules name id (why_answer (why_text p c.rules name id))
+      are_told x within =
+          let h = inputs_are in
+          let read = both_steps (model_in model) (population_in delivery) p h.0 in (
+            read.0,
+            not_refused refusal.Model (model_of model) read.0 read.1,
+            (p, not_refused refusal.Delivery (population_of read.0 delivery) p read.2, told_of p c h.1 x within),
+          )
 
-  text_decided : (p : Population) (t : TextReading) → ReadsAs rules t → IsTextDecided p t
-  text_decided p (Ok t) reads = rules_decided p t (elaborate_rules p.model 0 t) refl reads
-  text_decided p (Err fault) reads = inr refl
+      by_cost : (o : Result (Unit {0}) ℕ) → admission c.unit (sizes_of p) MAX_BUDGET ≡ o
+          → Answers (given_answer (λ _. shown_answer lines (why_answer (why_text p c.rules name id))) (refused_as refusal.Cost o >>= (λ _. Ok (admission_for MAX_BUDGET p c.unit))))
+      by_cost (Ok x) within = inl (why_answer (why_text p c.rules name id), are_told x within, refl)
+      by_cost (Err r) within = refusal_answers (refusal.Cost r) (sym (ap (within_answer p c.rules) within) ∙ judged (Ok (p, c)) is)
 
-  module _ (model delivery : List ℕ) (lines : ℕ) (t : TextReading) (reads : ReadsAs rules t) where
-    -- likewise of a delivery
-    abbrev IsDeliveryDecided : Model → Result Population DeliveryFault → Type 0
-    IsDeliveryDecided m r = ((a : Answer) × IsToldIn m delivery rules name id a) ⊎ ((delivery_answer (text_answer MAX_BUDGET t) r).1 ≡ 2)
+    by_asked : (g : Result PopulationAndRules Refusal) → asked ≡ g → Answers (given_answer (why_of name id lines) g)
+    by_asked (Ok (p, c)) is = by_cost p c is (admission c.unit (sizes_of p) MAX_BUDGET) refl
+    by_asked (Err r) is = refusal_answers r (judged (Err r) is)
 
-    delivery_decided : (m : Model) (r : Result Population DeliveryFault) → population_of m delivery ≡ r → IsDeliveryDecided m r
-    delivery_decided m (Ok p) is = by (text_decided p t reads)
-      where
-        by : IsTextDecided p t → IsDeliveryDecided m (Ok p)
-        by (inl told) = inl (told.0, (p, is, told.1))
-        by (inr two) = inr two
-    delivery_decided m (Err fault) is = inr (delivery_refused fault)
+    pub why_answers : Answers (given_answer (why_of name id lines) asked)
+    why_answers = by_asked asked refl
 
-    -- and of a class model
-    model_decided : (r : Result Model ModelFault) → model_of model ≡ r → (a : Answer) × WhyAnswers model delivery rules name id lines a
-    model_decided (Ok m) is = by (delivery_decided m (population_of m delivery) refl)
-      where
-        by : IsDeliveryDecided m (population_of m delivery) → (a : Answer) × WhyAnswers model delivery rules name id lines a
-        by (inl told) = (shown_answer lines told.0, inl (told.0, (m, is, told.1), refl))
-        by (inr two) =
-            let answer = judge_text_answer MAX_BUDGET model delivery t in
-            let refused = refused_as answer (delivery_answer (text_answer MAX_BUDGET t) (population_of m delivery))
-            (ap (λ (r : Result Model ModelFault). model_answer (text_answer MAX_BUDGET t) r delivery) is) two in
-            (answer, inr ((t, reads, refl), refused))
-    model_decided (Err fault) is =
-        let answer = judge_text_answer MAX_BUDGET model delivery t in
-        (answer, inr ((t, reads, refl), ap (λ (r : Result Model ModelFault). (model_answer (text_answer MAX_BUDGET t) r delivery).1) is))
-
-    pub some_answer : (a : Answer) × WhyAnswers model delivery rules name id lines a
-    some_answer = model_decided (model_of model) refl
+-- the words of a verdict are printed as the explanation, and nothing where there is none
+pub printed_is : (text : Option (List ℕ)) (why : Why) → IsExplainedBy text why → printed why ≡ why_answer text
+printed_is text (Explained words) is = sym (ap why_answer is)
+printed_is text (Unknown words) is = sym (ap why_answer is)

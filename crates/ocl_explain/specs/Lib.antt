@@ -1,5 +1,4 @@
 -- Definitions: what contracts mean.
-pub mod Inputs
 pub mod WhyAnswers
 -- Bookkeeping: what only proofs and private contracts use.
-pub mod Judged
+pub mod Explained

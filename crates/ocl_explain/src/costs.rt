@@ -1,12 +1,9 @@
 //! Why a rule isn't admitted.
 
-ghost use Rattle.std.specs.Prelude.{◌≡◌};
-
 use explain_costs::explain_charges;
 use explain_notes::Input;
-use imkl_population::Sizes;
+use ocl_pipeline::SizedCode;
 use rule_cost::{Bound, STEP_LIMIT, bound};
-use rule_verify::Accepted;
 use std::alloc::{AllocError, Global};
 
 /// Writes what a rule may be charged, the budget that this is above, and the iterations that make it.
@@ -14,14 +11,12 @@ pub(crate) fn explain_cost(
     alloc: Global,
     out: &mut String,
     input: Input<'_>,
-    accepted: &Accepted<'_>,
-    sizes: &Sizes<'_>,
+    code: &SizedCode<'_>,
     budget: u64,
     rule: usize,
-) -> Result<(), AllocError>
-    requires { sizes.now.model ≡ accepted.now.model }
-{
-    let path = input.path;
+) -> Result<(), AllocError> {
+    code.one_model();
+    let (path, accepted, sizes) = (input.path, code.accepted(), code.sizes());
     if rule >= accepted.rules() {
         return Ok(());
     }

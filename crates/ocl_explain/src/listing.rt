@@ -2,24 +2,18 @@
 
 ghost use Rattle.std.specs.Prelude.{◌≡◌, false, OnOk};
 
-use explain_code::{Refused, explain_code_flaw, explain_verify_flaw, list_counts, list_rule};
+use crate::explaining::{Ending, Words};
+use crate::refusals::explain_rejected;
+use explain_code::{explain_code_flaw, list_counts, list_rule};
 use explain_inputs::explain_model;
 use explain_notes::Input;
-use imkl_model::{ClassModel, ModelFault};
+use imkl_model::ClassModel;
 use ocl_check::{CommandFault, Outcome, Sink};
+use ocl_pipeline::{Refusal, Stopped, accept, read_model};
 use rule_code::{CodeFault, CodeFlaw, Unit, read_unit};
 use rule_report::write_and_flush;
-use rule_verify::{Resolved, VerifyFault, resolve, verify};
-use std::alloc::{AllocError, Global};
-
-/// How a listing ended, and why something is refused.
-#[derive(Drop)]
-pub struct ListEnding {
-    /// Status 2 where something is refused, else 0; or what failed.
-    pub outcome: Outcome,
-    /// Why the file or the class model is refused, or the code isn't accepted; empty where nothing is.
-    pub refusal: Result<String, AllocError>,
-}
+use rule_verify::{Resolved, resolve};
+use std::alloc::Global;
 
 /// Writes a part of a listing.
 fn write_part<S: Sink>(sink: &mut S, part: &str) -> Result<(), CommandFault>
@@ -73,53 +67,31 @@ fn write_unit<S: Sink>(
     Ok(())
 }
 
-/// Writes why code isn't accepted for a class model, if it isn't.
-fn on_listed(
-    alloc: Global,
-    out: &mut String,
-    code: Input<'_>,
-    model: &ClassModel,
-    unit: Unit,
-) -> Result<(), AllocError> {
-    match verify(alloc, model, unit) {
-        Ok(_) => Ok(()),
-        Err((VerifyFault::At { flaw, rule, at }, unit)) => {
-            let refused = Refused { flaw, rule, at };
-            explain_verify_flaw(alloc, out, code, model, unit, refused)
-        }
-        Err((VerifyFault::OutOfMemory, _unit)) => Err(AllocError),
-    }
-}
-
 /// Why code isn't accepted for a class model; empty where it is.
-fn refusal_of(
-    alloc: Global,
-    code: Input<'_>,
-    model: &ClassModel,
-    unit: Unit,
-) -> Result<String, AllocError> {
+fn refusal_of(alloc: Global, code: Input<'_>, model: &ClassModel, unit: Unit) -> Words {
     let mut out = String::new(alloc);
-    on_listed(alloc, &mut out, code, model, unit)?;
+    if let Err(rejected) = accept(alloc, model, unit) {
+        explain_rejected(alloc, &mut out, code, model, rejected)?;
+    }
     Ok(out)
 }
 
-/// An ending with this refusal; with status 0 where it is empty.
-fn refused(refusal: Result<String, AllocError>) -> ListEnding {
-    let is_accepted = match &refusal {
-        Ok(words) => words.is_empty(),
-        Err(_) => false,
-    };
-    ListEnding {
-        outcome: Outcome::Status(if is_accepted { 0 } else { 2 }),
-        refusal,
+/// An ending by what failed.
+fn failed(alloc: Global, fault: CommandFault) -> Ending {
+    Ending {
+        outcome: Outcome::Failed(fault),
+        words: Ok(String::new(alloc)),
     }
 }
 
-/// An ending by what failed.
-fn failed(alloc: Global, fault: CommandFault) -> ListEnding {
-    ListEnding {
-        outcome: Outcome::Failed(fault),
-        refusal: Ok(String::new(alloc)),
+/// An ending with the words of a refusal: status 2, or 0 where they are empty.
+fn ending_with(alloc: Global, words: Words) -> Ending {
+    match words {
+        Ok(words) => Ending {
+            outcome: Outcome::Status(if words.is_empty() { 0 } else { 2 }),
+            words: Ok(words),
+        },
+        Err(_) => failed(alloc, CommandFault::OutOfMemory),
     }
 }
 
@@ -129,14 +101,14 @@ fn list_resolved<S: Sink>(
     sink: &mut S,
     code: Input<'_>,
     resolved: Resolved<'_>,
-) -> ListEnding
+) -> Ending
     requires { S.has_failed sink.old ≡ false }
 {
     if let Err(fault) = write_unit(alloc, sink, resolved.unit(), Some(&resolved)) {
         return failed(alloc, fault);
     }
     let model = resolved.model();
-    refused(refusal_of(alloc, code, model, resolved.into_unit()))
+    ending_with(alloc, refusal_of(alloc, code, model, resolved.into_unit()))
 }
 
 /// Lists a unit, and says why it isn't accepted for a class model, if there is one and it isn't.
@@ -146,12 +118,12 @@ fn list_unit<S: Sink>(
     code: Input<'_>,
     model: Option<&ClassModel>,
     unit: Unit,
-) -> ListEnding
+) -> Ending
     requires { S.has_failed sink.old ≡ false }
 {
     let Some(model) = model else {
         return match write_unit(alloc, sink, &unit, None) {
-            Ok(()) => refused(Ok(String::new(alloc))),
+            Ok(()) => ending_with(alloc, Ok(String::new(alloc))),
             Err(fault) => failed(alloc, fault),
         };
     };
@@ -162,12 +134,7 @@ fn list_unit<S: Sink>(
 }
 
 /// Why a code file is refused.
-fn flaw_of(
-    alloc: Global,
-    code: Input<'_>,
-    flaw: CodeFlaw,
-    offset: usize,
-) -> Result<String, AllocError> {
+fn flaw_of(alloc: Global, code: Input<'_>, flaw: CodeFlaw, offset: usize) -> Words {
     let mut out = String::new(alloc);
     explain_code_flaw(alloc, &mut out, code, flaw, offset)?;
     Ok(out)
@@ -179,43 +146,49 @@ fn list_over<S: Sink>(
     sink: &mut S,
     code: Input<'_>,
     model: Option<&ClassModel>,
-) -> ListEnding
+) -> Ending
     requires { S.has_failed sink.old ≡ false }
 {
     match read_unit(alloc, code.bytes) {
         Ok(unit) => list_unit(alloc, sink, code, model, unit),
-        Err(CodeFault::At { flaw, offset }) => refused(flaw_of(alloc, code, flaw, offset)),
+        Err(CodeFault::At { flaw, offset }) => ending_with(
+            alloc,
+            flaw_of(alloc, code, flaw, offset),
+        ),
         Err(CodeFault::OutOfMemory) => failed(alloc, CommandFault::OutOfMemory),
     }
 }
 
 /// Why a class model is refused.
-fn model_refusal(alloc: Global, model: Input<'_>, fault: ModelFault) -> Result<String, AllocError> {
+fn model_refusal(alloc: Global, model: Input<'_>, refusal: &Refusal) -> Words {
     let mut out = String::new(alloc);
-    explain_model(alloc, &mut out, model, fault)?;
+    if let Refusal::Model(fault) = refusal {
+        explain_model(alloc, &mut out, model, *fault)?;
+    }
     Ok(out)
 }
 
 /// Lists a code file with a class model, which is read first.
-fn list_with<S: Sink>(alloc: Global, sink: &mut S, code: Input<'_>, model: Input<'_>) -> ListEnding
+fn list_with<S: Sink>(alloc: Global, sink: &mut S, code: Input<'_>, model: Input<'_>) -> Ending
     requires { S.has_failed sink.old ≡ false }
 {
-    match ClassModel::read(alloc, model.bytes) {
+    match read_model(alloc, model.bytes) {
         Ok(read) => list_over(alloc, sink, code, Some(&read)),
-        Err(ModelFault::OutOfMemory) => failed(alloc, CommandFault::OutOfMemory),
-        Err(fault) => refused(model_refusal(alloc, model, fault)),
+        Err(Stopped::Refused(refusal)) => ending_with(alloc, model_refusal(alloc, model, &refusal)),
+        Err(Stopped::OutOfMemory) => failed(alloc, CommandFault::OutOfMemory),
     }
 }
 
 /// Lists a code file: its counts, and rule by rule an instruction a line, with its offset in the file. Each rule is written
 /// as soon as it is put together. With a class model the kinds of the operands on the stack stand beside each instruction,
-/// and it is said why the code isn't accepted, if it isn't.
+/// and it is said why the code isn't accepted, if it isn't. Status 2: the file or the class model is refused, or the code
+/// isn't accepted.
 pub fn list_code<S: Sink>(
     alloc: Global,
     code: Input<'_>,
     model: Option<Input<'_>>,
     sink: &mut S,
-) -> ListEnding
+) -> Ending
     requires { S.has_failed sink.old ≡ false }
 {
     match model {

@@ -1,33 +1,17 @@
 //! The explanation of the verdict of a rule for an object, or that there is none.
 
-ghost use Rattle.std.specs.Prelude.{◌≡◌, ◌<◌, List, Ok, length, map, IfOk, IfSome};
+ghost use Rattle.std.specs.Prelude.{◌≡◌, ◌<◌, length, map, IfOk, IfSome};
 ghost use Rattle.std.specs.List.{AllByRecursion};
 ghost use Rattle.imkl_population.specs.Population.{object_number};
-ghost use Rattle.ocl_text.specs.RuleText.{NamesDiffer};
-ghost use Rattle.ocl_text.specs.View.{rule_of};
-ghost use Rattle.ocl_core.specs.Core.{CheckedRule, HaveOwnNames};
 ghost use Rattle.ocl_core.specs.CoreView.{checked_rule_of};
 ghost use Rattle.ocl_core.specs.Typing.{IsTypedRule};
-ghost use Rattle.ocl_types.specs.AllRules.{elaborate_rules};
-ghost use Rattle.ocl_pipeline.specs.TextReading.{TextReading, ReadsAs};
-ghost use Rattle.ocl_pipeline.specs.Inputs.{population_of};
-ghost use Rattle.ocl_check.specs.ThreeInputs.{delivery_answer};
-ghost use Rattle.ocl_check.specs.JudgeText.{meant_answer, text_answer, judge_text_answer};
-ghost use Rattle.ocl_explain.specs.Judged.{typed_answer, printed, IsExplainedBy, IsFound};
-ghost use Rattle.ocl_explain.specs.WhyAnswers.{judged_text, object_text, why_text, IsToldOf, IsToldIn, IsTold};
+ghost use Rattle.ocl_explain.specs.Explained.{IsExplainedBy};
+ghost use Rattle.ocl_explain.specs.WhyAnswers.{judged_text, object_text, why_text};
 
-use crate::admission::is_judged;
 use explain_notes::{Input, Nearest};
 use explain_why::explain_verdict;
-use imkl_delivery::{DeliveryFault, load};
-use imkl_model::{ClassModel, ModelFault};
 use imkl_population::{ObjectNo, Population};
-use ocl_check::MAX_BUDGET;
 use ocl_core::CoreRule;
-use ocl_pipeline::laws::each_text_is_read;
-use ocl_text::{SurfaceRule, parse_rules};
-use ocl_tokens::TextFault;
-use ocl_types::{RulesFault, check_rules};
 use std::alloc::{AllocError, Global};
 
 /// The rule and the object whose verdict is explained, and the inputs.
@@ -151,7 +135,7 @@ fn answer_rule(
 }
 
 /// What is told of typed rules and a population.
-fn answer_rules(
+pub(crate) fn answer_rules(
     alloc: Global,
     asked: WhyAsked<'_>,
     population: &Population<'_>,
@@ -168,111 +152,4 @@ fn answer_rules(
         }
     }
     Ok(Why::Unknown(unknown_rule(alloc, asked, rules)?))
-}
-
-/// What is told of typed rules and a population; nothing where `judge` refuses the rules.
-fn answer_typed(
-    alloc: Global,
-    asked: WhyAsked<'_>,
-    population: &Population<'_>,
-    rules: &[CoreRule],
-) -> Result<Option<Why>, AllocError>
-    requires typed { AllByRecursion (IsTypedRule population.now.content.model)
-        (map checked_rule_of rules.now) }
-    requires names { HaveOwnNames (map checked_rule_of rules.now) }
-    ensures { IfOk result (IsFound (λ why. (typed_answer population.now.content
-        (map checked_rule_of rules.now) ≡ meant_answer population.now.content
-        (map checked_rule_of rules.now)) × IsExplainedBy (why_text population.now.content
-        (map checked_rule_of rules.now) asked.entry.rule.now asked.entry.id.now) why)
-        ((typed_answer population.now.content (map checked_rule_of rules.now)).1 ≡ 2)) }
-{
-    if is_judged(alloc, population, rules)? {
-        Ok(Some(answer_rules(alloc, asked, population, rules)?))
-    } else {
-        Ok(None)
-    }
-}
-
-/// What is told of the rules of a text that are read, and a population; nothing where `judge` refuses the rules.
-fn answer_surface(
-    alloc: Global,
-    asked: WhyAsked<'_>,
-    population: &Population<'_>,
-    rules: &[SurfaceRule],
-) -> Result<Option<Why>, AllocError>
-    requires { NamesDiffer (map rule_of rules.now) }
-    ensures { IfOk result (IsFound (λ why. (rs : List CheckedRule)
-        × (elaborate_rules population.now.content.model 0 (map rule_of rules.now) ≡ Ok rs)
-        × (text_answer MAX_BUDGET (Ok (map rule_of rules.now)) population.now.content
-        ≡ meant_answer population.now.content rs)
-        × IsExplainedBy (why_text population.now.content rs asked.entry.rule.now asked.entry.id.now)
-        why) ((text_answer MAX_BUDGET (Ok (map rule_of rules.now)) population.now.content).1 ≡ 2)) }
-{
-    match check_rules(alloc, population.model(), rules) {
-        Ok(typed) => answer_typed(alloc, asked, population, &typed),
-        Err(RulesFault::At { .. }) => Ok(None),
-        Err(RulesFault::OutOfMemory) => Err(AllocError),
-    }
-}
-
-/// What is told of the rules of a text and a population; nothing where `judge` refuses the rules.
-fn answer_text(
-    alloc: Global,
-    asked: WhyAsked<'_>,
-    population: &Population<'_>,
-) -> Result<Option<Why>, AllocError>
-    ensures { IfOk result (IsFound (λ why. IsToldOf population.now.content asked.entry.rules.bytes.now
-        asked.entry.rule.now asked.entry.id.now (printed why)) ((t : TextReading)
-        × ReadsAs asked.entry.rules.bytes.now t
-        × ((text_answer MAX_BUDGET t population.now.content).1 ≡ 2))) }
-{
-    let text = match str::from_utf8(asked.rules.bytes) {
-        Ok(text) => text,
-        Err(_) => return Ok(None),
-    };
-    match parse_rules(alloc, text) {
-        Ok(rules) => answer_surface(alloc, asked, population, &rules),
-        Err(TextFault::At { .. }) => Ok(None),
-        Err(TextFault::OutOfMemory) => Err(AllocError),
-    }
-}
-
-/// What is told of a delivery; nothing where `judge` refuses it or the rules.
-fn answer_delivery(
-    alloc: Global,
-    asked: WhyAsked<'_>,
-    model: &ClassModel,
-) -> Result<Option<Why>, AllocError>
-    ensures { IfOk result (IsFound (λ why. IsToldIn model.now asked.entry.delivery.bytes.now
-        asked.entry.rules.bytes.now asked.entry.rule.now asked.entry.id.now (printed why)) ((t : TextReading)
-        × ReadsAs asked.entry.rules.bytes.now t × ((delivery_answer (text_answer MAX_BUDGET t)
-        (population_of model.now asked.entry.delivery.bytes.now)).1 ≡ 2))) }
-{
-    each_text_is_read();
-    match load(alloc, asked.delivery.bytes, model) {
-        Ok(population) => answer_text(alloc, asked, &population),
-        Err(fault) => match fault {
-            DeliveryFault::OutOfMemory => Err(AllocError),
-            _ => Ok(None),
-        },
-    }
-}
-
-/// What is told of inputs to which `judge` answers a report; nothing where it refuses one. How long they are isn't looked
-/// at here.
-pub(crate) fn find_why(alloc: Global, asked: WhyAsked<'_>) -> Result<Option<Why>, AllocError>
-    ensures { IfOk result (IsFound (λ why. IsTold asked.entry.model.bytes.now
-        asked.entry.delivery.bytes.now asked.entry.rules.bytes.now asked.entry.rule.now
-        asked.entry.id.now (printed why)) ((t : TextReading) × ReadsAs asked.entry.rules.bytes.now t
-        × ((judge_text_answer MAX_BUDGET asked.entry.model.bytes.now
-        asked.entry.delivery.bytes.now t).1 ≡ 2))) }
-{
-    each_text_is_read();
-    match ClassModel::read(alloc, asked.model.bytes) {
-        Ok(model) => answer_delivery(alloc, asked, &model),
-        Err(fault) => match fault {
-            ModelFault::OutOfMemory => Err(AllocError),
-            _ => Ok(None),
-        },
-    }
 }

@@ -1,93 +1,141 @@
 //! The command `why`, of inputs that were read already.
 
-ghost use Rattle.std.specs.Prelude.{◌≡◌, ◌⊎◌, true, false};
-ghost use Rattle.ocl_check.specs.Answers.{IsAnswered, IsAnsweredBy, IsFlushedBy, KeepsUnread, fails_read, fails_write};
-ghost use Rattle.ocl_check.specs.JudgeText.{JudgeAnswers};
-ghost use Rattle.ocl_explain.specs.Inputs.{IsTooLong};
-ghost use Rattle.ocl_explain.specs.Judged.{printed};
-ghost use Rattle.ocl_explain.specs.WhyAnswers.{shown_answer, WhyAnswers};
+ghost use Rattle.std.specs.Prelude.{◌≡◌, map, false};
+ghost use Rattle.std.specs.List.{AllByRecursion};
+ghost use Rattle.imkl_population.specs.Sizes.{sizes_of};
+ghost use Rattle.ocl_core.specs.CoreView.{checked_rule_of};
+ghost use Rattle.ocl_core.specs.Typing.{IsTypedRule};
+ghost use Rattle.ocl_pipeline.specs.CompiledRules.{rules_with};
+ghost use Rattle.ocl_check.specs.Answers.{IsAnsweredBy, IsFlushedBy, KeepsUnread, fails_read, fails_write};
+ghost use Rattle.ocl_check.specs.Ending.{IsEnding};
+ghost use Rattle.ocl_check.specs.Given.{given_answer};
+ghost use Rattle.ocl_explain.specs.Explained.{printed};
+ghost use Rattle.ocl_explain.specs.WhyAnswers.{shown_answer, why_answer, why_of, why_text, WhyAnswers};
 
-use crate::answers::answer_judge;
-use crate::refusals::explain_judge;
-use crate::verdicts::{Why, WhyAsked, find_why};
+use crate::explaining::{Ending, Explaining, Nobody};
+use crate::given::{Given, options_of};
+use crate::verdicts::{Why, WhyAsked, answer_rules};
 use crate::writing::write_answer;
 use explain_notes::cut_text;
-use ocl_check::{CommandFault, JudgeOptions, MAX_BUDGET, Outcome, RulesForm, Sink};
-use ocl_pipeline::laws::{each_text_is_read, readings_are_determined};
-use std::alloc::{AllocError, Global};
+use imkl_population::{Population, Sizes};
+use ocl_check::{CommandFault, MAX_BUDGET, Outcome, RulesForm, Sink, stop};
+use ocl_core::CoreRule;
+use ocl_pipeline::{OfText, Place, SizedCode, Stopped, TextAsker, ask_inputs};
+use rule_cost::admit;
+use rule_verify::Accepted;
+use std::alloc::Global;
 
-/// How `why` ended.
-#[derive(Drop)]
-pub struct WhyEnding {
-    /// The status, or what failed.
-    pub outcome: Outcome,
-    /// What is to be said beside the answer: why an input is refused, or why there is no explanation; else nothing.
-    pub words: Result<String, AllocError>,
+/// Asks for an explanation.
+#[derive(Clone, Copy)]
+struct Explanation<'a> {
+    asked: WhyAsked<'a>,
+    watch: &'a Explaining<'a, Nobody>,
 }
 
-/// How the rules are judged that are explained.
-const OPTIONS: JudgeOptions = JudgeOptions {
-    form: RulesForm::Text,
-    budget: MAX_BUDGET,
-};
-
 /// Writes so many lines of the explanation, or nothing.
-fn write_why<S: Sink>(alloc: Global, sink: &mut S, why: Why, lines: usize) -> WhyEnding
+fn write_why<S: Sink>(
+    alloc: Global,
+    watch: &Explaining<'_, Nobody>,
+    why: Why,
+    lines: usize,
+    sink: &mut S,
+) -> Outcome
     requires { S.has_failed sink.old ≡ false }
-    ensures answered { IsAnswered (shown_answer lines (printed why)) (S.contents sink.old)
-        (S.contents sink.new) result.outcome }
-    ensures sink { S.has_failed sink.new ≡ fails_write result.outcome }
-    ensures flushed { IsFlushedBy S.flushes S.has_pending result.outcome sink.old sink.new }
-    ensures kept { KeepsUnread result.outcome sink.old sink.new }
-    ensures read { fails_read result.outcome ≡ false }
+    ensures { IsEnding S.contents S.has_failed S.flushes S.has_pending false
+        (shown_answer lines (printed why)) sink.old result sink.new }
 {
     match why {
         Why::Explained(text) => match cut_text(alloc, text.as_bytes(), lines) {
-            Ok(shown) => WhyEnding {
-                outcome: write_answer(sink, &shown, 0),
-                words: Ok(String::new(alloc)),
-            },
-            Err(_) => out_of_memory(alloc),
+            Ok(shown) => write_answer(sink, &shown, 0),
+            Err(_) => Outcome::Failed(CommandFault::OutOfMemory),
         },
-        Why::Unknown(words) => WhyEnding {
-            outcome: write_answer(sink, &[], 2),
-            words: Ok(words),
-        },
-    }
-}
-
-/// Memory ran out.
-fn out_of_memory(alloc: Global) -> WhyEnding
-    ensures { result.outcome ≡ Outcome.Failed CommandFault.OutOfMemory }
-{
-    WhyEnding {
-        outcome: Outcome::Failed(CommandFault::OutOfMemory),
-        words: Ok(String::new(alloc)),
-    }
-}
-
-/// Writes what `judge` answers to inputs of which it refuses one.
-fn write_refusal<S: Sink>(alloc: Global, asked: WhyAsked<'_>, sink: &mut S) -> WhyEnding
-    requires { S.has_failed sink.old ≡ false }
-    ensures answered { IsAnsweredBy (JudgeAnswers OPTIONS asked.entry.model.bytes.now
-        asked.entry.delivery.bytes.now asked.entry.rules.bytes.now)
-        (S.contents sink.old) (S.contents sink.new) result.outcome }
-    ensures sink { S.has_failed sink.new ≡ fails_write result.outcome }
-    ensures flushed { IsFlushedBy S.flushes S.has_pending result.outcome sink.old sink.new }
-    ensures kept { KeepsUnread result.outcome sink.old sink.new }
-    ensures read_fault { fails_read result.outcome ≡ true → IsTooLong asked.entry.model.bytes.now ⊎ (IsTooLong asked.entry.delivery.bytes.now ⊎
-        IsTooLong asked.entry.rules.bytes.now) }
-{
-    let (model, delivery) = (asked.model.bytes, asked.delivery.bytes);
-    let rules = asked.rules.bytes;
-    let outcome = answer_judge(alloc, OPTIONS, model, delivery, rules, sink);
-    let words = match outcome {
-        Outcome::Status(_) => {
-            explain_judge(alloc, OPTIONS, asked.model, asked.delivery, asked.rules)
+        Why::Unknown(words) => {
+            watch.keep(Ok(words));
+            write_answer(sink, &[], 2)
         }
-        Outcome::Failed(_) => Ok(String::new(alloc)),
-    };
-    WhyEnding { outcome, words }
+    }
+}
+
+/// Answers of typed rules that are judged.
+fn answer_judged<S: Sink>(
+    alloc: Global,
+    explanation: Explanation<'_>,
+    population: &Population<'_>,
+    rules: &[CoreRule],
+    sink: &mut S,
+) -> Outcome
+    requires typed { AllByRecursion (IsTypedRule population.now.content.model)
+        (map checked_rule_of rules.now) }
+    requires well { S.has_failed sink.old ≡ false }
+    ensures { IsEnding S.contents S.has_failed S.flushes S.has_pending false
+        (shown_answer explanation.entry.asked.lines (why_answer (why_text population.now.content
+        (map checked_rule_of rules.now) explanation.entry.asked.rule.now
+        explanation.entry.asked.id.now))) sink.old result sink.new }
+{
+    let asked = explanation.asked;
+    match answer_rules(alloc, asked, population, rules) {
+        Ok(why) => write_why(alloc, explanation.watch, why, asked.lines, sink),
+        Err(_) => Outcome::Failed(CommandFault::OutOfMemory),
+    }
+}
+
+/// Answers of typed rules and their accepted unit, in a population of these sizes.
+fn answer_sized<S: Sink>(
+    alloc: Global,
+    explanation: Explanation<'_>,
+    population: &Population<'_>,
+    rules: &[CoreRule],
+    sizes: &Sizes<'_>,
+    accepted: &Accepted<'_>,
+    sink: &mut S,
+) -> Outcome
+    requires one_model { population.now.content.model ≡ accepted.now.model }
+    requires typed { AllByRecursion (IsTypedRule population.now.content.model)
+        (map checked_rule_of rules.now) }
+    requires sizes { sizes.now ≡ sizes_of population.now.content }
+    requires well { S.has_failed sink.old ≡ false }
+    ensures { IsEnding S.contents S.has_failed S.flushes S.has_pending false
+        (why_of explanation.entry.asked.rule.now explanation.entry.asked.id.now
+        explanation.entry.asked.lines (
+          population.now.content,
+          rules_with (map checked_rule_of rules.now) accepted.now.unit,
+        )) sink.old result sink.new }
+{
+    match admit(alloc, accepted, sizes, MAX_BUDGET) {
+        Ok(_admitted) => answer_judged(alloc, explanation, population, rules, sink),
+        Err(fault) => {
+            let place = Place::Cost(SizedCode::new(accepted, sizes));
+            stop(alloc, explanation.watch, place, Stopped::from(fault), sink)
+        }
+    }
+}
+
+impl<S: Sink> TextAsker<S> for Explanation<'_> {
+    type Output = Outcome;
+
+    ghost can_ask = { λ s. S.has_failed s ≡ false };
+
+    ghost answers = { λ e given old o new. IsEnding S.contents S.has_failed S.flushes S.has_pending
+        false (given_answer (why_of e.asked.rule.now e.asked.id.now e.asked.lines) given)
+        old o new };
+
+    fn ask(
+        &self,
+        alloc: Global,
+        population: &Population<'_>,
+        rules: &[CoreRule],
+        accepted: &Accepted<'_>,
+        sink: &mut S,
+    ) -> Outcome {
+        match population.sizes(alloc) {
+            Ok(sizes) => answer_sized(alloc, *self, population, rules, &sizes, accepted, sink),
+            Err(_failed) => Outcome::Failed(CommandFault::OutOfMemory),
+        }
+    }
+
+    fn stop(&self, alloc: Global, place: Place<'_>, why: Stopped, sink: &mut S) -> Outcome {
+        stop(alloc, self.watch, place, why, sink)
+    }
 }
 
 /// Explains why a rule has its verdict for an object: writes the explanation, with status 0. Of a long one the first lines are
@@ -95,10 +143,9 @@ fn write_refusal<S: Sink>(alloc: Global, asked: WhyAsked<'_>, sink: &mut S) -> W
 /// it is refused likewise, with the line that `judge` prints. Else, where there is no such rule or object or the rule doesn't
 /// judge the object, nothing is written, with status 2.
 ///
-/// An explanation is of the rules and the population whose report `judge` answers. `Failed(Read)`: an input is refused, and
-/// one is of more than 268,435,456 bytes; the sink is as it was. `Failed(OutOfMemory)`: memory ran out. `Failed(Write)`: the
-/// sink has failed. In both the sink took a prefix of the answer.
-pub fn answer_why<S: Sink>(alloc: Global, asked: WhyAsked<'_>, sink: &mut S) -> WhyEnding
+/// An explanation is of the rules and the population whose report `judge` answers. `Failed(OutOfMemory)`: memory ran out.
+/// `Failed(Write)`: the sink has failed. In both the sink took a prefix of the answer.
+pub fn answer_why<S: Sink>(alloc: Global, asked: WhyAsked<'_>, sink: &mut S) -> Ending
     requires { S.has_failed sink.old ≡ false }
     ensures answered { IsAnsweredBy (WhyAnswers asked.entry.model.bytes.now
         asked.entry.delivery.bytes.now asked.entry.rules.bytes.now asked.entry.rule.now
@@ -107,17 +154,23 @@ pub fn answer_why<S: Sink>(alloc: Global, asked: WhyAsked<'_>, sink: &mut S) -> 
     ensures sink { S.has_failed sink.new ≡ fails_write result.outcome }
     ensures flushed { IsFlushedBy S.flushes S.has_pending result.outcome sink.old sink.new }
     ensures kept { KeepsUnread result.outcome sink.old sink.new }
-    ensures read_fault { fails_read result.outcome ≡ true → IsTooLong asked.entry.model.bytes.now ⊎ (IsTooLong asked.entry.delivery.bytes.now ⊎
-        IsTooLong asked.entry.rules.bytes.now) }
+    ensures read { fails_read result.outcome ≡ false }
 {
-    readings_are_determined();
-    each_text_is_read();
-    match find_why(alloc, asked) {
-        Ok(Some(why)) => write_why(alloc, sink, why, asked.lines),
-        Ok(None) => write_refusal(alloc, asked, sink),
-        Err(_) => WhyEnding {
-            outcome: Outcome::Failed(CommandFault::OutOfMemory),
-            words: Ok(String::new(alloc)),
+    let given = Given {
+        model: asked.model,
+        delivery: Some(asked.delivery),
+        rules: asked.rules,
+        script: None,
+        options: options_of(RulesForm::Text),
+    };
+    let watch = Explaining::new(given, &Nobody);
+    let asker = OfText {
+        asker: &Explanation {
+            asked,
+            watch: &watch,
         },
-    }
+        text: asked.rules.bytes,
+    };
+    let outcome = ask_inputs(alloc, &asker, asked.model.bytes, asked.delivery.bytes, sink);
+    watch.ending(alloc, outcome)
 }

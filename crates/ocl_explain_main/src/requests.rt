@@ -5,25 +5,38 @@ use crate::files::{read_file, report_write};
 use explain_notes::Input;
 use ocl_check::{CommandFault, JudgeOptions, Outcome, Telling};
 use ocl_explain::{
-    Keeping, ListEnding, answer_bound, answer_compile, answer_desk, answer_judge,
-    answer_judge_json, answer_verify, explain_bound, explain_compile, explain_desk, explain_judge,
-    explain_verify, list_code, warn_compile, warn_judge,
+    Ending, Keeping, Listener, Words, answer_bound, answer_compile, answer_desk, answer_judge,
+    answer_judge_json, answer_verify, list_code,
 };
 use ocl_programs::{CompileFiles, Creating, DeskFiles, Request, RuleFiles, VerifyFiles};
-use std::alloc::AllocError;
 use std::io;
 
 /// Says on standard error why an input was refused, or what is hardly meant.
-pub fn say(rt: &HostRuntime, words: Result<String, AllocError>) {
+fn say(rt: &HostRuntime, words: &Words) {
     let _ = match words {
         Ok(words) => rt.eprint(words.as_str()),
         Err(_) => rt.eprintln("memory ran out before it was explained"),
     };
 }
 
-/// Whether an answer is the refusal of an input.
-fn is_refusal(outcome: Outcome) -> bool {
-    outcome == Outcome::Status(2)
+/// Says at once what is heard.
+#[derive(Clone, Copy)]
+struct StandardError<'a> {
+    rt: &'a HostRuntime,
+}
+
+impl Listener for StandardError<'_> {
+    fn hear(&self, words: Words) {
+        say(self.rt, &words);
+    }
+}
+
+/// Says what is said behind an answer, if that was written.
+pub fn end(rt: &HostRuntime, ending: Ending) -> Outcome {
+    if let Outcome::Status(_) = ending.outcome {
+        say(rt, &ending.words);
+    }
+    ending.outcome
 }
 
 /// How a delivery is judged, and whether the report is printed as JSON.
@@ -42,35 +55,14 @@ fn print_report<'i>(
     rules: Input<'i>,
 ) -> Outcome {
     let mut sink = Telling::new(Keeping::new(io::writer(rt)));
-    let options = judging.options;
-    let (model, delivery, rules) = (model.bytes, delivery.bytes, rules.bytes);
-    let outcome = if judging.is_json {
-        answer_judge_json(rt.alloc(), options, model, delivery, rules, &mut sink)
+    let (alloc, listener, options) = (rt.alloc(), &StandardError { rt }, judging.options);
+    let ending = if judging.is_json {
+        answer_judge_json(alloc, listener, options, model, delivery, rules, &mut sink)
     } else {
-        answer_judge(rt.alloc(), options, model, delivery, rules, &mut sink)
+        answer_judge(alloc, listener, options, model, delivery, rules, &mut sink)
     };
     report_write(rt, "standard output", sink.into_inner().error());
-    outcome
-}
-
-fn judge_inputs<'i>(
-    rt: &HostRuntime,
-    judging: Judging,
-    model: Input<'i>,
-    delivery: Input<'i>,
-    rules: Input<'i>,
-) -> Outcome {
-    let options = judging.options;
-    // (before the report, which may take long; where memory runs out the report is asked for all the same)
-    say(rt, warn_judge(rt.alloc(), options, model, delivery, rules));
-    let outcome = print_report(rt, judging, model, delivery, rules);
-    if is_refusal(outcome) {
-        say(
-            rt,
-            explain_judge(rt.alloc(), options, model, delivery, rules),
-        );
-    }
-    outcome
+    end(rt, ending)
 }
 
 fn judge(
@@ -81,7 +73,7 @@ fn judge(
     let model = read_file(rt, files.model)?;
     let delivery = read_file(rt, files.delivery)?;
     let rules = read_file(rt, files.rules)?;
-    Ok(judge_inputs(rt, judging, model.input(), delivery.input(), rules.input()))
+    Ok(print_report(rt, judging, model.input(), delivery.input(), rules.input()))
 }
 
 fn bound_inputs<'i>(
@@ -91,18 +83,9 @@ fn bound_inputs<'i>(
     code: Input<'i>,
 ) -> Outcome {
     let mut sink = Telling::new(Keeping::new(io::writer(rt)));
-    let outcome = answer_bound(
-        rt.alloc(),
-        model.bytes,
-        delivery.bytes,
-        code.bytes,
-        &mut sink,
-    );
+    let ending = answer_bound(rt.alloc(), model, delivery, code, &mut sink);
     report_write(rt, "standard output", sink.into_inner().error());
-    if is_refusal(outcome) {
-        say(rt, explain_bound(rt.alloc(), model, delivery, code));
-    }
-    outcome
+    end(rt, ending)
 }
 
 fn bound(rt: &HostRuntime, files: RuleFiles<'_>) -> Result<Outcome, CommandFault> {
@@ -120,19 +103,9 @@ fn desk_inputs<'i>(
     script: Input<'i>,
 ) -> Outcome {
     let mut sink = Telling::new(Keeping::new(io::writer(rt)));
-    let outcome = answer_desk(
-        rt.alloc(),
-        model.bytes,
-        delivery.bytes,
-        code.bytes,
-        script.bytes,
-        &mut sink,
-    );
+    let ending = answer_desk(rt.alloc(), model, delivery, code, script, &mut sink);
     report_write(rt, "standard output", sink.into_inner().error());
-    if is_refusal(outcome) {
-        say(rt, explain_desk(rt.alloc(), model, delivery, code, script));
-    }
-    outcome
+    end(rt, ending)
 }
 
 fn desk(rt: &HostRuntime, files: DeskFiles<'_>) -> Result<Outcome, CommandFault> {
@@ -151,12 +124,9 @@ fn desk(rt: &HostRuntime, files: DeskFiles<'_>) -> Result<Outcome, CommandFault>
 
 fn verify_inputs(rt: &HostRuntime, model: Input<'_>, code: Input<'_>) -> Outcome {
     let mut sink = Telling::new(Keeping::new(io::writer(rt)));
-    let outcome = answer_verify(rt.alloc(), model.bytes, code.bytes, &mut sink);
+    let ending = answer_verify(rt.alloc(), model, code, &mut sink);
     report_write(rt, "standard output", sink.into_inner().error());
-    if is_refusal(outcome) {
-        say(rt, explain_verify(rt.alloc(), model, code));
-    }
-    outcome
+    end(rt, ending)
 }
 
 fn verify(rt: &HostRuntime, files: VerifyFiles<'_>) -> Result<Outcome, CommandFault> {
@@ -168,16 +138,10 @@ fn verify(rt: &HostRuntime, files: VerifyFiles<'_>) -> Result<Outcome, CommandFa
 fn compile_inputs(rt: &HostRuntime, path: &str, model: Input<'_>, rules: Input<'_>) -> Outcome {
     let mut out = Telling::new(Keeping::new(Creating::new(rt, path)));
     let mut sink = Telling::new(Keeping::new(io::writer(rt)));
-    let outcome = answer_compile(rt.alloc(), model.bytes, rules.bytes, &mut out, &mut sink);
+    let ending = answer_compile(rt.alloc(), model, rules, &mut out, &mut sink);
     report_write(rt, path, out.into_inner().error());
     report_write(rt, "standard output", sink.into_inner().error());
-    let words = match outcome {
-        Outcome::Status(2) => explain_compile(rt.alloc(), model, rules),
-        Outcome::Status(_) => warn_compile(rt.alloc(), model, rules),
-        Outcome::Failed(_) => return outcome,
-    };
-    say(rt, words);
-    outcome
+    end(rt, ending)
 }
 
 fn compile(rt: &HostRuntime, files: CompileFiles<'_>) -> Result<Outcome, CommandFault> {
@@ -205,16 +169,9 @@ pub fn answer(rt: &HostRuntime, request: Request<'_>, is_json: bool) -> Outcome 
 /// Lists a code file that was read, with a class model if there is one, and says why something is refused, if it is.
 fn list_inputs(rt: &HostRuntime, code: Input<'_>, model: Option<Input<'_>>) -> Outcome {
     let mut sink = Telling::new(Keeping::new(io::writer(rt)));
-    let ListEnding { outcome, refusal } = list_code(rt.alloc(), code, model, &mut sink);
+    let ending = list_code(rt.alloc(), code, model, &mut sink);
     report_write(rt, "standard output", sink.into_inner().error());
-    match refusal {
-        Ok(words) => {
-            say(rt, Ok(words));
-            outcome
-        }
-        // (then it isn't known whether the code is accepted)
-        Err(_) => Outcome::Failed(CommandFault::OutOfMemory),
-    }
+    end(rt, ending)
 }
 
 fn list_files(rt: &HostRuntime, files: ListFiles<'_>) -> Result<Outcome, CommandFault> {

@@ -2,7 +2,7 @@
 
 use crate::command_line::WhyWords;
 use crate::files::{read_file, report_write};
-use crate::requests::say;
+use crate::requests::end;
 use ocl_check::{CommandFault, Outcome, Telling};
 use ocl_explain::{Keeping, WhyAsked, answer_why};
 use std::io;
@@ -12,8 +12,7 @@ fn explain_inputs(rt: &HostRuntime, asked: WhyAsked<'_>) -> Outcome {
     let mut sink = Telling::new(Keeping::new(io::writer(rt)));
     let ending = answer_why(rt.alloc(), asked, &mut sink);
     report_write(rt, "standard output", sink.into_inner().error());
-    say(rt, ending.words);
-    ending.outcome
+    end(rt, ending)
 }
 
 /// Reads the inputs, each whole, and then answers.

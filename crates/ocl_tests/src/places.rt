@@ -3,7 +3,8 @@
 ghost use Rattle.std.specs.Prelude.{⊤};
 
 use imkl_population::Population;
-use ocl_pipeline::{CodeAsker, OfCode, Place, Stopped, ask_inputs};
+use ocl_pipeline::{AdmittedAsker, CodeAsker, OfCode, Place, Stopped, ask_admitted, ask_inputs};
+use rule_cost::Admitted;
 use rule_verify::Accepted;
 use std::alloc::Global;
 use std::test::*;
@@ -28,15 +29,43 @@ enum Reached {
     Model,
     /// The delivery.
     Delivery,
-    /// The rules, with so many objects.
+    /// The rules, for a class model of so many classes.
     Rules(usize),
-    /// A unit of so many rules, with so many objects.
-    Unit(usize, usize),
+    /// A unit of so many rules.
+    Unit(usize),
+    /// The cost of so many rules.
+    Cost(usize),
+    /// What comes after the rules.
+    AfterRules,
 }
 
-/// Asks how far the pipeline came.
+/// Asks how far the pipeline came, by rules that are within a budget.
 #[derive(Clone, Copy)]
-struct HowFar;
+struct HowFar {
+    budget: u64,
+}
+
+impl AdmittedAsker<()> for HowFar {
+    type Output = Reached;
+
+    ghost can_ask = { λ _. ⊤ };
+
+    ghost answers = { λ _ _ _ _ _ _. ⊤ };
+
+    fn ask(
+        &self,
+        _alloc: Global,
+        population: &Population<'_>,
+        _admitted: &Admitted<'_>,
+        _into: &mut (),
+    ) -> Reached {
+        Reached::Asked(population.objects())
+    }
+
+    fn stop(&self, _alloc: Global, place: Place<'_>, _why: Stopped, _into: &mut ()) -> Reached {
+        stopped_at(place)
+    }
+}
 
 impl CodeAsker<()> for HowFar {
     type Output = Reached;
@@ -47,27 +76,40 @@ impl CodeAsker<()> for HowFar {
 
     fn ask(
         &self,
-        _alloc: Global,
+        alloc: Global,
         population: &Population<'_>,
-        _accepted: &Accepted<'_>,
-        _into: &mut (),
+        accepted: &Accepted<'_>,
+        into: &mut (),
     ) -> Reached {
-        Reached::Asked(population.objects())
+        ask_admitted(alloc, self, self.budget, population, accepted, into)
     }
 
-    fn stop(&self, _alloc: Global, place: Place<'_, '_>, _why: Stopped, _into: &mut ()) -> Reached {
-        match place {
-            Place::Model => Reached::Model,
-            Place::Delivery(_) => Reached::Delivery,
-            Place::Rules(population) => Reached::Rules(population.objects()),
-            Place::Unit(population, unit) => Reached::Unit(unit.rules.len(), population.objects()),
-        }
+    fn stop(&self, _alloc: Global, place: Place<'_>, _why: Stopped, _into: &mut ()) -> Reached {
+        stopped_at(place)
     }
 }
 
-fn how_far_it_came(alloc: Global, model: &str, delivery: &str, code: &[u8]) -> Reached {
+/// How far the pipeline came that stopped at a place.
+fn stopped_at(place: Place<'_>) -> Reached {
+    match place {
+        Place::Model => Reached::Model,
+        Place::Delivery(_) => Reached::Delivery,
+        Place::Rules(model) => Reached::Rules(model.class_count()),
+        Place::Unit(_, unit) => Reached::Unit(unit.rules.len()),
+        Place::Cost(code) => Reached::Cost(code.accepted().rules()),
+        Place::AfterRules => Reached::AfterRules,
+    }
+}
+
+fn how_far_it_came(
+    alloc: Global,
+    model: &str,
+    delivery: &str,
+    code: &[u8],
+    budget: u64,
+) -> Reached {
     let asker = OfCode {
-        asker: &HowFar,
+        asker: &HowFar { budget },
         code,
     };
     ask_inputs(
@@ -83,23 +125,27 @@ fn how_far_it_came(alloc: Global, model: &str, delivery: &str, code: &[u8]) -> R
 fn the_pipeline_stops_at_the_input_that_is_refused(rt: HostRuntime) {
     let (model, delivery) = (CATALOGUE, DUCT);
     assert_eq!(rt;
-        how_far_it_came(rt.alloc(), "", delivery, DEEPER_THAN_600),
+        how_far_it_came(rt.alloc(), "", delivery, DEEPER_THAN_600, 4),
         Reached::Model
     );
     assert_eq!(rt;
-        how_far_it_came(rt.alloc(), model, "", DEEPER_THAN_600),
+        how_far_it_came(rt.alloc(), model, "", DEEPER_THAN_600, 4),
         Reached::Delivery
     );
     assert_eq!(rt;
-        how_far_it_came(rt.alloc(), model, delivery, b"OCL"),
-        Reached::Rules(3)
+        how_far_it_came(rt.alloc(), model, delivery, b"OCL", 4),
+        Reached::Rules(5)
     );
     assert_eq!(rt;
-        how_far_it_came(rt.alloc(), model, delivery, OF_NO_CLASS),
-        Reached::Unit(1, 3)
+        how_far_it_came(rt.alloc(), model, delivery, OF_NO_CLASS, 4),
+        Reached::Unit(1)
     );
     assert_eq!(rt;
-        how_far_it_came(rt.alloc(), model, delivery, DEEPER_THAN_600),
+        how_far_it_came(rt.alloc(), model, delivery, DEEPER_THAN_600, 3),
+        Reached::Cost(1)
+    );
+    assert_eq!(rt;
+        how_far_it_came(rt.alloc(), model, delivery, DEEPER_THAN_600, 4),
         Reached::Asked(3)
     );
 }

@@ -1,18 +1,13 @@
 //! Why a rule text is refused: as a text, for the types of its rules, or for a limit of code.
 
-ghost use Rattle.std.specs.Prelude.{map};
-ghost use Rattle.ocl_text.specs.RuleText.{NamesDiffer};
-ghost use Rattle.ocl_text.specs.View.{rule_of};
-
 use crate::faults::{explain_unread, explain_untyped};
 use explain_notes::{Input, Note};
 use explain_text::explain_text_flaw;
 use imkl_model::ClassModel;
-use ocl_compile::{CompileFault, Limit, compile};
-use ocl_text::{SurfaceRule, parse_rules};
+use ocl_compile::Limit;
+use ocl_pipeline::{Refusal, read_text};
+use ocl_text::SurfaceRule;
 use ocl_tokens::{TextFault, TextFlaw};
-use ocl_types::{RulesFault, check_rules};
-use rule_code::Unit;
 use std::alloc::{AllocError, Global};
 
 /// What passes a limit, and how it can be made to fit.
@@ -81,55 +76,45 @@ fn explain_limit(
     )
 }
 
-/// The unit of the rules of a text, or none where they are refused: then it is written why.
-fn unit_of_rules(
+/// Writes why a text isn't read that has this flaw first.
+fn explain_flaw(
     alloc: Global,
     out: &mut String,
     input: Input<'_>,
     model: &ClassModel,
-    rules: &[SurfaceRule],
-) -> Result<Option<Unit>, AllocError>
-    requires { NamesDiffer (map rule_of rules.now) }
-{
-    let typed = match check_rules(alloc, model, rules) {
-        Ok(typed) => typed,
-        Err(RulesFault::At { .. }) => {
-            explain_untyped(alloc, out, input, model, rules)?;
-            return Ok(None);
-        }
-        Err(RulesFault::OutOfMemory) => return Err(AllocError),
-    };
-    match compile(alloc, model, &typed) {
-        Ok(unit) => Ok(Some(unit)),
-        Err(CompileFault::At { limit, rule }) => {
-            explain_limit(alloc, out, input, rules, limit, rule)?;
-            Ok(None)
-        }
-        Err(CompileFault::OutOfMemory) => Err(AllocError),
+    flaw: TextFlaw,
+    offset: usize,
+) -> Result<(), AllocError> {
+    match str::from_utf8(input.bytes) {
+        Ok(text) => explain_unread(alloc, out, input, model, text, flaw, offset),
+        Err(_) => explain_text_flaw(alloc, out, input, flaw, offset),
     }
 }
 
-/// The unit of a rule text, or none where it is refused: then it is written why.
-pub(crate) fn unit_of_text(
+/// The rules of a text; none where it isn't read.
+pub(crate) fn rules_of(alloc: Global, input: Input<'_>) -> Result<Vec<SurfaceRule>, AllocError> {
+    match read_text(alloc, input.bytes) {
+        Ok(rules) => Ok(rules),
+        Err(TextFault::At { .. }) => Ok(Vec::new(alloc)),
+        Err(TextFault::OutOfMemory) => Err(AllocError),
+    }
+}
+
+/// Writes why a rule text is refused.
+pub(crate) fn explain_text(
     alloc: Global,
     out: &mut String,
     input: Input<'_>,
     model: &ClassModel,
-) -> Result<Option<Unit>, AllocError> {
-    let text = match str::from_utf8(input.bytes) {
-        Ok(text) => text,
-        Err(error) => {
-            let offset = error.valid_up_to();
-            explain_text_flaw(alloc, out, input, TextFlaw::BadCharacter, offset)?;
-            return Ok(None);
-        }
-    };
-    match parse_rules(alloc, text) {
-        Ok(rules) => unit_of_rules(alloc, out, input, model, &rules),
-        Err(TextFault::At { flaw, offset }) => {
-            explain_unread(alloc, out, input, model, text, flaw, offset)?;
-            Ok(None)
-        }
-        Err(TextFault::OutOfMemory) => Err(AllocError),
+    refusal: &Refusal,
+) -> Result<(), AllocError> {
+    if let Refusal::Text { flaw, offset } = refusal {
+        return explain_flaw(alloc, out, input, model, *flaw, *offset);
+    }
+    let rules = rules_of(alloc, input)?;
+    match refusal {
+        Refusal::Types { .. } => explain_untyped(alloc, out, input, model, &rules),
+        Refusal::Compile { limit, rule } => explain_limit(alloc, out, input, &rules, *limit, *rule),
+        _ => Ok(()),
     }
 }

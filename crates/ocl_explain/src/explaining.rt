@@ -1,0 +1,103 @@
+//! What is said beside the answer of a command: why an input is refused, or what is hardly meant.
+
+ghost use Rattle.std.specs.Prelude.{◌≡◌};
+
+use crate::given::Given;
+use crate::refusals::explain_refusal;
+use crate::warnings::{warn_of_runs, warn_of_text};
+use imkl_model::ClassModel;
+use imkl_population::Population;
+use ocl_check::{Outcome, Watch};
+use ocl_pipeline::{Place, Refusal, Stopped};
+use rule_cost::Admitted;
+use std::alloc::{AllocError, Global};
+use std::cell::Cell;
+
+/// What is said, unless memory ran out before it was.
+pub type Words = Result<String, AllocError>;
+
+/// Who is told at once what is said before an answer that may take long.
+pub trait Listener {
+    /// Hears what is said; nothing is, where the words are empty.
+    fn hear(&self, words: Words);
+}
+
+/// How a command ended.
+#[derive(Drop)]
+pub struct Ending {
+    /// The status, or what failed.
+    pub outcome: Outcome,
+    /// What is said behind the answer: why an input is refused, or what is hardly meant; else nothing.
+    pub words: Words,
+}
+
+/// Watches a command, and says what it comes to.
+pub(crate) struct Explaining<'a, L> {
+    given: Given<'a>,
+    listener: &'a L,
+    words: Cell<Option<Words>>,
+}
+
+impl<'a, L: Listener> Explaining<'a, L> {
+    /// Watches a command that is given this.
+    pub(crate) fn new(given: Given<'a>, listener: &'a L) -> Explaining<'a, L> {
+        Explaining {
+            given,
+            listener,
+            words: Cell::new(None),
+        }
+    }
+
+    /// Keeps what is said behind the answer.
+    pub(crate) fn keep(&self, words: Words) {
+        self.words.set(Some(words));
+    }
+
+    /// The ending of the command, with what was kept.
+    pub(crate) fn ending(self, alloc: Global, outcome: Outcome) -> Ending
+        ensures { result.outcome ≡ outcome }
+    {
+        let Explaining {
+            given: _,
+            listener: _,
+            words,
+        } = self;
+        let words = match words.into_inner() {
+            Some(words) => words,
+            None => Ok(String::new(alloc)),
+        };
+        Ending { outcome, words }
+    }
+}
+
+/// Why an input is refused.
+fn refusal_words(alloc: Global, given: Given<'_>, place: Place<'_>, refusal: &Refusal) -> Words {
+    let mut out = String::new(alloc);
+    explain_refusal(alloc, &mut out, given, place, refusal)?;
+    Ok(out)
+}
+
+impl<L: Listener> Watch for Explaining<'_, L> {
+    fn admit(&self, alloc: Global, population: &Population<'_>, admitted: &Admitted<'_>) {
+        self.listener
+            .hear(warn_of_runs(alloc, self.given, population, admitted));
+    }
+
+    fn compile(&self, alloc: Global, model: &ClassModel) {
+        self.keep(warn_of_text(alloc, self.given.rules, model));
+    }
+
+    fn stop(&self, alloc: Global, place: Place<'_>, why: &Stopped) {
+        if let Stopped::Refused(refusal) = why {
+            self.keep(refusal_words(alloc, self.given, place, refusal));
+        }
+    }
+}
+
+/// Hears nothing.
+#[derive(Clone, Copy)]
+pub(crate) struct Nobody;
+
+impl Listener for Nobody {
+    fn hear(&self, _words: Words) {}
+}
