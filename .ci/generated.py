@@ -1,9 +1,11 @@
-"""What follows from the tree: the lists of the pages, the README of each crate, and the manual pages."""
+"""What follows from the tree: the lists of the pages, the README of each crate, the manual pages, and the
+completions of shells."""
 import pathlib
 import re
 import sys
 import textwrap
 
+import completion
 from manual import manual
 
 ROOT = pathlib.Path(__file__).resolve().parent.parent
@@ -14,6 +16,7 @@ USES = {
     if line.strip() and not line.startswith("#")
 }
 CRATES = list(USES)
+COMPLETIONS = ROOT / "examples" / "editors" / "completion"
 CONTRACTS = ROOT / "docs" / "proofs" / "contracts.md"
 
 
@@ -261,20 +264,28 @@ def readmes():
     return {CRATES_FOLDER / it / "README.md": readme(it, sections) for it in CRATES}
 
 
-def manuals():
-    """The manual page of each program that has a command line, by its path."""
+def sources_of_programs():
+    """The texts of the command line of each program that has one, by its name."""
     shared = [CRATES_FOLDER / "ocl_programs/src" / it for it in ("help.rt", "commands.rt")]
-    found = {}
-    for crate in CRATES:
-        own = CRATES_FOLDER / crate / "src/command_line.rt"
-        if own.is_file():
-            program = crate.removesuffix("_main")
-            sources = "\n".join(it.read_text(encoding="utf-8") for it in [*shared, own])
-            found[ROOT / "docs" / f"{program}.1"] = manual(program, sources)
-    return found
+    owns = {it.removesuffix("_main"): CRATES_FOLDER / it / "src/command_line.rt" for it in CRATES}
+    return {
+        program: "\n".join(it.read_text(encoding="utf-8") for it in [*shared, own])
+        for program, own in owns.items() if own.is_file()
+    }
+
+
+def manuals():
+    """The manual page of each program, by its path."""
+    return {ROOT / "docs" / f"{program}.1": manual(program, sources) for program, sources in sources_of_programs().items()}
+
+
+def completions():
+    """The completions of each program for shells, by their paths."""
+    found = [completion.files(program, sources) for program, sources in sources_of_programs().items()]
+    return {COMPLETIONS / name: text for it in found for name, text in it.items()}
 
 
 def all_generated():
     """Each file that has a generated part, with its whole text."""
     pages = [ROOT / "README.md", *sorted((ROOT / "docs").rglob("*.md"))]
-    return {**{it: page_with_lists(it) for it in pages}, **readmes(), **manuals()}
+    return {**{it: page_with_lists(it) for it in pages}, **readmes(), **manuals(), **completions()}

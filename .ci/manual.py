@@ -44,6 +44,16 @@ def options(body, functions):
     return found
 
 
+def about(body):
+    """What a command does, in a line."""
+    return re.search(r'\.about\("([^"]+)"\)', body)[1]
+
+
+def commands(bodies):
+    """The commands of a program, each with the options that the program adds to it: a command may be shared with another."""
+    return re.findall(r"\.subcommand\((\w+)\(alloc\)\?((?:\s*\.arg\(\w+\(alloc\)\)\?)*)\s*\)", bodies["command"])
+
+
 def escaped(text):
     """A text as a manual page writes it: no line of it is a request."""
     lines = text.replace("\\", "\\e").replace("-", "\\-").split("\n")
@@ -62,21 +72,19 @@ def paragraphs(text):
 def manual(program, sources):
     """The page in the form of `man`, from the sources of the command line and of the commands."""
     said, bodies = texts(sources), functions(sources)
-    about = lambda name: re.search(r'\.about\("([^"]+)"\)', bodies[name])[1]
-    # (a program may add options to a command that it shares with another)
-    commands = dict(re.findall(r"\.subcommand\((\w+)\(alloc\)\?((?:\s*\.arg\(\w+\(alloc\)\)\?)*)\s*\)", bodies["command"]))
+    of_program = dict(commands(bodies))
     page = [f'.TH {program.upper()} 1 "" "{program} {said["VERSION"].split()[0]}"', ".SH NAME",
-            f"{program} \\- {about('command')}", ".SH SYNOPSIS"]
-    for name in commands:
-        chosen = [f"[\\fB{escaped(it)}\\fR]" for it, _ in options(bodies[name] + commands[name], bodies)]
+            f"{program} \\- {about(bodies['command'])}", ".SH SYNOPSIS"]
+    for name in of_program:
+        chosen = [f"[\\fB{escaped(it)}\\fR]" for it, _ in options(bodies[name] + of_program[name], bodies)]
         files = [f"\\fI{it}\\fR" for it, _ in arguments(bodies[name], bodies["on_delivery"])]
         files += [f"[\\fI{it}\\fR]" for it, _ in optional_arguments(bodies[name])]
         page += [f"\\fB{program} {name}\\fR {' '.join([*chosen, *files])}", ".br"]
     page += [".SH DESCRIPTION", *paragraphs(said["HELP"])[1:], ".SH COMMANDS"]
-    for name in commands:
-        page += [f".SS {name}", escaped(about(name)) + "."]
+    for name in of_program:
+        page += [f".SS {name}", escaped(about(bodies[name])) + "."]
         named = arguments(bodies[name], bodies["on_delivery"]) + optional_arguments(bodies[name])
-        for written, meaning in named + options(bodies[name] + commands[name], bodies):
+        for written, meaning in named + options(bodies[name] + of_program[name], bodies):
             page += [".TP", f"\\fB{escaped(written)}\\fR", escaped(meaning)]
         page += paragraphs(said[name.upper()])
     return "\n".join(page) + "\n"

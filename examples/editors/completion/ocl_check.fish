@@ -1,0 +1,51 @@
+# completion of ocl_check for fish
+
+# Whether the command is the first word given, and as many arguments as the second says stand before the cursor.
+function __ocl_check_at
+    set -l words (commandline -opc)
+    test (count $words) -gt 1; and test $words[2] = $argv[1]; or return 1
+    set -e words[1..2]
+    set -l place 0
+    set -l is_value 0
+    for word in $words
+        if test $is_value = 1
+            set is_value 0
+        else if contains -- $word --budget
+            set is_value 1
+        else if not string match -qr -- '^-.' $word
+            set place (math $place + 1)
+        end
+    end
+    test $place = $argv[2]
+end
+
+complete -c ocl_check -f
+complete -c ocl_check -l help -d 'Prints help'
+complete -c ocl_check -n __fish_use_subcommand -l version -d 'Prints the version'
+
+complete -c ocl_check -n __fish_use_subcommand -a judge -d 'Judges a delivery by rules, and prints the report'
+complete -c ocl_check -n '__fish_seen_subcommand_from judge' -l text -d 'RULES is a rule text; without this option it is a code file'
+complete -c ocl_check -n '__fish_seen_subcommand_from judge' -l budget -x -d 'The most that a rule may be charged for an object; 2^63-1 where not given'
+complete -c ocl_check -n '__ocl_check_at judge 0' -k -a '(__fish_complete_suffix .json)'
+complete -c ocl_check -n '__ocl_check_at judge 1' -k -a '(__fish_complete_suffix .json)'
+complete -c ocl_check -n '__ocl_check_at judge 2' -F
+
+complete -c ocl_check -n __fish_use_subcommand -a compile -d 'Compiles a rule text to a code file'
+complete -c ocl_check -n '__ocl_check_at compile 0' -k -a '(__fish_complete_suffix .json)'
+complete -c ocl_check -n '__ocl_check_at compile 1' -F
+complete -c ocl_check -n '__ocl_check_at compile 2' -F
+
+complete -c ocl_check -n __fish_use_subcommand -a verify -d 'Verifies a code file for a class model'
+complete -c ocl_check -n '__ocl_check_at verify 0' -k -a '(__fish_complete_suffix .json)'
+complete -c ocl_check -n '__ocl_check_at verify 1' -F
+
+complete -c ocl_check -n __fish_use_subcommand -a bound -d 'Says what each rule of a code file is charged at most for an object of a delivery'
+complete -c ocl_check -n '__ocl_check_at bound 0' -k -a '(__fish_complete_suffix .json)'
+complete -c ocl_check -n '__ocl_check_at bound 1' -k -a '(__fish_complete_suffix .json)'
+complete -c ocl_check -n '__ocl_check_at bound 2' -F
+
+complete -c ocl_check -n __fish_use_subcommand -a desk -d 'Makes many reports on a delivery side by side, as a script of calls says'
+complete -c ocl_check -n '__ocl_check_at desk 0' -k -a '(__fish_complete_suffix .json)'
+complete -c ocl_check -n '__ocl_check_at desk 1' -k -a '(__fish_complete_suffix .json)'
+complete -c ocl_check -n '__ocl_check_at desk 2' -F
+complete -c ocl_check -n '__ocl_check_at desk 3' -F
