@@ -10,7 +10,7 @@ use std::alloc::Global;
 
 /// Sees what a command comes to, before its answer is written, and changes nothing of it.
 pub trait Watch {
-    /// Rules are admitted for a population, and are run next.
+    /// Rules are admitted for a population, and its report is written next.
     fn admit(&self, alloc: Global, population: &Population<'_>, admitted: &Admitted<'_>)
         requires { Fits admitted.now population.now.content };
 

@@ -23,8 +23,8 @@ use Rattle.ocl_check.specs.JudgeText.{within_answer, rules_answer, judge_text_an
 use Rattle.ocl_check.proofs.ForAbove.{text_is_answered}
 use Rattle.ocl_explain.specs.declared.verdicts.Why.{Why}
 use Rattle.ocl_explain.specs.declared.verdicts.Why.TheVariants.{Explained, Unknown}
-use Rattle.ocl_explain.specs.Explained.{printed, IsExplainedBy}
-use Rattle.ocl_explain.specs.WhyAnswers.{why_text, why_answer, why_of, IsToldOf, IsTold, shown_answer, WhyAnswers}
+use Rattle.ocl_explain.specs.Explained.{printed, why_of, IsExplainedBy}
+use Rattle.ocl_explain.specs.WhyAnswers.{why_text, why_answer, IsToldOf, IsTold, shown_answer, WhyAnswers}
 
 module _ (rules name id : List ℕ) (t : TextReading) (reads : ReadsAs rules t) where
   module _ (p : Population) (c : CompiledRules) (compiled : compiled_rules p.model t ≡ Ok c) where

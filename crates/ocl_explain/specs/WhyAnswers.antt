@@ -9,8 +9,6 @@ use Rattle.ocl_types.specs.AllRules.{elaborate_rules}
 use Rattle.ocl_check.specs.declared.commands.judge.RulesForm.TheVariants.{Text}
 use Rattle.ocl_check.specs.declared.commands.judge.TheConstants.{MAX_BUDGET}
 use Rattle.ocl_check.specs.Reply.{Answer}
-use Rattle.ocl_check.specs.Given.{given_answer}
-use Rattle.ocl_pipeline.specs.Asked.{PopulationAndRules, admitted_in}
 use Rattle.ocl_pipeline.specs.TextReading.{ReadsAs}
 use Rattle.ocl_pipeline.specs.Inputs.{model_of, population_of}
 use Rattle.ocl_check.specs.JudgeText.{meant_answer, text_answer, JudgeAnswersBy}
@@ -71,11 +69,6 @@ IsRefusedBy model delivery rules answer = JudgeAnswersBy Text MAX_BUDGET model d
 -- of an explanation so many lines, and how many more there are
 abbrev pub shown_answer : ℕ → Answer → Answer
 shown_answer lines (text, status) = if status == 0 then (cut_text lines text, 0) else (text, status)
-
--- what is answered of a population and compiled rules: refused for the cost of one, else the explanation
-abbrev pub why_of : List ℕ → List ℕ → ℕ → PopulationAndRules → Answer
-why_of name id lines asked =
-    given_answer (λ _. shown_answer lines (why_answer (why_text asked.0 asked.1.rules name id))) (admitted_in MAX_BUDGET asked.0 asked.1.unit)
 
 -- What `why` may print of an explanation of which so many lines are shown: one answer, but where a text is refused as Syntax or
 -- TooDeep.

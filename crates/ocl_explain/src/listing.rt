@@ -9,7 +9,7 @@ use explain_inputs::explain_model;
 use explain_notes::Input;
 use imkl_model::ClassModel;
 use ocl_check::{CommandFault, Outcome, Sink};
-use ocl_pipeline::{Refusal, Stopped, accept, read_model};
+use ocl_pipeline::{Refusal, Rejected, Stopped, accept, read_model};
 use rule_code::{CodeFault, CodeFlaw, Unit, read_unit};
 use rule_report::write_and_flush;
 use rule_verify::{Resolved, resolve};
@@ -67,15 +67,6 @@ fn write_unit<S: Sink>(
     Ok(())
 }
 
-/// Why code isn't accepted for a class model; empty where it is.
-fn refusal_of(alloc: Global, code: Input<'_>, model: &ClassModel, unit: Unit) -> Words {
-    let mut out = String::new(alloc);
-    if let Err(rejected) = accept(alloc, model, unit) {
-        explain_rejected(alloc, &mut out, code, model, rejected)?;
-    }
-    Ok(out)
-}
-
 /// An ending by what failed.
 fn failed(alloc: Global, fault: CommandFault) -> Ending {
     Ending {
@@ -84,14 +75,37 @@ fn failed(alloc: Global, fault: CommandFault) -> Ending {
     }
 }
 
-/// An ending with the words of a refusal: status 2, or 0 where they are empty.
-fn ending_with(alloc: Global, words: Words) -> Ending {
+/// An ending with nothing to say.
+fn listed(alloc: Global) -> Ending {
+    Ending {
+        outcome: Outcome::Status(0),
+        words: Ok(String::new(alloc)),
+    }
+}
+
+/// An ending with the words of a refusal.
+fn refused(alloc: Global, words: Words) -> Ending {
     match words {
         Ok(words) => Ending {
-            outcome: Outcome::Status(if words.is_empty() { 0 } else { 2 }),
+            outcome: Outcome::Status(2),
             words: Ok(words),
         },
         Err(_) => failed(alloc, CommandFault::OutOfMemory),
+    }
+}
+
+/// Why a unit is rejected.
+fn rejection(alloc: Global, code: Input<'_>, model: &ClassModel, rejected: Rejected) -> Words {
+    let mut out = String::new(alloc);
+    explain_rejected(alloc, &mut out, code, model, rejected)?;
+    Ok(out)
+}
+
+/// Verifies a unit, and says why it isn't accepted for a class model, if it isn't.
+fn verify_listed(alloc: Global, code: Input<'_>, model: &ClassModel, unit: Unit) -> Ending {
+    match accept(alloc, model, unit) {
+        Ok(_accepted) => listed(alloc),
+        Err(rejected) => refused(alloc, rejection(alloc, code, model, rejected)),
     }
 }
 
@@ -108,7 +122,7 @@ fn list_resolved<S: Sink>(
         return failed(alloc, fault);
     }
     let model = resolved.model();
-    ending_with(alloc, refusal_of(alloc, code, model, resolved.into_unit()))
+    verify_listed(alloc, code, model, resolved.into_unit())
 }
 
 /// Lists a unit, and says why it isn't accepted for a class model, if there is one and it isn't.
@@ -123,7 +137,7 @@ fn list_unit<S: Sink>(
 {
     let Some(model) = model else {
         return match write_unit(alloc, sink, &unit, None) {
-            Ok(()) => ending_with(alloc, Ok(String::new(alloc))),
+            Ok(()) => listed(alloc),
             Err(fault) => failed(alloc, fault),
         };
     };
@@ -151,10 +165,7 @@ fn list_over<S: Sink>(
 {
     match read_unit(alloc, code.bytes) {
         Ok(unit) => list_unit(alloc, sink, code, model, unit),
-        Err(CodeFault::At { flaw, offset }) => ending_with(
-            alloc,
-            flaw_of(alloc, code, flaw, offset),
-        ),
+        Err(CodeFault::At { flaw, offset }) => refused(alloc, flaw_of(alloc, code, flaw, offset)),
         Err(CodeFault::OutOfMemory) => failed(alloc, CommandFault::OutOfMemory),
     }
 }
@@ -174,7 +185,7 @@ fn list_with<S: Sink>(alloc: Global, sink: &mut S, code: Input<'_>, model: Input
 {
     match read_model(alloc, model.bytes) {
         Ok(read) => list_over(alloc, sink, code, Some(&read)),
-        Err(Stopped::Refused(refusal)) => ending_with(alloc, model_refusal(alloc, model, &refusal)),
+        Err(Stopped::Refused(refusal)) => refused(alloc, model_refusal(alloc, model, &refusal)),
         Err(Stopped::OutOfMemory) => failed(alloc, CommandFault::OutOfMemory),
     }
 }

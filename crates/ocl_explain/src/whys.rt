@@ -9,8 +9,8 @@ ghost use Rattle.ocl_pipeline.specs.CompiledRules.{rules_with};
 ghost use Rattle.ocl_check.specs.Answers.{IsAnsweredBy, IsFlushedBy, KeepsUnread, fails_read, fails_write};
 ghost use Rattle.ocl_check.specs.Ending.{IsEnding};
 ghost use Rattle.ocl_check.specs.Given.{given_answer};
-ghost use Rattle.ocl_explain.specs.Explained.{printed};
-ghost use Rattle.ocl_explain.specs.WhyAnswers.{shown_answer, why_answer, why_of, why_text, WhyAnswers};
+ghost use Rattle.ocl_explain.specs.Explained.{printed, why_of};
+ghost use Rattle.ocl_explain.specs.WhyAnswers.{shown_answer, why_answer, why_text, WhyAnswers};
 
 use crate::explaining::{Ending, Explaining, Nobody};
 use crate::given::{Given, options_of};

@@ -21,7 +21,7 @@ pub enum Place<'p> {
     Unit(&'p ClassModel, Unit),
     /// The cost of accepted code.
     Cost(SizedCode<'p>),
-    /// What comes after the rules.
+    /// A step after the rules, which were accepted: taking the sizes of the population, or reading a script.
     AfterRules,
 }
 

@@ -97,7 +97,6 @@ impl<S: Sink, V: Watch> AdmittedAsker<S> for Replies<'_, V> {
         admitted: &Admitted<'_>,
         sink: &mut S,
     ) -> Outcome {
-        self.watch.admit(alloc, population, admitted);
         reply_admitted(alloc, self.watch, self.script, population, admitted, sink)
     }
 

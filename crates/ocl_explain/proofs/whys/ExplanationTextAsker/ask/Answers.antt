@@ -4,7 +4,7 @@ use Rattle.ocl_core.specs.CoreView.{checked_rule_of}
 use Rattle.rule_code.specs.Content.{Content}
 use Rattle.ocl_pipeline.specs.CompiledRules.{rules_with}
 use Rattle.ocl_check.proofs.ForAbove.{ending_as}
-use Rattle.ocl_explain.specs.WhyAnswers.{why_of}
+use Rattle.ocl_explain.specs.Explained.{why_of}
 use Rattle.ocl_explain.proofs.whys.ExplanationTextAsker.ask.Goals as goal
 
 pub returns-in-Ok : goal.returns-in-Ok

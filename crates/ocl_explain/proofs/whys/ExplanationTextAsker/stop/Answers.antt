@@ -1,7 +1,7 @@
 use Rattle.std.proofs.Common.{false}
 use Rattle.ocl_check.specs.Given.{given_answer}
 use Rattle.ocl_check.proofs.ForAbove.{due}
-use Rattle.ocl_explain.specs.WhyAnswers.{why_of}
+use Rattle.ocl_explain.specs.Explained.{why_of}
 use Rattle.ocl_explain.proofs.whys.ExplanationTextAsker.stop.Goals as goal
 
 pub returns : goal.returns
