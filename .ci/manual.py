@@ -32,7 +32,7 @@ def optional_arguments(body):
 def options(body, functions):
     """The options of a command: how each is written, and what it does."""
     found = []
-    for name in re.findall(r"\.arg\((\w+)\(alloc\)\)", body):
+    for name in re.findall(r"\.arg\((\w+)\(alloc\)\??\)", body):
         option = functions[name]
         value = re.search(r'value_name\("(\w+)"\)', option)
         written = "--" + re.search(r'long\("([\w-]+)"\)', option)[1] + (f" {value[1]}" if value else "")
@@ -51,7 +51,7 @@ def about(body):
 
 def commands(bodies):
     """The commands of a program, each with the options that the program adds to it: a command may be shared with another."""
-    return re.findall(r"\.subcommand\((\w+)\(alloc\)\?((?:\s*\.arg\(\w+\(alloc\)\)\?)*)\s*\)", bodies["command"])
+    return re.findall(r"\.subcommand\(\s*(\w+)\(alloc\)\?((?:\s*\.arg\(\w+\(alloc\)\??\)\?)*),?\s*\)", bodies["command"])
 
 
 def escaped(text):

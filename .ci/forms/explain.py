@@ -150,6 +150,13 @@ def json_report(room, shows, delivery, status, lines, rules):
     return case.Case(["ocl_explain", *words], (int(status), lines_of(lines)))
 
 
+def explained_report(room, shows, status, options, delivery, rules):
+    """What `judge --why` prints for a text, with more options or `-`."""
+    more = [] if options == "-" else options.split()
+    words = judge(room, ["--text", "--why", *more], "catalogue.json", delivery, rules)
+    return case.Case(["ocl_explain", *words], (int(status), words_of("reports.said", shows)), lambda answer: (answer.status, answer.out.decode()))
+
+
 def same(form):
     """A form of ocl_check's commands, for ocl_explain."""
 
@@ -181,6 +188,7 @@ FORMS = {
     "why of many parts": why_deep,
     "why not": why_not,
     "report as JSON": json_report,
+    "report with explanations": explained_report,
 } | {
     f"{name} of ocl_explain": same(commands.FORMS[name])
     for name in ("judge command", "judge command by text", "bound command", "verify command", "compile command", "desk command")

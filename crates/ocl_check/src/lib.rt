@@ -13,7 +13,7 @@ mod watch;
 pub use commands::bound::{bound_inputs, run_bound};
 pub use commands::compile::{compile_inputs, run_compile};
 pub use commands::desk::{reply_inputs, run_desk};
-pub use commands::judge::{JudgeOptions, MAX_BUDGET, RulesForm, judge_inputs, run_judge};
+pub use commands::judge::{JudgeOptions, MAX_BUDGET, Report, RulesForm, judge_inputs, run_judge};
 pub use commands::verify::{run_verify, verify_inputs};
 pub use input::{InputFault, MAX_INPUT, read_input};
 pub use outcome::{CommandFault, Outcome, stop};

@@ -1,24 +1,27 @@
 -- What is printed of an explanation that was found, or of none, and of rules that are compiled.
-use Rattle.std.specs.Prelude.{◌≡◌, ℕ, List, [], Option, Some, None, string_bytes}
+use Rattle.std.specs.Prelude.{ℕ, List, Option, Some, None, string_bytes}
 use Rattle.ocl_check.specs.declared.commands.judge.TheConstants.{MAX_BUDGET}
 use Rattle.ocl_check.specs.Reply.{Answer}
-use Rattle.ocl_check.specs.Given.{given_answer}
+use Rattle.ocl_check.specs.Given.{given_answer, meant_within}
 use Rattle.ocl_pipeline.specs.Asked.{PopulationAndRules, admitted_in}
-use Rattle.ocl_explain.specs.declared.verdicts.Why.{Why}
-use Rattle.ocl_explain.specs.declared.verdicts.Why.TheVariants.{Explained, Unknown}
+use Rattle.ocl_explain.specs.declared.verdicts.Found.{Found}
+use Rattle.ocl_explain.specs.declared.verdicts.Found.TheVariants.{Explained, NoRule, NoObject, NotJudged}
+use Rattle.ocl_explain.specs.declared.weaving.Shown.{Shown}
 use Rattle.ocl_explain.specs.WhyAnswers.{why_text, why_answer, shown_answer}
+use Rattle.ocl_explain.specs.ExplainedReport.{explained_answer}
 
--- the answer that is printed where this is told
-abbrev pub printed : Why → Answer
-printed (Explained words) = (string_bytes words, 0)
-printed (Unknown words) = ([], 2)
+-- the explanation that was found
+abbrev pub text_of : Found → Option (List ℕ)
+text_of (Explained text object) = Some (string_bytes text)
+text_of NoRule = None
+text_of NoObject = None
+text_of (NotJudged context class) = None
 
--- it is the explanation, and where there is none it is said in words
-abbrev pub IsExplainedBy : Option (List ℕ) → Why → Type 0
-IsExplainedBy text (Explained words) = text ≡ Some (string_bytes words)
-IsExplainedBy text (Unknown words) = text ≡ None
-
--- what is answered of a population and compiled rules: refused for the cost of one, else the explanation
+-- what `why` answers of a population and compiled rules: refused for the cost of one, else the explanation
 abbrev pub why_of : List ℕ → List ℕ → ℕ → PopulationAndRules → Answer
 why_of name id lines asked =
     given_answer (λ _. shown_answer lines (why_answer (why_text asked.0 asked.1.rules name id))) (admitted_in MAX_BUDGET asked.0 asked.1.unit)
+
+-- what `judge --why` answers of them
+abbrev pub explained_within : ℕ → Shown → PopulationAndRules → Answer
+explained_within budget shown asked = explained_answer asked.0 asked.1.rules shown (meant_within budget asked)

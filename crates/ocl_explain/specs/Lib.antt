@@ -1,4 +1,6 @@
 -- Definitions: what contracts mean.
+pub mod Judged
 pub mod WhyAnswers
+pub mod ExplainedReport
 -- Bookkeeping: what only proofs and private contracts use.
 pub mod Explained

@@ -1,19 +1,13 @@
 -- What `why` prints of the bytes of its inputs, a rule's name and an object's id, and its status: the explanation of the rule's
 -- verdict; nothing, where there is none; or the line by which `judge` refuses an input.
-use Rattle.std.specs.Prelude.{◌≡◌, ◌==◌, ◌⊎◌, ℕ, bytes_eq, List, [], ◌∷◌, Option, Some, None, Ok, if◌then◌else◌}
-use Rattle.imkl_model.specs.ClassModel.{Model}
+use Rattle.std.specs.Prelude.{◌≡◌, ◌==◌, ◌⊎◌, ℕ, bytes_eq, List, [], ◌∷◌, Option, Some, None, if◌then◌else◌}
 use Rattle.imkl_population.specs.Population.{Population, is_instance, object_number}
-use Rattle.ocl_text.specs.Tree.{Rule}
 use Rattle.ocl_core.specs.Core.{CheckedRule}
-use Rattle.ocl_types.specs.AllRules.{elaborate_rules}
-use Rattle.ocl_check.specs.declared.commands.judge.RulesForm.TheVariants.{Text}
 use Rattle.ocl_check.specs.declared.commands.judge.TheConstants.{MAX_BUDGET}
 use Rattle.ocl_check.specs.Reply.{Answer}
-use Rattle.ocl_pipeline.specs.TextReading.{ReadsAs}
-use Rattle.ocl_pipeline.specs.Inputs.{model_of, population_of}
-use Rattle.ocl_check.specs.JudgeText.{meant_answer, text_answer, JudgeAnswersBy}
 use Rattle.explain_notes.specs.Lines.{cut_text}
 use Rattle.explain_why.specs.Explanation.{explanation}
+use Rattle.ocl_explain.specs.Judged.{AreJudged, IsRefusedBy}
 
 -- ---- a population and rules
 
@@ -47,24 +41,10 @@ abbrev pub why_answer : Option (List ℕ) → Answer
 why_answer None = ([], 2)
 why_answer (Some text) = (text, 0)
 
--- What is told of a population and the bytes of a text: they are read as rules that have types, and the answer of `judge` is the
--- report of what these mean of this population.
-abbrev pub IsToldOf : Population → List ℕ → List ℕ → List ℕ → Answer → Type 0
-IsToldOf p rules name id answer =
-    (t : List Rule) × (rs : List CheckedRule) × ReadsAs rules (Ok t) × (elaborate_rules p.model 0 t ≡ Ok rs)
-    × (text_answer MAX_BUDGET (Ok t) p ≡ meant_answer p rs) × (answer ≡ why_answer (why_text p rs name id))
-
--- what is told of a class model and the bytes of a delivery and a text: the delivery describes a population
-abbrev pub IsToldIn : Model → List ℕ → List ℕ → List ℕ → List ℕ → Answer → Type 0
-IsToldIn m delivery rules name id answer = (p : Population) × (population_of m delivery ≡ Ok p) × IsToldOf p rules name id answer
-
--- what is told of the bytes of inputs: the first describes a class model
+-- what is told of the bytes of inputs: why the rule of a name has its verdict for the object of an id
 abbrev pub IsTold : List ℕ → List ℕ → List ℕ → List ℕ → List ℕ → Answer → Type 0
-IsTold model delivery rules name id answer = (m : Model) × (model_of model ≡ Ok m) × IsToldIn m delivery rules name id answer
-
--- the answer of `judge` to inputs of which it refuses one
-abbrev pub IsRefusedBy : List ℕ → List ℕ → List ℕ → Answer → Type 0
-IsRefusedBy model delivery rules answer = JudgeAnswersBy Text MAX_BUDGET model delivery rules answer × (answer.1 ≡ 2)
+IsTold model delivery rules name id answer =
+    (p : Population) × (rs : List CheckedRule) × AreJudged MAX_BUDGET model delivery rules p rs × (answer ≡ why_answer (why_text p rs name id))
 
 -- of an explanation so many lines, and how many more there are
 abbrev pub shown_answer : ℕ → Answer → Answer
@@ -75,4 +55,4 @@ shown_answer lines (text, status) = if status == 0 then (cut_text lines text, 0)
 abbrev pub WhyAnswers : List ℕ → List ℕ → List ℕ → List ℕ → List ℕ → ℕ → Answer → Type 0
 WhyAnswers model delivery rules name id lines answer =
     ((told : Answer) × IsTold model delivery rules name id told × (answer ≡ shown_answer lines told))
-    ⊎ IsRefusedBy model delivery rules answer
+    ⊎ IsRefusedBy MAX_BUDGET model delivery rules answer

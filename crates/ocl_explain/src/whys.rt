@@ -1,6 +1,6 @@
 //! The command `why`, of inputs that were read already.
 
-ghost use Rattle.std.specs.Prelude.{◌≡◌, map, false};
+ghost use Rattle.std.specs.Prelude.{◌≡◌, Some, None, map, false, string_bytes};
 ghost use Rattle.std.specs.List.{AllByRecursion};
 ghost use Rattle.imkl_population.specs.Sizes.{sizes_of};
 ghost use Rattle.ocl_core.specs.CoreView.{checked_rule_of};
@@ -9,21 +9,40 @@ ghost use Rattle.ocl_pipeline.specs.CompiledRules.{rules_with};
 ghost use Rattle.ocl_check.specs.Answers.{IsAnsweredBy, IsFlushedBy, KeepsUnread, fails_read, fails_write};
 ghost use Rattle.ocl_check.specs.Ending.{IsEnding};
 ghost use Rattle.ocl_check.specs.Given.{given_answer};
-ghost use Rattle.ocl_explain.specs.Explained.{printed, why_of};
+ghost use Rattle.ocl_explain.specs.Explained.{text_of, why_of};
 ghost use Rattle.ocl_explain.specs.WhyAnswers.{shown_answer, why_answer, why_text, WhyAnswers};
 
-use crate::explaining::{Ending, Explaining, Nobody};
+use crate::explaining::{Ending, Explaining, Nobody, Words};
 use crate::given::{Given, options_of};
-use crate::verdicts::{Why, WhyAsked, answer_rules};
+use crate::unknown::{not_judged, unknown_object, unknown_rule};
+use crate::verdicts::{Found, find_verdict};
 use crate::writing::write_answer;
-use explain_notes::cut_text;
+use explain_notes::{Input, cut_text};
 use imkl_population::{Population, Sizes};
+use ocl_base::OutOfMemory;
 use ocl_check::{CommandFault, MAX_BUDGET, Outcome, RulesForm, Sink, stop};
 use ocl_core::CoreRule;
 use ocl_pipeline::{OfText, Place, SizedCode, Stopped, TextAsker, ask_inputs};
 use rule_cost::admit;
 use rule_verify::Accepted;
 use std::alloc::Global;
+
+/// The rule and the object whose verdict is explained, and the inputs.
+#[derive(Clone, Copy, Drop)]
+pub struct WhyAsked<'a> {
+    /// The class model.
+    pub model: Input<'a>,
+    /// The delivery.
+    pub delivery: Input<'a>,
+    /// The rule text.
+    pub rules: Input<'a>,
+    /// The name of the rule.
+    pub rule: &'a str,
+    /// The id of the object.
+    pub id: &'a str,
+    /// How many lines of the explanation are shown.
+    pub lines: usize,
+}
 
 /// Asks for an explanation.
 #[derive(Clone, Copy)]
@@ -32,26 +51,48 @@ struct Explanation<'a> {
     watch: &'a Explaining<'a, Nobody>,
 }
 
-/// Writes so many lines of the explanation, or nothing.
-fn write_why<S: Sink>(
+/// Writes so many lines of an explanation.
+fn write_explanation<S: Sink>(alloc: Global, text: &String, lines: usize, sink: &mut S) -> Outcome
+    requires { S.has_failed sink.old ≡ false }
+    ensures { IsEnding S.contents S.has_failed S.flushes S.has_pending false
+        (shown_answer lines (why_answer (Some (string_bytes text.now)))) sink.old result sink.new }
+{
+    match cut_text(alloc, text.as_bytes(), lines) {
+        Ok(shown) => write_answer(sink, &shown, 0),
+        Err(_) => Outcome::Failed(CommandFault::OutOfMemory),
+    }
+}
+
+/// Writes nothing, and keeps the words that say why.
+fn write_unknown<S: Sink>(watch: &Explaining<'_, Nobody>, words: Words, sink: &mut S) -> Outcome
+    requires { S.has_failed sink.old ≡ false }
+    ensures { IsEnding S.contents S.has_failed S.flushes S.has_pending false (why_answer None)
+        sink.old result sink.new }
+{
+    watch.keep(words);
+    write_answer(sink, &[], 2)
+}
+
+/// Writes the explanation that was found, or nothing.
+fn write_found<S: Sink>(
     alloc: Global,
-    watch: &Explaining<'_, Nobody>,
-    why: Why,
-    lines: usize,
+    explanation: Explanation<'_>,
+    rules: &[CoreRule],
+    found: Found<'_>,
     sink: &mut S,
 ) -> Outcome
     requires { S.has_failed sink.old ≡ false }
     ensures { IsEnding S.contents S.has_failed S.flushes S.has_pending false
-        (shown_answer lines (printed why)) sink.old result sink.new }
+        (shown_answer explanation.entry.asked.lines (why_answer (text_of found)))
+        sink.old result sink.new }
 {
-    match why {
-        Why::Explained(text) => match cut_text(alloc, text.as_bytes(), lines) {
-            Ok(shown) => write_answer(sink, &shown, 0),
-            Err(_) => Outcome::Failed(CommandFault::OutOfMemory),
-        },
-        Why::Unknown(words) => {
-            watch.keep(Ok(words));
-            write_answer(sink, &[], 2)
+    let Explanation { asked, watch } = explanation;
+    match found {
+        Found::Explained { text, object: _ } => write_explanation(alloc, &text, asked.lines, sink),
+        Found::NoRule => write_unknown(watch, unknown_rule(alloc, asked, rules), sink),
+        Found::NoObject => write_unknown(watch, unknown_object(alloc, asked), sink),
+        Found::NotJudged { context, class } => {
+            write_unknown(watch, not_judged(alloc, asked, context, class), sink)
         }
     }
 }
@@ -72,10 +113,13 @@ fn answer_judged<S: Sink>(
         (map checked_rule_of rules.now) explanation.entry.asked.rule.now
         explanation.entry.asked.id.now))) sink.old result sink.new }
 {
-    let asked = explanation.asked;
-    match answer_rules(alloc, asked, population, rules) {
-        Ok(why) => write_why(alloc, explanation.watch, why, asked.lines, sink),
-        Err(_) => Outcome::Failed(CommandFault::OutOfMemory),
+    let (name, id) = (
+        explanation.asked.rule.as_bytes(),
+        explanation.asked.id.as_bytes(),
+    );
+    match find_verdict(alloc, population, rules, name, 0, id) {
+        Ok(found) => write_found(alloc, explanation, rules, found, sink),
+        Err(OutOfMemory) => Outcome::Failed(CommandFault::OutOfMemory),
     }
 }
 

@@ -1,6 +1,7 @@
 //! The command line.
 
 use clap::{Arg, ArgAction, ArgMatches, Command, Error, value_parser};
+use ocl_explain::Shown;
 use ocl_programs::{
     Request, RuleFiles, VERSION, bound, compile, desk, judge, request_of, verify, word,
 };
@@ -34,14 +35,28 @@ a long explanation the first lines are printed, and how many more there are. For
 Status 0: printed. 2: an input is refused, with the line that judge prints, or there is no such rule or
 object. 3: memory, a read or a write failed.";
 
-/// How many lines of an explanation are printed without `--lines`.
+/// How many lines of an explanation `why` prints without `--lines`.
 const DEFAULT_LINES: u64 = 400;
+
+/// How many lines of each explanation `judge --why` prints without `--lines`.
+const DEFAULT_FINDING_LINES: u64 = 20;
+
+/// How a report is printed.
+#[derive(Clone, Copy, Drop)]
+pub enum ReportForm {
+    /// As `ocl_check` prints it.
+    Plain,
+    /// As JSON.
+    Json,
+    /// With the explanation of each finding below its line.
+    Explained(Shown),
+}
 
 /// What is asked.
 #[derive(Clone, Copy, Drop)]
 pub enum Asked<'a> {
-    /// To answer a command of `ocl_check`, and to explain the answer; `judge` as JSON, if this says so.
-    Answer(Request<'a>, bool),
+    /// To answer a command of `ocl_check`, and to explain the answer; a report in this form.
+    Answer(Request<'a>, ReportForm),
     /// To list a code file.
     List(ListFiles<'a>),
     /// To explain a verdict.
@@ -76,6 +91,36 @@ fn json<'a>(alloc: Global) -> Arg<'a> {
         .long("json")
         .action(ArgAction::SetTrue)
         .help("Prints the report as JSON, an object in each line")
+}
+
+/// The option of `judge` that explains its findings.
+fn explained<'a>(alloc: Global) -> Result<Arg<'a>, AllocError> {
+    Arg::new(alloc, "why")
+        .long("why")
+        .action(ArgAction::SetTrue)
+        .help("Prints below each finding the parts of the rule with their values; with --text")
+        .requires_arg("text")?
+        .conflicts_with("json")
+}
+
+/// The option of `judge --why` that limits how many findings are explained.
+fn findings<'a>(alloc: Global) -> Result<Arg<'a>, AllocError> {
+    Arg::new(alloc, "max")
+        .long("max")
+        .value_name("N")
+        .value_parser(value_parser!(u64))
+        .help("With --why: explains at most N findings of each rule (all)")
+        .requires_arg("why")
+}
+
+/// The option of `judge --why` that limits the length of an explanation.
+fn finding_lines<'a>(alloc: Global) -> Result<Arg<'a>, AllocError> {
+    Arg::new(alloc, "lines")
+        .long("lines")
+        .value_name("N")
+        .value_parser(value_parser!(u64))
+        .help("With --why: prints at most N lines of each explanation (20)")
+        .requires_arg("why")
 }
 
 fn list<'a>(alloc: Global) -> Result<Command<'a>, AllocError> {
@@ -132,7 +177,13 @@ fn command<'a>(alloc: Global) -> Result<Command<'a>, AllocError> {
         .version(VERSION)
         .after_help(HELP)
         .subcommand_required(true)
-        .subcommand(judge(alloc)?.arg(json(alloc))?)?
+        .subcommand(
+            judge(alloc)?
+                .arg(json(alloc))?
+                .arg(explained(alloc)?)?
+                .arg(findings(alloc)?)?
+                .arg(finding_lines(alloc)?)?,
+        )?
         .subcommand(compile(alloc)?)?
         .subcommand(verify(alloc)?)?
         .subcommand(bound(alloc)?)?
@@ -158,6 +209,22 @@ fn why_words<'a>(matches: Option<&ArgMatches<'a>>) -> WhyWords<'a> {
     }
 }
 
+/// In which form the report of `judge` is printed.
+fn report_form(judge: &ArgMatches<'_>) -> ReportForm {
+    if judge.get_flag("json") {
+        return ReportForm::Json;
+    }
+    if !judge.get_flag("why") {
+        return ReportForm::Plain;
+    }
+    ReportForm::Explained(Shown {
+        findings: judge.get_one::<u64>("max").unwrap_or(u64::MAX) as usize,
+        lines: judge
+            .get_one::<u64>("lines")
+            .unwrap_or(DEFAULT_FINDING_LINES) as usize,
+    })
+}
+
 /// What the matches of a command line ask.
 fn asked_by<'a>(matches: &ArgMatches<'a>) -> Asked<'a> {
     let list = matches.subcommand_matches("list");
@@ -171,11 +238,11 @@ fn asked_by<'a>(matches: &ArgMatches<'a>) -> Asked<'a> {
     if why.is_some() {
         return Asked::Why(why_words(why));
     }
-    let is_json = match matches.subcommand_matches("judge") {
-        Some(judge) => judge.get_flag("json"),
-        None => false,
+    let form = match matches.subcommand_matches("judge") {
+        Some(judge) => report_form(judge),
+        None => ReportForm::Plain,
     };
-    Asked::Answer(request_of(matches), is_json)
+    Asked::Answer(request_of(matches), form)
 }
 
 /// What the words ask.

@@ -63,7 +63,7 @@ fn main(rt: HostRuntime) -> ExitCode {
             let _ = rt.eprintln("error: standard input (-) may be named for one input only");
             ExitCode::from(2)
         }
-        Ok(Asked::Answer(request, is_json)) => exit_status(&rt, answer(&rt, request, is_json)),
+        Ok(Asked::Answer(request, form)) => exit_status(&rt, answer(&rt, request, form)),
         Ok(Asked::List(files)) => exit_status(&rt, list(&rt, files)),
         Ok(Asked::Why(words)) => exit_status(&rt, explain(&rt, words)),
         Err(error) => report_refusal(&rt, &error),

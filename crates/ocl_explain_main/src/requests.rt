@@ -1,12 +1,12 @@
 //! The commands over files: every input is read before the first is looked at.
 
-use crate::command_line::ListFiles;
+use crate::command_line::{ListFiles, ReportForm};
 use crate::files::{read_file, report_write};
 use explain_notes::Input;
 use ocl_check::{CommandFault, JudgeOptions, Outcome, Telling};
 use ocl_explain::{
     Ending, Keeping, Listener, Words, answer_bound, answer_compile, answer_desk, answer_judge,
-    answer_judge_json, answer_verify, list_code,
+    answer_judge_json, answer_judge_why, answer_verify, list_code,
 };
 use ocl_programs::{CompileFiles, Creating, DeskFiles, Request, RuleFiles, VerifyFiles};
 use std::io;
@@ -39,11 +39,11 @@ pub fn end(rt: &HostRuntime, ending: Ending) -> Outcome {
     ending.outcome
 }
 
-/// How a delivery is judged, and whether the report is printed as JSON.
+/// How a delivery is judged, and in which form the report is printed.
 #[derive(Clone, Copy, Drop)]
 struct Judging {
     options: JudgeOptions,
-    is_json: bool,
+    form: ReportForm,
 }
 
 /// Prints the report, or what is refused.
@@ -56,10 +56,19 @@ fn print_report<'i>(
 ) -> Outcome {
     let mut sink = Telling::new(Keeping::new(io::writer(rt)));
     let (alloc, listener, options) = (rt.alloc(), &StandardError { rt }, judging.options);
-    let ending = if judging.is_json {
-        answer_judge_json(alloc, listener, options, model, delivery, rules, &mut sink)
-    } else {
-        answer_judge(alloc, listener, options, model, delivery, rules, &mut sink)
+    let ending = match judging.form {
+        ReportForm::Plain => {
+            answer_judge(alloc, listener, options, model, delivery, rules, &mut sink)
+        }
+        ReportForm::Json => {
+            answer_judge_json(alloc, listener, options, model, delivery, rules, &mut sink)
+        }
+        ReportForm::Explained(shown) => {
+            let budget = options.budget;
+            answer_judge_why(
+                alloc, listener, budget, shown, model, delivery, rules, &mut sink,
+            )
+        }
     };
     report_write(rt, "standard output", sink.into_inner().error());
     end(rt, ending)
@@ -150,11 +159,11 @@ fn compile(rt: &HostRuntime, files: CompileFiles<'_>) -> Result<Outcome, Command
     Ok(compile_inputs(rt, files.out, model.input(), rules.input()))
 }
 
-/// Answers a command of `ocl_check` as it does, a report as JSON if this is wanted, and explains a refusal on standard
+/// Answers a command of `ocl_check` as it does, with a report in the form that is wanted, and explains a refusal on standard
 /// error.
-pub fn answer(rt: &HostRuntime, request: Request<'_>, is_json: bool) -> Outcome {
+pub fn answer(rt: &HostRuntime, request: Request<'_>, form: ReportForm) -> Outcome {
     let answered = match request {
-        Request::Judge(files, options) => judge(rt, files, Judging { options, is_json }),
+        Request::Judge(files, options) => judge(rt, files, Judging { options, form }),
         Request::Compile(files) => compile(rt, files),
         Request::Bound(files) => bound(rt, files),
         Request::Verify(files) => verify(rt, files),

@@ -4,4 +4,4 @@
 pub mod laws;
 mod lines;
 
-pub use lines::json_of_report;
+pub use lines::{json_of_report, lines_in, words_in};

@@ -82,8 +82,8 @@ fn put_total(out: &mut Vec<u8>, fails: &[u8], undecided: &[u8]) -> Result<(), Al
     out.extend_from_slice(b"}}\n")
 }
 
-/// The words of a line.
-fn words_in(alloc: Global, line: &[u8]) -> Result<Vec<&[u8]>, AllocError>
+/// The words of a line of a report, between its spaces.
+pub fn words_in(alloc: Global, line: &[u8]) -> Result<Vec<&[u8]>, AllocError>
     ensures { IfOk result (λ v. map (λ w. w.now) v.items ≡ words_in line.now) }
 {
     line.split(|b| *b == b' ').collect(alloc)
@@ -110,8 +110,8 @@ fn put_line(alloc: Global, out: &mut Vec<u8>, line: &[u8]) -> Result<(), AllocEr
     }
 }
 
-/// The lines of a report.
-fn lines_in(alloc: Global, text: &[u8]) -> Result<Vec<&[u8]>, AllocError>
+/// The lines of a report, and after the last line feed an empty one.
+pub fn lines_in(alloc: Global, text: &[u8]) -> Result<Vec<&[u8]>, AllocError>
     ensures { IfOk result (λ v. map (λ l. l.now) v.items ≡ lines_in text.now) }
 {
     text.split(|b| *b == b'\n').collect(alloc)

@@ -63,11 +63,11 @@ fn judge_admitted<S: Sink>(
 
 /// Asks for the report, by rules that are within a budget.
 #[derive(Clone, Copy)]
-struct Report<'a, V> {
+pub struct Report<'a, V> {
     /// The greatest bound that a rule may have, in charges for an object.
-    budget: u64,
+    pub budget: u64,
     /// Who watches.
-    watch: &'a V,
+    pub watch: &'a V,
 }
 
 impl<S: Sink, V: Watch> AdmittedAsker<S> for Report<'_, V> {

@@ -1,21 +1,7 @@
-use Rattle.std.proofs.Common.{◌∙◌, Some, ap, sym, true, false, arith}
-use Rattle.ocl_explain.proofs.Named.{next_object, no_object_left}
+use Rattle.std.proofs.Common.{sym}
+use Rattle.ocl_explain.proofs.Named.{named_is}
 use Rattle.ocl_explain.proofs.verdicts.object_named.Goals as goal
 
-pub returns-then-eq-clause-number : goal.returns-then-eq-clause-number
-returns-then-eq-clause-number c =
-    let os = c.args.population.now.content.objects in
-    let test = sym c.eq.ensures ∙ c.if-eq.true in
-    ap Some c.new-object.ensures
-    ∙ sym (c.loop-index.invariant ∙ next_object os c.loop-index.index c.new-object.result c.args.id.now c.id.result.now true (omega arith) c.new-object.ensures c.id.ensures test)
-
-pub returns-clause-number : goal.returns-clause-number
-returns-clause-number c =
-    let os = c.args.population.now.content.objects in
-    sym (c.loop-index.invariant ∙ no_object_left os c.loop-index.index c.args.id.now (omega (arith, c.objects-index-end.ensures, c.loop-index-test.false)))
-
-pub loop-index-preserved : goal.loop-index-preserved
-loop-index-preserved c =
-    let os = c.args.population.now.content.objects in
-    let test = sym c.eq.ensures ∙ c.if-eq.false in
-    c.loop-index.invariant ∙ next_object os c.loop-index.index c.new-object.result c.args.id.now c.id.result.now false (omega arith) c.new-object.ensures c.id.ensures test
+pub returns-in-Some-clause-number : goal.returns-in-Some-clause-number
+returns-in-Some-clause-number c =
+    sym (named_is c.args.population.now.content c.consistent.ensures c.in-Some.object c.args.id.now c.in-Some.ensures.there c.in-Some.ensures.named)

@@ -1,6 +1,6 @@
 use Rattle.std.proofs.Common.{◌≡◌, drop}
 use Rattle.imkl_population.specs.Population.{object_number, object_number_in}
-use Rattle.ocl_explain.proofs.verdicts.object_named.Given as goal
+use Rattle.ocl_explain.proofs.verdicts.object_from.Given as goal
 
 -- the object is among those that are left, or not there
 abbrev pub invariant-loop-index : goal.invariant-loop-index

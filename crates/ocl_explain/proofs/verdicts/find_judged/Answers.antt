@@ -1,6 +1,6 @@
 use Rattle.ocl_core.specs.CoreView.{core_view}
 use Rattle.ocl_semantics.proofs.ForAbove.{typed_resolved}
-use Rattle.ocl_explain.proofs.verdicts.answer_object.Goals as goal
+use Rattle.ocl_explain.proofs.verdicts.find_judged.Goals as goal
 
 -- in the tree of a typed rule each name is one of the class model
 pub explain_verdict-requires-clause-resolved : goal.explain_verdict-requires-clause-resolved

@@ -1,0 +1,10 @@
+use Rattle.std.proofs.Common.{true}
+use Rattle.ocl_check.specs.Given.{given_answer}
+use Rattle.ocl_check.proofs.ForAbove.{due}
+use Rattle.ocl_explain.specs.Explained.{explained_within}
+use Rattle.ocl_explain.proofs.findings.ExplainedReportTextAsker.stop.Goals as goal
+
+pub returns : goal.returns
+returns g c = λ given fails.
+    let f = explained_within c.args.self.now.budget c.args.self.now.shown in
+    c.stop.ensures true (given_answer f given) (due c.args.why given f fails)

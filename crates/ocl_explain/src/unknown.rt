@@ -1,0 +1,36 @@
+//! Why there is no verdict of the rule and the object that `why` is asked for, in words.
+
+use crate::explaining::Words;
+use crate::whys::WhyAsked;
+use explain_notes::Nearest;
+use ocl_core::CoreRule;
+use std::alloc::Global;
+
+/// That no rule has the name, with the nearest that one has.
+pub(crate) fn unknown_rule(alloc: Global, asked: WhyAsked<'_>, rules: &[CoreRule]) -> Words {
+    let (path, name) = (asked.rules.path, asked.rule);
+    let mut nearest = Nearest::to(name);
+    for rule in rules {
+        nearest.offer(alloc, rule.name.as_str())?;
+    }
+    match nearest.name() {
+        Some(near) => {
+            format!(in alloc; "{path}: no rule is named `{name}`; did you mean `{near}`?\n")
+        }
+        None => format!(in alloc; "{path}: no rule is named `{name}`\n"),
+    }
+}
+
+/// That no object has the id.
+pub(crate) fn unknown_object(alloc: Global, asked: WhyAsked<'_>) -> Words {
+    let (path, id) = (asked.delivery.path, asked.id);
+    format!(in alloc; "{path}: no object has the id `{id}`\n")
+}
+
+/// That the rule, of this context, doesn't judge the object, which is of this class.
+pub(crate) fn not_judged(alloc: Global, asked: WhyAsked<'_>, context: &str, class: &str) -> Words {
+    let (path, rule, id) = (asked.rules.path, asked.rule, asked.id);
+    format!(in alloc;
+        "{path}: rule `{rule}` judges objects of {context}, and `{id}` is of {class}\n"
+    )
+}
