@@ -1,4 +1,5 @@
-use Rattle.std.proofs.Common.{◌∙◌, Some, ap, sym, true, false, arith}
+use Rattle.std.proofs.Common.{◌≡◌, ◌∙◌, Some, ap, sym, subst, true, false, bytes_eq, arith}
+use Rattle.imkl_population.specs.Population.{object_at}
 use Rattle.ocl_explain.proofs.Named.{next_object, no_object_left}
 use Rattle.ocl_explain.proofs.verdicts.object_from.Goals as goal
 
@@ -6,8 +7,12 @@ pub returns-then-eq-clause-number : goal.returns-then-eq-clause-number
 returns-then-eq-clause-number c =
     let os = c.args.population.now.content.objects in
     let test = sym c.eq.ensures ∙ c.if-eq.true in
+    let here = c.as_bytes.ensures.value ∙ c.id.ensures in
     ap Some c.new-object.ensures
-    ∙ sym (c.loop-index.invariant ∙ next_object os c.loop-index.index c.new-object.result c.args.id.now c.id.result.now true (omega arith) c.new-object.ensures c.id.ensures test)
+    ∙ sym (c.loop-index.invariant ∙ next_object os c.loop-index.index c.new-object.result c.args.id.now c.as_bytes.result.now true (omega arith) c.new-object.ensures here test)
+
+pub returns-then-eq-clause-named : goal.returns-then-eq-clause-named
+returns-then-eq-clause-named c = ap (bytes_eq c.args.id.now) (sym (c.as_bytes.ensures.value ∙ c.id.ensures)) ∙ (sym c.eq.ensures ∙ c.if-eq.true)
 
 pub returns-clause-number : goal.returns-clause-number
 returns-clause-number c =
@@ -18,4 +23,5 @@ pub loop-index-preserved : goal.loop-index-preserved
 loop-index-preserved c =
     let os = c.args.population.now.content.objects in
     let test = sym c.eq.ensures ∙ c.if-eq.false in
-    c.loop-index.invariant ∙ next_object os c.loop-index.index c.new-object.result c.args.id.now c.id.result.now false (omega arith) c.new-object.ensures c.id.ensures test
+    let here = c.as_bytes.ensures.value ∙ c.id.ensures in
+    c.loop-index.invariant ∙ next_object os c.loop-index.index c.new-object.result c.args.id.now c.as_bytes.result.now false (omega arith) c.new-object.ensures here test
