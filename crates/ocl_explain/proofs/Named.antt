@@ -24,7 +24,7 @@ no_object_left os i id le = at_drop_all (λ (rest : List Object). object_number_
 -- where the objects before one have other ids
 found_at : (n : ℕ) (os : List Object) (i : ℕ) (id : List ℕ) → i < length os → ((o : ℕ) → o < i → bytes_eq id (get_or os o no_object).id ≡ false)
     → bytes_eq id (get_or os i no_object).id ≡ true → object_number_in n os id ≡ Some (n + i)
-found_at n [] i id lt others is = omega (arith, lt)
+found_at n [] i id lt others is = absurd (omega (arith, lt))
 found_at n (o ∷ os) zero id lt others is = let same : n ≡ n + 0 = omega arith in rw is (ap Some same)
 found_at n (o ∷ os) (suc i) id lt others is =
     let same : suc n + i ≡ n + suc i = omega arith in
@@ -36,7 +36,8 @@ named_is p consistent i id lt is =
     let same : id ≡ (object_at p i).id = (bytes_eq-Decides id (object_at p i).id).0 is in
     let others : (o : ℕ) → o < i → bytes_eq id (object_at p o).id ≡ false = λ o before.
     nat_list_eq_equiv.symm id (object_at p o).id ∙ (ap (bytes_eq (object_at p o).id) same ∙ consistent.distinct o i before lt) in
-    found_at 0 p.objects i id lt others is
+    let same_number : 0 + i ≡ i = omega arith in
+    found_at 0 p.objects i id lt others is ∙ ap Some same_number
 
 module _ {X : Type 0} (rule : X → CheckedRule) where
   -- the next rule has the name, or the rule of the name is looked for behind it

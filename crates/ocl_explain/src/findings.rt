@@ -38,7 +38,7 @@ fn write_explained<S: Sink>(
         (map checked_rule_of rules.now) }
     requires well { S.has_failed sink.old ≡ false }
     ensures { IsEnding S.contents S.has_failed S.flushes S.has_pending true
-        (explained_answer population.now.content (map checked_rule_of rules.now) shown.entry
+        (explained_answer population.now.content (map checked_rule_of rules.now) shown
         (text.now, status)) sink.old result sink.new }
 {
     if status == 2 {
@@ -65,7 +65,7 @@ fn write_judged<S: Sink>(
     requires well { S.has_failed sink.old ≡ false }
     ensures { (said : Answer) → IsAnswered said (Some []) (Some text.now) judged →
         IsEnding S.contents S.has_failed S.flushes S.has_pending true (explained_answer
-        population.now.content (map checked_rule_of rules.now) shown.entry said)
+        population.now.content (map checked_rule_of rules.now) shown said)
         sink.old result sink.new }
 {
     match judged {
@@ -125,7 +125,7 @@ impl<S: Sink, L: Listener> TextAsker<S> for ExplainedReport<'_, L> {
 /// written. `Failed(Write)`: the sink has failed, after a prefix of the answer.
 pub fn answer_judge_why<'i, S: Sink, L: Listener>(
     alloc: Global,
-    listener: &L,
+    listener: &'i L,
     budget: u64,
     shown: Shown,
     model: Input<'i>,
@@ -134,7 +134,7 @@ pub fn answer_judge_why<'i, S: Sink, L: Listener>(
     sink: &mut S,
 ) -> Ending
     requires { S.has_failed sink.old ≡ false }
-    ensures answered { IsAnsweredBy (ExplainedAnswers budget shown.entry model.entry.bytes.now
+    ensures answered { IsAnsweredBy (ExplainedAnswers budget shown model.entry.bytes.now
         delivery.entry.bytes.now rules.entry.bytes.now)
         (S.contents sink.old) (S.contents sink.new) result.outcome }
     ensures sink { S.has_failed sink.new ≡ fails_write result.outcome }

@@ -45,6 +45,7 @@ fn object_from(population: &Population<'_>, first: usize, id: &[u8]) -> Option<O
     ensures named { IfSome result (λ o.
         bytes_eq id.now (object_at population.now.content o).id ≡ true) }
 {
+    population.consistent();
     for index in first..population.objects() {
         let object = ObjectNo::new(index);
         if id == population.id(object).as_bytes() {

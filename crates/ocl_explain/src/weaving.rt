@@ -92,8 +92,8 @@ fn put_explanation(
     name: &[u8],
     id: &[u8],
 ) -> Result<usize, OutOfMemory>
-    requires { AllByRecursion (IsTypedRule judged.entry.population.now.content.model)
-        (map checked_rule_of judged.entry.rules.now) }
+    requires { AllByRecursion (IsTypedRule judged.population.now.content.model)
+        (map checked_rule_of judged.rules.now) }
     ensures { OnOk result (out.new.items ≡ out.old.items ++ parts_shown lines (why_text
         judged.entry.population.now.content (map checked_rule_of judged.entry.rules.now)
         name.now id.now)) }
@@ -116,13 +116,13 @@ fn put_line(
     progress: Progress,
     line: &[u8],
 ) -> Result<Progress, OutOfMemory>
-    requires { AllByRecursion (IsTypedRule judged.entry.population.now.content.model)
-        (map checked_rule_of judged.entry.rules.now) }
+    requires { AllByRecursion (IsTypedRule judged.population.now.content.model)
+        (map checked_rule_of judged.rules.now) }
     ensures left { IfOk result (λ g. g.left ≡
-        left_after shown.entry.findings progress.entry.left line.now) }
+        left_after shown.findings progress.left line.now) }
     ensures text { OnOk result (out.new.items ≡ out.old.items ++ explained_line
         judged.entry.population.now.content (map checked_rule_of judged.entry.rules.now)
-        shown.entry progress.entry.left line.now) }
+        shown progress.left line.now) }
 {
     put_ended(out, line)?;
     let words = words_in(alloc, line)?;
@@ -161,7 +161,7 @@ pub(crate) fn explained_report(
     requires { AllByRecursion (IsTypedRule population.now.content.model)
         (map checked_rule_of rules.now) }
     ensures { IfOk result (λ v. v.items ≡ explained_report population.now.content
-        (map checked_rule_of rules.now) shown.entry text.now) }
+        (map checked_rule_of rules.now) shown text.now) }
 {
     let lines = lines_in(alloc, text)?;
     let judged = Judged { population, rules };

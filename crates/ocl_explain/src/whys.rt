@@ -83,7 +83,7 @@ fn write_found<S: Sink>(
 ) -> Outcome
     requires { S.has_failed sink.old ≡ false }
     ensures { IsEnding S.contents S.has_failed S.flushes S.has_pending false
-        (shown_answer explanation.entry.asked.lines (why_answer (text_of found)))
+        (shown_answer explanation.entry.asked.lines (why_answer (text_of found.entry)))
         sink.old result sink.new }
 {
     let Explanation { asked, watch } = explanation;

@@ -6,14 +6,14 @@ use Rattle.ocl_explain.proofs.verdicts.find_verdict.Goals as goal
 pub returns-then-eq : goal.returns-then-eq
 returns-then-eq c =
     let name = c.args.name.now in
-    let test = ap (λ (n : List ℕ). bytes_eq n name) (sym c.as_str.ensures.text) ∙ (sym c.eq.ensures ∙ c.if-eq.true) in
+    let test = ap (λ (n : List ℕ). bytes_eq n name) (sym (c.as_bytes.ensures.value ∙ c.as_str.ensures.text)) ∙ (sym c.eq.ensures ∙ c.if-eq.true) in
     let next = next_rule checked_rule_of c.args.rules.now c.rules.rule-index c.rule-item.result name true (omega arith) c.rule-item.is test in
     rw (c.rules.invariant.1 ∙ next) c.find_object.ensures
 
 pub rules-preserved : goal.rules-preserved
 rules-preserved c =
     let name = c.args.name.now in
-    let test = ap (λ (n : List ℕ). bytes_eq n name) (sym c.as_str.ensures.text) ∙ (sym c.eq.ensures ∙ c.if-eq.false) in
+    let test = ap (λ (n : List ℕ). bytes_eq n name) (sym (c.as_bytes.ensures.value ∙ c.as_str.ensures.text)) ∙ (sym c.eq.ensures ∙ c.if-eq.false) in
     let next = next_rule checked_rule_of c.args.rules.now c.rules.rule-index c.rule-item.result name false (omega arith) c.rule-item.is test in
     let typed = rw (drop-cons c.args.rules.now c.rules.rule-index c.rule-item.result c.rules-test.true) at c.rules.invariant.0 in
     (rw add-one typed.1, c.rules.invariant.1 ∙ next)

@@ -1,4 +1,4 @@
-use Rattle.std.proofs.Common.{◌≡◌, ℕ, List, ap, ◌∙◌}
+use Rattle.std.proofs.Common.{ℕ, List, false, ap, ◌∙◌}
 use Rattle.explain_notes.specs.Lines.{cut_text}
 use Rattle.ocl_check.proofs.ForAbove.{ending_as}
 use Rattle.ocl_explain.proofs.whys.write_explanation.Goals as goal
