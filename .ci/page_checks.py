@@ -1,5 +1,5 @@
-"""Checks of the pages by reading them: links, the README's length, the cells of tables, blocks, and the names in the table of
-promises."""
+"""Checks of the pages by reading them: links, the README's length, the cells of tables, blocks, the names in the table of
+promises, and that rows try what a page's tables claim."""
 import re
 
 from generated import ROOT, slug
@@ -10,6 +10,8 @@ LANGUAGES = {"console", "dockerfile", "sh", "json", "ocl", "text", "ebnf", "pyth
 # what names pages, besides the pages themselves
 SOURCES = ["ocl_check", ".ci/*", ".ci/forms/*.py", "bench/*", "examples/*.sh", "tests/*.rows"]
 PROMISES = ROOT / "docs" / "proofs" / "promises.md"
+# a page whose tables are tried by rows: each piece of code in them stands in a row
+TRIED = {ROOT / "docs" / "use" / "from-omg-ocl.md": ROOT / "tests" / "from-omg-ocl.rows"}
 
 
 def pages():
@@ -92,6 +94,16 @@ def cell_faults(text):
                     yield number, f"a cell of {len(rendered(cell))} words; {MOST_WORDS} at most: {' '.join(rendered(cell)[:6])} .."
 
 
+def untried_faults(text, rows):
+    """Pieces of code in tables that no row of a file has in its last cell."""
+    tried = [line.split(" | ", 1)[-1] for line in rows.read_text(encoding="utf-8").splitlines() if not line.startswith("#")]
+    for number, line in lines_outside_blocks(text):
+        for code in re.findall(r"`([^`]+)`", line) if line.startswith("|") else ():
+            written = code.replace("\\|", "|")
+            if not any(written in it for it in tried):
+                yield number, f"`{written}` is in no row of {rows.relative_to(ROOT)}"
+
+
 def block_faults(text):
     for number, info, lines in blocks(text):
         if not info or info[0] not in LANGUAGES:
@@ -135,6 +147,8 @@ def page_faults(path):
         yield from name_faults(text)
     yield from cell_faults(text)
     yield from block_faults(text)
+    if path in TRIED:
+        yield from untried_faults(text, TRIED[path])
     if path == PROMISES:
         yield from promise_faults(text)
     if path == ROOT / "README.md" and len(text.splitlines()) > MOST_LINES:

@@ -1,7 +1,9 @@
 //! Why a rule text doesn't spell rules.
 
+use crate::foreign::instead_of_character;
+use crate::habits::{Call, call_with_variable, help_at, instead_of_variable, nearest_iteration};
 use crate::wanted::write_wanted;
-use explain_notes::{Input, Note, visible_text, write_marked};
+use explain_notes::{Input, Note, quote, visible_text, write_marked};
 use ocl_tokens::{TextFault, TextFlaw, Token, TokenKind, tokens};
 use std::alloc::{AllocError, Global};
 
@@ -40,33 +42,18 @@ impl Saying {
     }
 }
 
-/// Characters that begin no token, with what to write in their place.
-static REPLACED: [(&str, &str); 14] = [
-    ("\"", "a string stands in single quotes, as 'water'"),
-    ("!", "`<>` says that two values differ, and `not` negates"),
-    ("&", "`and` joins two conditions"),
-    ("/", "`div` divides whole numbers"),
-    ("{", NO_BRACKETS),
-    ("}", NO_BRACKETS),
-    ("[", NO_BRACKETS),
-    ("]", NO_BRACKETS),
-    ("@", "there is no `@pre`"),
-    ("\u{feff}", "save the text without a byte order mark"),
-    ("\u{2018}", STRAIGHT_QUOTES),
-    ("\u{2019}", STRAIGHT_QUOTES),
-    ("\u{201c}", STRAIGHT_QUOTES),
-    ("\u{201d}", STRAIGHT_QUOTES),
+/// Characters that can't be seen, with what they are.
+static UNSEEN: [(&str, &str); 3] = [
+    ("\u{a0}", "a no-break space"),
+    ("\u{200b}", "a space of no width"),
+    ("\u{feff}", "a byte order mark"),
 ];
 
-const NO_BRACKETS: &str = "there are no collection literals and no indices";
-
-const STRAIGHT_QUOTES: &str = "a string stands in straight single quotes, as 'water'";
-
-/// What to write in place of a character that begins no token.
-fn instead_of(character: &str) -> &'static str {
-    for (replaced, help) in &REPLACED {
-        if *replaced == character {
-            return *help;
+/// What a character is that can't be seen; nothing of every other one.
+fn unseen_name(character: &str) -> &'static str {
+    for (unseen, name) in &UNSEEN {
+        if *unseen == character {
+            return *name;
         }
     }
     ""
@@ -112,7 +99,11 @@ fn bad_character(
         return bad_byte(saying, rest);
     }
     let label = "no token begins with this character";
-    saying.say(character.len(), "", label, instead_of(character))?;
+    saying.say(character.len(), "", label, instead_of_character(rest))?;
+    let name = unseen_name(character);
+    if !name.is_empty() {
+        return write!(&mut saying.message, "{name} can't stand here");
+    }
     let written = visible_text(alloc, character.as_bytes())?;
     write!(&mut saying.message, "`{written}` begins nothing here")
 }
@@ -152,9 +143,10 @@ fn token_at<'a>(tokens: &[Token<'a>], offset: usize) -> Option<Token<'a>> {
 }
 
 /// Bytes between which a token can't stand, with what may have been meant.
-static MEANT: [(u8, u8, &str); 5] = [
+static MEANT: [(u8, u8, &str); 6] = [
     (b'=', b'=', "`=` alone says that two values are equal"),
     (b'-', b'>', "`implies` says that one follows from the other"),
+    (b'=', b'<', "`<=` says that one is at most the other"),
     (b'=', b'>', "`implies` says that one follows from the other"),
     (b'|', b'|', "`or` joins two conditions"),
     (b'\'', b'\'', r"a quote inside a string is written \'"),
@@ -177,6 +169,36 @@ fn meant_by(text: &str, offset: usize) -> &'static str {
     ""
 }
 
+/// Whether two bars stand at an offset, as other languages write `or`.
+fn begins_or(text: &str, offset: usize) -> bool {
+    rest_of(text.as_bytes(), offset).starts_with(b"||")
+}
+
+/// What to write where a token can't stand: by its neighbour, or else by the tokens up to it.
+fn help_of(text: &str, tokens: &[Token<'_>], index: usize, offset: usize) -> &'static str {
+    if begins_or(text, offset) {
+        return "`or` joins two conditions";
+    }
+    let meant = meant_by(text, offset);
+    if meant.is_empty() {
+        return help_at(tokens, index);
+    }
+    meant
+}
+
+/// A call of what can't have a variable.
+fn variable(alloc: Global, saying: &mut Saying, call: &Call<'_>) -> Result<(), AllocError> {
+    saying.help = instead_of_variable(call);
+    let name = quote(alloc, call.name)?;
+    write!(&mut saying.message, "`{name}` can't have a variable here")?;
+    match nearest_iteration(alloc, call.name)? {
+        Some(iteration) if call.is_arrow => {
+            write!(&mut saying.label, "did you mean `{iteration}`?")
+        }
+        _ => saying.label.push_str("only an iteration has variables"),
+    }
+}
+
 /// A token that can't follow those before it, or a text that ends too early.
 fn syntax(
     alloc: Global,
@@ -185,8 +207,14 @@ fn syntax(
     tokens: &[Token<'_>],
     offset: usize,
 ) -> Result<(), AllocError> {
+    let index = index_at(tokens, offset);
+    if !begins_or(text, offset)
+        && let Some(call) = call_with_variable(tokens, index)
+    {
+        return variable(alloc, saying, &call);
+    }
     write_wanted(alloc, &mut saying.label, text, tokens, offset)?;
-    saying.help = meant_by(text, offset);
+    saying.help = help_of(text, tokens, index, offset);
     match token_at(tokens, offset) {
         Some(token) => {
             saying.length = token.text.len();
@@ -375,6 +403,22 @@ fn explain_tokens(
     write_saying(alloc, out, input, flaw, offset, &saying)
 }
 
+/// Whether a text's byte order mark is at fault.
+fn is_order_mark(bytes: &[u8], offset: usize) -> bool {
+    offset == 0 && bytes.starts_with("\u{feff}".as_bytes())
+}
+
+/// A text as it is shown: without the byte order mark that is at fault, which can't be seen.
+fn as_shown<'a>(input: Input<'a>, offset: usize) -> Input<'a> {
+    if is_order_mark(input.bytes, offset) {
+        return Input {
+            path: input.path,
+            bytes: rest_of(input.bytes, 3),
+        };
+    }
+    input
+}
+
 /// Writes why bytes are refused that leave no tokens, or are no text.
 fn explain_bytes(
     alloc: Global,
@@ -390,7 +434,10 @@ fn explain_bytes(
     } else {
         bad_character(alloc, &mut saying, input.bytes, offset)?;
     }
-    write_saying(alloc, out, input, flaw, offset, &saying)
+    if is_order_mark(input.bytes, offset) {
+        saying.length = 1;
+    }
+    write_saying(alloc, out, as_shown(input, offset), flaw, offset, &saying)
 }
 
 /// How many bytes the token has that begins at an offset of a text; 1 where none does.
