@@ -35,8 +35,8 @@ unequal() {
     awk -v name="$1${4:+, mixed}" -v n="$2" -v m="$3" -v charges="$(cat "$room/charges")" 'NR == 1 { reading = $1 }
         NR == 2 { each = ($1 - reading) * 1e9 / charges
                   printf "%-19s %6d beside %6d: %9d charges, %.2f s, of which reading %.2f s, %7.2f ns a charge%s\n",
-                  name, n, m, charges, $1, reading, each, each > most ? ", too many" : ""
-                  exit each > most }' most=30 "$room/reading" "$room/whole" || slow=1
+                  name, n, m, charges, $1, reading, each, (each > most ? ", too many" : "")
+                  exit (each > most) }' most=30 "$room/reading" "$room/whole" || slow=1
 }
 
 slow=0
