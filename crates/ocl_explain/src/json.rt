@@ -1,6 +1,6 @@
-//! The report of `judge` as JSON lines.
+//! The answer of `judge` as JSON lines.
 
-ghost use Rattle.std.specs.Prelude.{◌≡◌, [], Some, true, false};
+ghost use Rattle.std.specs.Prelude.{◌≡◌, [], Some, true, false, IfOk};
 ghost use Rattle.ocl_check.specs.Answers.{IsAnswered, IsAnsweredBy, IsFlushedBy, KeepsSink, fails_read, fails_write};
 ghost use Rattle.ocl_check.specs.Ending.{IsEnding};
 ghost use Rattle.ocl_check.specs.Reply.{Answer};
@@ -11,19 +11,27 @@ use crate::explaining::{Ending, Listener};
 use crate::writing::write_answer;
 use explain_notes::Input;
 use ocl_check::{CommandFault, JudgeOptions, Outcome, Sink, Telling};
-use report_json::json_of_report;
-use std::alloc::Global;
+use report_json::{json_of_refusal, json_of_report};
+use std::alloc::{AllocError, Global};
 
-/// Writes an answer of `judge` that has this status: a report as JSON, and of a refusal its line.
+/// An answer of `judge` that has this status, as JSON.
+fn json_of(alloc: Global, text: &[u8], status: u8) -> Result<Vec<u8>, AllocError>
+    ensures { IfOk result (λ v. (v.items, status) ≡ json_answer (text.now, status)) }
+{
+    if status == 2 {
+        json_of_refusal(alloc, text)
+    } else {
+        json_of_report(alloc, text)
+    }
+}
+
+/// Writes an answer of `judge` that has this status, as JSON.
 fn write_json<S: Sink>(alloc: Global, sink: &mut S, text: &[u8], status: u8) -> Outcome
     requires { S.has_failed sink.old ≡ false }
     ensures { IsEnding S.contents S.has_failed S.flushes S.has_pending true
         (json_answer (text.now, status)) sink.old result sink.new }
 {
-    if status == 2 {
-        return write_answer(sink, text, status);
-    }
-    match json_of_report(alloc, text) {
+    match json_of(alloc, text, status) {
         Ok(json) => write_answer(sink, &json, status),
         Err(_error) => Outcome::Failed(CommandFault::OutOfMemory),
     }
@@ -43,7 +51,7 @@ fn write_judged<S: Sink>(alloc: Global, sink: &mut S, text: &[u8], judged: Outco
     }
 }
 
-/// Judges a delivery by rules as `run_judge` does, and writes the report as JSON lines. The listener hears what it hears of
+/// Judges a delivery by rules as `run_judge` does, and writes the report, or what is refused, as JSON lines. The listener hears what it hears of
 /// `answer_judge`.
 pub fn answer_judge_json<'i, S: Sink, L: Listener>(
     alloc: Global,

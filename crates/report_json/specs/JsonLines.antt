@@ -1,6 +1,7 @@
--- A report as JSON lines, for programs: each line of the report gives an object of JSON in a line of its own. Names of rules
--- and ids of objects have only letters, digits and `. _ : -`, so nothing in them has to be escaped.
-use Rattle.std.specs.Prelude.{ℕ, List, [], ◌++◌, ◌==◌, length, codes, slice_index_or, bytes_eq, if◌then◌else◌}
+-- An answer as JSON lines, for programs: each line of a report gives an object of JSON in a line of its own, and so does that of
+-- a refusal. Names of rules and ids of objects have only letters, digits and `. _ : -`, and refusals only letters, digits and
+-- spaces, so nothing in them has to be escaped.
+use Rattle.std.specs.Prelude.{ℕ, List, [], ◌++◌, ◌==◌, length, drop, codes, slice_index_or, bytes_eq, if◌then◌else◌}
 use Rattle.std.specs.List.{slice_split, flat_map}
 
 -- ---- the lines of JSON
@@ -53,3 +54,9 @@ json_of_line line = json_of_words (words_in line)
 -- a report, line by line
 abbrev pub json_of_report : List ℕ → List ℕ
 json_of_report text = flat_map json_of_line (lines_in text)
+
+-- ---- from the line of a refusal
+
+-- what is refused, behind the line's first word
+abbrev pub json_of_refusal : List ℕ → List ℕ
+json_of_refusal text = codes "{\"refused\":\"" ++ (drop 8 (word_at (lines_in text) 0) ++ codes "\"}\n")

@@ -1,7 +1,7 @@
-//! From the lines of a report to those of JSON.
+//! From the lines of a report, or of a refusal, to those of JSON.
 
-ghost use Rattle.std.specs.Prelude.{◌≡◌, ◌++◌, IfOk, OnOk, map};
-ghost use Rattle.report_json.specs.JsonLines.{json_of_object, json_of_counts, json_of_rule, json_of_total, json_of_line, json_of_report, lines_in, words_in, json_verdict};
+ghost use Rattle.std.specs.Prelude.{◌≡◌, ◌++◌, IfOk, OnOk, map, drop};
+ghost use Rattle.report_json.specs.JsonLines.{json_of_object, json_of_counts, json_of_rule, json_of_total, json_of_line, json_of_report, json_of_refusal, lines_in, words_in, word_at, json_verdict};
 
 use std::alloc::{AllocError, Global};
 
@@ -126,5 +126,36 @@ pub fn json_of_report(alloc: Global, text: &[u8]) -> Result<Vec<u8>, AllocError>
     for line in &lines {
         put_line(alloc, &mut out, line)?;
     }
+    Ok(out)
+}
+
+/// The first line of a text.
+fn first_line<'t>(lines: &[&'t [u8]]) -> &'t [u8]
+    ensures { result.now ≡ word_at (map (λ l. l.now) lines.now) 0 }
+{
+    match lines.first() {
+        Some(line) => line,
+        None => &[],
+    }
+}
+
+/// A line without its first eight bytes: `refused` and a space.
+fn without_refused(line: &[u8]) -> &[u8]
+    ensures { result.now ≡ drop 8 line.now }
+{
+    if line.len() < 8 {
+        return &[];
+    }
+    &line[8..]
+}
+
+/// The line of a refusal as JSON. Where memory runs out there is none.
+pub fn json_of_refusal(alloc: Global, text: &[u8]) -> Result<Vec<u8>, AllocError>
+    ensures { IfOk result (λ v. v.items ≡ json_of_refusal text.now) }
+{
+    let lines = lines_in(alloc, text)?;
+    let mut out = Vec::from_slice(alloc, b"{\"refused\":\"")?;
+    out.extend_from_slice(without_refused(first_line(&lines)))?;
+    out.extend_from_slice(b"\"}\n")?;
     Ok(out)
 }
