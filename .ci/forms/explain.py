@@ -157,6 +157,15 @@ def explained_report(room, shows, status, options, delivery, rules):
     return case.Case(["ocl_explain", *words], (int(status), words_of("reports.said", shows)), lambda answer: (answer.status, answer.out.decode()))
 
 
+def explained_rule(room, shows, name, options, delivery, rules):
+    """What `why` prints of a rule of a text, with more options or `-`, and the words on standard error."""
+    more = [] if options == "-" else options.split()
+    words = ["why", *judge(room, [], "catalogue.json", delivery, rules)[1:], name, *more]
+    wanted = words_of("reports.said", shows)
+    found = lambda answer: (answer.status, answer.out.decode(), answer.err)
+    return case.Case(["ocl_explain", *words], (0, wanted, b""), found)
+
+
 def same(form):
     """A form of ocl_check's commands, for ocl_explain."""
 
@@ -189,6 +198,7 @@ FORMS = {
     "why not": why_not,
     "report as JSON": json_report,
     "report with explanations": explained_report,
+    "findings of a rule": explained_rule,
 } | {
     f"{name} of ocl_explain": same(commands.FORMS[name])
     for name in ("judge command", "judge command by text", "bound command", "verify command", "compile command", "desk command")

@@ -1,16 +1,17 @@
--- What `judge --why` prints: the report, and below the line of each object for which a rule doesn't hold the parts of the rule's
+-- What `judge --why` prints, and `why` of a rule without an object: the report, and below the line of each object for which a rule doesn't hold the parts of the rule's
 -- expression with their values, as `why` shows them. Of each rule the first findings are explained, as many as are asked for,
 -- and of each explanation so many lines are shown. The line of a refusal stays as it is.
-use Rattle.std.specs.Prelude.{◌≡◌, ◌==◌, ◌-◌, ◌⊎◌, ℕ, zero, suc, List, [], ◌∷◌, ◌++◌, Option, Some, None, length, if◌then◌else◌}
+use Rattle.std.specs.Prelude.{◌≡◌, ◌==◌, ◌-◌, ◌⊎◌, ◌&&◌, ℕ, zero, suc, Bool, true, not, List, [], ◌∷◌, ◌++◌, Option, Some, None, is_some, length, bytes_eq, codes, if◌then◌else◌}
 use Rattle.imkl_population.specs.Population.{Population}
 use Rattle.ocl_core.specs.Core.{CheckedRule}
+use Rattle.ocl_check.specs.declared.commands.judge.TheConstants.{MAX_BUDGET}
 use Rattle.ocl_check.specs.Reply.{Answer}
 use Rattle.ocl_check.specs.JudgeText.{meant_answer}
 use Rattle.report_json.specs.JsonLines.{lines_in, words_in, word_at}
 use Rattle.explain_notes.specs.Lines.{cut_text}
 use Rattle.ocl_explain.specs.declared.weaving.Shown.{Shown}
 use Rattle.ocl_explain.specs.Judged.{AreJudged, IsRefusedBy}
-use Rattle.ocl_explain.specs.WhyAnswers.{why_text}
+use Rattle.ocl_explain.specs.WhyAnswers.{rule_named, why_text}
 
 -- ---- lines
 
@@ -36,25 +37,38 @@ parts_shown lines (Some text) = cut_text lines (after_line text)
 abbrev pub left_after : ℕ → ℕ → List ℕ → ℕ
 left_after findings left line = if length (words_in line) == 3 then left - 1 else findings
 
+-- the lines that are wanted: all, or of one rule those of its objects and its own, in which its name is the second word
+abbrev pub is_wanted : Option (List ℕ) → List (List ℕ) → Bool
+is_wanted None words = true
+is_wanted (Some name) words = not (bytes_eq (word_at words 0) (codes "total")) && bytes_eq (word_at words 1) name
+
 module _ (p : Population) (rs : List CheckedRule) (shown : Shown) where
   -- below the line of a finding, if it may be explained
   abbrev pub below : ℕ → List (List ℕ) → List ℕ
   below zero words = []
   below (suc left) words = parts_shown shown.lines (why_text p rs (word_at words 1) (word_at words 2))
 
-  abbrev pub explained_line : ℕ → List ℕ → List ℕ
-  explained_line left line = ended_line line ++ (if length (words_in line) == 3 then below left (words_in line) else [])
+  abbrev pub explained_line : Option (List ℕ) → ℕ → List ℕ → List ℕ
+  explained_line rule left line =
+      if is_wanted rule (words_in line) then ended_line line ++ (if length (words_in line) == 3 then below left (words_in line) else []) else []
 
-  abbrev pub explained_lines : ℕ → List (List ℕ) → List ℕ
-  explained_lines left [] = []
-  explained_lines left (line ∷ lines) = explained_line left line ++ explained_lines (left_after shown.findings left line) lines
+  abbrev pub explained_lines : Option (List ℕ) → ℕ → List (List ℕ) → List ℕ
+  explained_lines rule left [] = []
+  explained_lines rule left (line ∷ lines) = explained_line rule left line ++ explained_lines rule (left_after shown.findings left line) lines
 
-  abbrev pub explained_report : List ℕ → List ℕ
-  explained_report text = explained_lines shown.findings (lines_in text)
+  abbrev pub explained_report : Option (List ℕ) → List ℕ → List ℕ
+  explained_report rule text = explained_lines rule shown.findings (lines_in text)
 
   -- with the status of the report
   abbrev pub explained_answer : Answer → Answer
-  explained_answer a = (if a.1 == 2 then a.0 else explained_report a.0, a.1)
+  explained_answer a = (if a.1 == 2 then a.0 else explained_report None a.0, a.1)
+
+  -- what a report has of the rule of a name, with status 0; nothing, with status 2, where there is no such rule
+  abbrev pub named_answer : List ℕ → List ℕ → Answer
+  named_answer name text = if is_some (rule_named rs name) then (explained_report (Some name) text, 0) else ([], 2)
+
+  abbrev pub rule_answer : List ℕ → Answer → Answer
+  rule_answer name a = if a.1 == 2 then a else named_answer name a.0
 
 -- ---- inputs
 
@@ -63,3 +77,9 @@ abbrev pub ExplainedAnswers : ℕ → Shown → List ℕ → List ℕ → List �
 ExplainedAnswers budget shown model delivery rules answer =
     ((p : Population) × (rs : List CheckedRule) × AreJudged budget model delivery rules p rs × (answer ≡ explained_answer p rs shown (meant_answer p rs)))
     ⊎ IsRefusedBy budget model delivery rules answer
+
+-- the same of one rule, within the greatest budget
+abbrev pub RuleAnswers : Shown → List ℕ → List ℕ → List ℕ → List ℕ → Answer → Type 0
+RuleAnswers shown model delivery rules name answer =
+    ((p : Population) × (rs : List CheckedRule) × AreJudged MAX_BUDGET model delivery rules p rs × (answer ≡ rule_answer p rs shown name (meant_answer p rs)))
+    ⊎ IsRefusedBy MAX_BUDGET model delivery rules answer

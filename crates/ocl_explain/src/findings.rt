@@ -44,7 +44,7 @@ fn write_explained<S: Sink>(
     if status == 2 {
         return write_answer(sink, text, status);
     }
-    match explained_report(alloc, population, rules, shown, text) {
+    match explained_report(alloc, population, rules, shown, None, text) {
         Ok(explained) => write_answer(sink, &explained, status),
         Err(OutOfMemory) => Outcome::Failed(CommandFault::OutOfMemory),
     }

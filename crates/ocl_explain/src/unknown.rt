@@ -6,9 +6,8 @@ use explain_notes::Nearest;
 use ocl_core::CoreRule;
 use std::alloc::Global;
 
-/// That no rule has the name, with the nearest that one has.
-pub(crate) fn unknown_rule(alloc: Global, asked: WhyAsked<'_>, rules: &[CoreRule]) -> Words {
-    let (path, name) = (asked.rules.path, asked.rule);
+/// That no rule of a text has a name, with the nearest that one has.
+pub(crate) fn unknown_rule(alloc: Global, path: &str, name: &str, rules: &[CoreRule]) -> Words {
     let mut nearest = Nearest::to(name);
     for rule in rules {
         nearest.offer(alloc, rule.name.as_str())?;

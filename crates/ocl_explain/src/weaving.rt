@@ -1,13 +1,13 @@
 //! A report with the explanation of each finding below its line.
 
-ghost use Rattle.std.specs.Prelude.{◌≡◌, ◌++◌, [], length, map, IfOk, OnOk, Option, Some, string_bytes};
+ghost use Rattle.std.specs.Prelude.{◌≡◌, ◌++◌, map, option_map, IfOk, OnOk, Some, string_bytes};
 ghost use Rattle.std.specs.List.{AllByRecursion};
 ghost use Rattle.ocl_core.specs.CoreView.{checked_rule_of};
 ghost use Rattle.ocl_core.specs.Typing.{IsTypedRule};
 ghost use Rattle.report_json.specs.JsonLines.{words_in, word_at};
 ghost use Rattle.ocl_explain.specs.Explained.{text_of};
 ghost use Rattle.ocl_explain.specs.WhyAnswers.{why_text};
-ghost use Rattle.ocl_explain.specs.ExplainedReport.{ended_line, after_line, parts_shown, left_after, below, explained_line, explained_report};
+ghost use Rattle.ocl_explain.specs.ExplainedReport.{ended_line, after_line, parts_shown, left_after, is_wanted, explained_line, explained_report};
 
 use crate::verdicts::{Found, find_verdict};
 use explain_notes::cut_text;
@@ -31,6 +31,8 @@ pub struct Shown {
 struct Judged<'j, 'm> {
     population: &'j Population<'m>,
     rules: &'j [CoreRule],
+    /// The name of the rule whose lines are wanted, if only those are.
+    rule: Option<&'j [u8]>,
 }
 
 /// Where a report is gone over.
@@ -107,6 +109,27 @@ fn put_explanation(
     }
 }
 
+/// The word of a number; none is empty.
+fn word_at<'w>(words: &[&'w [u8]], number: usize) -> &'w [u8]
+    ensures { result.now ≡ word_at (map (λ w. w.now) words.now) number }
+{
+    match words.get(number) {
+        Some(word) => word,
+        None => &[],
+    }
+}
+
+/// Whether a line of these words is wanted.
+fn is_wanted(rule: Option<&[u8]>, words: &[&[u8]]) -> bool
+    ensures { result ≡ is_wanted (option_map (λ r. r.now) rule.entry)
+        (map (λ w. w.now) words.now) }
+{
+    match rule {
+        Some(name) => word_at(words, 0) != b"total".as_slice() && word_at(words, 1) == name,
+        None => true,
+    }
+}
+
 /// Puts a line of a report, and below that of a finding its explanation, if it may be explained; returns how it goes on.
 fn put_line(
     alloc: Global,
@@ -122,18 +145,24 @@ fn put_line(
         left_after shown.findings progress.left line.now) }
     ensures text { OnOk result (out.new.items ≡ out.old.items ++ explained_line
         judged.entry.population.now.content (map checked_rule_of judged.entry.rules.now)
-        shown progress.left line.now) }
+        shown (option_map (λ r. r.now) judged.entry.rule) progress.left line.now) }
 {
-    put_ended(out, line)?;
     let words = words_in(alloc, line)?;
+    let is_wanted = is_wanted(judged.rule, &words);
+    if is_wanted {
+        put_ended(out, line)?;
+    }
     if words.len() != 3 {
         return Ok(Progress {
             left: shown.findings,
             first: 0,
         });
     }
-    if progress.left == 0 {
-        return Ok(progress);
+    if progress.left == 0 || !is_wanted {
+        return Ok(Progress {
+            left: progress.left.saturating_sub(1),
+            first: progress.first,
+        });
     }
     let first = put_explanation(
         alloc,
@@ -150,21 +179,26 @@ fn put_line(
     })
 }
 
-/// A report with the explanation of each finding below its line.
+/// A report with the explanation of each finding below its line, or what it has of the rule of a name.
 pub(crate) fn explained_report(
     alloc: Global,
     population: &Population<'_>,
     rules: &[CoreRule],
     shown: Shown,
+    rule: Option<&[u8]>,
     text: &[u8],
 ) -> Result<Vec<u8>, OutOfMemory>
     requires { AllByRecursion (IsTypedRule population.now.content.model)
         (map checked_rule_of rules.now) }
     ensures { IfOk result (λ v. v.items ≡ explained_report population.now.content
-        (map checked_rule_of rules.now) shown text.now) }
+        (map checked_rule_of rules.now) shown (option_map (λ r. r.now) rule.entry) text.now) }
 {
     let lines = lines_in(alloc, text)?;
-    let judged = Judged { population, rules };
+    let judged = Judged {
+        population,
+        rules,
+        rule,
+    };
     let mut progress = Progress {
         left: shown.findings,
         first: 0,

@@ -89,7 +89,11 @@ fn write_found<S: Sink>(
     let Explanation { asked, watch } = explanation;
     match found {
         Found::Explained { text, object: _ } => write_explanation(alloc, &text, asked.lines, sink),
-        Found::NoRule => write_unknown(watch, unknown_rule(alloc, asked, rules), sink),
+        Found::NoRule => write_unknown(
+            watch,
+            unknown_rule(alloc, asked.rules.path, asked.rule, rules),
+            sink,
+        ),
         Found::NoObject => write_unknown(watch, unknown_object(alloc, asked), sink),
         Found::NotJudged { context, class } => {
             write_unknown(watch, not_judged(alloc, asked, context, class), sink)

@@ -28,8 +28,9 @@ a read or a write failed.";
 const WHY: &str = "\
 Prints the verdict of a rule for an object, and below it each part of the rule's expression with its
 value: of a part that is null or invalid why it is, of an iteration the elements that decide it. RULES
-is a rule text, RULE the name of one of its rules and ID the id of an object of its context class. Of
-a long explanation the first lines are printed, and how many more there are. For instance
+is a rule text, RULE the name of one of its rules and ID the id of an object of its context class.
+Without ID it prints what judge prints of the rule, and explains each object for which it doesn't hold.
+Of a long explanation the first lines are printed, and how many more there are. For instance
   ocl_explain why examples/catalogue.json examples/network.json examples/network.rules deepEnough E3
 
 Status 0: printed. 2: an input is refused, with the line that judge prints, or there is no such rule or
@@ -38,8 +39,11 @@ object. 3: memory, a read or a write failed.";
 /// How many lines of an explanation `why` prints without `--lines`.
 const DEFAULT_LINES: u64 = 400;
 
-/// How many lines of each explanation `judge --why` prints without `--lines`.
+/// How many lines of each explanation are printed without `--lines`, where each finding is explained.
 const DEFAULT_FINDING_LINES: u64 = 20;
+
+/// How many findings of a rule `why` explains without `--max`.
+const DEFAULT_FINDINGS: u64 = 20;
 
 /// How a report is printed.
 #[derive(Clone, Copy, Drop)]
@@ -79,10 +83,27 @@ pub struct WhyWords<'a> {
     pub files: RuleFiles<'a>,
     /// The name of the rule.
     pub rule: &'a str,
-    /// The id of the object.
-    pub id: &'a str,
-    /// How many lines of the explanation are shown.
-    pub lines: u64,
+    /// The id of the object, if one is asked for.
+    pub id: Option<&'a str>,
+    /// The greatest number of lines of an explanation, if one is given.
+    pub lines: Option<u64>,
+    /// The greatest number of findings that are explained, if one is given.
+    pub findings: Option<u64>,
+}
+
+impl<'a> WhyWords<'a> {
+    /// How many lines of the explanation for an object are shown.
+    pub fn object_lines(&self) -> usize {
+        self.lines.unwrap_or(DEFAULT_LINES) as usize
+    }
+
+    /// How much is shown where each finding is explained.
+    pub fn shown(&self) -> Shown {
+        Shown {
+            findings: self.findings.unwrap_or(DEFAULT_FINDINGS) as usize,
+            lines: self.lines.unwrap_or(DEFAULT_FINDING_LINES) as usize,
+        }
+    }
 }
 
 /// The option of `judge` that prints JSON.
@@ -140,7 +161,14 @@ fn why<'a>(alloc: Global) -> Result<Command<'a>, AllocError> {
                 .long("lines")
                 .value_name("N")
                 .value_parser(value_parser!(u64))
-                .help("Prints at most N lines of the explanation (400)"),
+                .help("Prints at most N lines of an explanation (400, and 20 without ID)"),
+        )?
+        .arg(
+            Arg::new(alloc, "max")
+                .long("max")
+                .value_name("N")
+                .value_parser(value_parser!(u64))
+                .help("Without ID: explains at most N objects (20)"),
         )?
         .arg(
             Arg::new(alloc, "MODEL")
@@ -164,7 +192,6 @@ fn why<'a>(alloc: Global) -> Result<Command<'a>, AllocError> {
         )?
         .arg(
             Arg::new(alloc, "ID")
-                .required(true)
                 .allow_hyphen_values(true)
                 .help("The id of the object"),
         )
@@ -201,11 +228,9 @@ fn why_words<'a>(matches: Option<&ArgMatches<'a>>) -> WhyWords<'a> {
             rules: word(matches, "RULES"),
         },
         rule: word(matches, "RULE"),
-        id: word(matches, "ID"),
-        lines: match matches {
-            Some(matches) => matches.get_one::<u64>("lines").unwrap_or(DEFAULT_LINES),
-            None => DEFAULT_LINES,
-        },
+        id: matches.and_then(|it| it.get_str("ID")),
+        lines: matches.and_then(|it| it.get_one::<u64>("lines")),
+        findings: matches.and_then(|it| it.get_one::<u64>("max")),
     }
 }
 

@@ -1,18 +1,61 @@
-//! Why a rule has its verdict for an object, over files.
+//! Why a rule has its verdict for an object, or for each object for which it doesn't hold, over files.
 
 use crate::command_line::WhyWords;
 use crate::files::{read_file, report_write};
 use crate::requests::end;
+use explain_notes::Input;
 use ocl_check::{CommandFault, Outcome, Telling};
-use ocl_explain::{Keeping, WhyAsked, answer_why};
+use ocl_explain::{Keeping, RuleAsked, WhyAsked, answer_why, answer_why_rule};
 use std::io;
 
-/// Answers over inputs that were read.
-fn explain_inputs(rt: &HostRuntime, asked: WhyAsked<'_>) -> Outcome {
+/// Explains a verdict over inputs that were read.
+fn explain_object(rt: &HostRuntime, asked: WhyAsked<'_>) -> Outcome {
     let mut sink = Telling::new(Keeping::new(io::writer(rt)));
     let ending = answer_why(rt.alloc(), asked, &mut sink);
     report_write(rt, "standard output", sink.into_inner().error());
     end(rt, ending)
+}
+
+/// Explains the findings of a rule over inputs that were read.
+fn explain_rule(rt: &HostRuntime, asked: RuleAsked<'_>) -> Outcome {
+    let mut sink = Telling::new(Keeping::new(io::writer(rt)));
+    let ending = answer_why_rule(rt.alloc(), asked, &mut sink);
+    report_write(rt, "standard output", sink.into_inner().error());
+    end(rt, ending)
+}
+
+/// Explains what the words ask, over inputs that were read.
+fn explain_inputs<'i>(
+    rt: &HostRuntime,
+    words: WhyWords<'i>,
+    model: Input<'i>,
+    delivery: Input<'i>,
+    rules: Input<'i>,
+) -> Outcome {
+    let rule = words.rule;
+    match words.id {
+        Some(id) => explain_object(
+            rt,
+            WhyAsked {
+                model,
+                delivery,
+                rules,
+                rule,
+                id,
+                lines: words.object_lines(),
+            },
+        ),
+        None => explain_rule(
+            rt,
+            RuleAsked {
+                model,
+                delivery,
+                rules,
+                rule,
+                shown: words.shown(),
+            },
+        ),
+    }
 }
 
 /// Reads the inputs, each whole, and then answers.
@@ -20,18 +63,10 @@ fn explain_files(rt: &HostRuntime, words: WhyWords<'_>) -> Result<Outcome, Comma
     let model = read_file(rt, words.files.model)?;
     let delivery = read_file(rt, words.files.delivery)?;
     let rules = read_file(rt, words.files.rules)?;
-    let asked = WhyAsked {
-        model: model.input(),
-        delivery: delivery.input(),
-        rules: rules.input(),
-        rule: words.rule,
-        id: words.id,
-        lines: words.lines as usize,
-    };
-    Ok(explain_inputs(rt, asked))
+    Ok(explain_inputs(rt, words, model.input(), delivery.input(), rules.input()))
 }
 
-/// Explains the verdict of a rule for an object.
+/// Explains the verdict of a rule for an object, or its findings.
 pub fn explain(rt: &HostRuntime, words: WhyWords<'_>) -> Outcome {
     match explain_files(rt, words) {
         Ok(outcome) => outcome,

@@ -12,7 +12,7 @@ _ocl_explain() {
         bound) options="" kinds=(json json file) ;;
         desk) options="" kinds=(json json file file) ;;
         list) options="" kinds=(file json) ;;
-        why) options="--lines" kinds=(json json file word word) ;;
+        why) options="--lines --max" kinds=(json json file word) ;;
         *) return ;;
     esac
     for ((at = 2; at < COMP_CWORD; at++)); do

@@ -1,4 +1,4 @@
-use Rattle.std.proofs.Common.{rules, tests, ◌≡◌, ◌==◌, ℕ, List, Bool, true, false, map, ap, sym, ◌∙◌, if◌then◌else◌}
+use Rattle.std.proofs.Common.{rules, tests, ◌≡◌, ◌==◌, ℕ, List, Bool, true, false, None, map, ap, sym, ◌∙◌, if◌then◌else◌}
 use Rattle.imkl_population.specs.Population.{Population}
 use Rattle.ocl_core.specs.Core.{CheckedRule}
 use Rattle.ocl_core.specs.CoreView.{checked_rule_of}
@@ -9,8 +9,8 @@ use Rattle.ocl_explain.proofs.findings.write_explained.Goals as goal
 
 -- the answer with explanations, by whether it is a refusal
 explained_by : (p : Population) (rs : List CheckedRule) (shown : Shown) (text : List ℕ) (status : ℕ) (b : Bool) → (status == 2) ≡ b
-    → explained_answer p rs shown (text, status) ≡ (if b then text else explained_report p rs shown text, status)
-explained_by p rs shown text status b is = ap (λ (x : Bool). (if x then text else explained_report p rs shown text, status)) is
+    → explained_answer p rs shown (text, status) ≡ (if b then text else explained_report p rs shown None text, status)
+explained_by p rs shown text status b is = ap (λ (x : Bool). (if x then text else explained_report p rs shown None text, status)) is
 
 pub returns-then-status-eq2 : goal.returns-then-status-eq2
 returns-then-status-eq2 g c =
