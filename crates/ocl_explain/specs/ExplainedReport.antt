@@ -38,9 +38,9 @@ abbrev pub left_after : ℕ → ℕ → List ℕ → ℕ
 left_after findings left line = if length (words_in line) == 3 then left - 1 else findings
 
 -- the lines that are wanted: all, or of one rule those of its objects and its own, in which its name is the second word
-abbrev pub is_wanted : Option (List ℕ) → List (List ℕ) → Bool
-is_wanted None words = true
-is_wanted (Some name) words = not (bytes_eq (word_at words 0) (codes "total")) && bytes_eq (word_at words 1) name
+abbrev pub is_line_wanted : Option (List ℕ) → List (List ℕ) → Bool
+is_line_wanted None words = true
+is_line_wanted (Some name) words = not (bytes_eq (word_at words 0) (codes "total")) && bytes_eq (word_at words 1) name
 
 module _ (p : Population) (rs : List CheckedRule) (shown : Shown) where
   -- below the line of a finding, if it may be explained
@@ -50,7 +50,7 @@ module _ (p : Population) (rs : List CheckedRule) (shown : Shown) where
 
   abbrev pub explained_line : Option (List ℕ) → ℕ → List ℕ → List ℕ
   explained_line rule left line =
-      if is_wanted rule (words_in line) then ended_line line ++ (if length (words_in line) == 3 then below left (words_in line) else []) else []
+      if is_line_wanted rule (words_in line) then ended_line line ++ (if length (words_in line) == 3 then below left (words_in line) else []) else []
 
   abbrev pub explained_lines : Option (List ℕ) → ℕ → List (List ℕ) → List ℕ
   explained_lines rule left [] = []

@@ -7,7 +7,7 @@ ghost use Rattle.ocl_core.specs.Typing.{IsTypedRule};
 ghost use Rattle.report_json.specs.JsonLines.{words_in, word_at};
 ghost use Rattle.ocl_explain.specs.Explained.{text_of};
 ghost use Rattle.ocl_explain.specs.WhyAnswers.{why_text};
-ghost use Rattle.ocl_explain.specs.ExplainedReport.{ended_line, after_line, parts_shown, left_after, is_wanted, explained_line, explained_report};
+ghost use Rattle.ocl_explain.specs.ExplainedReport.{ended_line, after_line, parts_shown, left_after, is_line_wanted, explained_line, explained_report};
 
 use crate::verdicts::{Found, find_verdict};
 use explain_notes::cut_text;
@@ -120,8 +120,8 @@ fn word_at<'w>(words: &[&'w [u8]], number: usize) -> &'w [u8]
 }
 
 /// Whether a line of these words is wanted.
-fn is_wanted(rule: Option<&[u8]>, words: &[&[u8]]) -> bool
-    ensures { result ≡ is_wanted (option_map (λ r. r.now) rule.entry)
+fn is_line_wanted(rule: Option<&[u8]>, words: &[&[u8]]) -> bool
+    ensures { result ≡ is_line_wanted (option_map (λ r. r.now) rule.entry)
         (map (λ w. w.now) words.now) }
 {
     match rule {
@@ -148,7 +148,7 @@ fn put_line(
         shown (option_map (λ r. r.now) judged.entry.rule) progress.left line.now) }
 {
     let words = words_in(alloc, line)?;
-    let is_wanted = is_wanted(judged.rule, &words);
+    let is_wanted = is_line_wanted(judged.rule, &words);
     if is_wanted {
         put_ended(out, line)?;
     }
