@@ -9,7 +9,7 @@ import case
 import commands
 import inputs
 from assembly import file_of_rule
-from notation import lines_of
+from notation import lines_of, parts_of
 
 FOLDER = answers.ROOT / "tests/explain"
 JUDGED = ["model.json", "delivery.json", "rules.ocl"]
@@ -49,6 +49,18 @@ def cut(room, shows, length, digits):
     """Why `judge` refuses the first bytes of min-depth.code and then others."""
     code = "hex " + inputs.bytes_of("min-depth.code")[: int(length)].hex() + digits.removeprefix("-")
     return of_judge("codes.said", rules=None)(room, shows, code)
+
+
+def hint_of(begin):
+    """A form: what stands behind a text's beginning => the last line that is said, which is what to write instead."""
+
+    def form(room, shows, row):
+        text, wanted = parts_of(row)
+        words = judge(room, ["--text"], "catalogue.json", "deep-cable.delivery.json", begin + text)
+        found = lambda answer: (answer.status, answer.err.decode().splitlines()[-1:])
+        return case.Case(["ocl_explain", *words], (2, ["  " + wanted]), found)
+
+    return form
 
 
 def rule(room, shows, context, code):
@@ -178,6 +190,9 @@ def same(form):
 
 
 FORMS = {
+    "hint": hint_of("context Mantelbuis inv a: "),
+    "hint of a text": hint_of(""),
+    "explained hint": of_judge("hints.said", "--text", rules=None),
     "explained text": of_judge("texts.said", "--text", rules=None),
     "explained text and delivery": of_judge("texts.said", "--text", delivery=None, rules=None),
     "explained delivery": of_judge("inputs.said", "--text", delivery=None),

@@ -12,10 +12,11 @@ def repeated(found):
 
 
 def written_out(cell):
-    """The text that a cell stands for: `«3 x»` is `xxx`, also inside others, and ␊ is a line feed."""
+    """The text that a cell stands for: `«3 x»` is `xxx`, also inside others, ␊ is a line feed, and ‹FEFF› the character of
+    that number."""
     while "«" in cell:
         cell = re.sub("«([^«»]*)»", repeated, cell)
-    return cell.translate(CONTROLS)
+    return re.sub("‹([0-9A-F]{4})›", lambda found: chr(int(found[1], 16)), cell.translate(CONTROLS))
 
 
 def parts_of(row):

@@ -45,6 +45,10 @@ pub(crate) fn explain_json<'n>(
         Category::Memory => return Err(AllocError),
         Category::Eof => ("the text ends too early", ""),
         _ if str::from_utf8(input.bytes).is_err() => ("this isn't UTF-8", "save the file as UTF-8"),
+        _ if input.bytes.starts_with("\u{feff}".as_bytes()) => (
+            "a byte order mark stands here",
+            "save the file without a byte order mark",
+        ),
         _ => (
             "this can't stand here",
             "JSON has its names and texts in double quotes, a comma between two members, and none after the last",

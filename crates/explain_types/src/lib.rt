@@ -4,6 +4,8 @@
 mod conforming;
 mod fates;
 mod found;
+mod meant;
+mod operands;
 mod operations;
 mod reading;
 mod scope;
@@ -11,6 +13,7 @@ mod type_flaws;
 mod type_names;
 mod warnings;
 mod words;
+mod writing;
 
 pub use type_flaws::explain_type_flaw;
 pub use warnings::warn_of_rule;

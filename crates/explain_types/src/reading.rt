@@ -40,6 +40,8 @@ pub(crate) struct Reading<'t> {
     pub(crate) finding: Option<Finding>,
     /// The name that is at the fault, if one is.
     pub(crate) name: &'t str,
+    /// The operation behind an arrow that isn't there, in whose arguments the reading is; empty elsewhere.
+    pub(crate) operation: &'t str,
 }
 
 /// The type that a name writes: one that is there, and no collection.
@@ -159,6 +161,7 @@ impl<'t> Reading<'t> {
             scope: Scope::of_context(alloc, context)?,
             finding: None,
             name: "",
+            operation: "",
         })
     }
 
@@ -651,6 +654,9 @@ impl<'t> Reading<'t> {
         offset: usize,
     ) -> Result<Part, Stop> {
         let on = called_on(navigation, &left);
+        if matches!(navigation, Navigation::Arrow) && operation_on(name, &on).is_none() {
+            self.operation = name;
+        }
         let untaken = self.arguments(name, &on, arguments)?;
         self.name = name;
         self.look_at_call(navigation, &left, arguments.len(), offset)?;

@@ -84,6 +84,24 @@ impl<'t> Scope<'t> {
         Kind::Scalar(ScalarKind::Class(self.context))
     }
 
+    /// The class of the context object.
+    pub(crate) fn context_class(&self) -> ClassNo {
+        self.context
+    }
+
+    /// The class of the innermost element that lends its features, where one does.
+    pub(crate) fn element_class(&self) -> Option<ClassNo> {
+        for index in (1..self.variables.len()).rev() {
+            if let Some(variable) = self.variables.get(index)
+                && variable.name.is_none()
+                && let Kind::Scalar(ScalarKind::Class(class)) = &variable.kind
+            {
+                return Some(*class);
+            }
+        }
+        None
+    }
+
     /// How many variables there are.
     pub(crate) fn len(&self) -> usize {
         self.variables.len()

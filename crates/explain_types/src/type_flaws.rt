@@ -2,7 +2,8 @@
 
 use crate::found::Stop;
 use crate::reading::Reading;
-use crate::words::{Words, unknown_class, write_finding};
+use crate::words::{unknown_class, write_finding};
+use crate::writing::Words;
 use explain_notes::{Input, Note};
 use explain_text::length_of_token;
 use imkl_model::ClassModel;

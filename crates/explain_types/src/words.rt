@@ -1,54 +1,28 @@
 //! What is said of a fault of types.
 
-use crate::conforming::{is_equality, is_integer};
 use crate::found::Finding;
+use crate::meant::{
+    class_with_feature, instead_on, write_call_advice, write_cast_advice, write_feature_advice,
+    write_name_meant, write_no_feature,
+};
+use crate::operands::{no_integer, operands};
 use crate::operations::{Argument, operation_on, operations};
 use crate::reading::{Reading, called_on};
-use crate::scope::kind_of_feature;
 use crate::type_names::{a_type, type_name};
+use crate::writing::{Words, list, suggest, write_quoted};
 use explain_notes::{Nearest, quote};
+use explain_text::instead_of_type;
 use imkl_model::{ClassModel, ClassNo, EnumNo};
 use model_names::{
-    class_name, enumeration_name, is_class_below, literal_count, literal_name, offer_classes,
-    offer_enumerations, offer_features, offer_literals,
+    class_name, enumeration_name, literal_count, literal_name, offer_classes, offer_enumerations,
+    offer_features, offer_literals,
 };
 use ocl_kinds::{Kind, ScalarKind, elements_kind};
-use ocl_text::{BinaryOperator, Navigation};
+use ocl_text::Navigation;
 use std::alloc::{AllocError, Global};
 
 /// The most names that are listed.
 const MAX_LISTED: usize = 12;
-
-/// What is said of a fault.
-#[derive(Drop)]
-pub(crate) struct Words {
-    /// What is wrong.
-    pub(crate) message: String,
-    /// What stands there.
-    pub(crate) label: String,
-    /// How it can be mended.
-    pub(crate) help: String,
-}
-
-/// Asks whether a name was meant that is near a wanted one, where one is.
-fn suggest(label: &mut String, nearest: &Nearest<'_>) -> Result<(), AllocError> {
-    match nearest.name() {
-        Some(name) => write!(label, "did you mean `{name}`?"),
-        None => Ok(()),
-    }
-}
-
-/// Writes a name as it is quoted, behind some words and a backquote, and then what closes that.
-fn write_quoted(
-    alloc: Global,
-    out: &mut String,
-    before: &str,
-    name: &str,
-    after: &str,
-) -> Result<(), AllocError> {
-    let name = quote(alloc, name)?;
-    write!(out, "{before}`{name}{after}")
-}
 
 /// Writes what can be asked of a value that isn't Boolean.
 fn write_advice(help: &mut String, model: &ClassModel, kind: &Kind) -> Result<(), AllocError> {
@@ -110,26 +84,6 @@ fn no_accumulator(words: &mut Words, model: &ClassModel, kind: &Kind) -> Result<
     )
 }
 
-/// How a value that is no Integer is made one.
-fn integer_advice(kind: &Kind) -> &'static str {
-    match kind {
-        Kind::Collection(_, ScalarKind::Integer) => {
-            "of a collection, write `->size()`, `->sum()`, or `->forAll(x | ..)` round a condition"
-        }
-        Kind::Collection(_, _) => "the number of elements is `->size()`",
-        Kind::Scalar(ScalarKind::String) => "the number of characters is `.size()`",
-        Kind::Scalar(_) => "",
-    }
-}
-
-/// An operand of the sign that is no Integer.
-fn no_integer(words: &mut Words, model: &ClassModel, kind: &Kind) -> Result<(), AllocError> {
-    let name = a_type(model, kind);
-    words.message.push_str("`-` takes an Integer")?;
-    write!(&mut words.label, "it stands before {name}")?;
-    words.help.push_str(integer_advice(kind))
-}
-
 /// A value or an element that doesn't conform to the type that is declared.
 fn other_type(
     words: &mut Words,
@@ -160,56 +114,6 @@ fn branches(
         .message
         .push_str("the branches have no type in common")?;
     write!(&mut words.label, "`then` gives {one}, `else` gives {other}")
-}
-
-/// How an operator is written that takes two Integers, or asks whether values are equal.
-fn operator_name(operator: BinaryOperator) -> &'static str {
-    match operator {
-        BinaryOperator::Multiply => "*",
-        BinaryOperator::Divide => "div",
-        BinaryOperator::Modulo => "mod",
-        BinaryOperator::Add => "+",
-        BinaryOperator::Subtract => "-",
-        BinaryOperator::Less => "<",
-        BinaryOperator::LessEqual => "<=",
-        BinaryOperator::Greater => ">",
-        BinaryOperator::GreaterEqual => ">=",
-        BinaryOperator::Equal => "=",
-        BinaryOperator::NotEqual => "<>",
-        BinaryOperator::And => "and",
-        BinaryOperator::Or => "or",
-        BinaryOperator::Xor => "xor",
-        BinaryOperator::Implies => "implies",
-    }
-}
-
-/// What an operator takes, and how operands are made so that aren't.
-fn operands_wanted(
-    operator: BinaryOperator,
-    left: &Kind,
-    right: &Kind,
-) -> (&'static str, &'static str) {
-    if is_equality(operator) {
-        return ("collections whose elements may be equal", "");
-    }
-    let wrong = if is_integer(left) { right } else { left };
-    ("two Integers", integer_advice(wrong))
-}
-
-/// Operands that an operator doesn't take.
-fn operands(
-    words: &mut Words,
-    model: &ClassModel,
-    operator: BinaryOperator,
-    left: &Kind,
-    right: &Kind,
-) -> Result<(), AllocError> {
-    let name = operator_name(operator);
-    let (wanted, help) = operands_wanted(operator, left, right);
-    let (one, other) = (a_type(model, left), a_type(model, right));
-    write!(&mut words.message, "`{name}` takes {wanted}")?;
-    write!(&mut words.label, "{one} on its left, {other} on its right")?;
-    words.help.push_str(help)
 }
 
 /// The number of arguments that an operation on values of a type takes.
@@ -311,6 +215,7 @@ fn type_advice(name: &str) -> &'static str {
         "Set" | "OrderedSet" | "Bag" | "Sequence" => {
             "a collection's type has that of its elements in parentheses, as Set(Integer)"
         }
+        _ if !instead_of_type(name).is_empty() => instead_of_type(name),
         _ => "the types are Boolean, Integer, String, the classes and the enumerations",
     }
 }
@@ -343,24 +248,6 @@ fn no_collection(alloc: Global, words: &mut Words, name: &str) -> Result<(), All
     )
 }
 
-/// Writes how a name is meant that stands by itself, and is that of a class or an enumeration.
-fn write_name_advice(
-    alloc: Global,
-    help: &mut String,
-    model: &ClassModel,
-    name: &str,
-) -> Result<(), AllocError> {
-    if model.class(name).is_some() {
-        let before = "all objects of the class are ";
-        return write_quoted(alloc, help, before, name, ".allInstances()`");
-    }
-    if model.enumeration(name).is_some() {
-        let before = "a literal of the enumeration is ";
-        return write_quoted(alloc, help, before, name, "::..`");
-    }
-    Ok(())
-}
-
 /// A bare name that names nothing.
 fn unknown_name<'t>(
     alloc: Global,
@@ -375,36 +262,10 @@ fn unknown_name<'t>(
     if nearest.name().is_some() {
         suggest(&mut words.label, &nearest)?;
     } else {
-        let context = type_name(reading.model, &reading.scope.context_kind());
-        let label = &mut words.label;
-        write!(label, "this is no variable, and no feature of {context}")?;
+        write_no_feature(&mut words.label, reading.model, &reading.scope)?;
     }
     write_quoted(alloc, &mut words.message, "", name, "` is not known here")?;
-    write_name_advice(alloc, &mut words.help, reading.model, name)
-}
-
-/// A class below another that has a feature of this name.
-fn class_with_feature<'t>(model: &'t ClassModel, above: ClassNo, name: &str) -> Option<&'t str> {
-    for index in 0..model.class_count() {
-        let class = ClassNo::new(index);
-        if is_class_below(model, class, above) && kind_of_feature(model, class, name).is_some() {
-            return Some(model.class_name(class));
-        }
-    }
-    None
-}
-
-/// Writes how what was meant by a feature's name is written, where it may be an operation.
-fn write_operation_advice(help: &mut String, left: &Kind, name: &str) -> Result<(), AllocError> {
-    if operation_on(name, left).is_none() {
-        return Ok(());
-    }
-    match left {
-        Kind::Scalar(_) => write!(help, "it is an operation: `.{name}(..)`"),
-        Kind::Collection(_, _) => {
-            write!(help, "it is an operation of the collection: `->{name}(..)`")
-        }
-    }
+    write_name_meant(alloc, words, reading, name)
 }
 
 /// A feature that objects of a class don't have.
@@ -424,11 +285,8 @@ fn unknown_of_class<'t>(
     write!(&mut words.message, "{owner} has no feature `{written}`")?;
     let help = &mut words.help;
     match class_with_feature(model, class, name) {
-        Some(below) => write!(
-            help,
-            "{below} has it: `.oclAsType({below}).{written}`, where the object is of that class"
-        ),
-        None => write_operation_advice(help, left, written.as_str()),
+        Some(below) => write_cast_advice(help, left, below, written.as_str()),
+        None => write_feature_advice(help, left, written.as_str()),
     }
 }
 
@@ -451,15 +309,7 @@ fn unknown_feature<'t>(
         message,
         "{owner} has no features, and none named `{written}`"
     )?;
-    write_operation_advice(&mut words.help, left, written.as_str())
-}
-
-/// Writes a name after others, with a comma between them.
-fn list(out: &mut String, is_first: bool, name: &str) -> Result<(), AllocError> {
-    if !is_first {
-        out.push_str(", ")?;
-    }
-    out.push_str(name)
+    write_feature_advice(&mut words.help, left, written.as_str())
 }
 
 /// Writes the names of an enumeration's literals, as they are listed.
@@ -545,50 +395,6 @@ fn no_class_name(words: &mut Words) -> Result<(), AllocError> {
     words.label.push_str("this is another expression")
 }
 
-/// Writes the operations on values of a type, by their names.
-fn write_operations(help: &mut String, on: &Kind) -> Result<(), AllocError> {
-    help.push_str("its operations are ")?;
-    let mut is_first = true;
-    for operation in operations() {
-        if operation.is_on(on) {
-            list(help, is_first, operation.name)?;
-            is_first = false;
-        }
-    }
-    match on {
-        Kind::Scalar(_) => Ok(()),
-        Kind::Collection(_, _) => help.push_str(
-            ", forAll, exists, select, reject, collect, one, isUnique, iterate",
-        ),
-    }
-}
-
-/// Writes how a call is written for what may have been meant.
-fn write_call_advice(
-    help: &mut String,
-    navigation: Navigation,
-    name: &str,
-    left: &Kind,
-) -> Result<(), AllocError> {
-    if operation_on(name, left).is_none() {
-        return write_operations(help, &called_on(navigation, left));
-    }
-    match navigation {
-        Navigation::Dot => {
-            write!(
-                help,
-                "a dot asks each element; `->{name}(..)` asks the collection"
-            )
-        }
-        Navigation::Arrow => {
-            write!(
-                help,
-                "an arrow asks a collection; `.{name}(..)` asks the value"
-            )
-        }
-    }
-}
-
 /// An operation that what it is called on doesn't have.
 fn unknown_operation<'t>(
     alloc: Global,
@@ -605,11 +411,13 @@ fn unknown_operation<'t>(
             nearest.offer(alloc, operation.name)?;
         }
     }
-    suggest(&mut words.label, &nearest)?;
+    if instead_on(&on, name).is_empty() {
+        suggest(&mut words.label, &nearest)?;
+    }
     let owner = a_type(model, &on);
     let written = quote(alloc, name)?;
     write!(&mut words.message, "{owner} has no operation `{written}`")?;
-    write_call_advice(&mut words.help, navigation, written.as_str(), left)
+    write_call_advice(&mut words.help, model, navigation, written.as_str(), left)
 }
 
 /// Writes what is said of a name that names nothing.
