@@ -1,5 +1,5 @@
 -- What is answered of a class model, a delivery and the rules of a text: by one function of a report, and of each refusal its line.
-use Rattle.std.proofs.Common.{◌≡◌, inl, inr, ◌∙◌, ℕ, List, Result, Ok, Err, refl, sym, ap, subst}
+use Rattle.std.proofs.Common.{◌≡◌, inl, inr, ◌∙◌, ℕ, List, Option, Result, Ok, Err, refl, sym, ap, subst}
 use Rattle.ocl_base.specs.Steps.{◌>>=◌}
 use Rattle.ocl_base.proofs.ForAbove.{both_steps, ok_is}
 use Rattle.imkl_population.specs.Population.{Population}
@@ -21,8 +21,8 @@ use Rattle.ocl_check.proofs.ForAbove.{text_is_answered}
 use Rattle.ocl_explain.specs.declared.weaving.Shown.{Shown}
 use Rattle.ocl_explain.specs.Judged.{AreJudged, IsRefusedBy}
 use Rattle.ocl_explain.specs.WhyAnswers.{why_text, why_answer, shown_answer, WhyAnswers}
-use Rattle.ocl_explain.specs.ExplainedReport.{explained_answer, rule_answer, ExplainedAnswers, RuleAnswers}
-use Rattle.ocl_explain.specs.Explained.{why_of, explained_within, rule_within}
+use Rattle.ocl_explain.specs.ExplainedReport.{explained_answer, ExplainedAnswers}
+use Rattle.ocl_explain.specs.Explained.{why_of, explained_within}
 
 module _ (budget : ℕ) (model delivery rules : List ℕ) (t : TextReading) (reads : ReadsAs rules t) where
   abbrev asked : Result PopulationAndRules Refusal
@@ -89,22 +89,12 @@ module _ (model delivery rules : List ℕ) (t : TextReading) (reads : ReadsAs ru
         answers MAX_BUDGET model delivery rules t reads (WhyAnswers model delivery rules name id lines) why_by
         (λ p c x are. inl (why_answer (why_text p c.rules name id), (p, c.rules, are, refl), refl)) (λ p c r. refl) (λ a is. inr is)
 
-  -- `judge --why`
-  module _ (budget : ℕ) (shown : Shown) where
+  -- `judge --why`, and `why` of a rule
+  module _ (budget : ℕ) (shown : Shown) (rule : Option (List ℕ)) where
     abbrev explained_by : Population → CompiledRules → Result (Unit {0}) ℕ → Answer
-    explained_by p c o = explained_answer p c.rules shown (within_answer p c.rules o)
+    explained_by p c o = explained_answer p c.rules shown rule (within_answer p c.rules o)
 
-    pub explained_answers : ExplainedAnswers budget shown model delivery rules (given_answer (explained_within budget shown) (asked budget model delivery rules t reads))
+    pub explained_answers : ExplainedAnswers budget shown rule model delivery rules (given_answer (explained_within budget shown rule) (asked budget model delivery rules t reads))
     explained_answers =
-        answers budget model delivery rules t reads (ExplainedAnswers budget shown model delivery rules) explained_by
-        (λ p c x are. inl (p, c.rules, are, refl)) (λ p c r. refl) (λ a is. inr is)
-
-  -- `why` of a rule
-  module _ (shown : Shown) (name : List ℕ) where
-    abbrev rule_by : Population → CompiledRules → Result (Unit {0}) ℕ → Answer
-    rule_by p c o = rule_answer p c.rules shown name (within_answer p c.rules o)
-
-    pub rule_answers : RuleAnswers shown model delivery rules name (given_answer (rule_within shown name) (asked MAX_BUDGET model delivery rules t reads))
-    rule_answers =
-        answers MAX_BUDGET model delivery rules t reads (RuleAnswers shown model delivery rules name) rule_by
+        answers budget model delivery rules t reads (ExplainedAnswers budget shown rule model delivery rules) explained_by
         (λ p c x are. inl (p, c.rules, are, refl)) (λ p c r. refl) (λ a is. inr is)

@@ -8,7 +8,7 @@ use Rattle.ocl_explain.specs.declared.verdicts.Found.{Found}
 use Rattle.ocl_explain.specs.declared.verdicts.Found.TheVariants.{Explained, NoRule, NoObject, NotJudged}
 use Rattle.ocl_explain.specs.declared.weaving.Shown.{Shown}
 use Rattle.ocl_explain.specs.WhyAnswers.{why_text, why_answer, shown_answer}
-use Rattle.ocl_explain.specs.ExplainedReport.{explained_answer, rule_answer}
+use Rattle.ocl_explain.specs.ExplainedReport.{explained_answer}
 
 -- the explanation that was found
 abbrev pub text_of : Found → Option (List ℕ)
@@ -22,10 +22,6 @@ abbrev pub why_of : List ℕ → List ℕ → ℕ → PopulationAndRules → Ans
 why_of name id lines asked =
     given_answer (λ _. shown_answer lines (why_answer (why_text asked.0 asked.1.rules name id))) (admitted_in MAX_BUDGET asked.0 asked.1.unit)
 
--- what `judge --why` answers of them
-abbrev pub explained_within : ℕ → Shown → PopulationAndRules → Answer
-explained_within budget shown asked = explained_answer asked.0 asked.1.rules shown (meant_within budget asked)
-
--- and what `why` answers of a rule
-abbrev pub rule_within : Shown → List ℕ → PopulationAndRules → Answer
-rule_within shown name asked = rule_answer asked.0 asked.1.rules shown name (meant_within MAX_BUDGET asked)
+-- what `judge --why` answers of them, or `why` of a rule
+abbrev pub explained_within : ℕ → Shown → Option (List ℕ) → PopulationAndRules → Answer
+explained_within budget shown rule asked = explained_answer asked.0 asked.1.rules shown rule (meant_within budget asked)

@@ -4,7 +4,6 @@
 use Rattle.std.specs.Prelude.{◌≡◌, ◌==◌, ◌-◌, ◌⊎◌, ◌&&◌, ℕ, zero, suc, Bool, true, not, List, [], ◌∷◌, ◌++◌, Option, Some, None, is_some, length, bytes_eq, codes, if◌then◌else◌}
 use Rattle.imkl_population.specs.Population.{Population}
 use Rattle.ocl_core.specs.Core.{CheckedRule}
-use Rattle.ocl_check.specs.declared.commands.judge.TheConstants.{MAX_BUDGET}
 use Rattle.ocl_check.specs.Reply.{Answer}
 use Rattle.ocl_check.specs.JudgeText.{meant_answer}
 use Rattle.report_json.specs.JsonLines.{lines_in, words_in, word_at}
@@ -59,27 +58,21 @@ module _ (p : Population) (rs : List CheckedRule) (shown : Shown) where
   abbrev pub explained_report : Option (List ℕ) → List ℕ → List ℕ
   explained_report rule text = explained_lines rule shown.findings (lines_in text)
 
-  -- with the status of the report
-  abbrev pub explained_answer : Answer → Answer
-  explained_answer a = (if a.1 == 2 then a.0 else explained_report None a.0, a.1)
+  -- a report with its status, or what it has of the rule of a name, with status 0; nothing, with status 2, where there is no
+  -- such rule
+  abbrev pub reported : Option (List ℕ) → Answer → Answer
+  reported None a = (explained_report None a.0, a.1)
+  reported (Some name) a = if is_some (rule_named rs name) then (explained_report (Some name) a.0, 0) else ([], 2)
 
-  -- what a report has of the rule of a name, with status 0; nothing, with status 2, where there is no such rule
-  abbrev pub named_answer : List ℕ → List ℕ → Answer
-  named_answer name text = if is_some (rule_named rs name) then (explained_report (Some name) text, 0) else ([], 2)
-
-  abbrev pub rule_answer : List ℕ → Answer → Answer
-  rule_answer name a = if a.1 == 2 then a else named_answer name a.0
+  -- a refusal, whose status is 2, stays as it is
+  abbrev pub explained_answer : Option (List ℕ) → Answer → Answer
+  explained_answer rule a = if a.1 == 2 then a else reported rule a
 
 -- ---- inputs
 
--- the report that the rules mean, with explanations below its findings, or the line by which `judge` refuses an input
-abbrev pub ExplainedAnswers : ℕ → Shown → List ℕ → List ℕ → List ℕ → Answer → Type 0
-ExplainedAnswers budget shown model delivery rules answer =
-    ((p : Population) × (rs : List CheckedRule) × AreJudged budget model delivery rules p rs × (answer ≡ explained_answer p rs shown (meant_answer p rs)))
+-- the report that the rules mean, or what it has of the rule of a name, with explanations below its findings; or the line by
+-- which `judge` refuses an input
+abbrev pub ExplainedAnswers : ℕ → Shown → Option (List ℕ) → List ℕ → List ℕ → List ℕ → Answer → Type 0
+ExplainedAnswers budget shown rule model delivery rules answer =
+    ((p : Population) × (rs : List CheckedRule) × AreJudged budget model delivery rules p rs × (answer ≡ explained_answer p rs shown rule (meant_answer p rs)))
     ⊎ IsRefusedBy budget model delivery rules answer
-
--- the same of one rule, within the greatest budget
-abbrev pub RuleAnswers : Shown → List ℕ → List ℕ → List ℕ → List ℕ → Answer → Type 0
-RuleAnswers shown model delivery rules name answer =
-    ((p : Population) × (rs : List CheckedRule) × AreJudged MAX_BUDGET model delivery rules p rs × (answer ≡ rule_answer p rs shown name (meant_answer p rs)))
-    ⊎ IsRefusedBy MAX_BUDGET model delivery rules answer

@@ -48,6 +48,11 @@ impl<'a, L: Listener> Explaining<'a, L> {
         }
     }
 
+    /// What the command is given.
+    pub(crate) fn given(&self) -> Given<'a> {
+        self.given
+    }
+
     /// Keeps what is said behind the answer.
     pub(crate) fn keep(&self, words: Words) {
         self.words.set(Some(words));

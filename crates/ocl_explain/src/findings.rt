@@ -1,35 +1,77 @@
-//! The report of `judge` with the explanation of each finding below its line.
+//! The report of `judge` with the explanation of each finding below its line, or what it has of one rule.
 
-ghost use Rattle.std.specs.Prelude.{◌≡◌, [], Some, map, false, true};
+ghost use Rattle.std.specs.Prelude.{◌≡◌, ℕ, [], Some, None, is_some, map, option_map, false, true};
 ghost use Rattle.std.specs.List.{AllByRecursion};
 ghost use Rattle.ocl_core.specs.CoreView.{checked_rule_of};
 ghost use Rattle.ocl_core.specs.Typing.{IsTypedRule};
+ghost use Rattle.ocl_check.specs.declared.commands.judge.TheConstants.{MAX_BUDGET};
 ghost use Rattle.ocl_check.specs.Answers.{IsAnswered, IsAnsweredBy, IsFlushedBy, KeepsSink, fails_read, fails_write};
 ghost use Rattle.ocl_check.specs.Ending.{IsEnding};
 ghost use Rattle.ocl_check.specs.Given.{given_answer};
 ghost use Rattle.ocl_check.specs.Reply.{Answer};
 ghost use Rattle.ocl_explain.specs.Explained.{explained_within};
-ghost use Rattle.ocl_explain.specs.ExplainedReport.{explained_answer, ExplainedAnswers};
+ghost use Rattle.ocl_explain.specs.ExplainedReport.{explained_report, reported, explained_answer, ExplainedAnswers};
+ghost use Rattle.ocl_explain.specs.WhyAnswers.{rule_named};
 
-use crate::explaining::{Ending, Explaining, Listener};
-use crate::given::Given;
+use crate::explaining::{Ending, Explaining, Listener, Nobody};
+use crate::given::{Given, options_of};
+use crate::unknown::unknown_rule;
 use crate::weaving::{Shown, explained_report};
 use crate::writing::write_answer;
 use explain_notes::Input;
 use imkl_population::Population;
 use ocl_base::OutOfMemory;
-use ocl_check::{CommandFault, JudgeOptions, Outcome, Report, RulesForm, Sink, Telling, stop};
+use ocl_check::{
+    CommandFault, JudgeOptions, MAX_BUDGET, Outcome, Report, RulesForm, Sink, Telling, stop,
+};
 use ocl_core::CoreRule;
 use ocl_pipeline::{OfText, Place, Stopped, TextAsker, ask_inputs};
 use rule_verify::Accepted;
 use std::alloc::Global;
 
-/// Writes an answer of `judge` that has this status: a report with explanations, and of a refusal its line.
+/// The rule whose findings are explained, and the inputs.
+#[derive(Clone, Copy, Drop)]
+pub struct RuleAsked<'a> {
+    /// The class model.
+    pub model: Input<'a>,
+    /// The delivery.
+    pub delivery: Input<'a>,
+    /// The rule text.
+    pub rules: Input<'a>,
+    /// The name of the rule.
+    pub rule: &'a str,
+    /// How much is shown.
+    pub shown: Shown,
+}
+
+/// Asks for the report with explanations, or for what it has of the rule of a name.
+#[derive(Clone, Copy)]
+struct ExplainedReport<'a, L> {
+    budget: u64,
+    shown: Shown,
+    rule: Option<&'a str>,
+    watch: &'a Explaining<'a, L>,
+}
+
+/// Whether a rule has a name.
+fn is_rule(rules: &[CoreRule], name: &[u8]) -> bool
+    ensures { result ≡ is_some (rule_named (map checked_rule_of rules.now) name.now) }
+{
+    'rules: for rule in rules {
+        if rule.name.as_str().as_bytes() == name {
+            return true;
+        }
+    }
+    false
+}
+
+/// Writes a report with explanations, of which only the lines of one rule are wanted if its name is given.
 fn write_explained<S: Sink>(
     alloc: Global,
     population: &Population<'_>,
     rules: &[CoreRule],
     shown: Shown,
+    rule: Option<&[u8]>,
     text: &[u8],
     status: u8,
     sink: &mut S,
@@ -37,52 +79,100 @@ fn write_explained<S: Sink>(
     requires typed { AllByRecursion (IsTypedRule population.now.content.model)
         (map checked_rule_of rules.now) }
     requires well { S.has_failed sink.old ≡ false }
-    ensures { IsEnding S.contents S.has_failed S.flushes S.has_pending true
-        (explained_answer population.now.content (map checked_rule_of rules.now) shown
-        (text.now, status)) sink.old result sink.new }
+    ensures { IsEnding S.contents S.has_failed S.flushes S.has_pending true (
+      explained_report
+          population.now.content (map checked_rule_of rules.now) shown
+          (option_map (λ r. r.now) rule.entry) text.now,
+      status,
+    ) sink.old result sink.new }
 {
-    if status == 2 {
-        return write_answer(sink, text, status);
-    }
-    match explained_report(alloc, population, rules, shown, None, text) {
+    match explained_report(alloc, population, rules, shown, rule, text) {
         Ok(explained) => write_answer(sink, &explained, status),
         Err(OutOfMemory) => Outcome::Failed(CommandFault::OutOfMemory),
     }
 }
 
-/// Writes what `judge` answered, of which it wrote these bytes into memory.
-fn write_judged<S: Sink>(
-    alloc: Global,
-    population: &Population<'_>,
-    rules: &[CoreRule],
-    shown: Shown,
-    text: &[u8],
-    judged: Outcome,
-    sink: &mut S,
-) -> Outcome
-    requires typed { AllByRecursion (IsTypedRule population.now.content.model)
-        (map checked_rule_of rules.now) }
-    requires well { S.has_failed sink.old ≡ false }
-    ensures { (said : Answer) → IsAnswered said (Some []) (Some text.now) judged →
-        IsEnding S.contents S.has_failed S.flushes S.has_pending true (explained_answer
-        population.now.content (map checked_rule_of rules.now) shown said)
-        sink.old result sink.new }
-{
-    match judged {
-        Outcome::Status(status) => {
-            write_explained(alloc, population, rules, shown, text, status, sink)
+impl<L: Listener> ExplainedReport<'_, L> {
+    /// Writes what a report has of the rule of a name; nothing, where there is no such rule.
+    fn write_named<S: Sink>(
+        &self,
+        alloc: Global,
+        population: &Population<'_>,
+        rules: &[CoreRule],
+        name: &str,
+        text: &[u8],
+        sink: &mut S,
+    ) -> Outcome
+        requires typed { AllByRecursion (IsTypedRule population.now.content.model)
+            (map checked_rule_of rules.now) }
+        requires well { S.has_failed sink.old ≡ false }
+        ensures { (status : ℕ) → IsEnding S.contents S.has_failed S.flushes S.has_pending true
+            (reported population.now.content (map checked_rule_of rules.now) self.now.shown
+            (Some name.now) (text.now, status)) sink.old result sink.new }
+    {
+        if !is_rule(rules, name.as_bytes()) {
+            let path = self.watch.given().rules.path;
+            self.watch.keep(unknown_rule(alloc, path, name, rules));
+            return write_answer(sink, &[], 2);
         }
-        // Memory takes all bytes that there is room for.
-        Outcome::Failed(_) => Outcome::Failed(CommandFault::OutOfMemory),
+        let rule = Some(name.as_bytes());
+        write_explained(alloc, population, rules, self.shown, rule, text, 0, sink)
     }
-}
 
-/// Asks for the report with explanations.
-#[derive(Clone, Copy)]
-struct ExplainedReport<'a, L> {
-    budget: u64,
-    shown: Shown,
-    watch: &'a Explaining<'a, L>,
+    /// Writes an answer of `judge` that has this status: a report with explanations, or of a refusal its line.
+    fn write_answered<S: Sink>(
+        &self,
+        alloc: Global,
+        population: &Population<'_>,
+        rules: &[CoreRule],
+        text: &[u8],
+        status: u8,
+        sink: &mut S,
+    ) -> Outcome
+        requires typed { AllByRecursion (IsTypedRule population.now.content.model)
+            (map checked_rule_of rules.now) }
+        requires well { S.has_failed sink.old ≡ false }
+        ensures { IsEnding S.contents S.has_failed S.flushes S.has_pending true (explained_answer
+            population.now.content (map checked_rule_of rules.now) self.now.shown
+            (option_map (λ r. r.now) self.now.rule) (text.now, status)) sink.old result sink.new }
+    {
+        if status == 2 {
+            return write_answer(sink, text, status);
+        }
+        match self.rule {
+            Some(name) => self.write_named(alloc, population, rules, name, text, sink),
+            None => write_explained(
+                alloc, population, rules, self.shown, None, text, status, sink,
+            ),
+        }
+    }
+
+    /// Writes what `judge` answered, of which it wrote these bytes into memory.
+    fn write_judged<S: Sink>(
+        &self,
+        alloc: Global,
+        population: &Population<'_>,
+        rules: &[CoreRule],
+        text: &[u8],
+        judged: Outcome,
+        sink: &mut S,
+    ) -> Outcome
+        requires typed { AllByRecursion (IsTypedRule population.now.content.model)
+            (map checked_rule_of rules.now) }
+        requires well { S.has_failed sink.old ≡ false }
+        ensures { (said : Answer) → IsAnswered said (Some []) (Some text.now) judged →
+            IsEnding S.contents S.has_failed S.flushes S.has_pending true (explained_answer
+            population.now.content (map checked_rule_of rules.now) self.now.shown
+            (option_map (λ r. r.now) self.now.rule) said) sink.old result sink.new }
+    {
+        match judged {
+            Outcome::Status(status) => {
+                self.write_answered(alloc, population, rules, text, status, sink)
+            }
+            // Memory takes all bytes that there is room for.
+            Outcome::Failed(_) => Outcome::Failed(CommandFault::OutOfMemory),
+        }
+    }
 }
 
 impl<S: Sink, L: Listener> TextAsker<S> for ExplainedReport<'_, L> {
@@ -91,7 +181,8 @@ impl<S: Sink, L: Listener> TextAsker<S> for ExplainedReport<'_, L> {
     ghost can_ask = { λ s. S.has_failed s ≡ false };
 
     ghost answers = { λ e given old o new. IsEnding S.contents S.has_failed S.flushes S.has_pending
-        true (given_answer (explained_within e.budget e.shown) given) old o new };
+        true (given_answer (explained_within e.budget e.shown (option_map (λ r. r.now) e.rule))
+        given) old o new };
 
     fn ask(
         &self,
@@ -108,7 +199,7 @@ impl<S: Sink, L: Listener> TextAsker<S> for ExplainedReport<'_, L> {
         let mut memory = Telling::new(Vec::new(alloc));
         let judged = report.ask(alloc, population, rules, accepted, &mut memory);
         let text = memory.into_inner();
-        write_judged(alloc, population, rules, self.shown, &text, judged, sink)
+        self.write_judged(alloc, population, rules, &text, judged, sink)
     }
 
     fn stop(&self, alloc: Global, place: Place<'_>, why: Stopped, sink: &mut S) -> Outcome {
@@ -134,8 +225,8 @@ pub fn answer_judge_why<'i, S: Sink, L: Listener>(
     sink: &mut S,
 ) -> Ending
     requires { S.has_failed sink.old ≡ false }
-    ensures answered { IsAnsweredBy (ExplainedAnswers budget shown model.entry.bytes.now
-        delivery.entry.bytes.now rules.entry.bytes.now)
+    ensures answered { IsAnsweredBy (ExplainedAnswers budget shown None
+        model.entry.bytes.now delivery.entry.bytes.now rules.entry.bytes.now)
         (S.contents sink.old) (S.contents sink.new) result.outcome }
     ensures sink { S.has_failed sink.new ≡ fails_write result.outcome }
     ensures flushed { IsFlushedBy S.flushes S.has_pending result.outcome sink.old sink.new }
@@ -157,10 +248,48 @@ pub fn answer_judge_why<'i, S: Sink, L: Listener>(
         asker: &ExplainedReport {
             budget,
             shown,
+            rule: None,
             watch: &watch,
         },
         text: rules.bytes,
     };
     let outcome = ask_inputs(alloc, &asker, model.bytes, delivery.bytes, sink);
+    watch.ending(alloc, outcome)
+}
+
+/// Explains why a rule of a text doesn't hold for the objects that it judges: writes the lines that the report has of the rule,
+/// and below that of each object the parts of the rule's expression with their values, with status 0; `shown` says of how
+/// many objects, and how many lines of each. Where `judge` refuses an input it is refused likewise. Else, where there is no
+/// such rule, nothing is written, with status 2.
+///
+/// It fails as `answer_judge_why` does.
+pub fn answer_why_rule<S: Sink>(alloc: Global, asked: RuleAsked<'_>, sink: &mut S) -> Ending
+    requires { S.has_failed sink.old ≡ false }
+    ensures answered { IsAnsweredBy (ExplainedAnswers MAX_BUDGET asked.entry.shown
+        (Some asked.entry.rule.now) asked.entry.model.bytes.now asked.entry.delivery.bytes.now
+        asked.entry.rules.bytes.now) (S.contents sink.old) (S.contents sink.new) result.outcome }
+    ensures sink { S.has_failed sink.new ≡ fails_write result.outcome }
+    ensures flushed { IsFlushedBy S.flushes S.has_pending result.outcome sink.old sink.new }
+    ensures kept { KeepsSink result.outcome sink.old sink.new }
+    ensures read { fails_read result.outcome ≡ false }
+{
+    let given = Given {
+        model: asked.model,
+        delivery: Some(asked.delivery),
+        rules: asked.rules,
+        script: None,
+        options: options_of(RulesForm::Text),
+    };
+    let watch = Explaining::new(given, &Nobody);
+    let asker = OfText {
+        asker: &ExplainedReport {
+            budget: MAX_BUDGET,
+            shown: asked.shown,
+            rule: Some(asked.rule),
+            watch: &watch,
+        },
+        text: asked.rules.bytes,
+    };
+    let outcome = ask_inputs(alloc, &asker, asked.model.bytes, asked.delivery.bytes, sink);
     watch.ending(alloc, outcome)
 }

@@ -1,7 +1,7 @@
 use Rattle.std.proofs.Common.{ℕ, List, true, false, ◌∙◌, ap, sym, refl, bytes_eq, arith}
 use Rattle.ocl_core.specs.CoreView.{checked_rule_of}
 use Rattle.ocl_explain.proofs.Named.{next_rule, no_rule_left}
-use Rattle.ocl_explain.proofs.rule_findings.is_rule.Goals as goal
+use Rattle.ocl_explain.proofs.findings.is_rule.Goals as goal
 
 pub returns-then-eq : goal.returns-then-eq
 returns-then-eq c =
