@@ -2,3 +2,4 @@ pub mod Left
 pub mod TextNodes
 pub mod PartNodes
 pub mod LeftOut
+pub mod Repeated

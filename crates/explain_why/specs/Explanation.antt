@@ -16,8 +16,9 @@ use Rattle.rule_values.specs.declared.verdict.Verdict.{Verdict}
 use Rattle.rule_values.specs.declared.verdict.Verdict.TheVariants as verdict
 use Rattle.rule_values.specs.Value as value
 use Rattle.rule_values.specs.Value.{Element, Value, object_value, element_value}
-use Rattle.rule_values.specs.Operations.{is_true, is_false, is_null, is_invalid}
+use Rattle.rule_values.specs.Operations.{is_true, is_false, is_null, is_invalid, equality}
 use Rattle.rule_values.specs.Endings.{is_undecided, kept_by}
+use Rattle.owned_values.specs.Meant.{meant}
 use Rattle.ocl_semantics.specs.Meaning.{meaning, meanings, meant_verdict}
 use Rattle.explain_why.specs.declared.deciding.Deciding as declared
 use Rattle.explain_why.specs.declared.deciding.Deciding.TheVariants as held
@@ -79,7 +80,7 @@ are_others_shown operator v = true
 
 -- ---- elements that decide an iteration
 
--- which bodies: those that are true, false, neither, null, not null, invalid, all, or none
+-- which bodies: those that are true, false, neither, null, not null, invalid, equal to a value, all, or none
 pub data Deciding : Type 0 where
   True : Deciding
   False : Deciding
@@ -87,6 +88,7 @@ pub data Deciding : Type 0 where
   Absent : Deciding
   Present : Deciding
   Invalid : Deciding
+  Equal : Value → Deciding
   All : Deciding
   Nothing : Deciding
 
@@ -97,6 +99,7 @@ deciding_of held.Undecided = Undecided
 deciding_of held.Absent = Absent
 deciding_of held.Present = Present
 deciding_of held.Invalid = Invalid
+deciding_of (held.Equal v) = Equal (meant v.now)
 deciding_of held.All = All
 deciding_of held.Nothing = Nothing
 
@@ -107,6 +110,7 @@ decides Undecided b = is_undecided b
 decides Absent b = is_null b
 decides Present b = not (is_null b)
 decides Invalid b = is_invalid b
+decides (Equal v) b = is_true (equality v b)
 decides All b = true
 decides Nothing b = false
 
@@ -137,6 +141,11 @@ where_any d g h bs = if list_any (decides d) bs then g else h
 abbrev pub unless_undecided : Batch → List Value → Batch
 unless_undecided g bs = where_any Undecided (deciding_batch Undecided) g bs
 
+-- the elements whose bodies are equal to the first body that a later one is equal to, else some of all
+abbrev pub repeated_batch : List Value → Batch
+repeated_batch [] = beside_batch All
+repeated_batch (b ∷ bs) = if list_any (decides (Equal b)) bs then deciding_batch (Equal b) else repeated_batch bs
+
 -- the first batch that is shown of an iteration: the elements that decide, else some of all
 abbrev pub deciding : Iteration → List Value → Batch
 deciding iteration.ForAll bs = where_any False (deciding_batch False) (unless_undecided (beside_batch All) bs) bs
@@ -148,7 +157,7 @@ deciding iteration.Reject bs = unless_undecided (deciding_batch False) bs
 deciding iteration.Collect bs =
     where_any Invalid (deciding_batch Invalid) (where_any Absent (deciding_batch Absent) (deciding_batch All) bs) bs
 deciding iteration.CollectFlat bs = where_any Invalid (deciding_batch Invalid) (deciding_batch All) bs
-deciding (iteration.IsUnique k) bs = where_any Invalid (deciding_batch Invalid) (beside_batch All) bs
+deciding (iteration.IsUnique k) bs = where_any Invalid (deciding_batch Invalid) (repeated_batch bs) bs
 
 -- no batch
 abbrev pub no_batch : Batch

@@ -1,11 +1,15 @@
 -- What an explanation leaves out decides nothing: where one operand alone is shown, the operation's value is the same whatever
 -- the others are.
-use Rattle.std.specs.Prelude.{◌≡◌, false, List, ◌∷◌}
+use Rattle.std.specs.Prelude.{◌≡◌, ◌≤◌, false, List, ◌∷◌, map}
+use Rattle.std.specs.List.{count_by}
 use Rattle.imkl_population.specs.Population.{Population}
 use Rattle.ocl_core.specs.declared.operator.Operator.{Operator}
-use Rattle.rule_values.specs.Value.{Value}
+use Rattle.ocl_core.specs.declared.core_tree.Iteration.TheVariants as iteration
+use Rattle.ocl_kinds.specs.declared.kind.ScalarKind.{ScalarKind}
+use Rattle.rule_values.specs.Value.{Element, Value, element_value, truth_value}
+use Rattle.rule_values.specs.Endings.{unique_bodies}
 use Rattle.ocl_semantics.specs.Meaning.{operation_value}
-use Rattle.explain_why.specs.Explanation.{is_first_shown, are_others_shown}
+use Rattle.explain_why.specs.Explanation.{is_first_shown, are_others_shown, decides, deciding}
 
 -- the operands after the first are left out
 abbrev pub OthersDecideNothing : Type 0
@@ -16,3 +20,8 @@ OthersDecideNothing =
 abbrev pub FirstDecidesNothing : Type 0
 FirstDecidesNothing =
     (p : Population) (operator : Operator) (u v : Value) (ws : List Value) → is_first_shown operator v ws ≡ false → operation_value p operator v ws ≡ operation_value p operator u ws
+
+-- of an `isUnique` that is false, whose bodies are single values or null, two elements at least are of the batch that is shown
+abbrev pub RepeatedAreShown : Type 0
+RepeatedAreShown =
+    (k : ScalarKind) (es : List Element) → unique_bodies (map element_value es) ≡ truth_value false → 2 ≤ count_by (decides (deciding (iteration.IsUnique k) (map element_value es)).which) (map element_value es)

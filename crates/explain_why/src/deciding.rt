@@ -4,12 +4,12 @@ ghost use Rattle.std.specs.Prelude.{◌≡◌, ◌++◌, length, map, IfOk, OnOk
 ghost use Rattle.std.specs.List.{list_any};
 ghost use Rattle.rule_values.specs.Endings.{kept_by};
 ghost use Rattle.owned_values.specs.Meant.{meant, meant_element, meant_elements};
-ghost use Rattle.explain_why.specs.Explanation.{deciding_of, decides, batch_of, deciding_batch, max_beside, beside_batch, where_any, unless_undecided, deciding, no_batch, beside, kept_element};
+ghost use Rattle.explain_why.specs.Explanation.{deciding_of, decides, batch_of, deciding_batch, max_beside, beside_batch, where_any, unless_undecided, repeated_batch, deciding, no_batch, beside, kept_element};
 
 use crate::values::MAX_SHOWN;
 use ocl_base::{OutOfMemory, push};
 use ocl_core::Iteration;
-use owned_values::{Element, Value, copy_of, is_false, is_invalid, is_null, is_true};
+use owned_values::{Element, Value, copy_of, equality, is_false, is_invalid, is_null, is_true};
 use std::alloc::Global;
 
 /// The greatest number of elements that are shown of those of which none stands out.
@@ -17,7 +17,7 @@ const MAX_BESIDE: usize = 3;
 
 /// Bodies of an iteration.
 #[derive(Clone, Copy, Debug)]
-pub(crate) enum Deciding {
+pub(crate) enum Deciding<'b, 'a> {
     /// Those that are true.
     True,
     /// Those that are false.
@@ -30,16 +30,18 @@ pub(crate) enum Deciding {
     Present,
     /// Those that are invalid.
     Invalid,
+    /// Those that are equal to a value.
+    Equal(&'b Value<'a>),
     /// All.
     All,
     /// None.
     Nothing,
 }
 
-impl Deciding {
+impl Deciding<'_, '_> {
     /// Whether a body is one of those.
     fn decides(self, body: &Value<'_>) -> bool
-        ensures { result ≡ decides (deciding_of self) (meant body.now) }
+        ensures { result ≡ decides (deciding_of self.entry) (meant body.now) }
     {
         match self {
             Deciding::True => is_true(body),
@@ -48,6 +50,10 @@ impl Deciding {
             Deciding::Absent => is_null(body),
             Deciding::Present => !is_null(body),
             Deciding::Invalid => is_invalid(body),
+            Deciding::Equal(value) => {
+                let same = equality(value, body);
+                is_true(&same)
+            }
             Deciding::All => true,
             Deciding::Nothing => false,
         }
@@ -55,7 +61,7 @@ impl Deciding {
 
     /// Whether one of the bodies is one of those.
     fn is_any(self, bodies: &[Value<'_>]) -> bool
-        ensures { result ≡ list_any (decides (deciding_of self)) (map meant bodies.now) }
+        ensures { result ≡ list_any (decides (deciding_of self.entry)) (map meant bodies.now) }
     {
         for body in bodies {
             if self.decides(body) {
@@ -68,16 +74,16 @@ impl Deciding {
 
 /// Elements of which some are shown: those whose bodies are so, and at most so many.
 #[derive(Clone, Copy, Debug)]
-pub(crate) struct Batch {
+pub(crate) struct Batch<'b, 'a> {
     /// Which they are.
-    pub(crate) which: Deciding,
+    pub(crate) which: Deciding<'b, 'a>,
     /// The greatest number of them that is shown.
     pub(crate) most: usize,
 }
 
 /// Those, as many as are shown of elements that decide.
-fn deciding_batch(which: Deciding) -> Batch
-    ensures { batch_of result ≡ deciding_batch (deciding_of which) }
+fn deciding_batch<'b, 'a>(which: Deciding<'b, 'a>) -> Batch<'b, 'a>
+    ensures { batch_of result ≡ deciding_batch (deciding_of which.entry) }
 {
     Batch {
         which,
@@ -86,8 +92,8 @@ fn deciding_batch(which: Deciding) -> Batch
 }
 
 /// Those, as many as are shown of elements of which none stands out.
-fn beside_batch(which: Deciding) -> Batch
-    ensures { batch_of result ≡ beside_batch (deciding_of which) }
+fn beside_batch<'b, 'a>(which: Deciding<'b, 'a>) -> Batch<'b, 'a>
+    ensures { batch_of result ≡ beside_batch (deciding_of which.entry) }
 {
     Batch {
         which,
@@ -96,7 +102,7 @@ fn beside_batch(which: Deciding) -> Batch
 }
 
 /// No elements.
-fn no_batch() -> Batch
+fn no_batch<'b, 'a>() -> Batch<'b, 'a>
     ensures { batch_of result ≡ no_batch }
 {
     Batch {
@@ -106,23 +112,44 @@ fn no_batch() -> Batch
 }
 
 /// One batch where one of the bodies is one of those, else another.
-fn where_any(those: Deciding, batch: Batch, other: Batch, bodies: &[Value<'_>]) -> Batch
+fn where_any<'b, 'a>(
+    those: Deciding<'_, '_>,
+    batch: Batch<'b, 'a>,
+    other: Batch<'b, 'a>,
+    bodies: &[Value<'_>],
+) -> Batch<'b, 'a>
     ensures { batch_of result ≡
-        where_any (deciding_of those) (batch_of batch) (batch_of other) (map meant bodies.now) }
+        where_any (deciding_of those.entry) (batch_of batch.entry) (batch_of other.entry) (map meant bodies.now) }
 {
     if those.is_any(bodies) { batch } else { other }
 }
 
 /// The elements whose bodies are undecided where there are some, else another batch.
-fn unless_undecided(other: Batch, bodies: &[Value<'_>]) -> Batch
-    ensures { batch_of result ≡ unless_undecided (batch_of other) (map meant bodies.now) }
+fn unless_undecided<'b, 'a>(other: Batch<'b, 'a>, bodies: &[Value<'_>]) -> Batch<'b, 'a>
+    ensures { batch_of result ≡ unless_undecided (batch_of other.entry) (map meant bodies.now) }
 {
     let undecided = deciding_batch(Deciding::Undecided);
     where_any(Deciding::Undecided, undecided, other, bodies)
 }
 
+/// The elements whose bodies are equal to the first body that a later one is equal to, else some of all.
+fn repeated_batch<'b, 'a>(bodies: &'b [Value<'a>]) -> Batch<'b, 'a>
+    ensures { batch_of result ≡ repeated_batch (map meant bodies.now) }
+{
+    for index in 0..bodies.len() {
+        let equal = Deciding::Equal(&bodies[index]);
+        if equal.is_any(&bodies[index + 1..]) {
+            return deciding_batch(equal);
+        }
+    }
+    beside_batch(Deciding::All)
+}
+
 /// The first batch that is shown of an iteration: the elements that decide, else some of all.
-pub(crate) fn batch_that_decides(iteration: &Iteration, bodies: &[Value<'_>]) -> Batch
+pub(crate) fn batch_that_decides<'b, 'a>(
+    iteration: &Iteration,
+    bodies: &'b [Value<'a>],
+) -> Batch<'b, 'a>
     ensures { batch_of result ≡ deciding iteration.now (map meant bodies.now) }
 {
     let some = beside_batch(Deciding::All);
@@ -158,13 +185,16 @@ pub(crate) fn batch_that_decides(iteration: &Iteration, bodies: &[Value<'_>]) ->
             let all = deciding_batch(Deciding::All);
             where_any(Deciding::Invalid, invalid, all, bodies)
         }
-        Iteration::IsUnique(_) => where_any(Deciding::Invalid, invalid, some, bodies),
+        Iteration::IsUnique(_) => {
+            let repeated = repeated_batch(bodies);
+            where_any(Deciding::Invalid, invalid, repeated, bodies)
+        }
     }
 }
 
 /// The second batch that is shown of an iteration: of `select` and `reject` the elements that aren't kept, of `collect` those
 /// that aren't null beside those that are.
-pub(crate) fn batch_beside(iteration: &Iteration, bodies: &[Value<'_>]) -> Batch
+pub(crate) fn batch_beside<'b, 'a>(iteration: &Iteration, bodies: &[Value<'_>]) -> Batch<'b, 'a>
     ensures { batch_of result ≡ beside iteration.now (map meant bodies.now) }
 {
     match iteration {
@@ -203,12 +233,12 @@ fn keep_if<'a>(
 /// The elements whose bodies are those.
 pub(crate) fn deciding_elements<'a>(
     alloc: Global,
-    deciding: Deciding,
+    deciding: Deciding<'_, '_>,
     elements: &[Element<'a>],
     bodies: &[Value<'a>],
 ) -> Result<Vec<Element<'a>>, OutOfMemory>
     requires { length bodies.now ≡ length elements.now }
-    ensures { IfOk result (λ v. meant_elements v.items ≡ kept_by (decides (deciding_of deciding))
+    ensures { IfOk result (λ v. meant_elements v.items ≡ kept_by (decides (deciding_of deciding.entry))
         (meant_elements elements.now) (map meant bodies.now)) }
 {
     let mut kept = Vec::new(alloc);

@@ -615,7 +615,7 @@ fn explain_batch<'a>(
     out: &mut String,
     population: &'a Population<'_>,
     level: usize,
-    batch: &Batch,
+    batch: &Batch<'_, '_>,
     elements: &[Element<'a>],
     bodies: &[Value<'a>],
     body: &'a Core,

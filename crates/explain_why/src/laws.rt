@@ -1,9 +1,14 @@
-//! The law of what explanations leave out.
+//! Laws of what explanations show and leave out.
 
-ghost use Rattle.explain_why.specs.Laws.{OthersDecideNothing, FirstDecidesNothing};
+ghost use Rattle.explain_why.specs.Laws.{OthersDecideNothing, FirstDecidesNothing, RepeatedAreShown};
 
 /// An operand that is left out decides nothing: the operation has its value whatever that operand is.
 pub fn left_out_decides_nothing()
     ensures others { OthersDecideNothing }
     ensures first { FirstDecidesNothing }
+{}
+
+/// Of an `isUnique` that is false, two elements at least are shown, with equal bodies.
+pub fn repeated_are_shown()
+    ensures { RepeatedAreShown }
 {}
