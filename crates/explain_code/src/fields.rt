@@ -1,67 +1,7 @@
 //! Which field of a code file holds an offset: the file is read field by field up to it.
 
+use rule_code::{FieldSort, opcode_row};
 use std::alloc::{AllocError, Global};
-
-/// What a byte of kind is followed by.
-fn kind_width(byte: u8) -> usize {
-    match byte & 0x0f {
-        4 | 5 => 2,
-        _ => 0,
-    }
-}
-
-/// The fields of an instruction after its opcode.
-#[derive(Clone, Copy)]
-struct Fields {
-    name: &'static str,
-    /// Whether the first is a kind.
-    has_kind: bool,
-    /// How many bytes the others have.
-    width: usize,
-}
-
-/// Instructions by their opcodes; none for a byte that is no opcode.
-fn fields_of(opcode: u8) -> Option<Fields> {
-    let (name, has_kind, width) = match opcode {
-        0x02 => ("GET", false, 2),
-        0x03 => ("INT", false, 8),
-        0x04 => ("BOOL", false, 1),
-        0x05 => ("TEXT", false, 2),
-        0x06 => ("ENUM", false, 2),
-        0x09 => ("ATTR", false, 2),
-        0x0a => ("ALL", false, 2),
-        0x0b => ("ASCOLL", true, 0),
-        0x0c => ("KINDOF", false, 2),
-        0x0d => ("TYPEOF", false, 2),
-        0x0e => ("ASTYPE", false, 2),
-        0x28 => ("EQ", true, 0),
-        0x32 => ("INCLUDES", true, 0),
-        0x33 => ("COUNT", true, 0),
-        0x34 => ("INCALL", true, 0),
-        0x35 => ("EXCALL", true, 0),
-        0x37 => ("ASSET", true, 0),
-        0x40 => ("LET", false, 2),
-        0x41 => ("IF", true, 4),
-        0x42 => ("FORALL", false, 2),
-        0x43 => ("EXISTS", false, 2),
-        0x44 => ("ONE", false, 2),
-        0x45 => ("SELECT", false, 2),
-        0x46 => ("REJECT", false, 2),
-        0x47 => ("COLLECT", false, 2),
-        0x48 => ("COLLECTFLAT", false, 2),
-        0x49 => ("ISUNIQUE", true, 2),
-        0x4a => ("FOLD", true, 2),
-        0x01 | 0x07 | 0x08 | 0x10..=0x1c | 0x20..=0x24 | 0x29..=0x2d | 0x30 | 0x31 | 0x36 => {
-            ("an instruction without fields", false, 0)
-        }
-        _ => return None,
-    };
-    Some(Fields {
-        name,
-        has_kind,
-        width,
-    })
-}
 
 /// A way over the bytes of a file up to a byte.
 #[derive(Clone, Copy)]
@@ -134,6 +74,14 @@ fn symbol_field(alloc: Global, way: &mut Way<'_>) -> Result<Option<String>, Allo
     Ok(None)
 }
 
+/// A field of an instruction in words.
+fn words_of(sort: FieldSort) -> &'static str {
+    match sort {
+        FieldSort::Scalar | FieldSort::Collection | FieldSort::Kind => "the kind",
+        _ => "a number",
+    }
+}
+
 /// The field of an instruction.
 fn instruction_field(
     alloc: Global,
@@ -145,22 +93,17 @@ fn instruction_field(
     if way.meets(1) {
         return Ok(Some(format!(in alloc; "the opcode of instruction {index} of rule {rule}")?));
     }
-    let Some(fields) = fields_of(opcode) else {
+    let Some(row) = opcode_row(opcode) else {
         return Ok(None);
     };
-    let name = fields.name;
-    if fields.has_kind {
-        let kind = way.next();
-        if way.meets(1) || way.meets(kind_width(kind)) {
+    for sort in row.fields {
+        let first = way.next();
+        if way.meets(sort.width(first)) {
+            let (name, field) = (row.name, words_of(*sort));
             return Ok(Some(format!(in alloc;
-                "the kind of instruction {index} ({name}) of rule {rule}"
+                "{field} of instruction {index} ({name}) of rule {rule}"
             )?));
         }
-    }
-    if way.meets(fields.width) {
-        return Ok(Some(format!(in alloc;
-            "a number of instruction {index} ({name}) of rule {rule}"
-        )?));
     }
     Ok(None)
 }

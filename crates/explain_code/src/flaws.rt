@@ -55,7 +55,7 @@ pub fn explain_code_flaw(
     offset: usize,
 ) -> Result<(), AllocError> {
     let (path, bytes) = (input.path, input.bytes);
-    let number = flaw as u8;
+    let number = flaw.number();
     if looks_like_text(bytes) {
         writeln!(
             out,

@@ -1,7 +1,7 @@
 //! Kinds in words.
 
+use explain_names::{class_name, enumeration_name};
 use imkl_model::ClassModel;
-use model_names::{class_name, enumeration_name};
 use ocl_base::Stack;
 use ocl_kinds::{Kind, ScalarKind};
 use rule_verify::{Operands, Pattern};

@@ -1,6 +1,6 @@
 //! A unit in words: rule by rule, an instruction a line.
 
-use crate::instructions::{bodies_of, instruction_words, length_of};
+use crate::instructions::{bodies_of, instruction_words};
 use crate::seen::Seen;
 use crate::symbols::{symbol_words, text_of};
 use rule_code::{Instr, Symbol, Unit, Version};
@@ -116,7 +116,7 @@ fn list_code(
         close(out, &mut open, index)?;
         let line = instruction_line(alloc, unit, instruction, offset, open.len())?;
         write_line(out, line.as_str(), seen, index)?;
-        offset = offset.saturating_add(length_of(instruction));
+        offset = offset.saturating_add(instruction.encoded_len());
         if let Some(block) = open_block(instruction, index) {
             open.push(block)?;
         }

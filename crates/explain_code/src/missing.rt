@@ -1,9 +1,9 @@
 //! What a class model doesn't have that code names.
 
 use crate::symbols::text_of;
+use explain_names::{offer_classes, offer_enumerations, offer_features, offer_literals};
 use explain_notes::{Nearest, quote};
 use imkl_model::{ClassModel, ClassNo, EnumNo};
-use model_names::{offer_classes, offer_enumerations, offer_features, offer_literals};
 use rule_code::{Symbol, SymbolNumber};
 use rule_verify::Resolved;
 use std::alloc::{AllocError, Global};

@@ -64,7 +64,7 @@ fn write_place(
     refused: Refused,
     words: &str,
 ) -> Result<(), AllocError> {
-    let (path, number, at) = (input.path, refused.flaw as u8, refused.at);
+    let (path, number, at) = (input.path, refused.flaw.number(), refused.at);
     let name = text_of(unit, rule.name);
     match rule.code.get(at) {
         Some(instruction) => {

@@ -4,6 +4,7 @@ pub mod Bytes
 pub mod Codec
 pub mod Decided
 pub mod Fields
+pub mod FieldWidths
 pub mod Symbols
 pub mod KindFields
 pub mod Instructions

@@ -4,7 +4,8 @@ use Rattle.std.proofs.lemmas.List.{append-nil}
 use Rattle.rule_code.specs.declared.fault.FieldFault.{FieldFault}
 use Rattle.rule_code.specs.declared.fault.FieldFault.TheVariants as faults
 use Rattle.ocl_base.specs.Steps.{◌>>=◌, Fails}
-use Rattle.rule_code.specs.Reading.{FieldRead, field_fault_meaning, many_from}
+use Rattle.rule_code.specs.Readers.{field_fault_meaning}
+use Rattle.rule_code.specs.Reading.{FieldRead, many_from}
 
 -- what was read before, and what is still read
 abbrev pub with_front : {A : Type 0} → List A → FieldRead (List A) → FieldRead (List A)

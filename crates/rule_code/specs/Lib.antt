@@ -13,8 +13,10 @@ pub mod View
 pub mod Reading
 pub mod KindReading
 pub mod Opcodes
+pub mod FieldSorts
 pub mod Parts
 pub mod CodeFile
 pub mod Laws
 -- Bookkeeping: views, layouts, walks and tables that only proofs and private contracts use.
 pub mod Taken
+pub mod Readers

@@ -2,11 +2,9 @@
 use Rattle.std.specs.Prelude.{ℕ, zero, suc, List, [], ◌∷◌, ◌++◌, length, take, drop, Result, Ok, Err, nat_lt, if◌then◌else◌}
 use Rattle.std.specs.Int.{Width, w16, byte_len, from_be_bytes}
 use Rattle.std.specs.Str.{is_utf8}
-use Rattle.ocl_base.specs.Steps.{◌>>=◌, FaultMeaning, fault, out_of_memory, Gives}
+use Rattle.ocl_base.specs.Steps.{◌>>=◌}
 use Rattle.rule_code.specs.declared.fault.CodeFlaw.{CodeFlaw}
 use Rattle.rule_code.specs.declared.fault.CodeFlaw.TheVariants as flaws
-use Rattle.rule_code.specs.declared.fault.FieldFault.{FieldFault}
-use Rattle.rule_code.specs.declared.fault.FieldFault.TheVariants as faults
 use Rattle.rule_code.specs.declared.symbol.Symbol.{Symbol}
 use Rattle.rule_code.specs.declared.symbol.SymbolTag.{SymbolTag}
 use Rattle.rule_code.specs.SymbolTag.{is_symbol_of}
@@ -58,12 +56,3 @@ many_from item_from before (suc n) bytes = do
   first ← item_from before bytes
   others ← many_from item_from (before ++ first.0 ∷ []) n first.1
   Ok (first.0 ∷ others.0, others.1)
-
--- what a fault that a reader returned means
-abbrev pub field_fault_meaning : FieldFault → FaultMeaning Fault
-field_fault_meaning (faults.At flaw left) = fault (record { flaw = flaw; left = left })
-field_fault_meaning faults.OutOfMemory = out_of_memory
-
--- what a reader returned, seen by a view, is what reading gives, unless memory ran out
-abbrev pub Reads : {X Y : Type 0} → (X → Y) → Result X FieldFault → Result Y Fault → Type 0
-Reads view result given = Gives field_fault_meaning view result given

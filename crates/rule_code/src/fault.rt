@@ -30,6 +30,17 @@ pub enum CodeFlaw {
     Trailing = 8,
 }
 
+impl CodeFlaw {
+    ghost use Rattle.rule_code.specs.FaultNumber.{code_flaw_number};
+
+    /// The documented number of the flaw, 1 to 8.
+    pub fn number(self) -> u8
+        ensures { result ≡ code_flaw_number self }
+    {
+        self as u8
+    }
+}
+
 /// Why a code file was not read or written.
 #[derive(Debug, Drop, Error)]
 pub enum CodeFault {
@@ -49,7 +60,7 @@ impl CodeFault {
         ensures { result ≡ code_fault_number self.now }
     {
         match self {
-            CodeFault::At { flaw, .. } => *flaw as u8,
+            CodeFault::At { flaw, .. } => flaw.number(),
             CodeFault::OutOfMemory => 9,
         }
     }

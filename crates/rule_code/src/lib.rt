@@ -2,10 +2,12 @@
 #![tactic(auto)]
 
 mod fault;
+mod field_sort;
 mod instruction;
 mod kind;
 pub mod laws;
 mod limits;
+mod opcodes;
 mod reading;
 mod symbol;
 mod unit;
@@ -13,9 +15,11 @@ mod version;
 mod writing;
 
 pub use fault::{CodeFault, CodeFlaw};
+pub use field_sort::FieldSort;
 pub use instruction::Instr;
 pub use kind::{WrittenKind, WrittenScalar};
 pub use limits::{MAX_RULES, MAX_TEXT_BYTES};
+pub use opcodes::{OpcodeRow, opcode_row};
 pub use reading::read_unit;
 pub use symbol::{Symbol, SymbolNumber, SymbolTag, TextNumber};
 pub use unit::{Rule, Unit};

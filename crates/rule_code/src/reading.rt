@@ -2,7 +2,7 @@
 
 ghost use Rattle.std.specs.Prelude.{◌≡◌, ◌≢◌, List, Err, IfOk, IfErr, IsErr};
 ghost use Rattle.rule_code.specs.Content.{Content, content_of};
-ghost use Rattle.rule_code.specs.Reading.{Reads};
+ghost use Rattle.rule_code.specs.Readers.{Reads, ReadsOn};
 ghost use Rattle.rule_code.specs.CodeFile.{version_from, head_from, whole_from, AnswersDecided, HasNoTexts, decided_from, CodeAnswers, IsReadAs, IsFirstCodeFault};
 ghost use Rattle.rule_code.specs.Spelling.{spelling};
 ghost use Rattle.rule_code.specs.View.{content};
@@ -12,6 +12,7 @@ mod code;
 mod field;
 mod kinds;
 mod preamble;
+mod reader;
 mod rules;
 mod symbols;
 mod texts;
@@ -22,6 +23,7 @@ use crate::unit::{Rule, Unit};
 use crate::version::Version;
 use field::{u16_from, wrong};
 use preamble::Preamble;
+use reader::Reader;
 use rules::rules_from;
 use std::alloc::Global;
 use symbols::symbols_from;
@@ -29,28 +31,29 @@ use texts::texts_from;
 
 /// The version.
 #[tactic(auto, unfolding(crate::specs::CodeFile::version_from))]
-fn version_from(bytes: &[u8]) -> Result<(Version, &[u8]), FieldFault>
-    ensures gives { Reads (λ x. (x.0, x.1.now)) result (version_from bytes.now) }
+fn version_from(reader: &mut Reader<'_>) -> Result<Version, FieldFault>
+    ensures gives { ReadsOn (λ x. x) result reader.old reader.new version_from }
     ensures decided { IfErr result (λ e. e ≢ FieldFault.OutOfMemory) }
 {
-    let (number, rest) = u16_from(bytes)?;
-    match number {
-        1 => Ok((Version::One, rest)),
-        2 => Ok((Version::Two, rest)),
-        _ => Err(wrong(CodeFlaw::Version, bytes)),
+    let here = reader.left;
+    match u16_from(reader)? {
+        1 => Ok(Version::One),
+        2 => Ok(Version::Two),
+        _ => Err(wrong(CodeFlaw::Version, here)),
     }
 }
 
 /// The magic, then the version.
 #[tactic(auto, unfolding(crate::specs::CodeFile::head_from))]
-fn head_from(bytes: &[u8]) -> Result<(Version, &[u8]), FieldFault>
-    ensures gives { Reads (λ x. (x.0, x.1.now)) result (head_from bytes.now) }
+fn head_from(reader: &mut Reader<'_>) -> Result<Version, FieldFault>
+    ensures gives { ReadsOn (λ x. x) result reader.old reader.new head_from }
     ensures decided { IfErr result (λ e. e ≢ FieldFault.OutOfMemory) }
 {
-    let [b'O', b'C', b'L', b'B', rest @ ..] = bytes else {
-        return Err(wrong(CodeFlaw::Magic, bytes));
+    let [b'O', b'C', b'L', b'B', rest @ ..] = reader.left else {
+        return Err(wrong(CodeFlaw::Magic, reader.left));
     };
-    version_from(rest)
+    reader.left = rest;
+    version_from(reader)
 }
 
 type Parts = (Version, Vec<String>, Vec<Symbol>, Vec<Rule>);
@@ -64,17 +67,18 @@ fn whole(alloc: Global, bytes: &[u8]) -> Result<Parts, FieldFault>
     ensures without_texts { HasNoTexts bytes.now
         → IfErr result (λ e. e ≢ FieldFault.OutOfMemory) }
 {
-    let (version, rest) = head_from(bytes)?;
-    let (texts, rest) = texts_from(alloc, rest)?;
-    let (symbols, rest) = symbols_from(alloc, texts.len(), rest)?;
+    let mut reader = Reader { left: bytes };
+    let version = head_from(&mut reader)?;
+    let texts = texts_from(alloc, &mut reader)?;
+    let symbols = symbols_from(alloc, texts.len(), &mut reader)?;
     let preamble = Preamble {
         version,
         texts: &texts,
         symbols: &symbols,
     };
-    let (rules, rest) = rules_from(alloc, preamble, rest)?;
-    if !rest.is_empty() {
-        return Err(wrong(CodeFlaw::Trailing, rest));
+    let rules = rules_from(alloc, preamble, &mut reader)?;
+    if !reader.left.is_empty() {
+        return Err(wrong(CodeFlaw::Trailing, reader.left));
     }
     Ok((version, texts, symbols, rules))
 }

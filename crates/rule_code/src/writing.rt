@@ -53,71 +53,6 @@ fn put_symbol(out: &mut Vec<u8>, s: Symbol) -> Result<(), AllocError>
     }
 }
 
-/// The opcode of an instruction.
-fn opcode_of(i: Instr) -> u8
-    ensures { result ≡ (row_of i).opcode }
-{
-    match i {
-        Instr::SelfObject => 0x01,
-        Instr::Get(_) => 0x02,
-        Instr::Int(_) => 0x03,
-        Instr::Bool(_) => 0x04,
-        Instr::Text(_) => 0x05,
-        Instr::Enum(_) => 0x06,
-        Instr::Null => 0x07,
-        Instr::Invalid => 0x08,
-        Instr::Attr(_) => 0x09,
-        Instr::All(_) => 0x0a,
-        Instr::AsColl(_, _) => 0x0b,
-        Instr::KindOf(_) => 0x0c,
-        Instr::TypeOf(_) => 0x0d,
-        Instr::AsType(_) => 0x0e,
-        Instr::Add => 0x10,
-        Instr::Sub => 0x11,
-        Instr::Mul => 0x12,
-        Instr::Div => 0x13,
-        Instr::Mod => 0x14,
-        Instr::Neg => 0x15,
-        Instr::Abs => 0x16,
-        Instr::Min => 0x17,
-        Instr::Max => 0x18,
-        Instr::Lt => 0x19,
-        Instr::Le => 0x1a,
-        Instr::Gt => 0x1b,
-        Instr::Ge => 0x1c,
-        Instr::Not => 0x20,
-        Instr::And => 0x21,
-        Instr::Or => 0x22,
-        Instr::Xor => 0x23,
-        Instr::Implies => 0x24,
-        Instr::Eq(_) => 0x28,
-        Instr::Eqx => 0x29,
-        Instr::Undef => 0x2a,
-        Instr::IsInv => 0x2b,
-        Instr::TLen => 0x2c,
-        Instr::SubStr => 0x2d,
-        Instr::Size => 0x30,
-        Instr::IsEmpty => 0x31,
-        Instr::Includes(_) => 0x32,
-        Instr::Count(_) => 0x33,
-        Instr::IncAll(_) => 0x34,
-        Instr::ExcAll(_) => 0x35,
-        Instr::Sum => 0x36,
-        Instr::AsSet(_) => 0x37,
-        Instr::Let(_) => 0x40,
-        Instr::If(_, _, _) => 0x41,
-        Instr::ForAll(_) => 0x42,
-        Instr::Exists(_) => 0x43,
-        Instr::One(_) => 0x44,
-        Instr::Select(_) => 0x45,
-        Instr::Reject(_) => 0x46,
-        Instr::Collect(_) => 0x47,
-        Instr::CollectFlat(_) => 0x48,
-        Instr::IsUnique(_, _) => 0x49,
-        Instr::Fold(_, _) => 0x4a,
-    }
-}
-
 /// The low half of a kind's byte.
 fn scalar_number(k: WrittenScalar) -> u8
     ensures number { result ≡ scalar_number k }
@@ -218,7 +153,7 @@ fn put_fields(out: &mut Vec<u8>, i: Instr) -> Result<(), AllocError>
 fn put_instr(out: &mut Vec<u8>, i: Instr) -> Result<(), AllocError>
     ensures { OnOk result (out.new.items ≡ out.old.items ++ instr i) }
 {
-    out.push(opcode_of(i))?;
+    out.push(i.opcode())?;
     put_fields(out, i)
 }
 

@@ -2,15 +2,19 @@
 
 ghost use Rattle.std.specs.Prelude.{◌≡◌, ◌++◌, length, List, []};
 ghost use Rattle.std.specs.Option.{option_map};
-ghost use Rattle.rule_code.specs.Reading.{Reads, many_from};
+ghost use Rattle.rule_code.specs.Readers.{ReadsOn};
+ghost use Rattle.rule_code.specs.Reading.{many_from};
 ghost use Rattle.rule_code.specs.KindReading.{row_numbered};
 ghost use Rattle.rule_code.specs.Opcodes.{made, plain_opcodes, value_opcodes, operation_opcodes, block_opcodes, fold_opcodes, behind, instr_from};
 ghost use Rattle.rule_code.specs.Parts.{code_from};
 ghost use Rattle.rule_code.specs.Preamble.{preamble_of};
 
-use super::field::{bool_from, i64_from, symbol_number_from, text_number_from, u16_from, wrong};
+use super::field::{
+    bool_from, byte_from, i64_from, symbol_number_from, text_number_from, u16_from, wrong,
+};
 use super::kinds::{collection_kind_from, kind_from, single_kind_from};
 use super::preamble::Preamble;
+use super::reader::Reader;
 use crate::fault::{CodeFlaw, FieldFault};
 use crate::instruction::Instr;
 use crate::symbol::SymbolTag;
@@ -56,224 +60,153 @@ fn plain(opcode: u8) -> Option<Instr>
 }
 
 /// FOLD, which version 2 alone has.
-fn fold_from<'b>(
+fn fold_from(
     opcode: u8,
     preamble: Preamble,
-    here: &'b [u8],
-    rest: &'b [u8],
-) -> Result<(Instr, &'b [u8]), FieldFault>
-    ensures { Reads (λ x. (x.0, x.1.now)) result
+    here: &[u8],
+    reader: &mut Reader<'_>,
+) -> Result<Instr, FieldFault>
+    ensures { ReadsOn (λ x. x) result reader.old reader.new
         (behind (preamble_of preamble.entry)
-        (row_numbered (fold_opcodes preamble.entry.version) opcode) here.now rest.now) }
+        (row_numbered (fold_opcodes preamble.entry.version) opcode) here.now) }
 {
     if preamble.version != Version::Two || opcode != 0x4a {
         return Err(wrong(CodeFlaw::BadOpcode, here));
     }
-    let (kind, rest) = single_kind_from(preamble.symbols, rest)?;
-    let (body, rest) = u16_from(rest)?;
-    Ok((Instr::Fold(kind, body), rest))
+    let kind = single_kind_from(preamble.symbols, reader)?;
+    let body = u16_from(reader)?;
+    Ok(Instr::Fold(kind, body))
 }
 
 /// A block, with the lengths of its bodies.
-fn block_from<'b>(
+fn block_from(
     opcode: u8,
     preamble: Preamble,
-    here: &'b [u8],
-    rest: &'b [u8],
-) -> Result<(Instr, &'b [u8]), FieldFault>
-    ensures { Reads (λ x. (x.0, x.1.now)) result
-        (behind (preamble_of preamble.entry) (row_numbered (block_opcodes ++ fold_opcodes preamble.entry.version) opcode) here.now rest.now) }
+    here: &[u8],
+    reader: &mut Reader<'_>,
+) -> Result<Instr, FieldFault>
+    ensures { ReadsOn (λ x. x) result reader.old reader.new
+        (behind (preamble_of preamble.entry)
+        (row_numbered (block_opcodes ++ fold_opcodes preamble.entry.version) opcode) here.now) }
 {
     match opcode {
-        0x40 => {
-            let (body, rest) = u16_from(rest)?;
-            Ok((Instr::Let(body), rest))
-        }
+        0x40 => Ok(Instr::Let(u16_from(reader)?)),
         0x41 => {
-            let (kind, rest) = kind_from(preamble.symbols, rest)?;
-            let (first, rest) = u16_from(rest)?;
-            let (second, rest) = u16_from(rest)?;
-            Ok((Instr::If(kind, first, second), rest))
+            let kind = kind_from(preamble.symbols, reader)?;
+            let first = u16_from(reader)?;
+            let second = u16_from(reader)?;
+            Ok(Instr::If(kind, first, second))
         }
-        0x42 => {
-            let (body, rest) = u16_from(rest)?;
-            Ok((Instr::ForAll(body), rest))
-        }
-        0x43 => {
-            let (body, rest) = u16_from(rest)?;
-            Ok((Instr::Exists(body), rest))
-        }
-        0x44 => {
-            let (body, rest) = u16_from(rest)?;
-            Ok((Instr::One(body), rest))
-        }
-        0x45 => {
-            let (body, rest) = u16_from(rest)?;
-            Ok((Instr::Select(body), rest))
-        }
-        0x46 => {
-            let (body, rest) = u16_from(rest)?;
-            Ok((Instr::Reject(body), rest))
-        }
-        0x47 => {
-            let (body, rest) = u16_from(rest)?;
-            Ok((Instr::Collect(body), rest))
-        }
-        0x48 => {
-            let (body, rest) = u16_from(rest)?;
-            Ok((Instr::CollectFlat(body), rest))
-        }
+        0x42 => Ok(Instr::ForAll(u16_from(reader)?)),
+        0x43 => Ok(Instr::Exists(u16_from(reader)?)),
+        0x44 => Ok(Instr::One(u16_from(reader)?)),
+        0x45 => Ok(Instr::Select(u16_from(reader)?)),
+        0x46 => Ok(Instr::Reject(u16_from(reader)?)),
+        0x47 => Ok(Instr::Collect(u16_from(reader)?)),
+        0x48 => Ok(Instr::CollectFlat(u16_from(reader)?)),
         0x49 => {
-            let (kind, rest) = single_kind_from(preamble.symbols, rest)?;
-            let (body, rest) = u16_from(rest)?;
-            Ok((Instr::IsUnique(kind, body), rest))
+            let kind = single_kind_from(preamble.symbols, reader)?;
+            let body = u16_from(reader)?;
+            Ok(Instr::IsUnique(kind, body))
         }
-        _ => fold_from(opcode, preamble, here, rest),
+        _ => fold_from(opcode, preamble, here, reader),
     }
 }
 
 /// An operation on values of a written kind, or a block.
-fn operation_from<'b>(
+fn operation_from(
     opcode: u8,
     preamble: Preamble,
-    here: &'b [u8],
-    rest: &'b [u8],
-) -> Result<(Instr, &'b [u8]), FieldFault>
-    ensures { Reads (λ x. (x.0, x.1.now)) result
-        (behind (preamble_of preamble.entry) (row_numbered (operation_opcodes ++ block_opcodes ++ fold_opcodes preamble.entry.version) opcode)
-        here.now rest.now) }
+    here: &[u8],
+    reader: &mut Reader<'_>,
+) -> Result<Instr, FieldFault>
+    ensures { ReadsOn (λ x. x) result reader.old reader.new
+        (behind (preamble_of preamble.entry)
+        (row_numbered (operation_opcodes ++ block_opcodes ++ fold_opcodes preamble.entry.version)
+        opcode) here.now) }
 {
     match opcode {
-        0x28 => {
-            let (kind, rest) = kind_from(preamble.symbols, rest)?;
-            Ok((Instr::Eq(kind), rest))
-        }
-        0x32 => {
-            let (kind, rest) = single_kind_from(preamble.symbols, rest)?;
-            Ok((Instr::Includes(kind), rest))
-        }
-        0x33 => {
-            let (kind, rest) = single_kind_from(preamble.symbols, rest)?;
-            Ok((Instr::Count(kind), rest))
-        }
-        0x34 => {
-            let (kind, rest) = single_kind_from(preamble.symbols, rest)?;
-            Ok((Instr::IncAll(kind), rest))
-        }
-        0x35 => {
-            let (kind, rest) = single_kind_from(preamble.symbols, rest)?;
-            Ok((Instr::ExcAll(kind), rest))
-        }
-        0x37 => {
-            let (kind, rest) = single_kind_from(preamble.symbols, rest)?;
-            Ok((Instr::AsSet(kind), rest))
-        }
-        _ => block_from(opcode, preamble, here, rest),
+        0x28 => Ok(Instr::Eq(kind_from(preamble.symbols, reader)?)),
+        0x32 => Ok(Instr::Includes(single_kind_from(preamble.symbols, reader)?)),
+        0x33 => Ok(Instr::Count(single_kind_from(preamble.symbols, reader)?)),
+        0x34 => Ok(Instr::IncAll(single_kind_from(preamble.symbols, reader)?)),
+        0x35 => Ok(Instr::ExcAll(single_kind_from(preamble.symbols, reader)?)),
+        0x37 => Ok(Instr::AsSet(single_kind_from(preamble.symbols, reader)?)),
+        _ => block_from(opcode, preamble, here, reader),
     }
 }
 
 /// An instruction with fields.
-fn fields_from<'b>(
+fn fields_from(
     opcode: u8,
     preamble: Preamble,
-    here: &'b [u8],
-    rest: &'b [u8],
-) -> Result<(Instr, &'b [u8]), FieldFault>
-    ensures { Reads (λ x. (x.0, x.1.now)) result
+    here: &[u8],
+    reader: &mut Reader<'_>,
+) -> Result<Instr, FieldFault>
+    ensures { ReadsOn (λ x. x) result reader.old reader.new
         (behind (preamble_of preamble.entry)
-        (row_numbered (value_opcodes ++ operation_opcodes ++ block_opcodes ++ fold_opcodes preamble.entry.version) opcode)
-        here.now rest.now) }
+        (row_numbered (value_opcodes ++ operation_opcodes ++ block_opcodes ++
+        fold_opcodes preamble.entry.version) opcode) here.now) }
 {
     match opcode {
-        0x02 => {
-            let (variable, rest) = u16_from(rest)?;
-            Ok((Instr::Get(variable), rest))
-        }
-        0x03 => {
-            let (number, rest) = i64_from(rest)?;
-            Ok((Instr::Int(number), rest))
-        }
-        0x04 => {
-            let (value, rest) = bool_from(rest)?;
-            Ok((Instr::Bool(value), rest))
-        }
-        0x05 => {
-            let (text, rest) = text_number_from(preamble.texts.len(), rest)?;
-            Ok((Instr::Text(text), rest))
-        }
-        0x06 => {
-            let (literal, rest) = symbol_number_from(SymbolTag::Literal, preamble.symbols, rest)?;
-            Ok((Instr::Enum(literal), rest))
-        }
-        0x09 => {
-            let (feature, rest) = symbol_number_from(SymbolTag::Feature, preamble.symbols, rest)?;
-            Ok((Instr::Attr(feature), rest))
-        }
-        0x0a => {
-            let (class, rest) = symbol_number_from(SymbolTag::Class, preamble.symbols, rest)?;
-            Ok((Instr::All(class), rest))
-        }
+        0x02 => Ok(Instr::Get(u16_from(reader)?)),
+        0x03 => Ok(Instr::Int(i64_from(reader)?)),
+        0x04 => Ok(Instr::Bool(bool_from(reader)?)),
+        0x05 => Ok(Instr::Text(text_number_from(preamble.texts.len(), reader)?)),
+        0x06 => Ok(Instr::Enum(symbol_number_from(SymbolTag::Literal, preamble.symbols, reader)?)),
+        0x09 => Ok(Instr::Attr(symbol_number_from(SymbolTag::Feature, preamble.symbols, reader)?)),
+        0x0a => Ok(Instr::All(symbol_number_from(SymbolTag::Class, preamble.symbols, reader)?)),
         0x0b => {
-            let ((collection, element), rest) = collection_kind_from(preamble.symbols, rest)?;
-            Ok((Instr::AsColl(collection, element), rest))
+            let (collection, element) = collection_kind_from(preamble.symbols, reader)?;
+            Ok(Instr::AsColl(collection, element))
         }
-        0x0c => {
-            let (class, rest) = symbol_number_from(SymbolTag::Class, preamble.symbols, rest)?;
-            Ok((Instr::KindOf(class), rest))
-        }
-        0x0d => {
-            let (class, rest) = symbol_number_from(SymbolTag::Class, preamble.symbols, rest)?;
-            Ok((Instr::TypeOf(class), rest))
-        }
-        0x0e => {
-            let (class, rest) = symbol_number_from(SymbolTag::Class, preamble.symbols, rest)?;
-            Ok((Instr::AsType(class), rest))
-        }
-        _ => operation_from(opcode, preamble, here, rest),
+        0x0c => Ok(Instr::KindOf(symbol_number_from(SymbolTag::Class, preamble.symbols, reader)?)),
+        0x0d => Ok(Instr::TypeOf(symbol_number_from(SymbolTag::Class, preamble.symbols, reader)?)),
+        0x0e => Ok(Instr::AsType(symbol_number_from(SymbolTag::Class, preamble.symbols, reader)?)),
+        _ => operation_from(opcode, preamble, here, reader),
     }
 }
 
 #[tactic(auto, unfolding(crate::specs::Opcodes::instr_from))]
-fn instr_from<'b>(preamble: Preamble, bytes: &'b [u8]) -> Result<(Instr, &'b [u8]), FieldFault>
-    ensures { Reads (λ x. (x.0, x.1.now)) result (instr_from (preamble_of preamble.entry) bytes.now) }
+fn instr_from(preamble: Preamble, reader: &mut Reader<'_>) -> Result<Instr, FieldFault>
+    ensures { ReadsOn (λ x. x) result reader.old reader.new
+        (instr_from (preamble_of preamble.entry)) }
 {
-    let [opcode, rest @ ..] = bytes else {
-        return Err(wrong(CodeFlaw::Truncated, bytes));
-    };
-    match plain(*opcode) {
-        Some(instr) => Ok((instr, rest)),
-        None => fields_from(*opcode, preamble, bytes, rest),
+    let here = reader.left;
+    let opcode = byte_from(reader)?;
+    match plain(opcode) {
+        Some(instr) => Ok(instr),
+        None => fields_from(opcode, preamble, here, reader),
     }
 }
 
 #[tactic(auto, using(crate::proofs::Loop::begins))]
-fn many_instrs<'b>(
+fn many_instrs(
     alloc: Global,
     preamble: Preamble,
     count: u16,
-    bytes: &'b [u8],
-) -> Result<(Vec<Instr>, &'b [u8]), FieldFault>
-    ensures { Reads (λ x. (x.0.items, x.1.now)) result
-        (many_from (λ before. instr_from (preamble_of preamble.entry)) [] count bytes.now) }
+    reader: &mut Reader<'_>,
+) -> Result<Vec<Instr>, FieldFault>
+    ensures { ReadsOn (λ x. x.items) result reader.old reader.new
+        (many_from (λ before. instr_from (preamble_of preamble.entry)) [] count) }
 {
     let mut code = Vec::new(alloc);
-    let mut rest = bytes;
     for _ in 0..count {
-        let (instr, after) = instr_from(preamble, rest)?;
+        let instr = instr_from(preamble, reader)?;
         code.push(instr)?;
-        rest = after;
     }
-    Ok((code, rest))
+    Ok(code)
 }
 
 #[tactic(auto, unfolding(crate::specs::Parts::code_from))]
-pub(super) fn code_from<'b>(
+pub(super) fn code_from(
     alloc: Global,
     preamble: Preamble,
-    bytes: &'b [u8],
-) -> Result<(Vec<Instr>, &'b [u8]), FieldFault>
-    ensures { Reads (λ x. (x.0.items, x.1.now)) result (code_from (preamble_of preamble.entry) bytes.now) }
+    reader: &mut Reader<'_>,
+) -> Result<Vec<Instr>, FieldFault>
+    ensures { ReadsOn (λ x. x.items) result reader.old reader.new
+        (code_from (preamble_of preamble.entry)) }
 {
-    let (count, rest) = u16_from(bytes)?;
-    many_instrs(alloc, preamble, count, rest)
+    let count = u16_from(reader)?;
+    many_instrs(alloc, preamble, count, reader)
 }

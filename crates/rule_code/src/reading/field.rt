@@ -1,11 +1,13 @@
-//! The single fields of a code file, each read from the start of the bytes that are left.
+//! The single fields of a code file.
 
-ghost use Rattle.std.specs.Prelude.{◌≡◌, ◌≢◌, ◌<◌, length, IfOk, IfErr};
+ghost use Rattle.std.specs.Prelude.{◌≡◌, ◌≢◌, ◌<◌, [], ◌∷◌, length, IfOk, IfErr};
 ghost use Rattle.std.specs.Int.{w16, w64};
 ghost use Rattle.rule_code.specs.SymbolTag.{has_tag, is_symbol_of};
-ghost use Rattle.rule_code.specs.Reading.{Reads, number_from, count_from, text_number_from, symbol_number_from, text_bytes_from};
+ghost use Rattle.rule_code.specs.Readers.{ReadsOn};
+ghost use Rattle.rule_code.specs.Reading.{number_from, count_from, text_number_from, symbol_number_from, text_bytes_from};
 ghost use Rattle.rule_code.specs.Opcodes.{integer_from, boolean_from};
 
+use super::reader::Reader;
 use crate::fault::{CodeFlaw, FieldFault};
 use crate::symbol::{Symbol, SymbolNumber, SymbolTag, TextNumber};
 
@@ -19,83 +21,100 @@ pub(super) fn wrong(flaw: CodeFlaw, bytes: &[u8]) -> FieldFault
     }
 }
 
+/// The byte that comes next.
+pub(super) fn byte_from(reader: &mut Reader<'_>) -> Result<u8, FieldFault>
+    ensures byte { IfOk result (λ b. reader.old.left.now ≡ b ∷ reader.new.left.now) }
+    ensures none { IfErr result (λ e. reader.old.left.now ≡ []) }
+    ensures cut { IfErr result (λ e. e ≡ FieldFault.At CodeFlaw.Truncated 0) }
+{
+    let [byte, rest @ ..] = reader.left else {
+        return Err(wrong(CodeFlaw::Truncated, reader.left));
+    };
+    reader.left = rest;
+    Ok(*byte)
+}
+
 /// A number of two bytes.
-pub(super) fn u16_from(bytes: &[u8]) -> Result<(u16, &[u8]), FieldFault>
-    ensures gives { Reads (λ x. (x.0, x.1.now)) result (number_from w16 bytes.now) }
+pub(super) fn u16_from(reader: &mut Reader<'_>) -> Result<u16, FieldFault>
+    ensures gives { ReadsOn (λ x. x) result reader.old reader.new (number_from w16) }
     ensures decided { IfErr result (λ e. e ≢ FieldFault.OutOfMemory) }
 {
-    if bytes.len() < 2 {
-        return Err(wrong(CodeFlaw::Truncated, bytes));
+    let here = reader.left;
+    if here.len() < 2 {
+        return Err(wrong(CodeFlaw::Truncated, here));
     }
-    let (head, rest) = bytes.split_at(2);
-    let number = u16::from_be_bytes([head[0], head[1]]);
-    Ok((number, rest))
+    let (number, rest) = here.split_at(2);
+    reader.left = rest;
+    Ok(u16::from_be_bytes([number[0], number[1]]))
 }
 
 /// A number of eight bytes.
-fn u64_from(bytes: &[u8]) -> Result<(u64, &[u8]), FieldFault>
-    ensures { Reads (λ x. (x.0, x.1.now)) result (number_from w64 bytes.now) }
+fn u64_from(reader: &mut Reader<'_>) -> Result<u64, FieldFault>
+    ensures { ReadsOn (λ x. x) result reader.old reader.new (number_from w64) }
 {
-    if bytes.len() < 8 {
-        return Err(wrong(CodeFlaw::Truncated, bytes));
+    let here = reader.left;
+    if here.len() < 8 {
+        return Err(wrong(CodeFlaw::Truncated, here));
     }
-    let (head, rest) = bytes.split_at(8);
-    let number = u64::from_be_bytes([
-        head[0], head[1], head[2], head[3], head[4], head[5], head[6], head[7],
-    ]);
-    Ok((number, rest))
+    let (number, rest) = here.split_at(8);
+    reader.left = rest;
+    Ok(u64::from_be_bytes([
+        number[0], number[1], number[2], number[3], number[4], number[5], number[6], number[7],
+    ]))
 }
 
 /// An Integer, in eight bytes.
 #[tactic(auto, unfolding(crate::specs::Opcodes::integer_from))]
-pub(super) fn i64_from(bytes: &[u8]) -> Result<(i64, &[u8]), FieldFault>
-    ensures { Reads (λ x. (x.0, x.1.now)) result (integer_from bytes.now) }
+pub(super) fn i64_from(reader: &mut Reader<'_>) -> Result<i64, FieldFault>
+    ensures { ReadsOn (λ x. x) result reader.old reader.new integer_from }
 {
-    let (number, rest) = u64_from(bytes)?;
-    Ok((number.cast_signed(), rest))
+    let number = u64_from(reader)?;
+    Ok(number.cast_signed())
 }
 
 /// A Boolean: a byte 0 or 1.
 #[tactic(auto, unfolding(crate::specs::Opcodes::boolean_from))]
-pub(super) fn bool_from(bytes: &[u8]) -> Result<(bool, &[u8]), FieldFault>
-    ensures { Reads (λ x. (x.0, x.1.now)) result (boolean_from bytes.now) }
+pub(super) fn bool_from(reader: &mut Reader<'_>) -> Result<bool, FieldFault>
+    ensures { ReadsOn (λ x. x) result reader.old reader.new boolean_from }
 {
-    match bytes {
-        [] => Err(wrong(CodeFlaw::Truncated, bytes)),
-        [0, rest @ ..] => Ok((false, rest)),
-        [1, rest @ ..] => Ok((true, rest)),
-        [_, ..] => Err(wrong(CodeFlaw::BadNumber, bytes)),
+    let here = reader.left;
+    match byte_from(reader)? {
+        0 => Ok(false),
+        1 => Ok(true),
+        _ => Err(wrong(CodeFlaw::BadNumber, here)),
     }
 }
 
 /// How many there are, at most `limit`.
 #[tactic(auto, unfolding(crate::specs::Reading::count_from))]
-pub(super) fn count_from(limit: u16, bytes: &[u8]) -> Result<(u16, &[u8]), FieldFault>
-    ensures gives { Reads (λ x. (x.0, x.1.now)) result (count_from limit bytes.now) }
+pub(super) fn count_from(limit: u16, reader: &mut Reader<'_>) -> Result<u16, FieldFault>
+    ensures gives { ReadsOn (λ x. x) result reader.old reader.new (count_from limit) }
     ensures decided { IfErr result (λ e. e ≢ FieldFault.OutOfMemory) }
 {
-    let (count, rest) = u16_from(bytes)?;
+    let here = reader.left;
+    let count = u16_from(reader)?;
     if limit < count {
-        return Err(wrong(CodeFlaw::Limit, bytes));
+        return Err(wrong(CodeFlaw::Limit, here));
     }
-    Ok((count, rest))
+    Ok(count)
 }
 
 /// The number of a text, of which there are `texts`.
 #[tactic(auto, unfolding(crate::specs::Reading::text_number_from))]
 pub(super) fn text_number_from(
     texts: usize,
-    bytes: &[u8],
-) -> Result<(TextNumber, &[u8]), FieldFault>
-    ensures gives { Reads (λ x. (x.0.0, x.1.now)) result (text_number_from texts bytes.now) }
-    ensures in_range { IfOk result (λ x. x.0.0 < texts) }
+    reader: &mut Reader<'_>,
+) -> Result<TextNumber, FieldFault>
+    ensures gives { ReadsOn (λ x. x.0) result reader.old reader.new (text_number_from texts) }
+    ensures in_range { IfOk result (λ x. x.0 < texts) }
     ensures decided { IfErr result (λ e. e ≢ FieldFault.OutOfMemory) }
 {
-    let (number, rest) = u16_from(bytes)?;
+    let here = reader.left;
+    let number = u16_from(reader)?;
     if usize::from(number) < texts {
-        Ok((TextNumber(number), rest))
+        Ok(TextNumber(number))
     } else {
-        Err(wrong(CodeFlaw::BadNumber, bytes))
+        Err(wrong(CodeFlaw::BadNumber, here))
     }
 }
 
@@ -118,33 +137,39 @@ fn is_symbol_of(tag: SymbolTag, symbols: &[Symbol], number: u16) -> bool
 
 /// The number of a symbol with this tag.
 #[tactic(auto, unfolding(crate::specs::Reading::symbol_number_from))]
-pub(super) fn symbol_number_from<'b>(
+pub(super) fn symbol_number_from(
     tag: SymbolTag,
     symbols: &[Symbol],
-    bytes: &'b [u8],
-) -> Result<(SymbolNumber, &'b [u8]), FieldFault>
-    ensures { Reads (λ x. (x.0.0, x.1.now)) result (symbol_number_from tag symbols.now bytes.now) }
+    reader: &mut Reader<'_>,
+) -> Result<SymbolNumber, FieldFault>
+    ensures { ReadsOn (λ x. x.0) result reader.old reader.new (symbol_number_from tag symbols.now) }
 {
-    let (number, rest) = u16_from(bytes)?;
+    let here = reader.left;
+    let number = u16_from(reader)?;
     if is_symbol_of(tag, symbols, number) {
-        Ok((SymbolNumber(number), rest))
+        Ok(SymbolNumber(number))
     } else {
-        Err(wrong(CodeFlaw::BadNumber, bytes))
+        Err(wrong(CodeFlaw::BadNumber, here))
     }
 }
 
 /// A text of `len` bytes.
 #[tactic(auto, unfolding(crate::specs::Reading::text_bytes_from))]
-pub(super) fn text_bytes_from(len: usize, bytes: &[u8]) -> Result<(&str, &[u8]), FieldFault>
-    ensures gives { Reads (λ x. (x.0.now, x.1.now)) result (text_bytes_from len bytes.now) }
+pub(super) fn text_bytes_from<'a>(
+    len: usize,
+    reader: &mut Reader<'a>,
+) -> Result<&'a str, FieldFault>
+    ensures gives { ReadsOn (λ x. x.now) result reader.old reader.new (text_bytes_from len) }
     ensures decided { IfErr result (λ e. e ≢ FieldFault.OutOfMemory) }
 {
-    if bytes.len() < len {
-        return Err(wrong(CodeFlaw::Truncated, bytes));
+    let here = reader.left;
+    if here.len() < len {
+        return Err(wrong(CodeFlaw::Truncated, here));
     }
-    let (head, rest) = bytes.split_at(len);
-    match str::from_utf8(head) {
-        Ok(text) => Ok((text, rest)),
-        Err(_) => Err(wrong(CodeFlaw::BadText, bytes)),
+    let (text, rest) = here.split_at(len);
+    reader.left = rest;
+    match str::from_utf8(text) {
+        Ok(text) => Ok(text),
+        Err(_) => Err(wrong(CodeFlaw::BadText, here)),
     }
 }

@@ -1,39 +1,40 @@
 //! Reading the kinds of a code file.
 
 ghost use Rattle.std.specs.Prelude.{◌≡◌};
-ghost use Rattle.rule_code.specs.Reading.{Reads};
+ghost use Rattle.rule_code.specs.Readers.{ReadsOn};
 ghost use Rattle.rule_code.specs.KindReading.{collection_sorts, row_numbered, element_from, single_kind_from, collection_kind_from, kind_from};
 
-use super::field::{symbol_number_from, wrong};
+use super::field::{byte_from, symbol_number_from, wrong};
+use super::reader::Reader;
 use crate::fault::{CodeFlaw, FieldFault};
 use crate::kind::{WrittenKind, WrittenScalar};
 use crate::symbol::{Symbol, SymbolTag};
 use ocl_base::CollectionKind;
 
 /// The kind of a single value by its number, where its byte stands here.
-fn element_from<'b>(
+fn element_from(
     symbols: &[Symbol],
     number: u8,
-    here: &'b [u8],
-    rest: &'b [u8],
-) -> Result<(WrittenScalar, &'b [u8]), FieldFault>
-    ensures { Reads (λ x. (x.0, x.1.now)) result
-        (element_from symbols.now number here.now rest.now) }
+    here: &[u8],
+    reader: &mut Reader<'_>,
+) -> Result<WrittenScalar, FieldFault>
+    ensures { ReadsOn (λ x. x) result reader.old reader.new
+        (element_from symbols.now number here.now) }
 {
     match number {
-        0 => Ok((WrittenScalar::Void, rest)),
-        1 => Ok((WrittenScalar::Boolean, rest)),
-        2 => Ok((WrittenScalar::Integer, rest)),
-        3 => Ok((WrittenScalar::String, rest)),
+        0 => Ok(WrittenScalar::Void),
+        1 => Ok(WrittenScalar::Boolean),
+        2 => Ok(WrittenScalar::Integer),
+        3 => Ok(WrittenScalar::String),
         4 => {
-            let (symbol, rest) = symbol_number_from(SymbolTag::Enumeration, symbols, rest)?;
-            Ok((WrittenScalar::Enumeration(symbol), rest))
+            let symbol = symbol_number_from(SymbolTag::Enumeration, symbols, reader)?;
+            Ok(WrittenScalar::Enumeration(symbol))
         }
         5 => {
-            let (symbol, rest) = symbol_number_from(SymbolTag::Class, symbols, rest)?;
-            Ok((WrittenScalar::Class(symbol), rest))
+            let symbol = symbol_number_from(SymbolTag::Class, symbols, reader)?;
+            Ok(WrittenScalar::Class(symbol))
         }
-        6 => Ok((WrittenScalar::AnyObject, rest)),
+        6 => Ok(WrittenScalar::AnyObject),
         _ => Err(wrong(CodeFlaw::BadNumber, here)),
     }
 }
@@ -53,52 +54,50 @@ fn collection_of(number: u8) -> Option<CollectionKind>
 
 /// The kind of a single value.
 #[tactic(auto, unfolding(crate::specs::KindReading::single_kind_from))]
-pub(super) fn single_kind_from<'b>(
+pub(super) fn single_kind_from(
     symbols: &[Symbol],
-    bytes: &'b [u8],
-) -> Result<(WrittenScalar, &'b [u8]), FieldFault>
-    ensures { Reads (λ x. (x.0, x.1.now)) result (single_kind_from symbols.now bytes.now) }
+    reader: &mut Reader<'_>,
+) -> Result<WrittenScalar, FieldFault>
+    ensures { ReadsOn (λ x. x) result reader.old reader.new (single_kind_from symbols.now) }
 {
-    match bytes {
-        [] => Err(wrong(CodeFlaw::Truncated, bytes)),
-        [byte, rest @ ..] => element_from(symbols, *byte, bytes, rest),
-    }
+    let here = reader.left;
+    let byte = byte_from(reader)?;
+    element_from(symbols, byte, here, reader)
 }
 
 /// The kind of a collection.
 #[tactic(auto, unfolding(crate::specs::KindReading::collection_kind_from))]
-pub(super) fn collection_kind_from<'b>(
+pub(super) fn collection_kind_from(
     symbols: &[Symbol],
-    bytes: &'b [u8],
-) -> Result<((CollectionKind, WrittenScalar), &'b [u8]), FieldFault>
-    ensures { Reads (λ x. (x.0, x.1.now)) result (collection_kind_from symbols.now bytes.now) }
+    reader: &mut Reader<'_>,
+) -> Result<(CollectionKind, WrittenScalar), FieldFault>
+    ensures { ReadsOn (λ x. x) result reader.old reader.new (collection_kind_from symbols.now) }
 {
-    let [byte, rest @ ..] = bytes else {
-        return Err(wrong(CodeFlaw::Truncated, bytes));
+    let here = reader.left;
+    let byte = byte_from(reader)?;
+    let Some(collection) = collection_of(byte / 16) else {
+        return Err(wrong(CodeFlaw::BadNumber, here));
     };
-    let Some(collection) = collection_of(*byte / 16) else {
-        return Err(wrong(CodeFlaw::BadNumber, bytes));
-    };
-    let (element, rest) = element_from(symbols, *byte % 16, bytes, rest)?;
-    Ok(((collection, element), rest))
+    let element = element_from(symbols, byte % 16, here, reader)?;
+    Ok((collection, element))
 }
 
 /// A kind, of a single value or of a collection.
 #[tactic(auto, unfolding(crate::specs::KindReading::kind_from))]
-pub(super) fn kind_from<'b>(
+pub(super) fn kind_from(
     symbols: &[Symbol],
-    bytes: &'b [u8],
-) -> Result<(WrittenKind, &'b [u8]), FieldFault>
-    ensures { Reads (λ x. (x.0, x.1.now)) result (kind_from symbols.now bytes.now) }
+    reader: &mut Reader<'_>,
+) -> Result<WrittenKind, FieldFault>
+    ensures { ReadsOn (λ x. x) result reader.old reader.new (kind_from symbols.now) }
 {
-    let [byte, ..] = bytes else {
-        return Err(wrong(CodeFlaw::Truncated, bytes));
+    let [byte, ..] = reader.left else {
+        return Err(wrong(CodeFlaw::Truncated, reader.left));
     };
     if *byte < 16 {
-        let (element, rest) = single_kind_from(symbols, bytes)?;
-        Ok((WrittenKind::Scalar(element), rest))
+        let element = single_kind_from(symbols, reader)?;
+        Ok(WrittenKind::Scalar(element))
     } else {
-        let ((collection, element), rest) = collection_kind_from(symbols, bytes)?;
-        Ok((WrittenKind::Collection(collection, element), rest))
+        let (collection, element) = collection_kind_from(symbols, reader)?;
+        Ok(WrittenKind::Collection(collection, element))
     }
 }

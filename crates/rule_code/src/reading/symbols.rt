@@ -1,50 +1,47 @@
 //! Reading the symbols of a code file.
 
 ghost use Rattle.std.specs.Prelude.{◌≡◌, ◌≢◌, ◌<◌, List, [], IfOk, IfErr};
-ghost use Rattle.rule_code.specs.Reading.{Reads, many_from};
+ghost use Rattle.rule_code.specs.Readers.{ReadsOn};
+ghost use Rattle.rule_code.specs.Reading.{many_from};
 ghost use Rattle.rule_code.specs.Parts.{symbol_from};
 ghost use Rattle.rule_code.specs.CodeFile.{symbols_from};
 
-use super::field::{text_number_from, u16_from, wrong};
+use super::field::{byte_from, text_number_from, u16_from, wrong};
+use super::reader::Reader;
 use crate::fault::{CodeFlaw, FieldFault};
 use crate::symbol::Symbol;
 use std::alloc::Global;
 
 #[tactic(auto, unfolding(crate::specs::Parts::symbol_from))]
-fn symbol_from(texts: usize, bytes: &[u8]) -> Result<(Symbol, &[u8]), FieldFault>
-    ensures gives { Reads (λ x. (x.0, x.1.now)) result (symbol_from texts bytes.now) }
+fn symbol_from(texts: usize, reader: &mut Reader<'_>) -> Result<Symbol, FieldFault>
+    ensures gives { ReadsOn (λ x. x) result reader.old reader.new (symbol_from texts) }
     ensures named { IfOk result (λ x. 0 < texts) }
     ensures decided { IfErr result (λ e. e ≢ FieldFault.OutOfMemory) }
 {
-    let [tag, rest @ ..] = bytes else {
-        return Err(wrong(CodeFlaw::Truncated, bytes));
-    };
-    match *tag {
+    let here = reader.left;
+    match byte_from(reader)? {
         1 => {
-            let (class, rest) = text_number_from(texts, rest)?;
-            Ok((Symbol::Class(class), rest))
+            let class = text_number_from(texts, reader)?;
+            Ok(Symbol::Class(class))
         }
         2 => {
-            let (enumeration, rest) = text_number_from(texts, rest)?;
-            Ok((Symbol::Enumeration(enumeration), rest))
+            let enumeration = text_number_from(texts, reader)?;
+            Ok(Symbol::Enumeration(enumeration))
         }
         3 => {
-            let (class, rest) = text_number_from(texts, rest)?;
-            let (feature, rest) = text_number_from(texts, rest)?;
-            Ok((Symbol::Feature { class, feature }, rest))
+            let class = text_number_from(texts, reader)?;
+            let feature = text_number_from(texts, reader)?;
+            Ok(Symbol::Feature { class, feature })
         }
         4 => {
-            let (enumeration, rest) = text_number_from(texts, rest)?;
-            let (literal, rest) = text_number_from(texts, rest)?;
-            Ok((
-                Symbol::Literal {
-                    enumeration,
-                    literal,
-                },
-                rest,
-            ))
+            let enumeration = text_number_from(texts, reader)?;
+            let literal = text_number_from(texts, reader)?;
+            Ok(Symbol::Literal {
+                enumeration,
+                literal,
+            })
         }
-        _ => Err(wrong(CodeFlaw::BadNumber, bytes)),
+        _ => Err(wrong(CodeFlaw::BadNumber, here)),
     }
 }
 
@@ -53,32 +50,30 @@ fn many_symbols(
     alloc: Global,
     texts: usize,
     count: u16,
-    bytes: &[u8],
-) -> Result<(Vec<Symbol>, &[u8]), FieldFault>
-    ensures gives { Reads (λ x. (x.0.items, x.1.now)) result
-        (many_from (λ before. symbol_from texts) [] count bytes.now) }
+    reader: &mut Reader<'_>,
+) -> Result<Vec<Symbol>, FieldFault>
+    ensures gives { ReadsOn (λ x. x.items) result reader.old reader.new
+        (many_from (λ before. symbol_from texts) [] count) }
     ensures without_texts { texts ≡ 0 → IfErr result (λ e. e ≢ FieldFault.OutOfMemory) }
 {
     let mut symbols = Vec::new(alloc);
-    let mut rest = bytes;
     for _ in 0..count {
-        let (symbol, after) = symbol_from(texts, rest)?;
+        let symbol = symbol_from(texts, reader)?;
         symbols.push(symbol)?;
-        rest = after;
     }
-    Ok((symbols, rest))
+    Ok(symbols)
 }
 
 #[tactic(auto, unfolding(crate::specs::CodeFile::symbols_from))]
 pub(super) fn symbols_from(
     alloc: Global,
     texts: usize,
-    bytes: &[u8],
-) -> Result<(Vec<Symbol>, &[u8]), FieldFault>
-    ensures gives { Reads (λ x. (x.0.items, x.1.now)) result (symbols_from texts bytes.now) }
+    reader: &mut Reader<'_>,
+) -> Result<Vec<Symbol>, FieldFault>
+    ensures gives { ReadsOn (λ x. x.items) result reader.old reader.new (symbols_from texts) }
     // Without texts no symbol can be named, and nothing is allocated.
     ensures without_texts { texts ≡ 0 → IfErr result (λ e. e ≢ FieldFault.OutOfMemory) }
 {
-    let (count, rest) = u16_from(bytes)?;
-    many_symbols(alloc, texts, count, rest)
+    let count = u16_from(reader)?;
+    many_symbols(alloc, texts, count, reader)
 }

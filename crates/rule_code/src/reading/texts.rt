@@ -2,54 +2,54 @@
 
 ghost use Rattle.std.specs.Prelude.{◌≡◌, ◌≢◌, List, ℕ, [], Ok, map, string_bytes, IfErr, IsErr};
 ghost use Rattle.std.specs.Int.{w16};
-ghost use Rattle.rule_code.specs.Reading.{Reads, number_from, many_from};
+ghost use Rattle.rule_code.specs.Readers.{ReadsOn};
+ghost use Rattle.rule_code.specs.Reading.{number_from, many_from};
 ghost use Rattle.rule_code.specs.Parts.{text_from};
 ghost use Rattle.rule_code.specs.CodeFile.{texts_from, first_of, first_text_from};
 
 use super::field::{count_from, text_bytes_from, u16_from};
+use super::reader::Reader;
 use crate::fault::FieldFault;
 use crate::limits::MAX_TEXT_BYTES;
 use std::alloc::Global;
 
 #[tactic(auto, unfolding(crate::specs::Parts::text_from))]
-fn text_from(alloc: Global, bytes: &[u8]) -> Result<(String, &[u8]), FieldFault>
-    ensures gives { Reads (λ x. (string_bytes x.0, x.1.now)) result (text_from bytes.now) }
-    ensures decided { IsErr (text_from bytes.now)
+fn text_from(alloc: Global, reader: &mut Reader<'_>) -> Result<String, FieldFault>
+    ensures gives { ReadsOn (λ x. string_bytes x) result reader.old reader.new text_from }
+    ensures decided { IsErr (text_from reader.old.left.now)
         → IfErr result (λ e. e ≢ FieldFault.OutOfMemory) }
 {
-    let (len, rest) = count_from(MAX_TEXT_BYTES, bytes)?;
-    let (text, after) = text_bytes_from(usize::from(len), rest)?;
-    Ok((String::from_str(alloc, text)?, after))
+    let len = count_from(MAX_TEXT_BYTES, reader)?;
+    let text = text_bytes_from(usize::from(len), reader)?;
+    Ok(String::from_str(alloc, text)?)
 }
 
 #[tactic(auto, using(crate::proofs::Loop::begins))]
-fn many_texts(alloc: Global, count: u16, bytes: &[u8]) -> Result<(Vec<String>, &[u8]), FieldFault>
-    ensures gives { Reads (λ x. (map string_bytes x.0.items, x.1.now)) result
-        (many_from (λ before. text_from) [] count bytes.now) }
-    ensures first { IsErr (first_of count bytes.now)
+fn many_texts(alloc: Global, count: u16, reader: &mut Reader<'_>) -> Result<Vec<String>, FieldFault>
+    ensures gives { ReadsOn (λ x. map string_bytes x.items) result reader.old reader.new
+        (many_from (λ before. text_from) [] count) }
+    ensures first { IsErr (first_of count reader.old.left.now)
         → IfErr result (λ e. e ≢ FieldFault.OutOfMemory) }
     ensures none { count ≡ 0 → IfErr result (λ e. e ≢ FieldFault.OutOfMemory) }
 {
     let mut texts = Vec::new(alloc);
-    let mut rest = bytes;
     for _ in 0..count {
-        let (text, after) = text_from(alloc, rest)?;
+        let text = text_from(alloc, reader)?;
         texts.push(text)?;
-        rest = after;
     }
-    Ok((texts, rest))
+    Ok(texts)
 }
 
 #[tactic(auto, unfolding(crate::specs::CodeFile::texts_from, crate::specs::CodeFile::first_text_from))]
-pub(super) fn texts_from(alloc: Global, bytes: &[u8]) -> Result<(Vec<String>, &[u8]), FieldFault>
-    ensures gives { Reads (λ x. (map string_bytes x.0.items, x.1.now)) result
-        (texts_from bytes.now) }
+pub(super) fn texts_from(alloc: Global, reader: &mut Reader<'_>) -> Result<Vec<String>, FieldFault>
+    ensures gives { ReadsOn (λ x. map string_bytes x.items) result reader.old reader.new
+        texts_from }
     // Up to the first text nothing is allocated, and without texts nothing at all.
-    ensures first { IsErr (first_text_from bytes.now)
+    ensures first { IsErr (first_text_from reader.old.left.now)
         → IfErr result (λ e. e ≢ FieldFault.OutOfMemory) }
-    ensures none { (after : List ℕ) → number_from w16 bytes.now ≡ Ok (0, after)
+    ensures none { (after : List ℕ) → number_from w16 reader.old.left.now ≡ Ok (0, after)
         → IfErr result (λ e. e ≢ FieldFault.OutOfMemory) }
 {
-    let (count, rest) = u16_from(bytes)?;
-    many_texts(alloc, count, rest)
+    let count = u16_from(reader)?;
+    many_texts(alloc, count, reader)
 }

@@ -4,4 +4,4 @@ use Rattle.rule_code.proofs.Loop.{HasRead}
 use Rattle.rule_code.proofs.reading.code.many_instrs.Given as goal
 
 abbrev pub invariant-loop : goal.invariant-loop
-invariant-loop l = HasRead (λ before. instr_from (preamble_of l.preamble)) l.count l.bytes l.counter l.code.items l.rest
+invariant-loop l = HasRead (λ before. instr_from (preamble_of l.preamble)) l.count l.initial.reader.left.now l.counter l.code.items l.reader.left.now

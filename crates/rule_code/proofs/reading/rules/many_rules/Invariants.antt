@@ -10,6 +10,6 @@ use Rattle.rule_code.proofs.reading.rules.many_rules.Given as goal
 
 abbrev pub invariant-loop : goal.invariant-loop
 invariant-loop l = record {
-  read : HasRead (next_rule_from (preamble_of l.preamble)) l.count l.bytes l.counter (map rule_content l.rules.items) l.rest;
+  read : HasRead (next_rule_from (preamble_of l.preamble)) l.count l.initial.reader.left.now l.counter (map rule_content l.rules.items) l.reader.left.now;
   known : is_name_taken l.taken ≡ is_among bytes_eq (names_of (preamble_of l.preamble).texts (map rule_content l.rules.items));
 }

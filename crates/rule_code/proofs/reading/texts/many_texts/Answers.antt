@@ -10,16 +10,16 @@ use Rattle.rule_code.proofs.reading.texts.many_texts.Goals as goal
 pub returns-in_err-text-clause-gives : goal.returns-in_err-text-clause-gives
 returns-in_err-text-clause-gives c =
     let p = err_from_is_err_and c.from_residual.result c.from_residual.ensures.1 in
-    rw (p.1, p.2) (ends (λ before. text_from) c.args.count c.args.bytes.now c.loop.counter (map string_bytes c.loop.texts.items) c.loop.rest.now c.in_err-text.field-0.0 c.loop-test.true c.in_err-text.ensures.gives c.loop.invariant.read)
+    rw (p.1, p.2) (ends (λ before. text_from) c.args.count c.args.reader.now.left.now c.loop.counter (map string_bytes c.loop.texts.items) c.loop.reader.left.now c.in_err-text.field-0.0 c.loop-test.true c.in_err-text.ensures.gives c.loop.invariant.read)
 
 pub loop-preserved : goal.loop-preserved
 loop-preserved c =
     let pushed : map string_bytes c.push.new.self.items ≡ map string_bytes c.loop.texts.items ++ string_bytes c.in_ok-text.text ∷ [] = rw c.in_ok-push.ensures.items (map_push _ c.loop.texts.items c.in_ok-text.text) in
     rw pushed (record {
-      read = goes_on (λ before. text_from) c.args.count c.args.bytes.now c.loop.counter (map string_bytes c.loop.texts.items) c.loop.rest.now (string_bytes c.in_ok-text.text) c.in_ok-text.after.now c.loop-test.true c.in_ok-text.ensures.gives c.loop.invariant.read;
+      read = goes_on (λ before. text_from) c.args.count c.args.reader.now.left.now c.loop.counter (map string_bytes c.loop.texts.items) c.loop.reader.left.now (string_bytes c.in_ok-text.text) c.text_from.new.reader.left.now c.loop-test.true c.in_ok-text.ensures.gives c.loop.invariant.read;
       start = λ e. absurd (omega arith);
-      first = λ h. absurd (first_is_read c.args.count c.args.bytes.now (string_bytes c.in_ok-text.text, c.in_ok-text.after.now) (ap text_from (sym (c.loop.invariant.start (c.loop.invariant.first h))) ∙ c.in_ok-text.ensures.gives) h);
+      first = λ h. absurd (first_is_read c.args.count c.args.reader.now.left.now (string_bytes c.in_ok-text.text, c.text_from.new.reader.left.now) (ap text_from (sym (c.loop.invariant.start (c.loop.invariant.first h))) ∙ c.in_ok-text.ensures.gives) h);
     })
 
 pub returns-clause-gives : goal.returns-clause-gives
-returns-clause-gives c = is_done (λ before. text_from) c.args.count c.args.bytes.now c.loop.counter (map string_bytes c.loop.texts.items) c.loop.rest.now c.loop-test.false c.loop.invariant.read
+returns-clause-gives c = is_done (λ before. text_from) c.args.count c.args.reader.now.left.now c.loop.counter (map string_bytes c.loop.texts.items) c.loop.reader.left.now c.loop-test.false c.loop.invariant.read
