@@ -14,8 +14,10 @@ use Rattle.ocl_text.specs.declared.tree.PrefixOperator.TheVariants as pre
 use Rattle.ocl_tokens.specs.Terminals.{Terminal}
 use Rattle.ocl_text.specs.Tree as t
 use Rattle.ocl_text.specs.Tree.{TypeTree, VariableTree, Variables, Unnamed, Single, Pair, Bound, Rule, SurfaceTree, Name, Keyword, EnumerationLiteral, Prefix, Binary, Property, Call, Iterate, lets_at, If, trees_of, binding, fold_with}
+use Rattle.ocl_text.specs.declared.cursor.VariableLimit.{VariableLimit}
+use Rattle.ocl_text.specs.declared.cursor.VariableLimit.TheVariants.{OneVariable, TwoVariables}
 use Rattle.ocl_text.specs.Grammar as g
-use Rattle.ocl_text.specs.Grammar.{top, token, Ends, next_is, Next, NotNext, steps_on, opens, closes, separates, keyword_of, begins_variable, iterator_of, is_fold_name, takes_two, IsExpr, IsBind, IsBinds, MoreBinds, IsUnary, IsPrim, IsLevel, GoesOn, IsSteps, IsArguments, IsItems, MoreItems, IsIteration, IsFold, IsType, IsVariable, declares, begins_invariant, IsInvariant, IsInvariants, MoreInvariants, IsContexts}
+use Rattle.ocl_text.specs.Grammar.{top, token, Ends, next_is, Next, NotNext, steps_on, opens, closes, separates, keyword_of, begins_variable, iterator_of, is_fold_name, variable_limit, IsExpr, IsBind, IsBinds, MoreBinds, IsUnary, IsPrim, IsLevel, GoesOn, IsSteps, IsArguments, IsItems, MoreItems, IsIteration, IsFold, IsType, IsVariable, declares, begins_invariant, IsInvariant, IsInvariants, MoreInvariants, IsContexts}
 use Rattle.ocl_text.specs.Parse as p
 use Rattle.ocl_text.specs.Parse.{TokensFault, syntax, too_deep, Reading, Reader, begins, expect, identifier, link, link_by, on_link, chain, levels, unary, unary_over, unary_by, prim_by, expr, expr_over, post, prim, if_expression, step_list, one_step, after_dot, after_arrow, operation_call, called, applied_step, applied_by, a_fold, fold_in, fold_body, arguments, arguments_in, items, a_bind, let_expression, iteration, optional_variables, variables, variables_by, level_of, rule_name, invariant, invariant_at, invariants, context, placed_name, contexts}
 use Rattle.ocl_text.proofs.Turns.{expr_plain, steps_none, chain_none}
@@ -87,7 +89,7 @@ mutual
   shorter_more_items (g.no_more_items h) = omega arith
   shorter_more_items (g.next_item d) = let a = shorter_items d in omega arith
 
-  pub shorter_iteration : {c n : ℕ} {two : Bool} {ts rest : List Terminal} {vs : Variables} {body : SurfaceTree} → IsIteration c n two ts vs body rest → length rest < length ts
+  pub shorter_iteration : {c n : ℕ} {limit : VariableLimit} {ts rest : List Terminal} {vs : Variables} {body : SurfaceTree} → IsIteration c n limit ts vs body rest → length rest < length ts
   shorter_iteration (g.body_alone h d) = let a = shorter_expr d in omega arith
   shorter_iteration (g.one_variable b v d) = let x = shorter_variable v in let a = shorter_expr d in omega arith
   shorter_iteration (g.two_variables b v w d) = let x = shorter_variable v in let y = shorter_variable w in let a = shorter_expr d in omega arith
@@ -239,7 +241,7 @@ module _ (n : ℕ) (operand whole : Reader SurfaceTree) where
   unfolding applied_step
   applied_call source text at ts h f = rw f (ap (λ o. applied_by n operand whole o source text at ts) h)
 
-  applied_iterate : (source : SurfaceTree) (text : List ℕ) (at : ℕ) (ts : List Terminal) (kind : IteratorKind) → iterator_of text ≡ Some kind → applied_step n operand whole source text at ts ≡ (iteration n whole (takes_two kind) ts >>= λ x. Ok (Iterate source kind x.0.0 x.0.1 at, x.1))
+  applied_iterate : (source : SurfaceTree) (text : List ℕ) (at : ℕ) (ts : List Terminal) (kind : IteratorKind) → iterator_of text ≡ Some kind → applied_step n operand whole source text at ts ≡ (iteration n whole (variable_limit kind) ts >>= λ x. Ok (Iterate source kind x.0.0 x.0.1 at, x.1))
   unfolding applied_step
   applied_iterate source text at ts kind h = rw (no_fold text kind h) (ap (λ o. applied_by n operand whole o source text at ts) h)
 
@@ -248,9 +250,9 @@ module _ (n : ℕ) (operand whole : Reader SurfaceTree) where
   applied_fold source text at ts f = rw f refl
 
 -- an iteration whose first tokens begin no variable has none
-pub no_variable_is : (n : ℕ) (two : Bool) (ts : List Terminal) → begins_variable ts ≡ false → optional_variables n two ts ≡ Ok (Unnamed, ts)
+pub no_variable_is : (n : ℕ) (limit : VariableLimit) (ts : List Terminal) → begins_variable ts ≡ false → optional_variables n limit ts ≡ Ok (Unnamed, ts)
 unfolding optional_variables
-no_variable_is n two ts h = rw h refl
+no_variable_is n limit ts h = rw h refl
 
 -- each type that the grammar allows is read
 pub complete_type : {n : ℕ} {ts rest : List Terminal} {s : TypeTree} → IsType n ts s rest → p.a_type n ts ≡ Ok (s, rest)
@@ -267,18 +269,18 @@ unfolding p.a_variable identifier
 complete_variable (g.untyped h) = rw h refl
 complete_variable (g.typed {text = text} d) = ap (λ r. r >>= typed_as text) (complete_type d)
 
-one_bar : (n : ℕ) (two : Bool) (v : VariableTree) (at : ℕ) (text : List ℕ) (ts : List Terminal) → variables_by n two v (token k.Bar at text ∷ ts) ≡ Ok (Single v, ts)
+one_bar : (n : ℕ) (limit : VariableLimit) (v : VariableTree) (at : ℕ) (text : List ℕ) (ts : List Terminal) → variables_by n limit v (token k.Bar at text ∷ ts) ≡ Ok (Single v, ts)
 unfolding variables_by expect
-one_bar n true v at text ts = refl
-one_bar n false v at text ts = refl
+one_bar n TwoVariables v at text ts = refl
+one_bar n OneVariable v at text ts = refl
 
-one_is : (n : ℕ) (two : Bool) (us : List Terminal) (v : VariableTree) (at : ℕ) (text : List ℕ) (ts : List Terminal) → begins_variable us ≡ true → p.a_variable (suc n) us ≡ Ok (v, token k.Bar at text ∷ ts) → optional_variables (suc n) two us ≡ Ok (Single v, ts)
+one_is : (n : ℕ) (limit : VariableLimit) (us : List Terminal) (v : VariableTree) (at : ℕ) (text : List ℕ) (ts : List Terminal) → begins_variable us ≡ true → p.a_variable (suc n) us ≡ Ok (v, token k.Bar at text ∷ ts) → optional_variables (suc n) limit us ≡ Ok (Single v, ts)
 unfolding optional_variables variables
-one_is n two us v at text ts b e = rw b (ap (λ r. r >>= λ x. variables_by (suc n) two x.0 x.1) e ∙ one_bar (suc n) two v at text ts)
+one_is n limit us v at text ts b e = rw b (ap (λ r. r >>= λ x. variables_by (suc n) limit x.0 x.1) e ∙ one_bar (suc n) limit v at text ts)
 
-two_is : (n : ℕ) (us vs : List Terminal) (v w : VariableTree) (comma_at at : ℕ) (comma text : List ℕ) (ts : List Terminal) → begins_variable us ≡ true → p.a_variable (suc n) us ≡ Ok (v, token k.Comma comma_at comma ∷ vs) → p.a_variable (suc n) vs ≡ Ok (w, token k.Bar at text ∷ ts) → optional_variables (suc n) true us ≡ Ok (Pair v w, ts)
+two_is : (n : ℕ) (us vs : List Terminal) (v w : VariableTree) (comma_at at : ℕ) (comma text : List ℕ) (ts : List Terminal) → begins_variable us ≡ true → p.a_variable (suc n) us ≡ Ok (v, token k.Comma comma_at comma ∷ vs) → p.a_variable (suc n) vs ≡ Ok (w, token k.Bar at text ∷ ts) → optional_variables (suc n) TwoVariables us ≡ Ok (Pair v w, ts)
 unfolding optional_variables variables variables_by expect
-two_is n us vs v w comma_at at comma text ts b e f = rw b (ap (λ r. r >>= λ x. variables_by (suc n) true x.0 x.1) e ∙ ap (λ r. r >>= λ x. expect m.Bar x.1 >>= λ rest. Ok (Pair v x.0, rest)) f)
+two_is n us vs v w comma_at at comma text ts b e f = rw b (ap (λ r. r >>= λ x. variables_by (suc n) TwoVariables x.0 x.1) e ∙ ap (λ r. r >>= λ x. expect m.Bar x.1 >>= λ rest. Ok (Pair v x.0, rest)) f)
 
 abbrev named : List ℕ × ℕ → TypeTree → SurfaceTree × List Terminal → Reading Bound
 named name declared x = Ok (binding name declared x.0, x.1)
@@ -372,12 +374,12 @@ mutual
   complete_more_items (g.no_more_items h) f l = rw h refl
   complete_more_items (g.next_item d) f l = complete_items d f (omega (arith, l))
 
-  pub complete_iteration : {c n : ℕ} {two : Bool} {ts rest : List Terminal} {vs : Variables} {tree : SurfaceTree} → IsIteration c n two ts vs tree rest → iteration n (expr c n) two ts ≡ Ok ((vs, tree), rest)
-  complete_iteration {c} (g.body_alone {n = n} {two = two} {ts = ts} h d) =
-      ap (λ r. r >>= λ vs. expr c n vs.1 >>= λ x. expect m.Close x.1 >>= λ rest. Ok ((vs.0, x.0), rest)) (no_variable_is n two ts h)
+  pub complete_iteration : {c n : ℕ} {limit : VariableLimit} {ts rest : List Terminal} {vs : Variables} {tree : SurfaceTree} → IsIteration c n limit ts vs tree rest → iteration n (expr c n) limit ts ≡ Ok ((vs, tree), rest)
+  complete_iteration {c} (g.body_alone {n = n} {limit = limit} {ts = ts} h d) =
+      ap (λ r. r >>= λ vs. expr c n vs.1 >>= λ x. expect m.Close x.1 >>= λ rest. Ok ((vs.0, x.0), rest)) (no_variable_is n limit ts h)
       ∙ ap (λ r. r >>= λ x. expect m.Close x.1 >>= λ rest. Ok ((Unnamed, x.0), rest)) (complete_expr d)
-  complete_iteration {c} (g.one_variable {m = n} {bar_offset = bar_at} {two = two} {bar = bar} {us = us} {ts = ts} {v = v} b x d) =
-      ap (λ r. r >>= λ vs. expr c (suc n) vs.1 >>= λ x. expect m.Close x.1 >>= λ rest. Ok ((vs.0, x.0), rest)) (one_is n two us v bar_at bar ts b (complete_variable x))
+  complete_iteration {c} (g.one_variable {m = n} {bar_offset = bar_at} {limit = limit} {bar = bar} {us = us} {ts = ts} {v = v} b x d) =
+      ap (λ r. r >>= λ vs. expr c (suc n) vs.1 >>= λ x. expect m.Close x.1 >>= λ rest. Ok ((vs.0, x.0), rest)) (one_is n limit us v bar_at bar ts b (complete_variable x))
       ∙ ap (λ r. r >>= λ x. expect m.Close x.1 >>= λ rest. Ok ((Single v, x.0), rest)) (complete_expr d)
   complete_iteration {c} (g.two_variables {m = n} {comma_offset = comma_at} {bar_offset = bar_at} {comma = comma} {bar = bar} {us = us} {vs = ws} {ts = ts} {v = v} {w = w} b x y d) =
       ap (λ r. r >>= λ vs. expr c (suc n) vs.1 >>= λ x. expect m.Close x.1 >>= λ rest. Ok ((vs.0, x.0), rest)) (two_is n us ws v w comma_at bar_at comma bar ts b (complete_variable x) (complete_variable y))

@@ -6,11 +6,12 @@ use Rattle.ocl_tokens.specs.declared.fault.TextFlaw.{TextFlaw}
 use Rattle.ocl_tokens.specs.declared.fault.TextFlaw.TheVariants as w
 use Rattle.ocl_tokens.specs.declared.fault.TextFault.{TextFault}
 use Rattle.ocl_tokens.specs.declared.fault.TextFault.TheVariants as f
+use Rattle.ocl_tokens.specs.declared.token.Token.{Token}
 use Rattle.ocl_tokens.specs.Terminals.{Terminal}
 use Rattle.ocl_tokens.specs.Lexical as l
 use Rattle.ocl_tokens.specs.Lexical.{Lexes, IsFlaw, HasFlawFrom, IsLexicalFault}
 use Rattle.ocl_tokens.proofs.ForAbove.{one_token_list}
-use Rattle.ocl_text.specs.declared.cursor.Parser.{Parser}
+use Rattle.ocl_text.specs.declared.cursor.Cursor.{Cursor}
 use Rattle.ocl_text.specs.declared.cursor.ParseFault.{ParseFault}
 use Rattle.ocl_text.specs.declared.cursor.ParseFault.TheVariants as r
 use Rattle.ocl_text.specs.declared.tree.Expression.{Expression}
@@ -19,7 +20,7 @@ use Rattle.ocl_text.specs.View.{view}
 use Rattle.ocl_text.specs.Grammar.{IsExpr, SpellsExpr, Spells}
 use Rattle.ocl_text.specs.RuleText.{TextSpells, TextSpellsWithin, RepeatsAt, first_offset, IsWrong, IsTooDeep, IsRepeated, IfLexical, IfSyntax, IfTooDeep, IfDuplicate}
 use Rattle.ocl_text.specs.Parse.{TokensFault, syntax, too_deep, Reading, expr, all_rules}
-use Rattle.ocl_text.specs.Parses.{from, meaning, Parses, UnlessOutOfMemory, text_fault}
+use Rattle.ocl_text.specs.Parses.{from, left, meaning, Parses, UnlessOutOfMemory, text_fault}
 use Rattle.ocl_text.proofs.Complete.{complete_expr}
 use Rattle.ocl_text.proofs.Sound.{sound_expr}
 use Rattle.ocl_text.proofs.Refused.{wrong_at, too_deep_at}
@@ -27,26 +28,26 @@ use Rattle.ocl_text.proofs.Wider.{read_spells, one_expr, one_list}
 
 -- ---- an expression
 
-module _ (chain n : ℕ) (p : Parser) (at : ℕ) where
-  expr_found : (x : Expression × ℕ) → expr chain n (from p at) ≡ Ok (view x.0, from p x.1) → IsExpr chain n (from p at) (view x.0) (from p x.1)
-  expr_found x h = subst (λ (r : Reading SurfaceTree). IfOk r (λ y. IsExpr chain n (from p at) y.0 y.1)) h (sound_expr chain n (from p at))
+module _ (chain n : ℕ) (c d : Cursor) where
+  expr_found : (x : Expression) → expr chain n (left c) ≡ Ok (view x, left d) → IsExpr chain n (left c) (view x) (left d)
+  expr_found x h = subst (λ (r : Reading SurfaceTree). IfOk r (λ y. IsExpr chain n (left c) y.0 y.1)) h (sound_expr chain n (left c))
 
   -- an expression that was parsed is what the tokens spell
-  pub expr_spells : (x : Result (Expression × ℕ) ParseFault) → Parses p view x (expr chain n (from p at)) → IfOk x (λ y. IsExpr chain n (from p at) (view y.0) (from p y.1))
-  expr_spells (Ok x) h = expr_found x h
+  pub expr_spells : (x : Result Expression ParseFault) → Parses c d view x (expr chain n (left c)) → IfOk x (λ y. IsExpr chain n (left c) (view y) (left d))
+  expr_spells (Ok x) h = expr_found x h.0
   expr_spells (Err e) h = tt
 
   -- the tokens begin with no other expression than the one that was parsed
-  pub expr_only : (x : Result (Expression × ℕ) ParseFault) → Parses p view x (expr chain n (from p at))
-      → IfOk x (λ y. (tree : SurfaceTree) (rest : List Terminal) → SpellsExpr (from p at) tree rest → (tree ≡ view y.0) × (rest ≡ from p y.1))
-  expr_only (Ok x) h = λ tree rest d. one_expr (from p at) tree (view x.0) rest (from p x.1) d (n, chain, expr_found x h)
+  pub expr_only : (x : Result Expression ParseFault) → Parses c d view x (expr chain n (left c))
+      → IfOk x (λ y. (tree : SurfaceTree) (rest : List Terminal) → SpellsExpr (left c) tree rest → (tree ≡ view y) × (rest ≡ left d))
+  expr_only (Ok x) h = λ tree rest e. one_expr (left c) tree (view x) rest (left d) e (n, chain, expr_found x h.0)
   expr_only (Err e) h = tt
 
-  no_expr : (s : TokensFault) → expr chain n (from p at) ≡ Err s → (tree : SurfaceTree) (rest : List Terminal) → IsExpr chain n (from p at) tree rest → ⊥
-  no_expr s h tree rest d = let e = complete_expr d in cc (h, e)
+  no_expr : (s : TokensFault) → expr chain n (left c) ≡ Err s → (tree : SurfaceTree) (rest : List Terminal) → IsExpr chain n (left c) tree rest → ⊥
+  no_expr s h tree rest is = let e = complete_expr is in cc (h, e)
 
   -- where parsing an expression was refused, the tokens begin with none within the limits
-  pub expr_refused : (x : Result (Expression × ℕ) ParseFault) → Parses p view x (expr chain n (from p at)) → IfErr x (UnlessOutOfMemory ((tree : SurfaceTree) (rest : List Terminal) → IsExpr chain n (from p at) tree rest → ⊥))
+  pub expr_refused : (x : Result Expression ParseFault) → Parses c d view x (expr chain n (left c)) → IfErr x (UnlessOutOfMemory ((tree : SurfaceTree) (rest : List Terminal) → IsExpr chain n (left c) tree rest → ⊥))
   expr_refused (Ok x) h = tt
   expr_refused (Err r.OutOfMemory) h = tt
   expr_refused (Err (r.Syntax i)) h = no_expr _ h
@@ -71,32 +72,32 @@ module _ (nesting chain : ℕ) (text : List ℕ) (ts : List Terminal) (lexes : L
   text_too_deep s h = record { tokens = ts; rest = s; lexes = lexes; stands = refl; too_deep = too_deep_at nesting chain ts s h }
 
   -- a fault of syntax stands where the text goes wrong
-  pub refused_syntax : (p : Parser) (fault : ParseFault) → Means (meaning p fault) (all_rules nesting chain ts) → IfSyntax text (text_fault p (length text) fault)
-  refused_syntax p r.OutOfMemory h = tt
-  refused_syntax p (r.Syntax i) h = text_wrong (from p i) h
-  refused_syntax p (r.TooDeep i) h = tt
+  pub refused_syntax : (tokens : List Token) (fault : ParseFault) → Means (meaning tokens fault) (all_rules nesting chain ts) → IfSyntax text (text_fault tokens (length text) fault)
+  refused_syntax tokens r.OutOfMemory h = tt
+  refused_syntax tokens (r.Syntax i) h = text_wrong (from tokens i) h
+  refused_syntax tokens (r.TooDeep i) h = tt
 
   -- a fault of depth stands where the text goes too deep
-  pub refused_too_deep : (p : Parser) (fault : ParseFault) → Means (meaning p fault) (all_rules nesting chain ts) → IfTooDeep nesting chain text (text_fault p (length text) fault)
-  refused_too_deep p r.OutOfMemory h = tt
-  refused_too_deep p (r.Syntax i) h = tt
-  refused_too_deep p (r.TooDeep i) h = text_too_deep (from p i) h
+  pub refused_too_deep : (tokens : List Token) (fault : ParseFault) → Means (meaning tokens fault) (all_rules nesting chain ts) → IfTooDeep nesting chain text (text_fault tokens (length text) fault)
+  refused_too_deep tokens r.OutOfMemory h = tt
+  refused_too_deep tokens (r.Syntax i) h = tt
+  refused_too_deep tokens (r.TooDeep i) h = text_too_deep (from tokens i) h
 
   -- a name that is repeated among the rules that were read is repeated in the text
   pub text_repeats : (rules : List Rule) (offset : ℕ) → all_rules nesting chain ts ≡ Ok rules → RepeatsAt [] rules offset → IsRepeated nesting chain text offset
   text_repeats rules offset h repeats = record { rules = rules; spells = text_spells rules h; repeats = repeats }
 
 -- a refusal of the tokens is no other fault
-pub refused_lexical : (text : List ℕ) (p : Parser) (end : ℕ) (fault : ParseFault) → IfLexical text (text_fault p end fault)
-refused_lexical text p end r.OutOfMemory = tt
-refused_lexical text p end (r.Syntax i) = tt
-refused_lexical text p end (r.TooDeep i) = tt
+pub refused_lexical : (text : List ℕ) (tokens : List Token) (end : ℕ) (fault : ParseFault) → IfLexical text (text_fault tokens end fault)
+refused_lexical text tokens end r.OutOfMemory = tt
+refused_lexical text tokens end (r.Syntax i) = tt
+refused_lexical text tokens end (r.TooDeep i) = tt
 
 -- a refusal by the parser is no repeated name
-pub refused_duplicate : (nesting chain : ℕ) (text : List ℕ) (p : Parser) (end : ℕ) (fault : ParseFault) → IfDuplicate nesting chain text (text_fault p end fault)
-refused_duplicate nesting chain text p end r.OutOfMemory = tt
-refused_duplicate nesting chain text p end (r.Syntax i) = tt
-refused_duplicate nesting chain text p end (r.TooDeep i) = tt
+pub refused_duplicate : (nesting chain : ℕ) (text : List ℕ) (tokens : List Token) (end : ℕ) (fault : ParseFault) → IfDuplicate nesting chain text (text_fault tokens end fault)
+refused_duplicate nesting chain text tokens end r.OutOfMemory = tt
+refused_duplicate nesting chain text tokens end (r.Syntax i) = tt
+refused_duplicate nesting chain text tokens end (r.TooDeep i) = tt
 
 -- the flaws 1 to 5
 abbrev is_lexical : TextFlaw → Bool

@@ -11,8 +11,10 @@ use Rattle.ocl_text.specs.declared.tree.IteratorKind.{IteratorKind}
 use Rattle.ocl_text.specs.declared.tree.Navigation.TheVariants.{Dot}
 use Rattle.ocl_tokens.specs.Terminals.{Terminal}
 use Rattle.ocl_text.specs.Tree.{TypeTree, VariableTree, Variables, Bound, Rule, SurfaceTree, Binary, lets_at, If, binding, fold_with}
+use Rattle.ocl_text.specs.declared.cursor.VariableLimit.{VariableLimit}
+use Rattle.ocl_text.specs.declared.cursor.VariableLimit.TheVariants.{OneVariable, TwoVariables}
 use Rattle.ocl_text.specs.Grammar as g
-use Rattle.ocl_text.specs.Grammar.{is_mark, operator, top, token, Ends, next_is, Next, NotNext, steps_on, opens, closes, separates, begins_variable, iterator_of, is_fold_name, takes_two, begins_invariant, IsExpr, IsBind, IsBinds, MoreBinds, IsUnary, IsPrim, IsLevel, GoesOn, IsSteps, IsArguments, IsItems, MoreItems, IsIteration, IsFold, IsType, IsVariable, declares, IsInvariant, IsInvariants, MoreInvariants, IsContexts}
+use Rattle.ocl_text.specs.Grammar.{is_mark, operator, top, token, Ends, next_is, Next, NotNext, steps_on, opens, closes, separates, begins_variable, iterator_of, is_fold_name, variable_limit, begins_invariant, IsExpr, IsBind, IsBinds, MoreBinds, IsUnary, IsPrim, IsLevel, GoesOn, IsSteps, IsArguments, IsItems, MoreItems, IsIteration, IsFold, IsType, IsVariable, declares, IsInvariant, IsInvariants, MoreInvariants, IsContexts}
 use Rattle.ocl_text.specs.Parse as p
 use Rattle.ocl_text.specs.Parse.{TokensFault, syntax, too_deep, Reading, Reader, too_deep_at, expect, identifier, identifier_by, Link, link, link_by, on_link, chain, levels, unary, unary_over, unary_by, expr, expr_over, expr_by, post, prim, prim_by, if_expression, step_list, one_step, step_by, after_dot, after_dot_by, after_arrow, after_arrow_by, called, operation_call, applied_step, applied_by, a_fold, fold_in, fold_body, arguments, arguments_in, items, a_bind, let_expression, iteration, optional_variables, variables, variables_by, has_second, level_of, rule_name, invariant, invariant_at, invariant_by, invariants, context, placed_name, placed_by, contexts, is_done}
 
@@ -295,15 +297,15 @@ module _ (c n : ℕ) (operand whole : Reader SurfaceTree) (sound : Sound (IsLeve
       by _ at text = tt
 
   -- what is left to read of an iteration after its variables
-  abbrev Opened : Bool → List Terminal → Variables × List Terminal → Type 0
-  Opened two ts vs = (body : SurfaceTree) (end : ℕ) (closed : List ℕ) (rest : List Terminal) → IsExpr c n vs.1 body (token k.Close end closed ∷ rest) → IsIteration c n two ts vs.0 body rest
+  abbrev Opened : VariableLimit → List Terminal → Variables × List Terminal → Type 0
+  Opened limit ts vs = (body : SurfaceTree) (end : ℕ) (closed : List ℕ) (rest : List Terminal) → IsExpr c n vs.1 body (token k.Close end closed ∷ rest) → IsIteration c n limit ts vs.0 body rest
 
-  sound_iteration : (two : Bool) → (ts : List Terminal) → ((at : ℕ) (text : List ℕ) (us : List Terminal) → IfOk (optional_variables n two us) (Opened two (token k.Open at text ∷ us))) → IfOk (iteration n whole two ts) (λ x. IsIteration c n two ts x.0.0 x.0.1 x.1)
+  sound_iteration : (limit : VariableLimit) → (ts : List Terminal) → ((at : ℕ) (text : List ℕ) (us : List Terminal) → IfOk (optional_variables n limit us) (Opened limit (token k.Open at text ∷ us))) → IfOk (iteration n whole limit ts) (λ x. IsIteration c n limit ts x.0.0 x.0.1 x.1)
   unfolding iteration
-  sound_iteration two ts sound_variables =
-      bind_ok (Opened two ts) _ (expect m.Open ts >>= optional_variables n two) _
-      (expect_ok m.Open (λ us. (vs : Variables) (body : SurfaceTree) (rest : List Terminal) → IsIteration c n two us vs body rest → IsIteration c n two ts vs body rest) (Opened two ts) (optional_variables n two)
-      (λ at text us give. weaker (Opened two (token k.Open at text ∷ us)) (Opened two ts) (optional_variables n two us) (λ vs o. λ body end closed rest d. give vs.0 body rest (o body end closed rest d)) (sound_variables at text us)) ts (λ vs body rest d. d))
+  sound_iteration limit ts sound_variables =
+      bind_ok (Opened limit ts) _ (expect m.Open ts >>= optional_variables n limit) _
+      (expect_ok m.Open (λ us. (vs : Variables) (body : SurfaceTree) (rest : List Terminal) → IsIteration c n limit us vs body rest → IsIteration c n limit ts vs body rest) (Opened limit ts) (optional_variables n limit)
+      (λ at text us give. weaker (Opened limit (token k.Open at text ∷ us)) (Opened limit ts) (optional_variables n limit us) (λ vs o. λ body end closed rest d. give vs.0 body rest (o body end closed rest d)) (sound_variables at text us)) ts (λ vs body rest d. d))
       (λ vs o. bind_ok (λ x. IsExpr c n vs.1 x.0 x.1) _ (whole vs.1) _ (sound_whole vs.1) (λ x d. expect_ok m.Close (λ us. IsExpr c n vs.1 x.0 us) _ _ (λ end closed rest e. o x.0 end closed rest e) x.1 d))
 
 -- what is read is a fold over this source
@@ -334,23 +336,23 @@ module _ (c n : ℕ) (operand whole : Reader SurfaceTree) (sound : Sound (IsLeve
       expect_ok m.Open (λ us. (x : SurfaceTree × List Terminal) → IsFolded c n source offset us x → IsFolded c n source offset ts x) (IsFolded c n source offset ts) (fold_in n operand whole source offset)
       (λ at text us give. weaker (IsFolded c n source offset (token k.Open at text ∷ us)) _ (fold_in n operand whole source offset us) give (sound_fold_in source offset at text n refl us)) ts (λ x d. d)
 
-sound_variables_by : (c n at : ℕ) (text : List ℕ) (us : List Terminal) (v : VariableTree) (two : Bool) (ts : List Terminal) → begins_variable us ≡ true → IsVariable (suc n) us v ts → IfOk (variables_by (suc n) two v ts) (λ vs. (body : SurfaceTree) (end : ℕ) (closed : List ℕ) (rest : List Terminal) → IsExpr c (suc n) vs.1 body (token k.Close end closed ∷ rest) → IsIteration c (suc n) two (token k.Open at text ∷ us) vs.0 body rest)
+sound_variables_by : (c n at : ℕ) (text : List ℕ) (us : List Terminal) (v : VariableTree) (limit : VariableLimit) (ts : List Terminal) → begins_variable us ≡ true → IsVariable (suc n) us v ts → IfOk (variables_by (suc n) limit v ts) (λ vs. (body : SurfaceTree) (end : ℕ) (closed : List ℕ) (rest : List Terminal) → IsExpr c (suc n) vs.1 body (token k.Close end closed ∷ rest) → IsIteration c (suc n) limit (token k.Open at text ∷ us) vs.0 body rest)
 unfolding variables_by
-sound_variables_by c n at text us v false ts b d =
+sound_variables_by c n at text us v OneVariable ts b d =
     expect_ok m.Bar (λ vs. IsVariable (suc n) us v vs) _ _ (λ bar_at bar vs e. λ body end closed rest f. g.one_variable b e f) ts d
-sound_variables_by c n at text us v true ts b d =
+sound_variables_by c n at text us v TwoVariables ts b d =
     if_ok _ (next_is separates ts) _ _
     (λ h. let start = comma (λ vs. IsVariable (suc n) us v vs) ts h d in
     bind_ok (λ w. IsVariable (suc n) (drop 1 ts) w.0 w.1) _ (p.a_variable (suc n) (drop 1 ts)) _ (sound_variable (suc n) (drop 1 ts))
     (λ w e. expect_ok m.Bar (λ vs. IsVariable (suc n) (drop 1 ts) w.0 vs) _ _ (λ bar_at bar vs x. λ body end closed rest f. g.two_variables b start.2 x f) w.1 e))
     (λ h. expect_ok m.Bar (λ vs. IsVariable (suc n) us v vs) _ _ (λ bar_at bar vs e. λ body end closed rest f. g.one_variable b e f) ts d)
 
-sound_variables : (c n : ℕ) (two : Bool) (at : ℕ) (text : List ℕ) (us : List Terminal) → IfOk (optional_variables n two us) (λ vs. (body : SurfaceTree) (end : ℕ) (closed : List ℕ) (rest : List Terminal) → IsExpr c n vs.1 body (token k.Close end closed ∷ rest) → IsIteration c n two (token k.Open at text ∷ us) vs.0 body rest)
+sound_variables : (c n : ℕ) (limit : VariableLimit) (at : ℕ) (text : List ℕ) (us : List Terminal) → IfOk (optional_variables n limit us) (λ vs. (body : SurfaceTree) (end : ℕ) (closed : List ℕ) (rest : List Terminal) → IsExpr c n vs.1 body (token k.Close end closed ∷ rest) → IsIteration c n limit (token k.Open at text ∷ us) vs.0 body rest)
 unfolding optional_variables variables
-sound_variables c zero two at text us = if_ok _ (begins_variable us) _ _ (λ h. tt) (λ h. λ body end closed rest d. g.body_alone h d)
-sound_variables c (suc n) two at text us =
+sound_variables c zero limit at text us = if_ok _ (begins_variable us) _ _ (λ h. tt) (λ h. λ body end closed rest d. g.body_alone h d)
+sound_variables c (suc n) limit at text us =
     if_ok _ (begins_variable us) _ _
-    (λ h. bind_ok (λ v. IsVariable (suc n) us v.0 v.1) _ (p.a_variable (suc n) us) _ (sound_variable (suc n) us) (λ v d. sound_variables_by c n at text us v.0 two v.1 h d))
+    (λ h. bind_ok (λ v. IsVariable (suc n) us v.0 v.1) _ (p.a_variable (suc n) us) _ (sound_variable (suc n) us) (λ v d. sound_variables_by c n at text us v.0 limit v.1 h d))
     (λ h. λ body end closed rest d. g.body_alone h d)
 
 -- ---- steps
@@ -379,7 +381,7 @@ module _ (c n : ℕ) (operand whole : Reader SurfaceTree) (sound : Sound (IsLeve
   sound_applied : (source : SurfaceTree) (arrow_at : ℕ) (arrow_text : List ℕ) (at : ℕ) (text : List ℕ) (ts : List Terminal) → is_fold_name text ≡ false → (o : Option IteratorKind) → iterator_of text ≡ o → IfOk (applied_by n operand whole o source text at ts) (Extends source (token k.Arrow arrow_at arrow_text ∷ token k.Identifier at text ∷ ts))
   unfolding operation_call
   sound_applied source arrow_at arrow_text at text ts f None h = bind_ok (λ x. IsArguments c n ts x.0 x.1) _ (arguments operand n ts) _ (sound_arguments c n operand whole sound sound_whole ts) (λ x d. λ l tree rest e. g.arrow_call h f d e)
-  sound_applied source arrow_at arrow_text at text ts f (Some kind) h = bind_ok (λ x. IsIteration c n (takes_two kind) ts x.0.0 x.0.1 x.1) _ (iteration n whole (takes_two kind) ts) _ (sound_iteration c n operand whole sound sound_whole (takes_two kind) ts (sound_variables c n (takes_two kind))) (λ x d. λ l tree rest e. g.arrow_iterate h d e)
+  sound_applied source arrow_at arrow_text at text ts f (Some kind) h = bind_ok (λ x. IsIteration c n (variable_limit kind) ts x.0.0 x.0.1 x.1) _ (iteration n whole (variable_limit kind) ts) _ (sound_iteration c n operand whole sound sound_whole (variable_limit kind) ts (sound_variables c n (variable_limit kind))) (λ x d. λ l tree rest e. g.arrow_iterate h d e)
 
   sound_after_arrow : (source : SurfaceTree) (arrow_at : ℕ) (arrow_text : List ℕ) (ts : List Terminal) → IfOk (after_arrow n operand whole source ts) (Extends source (token k.Arrow arrow_at arrow_text ∷ ts))
   unfolding after_arrow applied_step

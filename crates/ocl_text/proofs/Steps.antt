@@ -12,7 +12,8 @@ use Rattle.ocl_text.specs.declared.tree.Navigation.TheVariants.{Dot, Arrow}
 use Rattle.ocl_tokens.specs.Terminals.{Terminal}
 use Rattle.ocl_text.specs.Tree.{VariableTree, Variables, Unnamed, Bound, SurfaceTree, Name, Iterate, fold_with}
 use Rattle.ocl_text.specs.RuleText.{Agrees}
-use Rattle.ocl_text.specs.Grammar.{is_mark, token, next_is, Next, is_identifier_kind, ends_variable, begins_variable, steps_on, declares, iterator_of, is_fold_name, takes_two, IsExpr}
+use Rattle.ocl_text.specs.declared.cursor.VariableLimit.{VariableLimit}
+use Rattle.ocl_text.specs.Grammar.{is_mark, token, next_is, Next, is_identifier_kind, ends_variable, begins_variable, steps_on, declares, iterator_of, is_fold_name, variable_limit, IsExpr}
 use Rattle.ocl_text.specs.Parse as p
 use Rattle.ocl_text.specs.Parse.{TokensFault, syntax, too_deep, Reading, Reader, begins, expect, level_of, expr, step_list, one_step, after_dot, called, operation_call, after_arrow, applied_step, applied_by, a_bind, a_fold, fold_in, fold_body, iteration, optional_variables, variables, variables_by}
 use Rattle.ocl_text.proofs.Complete.{no_variable_is, shorter_expr}
@@ -32,17 +33,17 @@ use Rattle.ocl_text.proofs.Parts.{counts, sees_bind, sees_called, sees_operation
 abbrev body_after : Reader SurfaceTree → Variables → Reader (Variables × SurfaceTree)
 body_after whole vs us = whole us >>= λ x. expect m.Close x.1 >>= λ rest. Ok ((vs, x.0), rest)
 
-abbrev iterated : ℕ → Reader SurfaceTree → Bool → Reader (Variables × SurfaceTree)
-iterated n whole two us = optional_variables n two us >>= λ vs. body_after whole vs.0 vs.1
+abbrev iterated : ℕ → Reader SurfaceTree → VariableLimit → Reader (Variables × SurfaceTree)
+iterated n whole limit us = optional_variables n limit us >>= λ vs. body_after whole vs.0 vs.1
 
 abbrev unread : Reader (Variables)
 unread us = Ok (Unnamed, us)
 
-iteration_is : (n : ℕ) (whole : Reader SurfaceTree) (two : Bool) (us : List Terminal) → iteration n whole two us ≡ (expect m.Open us >>= iterated n whole two)
+iteration_is : (n : ℕ) (whole : Reader SurfaceTree) (limit : VariableLimit) (us : List Terminal) → iteration n whole limit us ≡ (expect m.Open us >>= iterated n whole limit)
 unfolding iteration
-iteration_is n whole two us = by (expect m.Open us)
+iteration_is n whole limit us = by (expect m.Open us)
   where
-    by : (r : Result (List Terminal) TokensFault) → (r >>= optional_variables n two >>= λ vs. whole vs.1 >>= λ x. expect m.Close x.1 >>= λ rest. Ok ((vs.0, x.0), rest)) ≡ (r >>= iterated n whole two)
+    by : (r : Result (List Terminal) TokensFault) → (r >>= optional_variables n limit >>= λ vs. whole vs.1 >>= λ x. expect m.Close x.1 >>= λ rest. Ok ((vs.0, x.0), rest)) ≡ (r >>= iterated n whole limit)
     by (Ok x) = refl
     by (Err e) = refl
 
@@ -68,18 +69,18 @@ abbrev pub SeesName : ℕ → ℕ → ℕ → ℕ → Type 0
 SeesName a b c zero = (at : ℕ) (text : List ℕ) (us : List Terminal) → expr c zero (token k.Identifier at text ∷ us) ≡ Err (too_deep (token k.Identifier at text ∷ us))
 SeesName a b c (suc n) = (at : ℕ) (text : List ℕ) (us : List Terminal) → Sees (λ vs. expr c (suc n) (token k.Identifier at text ∷ vs)) (λ vs. expr (longer b c) (suc (deeper a n)) (token k.Identifier at text ∷ vs)) (May stops) (May stops) us
 
-module _ (a b c : ℕ) (two : Bool) where
+module _ (a b c : ℕ) (limit : VariableLimit) where
   module _ (n : ℕ) (sees_whole : (ts : List Terminal) → Sees (expr c n) (expr (longer b c) (deeper a n)) (May stops) (Next counts) ts) where
     sees_body : (vs : Variables) (ts : List Terminal) → Sees (body_after (expr c n) vs) (body_after (expr (longer b c) (deeper a n)) vs) (May stops) (Next counts) ts
     sees_body vs ts =
         bind (expr c n) (expr (longer b c) (deeper a n)) (λ x us. expect m.Close us >>= λ rest. Ok ((vs, x), rest)) (λ x us. expect m.Close us >>= λ rest. Ok ((vs, x), rest)) (May stops) (May stops) (Next (is_mark m.Close)) (Next counts) ts (mark_may m.Close stops refl) (sees_whole ts)
         (λ x us. sees_expect m.Close _ _ (May stops) (May stops) (λ rest. pass (vs, x) (May stops) rest) us)
 
-    no_variable : (ts : List Terminal) → ((us : List Terminal) → Agrees ts us → next_is is_identifier_kind us ≡ false) → Sees (iterated n (expr c n) two) (iterated (deeper a n) (expr (longer b c) (deeper a n)) two) (May stops) (Next counts) ts
+    no_variable : (ts : List Terminal) → ((us : List Terminal) → Agrees ts us → next_is is_identifier_kind us ≡ false) → Sees (iterated n (expr c n) limit) (iterated (deeper a n) (expr (longer b c) (deeper a n)) limit) (May stops) (Next counts) ts
     no_variable ts h =
         sees_as _ _ _ _ (May stops) (Next counts) ts
-        (λ us w. ap (λ r. r >>= λ vs. body_after (expr c n) vs.0 vs.1) (no_variable_is n two us (here us w)))
-        (λ us w. ap (λ r. r >>= λ vs. body_after (expr (longer b c) (deeper a n)) vs.0 vs.1) (no_variable_is (deeper a n) two us (here us w)))
+        (λ us w. ap (λ r. r >>= λ vs. body_after (expr c n) vs.0 vs.1) (no_variable_is n limit us (here us w)))
+        (λ us w. ap (λ r. r >>= λ vs. body_after (expr (longer b c) (deeper a n)) vs.0 vs.1) (no_variable_is (deeper a n) limit us (here us w)))
         (sees_body Unnamed ts)
       where
         here : (us : List Terminal) → Agrees ts us ⊎ Next counts us → begins_variable us ≡ false
@@ -93,7 +94,7 @@ module _ (a b c : ℕ) (two : Bool) where
   -- a name came first
   module _ (n at : ℕ) (text : List ℕ) where
     abbrev variables_after : (n : ℕ) → Reader SurfaceTree → Reader (Variables × SurfaceTree)
-    variables_after n whole us = declared_after text (p.a_type (suc n)) us >>= λ v. variables_by (suc n) two v.0 v.1 >>= λ vs. body_after whole vs.0 vs.1
+    variables_after n whole us = declared_after text (p.a_type (suc n)) us >>= λ v. variables_by (suc n) limit v.0 v.1 >>= λ vs. body_after whole vs.0 vs.1
 
     abbrev body_on : Reader SurfaceTree → Reader (Variables × SurfaceTree)
     body_on whole us = body_after whole Unnamed (token k.Identifier at text ∷ us)
@@ -101,19 +102,19 @@ module _ (a b c : ℕ) (two : Bool) where
     abbrev name_after : (n : ℕ) → Reader SurfaceTree → Reader (Variables × SurfaceTree)
     name_after n whole us = if next_is ends_variable us then variables_after n whole us else body_on whole us
 
-    name_is : (n : ℕ) (whole : Reader SurfaceTree) (us : List Terminal) → iterated (suc n) whole two (token k.Identifier at text ∷ us) ≡ name_after n whole us
+    name_is : (n : ℕ) (whole : Reader SurfaceTree) (us : List Terminal) → iterated (suc n) whole limit (token k.Identifier at text ∷ us) ≡ name_after n whole us
     unfolding optional_variables variables p.a_variable p.identifier
     name_is n whole us =
-        if_bind (next_is ends_variable us) (variables (suc n) two (token k.Identifier at text ∷ us)) (Ok (Unnamed, token k.Identifier at text ∷ us)) (λ vs. body_after whole vs.0 vs.1)
-        ∙ ap (λ r. if next_is ends_variable us then r else body_on whole us) (assoc (declared_after text (p.a_type (suc n)) us) (λ v. variables_by (suc n) two v.0 v.1) (λ vs. body_after whole vs.0 vs.1))
+        if_bind (next_is ends_variable us) (variables (suc n) limit (token k.Identifier at text ∷ us)) (Ok (Unnamed, token k.Identifier at text ∷ us)) (λ vs. body_after whole vs.0 vs.1)
+        ∙ ap (λ r. if next_is ends_variable us then r else body_on whole us) (assoc (declared_after text (p.a_type (suc n)) us) (λ v. variables_by (suc n) limit v.0 v.1) (λ vs. body_after whole vs.0 vs.1))
 
     module _ (sees_whole : (ts : List Terminal) → Sees (expr c (suc n)) (expr (longer b c) (suc (deeper a n))) (May stops) (Next counts) ts) (sees_name : SeesName a b c (suc n)) where
       sees_variables_after : (us : List Terminal) → Sees (variables_after n (expr c (suc n))) (variables_after (deeper a n) (expr (longer b c) (suc (deeper a n)))) (May stops) (Next (is_mark m.Bar)) us
       sees_variables_after us =
-          bind (declared_after text (p.a_type (suc n))) (declared_after text (p.a_type (suc (deeper a n)))) (λ v vs. variables_by (suc n) two v vs >>= λ ws. body_after (expr c (suc n)) ws.0 ws.1) (λ v vs. variables_by (suc (deeper a n)) two v vs >>= λ ws. body_after (expr (longer b c) (suc (deeper a n))) ws.0 ws.1)
+          bind (declared_after text (p.a_type (suc n))) (declared_after text (p.a_type (suc (deeper a n)))) (λ v vs. variables_by (suc n) limit v vs >>= λ ws. body_after (expr c (suc n)) ws.0 ws.1) (λ v vs. variables_by (suc (deeper a n)) limit v vs >>= λ ws. body_after (expr (longer b c) (suc (deeper a n))) ws.0 ws.1)
           (Next (is_mark m.Bar)) (May stops) (Next (is_mark m.Bar)) (Next (is_mark m.Bar)) us (λ vs g. g) (sees_declared a m.Bar refl refl (suc n) text us)
-          (λ v vs. bind (variables_by (suc n) two v) (variables_by (suc (deeper a n)) two v) (body_after (expr c (suc n))) (body_after (expr (longer b c) (suc (deeper a n))))
-          Any (May stops) (Next counts) (Next (is_mark m.Bar)) vs (λ ws g. tt) (sees_variables_by a (suc n) two v vs) (λ ws rest. sees_body (suc n) sees_whole ws rest))
+          (λ v vs. bind (variables_by (suc n) limit v) (variables_by (suc (deeper a n)) limit v) (body_after (expr c (suc n))) (body_after (expr (longer b c) (suc (deeper a n))))
+          Any (May stops) (Next counts) (Next (is_mark m.Bar)) vs (λ ws g. tt) (sees_variables_by a (suc n) limit v vs) (λ ws rest. sees_body (suc n) sees_whole ws rest))
 
       sees_body_on : (us : List Terminal) → Sees (body_on (expr c (suc n))) (body_on (expr (longer b c) (suc (deeper a n)))) (May stops) (May stops) us
       sees_body_on us =
@@ -147,15 +148,15 @@ module _ (a b c : ℕ) (two : Bool) where
           here vs (inl (more, is)) = rw is e
           here vs (inr w) = mark_next m.Bar ends_variable refl vs w
 
-      sees_name_first : (us : List Terminal) → Sees (iterated (suc n) (expr c (suc n)) two) (iterated (suc (deeper a n)) (expr (longer b c) (suc (deeper a n))) two) (May stops) (Next counts) (token k.Identifier at text ∷ us)
+      sees_name_first : (us : List Terminal) → Sees (iterated (suc n) (expr c (suc n)) limit) (iterated (suc (deeper a n)) (expr (longer b c) (suc (deeper a n))) limit) (May stops) (Next counts) (token k.Identifier at text ∷ us)
       sees_name_first [] = skip (token k.Identifier at text) [] _ _ _ _ (May stops) (Next (is_mark m.Close)) (Next counts) (name_is n (expr c (suc n))) (name_is (deeper a n) (expr (longer b c) (suc (deeper a n)))) (by_body [] (λ vs is. rw is refl))
       sees_name_first (t ∷ us) = by (ends_variable t.kind) refl
         where
-          by : (v : Bool) → ends_variable t.kind ≡ v → Sees (iterated (suc n) (expr c (suc n)) two) (iterated (suc (deeper a n)) (expr (longer b c) (suc (deeper a n))) two) (May stops) (Next counts) (token k.Identifier at text ∷ t ∷ us)
+          by : (v : Bool) → ends_variable t.kind ≡ v → Sees (iterated (suc n) (expr c (suc n)) limit) (iterated (suc (deeper a n)) (expr (longer b c) (suc (deeper a n))) limit) (May stops) (Next counts) (token k.Identifier at text ∷ t ∷ us)
           by true e = skip (token k.Identifier at text) (t ∷ us) _ _ _ _ (May stops) (Next (is_mark m.Bar)) (Next counts) (name_is n (expr c (suc n))) (name_is (deeper a n) (expr (longer b c) (suc (deeper a n)))) (by_variables t us e)
           by false e = skip (token k.Identifier at text) (t ∷ us) _ _ _ _ (May stops) (Next (is_mark m.Close)) (Next counts) (name_is n (expr c (suc n))) (name_is (deeper a n) (expr (longer b c) (suc (deeper a n)))) (by_body (t ∷ us) (λ vs (more, is). rw is e))
 
-  name_too_deep : (at : ℕ) (text : List ℕ) → SeesName a b c zero → (us : List Terminal) → iterated zero (expr c zero) two (token k.Identifier at text ∷ us) ≡ Err (too_deep (token k.Identifier at text ∷ us))
+  name_too_deep : (at : ℕ) (text : List ℕ) → SeesName a b c zero → (us : List Terminal) → iterated zero (expr c zero) limit (token k.Identifier at text ∷ us) ≡ Err (too_deep (token k.Identifier at text ∷ us))
   unfolding optional_variables variables
   name_too_deep at text h us = by (next_is ends_variable us)
     where
@@ -163,31 +164,31 @@ module _ (a b c : ℕ) (two : Bool) where
       by true = refl
       by false = ap (λ r. r >>= λ x. expect m.Close x.1 >>= λ rest. Ok ((Unnamed, x.0), rest)) (h at text us)
 
-  name_opened : (at : ℕ) (text : List ℕ) → Opens (iterated (suc (suc (suc a))) (expr (longer b c) (suc (suc (suc a)))) two) (May stops) (token k.Identifier at text)
+  name_opened : (at : ℕ) (text : List ℕ) → Opens (iterated (suc (suc (suc a))) (expr (longer b c) (suc (suc (suc a)))) limit) (May stops) (token k.Identifier at text)
   unfolding optional_variables expect
   name_opened at text = ((Unnamed, Name text at), mark_word m.Close ∷ [], λ rest g. ap (λ r. r >>= λ x. expect m.Close x.1 >>= λ rest. Ok ((Unnamed, x.0), rest)) (name_expr (longer b c) (suc (suc a)) at text (mark_word m.Close ∷ rest) refl))
 
   sees_iterated : (n : ℕ) → ((ts : List Terminal) → Sees (expr c n) (expr (longer b c) (deeper a n)) (May stops) (Next counts) ts) → SeesName a b c n → (ts : List Terminal)
-      → Sees (iterated n (expr c n) two) (iterated (deeper a n) (expr (longer b c) (deeper a n)) two) (May stops) (Next counts) ts
+      → Sees (iterated n (expr c n) limit) (iterated (deeper a n) (expr (longer b c) (deeper a n)) limit) (May stops) (Next counts) ts
   sees_iterated n sees_whole sees_name [] = no_variable n sees_whole [] (λ us is. rw is refl)
   sees_iterated zero sees_whole sees_name (t ∷ ts) = by t.kind
     where
-      by : (kind : TokenKind) → Sees (iterated zero (expr c zero) two) (iterated (suc (suc (suc a))) (expr (longer b c) (suc (suc (suc a)))) two) (May stops) (Next counts) (token kind t.offset t.text ∷ ts)
+      by : (kind : TokenKind) → Sees (iterated zero (expr c zero) limit) (iterated (suc (suc (suc a))) (expr (longer b c) (suc (suc (suc a)))) limit) (May stops) (Next counts) (token kind t.offset t.text ∷ ts)
       by k.Identifier = blocked _ _ (May stops) (Next counts) (token k.Identifier t.offset t.text) ts (name_too_deep t.offset t.text sees_name) (name_opened t.offset t.text)
       by (k.Number v) = no_variable zero sees_whole _ (λ us (more, is). rw is refl)
       by _ = no_variable zero sees_whole _ (λ us (more, is). rw is refl)
   sees_iterated (suc n) sees_whole sees_name (t ∷ ts) = by t.kind
     where
-      by : (kind : TokenKind) → Sees (iterated (suc n) (expr c (suc n)) two) (iterated (suc (deeper a n)) (expr (longer b c) (suc (deeper a n))) two) (May stops) (Next counts) (token kind t.offset t.text ∷ ts)
+      by : (kind : TokenKind) → Sees (iterated (suc n) (expr c (suc n)) limit) (iterated (suc (deeper a n)) (expr (longer b c) (suc (deeper a n))) limit) (May stops) (Next counts) (token kind t.offset t.text ∷ ts)
       by k.Identifier = sees_name_first n t.offset t.text sees_whole sees_name ts
       by (k.Number v) = no_variable (suc n) sees_whole _ (λ us (more, is). rw is refl)
       by _ = no_variable (suc n) sees_whole _ (λ us (more, is). rw is refl)
 
   sees_iteration : (n : ℕ) → ((ts : List Terminal) → Sees (expr c n) (expr (longer b c) (deeper a n)) (May stops) (Next counts) ts) → SeesName a b c n → (ts : List Terminal)
-      → Sees (iteration n (expr c n) two) (iteration (deeper a n) (expr (longer b c) (deeper a n)) two) (May stops) (Next (is_mark m.Open)) ts
+      → Sees (iteration n (expr c n) limit) (iteration (deeper a n) (expr (longer b c) (deeper a n)) limit) (May stops) (Next (is_mark m.Open)) ts
   sees_iteration n sees_whole sees_name ts =
-      sees_as _ _ _ _ (May stops) (Next (is_mark m.Open)) ts (λ us w. iteration_is n (expr c n) two us) (λ us w. iteration_is (deeper a n) (expr (longer b c) (deeper a n)) two us)
-      (sees_expect m.Open (iterated n (expr c n) two) (iterated (deeper a n) (expr (longer b c) (deeper a n)) two) (May stops) (Next counts) (sees_iterated n sees_whole sees_name) ts)
+      sees_as _ _ _ _ (May stops) (Next (is_mark m.Open)) ts (λ us w. iteration_is n (expr c n) limit us) (λ us w. iteration_is (deeper a n) (expr (longer b c) (deeper a n)) limit us)
+      (sees_expect m.Open (iterated n (expr c n) limit) (iterated (deeper a n) (expr (longer b c) (deeper a n)) limit) (May stops) (Next counts) (sees_iterated n sees_whole sees_name) ts)
 
 -- ---- folds
 
@@ -279,7 +280,7 @@ module _ (a b c n : ℕ) (operand operand' : Reader SurfaceTree) (sees : (ts : L
   sees_applied : (o : Option IteratorKind) (source : SurfaceTree) (text : List ℕ) (at : ℕ) (ts : List Terminal) → Sees (applied_by n operand whole o source text at) (applied_by (deeper a n) operand' whole' o source text at) (May stops) (Next (is_mark m.Open)) ts
   sees_applied None source text at ts = arguments_see source Arrow text at ts
   sees_applied (Some kind) source text at ts =
-      bind (iteration n whole (takes_two kind)) (iteration (deeper a n) whole' (takes_two kind)) (λ x us. Ok (Iterate source kind x.0 x.1 at, us)) (λ x us. Ok (Iterate source kind x.0 x.1 at, us)) (May stops) (May stops) (May stops) (Next (is_mark m.Open)) ts (λ us g. g) (sees_iteration a b c (takes_two kind) n sees_whole sees_name ts)
+      bind (iteration n whole (variable_limit kind)) (iteration (deeper a n) whole' (variable_limit kind)) (λ x us. Ok (Iterate source kind x.0 x.1 at, us)) (λ x us. Ok (Iterate source kind x.0 x.1 at, us)) (May stops) (May stops) (May stops) (Next (is_mark m.Open)) ts (λ us g. g) (sees_iteration a b c (variable_limit kind) n sees_whole sees_name ts)
       (λ x us. pass (Iterate source kind x.0 x.1 at) (May stops) us)
 
   sees_by_name : (is_fold : Bool) (o : Option IteratorKind) (source : SurfaceTree) (text : List ℕ) (at : ℕ) (ts : List Terminal)

@@ -9,6 +9,8 @@ use Rattle.ocl_text.specs.declared.cursor.Mark.TheVariants as m
 use Rattle.ocl_tokens.specs.Terminals.{Terminal}
 use Rattle.ocl_text.specs.Tree as t
 use Rattle.ocl_text.specs.Tree.{TypeTree, VariableTree, Variables, Unnamed, Single, Pair, SurfaceTree, Number}
+use Rattle.ocl_text.specs.declared.cursor.VariableLimit.{VariableLimit}
+use Rattle.ocl_text.specs.declared.cursor.VariableLimit.TheVariants.{OneVariable, TwoVariables}
 use Rattle.ocl_text.specs.Grammar.{is_mark, token, next_is, Next, is_identifier_kind, opens, separates, declares}
 use Rattle.ocl_text.specs.Parse as p
 use Rattle.ocl_text.specs.Parse.{TokensFault, syntax, too_deep, Reading, Reader, too_deep_at, expect, identifier, variables_by, has_second}
@@ -168,10 +170,10 @@ module _ (a : ℕ) where
         (λ text rest. sees_declared n text rest)
 
   -- where the second variable of an iteration stops, or is left out, it can be completed under wider limits
-  pub sees_variables_by : (n : ℕ) (two : Bool) (v : VariableTree) (ts : List Terminal) → Sees (variables_by n two v) (variables_by (deeper a n) two v) Any (Next (is_mark m.Bar)) ts
+  pub sees_variables_by : (n : ℕ) (limit : VariableLimit) (v : VariableTree) (ts : List Terminal) → Sees (variables_by n limit v) (variables_by (deeper a n) limit v) Any (Next (is_mark m.Bar)) ts
   unfolding variables_by
-  sees_variables_by n false v ts = sees_expect m.Bar _ _ Any Any (λ vs. pass (Single v) Any vs) ts
-  sees_variables_by n true v ts =
+  sees_variables_by n OneVariable v ts = sees_expect m.Bar _ _ Any Any (λ vs. pass (Single v) Any vs) ts
+  sees_variables_by n TwoVariables v ts =
       either separates _ _ _ _ Any (Next is_identifier_kind) (Next (is_mark m.Bar)) ts
       (λ u us is. bind (p.a_variable n) (p.a_variable (deeper a n)) (second_after v) (second_after v) (Next (is_mark m.Bar)) Any (Next (is_mark m.Bar)) (Next is_identifier_kind) us (λ vs h. h) (sees_variable m.Bar refl refl n us)
       (λ w rest. sees_expect m.Bar _ _ Any Any (λ vs. pass (Pair v w) Any vs) rest))

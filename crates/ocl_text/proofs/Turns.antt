@@ -1,9 +1,12 @@
 -- One turn of each loop.
-use Rattle.std.proofs.Common.{◌≡◌, ◌≢◌, ℕ, zero, suc, ◌-◌, ◌+◌, ◌<◌, ◌≤◌, List, [], ◌∷◌, ◌++◌, length, drop, Some, None, Result, Ok, Err, refl, arith, true, false}
+use Rattle.std.proofs.Common.{◌≡◌, ◌≢◌, ℕ, zero, suc, ◌-◌, ◌+◌, ◌<◌, ◌≤◌, List, [], ◌∷◌, ◌++◌, length, drop, Some, None, Result, Ok, Err, refl, ◌∙◌, arith, true, false}
 use Rattle.ocl_tokens.specs.declared.token.TokenKind.{TokenKind}
 use Rattle.ocl_tokens.specs.declared.token.TokenKind.TheVariants as k
-use Rattle.ocl_base.specs.Steps.{FaultMeaning, fault, out_of_memory, never, Means}
+use Rattle.ocl_base.specs.Steps.{FaultMeaning, fault, out_of_memory, never, Means, Fails}
 use Rattle.ocl_tokens.specs.Terminals.{Terminal}
+use Rattle.ocl_text.specs.declared.cursor.Cursor.{Cursor}
+use Rattle.ocl_text.specs.declared.cursor.ParseFault.{ParseFault}
+use Rattle.ocl_text.specs.Parses.{meaning, Moves}
 use Rattle.ocl_text.specs.Tree.{Rule, SurfaceTree}
 use Rattle.ocl_text.specs.Grammar.{top, steps_on, separates, begins_invariant, next_is}
 use Rattle.ocl_text.specs.Parse.{TokensFault, syntax, too_deep, Reader, Link, link, chain, one_step, step_list, items, invariant, invariants, context, contexts, is_done, expr, expr_over, expr_by, unary, unary_over, unary_by, post, level_of}
@@ -124,6 +127,14 @@ pub fails_as : {A B F : Type 0} (m : FaultMeaning F) (r : Result A F) (s : Resul
 fails_as (fault x) r s f h = f x h
 fails_as out_of_memory r s f h = tt
 fails_as never r s f h = h
+
+-- a cursor that moved twice is among the same tokens
+pub moves_on : (c d e : Cursor) → Moves c d → Moves d e → Moves c e
+moves_on c d e first second = (second.0 ∙ first.0, second.1 ∙ first.1)
+
+-- what a part refuses after the cursor moved, the whole refuses
+pub fails_on : {A B : Type 0} (c d : Cursor) (e : ParseFault) (r : Result A TokensFault) (s : Result B TokensFault) → Moves c d → ((x : TokensFault) → r ≡ Err x → s ≡ Err x) → Fails (meaning d.tokens.now) e r → Fails (meaning c.tokens.now) e s
+fails_on c d e r s moved f h = fails_as (meaning c.tokens.now e) r s f (rw moved.0 at h)
 
 -- ---- what none of the tests picks out
 expr_other : (here : Reader SurfaceTree) (n : ℕ) (operand whole : Reader SurfaceTree) (kind : TokenKind) (at : ℕ) (all ts : List Terminal) → (kind ≡ k.Let → ⊥) → expr_by here n operand whole kind at all ts ≡ here all

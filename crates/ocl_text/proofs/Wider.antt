@@ -1,7 +1,8 @@
 -- What is spelled within limits is spelled within wider ones, and a list spells at most one list of rules.
-use Rattle.std.proofs.Common.{◌≡◌, ℕ, zero, suc, ◌+◌, List, [], length, Result, Ok, ap, ◌∙◌, subst, Bool, arith, IfOk}
+use Rattle.std.proofs.Common.{◌≡◌, ℕ, zero, suc, ◌+◌, List, [], length, Result, Ok, ap, ◌∙◌, subst, arith, IfOk}
 use Rattle.ocl_tokens.specs.Terminals.{Terminal}
 use Rattle.ocl_text.specs.Tree.{TypeTree, VariableTree, Variables, Bound, Rule, SurfaceTree}
+use Rattle.ocl_text.specs.declared.cursor.VariableLimit.{VariableLimit}
 use Rattle.ocl_text.specs.Grammar as g
 use Rattle.ocl_text.specs.Grammar.{IsExpr, IsBind, IsBinds, MoreBinds, IsUnary, IsPrim, IsLevel, GoesOn, IsSteps, IsArguments, IsItems, MoreItems, IsIteration, IsFold, IsType, IsVariable, IsInvariant, IsInvariants, MoreInvariants, IsContexts, SpellsExpr, Spells, SpellsWithin}
 use Rattle.ocl_text.specs.Parse.{TokensFault, all_rules}
@@ -89,7 +90,7 @@ mutual
   wider_more_items a b (g.no_more_items h) = g.no_more_items h
   wider_more_items a b (g.next_item d) = g.next_item (wider_items a b d)
 
-  wider_iteration : (a b : ℕ) {c n : ℕ} {two : Bool} {ts rest : List Terminal} {vs : Variables} {body : SurfaceTree} → IsIteration c n two ts vs body rest → IsIteration (plus c b) (plus n a) two ts vs body rest
+  wider_iteration : (a b : ℕ) {c n : ℕ} {limit : VariableLimit} {ts rest : List Terminal} {vs : Variables} {body : SurfaceTree} → IsIteration c n limit ts vs body rest → IsIteration (plus c b) (plus n a) limit ts vs body rest
   wider_iteration a b (g.body_alone h d) = g.body_alone h (wider_expr a b d)
   wider_iteration a b (g.one_variable h v d) = g.one_variable h (wider_variable a v) (wider_expr a b d)
   wider_iteration a b (g.two_variables h v w d) = g.two_variables h (wider_variable a v) (wider_variable a w) (wider_expr a b d)

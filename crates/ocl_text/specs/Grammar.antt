@@ -17,6 +17,8 @@ use Rattle.ocl_tokens.specs.declared.token.TokenKind.TheVariants as k
 use Rattle.ocl_tokens.specs.Terminals.{Terminal}
 use Rattle.ocl_text.specs.declared.cursor.Mark.{Mark}
 use Rattle.ocl_text.specs.declared.cursor.Mark.TheVariants as m
+use Rattle.ocl_text.specs.declared.cursor.VariableLimit.{VariableLimit}
+use Rattle.ocl_text.specs.declared.cursor.VariableLimit.TheVariants.{OneVariable, TwoVariables}
 use Rattle.ocl_text.specs.declared.tree.BinaryOperator.{BinaryOperator}
 use Rattle.ocl_text.specs.declared.tree.BinaryOperator.TheVariants.{Multiply, Divide, Modulo, Add, Subtract, Less, LessEqual, Greater, GreaterEqual, Equal, NotEqual, And, Or, Xor, Implies}
 use Rattle.ocl_text.specs.declared.tree.IteratorKind.{IteratorKind}
@@ -75,11 +77,11 @@ iterator_of text = iterator_among iterators text
 abbrev pub is_fold_name : List ℕ → Bool
 is_fold_name text = bytes_eq text (codes "iterate")
 
--- two variables only with forAll and exists
-abbrev pub takes_two : IteratorKind → Bool
-takes_two ForAll = true
-takes_two Exists = true
-takes_two _ = false
+-- how many variables an iteration may name: two only with forAll and exists
+abbrev pub variable_limit : IteratorKind → VariableLimit
+variable_limit ForAll = TwoVariables
+variable_limit Exists = TwoVariables
+variable_limit _ = OneVariable
 
 -- the reserved terminals that stand for a value
 abbrev pub keyword_of : TokenKind → Option kind.Keyword
@@ -230,7 +232,7 @@ mutual
     dot_call : {n c dot_offset offset : ℕ} {dot_text text : List ℕ} {ts mid rest : List Terminal} {source tree : SurfaceTree} {arguments : List SurfaceTree} → IsArguments chain n ts arguments mid → IsSteps chain n c (Call source Dot text (trees_of arguments) offset) mid tree rest → IsSteps chain n (suc c) source (token k.Dot dot_offset dot_text ∷ token k.Identifier offset text ∷ ts) tree rest
     dot_word : {n c dot_offset : ℕ} {dot_text : List ℕ} {t : Terminal} {ts mid rest : List Terminal} {source tree : SurfaceTree} {arguments : List SurfaceTree} → is_word_operator t.kind ≡ true → IsArguments chain n ts arguments mid → IsSteps chain n c (Call source Dot t.text (trees_of arguments) t.offset) mid tree rest → IsSteps chain n (suc c) source (token k.Dot dot_offset dot_text ∷ t ∷ ts) tree rest
     arrow_call : {n c arrow_offset offset : ℕ} {arrow_text text : List ℕ} {ts mid rest : List Terminal} {source tree : SurfaceTree} {arguments : List SurfaceTree} → iterator_of text ≡ None → is_fold_name text ≡ false → IsArguments chain n ts arguments mid → IsSteps chain n c (Call source Arrow text (trees_of arguments) offset) mid tree rest → IsSteps chain n (suc c) source (token k.Arrow arrow_offset arrow_text ∷ token k.Identifier offset text ∷ ts) tree rest
-    arrow_iterate : {n c arrow_offset offset : ℕ} {arrow_text text : List ℕ} {ts mid rest : List Terminal} {source body tree : SurfaceTree} {kind : IteratorKind} {variables : Variables} → iterator_of text ≡ Some kind → IsIteration chain n (takes_two kind) ts variables body mid → IsSteps chain n c (Iterate source kind variables body offset) mid tree rest → IsSteps chain n (suc c) source (token k.Arrow arrow_offset arrow_text ∷ token k.Identifier offset text ∷ ts) tree rest
+    arrow_iterate : {n c arrow_offset offset : ℕ} {arrow_text text : List ℕ} {ts mid rest : List Terminal} {source body tree : SurfaceTree} {kind : IteratorKind} {variables : Variables} → iterator_of text ≡ Some kind → IsIteration chain n (variable_limit kind) ts variables body mid → IsSteps chain n c (Iterate source kind variables body offset) mid tree rest → IsSteps chain n (suc c) source (token k.Arrow arrow_offset arrow_text ∷ token k.Identifier offset text ∷ ts) tree rest
     arrow_fold : {n c arrow_offset offset : ℕ} {arrow_text text : List ℕ} {ts mid rest : List Terminal} {source body tree : SurfaceTree} {variable : VariableTree} {accumulator : Bound} → is_fold_name text ≡ true → IsFold chain n ts variable accumulator body mid → IsSteps chain n c (fold_with source variable accumulator body offset) mid tree rest → IsSteps chain n (suc c) source (token k.Arrow arrow_offset arrow_text ∷ token k.Identifier offset text ∷ ts) tree rest
 
   -- the closing parenthesis is inside too, so `()` needs room for a construct
@@ -246,11 +248,11 @@ mutual
     no_more_items : {n : ℕ} {rest : List Terminal} {found : List SurfaceTree} → NotNext separates rest → MoreItems chain n found rest found rest
     next_item : {n offset : ℕ} {text : List ℕ} {ts rest : List Terminal} {found all : List SurfaceTree} → IsItems chain n found ts all rest → MoreItems chain n found (token k.Comma offset text ∷ ts) all rest
 
-  -- the flag says whether there may be two variables; they stand inside the parenthesis
-  pub data IsIteration (chain : ℕ) : ℕ → Bool → List Terminal → Variables → SurfaceTree → List Terminal → Type 0 where
-    body_alone : {n offset end : ℕ} {two : Bool} {text closing : List ℕ} {ts rest : List Terminal} {body : SurfaceTree} → begins_variable ts ≡ false → IsExpr chain n ts body (token k.Close end closing ∷ rest) → IsIteration chain n two (token k.Open offset text ∷ ts) Unnamed body rest
-    one_variable : {m offset bar_offset end : ℕ} {two : Bool} {text bar closing : List ℕ} {us ts rest : List Terminal} {v : VariableTree} {body : SurfaceTree} → begins_variable us ≡ true → IsVariable (suc m) us v (token k.Bar bar_offset bar ∷ ts) → IsExpr chain (suc m) ts body (token k.Close end closing ∷ rest) → IsIteration chain (suc m) two (token k.Open offset text ∷ us) (Single v) body rest
-    two_variables : {m offset comma_offset bar_offset end : ℕ} {text comma bar closing : List ℕ} {us vs ts rest : List Terminal} {v w : VariableTree} {body : SurfaceTree} → begins_variable us ≡ true → IsVariable (suc m) us v (token k.Comma comma_offset comma ∷ vs) → IsVariable (suc m) vs w (token k.Bar bar_offset bar ∷ ts) → IsExpr chain (suc m) ts body (token k.Close end closing ∷ rest) → IsIteration chain (suc m) true (token k.Open offset text ∷ us) (Pair v w) body rest
+  -- with so many variables at most; they stand inside the parenthesis
+  pub data IsIteration (chain : ℕ) : ℕ → VariableLimit → List Terminal → Variables → SurfaceTree → List Terminal → Type 0 where
+    body_alone : {n offset end : ℕ} {limit : VariableLimit} {text closing : List ℕ} {ts rest : List Terminal} {body : SurfaceTree} → begins_variable ts ≡ false → IsExpr chain n ts body (token k.Close end closing ∷ rest) → IsIteration chain n limit (token k.Open offset text ∷ ts) Unnamed body rest
+    one_variable : {m offset bar_offset end : ℕ} {limit : VariableLimit} {text bar closing : List ℕ} {us ts rest : List Terminal} {v : VariableTree} {body : SurfaceTree} → begins_variable us ≡ true → IsVariable (suc m) us v (token k.Bar bar_offset bar ∷ ts) → IsExpr chain (suc m) ts body (token k.Close end closing ∷ rest) → IsIteration chain (suc m) limit (token k.Open offset text ∷ us) (Single v) body rest
+    two_variables : {m offset comma_offset bar_offset end : ℕ} {text comma bar closing : List ℕ} {us vs ts rest : List Terminal} {v w : VariableTree} {body : SurfaceTree} → begins_variable us ≡ true → IsVariable (suc m) us v (token k.Comma comma_offset comma ∷ vs) → IsVariable (suc m) vs w (token k.Bar bar_offset bar ∷ ts) → IsExpr chain (suc m) ts body (token k.Close end closing ∷ rest) → IsIteration chain (suc m) TwoVariables (token k.Open offset text ∷ us) (Pair v w) body rest
 
   -- variable and accumulator stand inside the parenthesis
   pub data IsFold (chain : ℕ) : ℕ → List Terminal → VariableTree → Bound → SurfaceTree → List Terminal → Type 0 where

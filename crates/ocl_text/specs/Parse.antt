@@ -1,5 +1,5 @@
 -- The parser, as functions on lists.
-use Rattle.std.specs.Prelude.{ℕ, zero, suc, Bool, true, false, if◌then◌else◌, List, [], ◌∷◌, ◌++◌, length, drop, Option, Some, None, Result, Ok, Err, ◌&&◌}
+use Rattle.std.specs.Prelude.{ℕ, zero, suc, Bool, true, false, if◌then◌else◌, List, [], ◌∷◌, ◌++◌, length, drop, Option, Some, None, Result, Ok, Err}
 use Rattle.ocl_base.specs.Steps.{◌>>=◌}
 use Rattle.ocl_tokens.specs.declared.token.TokenKind.{TokenKind}
 use Rattle.ocl_tokens.specs.declared.token.TokenKind.TheVariants as k
@@ -8,6 +8,8 @@ use Rattle.ocl_text.specs.declared.cursor.Mark.{Mark}
 use Rattle.ocl_text.specs.declared.cursor.Mark.TheVariants as m
 use Rattle.ocl_text.specs.declared.cursor.Start.{Start}
 use Rattle.ocl_text.specs.declared.cursor.Start.TheVariants as start
+use Rattle.ocl_text.specs.declared.cursor.VariableLimit.{VariableLimit}
+use Rattle.ocl_text.specs.declared.cursor.VariableLimit.TheVariants.{OneVariable, TwoVariables}
 use Rattle.ocl_text.specs.declared.tree.BinaryOperator.{BinaryOperator}
 use Rattle.ocl_text.specs.declared.tree.IteratorKind.{IteratorKind}
 use Rattle.ocl_text.specs.declared.tree.Keyword.TheVariants as key
@@ -17,7 +19,7 @@ use Rattle.ocl_text.specs.declared.tree.PrefixOperator.TheVariants.{Negate, Not}
 use Rattle.ocl_text.specs.Strings.{string_value}
 use Rattle.ocl_text.specs.Tree as t
 use Rattle.ocl_text.specs.Tree.{TypeTree, VariableTree, Variables, Unnamed, Single, Pair, Bound, binding, lets_at, Rule, SurfaceTree, Number, Name, String, Keyword, EnumerationLiteral, Prefix, Binary, Property, Call, Iterate, If, trees_of, fold_with}
-use Rattle.ocl_text.specs.Grammar.{operator, top, steps_on, is_mark, opens, closes, separates, qualifies, next_is, begins_variable, begins_invariant, declares, is_identifier_kind, iterator_of, is_fold_name, takes_two, numbered}
+use Rattle.ocl_text.specs.Grammar.{operator, top, steps_on, is_mark, opens, closes, separates, qualifies, next_is, begins_variable, begins_invariant, declares, is_identifier_kind, iterator_of, is_fold_name, variable_limit, numbered}
 
 -- why a list of tokens is refused: the tokens from the refused one on
 pub data TokensFault : Type 0 where
@@ -150,21 +152,22 @@ module _ (operand : Reader SurfaceTree) where
 unfoldable pub a_bind : ℕ → Reader SurfaceTree → Reader Bound
 a_bind n operand ts = placed_name ts >>= λ v. expect m.Colon v.1 >>= a_type n >>= λ s. expect m.Equal s.1 >>= operand >>= λ x. Ok (binding v.0 s.0 x.0, x.1)
 
-abbrev pub has_second : Bool → List Terminal → Bool
-has_second two ts = two && next_is separates ts
+abbrev pub has_second : VariableLimit → List Terminal → Bool
+has_second OneVariable ts = false
+has_second TwoVariables ts = next_is separates ts
 
-unfoldable pub variables_by : ℕ → Bool → VariableTree → List Terminal → Reading (Variables)
-variables_by n two v ts = if has_second two ts then (a_variable n (drop 1 ts) >>= λ w. expect m.Bar w.1 >>= λ rest. Ok (Pair v w.0, rest)) else (expect m.Bar ts >>= λ rest. Ok (Single v, rest))
+unfoldable pub variables_by : ℕ → VariableLimit → VariableTree → List Terminal → Reading (Variables)
+variables_by n limit v ts = if has_second limit ts then (a_variable n (drop 1 ts) >>= λ w. expect m.Bar w.1 >>= λ rest. Ok (Pair v w.0, rest)) else (expect m.Bar ts >>= λ rest. Ok (Single v, rest))
 
-unfoldable pub variables : ℕ → Bool → Reader (Variables)
-variables zero two ts = Err (too_deep ts)
-variables (suc n) two ts = a_variable (suc n) ts >>= λ v. variables_by (suc n) two v.0 v.1
+unfoldable pub variables : ℕ → VariableLimit → Reader (Variables)
+variables zero limit ts = Err (too_deep ts)
+variables (suc n) limit ts = a_variable (suc n) ts >>= λ v. variables_by (suc n) limit v.0 v.1
 
-unfoldable pub optional_variables : ℕ → Bool → Reader (Variables)
-optional_variables n two ts = if begins_variable ts then variables n two ts else Ok (Unnamed, ts)
+unfoldable pub optional_variables : ℕ → VariableLimit → Reader (Variables)
+optional_variables n limit ts = if begins_variable ts then variables n limit ts else Ok (Unnamed, ts)
 
-unfoldable pub iteration : ℕ → Reader SurfaceTree → Bool → Reader (Variables × SurfaceTree)
-iteration n whole two ts = expect m.Open ts >>= optional_variables n two >>= λ vs. whole vs.1 >>= λ x. expect m.Close x.1 >>= λ rest. Ok ((vs.0, x.0), rest)
+unfoldable pub iteration : ℕ → Reader SurfaceTree → VariableLimit → Reader (Variables × SurfaceTree)
+iteration n whole limit ts = expect m.Open ts >>= optional_variables n limit >>= λ vs. whole vs.1 >>= λ x. expect m.Close x.1 >>= λ rest. Ok ((vs.0, x.0), rest)
 
 -- after the accumulator of a fold over this source
 unfoldable pub fold_body : Reader SurfaceTree → SurfaceTree → VariableTree → Bound → ℕ → Reader SurfaceTree
@@ -207,7 +210,7 @@ module _ (n : ℕ) (operand whole : Reader SurfaceTree) where
   -- an iteration, or a call by any other name
   abbrev pub applied_by : Option IteratorKind → SurfaceTree → List ℕ → ℕ → Reader SurfaceTree
   applied_by None source text offset ts = operation_call source Arrow text offset ts
-  applied_by (Some kind) source text offset ts = iteration n whole (takes_two kind) ts >>= λ x. Ok (Iterate source kind x.0.0 x.0.1 offset, x.1)
+  applied_by (Some kind) source text offset ts = iteration n whole (variable_limit kind) ts >>= λ x. Ok (Iterate source kind x.0.0 x.0.1 offset, x.1)
 
   unfoldable pub applied_step : SurfaceTree → List ℕ → ℕ → Reader SurfaceTree
   applied_step source text offset ts = if is_fold_name text then a_fold source offset ts else applied_by (iterator_of text) source text offset ts

@@ -1,12 +1,12 @@
-//! Single tokens, by their index in the list.
+//! Tokens that are read one after another.
 
-ghost use Rattle.std.specs.Prelude.{◌≡◌, ◌<◌, ◌+◌, [], ◌∷◌, List, length, MatchOption, Option, Some, None, option_map, true, drop, IfOk};
+ghost use Rattle.std.specs.Prelude.{◌≡◌, ◌<◌, ◌+◌, [], ◌∷◌, List, length, MatchOption, MatchResult, Option, Some, None, option_map, true, false, drop, IfOk};
 ghost use Rattle.ocl_base.specs.Steps.{Fails};
 ghost use Rattle.ocl_tokens.specs.Terminals.{terminal};
 ghost use Rattle.ocl_text.specs.declared.cursor.ParseFault.TheVariants.{OutOfMemory};
 ghost use Rattle.ocl_text.specs.Grammar as grammar;
 ghost use Rattle.ocl_text.specs.Parse as spec;
-ghost use Rattle.ocl_text.specs.Parses.{Parses, Passes, from, meaning};
+ghost use Rattle.ocl_text.specs.Parses.{Parses, Passes, Moves, from, left, after_next, meaning};
 ghost use Rattle.ocl_text.specs.Pending as pending;
 ghost use Rattle.ocl_text.specs.Tree.{SurfaceTree, TypeTree};
 
@@ -15,10 +15,13 @@ use crate::tree::{BinaryOperator, IteratorKind};
 use ocl_tokens::{Token, TokenKind};
 use std::alloc::{AllocError, AllocFailed, Global};
 
-/// The tokens that are read, and how many links one chain may have.
-#[derive(Clone, Copy, Debug)]
-pub(crate) struct Parser<'t> {
+/// A place among tokens.
+#[derive(Debug, Drop)]
+pub(crate) struct Cursor<'t> {
     pub(crate) tokens: &'t [Token<'t>],
+    /// The next token.
+    pub(crate) index: usize,
+    /// How many links one chain may have.
     pub(crate) chain: usize,
 }
 
@@ -76,6 +79,13 @@ pub(crate) enum Start {
     Name,
 }
 
+/// How many variables an iteration may name.
+#[derive(Clone, Copy, Debug)]
+pub(crate) enum VariableLimit {
+    OneVariable,
+    TwoVariables,
+}
+
 /// A name, and where it stands in the text.
 #[derive(Debug, Drop)]
 pub(crate) struct PlacedName {
@@ -94,25 +104,225 @@ pub(crate) struct PlacedOperator {
     pub(crate) offset: usize,
 }
 
-/// The token at this index.
-pub(crate) fn peek<'t>(parser: &Parser<'t>, index: usize) -> Option<Token<'t>>
-    ensures tokens { MatchOption result (from parser.now index ≡ [])
-        (λ t. from parser.now index ≡ terminal t ∷ from parser.now (index + 1)) }
-    ensures within { MatchOption result (Unit {0}) (λ _. index < length parser.now.tokens.now) }
-{
-    if index < parser.tokens.len() {
-        Some(parser.tokens[index])
-    } else {
-        None
+impl<'t> Cursor<'t> {
+    /// A cursor before the first of these tokens.
+    pub(crate) fn new(tokens: &'t [Token<'t>], chain: usize) -> Cursor<'t>
+        ensures { result ≡ record { tokens = tokens.entry; index = 0; chain = chain } }
+    {
+        Cursor {
+            tokens,
+            index: 0,
+            chain,
+        }
     }
-}
 
-/// How many tokens there are from this index on.
-#[tactic(auto, using(crate::proofs::Counts::length_from))]
-pub(crate) fn count(parser: &Parser<'_>, index: usize) -> usize
-    ensures { result ≡ length (from parser.now index) }
-{
-    parser.tokens.len().saturating_sub(index)
+    /// The token at this index.
+    fn token_at(&self, index: usize) -> Option<Token<'t>>
+        ensures tokens { MatchOption result (from self.now.tokens.now index ≡ [])
+            (λ t. from self.now.tokens.now index
+            ≡ terminal t ∷ from self.now.tokens.now (index + 1)) }
+        ensures within { MatchOption result (Unit {0})
+            (λ _. index < length self.now.tokens.now) }
+    {
+        if index < self.tokens.len() {
+            Some(self.tokens[index])
+        } else {
+            None
+        }
+    }
+
+    /// The next token.
+    pub(crate) fn peek(&self) -> Option<Token<'t>>
+        ensures tokens { MatchOption result (left self.now ≡ [])
+            (λ t. left self.now ≡ terminal t ∷ after_next self.now) }
+        ensures within { MatchOption result (Unit {0})
+            (λ _. self.now.index < length self.now.tokens.now) }
+    {
+        self.token_at(self.index)
+    }
+
+    /// How many tokens are left.
+    #[tactic(auto, using(crate::proofs::Counts::length_left))]
+    pub(crate) fn count(&self) -> usize
+        ensures { result ≡ length (left self.now) }
+    {
+        self.tokens.len().saturating_sub(self.index)
+    }
+
+    /// Whether no token is left.
+    pub(crate) fn is_done(&self) -> bool
+        ensures { result ≡ spec.is_done (left self.now) }
+    {
+        self.peek().is_none()
+    }
+
+    /// Goes past the next token.
+    pub(crate) fn advance(&mut self)
+        requires { self.old.index < length self.old.tokens.now }
+        ensures { self.new ≡ record self.old { index = self.old.index + 1 } }
+    {
+        self.index += 1;
+    }
+
+    /// Goes past the next token, which has to be there.
+    pub(crate) fn next_token(&mut self) -> Result<Token<'t>, ParseFault>
+        ensures tokens { MatchResult result
+            (λ t. left self.old ≡ terminal t ∷ after_next self.old)
+            (λ e. (e ≡ ParseFault.Syntax self.old.index) × (left self.old ≡ [])) }
+        ensures moves { IfOk result (λ _.
+            self.new ≡ record self.old { index = self.old.index + 1 }) }
+    {
+        let Some(t) = self.peek() else {
+            return Err(ParseFault::Syntax(self.index));
+        };
+        self.advance();
+        Ok(t)
+    }
+
+    /// The fault at a token round which no construct may be opened any more.
+    #[tactic(auto, unfolding(crate::specs::Parse::too_deep_at))]
+    pub(crate) fn too_deep(&self, start: Start) -> ParseFault
+        ensures tree { Fails (meaning self.now.tokens.now) result
+            (spec.too_deep_at {A = SurfaceTree} (spec.may_begin start) (left self.now)) }
+        ensures declared { Fails (meaning self.now.tokens.now) result
+            (spec.too_deep_at {A = TypeTree} (spec.may_begin start) (left self.now)) }
+        ensures trees { Fails (meaning self.now.tokens.now) result
+            (spec.too_deep_at {A = List SurfaceTree} (spec.may_begin start) (left self.now)) }
+    {
+        match self.peek() {
+            Some(t) if may_begin(start, t.kind) => ParseFault::TooDeep(self.index),
+            _ => ParseFault::Syntax(self.index),
+        }
+    }
+
+    /// Whether a token of this kind comes next.
+    pub(crate) fn next_is(&self, mark: Mark) -> bool
+        ensures { result ≡ grammar.next_is (grammar.is_mark mark) (left self.now) }
+    {
+        match self.peek() {
+            None => false,
+            Some(t) => is_mark(mark, t.kind),
+        }
+    }
+
+    /// Whether a token of this kind comes next. Goes past it.
+    #[tactic(auto, using(crate::proofs::Counts::drop_left))]
+    pub(crate) fn take(&mut self, mark: Mark) -> bool
+        ensures value { result ≡ grammar.next_is (grammar.is_mark mark) (left self.old) }
+        ensures taken { result ≡ true → drop 1 (left self.old) ≡ left self.new }
+        ensures kept { result ≡ false → left self.old ≡ left self.new }
+        ensures moves { Moves self.old self.new }
+    {
+        let Some(t) = self.peek() else {
+            return false;
+        };
+        let is_next = is_mark(mark, t.kind);
+        if is_next {
+            self.advance();
+        }
+        is_next
+    }
+
+    /// Whether a second variable comes next, where there may be two. Goes past the comma before it.
+    pub(crate) fn take_second(&mut self, limit: VariableLimit) -> bool
+        ensures value { result ≡ spec.has_second limit (left self.old) }
+        ensures taken { result ≡ true → drop 1 (left self.old) ≡ left self.new }
+        ensures kept { result ≡ false → left self.old ≡ left self.new }
+        ensures moves { Moves self.old self.new }
+    {
+        match limit {
+            VariableLimit::OneVariable => false,
+            VariableLimit::TwoVariables => self.take(Mark::Comma),
+        }
+    }
+
+    /// Goes past a token of this kind, which has to come next.
+    #[tactic(auto, unfolding(crate::specs::Parse::expect))]
+    pub(crate) fn expect(&mut self, mark: Mark) -> Result<(), ParseFault>
+        ensures { Passes self.old self.new result (spec.expect mark (left self.old)) }
+    {
+        let start = self.index;
+        let t = self.next_token()?;
+        if is_mark(mark, t.kind) {
+            Ok(())
+        } else {
+            Err(ParseFault::Syntax(start))
+        }
+    }
+
+    /// The name that has to come next.
+    #[tactic(auto, unfolding(crate::specs::Parse::identifier))]
+    pub(crate) fn identifier(&mut self, alloc: Global) -> Result<Name, ParseFault>
+        ensures { Parses self.old self.new (λ n. n) result (spec.identifier (left self.old)) }
+    {
+        let start = self.index;
+        let t = self.next_token()?;
+        match t.kind {
+            TokenKind::Identifier => Ok(Name::new(alloc, t.text)?),
+            _ => Err(ParseFault::Syntax(start)),
+        }
+    }
+
+    /// The name that has to come next, with its offset.
+    #[tactic(auto, unfolding(crate::specs::Parse::placed_name))]
+    pub(crate) fn placed_name(&mut self, alloc: Global) -> Result<PlacedName, ParseFault>
+        ensures { Parses self.old self.new (λ n. (n.name, n.offset)) result
+            (spec.placed_name (left self.old)) }
+    {
+        let start = self.index;
+        let t = self.next_token()?;
+        match t.kind {
+            TokenKind::Identifier => {
+                let name = Name::new(alloc, t.text)?;
+                let offset = t.span.start;
+                Ok(PlacedName { name, offset })
+            }
+            _ => Err(ParseFault::Syntax(start)),
+        }
+    }
+
+    /// The binary operator that comes next.
+    #[tactic(auto, unfolding(crate::specs::Pending::next_operator))]
+    pub(crate) fn next_operator(&self) -> Option<PlacedOperator>
+        ensures value { option_map (λ o. (o, after_next self.now)) result
+            ≡ pending.next_operator (left self.now) }
+        ensures within { MatchOption result (Unit {0})
+            (λ _. self.now.index < length self.now.tokens.now) }
+    {
+        let t = self.peek()?;
+        let (height, operator) = operator(t.kind)?;
+        Some(PlacedOperator {
+            operator,
+            height,
+            offset: t.span.start,
+        })
+    }
+
+    /// Whether a dot or an arrow comes next.
+    pub(crate) fn begins_step(&self) -> bool
+        ensures { result ≡ grammar.next_is grammar.steps_on (left self.now) }
+    {
+        match self.peek() {
+            None => false,
+            Some(t) => matches!(t.kind, TokenKind::Dot | TokenKind::Arrow),
+        }
+    }
+
+    /// Whether an iteration's variable comes next: a name, and what may follow one.
+    pub(crate) fn begins_variable(&self) -> bool
+        ensures { result ≡ grammar.begins_variable (left self.now) }
+    {
+        let Some(t) = self.peek() else {
+            return false;
+        };
+        match t.kind {
+            TokenKind::Identifier => match self.token_at(self.index + 1) {
+                None => false,
+                Some(next) => ends_variable(next.kind),
+            },
+            _ => false,
+        }
+    }
 }
 
 /// The binary operator that a token of this kind is, after the number of tighter levels.
@@ -139,22 +349,6 @@ fn operator(kind: TokenKind) -> Option<(usize, BinaryOperator)>
     }
 }
 
-/// The binary operator that comes next.
-#[tactic(auto, unfolding(crate::specs::Pending::next_operator))]
-pub(crate) fn next_operator(parser: &Parser<'_>, index: usize) -> Option<PlacedOperator>
-    ensures value { option_map (λ o. (o, from parser.now (index + 1))) result
-        ≡ pending.next_operator (from parser.now index) }
-    ensures within { MatchOption result (Unit {0}) (λ _. index < length parser.now.tokens.now) }
-{
-    let t = peek(parser, index)?;
-    let (height, operator) = operator(t.kind)?;
-    Some(PlacedOperator {
-        operator,
-        height,
-        offset: t.span.start,
-    })
-}
-
 fn is_mark(mark: Mark, kind: TokenKind) -> bool
     ensures { result ≡ grammar.is_mark mark kind }
 {
@@ -178,115 +372,10 @@ fn is_mark(mark: Mark, kind: TokenKind) -> bool
     }
 }
 
-/// Whether a token of this kind comes next.
-#[tactic(auto, using(crate::proofs::Counts::drop_from))]
-pub(crate) fn next_is(mark: Mark, parser: &Parser<'_>, index: usize) -> bool
-    ensures value { result ≡ grammar.next_is (grammar.is_mark mark) (from parser.now index) }
-    ensures within { result ≡ true → index < length parser.now.tokens.now }
-    ensures after { drop 1 (from parser.now index) ≡ from parser.now (index + 1) }
+fn ends_variable(kind: TokenKind) -> bool
+    ensures { result ≡ grammar.ends_variable kind }
 {
-    match peek(parser, index) {
-        None => false,
-        Some(t) => is_mark(mark, t.kind),
-    }
-}
-
-/// The index after a token of this kind, which has to stand here.
-#[tactic(auto, unfolding(crate::specs::Parse::expect))]
-pub(crate) fn expect(mark: Mark, parser: &Parser<'_>, index: usize) -> Result<usize, ParseFault>
-    ensures { Passes parser.now result (spec.expect mark (from parser.now index)) }
-{
-    let Some(t) = peek(parser, index) else {
-        return Err(ParseFault::Syntax(index));
-    };
-    if is_mark(mark, t.kind) {
-        Ok(index + 1)
-    } else {
-        Err(ParseFault::Syntax(index))
-    }
-}
-
-/// The name that has to stand here.
-#[tactic(auto, unfolding(crate::specs::Parse::identifier))]
-pub(crate) fn identifier(
-    alloc: Global,
-    parser: &Parser<'_>,
-    index: usize,
-) -> Result<(Name, usize), ParseFault>
-    ensures { Parses parser.now (λ n. n) result (spec.identifier (from parser.now index)) }
-{
-    let Some(t) = peek(parser, index) else {
-        return Err(ParseFault::Syntax(index));
-    };
-    match t.kind {
-        TokenKind::Identifier => Ok((Name::new(alloc, t.text)?, index + 1)),
-        _ => Err(ParseFault::Syntax(index)),
-    }
-}
-
-/// The name that has to stand here, with its offset.
-#[tactic(auto, unfolding(crate::specs::Parse::placed_name))]
-pub(crate) fn placed_name(
-    alloc: Global,
-    parser: &Parser<'_>,
-    index: usize,
-) -> Result<(PlacedName, usize), ParseFault>
-    ensures { Parses parser.now (λ n. (n.name, n.offset)) result
-        (spec.placed_name (from parser.now index)) }
-{
-    let Some(t) = peek(parser, index) else {
-        return Err(ParseFault::Syntax(index));
-    };
-    match t.kind {
-        TokenKind::Identifier => {
-            let name = Name::new(alloc, t.text)?;
-            let offset = t.span.start;
-            Ok((PlacedName { name, offset }, index + 1))
-        }
-        _ => Err(ParseFault::Syntax(index)),
-    }
-}
-
-/// Whether a dot or an arrow comes next.
-pub(crate) fn begins_step(parser: &Parser<'_>, index: usize) -> bool
-    ensures { result ≡ grammar.next_is grammar.steps_on (from parser.now index) }
-{
-    match peek(parser, index) {
-        None => false,
-        Some(t) => matches!(t.kind, TokenKind::Dot | TokenKind::Arrow),
-    }
-}
-
-fn ends_variable(parser: &Parser<'_>, index: usize) -> bool
-    ensures { result ≡ grammar.next_is grammar.ends_variable (from parser.now index) }
-{
-    match peek(parser, index) {
-        None => false,
-        Some(t) => matches!(t.kind, TokenKind::Comma | TokenKind::Bar | TokenKind::Colon),
-    }
-}
-
-/// Whether an iteration's variable comes next.
-pub(crate) fn begins_variable(parser: &Parser<'_>, index: usize) -> bool
-    ensures { result ≡ grammar.begins_variable (from parser.now index) }
-{
-    let Some(t) = peek(parser, index) else {
-        return false;
-    };
-    match t.kind {
-        TokenKind::Identifier => ends_variable(parser, index + 1),
-        _ => false,
-    }
-}
-
-/// Whether a second variable comes next, where there may be two.
-#[tactic(auto, using(crate::proofs::Counts::drop_from))]
-pub(crate) fn has_second(two: bool, parser: &Parser<'_>, index: usize) -> bool
-    ensures value { result ≡ spec.has_second two (from parser.now index) }
-    ensures within { result ≡ true → index < length parser.now.tokens.now }
-    ensures after { drop 1 (from parser.now index) ≡ from parser.now (index + 1) }
-{
-    two && next_is(Mark::Comma, parser, index)
+    matches!(kind, TokenKind::Comma | TokenKind::Bar | TokenKind::Colon)
 }
 
 fn begins_operand(kind: TokenKind) -> bool
@@ -321,26 +410,6 @@ fn may_begin(start: Start, kind: TokenKind) -> bool
     }
 }
 
-/// The fault at a token round which no construct may be opened any more.
-#[tactic(auto, unfolding(crate::specs::Parse::too_deep_at))]
-pub(crate) fn too_deep(start: Start, parser: &Parser<'_>, index: usize) -> ParseFault
-    ensures tree { Fails (meaning parser.now) result
-        (spec.too_deep_at {A = SurfaceTree} (spec.may_begin start) (from parser.now index)) }
-    ensures declared { Fails (meaning parser.now) result
-        (spec.too_deep_at {A = TypeTree} (spec.may_begin start) (from parser.now index)) }
-    ensures trees { Fails (meaning parser.now) result
-        (spec.too_deep_at {A = List SurfaceTree} (spec.may_begin start) (from parser.now index)) }
-{
-    let Some(t) = peek(parser, index) else {
-        return ParseFault::Syntax(index);
-    };
-    if may_begin(start, t.kind) {
-        ParseFault::TooDeep(index)
-    } else {
-        ParseFault::Syntax(index)
-    }
-}
-
 /// The iteration that a name after an arrow names.
 pub(crate) fn iterator_of(text: &str) -> Option<IteratorKind>
     ensures { result ≡ grammar.iterator_of text.now }
@@ -364,19 +433,12 @@ pub(crate) fn is_fold_name(text: &str) -> bool
     text == "iterate"
 }
 
-/// Whether an iteration may have two variables.
-pub(crate) fn takes_two(iterator: IteratorKind) -> bool
-    ensures { result ≡ grammar.takes_two iterator }
+/// How many variables an iteration may name.
+pub(crate) fn variable_limit(iterator: IteratorKind) -> VariableLimit
+    ensures { result ≡ grammar.variable_limit iterator }
 {
     match iterator {
-        IteratorKind::ForAll | IteratorKind::Exists => true,
-        _ => false,
+        IteratorKind::ForAll | IteratorKind::Exists => VariableLimit::TwoVariables,
+        _ => VariableLimit::OneVariable,
     }
-}
-
-/// Whether no token is left.
-pub(crate) fn is_done(parser: &Parser<'_>, index: usize) -> bool
-    ensures { result ≡ spec.is_done (from parser.now index) }
-{
-    peek(parser, index).is_none()
 }

@@ -112,7 +112,7 @@ impl Model for WholeNumber {
 
 impl WholeNumber {
     /// The number that the value is.
-    pub(crate) fn new(value: u64) -> Self
+    pub fn new(value: u64) -> Self
         requires { value ≤ MAX_NUMBER }
         ensures { result ≡ value }
     {

@@ -5,56 +5,54 @@ ghost use Rattle.ocl_base.specs.Words.{is_name};
 ghost use Rattle.ocl_tokens.specs.Terminals.{Terminal};
 ghost use Rattle.ocl_text.specs.Names.{is_operation_name};
 ghost use Rattle.ocl_text.specs.Parse as spec;
-ghost use Rattle.ocl_text.specs.Parses.{Parses, UnlessOutOfMemory, from, operand, whole};
+ghost use Rattle.ocl_text.specs.Parses.{Parses, UnlessOutOfMemory, left, operand, whole};
 ghost use Rattle.ocl_text.specs.Grammar.{IsExpr, SpellsExpr};
 ghost use Rattle.ocl_text.specs.Tree.{SurfaceTree};
 ghost use Rattle.ocl_text.specs.View.{view, bound_of, view_variable, view_variables};
 
-use crate::cursor::{Mark, ParseFault, Parser, Start};
+use crate::cursor::{Cursor, Mark, ParseFault, Start, VariableLimit};
 use crate::tree::{Binding, Expression, Keyword, Navigation, PrefixOperator, Variable, Variables};
 use crate::{cursor, nodes, pending, types};
 use ocl_tokens::{Token, TokenKind};
 use std::alloc::Global;
 
-/// The expression that begins at this token, and the index after it.
+/// The expression that comes next.
 pub(crate) fn expression(
     alloc: Global,
-    parser: &Parser<'_>,
+    cursor: &mut Cursor<'_>,
     depth: usize,
-    index: usize,
-) -> Result<(Expression, usize), ParseFault>
-    ensures gives { Parses parser.now view result (whole parser.now depth (from parser.now index)) }
+) -> Result<Expression, ParseFault>
+    ensures gives { Parses cursor.old cursor.new view result
+        (whole cursor.old depth (left cursor.old)) }
     ensures spells { IfOk result (λ x.
-        IsExpr parser.now.chain depth (from parser.now index) (view x.0) (from parser.now x.1)) }
+        IsExpr cursor.old.chain depth (left cursor.old) (view x) (left cursor.new)) }
     ensures only { IfOk result (λ x. (tree : SurfaceTree) (rest : List Terminal)
-        → SpellsExpr (from parser.now index) tree rest
-        → (tree ≡ view x.0) × (rest ≡ from parser.now x.1)) }
+        → SpellsExpr (left cursor.old) tree rest
+        → (tree ≡ view x) × (rest ≡ left cursor.new)) }
     ensures refused { IfErr result (UnlessOutOfMemory ((tree : SurfaceTree) (rest : List Terminal)
-        → IsExpr parser.now.chain depth (from parser.now index) tree rest → ⊥)) }
+        → IsExpr cursor.old.chain depth (left cursor.old) tree rest → ⊥)) }
 {
-    expr(alloc, parser, depth, index)
+    expr(alloc, cursor, depth)
 }
 
 /// An expression: a `let`, or operands with binary operators. No token may stand where the depth is 0.
 #[cycle(parser)]
 #[tactic(auto, unfolding(crate::specs::Parse::unary, crate::specs::Parse::expr, crate::specs::Parse::expr_over))]
-fn expr(
-    alloc: Global,
-    parser: &Parser<'_>,
-    depth: usize,
-    index: usize,
-) -> Result<(Expression, usize), ParseFault>
-    ensures { Parses parser.now view result (whole parser.now depth (from parser.now index)) }
+fn expr(alloc: Global, cursor: &mut Cursor<'_>, depth: usize) -> Result<Expression, ParseFault>
+    ensures { Parses cursor.old cursor.new view result (whole cursor.old depth (left cursor.old)) }
 {
     if depth == 0 {
-        return Err(cursor::too_deep(Start::Expression, parser, index));
+        return Err(cursor.too_deep(Start::Expression));
     }
-    let Some(t) = cursor::peek(parser, index) else {
-        return operators(alloc, parser, depth, index);
+    let Some(t) = cursor.peek() else {
+        return operators(alloc, cursor, depth);
     };
     match t.kind {
-        TokenKind::Let => let_expression(alloc, parser, depth - 1, t.span.start, index + 1),
-        _ => operators(alloc, parser, depth, index),
+        TokenKind::Let => {
+            cursor.advance();
+            let_expression(alloc, cursor, depth - 1, t.span.start)
+        }
+        _ => operators(alloc, cursor, depth),
     }
 }
 
@@ -63,42 +61,36 @@ fn expr(
 #[tactic(auto, unfolding(crate::specs::Parse::let_expression))]
 fn let_expression(
     alloc: Global,
-    parser: &Parser<'_>,
+    cursor: &mut Cursor<'_>,
     depth: usize,
     offset: usize,
-    index: usize,
-) -> Result<(Expression, usize), ParseFault>
-    ensures { Parses parser.now view result
-        (spec.let_expression depth (operand parser.now depth) (whole parser.now depth) offset
-        (from parser.now index)) }
+) -> Result<Expression, ParseFault>
+    ensures { Parses cursor.old cursor.new view result
+        (spec.let_expression depth (operand cursor.old depth) (whole cursor.old depth) offset
+        (left cursor.old)) }
 {
     if depth == 0 {
-        return Err(cursor::too_deep(Start::Name, parser, index));
+        return Err(cursor.too_deep(Start::Name));
     }
-    let (bindings, index) = bindings(alloc, parser, depth, index)?;
-    let index = cursor::expect(Mark::In, parser, index)?;
-    let (body, index) = expr(alloc, parser, depth, index)?;
-    Ok((nodes::let_expression(alloc, bindings, body, offset)?, index))
+    let bindings = bindings(alloc, cursor, depth)?;
+    cursor.expect(Mark::In)?;
+    let body = expr(alloc, cursor, depth)?;
+    Ok(nodes::let_expression(alloc, bindings, body, offset)?)
 }
 
 /// A bound name with its type and its value.
 #[cycle(parser)]
 #[tactic(auto, unfolding(crate::specs::Parse::a_bind))]
-fn a_bind(
-    alloc: Global,
-    parser: &Parser<'_>,
-    depth: usize,
-    index: usize,
-) -> Result<(Binding, usize), ParseFault>
-    ensures { Parses parser.now bound_of result
-        (spec.a_bind depth (operand parser.now depth) (from parser.now index)) }
+fn a_bind(alloc: Global, cursor: &mut Cursor<'_>, depth: usize) -> Result<Binding, ParseFault>
+    ensures { Parses cursor.old cursor.new bound_of result
+        (spec.a_bind depth (operand cursor.old depth) (left cursor.old)) }
 {
-    let (name, index) = cursor::placed_name(alloc, parser, index)?;
-    let index = cursor::expect(Mark::Colon, parser, index)?;
-    let (declared, index) = types::a_type(alloc, parser, depth, index)?;
-    let index = cursor::expect(Mark::Equal, parser, index)?;
-    let (value, index) = operators(alloc, parser, depth, index)?;
-    Ok((nodes::binding(name, declared, value), index))
+    let name = cursor.placed_name(alloc)?;
+    cursor.expect(Mark::Colon)?;
+    let declared = types::a_type(alloc, cursor, depth)?;
+    cursor.expect(Mark::Equal)?;
+    let value = operators(alloc, cursor, depth)?;
+    Ok(nodes::binding(name, declared, value))
 }
 
 /// One binding or more, with commas between.
@@ -106,133 +98,112 @@ fn a_bind(
 #[tactic(auto, using(crate::proofs::Turns::items_over))]
 fn bindings(
     alloc: Global,
-    parser: &Parser<'_>,
+    cursor: &mut Cursor<'_>,
     depth: usize,
-    start: usize,
-) -> Result<(Vec<Binding>, usize), ParseFault>
-    ensures all { Parses parser.now (λ v. map bound_of v.items) result
-        (spec.items (spec.a_bind depth (operand parser.now depth))
-        (length (from parser.now start)) [] (from parser.now start)) }
-    ensures some { IfOk result (λ x. 0 < vec_len x.0) }
+) -> Result<Vec<Binding>, ParseFault>
+    ensures all { Parses cursor.old cursor.new (λ v. map bound_of v.items) result
+        (spec.items (spec.a_bind depth (operand cursor.old depth))
+        (length (left cursor.old)) [] (left cursor.old)) }
+    ensures some { IfOk result (λ v. 0 < vec_len v) }
 {
     let mut all = Vec::new(alloc);
-    let mut index = start;
-    let left = cursor::count(parser, start);
+    let left = cursor.count();
     'bindings: for _turn in 0..left {
-        let (binding, following) = a_bind(alloc, parser, depth, index)?;
+        let binding = a_bind(alloc, cursor, depth)?;
         all.push(binding)?;
-        if !cursor::next_is(Mark::Comma, parser, following) {
-            return Ok((all, following));
+        if !cursor.take(Mark::Comma) {
+            return Ok(all);
         }
-        index = following + 1;
     }
-    Err(ParseFault::Syntax(index))
+    Err(ParseFault::Syntax(cursor.index))
 }
 
 /// An operand with the prefix operators before it.
 #[cycle(parser)]
 #[tactic(auto, unfolding(crate::specs::Parse::unary, crate::specs::Parse::unary_over))]
-fn unary(
-    alloc: Global,
-    parser: &Parser<'_>,
-    depth: usize,
-    index: usize,
-) -> Result<(Expression, usize), ParseFault>
-    ensures { Parses parser.now view result
-        (spec.unary parser.now.chain depth (from parser.now index)) }
+fn unary(alloc: Global, cursor: &mut Cursor<'_>, depth: usize) -> Result<Expression, ParseFault>
+    ensures { Parses cursor.old cursor.new view result
+        (spec.unary cursor.old.chain depth (left cursor.old)) }
 {
     if depth == 0 {
-        return Err(cursor::too_deep(Start::Operand, parser, index));
+        return Err(cursor.too_deep(Start::Operand));
     }
-    let Some(t) = cursor::peek(parser, index) else {
-        return Err(ParseFault::Syntax(index));
+    let Some(t) = cursor.peek() else {
+        return Err(ParseFault::Syntax(cursor.index));
     };
     match t.kind {
         TokenKind::Minus => {
-            let (inner, index) = unary(alloc, parser, depth - 1, index + 1)?;
-            let node = nodes::prefix(alloc, PrefixOperator::Negate, inner, t.span.start)?;
-            Ok((node, index))
+            cursor.advance();
+            let inner = unary(alloc, cursor, depth - 1)?;
+            Ok(nodes::prefix(alloc, PrefixOperator::Negate, inner, t.span.start)?)
         }
         TokenKind::Not => {
-            let (inner, index) = unary(alloc, parser, depth - 1, index + 1)?;
-            let node = nodes::prefix(alloc, PrefixOperator::Not, inner, t.span.start)?;
-            Ok((node, index))
+            cursor.advance();
+            let inner = unary(alloc, cursor, depth - 1)?;
+            Ok(nodes::prefix(alloc, PrefixOperator::Not, inner, t.span.start)?)
         }
-        _ => post(alloc, parser, depth - 1, index),
+        _ => post(alloc, cursor, depth - 1),
     }
 }
 
 /// A first operand and the steps after it.
 #[cycle(parser)]
 #[tactic(auto, unfolding(crate::specs::Parse::post))]
-fn post(
-    alloc: Global,
-    parser: &Parser<'_>,
-    depth: usize,
-    index: usize,
-) -> Result<(Expression, usize), ParseFault>
-    ensures { Parses parser.now view result
-        (spec.post parser.now.chain depth (operand parser.now depth) (whole parser.now depth)
-        (from parser.now index)) }
+fn post(alloc: Global, cursor: &mut Cursor<'_>, depth: usize) -> Result<Expression, ParseFault>
+    ensures { Parses cursor.old cursor.new view result
+        (spec.post cursor.old.chain depth (operand cursor.old depth) (whole cursor.old depth)
+        (left cursor.old)) }
 {
-    let (source, index) = prim(alloc, parser, depth, index)?;
-    steps(alloc, parser, depth, source, index)
+    let source = prim(alloc, cursor, depth)?;
+    steps(alloc, cursor, depth, source)
 }
 
 /// A name at this offset in the text, alone or qualified.
 #[tactic(auto, unfolding(crate::specs::Parse::name_or_literal))]
 fn name_or_literal(
     alloc: Global,
-    parser: &Parser<'_>,
+    cursor: &mut Cursor<'_>,
     text: &str,
     offset: usize,
-    index: usize,
-) -> Result<(Expression, usize), ParseFault>
+) -> Result<Expression, ParseFault>
     requires { is_name text.now ≡ true }
-    ensures { Parses parser.now view result (spec.name_or_literal text.now offset
-        (from parser.now index)) }
+    ensures { Parses cursor.old cursor.new view result (spec.name_or_literal text.now offset
+        (left cursor.old)) }
 {
-    if cursor::next_is(Mark::ColonColon, parser, index) {
-        let (literal, index) = cursor::identifier(alloc, parser, index + 1)?;
-        let node = nodes::enumeration_literal(alloc, text, literal, offset)?;
-        Ok((node, index))
+    if cursor.take(Mark::ColonColon) {
+        let literal = cursor.identifier(alloc)?;
+        Ok(nodes::enumeration_literal(alloc, text, literal, offset)?)
     } else {
-        Ok((nodes::name(alloc, text, offset)?, index))
+        Ok(nodes::name(alloc, text, offset)?)
     }
 }
 
 /// A first operand.
 #[cycle(parser)]
 #[tactic(auto, unfolding(crate::specs::Parse::prim), using(crate::proofs::Names::token_name, crate::proofs::Names::token_number))]
-fn prim(
-    alloc: Global,
-    parser: &Parser<'_>,
-    depth: usize,
-    index: usize,
-) -> Result<(Expression, usize), ParseFault>
-    ensures { Parses parser.now view result
-        (spec.prim (operand parser.now depth) (whole parser.now depth) (from parser.now index)) }
+fn prim(alloc: Global, cursor: &mut Cursor<'_>, depth: usize) -> Result<Expression, ParseFault>
+    ensures { Parses cursor.old cursor.new view result
+        (spec.prim (operand cursor.old depth) (whole cursor.old depth) (left cursor.old)) }
 {
-    let Some(t) = cursor::peek(parser, index) else {
-        return Err(ParseFault::Syntax(index));
-    };
+    let start = cursor.index;
+    let t = cursor.next_token()?;
     let offset = t.span.start;
     match t.kind {
-        TokenKind::Number(value) => Ok((nodes::number(value, offset), index + 1)),
-        TokenKind::Identifier => name_or_literal(alloc, parser, t.text, offset, index + 1),
-        TokenKind::String => Ok((nodes::string(alloc, t.text, offset)?, index + 1)),
-        TokenKind::True => Ok((nodes::keyword(Keyword::True, offset), index + 1)),
-        TokenKind::False => Ok((nodes::keyword(Keyword::False, offset), index + 1)),
-        TokenKind::Null => Ok((nodes::keyword(Keyword::Null, offset), index + 1)),
-        TokenKind::Invalid => Ok((nodes::keyword(Keyword::Invalid, offset), index + 1)),
-        TokenKind::SelfObject => Ok((nodes::keyword(Keyword::SelfObject, offset), index + 1)),
+        TokenKind::Number(value) => Ok(nodes::number(value, offset)),
+        TokenKind::Identifier => name_or_literal(alloc, cursor, t.text, offset),
+        TokenKind::String => Ok(nodes::string(alloc, t.text, offset)?),
+        TokenKind::True => Ok(nodes::keyword(Keyword::True, offset)),
+        TokenKind::False => Ok(nodes::keyword(Keyword::False, offset)),
+        TokenKind::Null => Ok(nodes::keyword(Keyword::Null, offset)),
+        TokenKind::Invalid => Ok(nodes::keyword(Keyword::Invalid, offset)),
+        TokenKind::SelfObject => Ok(nodes::keyword(Keyword::SelfObject, offset)),
         TokenKind::Open => {
-            let (inner, index) = expr(alloc, parser, depth, index + 1)?;
-            let index = cursor::expect(Mark::Close, parser, index)?;
-            Ok((inner, index))
+            let inner = expr(alloc, cursor, depth)?;
+            cursor.expect(Mark::Close)?;
+            Ok(inner)
         }
-        TokenKind::If => if_expression(alloc, parser, depth, offset, index + 1),
-        _ => Err(ParseFault::Syntax(index)),
+        TokenKind::If => if_expression(alloc, cursor, depth, offset),
+        _ => Err(ParseFault::Syntax(start)),
     }
 }
 
@@ -241,44 +212,37 @@ fn prim(
 #[tactic(auto, unfolding(crate::specs::Parse::if_expression))]
 fn if_expression(
     alloc: Global,
-    parser: &Parser<'_>,
+    cursor: &mut Cursor<'_>,
     depth: usize,
     offset: usize,
-    index: usize,
-) -> Result<(Expression, usize), ParseFault>
-    ensures { Parses parser.now view result
-        (spec.if_expression (operand parser.now depth) (whole parser.now depth) offset
-        (from parser.now index)) }
+) -> Result<Expression, ParseFault>
+    ensures { Parses cursor.old cursor.new view result
+        (spec.if_expression (operand cursor.old depth) (whole cursor.old depth) offset
+        (left cursor.old)) }
 {
-    let (condition, index) = operators(alloc, parser, depth, index)?;
-    let index = cursor::expect(Mark::Then, parser, index)?;
-    let (then_branch, index) = expr(alloc, parser, depth, index)?;
-    let index = cursor::expect(Mark::Else, parser, index)?;
-    let (else_branch, index) = expr(alloc, parser, depth, index)?;
-    let index = cursor::expect(Mark::Endif, parser, index)?;
-    let node = nodes::if_expression(alloc, condition, then_branch, else_branch, offset)?;
-    Ok((node, index))
+    let condition = operators(alloc, cursor, depth)?;
+    cursor.expect(Mark::Then)?;
+    let then_branch = expr(alloc, cursor, depth)?;
+    cursor.expect(Mark::Else)?;
+    let else_branch = expr(alloc, cursor, depth)?;
+    cursor.expect(Mark::Endif)?;
+    Ok(nodes::if_expression(alloc, condition, then_branch, else_branch, offset)?)
 }
 
 /// Operands with binary operators between them.
 #[cycle(parser)]
-fn operators(
-    alloc: Global,
-    parser: &Parser<'_>,
-    depth: usize,
-    start: usize,
-) -> Result<(Expression, usize), ParseFault>
-    ensures { Parses parser.now view result (operand parser.now depth (from parser.now start)) }
+fn operators(alloc: Global, cursor: &mut Cursor<'_>, depth: usize) -> Result<Expression, ParseFault>
+    ensures { Parses cursor.old cursor.new view result
+        (operand cursor.old depth (left cursor.old)) }
 {
     let mut waiting = Vec::new(alloc);
-    let mut index = start;
     'operators: loop {
-        let (operand, following) = unary(alloc, parser, depth, index)?;
-        let Some(operator) = cursor::next_operator(parser, following) else {
-            return Ok((pending::close(alloc, waiting, operand)?, following));
+        let operand = unary(alloc, cursor, depth)?;
+        let Some(operator) = cursor.next_operator() else {
+            return Ok(pending::close(alloc, waiting, operand)?);
         };
-        waiting = pending::wait(alloc, parser, waiting, operand, operator, following)?;
-        index = following + 1;
+        waiting = pending::wait(alloc, cursor, waiting, operand, operator)?;
+        cursor.advance();
     }
 }
 
@@ -287,28 +251,24 @@ fn operators(
 #[tactic(auto, using(crate::proofs::Turns::steps_none, crate::proofs::Turns::steps_deep, crate::proofs::Turns::steps_err, crate::proofs::Turns::steps_more))]
 fn steps(
     alloc: Global,
-    parser: &Parser<'_>,
+    cursor: &mut Cursor<'_>,
     depth: usize,
     first: Expression,
-    start: usize,
-) -> Result<(Expression, usize), ParseFault>
-    ensures { Parses parser.now view result
-        (spec.step_list depth (operand parser.now depth) (whole parser.now depth) parser.now.chain
-        (view first) (from parser.now start)) }
+) -> Result<Expression, ParseFault>
+    ensures { Parses cursor.old cursor.new view result
+        (spec.step_list depth (operand cursor.old depth) (whole cursor.old depth) cursor.old.chain
+        (view first) (left cursor.old)) }
 {
     let mut source = first;
-    let mut index = start;
-    let mut left = parser.chain;
-    'steps: while cursor::begins_step(parser, index) {
+    let mut left = cursor.chain;
+    'steps: while cursor.begins_step() {
         if left == 0 {
-            return Err(ParseFault::TooDeep(index));
+            return Err(ParseFault::TooDeep(cursor.index));
         }
-        let (next, following) = step(alloc, parser, depth, source, index)?;
-        source = next;
-        index = following;
+        source = step(alloc, cursor, depth, source)?;
         left -= 1;
     }
-    Ok((source, index))
+    Ok(source)
 }
 
 /// One step, which has begun.
@@ -316,22 +276,20 @@ fn steps(
 #[tactic(auto, unfolding(crate::specs::Parse::one_step))]
 fn step(
     alloc: Global,
-    parser: &Parser<'_>,
+    cursor: &mut Cursor<'_>,
     depth: usize,
     source: Expression,
-    index: usize,
-) -> Result<(Expression, usize), ParseFault>
-    ensures { Parses parser.now view result
-        (spec.one_step depth (operand parser.now depth) (whole parser.now depth) (view source)
-        (from parser.now index)) }
+) -> Result<Expression, ParseFault>
+    ensures { Parses cursor.old cursor.new view result
+        (spec.one_step depth (operand cursor.old depth) (whole cursor.old depth) (view source)
+        (left cursor.old)) }
 {
-    let Some(t) = cursor::peek(parser, index) else {
-        return Err(ParseFault::Syntax(index));
-    };
+    let start = cursor.index;
+    let t = cursor.next_token()?;
     match t.kind {
-        TokenKind::Dot => after_dot(alloc, parser, depth, source, index + 1),
-        TokenKind::Arrow => after_arrow(alloc, parser, depth, source, index + 1),
-        _ => Err(ParseFault::Syntax(index)),
+        TokenKind::Dot => after_dot(alloc, cursor, depth, source),
+        TokenKind::Arrow => after_arrow(alloc, cursor, depth, source),
+        _ => Err(ParseFault::Syntax(start)),
     }
 }
 
@@ -340,21 +298,19 @@ fn step(
 #[tactic(auto, unfolding(crate::specs::Parse::operation_call))]
 fn operation_call(
     alloc: Global,
-    parser: &Parser<'_>,
+    cursor: &mut Cursor<'_>,
     depth: usize,
     source: Expression,
     navigation: Navigation,
     name: &Token<'_>,
-    index: usize,
-) -> Result<(Expression, usize), ParseFault>
+) -> Result<Expression, ParseFault>
     requires { is_operation_name name.now.text.now ≡ true }
-    ensures { Parses parser.now view result
-        (spec.operation_call depth (operand parser.now depth) (whole parser.now depth) (view source)
-        navigation name.now.text.now name.now.span.start (from parser.now index)) }
+    ensures { Parses cursor.old cursor.new view result
+        (spec.operation_call depth (operand cursor.old depth) (whole cursor.old depth) (view source)
+        navigation name.now.text.now name.now.span.start (left cursor.old)) }
 {
-    let (all, index) = arguments(alloc, parser, depth, index)?;
-    let call = nodes::call(alloc, source, navigation, name.text, all, name.span.start)?;
-    Ok((call, index))
+    let all = arguments(alloc, cursor, depth)?;
+    Ok(nodes::call(alloc, source, navigation, name.text, all, name.span.start)?)
 }
 
 /// The step after a dot.
@@ -362,31 +318,28 @@ fn operation_call(
 #[tactic(auto, unfolding(crate::specs::Parse::after_dot, crate::specs::Parse::called), using(crate::proofs::Names::token_name, crate::proofs::Names::token_operation))]
 fn after_dot(
     alloc: Global,
-    parser: &Parser<'_>,
+    cursor: &mut Cursor<'_>,
     depth: usize,
     source: Expression,
-    index: usize,
-) -> Result<(Expression, usize), ParseFault>
-    ensures { Parses parser.now view result
-        (spec.after_dot depth (operand parser.now depth) (whole parser.now depth) (view source)
-        (from parser.now index)) }
+) -> Result<Expression, ParseFault>
+    ensures { Parses cursor.old cursor.new view result
+        (spec.after_dot depth (operand cursor.old depth) (whole cursor.old depth) (view source)
+        (left cursor.old)) }
 {
-    let Some(t) = cursor::peek(parser, index) else {
-        return Err(ParseFault::Syntax(index));
-    };
+    let start = cursor.index;
+    let t = cursor.next_token()?;
     match t.kind {
         TokenKind::Identifier => {
-            if cursor::next_is(Mark::Open, parser, index + 1) {
-                operation_call(alloc, parser, depth, source, Navigation::Dot, &t, index + 1)
+            if cursor.next_is(Mark::Open) {
+                operation_call(alloc, cursor, depth, source, Navigation::Dot, &t)
             } else {
-                let node = nodes::property(alloc, source, t.text, t.span.start)?;
-                Ok((node, index + 1))
+                Ok(nodes::property(alloc, source, t.text, t.span.start)?)
             }
         }
         TokenKind::Div | TokenKind::Mod => {
-            operation_call(alloc, parser, depth, source, Navigation::Dot, &t, index + 1)
+            operation_call(alloc, cursor, depth, source, Navigation::Dot, &t)
         }
-        _ => Err(ParseFault::Syntax(index)),
+        _ => Err(ParseFault::Syntax(start)),
     }
 }
 
@@ -395,41 +348,30 @@ fn after_dot(
 #[tactic(auto, unfolding(crate::specs::Parse::after_arrow, crate::specs::Parse::applied_step), using(crate::proofs::Names::token_operation))]
 fn after_arrow(
     alloc: Global,
-    parser: &Parser<'_>,
+    cursor: &mut Cursor<'_>,
     depth: usize,
     source: Expression,
-    index: usize,
-) -> Result<(Expression, usize), ParseFault>
-    ensures { Parses parser.now view result
-        (spec.after_arrow depth (operand parser.now depth) (whole parser.now depth) (view source)
-        (from parser.now index)) }
+) -> Result<Expression, ParseFault>
+    ensures { Parses cursor.old cursor.new view result
+        (spec.after_arrow depth (operand cursor.old depth) (whole cursor.old depth) (view source)
+        (left cursor.old)) }
 {
-    let Some(t) = cursor::peek(parser, index) else {
-        return Err(ParseFault::Syntax(index));
-    };
+    let start = cursor.index;
+    let t = cursor.next_token()?;
     match t.kind {
         TokenKind::Identifier if cursor::is_fold_name(t.text) => {
-            fold(alloc, parser, depth, source, t.span.start, index + 1)
+            fold(alloc, cursor, depth, source, t.span.start)
         }
         TokenKind::Identifier => match cursor::iterator_of(t.text) {
             Some(iterator) => {
-                let two = cursor::takes_two(iterator);
-                let ((variables, body), index) = iteration(alloc, parser, depth, two, index + 1)?;
+                let limit = cursor::variable_limit(iterator);
+                let (variables, body) = iteration(alloc, cursor, depth, limit)?;
                 let offset = t.span.start;
-                let node = nodes::iterate(alloc, source, iterator, variables, body, offset)?;
-                Ok((node, index))
+                Ok(nodes::iterate(alloc, source, iterator, variables, body, offset)?)
             }
-            None => operation_call(
-                alloc,
-                parser,
-                depth,
-                source,
-                Navigation::Arrow,
-                &t,
-                index + 1,
-            ),
+            None => operation_call(alloc, cursor, depth, source, Navigation::Arrow, &t),
         },
-        _ => Err(ParseFault::Syntax(index)),
+        _ => Err(ParseFault::Syntax(start)),
     }
 }
 
@@ -438,19 +380,18 @@ fn after_arrow(
 #[tactic(auto, unfolding(crate::specs::Parse::iteration))]
 fn iteration(
     alloc: Global,
-    parser: &Parser<'_>,
+    cursor: &mut Cursor<'_>,
     depth: usize,
-    two: bool,
-    index: usize,
-) -> Result<((Variables, Expression), usize), ParseFault>
-    ensures { Parses parser.now (λ x. (view_variables x.0, view x.1)) result
-        (spec.iteration depth (whole parser.now depth) two (from parser.now index)) }
+    limit: VariableLimit,
+) -> Result<(Variables, Expression), ParseFault>
+    ensures { Parses cursor.old cursor.new (λ x. (view_variables x.0, view x.1)) result
+        (spec.iteration depth (whole cursor.old depth) limit (left cursor.old)) }
 {
-    let index = cursor::expect(Mark::Open, parser, index)?;
-    let (names, index) = types::optional_variables(alloc, parser, depth, two, index)?;
-    let (body, index) = expr(alloc, parser, depth, index)?;
-    let index = cursor::expect(Mark::Close, parser, index)?;
-    Ok(((names, body), index))
+    cursor.expect(Mark::Open)?;
+    let names = types::optional_variables(alloc, cursor, depth, limit)?;
+    let body = expr(alloc, cursor, depth)?;
+    cursor.expect(Mark::Close)?;
+    Ok((names, body))
 }
 
 /// A fold over a source, at this offset in the text.
@@ -458,33 +399,23 @@ fn iteration(
 #[tactic(auto, unfolding(crate::specs::Parse::a_fold, crate::specs::Parse::fold_in))]
 fn fold(
     alloc: Global,
-    parser: &Parser<'_>,
+    cursor: &mut Cursor<'_>,
     depth: usize,
     source: Expression,
     offset: usize,
-    index: usize,
-) -> Result<(Expression, usize), ParseFault>
-    ensures { Parses parser.now view result
-        (spec.a_fold depth (operand parser.now depth) (whole parser.now depth) (view source) offset
-        (from parser.now index)) }
+) -> Result<Expression, ParseFault>
+    ensures { Parses cursor.old cursor.new view result
+        (spec.a_fold depth (operand cursor.old depth) (whole cursor.old depth) (view source) offset
+        (left cursor.old)) }
 {
-    let index = cursor::expect(Mark::Open, parser, index)?;
+    cursor.expect(Mark::Open)?;
     if depth == 0 {
-        return Err(cursor::too_deep(Start::Name, parser, index));
+        return Err(cursor.too_deep(Start::Name));
     }
-    let (variable, index) = types::a_variable(alloc, parser, depth, index)?;
-    let index = cursor::expect(Mark::Semicolon, parser, index)?;
-    let (accumulator, index) = a_bind(alloc, parser, depth, index)?;
-    fold_body(
-        alloc,
-        parser,
-        depth,
-        source,
-        variable,
-        accumulator,
-        offset,
-        index,
-    )
+    let variable = types::a_variable(alloc, cursor, depth)?;
+    cursor.expect(Mark::Semicolon)?;
+    let accumulator = a_bind(alloc, cursor, depth)?;
+    fold_body(alloc, cursor, depth, source, variable, accumulator, offset)
 }
 
 /// What follows the accumulator of a fold.
@@ -492,23 +423,21 @@ fn fold(
 #[tactic(auto, unfolding(crate::specs::Parse::fold_body))]
 fn fold_body(
     alloc: Global,
-    parser: &Parser<'_>,
+    cursor: &mut Cursor<'_>,
     depth: usize,
     source: Expression,
     variable: Variable,
     accumulator: Binding,
     offset: usize,
-    index: usize,
-) -> Result<(Expression, usize), ParseFault>
-    ensures { Parses parser.now view result
-        (spec.fold_body (whole parser.now depth) (view source) (view_variable variable)
-        (bound_of accumulator) offset (from parser.now index)) }
+) -> Result<Expression, ParseFault>
+    ensures { Parses cursor.old cursor.new view result
+        (spec.fold_body (whole cursor.old depth) (view source) (view_variable variable)
+        (bound_of accumulator) offset (left cursor.old)) }
 {
-    let index = cursor::expect(Mark::Bar, parser, index)?;
-    let (body, index) = expr(alloc, parser, depth, index)?;
-    let index = cursor::expect(Mark::Close, parser, index)?;
-    let node = nodes::fold(alloc, source, variable, accumulator, body, offset)?;
-    Ok((node, index))
+    cursor.expect(Mark::Bar)?;
+    let body = expr(alloc, cursor, depth)?;
+    cursor.expect(Mark::Close)?;
+    Ok(nodes::fold(alloc, source, variable, accumulator, body, offset)?)
 }
 
 /// The arguments of a call.
@@ -516,23 +445,22 @@ fn fold_body(
 #[tactic(auto, unfolding(crate::specs::Parse::arguments, crate::specs::Parse::arguments_in))]
 fn arguments(
     alloc: Global,
-    parser: &Parser<'_>,
+    cursor: &mut Cursor<'_>,
     depth: usize,
-    index: usize,
-) -> Result<(Vec<Expression>, usize), ParseFault>
-    ensures { Parses parser.now (λ v. map view v.items) result
-        (spec.arguments (operand parser.now depth) depth (from parser.now index)) }
+) -> Result<Vec<Expression>, ParseFault>
+    ensures { Parses cursor.old cursor.new (λ v. map view v.items) result
+        (spec.arguments (operand cursor.old depth) depth (left cursor.old)) }
 {
-    let index = cursor::expect(Mark::Open, parser, index)?;
+    cursor.expect(Mark::Open)?;
     if depth == 0 {
-        return Err(cursor::too_deep(Start::Argument, parser, index));
+        return Err(cursor.too_deep(Start::Argument));
     }
-    if cursor::next_is(Mark::Close, parser, index) {
-        Ok((Vec::new(alloc), index + 1))
+    if cursor.take(Mark::Close) {
+        Ok(Vec::new(alloc))
     } else {
-        let (all, index) = items(alloc, parser, depth, index)?;
-        let index = cursor::expect(Mark::Close, parser, index)?;
-        Ok((all, index))
+        let all = items(alloc, cursor, depth)?;
+        cursor.expect(Mark::Close)?;
+        Ok(all)
     }
 }
 
@@ -541,24 +469,21 @@ fn arguments(
 #[tactic(auto, using(crate::proofs::Turns::items_over))]
 fn items(
     alloc: Global,
-    parser: &Parser<'_>,
+    cursor: &mut Cursor<'_>,
     depth: usize,
-    start: usize,
-) -> Result<(Vec<Expression>, usize), ParseFault>
-    ensures { Parses parser.now (λ v. map view v.items) result
-        (spec.items (operand parser.now depth) (length (from parser.now start)) []
-        (from parser.now start)) }
+) -> Result<Vec<Expression>, ParseFault>
+    ensures { Parses cursor.old cursor.new (λ v. map view v.items) result
+        (spec.items (operand cursor.old depth) (length (left cursor.old)) []
+        (left cursor.old)) }
 {
     let mut all = Vec::new(alloc);
-    let mut index = start;
-    let left = cursor::count(parser, start);
+    let left = cursor.count();
     'items: for _turn in 0..left {
-        let (item, following) = operators(alloc, parser, depth, index)?;
+        let item = operators(alloc, cursor, depth)?;
         all.push(item)?;
-        if !cursor::next_is(Mark::Comma, parser, following) {
-            return Ok((all, following));
+        if !cursor.take(Mark::Comma) {
+            return Ok(all);
         }
-        index = following + 1;
     }
-    Err(ParseFault::Syntax(index))
+    Err(ParseFault::Syntax(cursor.index))
 }

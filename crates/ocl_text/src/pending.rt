@@ -5,12 +5,12 @@
 
 ghost use Rattle.std.specs.Prelude.{◌≡◌, IfOk};
 ghost use Rattle.ocl_base.specs.Steps.{Gives};
-ghost use Rattle.ocl_text.specs.Parses.{from, meaning};
+ghost use Rattle.ocl_text.specs.Parses.{left, meaning};
 ghost use Rattle.ocl_text.specs.Pending as spec;
 ghost use Rattle.ocl_text.specs.Pending.{pending_of, reduced_of, waiting};
 ghost use Rattle.ocl_text.specs.View.{view};
 
-use crate::cursor::{ParseFault, Parser, PlacedOperator};
+use crate::cursor::{Cursor, ParseFault, PlacedOperator};
 use crate::nodes;
 use crate::tree::Expression;
 use std::alloc::{AllocError, Global};
@@ -99,23 +99,21 @@ fn reduce(
     })
 }
 
-/// The operators that wait once the one at this index, which follows an operand, waits too.
+/// The operators that wait once the next one, which follows an operand, waits too.
 #[tactic(auto, unfolding(crate::specs::Pending::wait))]
 pub(crate) fn wait(
     alloc: Global,
-    parser: &Parser<'_>,
+    cursor: &Cursor<'_>,
     before: Vec<Pending>,
     operand: Expression,
     operator: PlacedOperator,
-    index: usize,
 ) -> Result<Vec<Pending>, ParseFault>
-    ensures { Gives (meaning parser.now) waiting result
-        (spec.wait parser.now.chain (waiting before) (view operand) operator
-        (from parser.now index)) }
+    ensures { Gives (meaning cursor.now.tokens.now) waiting result
+        (spec.wait cursor.now.chain (waiting before) (view operand) operator (left cursor.now)) }
 {
-    let reduced = reduce(alloc, parser.chain, before, operand, operator.height)?;
+    let reduced = reduce(alloc, cursor.chain, before, operand, operator.height)?;
     if reduced.links == 0 {
-        return Err(ParseFault::TooDeep(index));
+        return Err(ParseFault::TooDeep(cursor.index));
     }
     let Reduced {
         left,

@@ -7,11 +7,11 @@ ghost use Rattle.ocl_text.specs.RuleText.{TextSpells, TextSpellsWithin, NamesDif
 ghost use Rattle.ocl_text.specs.Tree.{Rule};
 ghost use Rattle.ocl_text.specs.View.{rule_of};
 
-use crate::cursor::{ParseFault, Parser, peek};
+use crate::cursor::ParseFault;
 use crate::duplicates::repeated_offset;
 use crate::rules::rules_of;
 use crate::tree::SurfaceRule;
-use ocl_tokens::{TextFault, TextFlaw, tokens};
+use ocl_tokens::{TextFault, TextFlaw, Token, tokens};
 use std::alloc::Global;
 
 /// How many constructs may be open round a token: parentheses of every sort, `if`, `let` and prefix operators.
@@ -21,28 +21,28 @@ pub const MAX_NESTING: usize = 64;
 pub const MAX_CHAIN: usize = 256;
 
 /// The byte at which this token begins, or the end.
-fn offset_at(parser: &Parser<'_>, end: usize, index: usize) -> usize
-    ensures { result ≡ first_offset end (from parser.now index) }
+fn offset_at(tokens: &[Token<'_>], end: usize, index: usize) -> usize
+    ensures { result ≡ first_offset end (from tokens.now index) }
 {
-    match peek(parser, index) {
+    match tokens.get(index) {
         Some(token) => token.span.start,
         None => end,
     }
 }
 
 /// The fault of a text of this length.
-fn text_fault(parser: &Parser<'_>, end: usize, fault: ParseFault) -> TextFault
-    ensures { result ≡ spec.text_fault parser.now end fault }
+fn text_fault(tokens: &[Token<'_>], end: usize, fault: ParseFault) -> TextFault
+    ensures { result ≡ spec.text_fault tokens.now end fault }
 {
     match fault {
         ParseFault::OutOfMemory => TextFault::OutOfMemory,
         ParseFault::Syntax(index) => TextFault::At {
             flaw: TextFlaw::Syntax,
-            offset: offset_at(parser, end, index),
+            offset: offset_at(tokens, end, index),
         },
         ParseFault::TooDeep(index) => TextFault::At {
             flaw: TextFlaw::TooDeep,
-            offset: offset_at(parser, end, index),
+            offset: offset_at(tokens, end, index),
         },
     }
 }
@@ -62,13 +62,10 @@ pub fn parse_rules(alloc: Global, text: &str) -> Result<Vec<SurfaceRule>, TextFa
     ensures duplicate { IfErr result (IfDuplicate MAX_NESTING MAX_CHAIN text.now) }
 {
     let all = tokens(alloc, text)?;
-    let parser = Parser {
-        tokens: &all,
-        chain: MAX_CHAIN,
-    };
-    let rules = match rules_of(alloc, &parser, MAX_NESTING) {
+    let tokens = all.as_slice();
+    let rules = match rules_of(alloc, tokens, MAX_NESTING, MAX_CHAIN) {
         Ok(rules) => rules,
-        Err(fault) => return Err(text_fault(&parser, text.len(), fault)),
+        Err(fault) => return Err(text_fault(tokens, text.len(), fault)),
     };
     match repeated_offset(alloc, &rules)? {
         None => Ok(rules),

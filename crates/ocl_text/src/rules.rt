@@ -4,14 +4,14 @@ ghost use Rattle.std.specs.Prelude.{◌≡◌, ◌<◌, ◌+◌, suc, [], length
 ghost use Rattle.ocl_tokens.specs.Terminals.{terminals};
 ghost use Rattle.ocl_text.specs.Grammar.{numbered};
 ghost use Rattle.ocl_text.specs.Parse as spec;
-ghost use Rattle.ocl_text.specs.Parses.{Parses, ParsesAll, from, whole};
+ghost use Rattle.ocl_text.specs.Parses.{Parses, ParsesAll, left, whole};
 ghost use Rattle.ocl_text.specs.View.{rule_of};
 
-use crate::cursor::{Mark, ParseFault, Parser, PlacedName};
+use crate::cursor::{Cursor, Mark, ParseFault, PlacedName};
 use crate::name::Name;
+use crate::parser;
 use crate::tree::SurfaceRule;
-use crate::{cursor, parser};
-use ocl_tokens::TokenKind;
+use ocl_tokens::{Token, TokenKind};
 use std::alloc::{AllocError, Global};
 
 /// The name that the invariant of this number gets.
@@ -25,86 +25,71 @@ fn numbered_name(alloc: Global, number: usize) -> Result<Name, AllocError>
 
 /// The name of the invariant of this number: its own, or the one that it gets.
 #[tactic(auto, unfolding(crate::specs::Parse::rule_name))]
-fn rule_name(
-    alloc: Global,
-    tokens: &Parser<'_>,
-    number: usize,
-    index: usize,
-) -> Result<(Name, usize), ParseFault>
-    ensures { Parses tokens.now (λ n. n) result (spec.rule_name number (from tokens.now index)) }
+fn rule_name(alloc: Global, cursor: &mut Cursor<'_>, number: usize) -> Result<Name, ParseFault>
+    ensures { Parses cursor.old cursor.new (λ n. n) result
+        (spec.rule_name number (left cursor.old)) }
 {
-    if cursor::next_is(Mark::Identifier, tokens, index) {
-        cursor::identifier(alloc, tokens, index)
+    if cursor.next_is(Mark::Identifier) {
+        cursor.identifier(alloc)
     } else {
-        Ok((numbered_name(alloc, number)?, index))
+        Ok(numbered_name(alloc, number)?)
     }
 }
 
 /// A context, up to its class.
 #[tactic(auto, unfolding(crate::specs::Parse::context))]
-fn context(
-    alloc: Global,
-    tokens: &Parser<'_>,
-    index: usize,
-) -> Result<(PlacedName, usize), ParseFault>
-    ensures { Parses tokens.now (λ n. (n.name, n.offset)) result
-        (spec.context (from tokens.now index)) }
+fn context(alloc: Global, cursor: &mut Cursor<'_>) -> Result<PlacedName, ParseFault>
+    ensures { Parses cursor.old cursor.new (λ n. (n.name, n.offset)) result
+        (spec.context (left cursor.old)) }
 {
-    let index = cursor::expect(Mark::Context, tokens, index)?;
-    cursor::placed_name(alloc, tokens, index)
+    cursor.expect(Mark::Context)?;
+    cursor.placed_name(alloc)
 }
 
 /// An invariant, after the `inv` at this offset in the text.
 #[tactic(auto, unfolding(crate::specs::Parse::invariant_at))]
 fn invariant_at(
     alloc: Global,
-    tokens: &Parser<'_>,
+    cursor: &mut Cursor<'_>,
     depth: usize,
     class: &PlacedName,
     number: usize,
     offset: usize,
-    index: usize,
-) -> Result<(SurfaceRule, usize), ParseFault>
-    ensures { Parses tokens.now rule_of result
-        (spec.invariant_at (whole tokens.now depth) (class.now.name, class.now.offset) number
-        offset (from tokens.now index)) }
+) -> Result<SurfaceRule, ParseFault>
+    ensures { Parses cursor.old cursor.new rule_of result
+        (spec.invariant_at (whole cursor.old depth) (class.now.name, class.now.offset) number
+        offset (left cursor.old)) }
 {
-    let (name, index) = rule_name(alloc, tokens, number, index)?;
-    let index = cursor::expect(Mark::Colon, tokens, index)?;
-    let (expression, index) = parser::expression(alloc, tokens, depth, index)?;
-    let rule = SurfaceRule {
+    let name = rule_name(alloc, cursor, number)?;
+    cursor.expect(Mark::Colon)?;
+    let expression = parser::expression(alloc, cursor, depth)?;
+    Ok(SurfaceRule {
         name,
         context: class.name.copy()?,
         offset,
         context_offset: class.offset,
         expression,
-    };
-    Ok((rule, index))
+    })
 }
 
 /// The invariant of this number.
 #[tactic(auto, unfolding(crate::specs::Parse::invariant))]
 fn invariant(
     alloc: Global,
-    tokens: &Parser<'_>,
+    cursor: &mut Cursor<'_>,
     depth: usize,
     class: &PlacedName,
     number: usize,
-    index: usize,
-) -> Result<(SurfaceRule, usize), ParseFault>
-    ensures { Parses tokens.now rule_of result
-        (spec.invariant (whole tokens.now depth) (class.now.name, class.now.offset) number
-        (from tokens.now index)) }
+) -> Result<SurfaceRule, ParseFault>
+    ensures { Parses cursor.old cursor.new rule_of result
+        (spec.invariant (whole cursor.old depth) (class.now.name, class.now.offset) number
+        (left cursor.old)) }
 {
-    let Some(t) = cursor::peek(tokens, index) else {
-        return Err(ParseFault::Syntax(index));
-    };
+    let start = cursor.index;
+    let t = cursor.next_token()?;
     match t.kind {
-        TokenKind::Inv => {
-            let offset = t.span.start;
-            invariant_at(alloc, tokens, depth, class, number, offset, index + 1)
-        }
-        _ => Err(ParseFault::Syntax(index)),
+        TokenKind::Inv => invariant_at(alloc, cursor, depth, class, number, t.span.start),
+        _ => Err(ParseFault::Syntax(start)),
     }
 }
 
@@ -112,71 +97,66 @@ fn invariant(
 #[tactic(auto, using(crate::proofs::Turns::invariants_over))]
 fn invariants(
     alloc: Global,
-    tokens: &Parser<'_>,
+    cursor: &mut Cursor<'_>,
     depth: usize,
     class: &PlacedName,
     before: Vec<SurfaceRule>,
-    start: usize,
-) -> Result<(Vec<SurfaceRule>, usize), ParseFault>
-    ensures { Parses tokens.now (λ v. map rule_of v.items) result
-        (spec.invariants (whole tokens.now depth) (class.now.name, class.now.offset)
-        (length (from tokens.now start)) (map rule_of before.items) (from tokens.now start)) }
+) -> Result<Vec<SurfaceRule>, ParseFault>
+    ensures { Parses cursor.old cursor.new (λ v. map rule_of v.items) result
+        (spec.invariants (whole cursor.old depth) (class.now.name, class.now.offset)
+        (length (left cursor.old)) (map rule_of before.items) (left cursor.old)) }
 {
     let mut all = before;
-    let mut index = start;
-    let left = cursor::count(tokens, start);
+    let left = cursor.count();
     'invariants: for _turn in 0..left {
         let number = all.len() + 1;
-        let (rule, following) = invariant(alloc, tokens, depth, class, number, index)?;
+        let rule = invariant(alloc, cursor, depth, class, number)?;
         all.push(rule)?;
-        if !cursor::next_is(Mark::Inv, tokens, following) {
-            return Ok((all, following));
+        if !cursor.next_is(Mark::Inv) {
+            return Ok(all);
         }
-        index = following;
     }
-    Err(ParseFault::Syntax(index))
+    Err(ParseFault::Syntax(cursor.index))
 }
 
 /// The rules of all the tokens.
 #[tactic(auto, using(crate::proofs::Turns::contexts_done))]
 fn contexts(
     alloc: Global,
-    tokens: &Parser<'_>,
+    cursor: &mut Cursor<'_>,
     depth: usize,
 ) -> Result<Vec<SurfaceRule>, ParseFault>
-    ensures { ParsesAll tokens.now (λ v. map rule_of v.items) result
-        (spec.contexts (whole tokens.now depth) (length (from tokens.now 0)) []
-        (from tokens.now 0)) }
+    ensures { ParsesAll cursor.old.tokens.now (λ v. map rule_of v.items) result
+        (spec.contexts (whole cursor.old depth) (length (left cursor.old)) []
+        (left cursor.old)) }
 {
     let mut all = Vec::new(alloc);
-    let mut index = 0;
-    let left = cursor::count(tokens, 0);
+    let left = cursor.count();
     'contexts: for _turn in 0..left {
-        if cursor::is_done(tokens, index) {
+        if cursor.is_done() {
             return Ok(all);
         }
-        let (class, following) = context(alloc, tokens, index)?;
-        let (more, next) = invariants(alloc, tokens, depth, &class, all, following)?;
-        all = more;
-        index = next;
+        let class = context(alloc, cursor)?;
+        all = invariants(alloc, cursor, depth, &class, all)?;
     }
-    if cursor::is_done(tokens, index) {
+    if cursor.is_done() {
         Ok(all)
     } else {
-        Err(ParseFault::Syntax(index))
+        Err(ParseFault::Syntax(cursor.index))
     }
 }
 
-/// The rules of all the tokens, with at most this number of constructs open round a token.
+/// The rules of all these tokens, with at most this number of constructs open round a token, and of links in a chain.
 #[tactic(auto, unfolding(crate::specs::Parse::all_rules))]
 pub(crate) fn rules_of(
     alloc: Global,
-    tokens: &Parser<'_>,
+    tokens: &[Token<'_>],
     nesting: usize,
+    chain: usize,
 ) -> Result<Vec<SurfaceRule>, ParseFault>
     requires { nesting < 1000 }
     ensures { ParsesAll tokens.now (λ v. map rule_of v.items) result
-        (spec.all_rules nesting tokens.now.chain (terminals tokens.now.tokens.now)) }
+        (spec.all_rules nesting chain (terminals tokens.now)) }
 {
-    contexts(alloc, tokens, nesting + 1)
+    contexts(alloc, &mut Cursor::new(tokens, chain), nesting + 1)
 }

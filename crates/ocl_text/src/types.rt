@@ -3,12 +3,11 @@
 ghost use Rattle.std.specs.Prelude.{◌≡◌, ◌+◌, length, true, drop, IfOk};
 ghost use Rattle.ocl_base.specs.Words.{is_name};
 ghost use Rattle.ocl_text.specs.Parse as spec;
-ghost use Rattle.ocl_text.specs.Parses.{Parses, from};
+ghost use Rattle.ocl_text.specs.Parses.{Parses, left};
 ghost use Rattle.ocl_text.specs.Tree.{Named, Collection};
 ghost use Rattle.ocl_text.specs.View.{view_type, view_variable, view_variables};
 
-use crate::cursor;
-use crate::cursor::{Mark, ParseFault, Parser, Start};
+use crate::cursor::{Cursor, Mark, ParseFault, Start, VariableLimit};
 use crate::name::Name;
 use crate::tree::{DeclaredType, Variable, Variables};
 use ocl_tokens::TokenKind;
@@ -46,43 +45,40 @@ fn collection(
 #[tactic(auto, unfolding(crate::specs::Parse::a_type))]
 pub(crate) fn a_type(
     alloc: Global,
-    parser: &Parser<'_>,
+    cursor: &mut Cursor<'_>,
     depth: usize,
-    index: usize,
-) -> Result<(DeclaredType, usize), ParseFault>
-    ensures { Parses parser.now view_type result (spec.a_type depth (from parser.now index)) }
+) -> Result<DeclaredType, ParseFault>
+    ensures { Parses cursor.old cursor.new view_type result (spec.a_type depth (left cursor.old)) }
 {
     if depth == 0 {
-        return Err(cursor::too_deep(Start::Name, parser, index));
+        return Err(cursor.too_deep(Start::Name));
     }
-    type_over(alloc, parser, depth - 1, index)
+    type_over(alloc, cursor, depth - 1)
 }
 
 #[cycle(types)]
 #[tactic(auto, unfolding(crate::specs::Parse::type_over), using(crate::proofs::Names::token_name))]
 fn type_over(
     alloc: Global,
-    parser: &Parser<'_>,
+    cursor: &mut Cursor<'_>,
     depth: usize,
-    index: usize,
-) -> Result<(DeclaredType, usize), ParseFault>
-    ensures { Parses parser.now view_type result
-        (spec.type_over (spec.a_type depth) (from parser.now index)) }
+) -> Result<DeclaredType, ParseFault>
+    ensures { Parses cursor.old cursor.new view_type result
+        (spec.type_over (spec.a_type depth) (left cursor.old)) }
 {
-    let Some(t) = cursor::peek(parser, index) else {
-        return Err(ParseFault::Syntax(index));
-    };
+    let start = cursor.index;
+    let t = cursor.next_token()?;
     match t.kind {
         TokenKind::Identifier => {
-            if cursor::next_is(Mark::Open, parser, index + 1) {
-                let (inner, index) = a_type(alloc, parser, depth, index + 2)?;
-                let index = cursor::expect(Mark::Close, parser, index)?;
-                Ok((collection(alloc, t.text, inner, t.span.start)?, index))
+            if cursor.take(Mark::Open) {
+                let inner = a_type(alloc, cursor, depth)?;
+                cursor.expect(Mark::Close)?;
+                Ok(collection(alloc, t.text, inner, t.span.start)?)
             } else {
-                Ok((type_by_name(alloc, t.text, t.span.start)?, index + 1))
+                Ok(type_by_name(alloc, t.text, t.span.start)?)
             }
         }
-        _ => Err(ParseFault::Syntax(index)),
+        _ => Err(ParseFault::Syntax(start)),
     }
 }
 
@@ -90,21 +86,20 @@ fn type_over(
 #[tactic(auto, unfolding(crate::specs::Parse::a_variable))]
 pub(crate) fn a_variable(
     alloc: Global,
-    parser: &Parser<'_>,
+    cursor: &mut Cursor<'_>,
     depth: usize,
-    index: usize,
-) -> Result<(Variable, usize), ParseFault>
-    ensures { Parses parser.now view_variable result
-        (spec.a_variable depth (from parser.now index)) }
+) -> Result<Variable, ParseFault>
+    ensures { Parses cursor.old cursor.new view_variable result
+        (spec.a_variable depth (left cursor.old)) }
 {
-    let (name, index) = cursor::identifier(alloc, parser, index)?;
-    if cursor::next_is(Mark::Colon, parser, index) {
-        let (declared, index) = a_type(alloc, parser, depth, index + 1)?;
+    let name = cursor.identifier(alloc)?;
+    if cursor.take(Mark::Colon) {
+        let declared = a_type(alloc, cursor, depth)?;
         let declared = Some(declared);
-        Ok((Variable { name, declared }, index))
+        Ok(Variable { name, declared })
     } else {
         let declared = None;
-        Ok((Variable { name, declared }, index))
+        Ok(Variable { name, declared })
     }
 }
 
@@ -112,58 +107,55 @@ pub(crate) fn a_variable(
 #[tactic(auto, unfolding(crate::specs::Parse::variables_by))]
 fn variables_after(
     alloc: Global,
-    parser: &Parser<'_>,
+    cursor: &mut Cursor<'_>,
     depth: usize,
-    two: bool,
+    limit: VariableLimit,
     first: Variable,
-    index: usize,
-) -> Result<(Variables, usize), ParseFault>
-    ensures { Parses parser.now view_variables result
-        (spec.variables_by depth two (view_variable first) (from parser.now index)) }
+) -> Result<Variables, ParseFault>
+    ensures { Parses cursor.old cursor.new view_variables result
+        (spec.variables_by depth limit (view_variable first) (left cursor.old)) }
 {
-    if cursor::has_second(two, parser, index) {
-        let (second, index) = a_variable(alloc, parser, depth, index + 1)?;
-        let index = cursor::expect(Mark::Bar, parser, index)?;
-        Ok((Variables::Pair(first, second), index))
+    if cursor.take_second(limit) {
+        let second = a_variable(alloc, cursor, depth)?;
+        cursor.expect(Mark::Bar)?;
+        Ok(Variables::Pair(first, second))
     } else {
-        let index = cursor::expect(Mark::Bar, parser, index)?;
-        Ok((Variables::Single(first), index))
+        cursor.expect(Mark::Bar)?;
+        Ok(Variables::Single(first))
     }
 }
 
 #[tactic(auto, unfolding(crate::specs::Parse::variables))]
 fn variables(
     alloc: Global,
-    parser: &Parser<'_>,
+    cursor: &mut Cursor<'_>,
     depth: usize,
-    two: bool,
-    index: usize,
-) -> Result<(Variables, usize), ParseFault>
-    ensures { Parses parser.now view_variables result
-        (spec.variables depth two (from parser.now index)) }
+    limit: VariableLimit,
+) -> Result<Variables, ParseFault>
+    ensures { Parses cursor.old cursor.new view_variables result
+        (spec.variables depth limit (left cursor.old)) }
 {
     if depth == 0 {
-        return Err(ParseFault::TooDeep(index));
+        return Err(ParseFault::TooDeep(cursor.index));
     }
-    let (first, index) = a_variable(alloc, parser, depth, index)?;
-    variables_after(alloc, parser, depth, two, first, index)
+    let first = a_variable(alloc, cursor, depth)?;
+    variables_after(alloc, cursor, depth, limit, first)
 }
 
 /// The variables of an iteration, where there are any.
 #[tactic(auto, unfolding(crate::specs::Parse::optional_variables))]
 pub(crate) fn optional_variables(
     alloc: Global,
-    parser: &Parser<'_>,
+    cursor: &mut Cursor<'_>,
     depth: usize,
-    two: bool,
-    index: usize,
-) -> Result<(Variables, usize), ParseFault>
-    ensures { Parses parser.now view_variables result
-        (spec.optional_variables depth two (from parser.now index)) }
+    limit: VariableLimit,
+) -> Result<Variables, ParseFault>
+    ensures { Parses cursor.old cursor.new view_variables result
+        (spec.optional_variables depth limit (left cursor.old)) }
 {
-    if cursor::begins_variable(parser, index) {
-        variables(alloc, parser, depth, two, index)
+    if cursor.begins_variable() {
+        variables(alloc, cursor, depth, limit)
     } else {
-        Ok((Variables::Unnamed, index))
+        Ok(Variables::Unnamed)
     }
 }

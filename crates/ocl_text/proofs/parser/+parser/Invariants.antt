@@ -1,6 +1,6 @@
 use Rattle.std.proofs.Common.{◌≡◌, ◌-◌, ◌+◌, ◌*◌, length, map, []}
 use Rattle.ocl_text.specs.View.{view, bound_of}
-use Rattle.ocl_text.specs.Parses.{from, operand, whole}
+use Rattle.ocl_text.specs.Parses.{left, Moves, operand, whole}
 use Rattle.ocl_base.specs.Steps.{◌>>=◌}
 use Rattle.ocl_text.specs.Parse as spec
 use Rattle.ocl_text.specs.Pending.{waiting}
@@ -65,27 +65,35 @@ abbrev pub decreases-let_expression : goal.decreases-let_expression
 decreases-let_expression l = 40 * l.depth + 23
 
 abbrev pub invariant-operators-operators : goal.invariant-operators-operators
-invariant-operators-operators l =
-    operand l.parser l.depth (from l.parser l.start)
-    ≡ (spec.unary l.parser.chain l.depth (from l.parser l.index) >>= λ x. resume l.parser.chain (spec.unary l.parser.chain l.depth) (waiting l.waiting) 0 x.0 x.1)
+invariant-operators-operators l = record {
+  reads : operand l.fn.cursor l.depth (left l.fn.cursor)
+      ≡ (spec.unary l.fn.cursor.chain l.depth (left l.cursor) >>= λ x. resume l.fn.cursor.chain (spec.unary l.fn.cursor.chain l.depth) (waiting l.waiting) 0 x.0 x.1);
+  moves : Moves l.fn.cursor l.cursor;
+}
 
 abbrev pub decreases-operators-operators : goal.decreases-operators-operators
-decreases-operators-operators l = length (from l.parser l.index)
+decreases-operators-operators l = length (left l.cursor)
 
 abbrev pub invariant-steps-steps : goal.invariant-steps-steps
-invariant-steps-steps l =
-    spec.step_list l.depth (operand l.parser l.depth) (whole l.parser l.depth) l.parser.chain (view l.fn.first) (from l.parser l.start)
-    ≡ spec.step_list l.depth (operand l.parser l.depth) (whole l.parser l.depth) l.left (view l.source) (from l.parser l.index)
+invariant-steps-steps l = record {
+  reads : spec.step_list l.depth (operand l.fn.cursor l.depth) (whole l.fn.cursor l.depth) l.fn.cursor.chain (view l.fn.first) (left l.fn.cursor)
+      ≡ spec.step_list l.depth (operand l.fn.cursor l.depth) (whole l.fn.cursor l.depth) l.left (view l.source) (left l.cursor);
+  moves : Moves l.fn.cursor l.cursor;
+}
 
 abbrev pub decreases-steps-steps : goal.decreases-steps-steps
 decreases-steps-steps l = l.left
 
 abbrev pub invariant-items-items : goal.invariant-items-items
-invariant-items-items l =
-    spec.items (operand l.parser l.depth) (length (from l.parser l.start)) [] (from l.parser l.start)
-    ≡ spec.items (operand l.parser l.depth) (length (from l.parser l.start) - l._turn) (map view l.all.items) (from l.parser l.index)
+invariant-items-items l = record {
+  reads : spec.items (operand l.fn.cursor l.depth) (length (left l.fn.cursor)) [] (left l.fn.cursor)
+      ≡ spec.items (operand l.fn.cursor l.depth) (length (left l.fn.cursor) - l._turn) (map view l.all.items) (left l.cursor);
+  moves : Moves l.fn.cursor l.cursor;
+}
 
 abbrev pub invariant-bindings-bindings : goal.invariant-bindings-bindings
-invariant-bindings-bindings l =
-    spec.items (spec.a_bind l.depth (operand l.parser l.depth)) (length (from l.parser l.start)) [] (from l.parser l.start)
-    ≡ spec.items (spec.a_bind l.depth (operand l.parser l.depth)) (length (from l.parser l.start) - l._turn) (map bound_of l.all.items) (from l.parser l.index)
+invariant-bindings-bindings l = record {
+  reads : spec.items (spec.a_bind l.depth (operand l.fn.cursor l.depth)) (length (left l.fn.cursor)) [] (left l.fn.cursor)
+      ≡ spec.items (spec.a_bind l.depth (operand l.fn.cursor l.depth)) (length (left l.fn.cursor) - l._turn) (map bound_of l.all.items) (left l.cursor);
+  moves : Moves l.fn.cursor l.cursor;
+}

@@ -28,32 +28,32 @@ returns-in_err-all-clause-duplicate c =
     rw (p.1, p.2) (stops_no_duplicate MAX_NESTING MAX_CHAIN c.args.text.now c.in_err-all.field-0.0 c.in_err-all.ensures.fault)
 
 pub returns-in-Err-clause-lexical : goal.returns-in-Err-clause-lexical
-returns-in-Err-clause-lexical c = rw c.text_fault.ensures (refused_lexical c.args.text.now (record { tokens = c.deref.result; chain = MAX_CHAIN }) _ c.in-Err.fault)
+returns-in-Err-clause-lexical c = rw c.text_fault.ensures (refused_lexical c.args.text.now c.as_slice-tokens.result.now _ c.in-Err.fault)
 
 pub returns-in-Err-clause-syntax : goal.returns-in-Err-clause-syntax
 returns-in-Err-clause-syntax c =
-    let lexes : Lexes c.args.text.now (terminals c.deref.result.now) = rw c.deref.ensures.value c.in_ok-all.ensures.tokens in
-    rw c.text_fault.ensures (refused_syntax MAX_NESTING MAX_CHAIN c.args.text.now (terminals c.deref.result.now) lexes (record { tokens = c.deref.result; chain = MAX_CHAIN }) c.in-Err.fault c.in-Err.ensures)
+    let lexes : Lexes c.args.text.now (terminals c.as_slice-tokens.result.now) = rw c.as_slice-tokens.ensures.value c.in_ok-all.ensures.tokens in
+    rw c.text_fault.ensures (refused_syntax MAX_NESTING MAX_CHAIN c.args.text.now (terminals c.as_slice-tokens.result.now) lexes c.as_slice-tokens.result.now c.in-Err.fault c.in-Err.ensures)
 
 pub returns-in-Err-clause-too_deep : goal.returns-in-Err-clause-too_deep
 returns-in-Err-clause-too_deep c =
-    let lexes : Lexes c.args.text.now (terminals c.deref.result.now) = rw c.deref.ensures.value c.in_ok-all.ensures.tokens in
-    rw c.text_fault.ensures (refused_too_deep MAX_NESTING MAX_CHAIN c.args.text.now (terminals c.deref.result.now) lexes (record { tokens = c.deref.result; chain = MAX_CHAIN }) c.in-Err.fault c.in-Err.ensures)
+    let lexes : Lexes c.args.text.now (terminals c.as_slice-tokens.result.now) = rw c.as_slice-tokens.ensures.value c.in_ok-all.ensures.tokens in
+    rw c.text_fault.ensures (refused_too_deep MAX_NESTING MAX_CHAIN c.args.text.now (terminals c.as_slice-tokens.result.now) lexes c.as_slice-tokens.result.now c.in-Err.fault c.in-Err.ensures)
 
 pub returns-in-Err-clause-duplicate : goal.returns-in-Err-clause-duplicate
-returns-in-Err-clause-duplicate c = rw c.text_fault.ensures (refused_duplicate MAX_NESTING MAX_CHAIN c.args.text.now (record { tokens = c.deref.result; chain = MAX_CHAIN }) _ c.in-Err.fault)
+returns-in-Err-clause-duplicate c = rw c.text_fault.ensures (refused_duplicate MAX_NESTING MAX_CHAIN c.args.text.now c.as_slice-tokens.result.now _ c.in-Err.fault)
 
 pub returns-in-None-clause-spells : goal.returns-in-None-clause-spells
 returns-in-None-clause-spells c =
-    let lexes : Lexes c.args.text.now (terminals c.deref.result.now) = rw c.deref.ensures.value c.in_ok-all.ensures.tokens in
-    text_spells MAX_NESTING MAX_CHAIN c.args.text.now (terminals c.deref.result.now) lexes _ c.in-Ok.ensures
+    let lexes : Lexes c.args.text.now (terminals c.as_slice-tokens.result.now) = rw c.as_slice-tokens.ensures.value c.in_ok-all.ensures.tokens in
+    text_spells MAX_NESTING MAX_CHAIN c.args.text.now (terminals c.as_slice-tokens.result.now) lexes _ c.in-Ok.ensures
 
 pub returns-in-None-clause-only : goal.returns-in-None-clause-only
 returns-in-None-clause-only c =
-    let lexes : Lexes c.args.text.now (terminals c.deref.result.now) = rw c.deref.ensures.value c.in_ok-all.ensures.tokens in
-    text_only MAX_NESTING MAX_CHAIN c.args.text.now (terminals c.deref.result.now) lexes _ c.in-Ok.ensures
+    let lexes : Lexes c.args.text.now (terminals c.as_slice-tokens.result.now) = rw c.as_slice-tokens.ensures.value c.in_ok-all.ensures.tokens in
+    text_only MAX_NESTING MAX_CHAIN c.args.text.now (terminals c.as_slice-tokens.result.now) lexes _ c.in-Ok.ensures
 
 pub returns-clause-duplicate : goal.returns-clause-duplicate
 returns-clause-duplicate c =
-    let lexes : Lexes c.args.text.now (terminals c.deref.result.now) = rw c.deref.ensures.value c.in_ok-all.ensures.tokens in
-    text_repeats MAX_NESTING MAX_CHAIN c.args.text.now (terminals c.deref.result.now) lexes (map rule_of c.in-Ok.rules.items) c.in-Some.offset c.in-Ok.ensures (rw (c.deref-2.ensures.value, c.in-Some.is) at c.in_ok-repeated_offset.ensures)
+    let lexes : Lexes c.args.text.now (terminals c.as_slice-tokens.result.now) = rw c.as_slice-tokens.ensures.value c.in_ok-all.ensures.tokens in
+    text_repeats MAX_NESTING MAX_CHAIN c.args.text.now (terminals c.as_slice-tokens.result.now) lexes (map rule_of c.in-Ok.rules.items) c.in-Some.offset c.in-Ok.ensures (rw (c.deref.ensures.value, c.in-Some.is) at c.in_ok-repeated_offset.ensures)
