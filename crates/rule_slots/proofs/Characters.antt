@@ -1,14 +1,13 @@
 -- The characters of texts, and where texts are cut.
 use Rattle.std.proofs.Common.{◌≡◌, ℕ, ◌+◌, ◌-◌, ◌≤◌, Bool, true, false, List, [], ◌∷◌, ◌++◌, length, take, drop, Option, Some, None, refl, sym, ap, ◌∙◌, subst, append_assoc, length-append, arith}
-use Rattle.std.specs.Prelude.{ℤ, pos, negsuc, ◌&&◌, ◌==◌, nat_le, slice_range, encode_utf8_all, encode_utf8, if◌then◌else◌}
-use Rattle.std.specs.Option.{MatchOption}
+use Rattle.std.specs.Prelude.{ℤ, pos, negsuc, ◌&&◌, ◌==◌, nat_le, slice_range, encode_utf8_all, if◌then◌else◌}
 use Rattle.std.specs.Str.{chars, IsUtf8, IsCharBoundary}
 use Rattle.std.proofs.Math.Utf8.{scalars}
 use Rattle.std.proofs.Math.Seq.{take-append_seam}
 use Rattle.std.proofs.lemmas.Bool.{and_parts, and_from, leb-true}
 use Rattle.std.proofs.lemmas.Option.{same_Some}
-use Rattle.std.proofs.lemmas.Str.{encodes-chars, encodes-append, encodes_same, chars-nil, chars_past_char, chars-append, chars_from_encodes, IsUtf8-append, IsUtf8-past_char, IsUtf8-take, IsCharBoundary-at_seam}
-use Rattle.std.proofs.lemmas.List.{nil_from_length, append_cancel_right, take-append-drop, take_at, drop_at}
+use Rattle.std.proofs.lemmas.Str.{encodes-chars, encodes-append, encodes_same, chars-append, chars_from_encodes, IsUtf8-append, IsUtf8-take, IsCharBoundary-at_seam}
+use Rattle.std.proofs.lemmas.List.{append_cancel_right, take-append-drop, take_at, drop_at}
 use Rattle.imkl_population.specs.declared.scalar.Scalar.TheVariants as scalar
 use Rattle.rule_values.specs.Value as value
 use Rattle.rule_values.specs.Value.{Value}
@@ -24,16 +23,6 @@ use Rattle.rule_slots.proofs.Alike.{whole_is}
 use Rattle.rule_slots.proofs.Stood.{part_of_text}
 
 -- ---- passing characters
-
--- one character comes off a text, or none is left
-pub next_left : {S : Type 0} (bytes_of : S → List ℕ) (o : Option ℕ) (s t : S) → MatchOption o ((length (bytes_of s) ≡ 0) × (t ≡ s)) (λ c. bytes_of s ≡ encode_utf8 c ++ bytes_of t) → IsUtf8 (bytes_of s)
-    → IsUtf8 (bytes_of t) × (chars (bytes_of t) ≡ drop 1 (chars (bytes_of s))) × (front : List ℕ) × (bytes_of s ≡ front ++ bytes_of t)
-next_left bytes_of None s t m u =
-    let none : bytes_of s ≡ [] = nil_from_length (bytes_of s) m.0 in
-    let same : bytes_of t ≡ bytes_of s = ap bytes_of m.1 in
-    (subst IsUtf8 (sym same) u, ap chars (same ∙ none) ∙ chars-nil ∙ ap (drop 1) (sym (ap chars none ∙ chars-nil)), [], sym same)
-next_left bytes_of (Some c) s t m u =
-    (IsUtf8-past_char (bytes_of s) (bytes_of t) c u m, sym (ap (drop 1) (chars_past_char (bytes_of s) (bytes_of t) c u m)), encode_utf8 c, m)
 
 -- what is left of what is left is left of the whole
 pub rest_along : (text middle rest : List ℕ) → IsRestOf middle text → IsUtf8 rest → (front : List ℕ) → middle ≡ front ++ rest → IsRestOf rest text

@@ -12,16 +12,12 @@ use Rattle.rule_slots.specs.declared.slot.Slot.{Slot}
 use Rattle.rule_slots.specs.Slots.{Lists, home_named, part_slots, held_slots, IsInHome}
 use Rattle.rule_slots.specs.Sorted.{IsCopyOf, IsCopyIn, AreCopies}
 use Rattle.rule_slots.proofs.Loops.{all_taken, taken_are}
-use Rattle.rule_slots.proofs.Pool.{within_grown, held_same, less}
+use Rattle.rule_slots.proofs.Pool.{within_grown, held_same}
 
 module _ (l : Lists) (old : List Slot) (source : Slot) (new : List Slot) (copy : Slot) (c : IsCopyOf l old source new copy) where
   -- the pool is the same below its old length
   as_it_was : take (length old) old ≡ take (length old) new
   as_it_was = all_taken old (length old) (omega arith) ∙ sym c.below
-
-  -- another collection lies where it lay
-  pub still_within : (other : Slot) → IsInHome l (length old) other → IsInHome l (length new) other
-  still_within other w = within_grown l old new (length old) (length new) c.grown as_it_was other w
 
   -- and has the elements that it had
   pub still_held : (other : Slot) → IsInHome l (length old) other → held_slots l old other ≡ held_slots l new other
@@ -29,18 +25,11 @@ module _ (l : Lists) (old : List Slot) (source : Slot) (new : List Slot) (copy :
 
 -- two copies, one behind the other
 module _ (l : Lists) (old : List Slot) (left : Slot) (mid : List Slot) (one : Slot) (a : IsCopyOf l old left mid one) (right : Slot) (new : List Slot) (other : Slot) (b : IsCopyOf l mid right new other) where
-  pub first_within : IsInHome l (length new) one
-  first_within = still_within l mid right new other b one a.within
-
   pub first_moved : IsPermutation (held_slots l old left) (held_slots l new one)
   first_moved = subst (IsPermutation (held_slots l old left)) (still_held l mid right new other b one a.within) a.moved
 
   pub second_moved : IsInHome l (length old) right → IsPermutation (held_slots l old right) (held_slots l new other)
   second_moved w = subst (λ z. IsPermutation z (held_slots l new other)) (sym (still_held l old left mid one a right w)) b.moved
-
-  -- cut back, the pool is as it was
-  pub cut_back : (n : ℕ) → n ≡ length old → take n new ≡ old
-  cut_back n e = ap (λ z. take z new) e ∙ less new mid (length mid) (length old) a.grown (b.below ∙ sym (all_taken mid (length mid) (omega arith))) ∙ a.below
 
 -- ---- a part that is sorted in its place
 

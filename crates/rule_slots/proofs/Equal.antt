@@ -14,6 +14,7 @@ use Rattle.ocl_kinds.specs.declared.kind.ScalarKind.TheVariants as element
 use Rattle.ocl_kinds.specs.declared.kind.Kind.{Kind}
 use Rattle.ocl_kinds.specs.declared.kind.Kind.TheVariants as kind
 use Rattle.ocl_kinds.specs.Kinds.{is_same_collection}
+use Rattle.ocl_kinds.proofs.ForAbove.{same_collection_itself, same_collection_is}
 use Rattle.rule_code.specs.declared.kind.WrittenScalar.{WrittenScalar}
 use Rattle.rule_code.specs.declared.kind.WrittenKind.{WrittenKind}
 use Rattle.rule_code.specs.declared.kind.WrittenKind.TheVariants as kinds
@@ -32,19 +33,6 @@ use Rattle.rule_slots.proofs.Alike.{slots_same, all_same, any_same, among_same, 
 use Rattle.rule_slots.proofs.Made.{integer_is, integer_same, truth_is, unless_is, invalid_by}
 use Rattle.rule_slots.proofs.Taken.{undefined}
 use Rattle.rule_slots.proofs.Loops.{taken_are}
-
-same_kinds : (c d : CollectionKind) → is_same_collection c d ≡ true → c ≡ d
-same_kinds collection.Set collection.Set e = refl
-same_kinds collection.OrderedSet collection.OrderedSet e = refl
-same_kinds collection.Bag collection.Bag e = refl
-same_kinds collection.Sequence collection.Sequence e = refl
-same_kinds c d e = cc
-
-kind_same : (c : CollectionKind) → is_same_collection c c ≡ true
-kind_same collection.Set = refl
-kind_same collection.OrderedSet = refl
-kind_same collection.Bag = refl
-kind_same collection.Sequence = refl
 
 -- ---- collections of one kind
 
@@ -88,12 +76,12 @@ values_same l p pool hi (kinds.Collection q w) (kind.Collection d k) c a b (valu
     let all = and_parts (are_elements e es) (list_all (is_element_in p k) es) one.1 in
     let others = and_parts (are_elements f fs) (list_all (is_element_in p k) fs) two.1 in
     let same = same_collections (same_slots l w) q (held_slots l pool a) (held_slots l pool b) in
-    let ed : e ≡ d = same_kinds e d one.0 in
-    let fd : f ≡ d = same_kinds f d two.0 in
-    let ef : is_same_collection e f ≡ true = ap (λ z. is_same_collection z f) ed ∙ ap (is_same_collection d) fd ∙ kind_same d in
+    let ed : e ≡ d = same_collection_is e d one.0 in
+    let fd : f ≡ d = same_collection_is f d two.0 in
+    let ef : is_same_collection e f ≡ true = ap (λ z. is_same_collection z f) ed ∙ ap (is_same_collection d) fd ∙ same_collection_itself d in
     ap (λ z. (plain_mark z && plain_mark b.mark) && same) h.0 ∙ ap (λ z. (true && plain_mark z) && same) g.0
     ∙ collections_same l p w k kinds_are.1 q (held_slots l pool a) (held_slots l pool b) es fs h.1.elements g.1.elements all.1 others.1
-    ∙ ap (λ z. same_elements z es fs) (same_kinds q d kinds_are.0 ∙ sym ed) ∙ ap (λ z. z && same_elements e es fs) (sym ef)
+    ∙ ap (λ z. same_elements z es fs) (same_collection_is q d kinds_are.0 ∙ sym ed) ∙ ap (λ z. z && same_elements e es fs) (sym ef)
 values_same l p pool hi w k c a b x y h g i j m n = cc
 
 -- two values of one kind are equal

@@ -7,15 +7,21 @@ use Rattle.std.specs.Option.{option_map}
 use Rattle.std.proofs.lemmas.List.{drop_all, drop_at}
 use Rattle.ocl_base.specs.Lists.{is_among, repeats}
 use Rattle.rule_slots.specs.declared.slot.Slot.{Slot}
-use Rattle.rule_slots.specs.Slots.{Lists, plain_mark, held_slots, home_named, IsInHome}
+use Rattle.rule_slots.specs.declared.comparer.Comparer.{Comparer}
+use Rattle.rule_slots.specs.Slots.{Lists, lists_in, plain_mark, held_slots, home_named, IsInHome}
 use Rattle.rule_slots.specs.Compared.{times_among, pairwise_same, first_ones}
 use Rattle.rule_slots.specs.Ordered.{begins_after, rises}
+use Rattle.rule_slots.specs.Comparer.{slots_by, IsHeldBy}
 use Rattle.rule_slots.specs.Summed.{sum_of_slots}
 use Rattle.rule_slots.proofs.Parts.{part_long}
 
 -- a collection has as many slots as its slot counts
 pub held_long : (l : Lists) (pool : List Slot) (s : Slot) → IsInHome l (length pool) s → length (held_slots l pool s) ≡ s.count
 held_long l pool s w = part_long (home_named s.list) l pool (length pool) s.start s.count (omega arith) w
+
+-- by a comparer
+pub held_count : (c : Comparer) (s : Slot) → IsHeldBy c s → length (slots_by c s) ≡ s.count
+held_count c s w = held_long (lists_in c.lists) c.pool.now s w
 
 -- ---- any list
 

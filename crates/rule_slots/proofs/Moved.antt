@@ -7,7 +7,9 @@ use Rattle.std.proofs.lemmas.Bool.{ltb-true, ltb-false, lt-ltb, le-ltb}
 use Rattle.std.proofs.lemmas.List.Sorted.{list_any-IsPermutation, sum_by-IsPermutation}
 use Rattle.std.proofs.lemmas.List.Recursion.{is_sum_by}
 use Rattle.ocl_base.specs.Lists.{is_among, repeats}
+use Rattle.rule_slots.specs.declared.comparer.Quantifier.{Quantifier}
 use Rattle.rule_slots.specs.Compared.{times_among, stand_as_often, same_unordered}
+use Rattle.rule_slots.specs.Comparer.{admits}
 use Rattle.rule_slots.proofs.InOrder.{always_alike}
 
 -- ---- tests
@@ -25,7 +27,16 @@ all_by_any p (x ∷ xs) = by (p x) (all_by_any p xs)
     by true e = e
     by false e = refl
 
-pub all_moved : {A : Type 0} (p : A → Bool) (xs ys : List A) → IsPermutation xs ys → list_all p xs ≡ list_all p ys
+-- each fails a test where none passes it
+pub none_pass : {A : Type 0} (p : A → Bool) (xs : List A) → list_all (λ x. not (p x)) xs ≡ not (list_any p xs)
+none_pass p [] = refl
+none_pass p (x ∷ xs) = by (p x) (none_pass p xs)
+  where
+    by : (b : Bool) → list_all (λ y. not (p y)) xs ≡ not (list_any p xs) → (not b && list_all (λ y. not (p y)) xs) ≡ not (b || list_any p xs)
+    by true e = refl
+    by false e = e
+
+all_moved : {A : Type 0} (p : A → Bool) (xs ys : List A) → IsPermutation xs ys → list_all p xs ≡ list_all p ys
 all_moved p xs ys m = all_by_any p xs ∙ ap not (list_any-IsPermutation (λ x. not (p x)) xs ys m) ∙ sym (all_by_any p ys)
 
 -- ---- by a test of equality
@@ -35,11 +46,13 @@ module _ {A : Type 0} (same : A → A → Bool) where
   pub among_moved : (xs ys : List A) → IsPermutation xs ys → (z : A) → is_among same xs z ≡ is_among same ys z
   among_moved xs ys m z = list_any-IsPermutation (same z) xs ys m
 
-  pub all_among_moved : (xs ys zs : List A) → IsPermutation xs ys → list_all (is_among same xs) zs ≡ list_all (is_among same ys) zs
+  all_among_moved : (xs ys zs : List A) → IsPermutation xs ys → list_all (is_among same xs) zs ≡ list_all (is_among same ys) zs
   all_among_moved xs ys zs m = always_alike (is_among same xs) (is_among same ys) (among_moved xs ys m) zs
 
-  pub any_among_moved : (xs ys zs : List A) → IsPermutation xs ys → list_any (is_among same xs) zs ≡ list_any (is_among same ys) zs
-  any_among_moved xs ys zs m = any_alike (is_among same xs) (is_among same ys) (among_moved xs ys m) zs
+  -- all items of a list are among both, or none of them
+  pub admitted_moved : (q : Quantifier) (xs ys us vs : List A) → IsPermutation xs ys → IsPermutation us vs → list_all (λ x. admits q (is_among same xs x)) us ≡ list_all (λ x. admits q (is_among same ys x)) vs
+  admitted_moved q xs ys us vs m n =
+      always_alike (λ x. admits q (is_among same xs x)) (λ x. admits q (is_among same ys x)) (λ z. ap (admits q) (among_moved xs ys m z)) us ∙ all_moved (λ x. admits q (is_among same ys x)) us vs n
 
   -- it stands in both as often
   abbrev once : A → A → ℕ

@@ -4,6 +4,7 @@ pub mod Slots
 pub mod Operands
 pub mod Compared
 pub mod Ordered
+pub mod Comparer
 pub mod Sorted
 pub mod Cut
 pub mod Summed

@@ -11,10 +11,11 @@ ghost use Rattle.rule_slots.specs.declared.slot.Slot.{Slot as Held};
 ghost use Rattle.rule_slots.specs.Operands.{MakesOfOne, MakesOfTwo, is_many_operand, is_elements_operand, integer_slot};
 ghost use Rattle.rule_slots.specs.Compared.{covers};
 
+use crate::comparer::Quantifier;
 use crate::elements::{is_slot_among, times_among};
 use crate::integers::if_plain;
 use crate::lists::Lists;
-use crate::searching::{are_all_among, is_any_among};
+use crate::searching::are_among;
 use crate::slot::{Slot, invalid_slot, number_slot, truth_slot};
 use rule_code::WrittenScalar;
 
@@ -98,7 +99,7 @@ pub fn inclusion(
     ensures pool { pool.new.items ≡ pool.old.items }
 {
     if v.is_plain() && w.is_plain() {
-        truth_slot(are_all_among(lists, pool, kind, v, w))
+        truth_slot(are_among(lists, pool, kind, Quantifier::All, v, w))
     } else {
         invalid_slot()
     }
@@ -121,7 +122,7 @@ pub fn exclusion(
     ensures pool { pool.new.items ≡ pool.old.items }
 {
     if v.is_plain() && w.is_plain() {
-        truth_slot(!is_any_among(lists, pool, kind, v, w))
+        truth_slot(are_among(lists, pool, kind, Quantifier::None, v, w))
     } else {
         invalid_slot()
     }

@@ -2,7 +2,6 @@
 
 ghost use Rattle.std.specs.Prelude.{◌≡◌, ◌+◌, ◌≤◌, Bool, length, true, false, vec_capacity, MatchOption};
 ghost use Rattle.ocl_kinds.specs.declared.kind.Kind.{Kind};
-ghost use Rattle.std.specs.List.{list_all};
 ghost use Rattle.ocl_base.specs.Lists.{is_among};
 ghost use Rattle.rule_values.specs.Value.{is_in};
 ghost use Rattle.rule_values.specs.Operations.{equality};
@@ -10,19 +9,21 @@ ghost use Rattle.imkl_population.specs.Population.{Population};
 ghost use Rattle.rule_slots.specs.Slots.{lists_in, held_slots, plain_mark, IsInHome};
 ghost use Rattle.rule_slots.specs.Operands.{MakesOfTwo};
 ghost use Rattle.rule_slots.specs.Compared.{same_slots, stand_as_often, pairwise_same, same_unordered, same_collections, covers_kind, ComparesWithin, same_values};
+ghost use Rattle.rule_slots.specs.Comparer.{same_by, slots_by, IsHeldBy, are_held, ignores_repeats, are_same};
 
+use crate::comparer::{Comparer, Quantifier, Repeats};
 use crate::elements::{find_in_list, is_slot_among, same_slots, times_among};
 use crate::lists::Lists;
 use crate::ordering::is_in_order;
 use crate::own_room::sorted_copies;
-use crate::reading::element;
-use crate::searching::are_all_in;
+use crate::searching::are_in;
 use crate::slot::{Slot, invalid_slot, truth_slot};
 use crate::sorting::{has_room, push_sorted};
 use ocl_base::CollectionKind;
 use rule_code::{WrittenKind, WrittenScalar};
+use std::alloc::Global;
 
-/// Sets of which one has at most so many elements are compared each element with each, where they stand in no order.
+/// Sets of which one has at most so many elements are compared each element with each, where they are in no order.
 const FEW_IN_SET: usize = 32;
 
 /// Likewise Bags of as many elements, and Bags of which one has more than the other: then one of its first elements tells.
@@ -30,25 +31,18 @@ const FEW_IN_BAG: usize = 4;
 
 const FEW_IN_BAG_BESIDE_MORE: usize = 16;
 
-/// Whether each element of the first collection stands as often in the second.
+/// Whether each element of the first collection is as often in the second.
 #[inline(never)]
-fn stand_as_often(
-    lists: Lists<'_>,
-    pool: &[Slot],
-    kind: WrittenScalar,
-    left: Slot,
-    right: Slot,
-) -> bool
-    requires left { IsInHome (lists_in lists) (length pool.now) left }
-    requires right { IsInHome (lists_in lists) (length pool.now) right }
-    ensures { result ≡ stand_as_often (same_slots (lists_in lists.entry) kind)
-        (held_slots (lists_in lists.entry) pool.now left)
-        (held_slots (lists_in lists.entry) pool.now right) }
+fn stand_as_often(comparer: Comparer<'_, '_>, left: Slot, right: Slot) -> bool
+    requires left { IsHeldBy comparer left }
+    requires right { IsHeldBy comparer right }
+    ensures { result ≡ stand_as_often (same_by comparer.entry) (slots_by comparer.entry left)
+        (slots_by comparer.entry right) }
 {
     for index in 0..left.count {
-        let slot = element(lists, pool, left, index);
-        let here = times_among(lists, pool, kind, left, slot);
-        let there = times_among(lists, pool, kind, right, slot);
+        let slot = comparer.element(left, index);
+        let here = times_among(comparer.lists, comparer.pool, comparer.kind, left, slot);
+        let there = times_among(comparer.lists, comparer.pool, comparer.kind, right, slot);
         if here != there {
             return false;
         }
@@ -58,26 +52,19 @@ fn stand_as_often(
 
 /// Whether two collections are the same, one by one.
 #[inline(never)]
-fn pairwise_same(
-    lists: Lists<'_>,
-    pool: &[Slot],
-    kind: WrittenScalar,
-    left: Slot,
-    right: Slot,
-) -> bool
-    requires left { IsInHome (lists_in lists) (length pool.now) left }
-    requires right { IsInHome (lists_in lists) (length pool.now) right }
-    ensures { result ≡ pairwise_same (same_slots (lists_in lists.entry) kind)
-        (held_slots (lists_in lists.entry) pool.now left)
-        (held_slots (lists_in lists.entry) pool.now right) }
+fn pairwise_same(comparer: Comparer<'_, '_>, left: Slot, right: Slot) -> bool
+    requires left { IsHeldBy comparer left }
+    requires right { IsHeldBy comparer right }
+    ensures { result ≡ pairwise_same (same_by comparer.entry) (slots_by comparer.entry left)
+        (slots_by comparer.entry right) }
 {
     if left.count != right.count {
         return false;
     }
     for index in 0..left.count {
-        let slot = element(lists, pool, left, index);
-        let other = element(lists, pool, right, index);
-        if !same_slots(lists, kind, slot, other) {
+        let slot = comparer.element(left, index);
+        let other = comparer.element(right, index);
+        if !comparer.is_same(slot, other) {
             return false;
         }
     }
@@ -85,54 +72,52 @@ fn pairwise_same(
 }
 
 /// Whether the elements of two collections are the same, of Sets by members and of Bags by counts, if that is told by
-/// going through their lists once: they are the same one by one; or both stand in order, and then they aren't the same.
+/// going through their lists once: they are the same one by one; or both are in order, and then they aren't the same.
 #[inline(never)]
 fn told_by_order(
-    lists: Lists<'_>,
-    pool: &[Slot],
-    kind: WrittenScalar,
-    unique: bool,
+    comparer: Comparer<'_, '_>,
+    repeats: Repeats,
     left: Slot,
     right: Slot,
 ) -> Option<bool>
-    requires left { IsInHome (lists_in lists) (length pool.now) left }
-    requires right { IsInHome (lists_in lists) (length pool.now) right }
-    ensures { MatchOption result (Unit {0}) (λ told. told ≡
-        same_unordered (same_slots (lists_in lists.entry) kind) unique
-        (held_slots (lists_in lists.entry) pool.now left)
-        (held_slots (lists_in lists.entry) pool.now right)) }
+    requires left { IsHeldBy comparer left }
+    requires right { IsHeldBy comparer right }
+    ensures { MatchOption result (Unit {0}) (λ told.
+        told ≡ are_same comparer.entry repeats left right) }
 {
-    if pairwise_same(lists, pool, kind, left, right) {
+    if pairwise_same(comparer, left, right) {
         return Some(true);
     }
-    if is_in_order(lists, pool, kind, left, unique)
-        && is_in_order(lists, pool, kind, right, unique)
-    {
+    let order = repeats.telling_order();
+    if is_in_order(comparer, left, order) && is_in_order(comparer, right, order) {
         return Some(false);
     }
     None
 }
 
-/// Whether each element of the first collection is one of the second. Hints keep for elements of the second where one of
-/// the first was found to be the same.
+/// Whether all elements of the second collection are in the first. Hints keep for elements of the first where one of the
+/// second was found to be the same.
 #[inline(always)]
-fn are_all_of_kind(
-    lists: Lists<'_>,
-    pool: &[Slot],
-    kind: WrittenScalar,
-    left: Slot,
-    right: Slot,
+fn keep_hints_of_kind(
+    comparer: Comparer<'_, '_>,
+    source: Slot,
+    others: Slot,
     hints: &mut [u8; FEW_IN_SET],
 ) -> bool
-    requires left { IsInHome (lists_in lists) (length pool.now) left }
-    requires right { IsInHome (lists_in lists) (length pool.now) right }
-    ensures { result ≡ list_all (is_among (same_slots (lists_in lists.entry) kind)
-        (held_slots (lists_in lists.entry) pool.now right))
-        (held_slots (lists_in lists.entry) pool.now left) }
+    requires source { IsHeldBy comparer source }
+    requires others { IsHeldBy comparer others }
+    ensures { result ≡ are_held comparer.entry Quantifier.All source others }
 {
-    for index in 0..left.count {
-        let slot = element(lists, pool, left, index);
-        match find_in_list(lists, pool, kind, right, 0, slot) {
+    for index in 0..others.count {
+        let slot = comparer.element(others, index);
+        match find_in_list(
+            comparer.lists,
+            comparer.pool,
+            comparer.kind,
+            source,
+            0,
+            slot,
+        ) {
             Some(place) => keep_hint(hints, place, index),
             None => return false,
         }
@@ -142,34 +127,42 @@ fn are_all_of_kind(
 
 /// The same. (Kinds that are compared by the same word have loops of their own for it.)
 #[inline(never)]
-fn are_all_found(
-    lists: Lists<'_>,
-    pool: &[Slot],
-    kind: WrittenScalar,
-    left: Slot,
-    right: Slot,
+fn keep_hints(
+    comparer: Comparer<'_, '_>,
+    source: Slot,
+    others: Slot,
     hints: &mut [u8; FEW_IN_SET],
 ) -> bool
-    requires left { IsInHome (lists_in lists) (length pool.now) left }
-    requires right { IsInHome (lists_in lists) (length pool.now) right }
-    ensures { result ≡ list_all (is_among (same_slots (lists_in lists.entry) kind)
-        (held_slots (lists_in lists.entry) pool.now right))
-        (held_slots (lists_in lists.entry) pool.now left) }
+    requires source { IsHeldBy comparer source }
+    requires others { IsHeldBy comparer others }
+    ensures { result ≡ are_held comparer.entry Quantifier.All source others }
 {
-    match kind {
+    match comparer.kind {
         WrittenScalar::Void | WrittenScalar::Boolean | WrittenScalar::Integer => {
-            are_all_of_kind(lists, pool, WrittenScalar::Integer, left, right, hints)
+            let comparer = Comparer {
+                kind: WrittenScalar::Integer,
+                ..comparer
+            };
+            keep_hints_of_kind(comparer, source, others, hints)
         }
         WrittenScalar::String => {
-            are_all_of_kind(lists, pool, WrittenScalar::String, left, right, hints)
+            let comparer = Comparer {
+                kind: WrittenScalar::String,
+                ..comparer
+            };
+            keep_hints_of_kind(comparer, source, others, hints)
         }
         WrittenScalar::Enumeration(_) | WrittenScalar::Class(_) | WrittenScalar::AnyObject => {
-            are_all_of_kind(lists, pool, WrittenScalar::AnyObject, left, right, hints)
+            let comparer = Comparer {
+                kind: WrittenScalar::AnyObject,
+                ..comparer
+            };
+            keep_hints_of_kind(comparer, source, others, hints)
         }
     }
 }
 
-/// Keeps for an element of the second collection which one of the first is the same, if there is room for it.
+/// Keeps for an element of one collection which one of another is the same, if there is room for it.
 #[inline(always)]
 fn keep_hint(hints: &mut [u8; FEW_IN_SET], place: usize, index: usize) {
     if place < FEW_IN_SET && index < FEW_IN_SET {
@@ -177,118 +170,91 @@ fn keep_hint(hints: &mut [u8; FEW_IN_SET], place: usize, index: usize) {
     }
 }
 
-/// Whether an element is one of a collection, which is seen at once where the hint is right.
+/// Whether an element is in a collection, which is seen at once where the hint is right.
 #[inline(always)]
-fn is_hinted_among(
-    lists: Lists<'_>,
-    pool: &[Slot],
-    kind: WrittenScalar,
-    source: Slot,
-    hint: usize,
-    slot: Slot,
-) -> bool
-    requires { IsInHome (lists_in lists) (length pool.now) source }
-    ensures { result ≡ is_among (same_slots (lists_in lists.entry) kind)
-        (held_slots (lists_in lists.entry) pool.now source) slot }
+fn is_hinted_among(comparer: Comparer<'_, '_>, source: Slot, hint: usize, slot: Slot) -> bool
+    requires { IsHeldBy comparer source }
+    ensures { result ≡ is_among (same_by comparer.entry) (slots_by comparer.entry source) slot }
 {
-    if hint < source.count && same_slots(lists, kind, slot, element(lists, pool, source, hint)) {
+    if hint < source.count && comparer.is_same(slot, comparer.element(source, hint)) {
         return true;
     }
-    is_slot_among(lists, pool, kind, source, slot)
+    is_slot_among(comparer.lists, comparer.pool, comparer.kind, source, slot)
 }
 
-/// Whether each element of the second collection is one of the first.
+/// Whether all elements of the second collection are in the first.
 #[inline(never)]
 fn are_all_hinted(
-    lists: Lists<'_>,
-    pool: &[Slot],
-    kind: WrittenScalar,
-    left: Slot,
-    right: Slot,
+    comparer: Comparer<'_, '_>,
+    source: Slot,
+    others: Slot,
     hints: &[u8; FEW_IN_SET],
 ) -> bool
-    requires left { IsInHome (lists_in lists) (length pool.now) left }
-    requires right { IsInHome (lists_in lists) (length pool.now) right }
-    ensures { result ≡ list_all (is_among (same_slots (lists_in lists.entry) kind)
-        (held_slots (lists_in lists.entry) pool.now left))
-        (held_slots (lists_in lists.entry) pool.now right) }
+    requires source { IsHeldBy comparer source }
+    requires others { IsHeldBy comparer others }
+    ensures { result ≡ are_held comparer.entry Quantifier.All source others }
 {
-    for index in 0..right.count {
-        let slot = element(lists, pool, right, index);
+    for index in 0..others.count {
+        let slot = comparer.element(others, index);
         let hint = if index < FEW_IN_SET { hints[index] } else { 0 };
-        if !is_hinted_among(lists, pool, kind, left, hint as usize, slot) {
+        if !is_hinted_among(comparer, source, hint as usize, slot) {
             return false;
         }
     }
     true
 }
 
-/// Whether each element of two collections is one of the other. An element that another was found to be the same as is
+/// Whether each element of two collections is in the other. An element that another was found to be the same as is
 /// compared with that one first: so where all are, each is looked for once.
 #[inline(never)]
-fn same_members(
-    lists: Lists<'_>,
-    pool: &[Slot],
-    kind: WrittenScalar,
-    left: Slot,
-    right: Slot,
-) -> bool
-    requires left { IsInHome (lists_in lists) (length pool.now) left }
-    requires right { IsInHome (lists_in lists) (length pool.now) right }
-    ensures { result ≡ same_unordered (same_slots (lists_in lists.entry) kind) true
-        (held_slots (lists_in lists.entry) pool.now left)
-        (held_slots (lists_in lists.entry) pool.now right) }
+fn same_few_members(comparer: Comparer<'_, '_>, left: Slot, right: Slot) -> bool
+    requires left { IsHeldBy comparer left }
+    requires right { IsHeldBy comparer right }
+    ensures { result ≡ are_same comparer.entry Repeats.Ignored left right }
 {
     let mut hints = [0; FEW_IN_SET];
-    let all = are_all_found(lists, pool, kind, left, right, &mut hints);
-    all && are_all_hinted(lists, pool, kind, left, right, &hints)
+    let all = keep_hints(comparer, right, left, &mut hints);
+    all && are_all_hinted(comparer, left, right, &hints)
+}
+
+/// Whether each element of two collections is in the other. Hints are kept where the first has few elements.
+fn same_members(comparer: Comparer<'_, '_>, left: Slot, right: Slot) -> bool
+    requires left { IsHeldBy comparer left }
+    requires right { IsHeldBy comparer right }
+    ensures { result ≡ are_same comparer.entry Repeats.Ignored left right }
+{
+    if left.count <= FEW_IN_SET {
+        return same_few_members(comparer, left, right);
+    }
+    let all = are_in(comparer, Quantifier::All, right, left);
+    all && are_in(comparer, Quantifier::All, left, right)
 }
 
 /// Whether the elements of two collections are the same, each compared with each.
 #[inline(never)]
-fn same_by_pairs(
-    lists: Lists<'_>,
-    pool: &[Slot],
-    kind: WrittenScalar,
-    unique: bool,
-    left: Slot,
-    right: Slot,
-) -> bool
-    requires left { IsInHome (lists_in lists) (length pool.now) left }
-    requires right { IsInHome (lists_in lists) (length pool.now) right }
-    ensures { result ≡ same_unordered (same_slots (lists_in lists.entry) kind) unique
-        (held_slots (lists_in lists.entry) pool.now left)
-        (held_slots (lists_in lists.entry) pool.now right) }
+fn same_by_pairs(comparer: Comparer<'_, '_>, repeats: Repeats, left: Slot, right: Slot) -> bool
+    requires left { IsHeldBy comparer left }
+    requires right { IsHeldBy comparer right }
+    ensures { result ≡ are_same comparer.entry repeats left right }
 {
-    if unique && left.count <= FEW_IN_SET {
-        same_members(lists, pool, kind, left, right)
-    } else if unique {
-        let all = are_all_in(lists, pool, kind, right, left);
-        all && are_all_in(lists, pool, kind, left, right)
-    } else {
-        let all = stand_as_often(lists, pool, kind, left, right);
-        all && stand_as_often(lists, pool, kind, right, left)
+    match repeats {
+        Repeats::Counted => {
+            let all = stand_as_often(comparer, left, right);
+            all && stand_as_often(comparer, right, left)
+        }
+        Repeats::Ignored => same_members(comparer, left, right),
     }
 }
 
-/// Whether the elements of two collections are the same, by their lists as they stand.
-fn same_as_listed(
-    lists: Lists<'_>,
-    pool: &[Slot],
-    kind: WrittenScalar,
-    unique: bool,
-    left: Slot,
-    right: Slot,
-) -> bool
-    requires left { IsInHome (lists_in lists) (length pool.now) left }
-    requires right { IsInHome (lists_in lists) (length pool.now) right }
-    ensures { result ≡ same_unordered (same_slots (lists_in lists.entry) kind) unique
-        (held_slots (lists_in lists.entry) pool.now left)
-        (held_slots (lists_in lists.entry) pool.now right) }
+/// Whether the elements of two collections are the same, by their lists as they are.
+fn same_as_listed(comparer: Comparer<'_, '_>, repeats: Repeats, left: Slot, right: Slot) -> bool
+    requires left { IsHeldBy comparer left }
+    requires right { IsHeldBy comparer right }
+    ensures { result ≡ are_same comparer.entry repeats left right }
 {
-    match told_by_order(lists, pool, kind, unique, left, right) {
+    match told_by_order(comparer, repeats, left, right) {
         Some(told) => told,
-        None => same_by_pairs(lists, pool, kind, unique, left, right),
+        None => same_by_pairs(comparer, repeats, left, right),
     }
 }
 
@@ -298,14 +264,15 @@ fn same_by_copies(
     lists: Lists<'_>,
     pool: &mut Vec<Slot>,
     kind: WrittenScalar,
-    unique: bool,
+    repeats: Repeats,
     left: Slot,
     right: Slot,
 ) -> bool
     requires left { IsInHome (lists_in lists) (length pool.old.items) left }
     requires right { IsInHome (lists_in lists) (length pool.old.items) right }
     requires room { length pool.old.items + (left.count + right.count) ≤ vec_capacity pool.old }
-    ensures told { result ≡ same_unordered (same_slots (lists_in lists.entry) kind) unique
+    ensures told { result ≡ same_unordered (same_slots (lists_in lists.entry) kind)
+        (ignores_repeats repeats)
         (held_slots (lists_in lists.entry) pool.old.items left)
         (held_slots (lists_in lists.entry) pool.old.items right) }
     ensures pool { pool.new.items ≡ pool.old.items }
@@ -313,7 +280,7 @@ fn same_by_copies(
     let start = pool.len();
     let one = push_sorted(lists, pool, kind, left);
     let other = push_sorted(lists, pool, kind, right);
-    let same = same_as_listed(lists, pool, kind, unique, one, other);
+    let same = same_as_listed(Comparer { lists, pool, kind }, repeats, one, other);
     pool.truncate(start);
     same
 }
@@ -322,55 +289,52 @@ fn same_by_copies(
 /// refused, each is compared with each.
 #[inline(never)]
 fn same_in_room(
-    lists: Lists<'_>,
-    pool: &Vec<Slot>,
-    kind: WrittenScalar,
-    unique: bool,
+    alloc: Global,
+    comparer: Comparer<'_, '_>,
+    repeats: Repeats,
     left: Slot,
     right: Slot,
 ) -> bool
-    requires left { IsInHome (lists_in lists) (length pool.now.items) left }
-    requires right { IsInHome (lists_in lists) (length pool.now.items) right }
-    ensures { result ≡ same_unordered (same_slots (lists_in lists.entry) kind) unique
-        (held_slots (lists_in lists.entry) pool.now.items left)
-        (held_slots (lists_in lists.entry) pool.now.items right) }
+    requires left { IsHeldBy comparer left }
+    requires right { IsHeldBy comparer right }
+    ensures { result ≡ are_same comparer.entry repeats left right }
 {
-    match sorted_copies(lists, pool, kind, left, right) {
+    match sorted_copies(alloc, comparer, left, right) {
         Some(copies) => {
+            let copied = Comparer {
+                pool: &copies.room,
+                ..comparer
+            };
             let (one, other) = (copies.left, copies.right);
-            same_as_listed(lists, &copies.room, kind, unique, one, other)
+            same_as_listed(copied, repeats, one, other)
         }
-        None => same_by_pairs(lists, pool, kind, unique, left, right),
+        None => same_by_pairs(comparer, repeats, left, right),
     }
 }
 
 /// How many elements the shorter of two collections has at most for which each element is compared with each.
-fn few_for_pairs(unique: bool, left: usize, right: usize) -> usize {
-    if unique {
-        FEW_IN_SET
-    } else if left == right {
-        FEW_IN_BAG
-    } else {
-        FEW_IN_BAG_BESIDE_MORE
+fn few_for_pairs(repeats: Repeats, left: usize, right: usize) -> usize {
+    match repeats {
+        Repeats::Ignored => FEW_IN_SET,
+        Repeats::Counted if left == right => FEW_IN_BAG,
+        Repeats::Counted => FEW_IN_BAG_BESIDE_MORE,
     }
 }
 
 /// Whether one collection is empty and another has an element: then they are not the same, and nothing else of them is
 /// looked at.
 #[inline(always)]
-fn is_one_empty(lists: Lists<'_>, pool: &[Slot], left: Slot, right: Slot) -> bool
-    requires left { IsInHome (lists_in lists) (length pool.now) left }
-    requires right { IsInHome (lists_in lists) (length pool.now) right }
-    ensures { (kind : WrittenScalar) (unique : Bool) → result ≡ true →
-        same_unordered (same_slots (lists_in lists.entry) kind) unique
-        (held_slots (lists_in lists.entry) pool.now left)
-        (held_slots (lists_in lists.entry) pool.now right) ≡ false }
+fn is_one_empty(comparer: Comparer<'_, '_>, left: Slot, right: Slot) -> bool
+    requires left { IsHeldBy comparer left }
+    requires right { IsHeldBy comparer right }
+    ensures { (repeats : Repeats) → result ≡ true →
+        are_same comparer.entry repeats left right ≡ false }
 {
     if left.count == 0 && right.count > 0 {
-        return !element(lists, pool, right, 0).is_invalid();
+        return !comparer.element(right, 0).is_invalid();
     }
     if right.count == 0 && left.count > 0 {
-        return !element(lists, pool, left, 0).is_invalid();
+        return !comparer.element(left, 0).is_invalid();
     }
     false
 }
@@ -383,30 +347,33 @@ fn same_unordered(
     lists: Lists<'_>,
     pool: &mut Vec<Slot>,
     kind: WrittenScalar,
-    unique: bool,
+    repeats: Repeats,
     left: Slot,
     right: Slot,
 ) -> bool
     requires left { IsInHome (lists_in lists) (length pool.old.items) left }
     requires right { IsInHome (lists_in lists) (length pool.old.items) right }
-    ensures told { result ≡ same_unordered (same_slots (lists_in lists.entry) kind) unique
+    ensures told { result ≡ same_unordered (same_slots (lists_in lists.entry) kind)
+        (ignores_repeats repeats)
         (held_slots (lists_in lists.entry) pool.old.items left)
         (held_slots (lists_in lists.entry) pool.old.items right) }
     ensures pool { pool.new.items ≡ pool.old.items }
 {
-    if is_one_empty(lists, pool, left, right) {
+    let comparer = Comparer { lists, pool, kind };
+    if is_one_empty(comparer, left, right) {
         return false;
     }
-    if let Some(told) = told_by_order(lists, pool, kind, unique, left, right) {
+    if let Some(told) = told_by_order(comparer, repeats, left, right) {
         return told;
     }
-    if left.count.min(right.count) <= few_for_pairs(unique, left.count, right.count) {
-        return same_by_pairs(lists, pool, kind, unique, left, right);
+    if left.count.min(right.count) <= few_for_pairs(repeats, left.count, right.count) {
+        return same_by_pairs(comparer, repeats, left, right);
     }
     if has_room(pool, left.count, right.count) {
-        return same_by_copies(lists, pool, kind, unique, left, right);
+        return same_by_copies(lists, pool, kind, repeats, left, right);
     }
-    same_in_room(lists, pool, kind, unique, left, right)
+    let alloc = *pool.allocator();
+    same_in_room(alloc, Comparer { lists, pool, kind }, repeats, left, right)
 }
 
 /// Whether the elements of two collections of one kind are the same: Sets by members, Bags by counts, the ordered ones
@@ -428,10 +395,10 @@ fn same_collections(
     ensures pool { pool.new.items ≡ pool.old.items }
 {
     match collection {
-        CollectionKind::Set => same_unordered(lists, pool, kind, true, left, right),
-        CollectionKind::OrderedSet => pairwise_same(lists, pool, kind, left, right),
-        CollectionKind::Bag => same_unordered(lists, pool, kind, false, left, right),
-        CollectionKind::Sequence => pairwise_same(lists, pool, kind, left, right),
+        CollectionKind::Set => same_unordered(lists, pool, kind, Repeats::Ignored, left, right),
+        CollectionKind::OrderedSet => pairwise_same(Comparer { lists, pool, kind }, left, right),
+        CollectionKind::Bag => same_unordered(lists, pool, kind, Repeats::Counted, left, right),
+        CollectionKind::Sequence => pairwise_same(Comparer { lists, pool, kind }, left, right),
     }
 }
 

@@ -5,6 +5,7 @@ ghost use Rattle.ocl_base.specs.Lists.{is_among, repeats};
 ghost use Rattle.rule_slots.specs.Slots.{lists_in, home_named, plain_mark, scalar_slot, scalar_slots, index_slot, held_slots, IsInHome};
 ghost use Rattle.rule_slots.specs.Compared.{slot_bytes, same_words, same_slots, times_among};
 
+use crate::comparer::{Comparer, Order};
 use crate::lists::Lists;
 use crate::ordering::is_in_order;
 use crate::reading::{element, element_in, scalar_slot};
@@ -413,10 +414,11 @@ pub(crate) fn repeats_slot(
     ensures { result ≡ repeats (same_slots (lists_in lists.entry) kind)
         (held_slots (lists_in lists.entry) pool.now source) }
 {
-    if is_in_order(lists, pool, kind, source, true) {
+    let comparer = Comparer { lists, pool, kind };
+    if is_in_order(comparer, source, Order::Strict) {
         return false;
     }
-    if is_in_order(lists, pool, kind, source, false) {
+    if is_in_order(comparer, source, Order::Weak) {
         return true;
     }
     for index in 0..source.count {

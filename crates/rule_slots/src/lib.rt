@@ -3,6 +3,7 @@
 #![tactic(auto)]
 
 mod collections;
+mod comparer;
 mod comparing;
 mod elements;
 mod integers;

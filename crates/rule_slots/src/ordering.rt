@@ -1,12 +1,12 @@
 //! Collections in order: whether their elements are in order, and binary search in one whose are.
 
-ghost use Rattle.std.specs.Prelude.{◌≡◌, length, true, false};
+ghost use Rattle.std.specs.Prelude.{◌≡◌, true};
 ghost use Rattle.ocl_base.specs.Lists.{is_among};
-ghost use Rattle.rule_slots.specs.Slots.{lists_in, home_named, held_slots, IsInHome};
-ghost use Rattle.rule_slots.specs.Compared.{same_slots};
-ghost use Rattle.rule_slots.specs.Ordered.{compare_words, compare_slots, is_defined, may_precede, rises};
+ghost use Rattle.rule_slots.specs.Slots.{lists_in, home_named};
+ghost use Rattle.rule_slots.specs.Ordered.{compare_words, compare_slots, may_precede};
+ghost use Rattle.rule_slots.specs.Comparer.{same_by, slots_by, IsHeldBy, is_strict, is_ordered};
 
-use crate::elements::same_slots;
+use crate::comparer::{Comparer, Order};
 use crate::lists::Lists;
 use crate::reading::element_in;
 use crate::slot::{Home, Mark, Slot, home_named};
@@ -43,42 +43,32 @@ pub(crate) fn compare_slots(lists: Lists<'_>, kind: WrittenScalar, a: Slot, b: S
     }
 }
 
-/// Whether an element may stand before another: strictly, where none may stand twice.
+/// Whether an element that compares so with another may stand before it.
 #[inline(always)]
-fn may_precede(order: Ordering, strictly: bool) -> bool
-    ensures { result ≡ may_precede strictly order }
+fn may_precede(compared: Ordering, order: Order) -> bool
+    ensures { result ≡ may_precede (is_strict order) compared }
 {
-    if strictly {
-        order.is_lt()
-    } else {
-        !order.is_gt()
+    match order {
+        Order::Strict => compared.is_lt(),
+        Order::Weak => !compared.is_gt(),
     }
 }
 
-/// Whether the elements of a collection that is a part of this list stand in order: strictly, where none stands twice.
+/// Whether the elements of a collection that is a part of this list are in order.
 #[inline(always)]
-fn is_in_order_in(
-    home: Home,
-    lists: Lists<'_>,
-    pool: &[Slot],
-    kind: WrittenScalar,
-    source: Slot,
-    strictly: bool,
-) -> bool
+fn is_in_order_in(home: Home, comparer: Comparer<'_, '_>, source: Slot, order: Order) -> bool
     requires list { home_named source.list ≡ home }
-    requires home { IsInHome (lists_in lists) (length pool.now) source }
-    ensures { result ≡ rises is_defined (λ a b.
-        may_precede strictly (compare_slots (lists_in lists.entry) kind a b))
-        (held_slots (lists_in lists.entry) pool.now source) }
+    requires home { IsHeldBy comparer source }
+    ensures { result ≡ is_ordered comparer.entry order source }
 {
     for index in 0..source.count {
-        let slot = element_in(home, lists, pool, source, index);
+        let slot = element_in(home, comparer.lists, comparer.pool, source, index);
         if slot.is_invalid() {
             return false;
         }
         if index + 1 < source.count {
-            let next = element_in(home, lists, pool, source, index + 1);
-            if !may_precede(compare_slots(lists, kind, slot, next), strictly) {
+            let next = element_in(home, comparer.lists, comparer.pool, source, index + 1);
+            if !may_precede(comparer.compare(slot, next), order) {
                 return false;
             }
         }
@@ -86,79 +76,65 @@ fn is_in_order_in(
     true
 }
 
-/// Whether the elements of a collection stand in order, with a loop for each list.
+/// Whether the elements of a collection are in order, with a loop for each list.
 #[inline(always)]
-fn is_in_order_list(
-    lists: Lists<'_>,
-    pool: &[Slot],
-    kind: WrittenScalar,
-    source: Slot,
-    strictly: bool,
-) -> bool
-    requires { IsInHome (lists_in lists) (length pool.now) source }
-    ensures { result ≡ rises is_defined (λ a b.
-        may_precede strictly (compare_slots (lists_in lists.entry) kind a b))
-        (held_slots (lists_in lists.entry) pool.now source) }
+fn is_in_order_list(comparer: Comparer<'_, '_>, source: Slot, order: Order) -> bool
+    requires { IsHeldBy comparer source }
+    ensures { result ≡ is_ordered comparer.entry order source }
 {
     match home_named(source.list) {
-        Home::Scalars => is_in_order_in(Home::Scalars, lists, pool, kind, source, strictly),
-        Home::Instances => is_in_order_in(Home::Instances, lists, pool, kind, source, strictly),
-        Home::Pool => is_in_order_in(Home::Pool, lists, pool, kind, source, strictly),
+        Home::Scalars => is_in_order_in(Home::Scalars, comparer, source, order),
+        Home::Instances => is_in_order_in(Home::Instances, comparer, source, order),
+        Home::Pool => is_in_order_in(Home::Pool, comparer, source, order),
     }
 }
 
-/// Whether the elements of a collection stand in order: strictly, where none stands twice. (Kinds that are compared by the
-/// same word have loops of their own for it.)
+/// Whether the elements of a collection are in order. (Kinds that are compared by the same word have loops of their own
+/// for it.)
 #[inline(never)]
-pub(crate) fn is_in_order(
-    lists: Lists<'_>,
-    pool: &[Slot],
-    kind: WrittenScalar,
-    source: Slot,
-    strictly: bool,
-) -> bool
-    requires { IsInHome (lists_in lists) (length pool.now) source }
-    ensures { result ≡ rises is_defined (λ a b.
-        may_precede strictly (compare_slots (lists_in lists.entry) kind a b))
-        (held_slots (lists_in lists.entry) pool.now source) }
+pub(crate) fn is_in_order(comparer: Comparer<'_, '_>, source: Slot, order: Order) -> bool
+    requires { IsHeldBy comparer source }
+    ensures { result ≡ is_ordered comparer.entry order source }
 {
-    match kind {
+    match comparer.kind {
         WrittenScalar::Void | WrittenScalar::Boolean | WrittenScalar::Integer => {
-            is_in_order_list(lists, pool, WrittenScalar::Integer, source, strictly)
+            let comparer = Comparer {
+                kind: WrittenScalar::Integer,
+                ..comparer
+            };
+            is_in_order_list(comparer, source, order)
         }
         WrittenScalar::String => {
-            is_in_order_list(lists, pool, WrittenScalar::String, source, strictly)
+            let comparer = Comparer {
+                kind: WrittenScalar::String,
+                ..comparer
+            };
+            is_in_order_list(comparer, source, order)
         }
         WrittenScalar::Enumeration(_) | WrittenScalar::Class(_) | WrittenScalar::AnyObject => {
-            is_in_order_list(lists, pool, WrittenScalar::AnyObject, source, strictly)
+            let comparer = Comparer {
+                kind: WrittenScalar::AnyObject,
+                ..comparer
+            };
+            is_in_order_list(comparer, source, order)
         }
     }
 }
 
-/// Whether an element is one of a collection that is a part of this list and stands in order.
+/// Whether an element is in a collection that is a part of this list and is in weak order.
 #[inline(always)]
-fn is_among_ordered_in(
-    home: Home,
-    lists: Lists<'_>,
-    pool: &[Slot],
-    kind: WrittenScalar,
-    source: Slot,
-    slot: Slot,
-) -> bool
+fn is_among_ordered_in(home: Home, comparer: Comparer<'_, '_>, source: Slot, slot: Slot) -> bool
     requires list { home_named source.list ≡ home }
-    requires home { IsInHome (lists_in lists) (length pool.now) source }
-    requires order { rises is_defined (λ a b.
-        may_precede false (compare_slots (lists_in lists) kind a b))
-        (held_slots (lists_in lists) pool.now source) ≡ true }
-    ensures { result ≡ is_among (same_slots (lists_in lists.entry) kind)
-        (held_slots (lists_in lists.entry) pool.now source) slot }
+    requires home { IsHeldBy comparer source }
+    requires order { is_ordered comparer Order.Weak source ≡ true }
+    ensures { result ≡ is_among (same_by comparer.entry) (slots_by comparer.entry source) slot }
 {
     let mut low = 0;
     let mut high = source.count;
     while low < high {
         let middle = low + (high - low) / 2;
-        let found = element_in(home, lists, pool, source, middle);
-        if compare_slots(lists, kind, found, slot).is_lt() {
+        let found = element_in(home, comparer.lists, comparer.pool, source, middle);
+        if comparer.compare(found, slot).is_lt() {
             low = middle + 1;
         } else {
             high = middle;
@@ -167,63 +143,53 @@ fn is_among_ordered_in(
     if low == source.count {
         return false;
     }
-    same_slots(
-        lists,
-        kind,
-        slot,
-        element_in(home, lists, pool, source, low),
-    )
+    let found = element_in(home, comparer.lists, comparer.pool, source, low);
+    comparer.is_same(slot, found)
 }
 
-/// Whether an element is one of a collection that stands in order, with a loop for each list.
+/// Whether an element is in a collection that is in weak order, with a loop for each list.
 #[inline(always)]
-fn is_among_ordered_list(
-    lists: Lists<'_>,
-    pool: &[Slot],
-    kind: WrittenScalar,
-    source: Slot,
-    slot: Slot,
-) -> bool
-    requires home { IsInHome (lists_in lists) (length pool.now) source }
-    requires order { rises is_defined (λ a b.
-        may_precede false (compare_slots (lists_in lists) kind a b))
-        (held_slots (lists_in lists) pool.now source) ≡ true }
-    ensures { result ≡ is_among (same_slots (lists_in lists.entry) kind)
-        (held_slots (lists_in lists.entry) pool.now source) slot }
+fn is_among_ordered_list(comparer: Comparer<'_, '_>, source: Slot, slot: Slot) -> bool
+    requires home { IsHeldBy comparer source }
+    requires order { is_ordered comparer Order.Weak source ≡ true }
+    ensures { result ≡ is_among (same_by comparer.entry) (slots_by comparer.entry source) slot }
 {
     match home_named(source.list) {
-        Home::Scalars => is_among_ordered_in(Home::Scalars, lists, pool, kind, source, slot),
-        Home::Instances => is_among_ordered_in(Home::Instances, lists, pool, kind, source, slot),
-        Home::Pool => is_among_ordered_in(Home::Pool, lists, pool, kind, source, slot),
+        Home::Scalars => is_among_ordered_in(Home::Scalars, comparer, source, slot),
+        Home::Instances => is_among_ordered_in(Home::Instances, comparer, source, slot),
+        Home::Pool => is_among_ordered_in(Home::Pool, comparer, source, slot),
     }
 }
 
-/// Whether an element is one of a collection that stands in order. (Kinds that are compared by the
-/// same word have loops of their own for it.)
+/// Whether an element is in a collection that is in weak order. (Kinds that are compared by the same word have loops of
+/// their own for it.)
 #[inline(never)]
-pub(crate) fn is_among_ordered(
-    lists: Lists<'_>,
-    pool: &[Slot],
-    kind: WrittenScalar,
-    source: Slot,
-    slot: Slot,
-) -> bool
-    requires home { IsInHome (lists_in lists) (length pool.now) source }
-    requires order { rises is_defined (λ a b.
-        may_precede false (compare_slots (lists_in lists) kind a b))
-        (held_slots (lists_in lists) pool.now source) ≡ true }
-    ensures { result ≡ is_among (same_slots (lists_in lists.entry) kind)
-        (held_slots (lists_in lists.entry) pool.now source) slot }
+pub(crate) fn is_among_ordered(comparer: Comparer<'_, '_>, source: Slot, slot: Slot) -> bool
+    requires home { IsHeldBy comparer source }
+    requires order { is_ordered comparer Order.Weak source ≡ true }
+    ensures { result ≡ is_among (same_by comparer.entry) (slots_by comparer.entry source) slot }
 {
-    match kind {
+    match comparer.kind {
         WrittenScalar::Void | WrittenScalar::Boolean | WrittenScalar::Integer => {
-            is_among_ordered_list(lists, pool, WrittenScalar::Integer, source, slot)
+            let comparer = Comparer {
+                kind: WrittenScalar::Integer,
+                ..comparer
+            };
+            is_among_ordered_list(comparer, source, slot)
         }
         WrittenScalar::String => {
-            is_among_ordered_list(lists, pool, WrittenScalar::String, source, slot)
+            let comparer = Comparer {
+                kind: WrittenScalar::String,
+                ..comparer
+            };
+            is_among_ordered_list(comparer, source, slot)
         }
         WrittenScalar::Enumeration(_) | WrittenScalar::Class(_) | WrittenScalar::AnyObject => {
-            is_among_ordered_list(lists, pool, WrittenScalar::AnyObject, source, slot)
+            let comparer = Comparer {
+                kind: WrittenScalar::AnyObject,
+                ..comparer
+            };
+            is_among_ordered_list(comparer, source, slot)
         }
     }
 }

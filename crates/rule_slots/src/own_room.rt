@@ -5,12 +5,15 @@
 ghost use Rattle.std.specs.Prelude.{◌≡◌, ◌+◌, ◌≤◌, ◌++◌, length, vec_capacity, MatchOption};
 ghost use Rattle.rule_slots.specs.Slots.{lists_in, held_slots, IsInHome};
 ghost use Rattle.rule_slots.specs.Sorted.{IsCopyIn, AreCopies};
+ghost use Rattle.rule_slots.specs.Comparer.{IsHeldBy};
 
+use crate::comparer::Comparer;
 use crate::lists::Lists;
 use crate::reading::element;
 use crate::slot::{Slot, part_slot};
 use crate::sorting::sort_part;
 use rule_code::WrittenScalar;
+use std::alloc::Global;
 
 /// Sorted copies of two collections, and the room that they are in.
 #[derive(Drop)]
@@ -60,21 +63,21 @@ fn push_copy(
 /// Sorted copies of two collections; `None` where the room for them is refused.
 #[inline(never)]
 pub(crate) fn sorted_copies(
-    lists: Lists<'_>,
-    pool: &Vec<Slot>,
-    kind: WrittenScalar,
+    alloc: Global,
+    comparer: Comparer<'_, '_>,
     left: Slot,
     right: Slot,
 ) -> Option<Copies>
-    requires left { IsInHome (lists_in lists) (length pool.now.items) left }
-    requires right { IsInHome (lists_in lists) (length pool.now.items) right }
-    ensures { MatchOption result (Unit {0}) (λ c. AreCopies (lists_in lists.entry) pool.now.items
-        left right c.room.items c.left c.right) }
+    requires left { IsHeldBy comparer left }
+    requires right { IsHeldBy comparer right }
+    ensures { MatchOption result (Unit {0}) (λ c. AreCopies (lists_in comparer.entry.lists)
+        comparer.entry.pool.now left right c.room.items c.left c.right) }
 {
+    let Comparer { lists, pool, kind } = comparer;
     let Some(count) = left.count.checked_add(right.count) else {
         return None;
     };
-    let Ok(mut room) = Vec::with_capacity(*pool.allocator(), count) else {
+    let Ok(mut room) = Vec::with_capacity(alloc, count) else {
         return None;
     };
     let left = push_copy(lists, pool, &mut room, kind, left);

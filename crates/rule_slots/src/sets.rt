@@ -14,6 +14,7 @@ ghost use Rattle.rule_slots.specs.Operands.{is_single_operand, is_elements_opera
 ghost use Rattle.rule_slots.specs.Compared.{covers, same_slots, first_ones};
 ghost use Rattle.rule_slots.specs.Sorted.{IsChoice, IsSameBefore};
 
+use crate::comparer::{Comparer, Order};
 use crate::elements::{is_slot_among, repeats_slot, same_slots};
 use crate::lists::Lists;
 use crate::ordering::is_in_order;
@@ -94,7 +95,7 @@ fn all_differ(lists: Lists<'_>, pool: &mut Vec<Slot>, kind: WrittenScalar, sourc
     ensures pool { pool.new.items ≡ pool.old.items }
     ensures capacity { vec_capacity pool.new ≡ vec_capacity pool.old }
 {
-    if is_in_order(lists, pool, kind, source, true) {
+    if is_in_order(Comparer { lists, pool, kind }, source, Order::Strict) {
         return true;
     }
     source.count > SHORT && differ_by_copy(lists, pool, kind, source)
@@ -214,7 +215,7 @@ fn repeats_in_pool(lists: Lists<'_>, pool: &mut Vec<Slot>, kind: WrittenScalar, 
     if part.count <= SHORT {
         return repeats_slot(lists, pool, kind, part);
     }
-    if is_in_order(lists, pool, kind, part, true) {
+    if is_in_order(Comparer { lists, pool, kind }, part, Order::Strict) {
         return false;
     }
     sort_part(lists, pool, kind, part);

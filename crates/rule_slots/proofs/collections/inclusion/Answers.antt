@@ -11,5 +11,5 @@ returns-then-is_plain-2-clause-made c = λ p k cov v w h g i j.
     let l = lists_in c.args.lists in
     let pool = c.args.pool.now.items in
     let test = and_from _ _ (sym c.is_plain.ensures ∙ c.if-is_plain.true) (sym c.is_plain-then-is_plain.ensures ∙ c.if-is_plain-2.true) in
-    subst (λ z. SlotIs l pool (length pool) z (inclusion v w)) (passes (plain_mark c.args.v.mark && plain_mark c.args.w.mark) c.truth_slot.result _ invalid_slot test (c.truth_slot.ensures ∙ ap truth_slot c.are_all_among.ensures.told))
+    subst (λ z. SlotIs l pool (length pool) z (inclusion v w)) (passes (plain_mark c.args.v.mark && plain_mark c.args.w.mark) c.truth_slot.result _ invalid_slot test (c.truth_slot.ensures ∙ ap truth_slot c.are_among.ensures.told))
     (inclusion_is l p pool (length pool) c.args.kind k cov c.args.v c.args.w v w h g i j)

@@ -1,12 +1,9 @@
 use Rattle.std.proofs.Common.{◌≡◌, drop}
 use Rattle.std.specs.List.{list_all}
-use Rattle.ocl_base.specs.Lists.{is_among}
-use Rattle.rule_slots.specs.Slots.{lists_in, held_slots}
-use Rattle.rule_slots.specs.Compared.{same_slots}
+use Rattle.rule_slots.specs.declared.comparer.Quantifier.TheVariants as quantifier
+use Rattle.rule_slots.specs.Comparer.{slots_by, is_held, are_held}
 use Rattle.rule_slots.proofs.comparing.are_all_hinted.Given as goal
 
 -- it holds of those that are left where it holds of all
 abbrev pub invariant-loop-index : goal.invariant-loop-index
-invariant-loop-index l =
-    list_all (is_among (same_slots (lists_in l.lists) l.kind) (held_slots (lists_in l.lists) l.pool l.left)) (held_slots (lists_in l.lists) l.pool l.right)
-    ≡ list_all (is_among (same_slots (lists_in l.lists) l.kind) (held_slots (lists_in l.lists) l.pool l.left)) (drop l.index (held_slots (lists_in l.lists) l.pool l.right))
+invariant-loop-index l = are_held l.comparer quantifier.All l.source l.others ≡ list_all (is_held l.comparer quantifier.All l.source) (drop l.index (slots_by l.comparer l.others))

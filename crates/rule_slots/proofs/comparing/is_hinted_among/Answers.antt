@@ -1,10 +1,9 @@
 use Rattle.std.proofs.Common.{sym, ◌∙◌}
-use Rattle.rule_slots.specs.Slots.{lists_in, held_slots}
-use Rattle.rule_slots.specs.Compared.{same_slots}
+use Rattle.rule_slots.specs.Comparer.{same_by, slots_by}
 use Rattle.rule_slots.proofs.InOrder.{any_at}
 use Rattle.rule_slots.proofs.comparing.is_hinted_among.Goals as goal
 
-pub returns-then-same_slots : goal.returns-then-same_slots
-returns-then-same_slots c =
-    let l = lists_in c.args.lists in
-    sym (any_at (same_slots l c.args.kind c.args.slot) (held_slots l c.args.pool.now c.args.source) c.args.hint c.element.result c.element.ensures (sym c.same_slots.ensures ∙ c.if-same_slots.true))
+pub returns-then-is_same : goal.returns-then-is_same
+returns-then-is_same c =
+    let v = c.args.comparer in
+    sym (any_at (same_by v c.args.slot) (slots_by v c.args.source) c.args.hint c.element.result c.element.ensures (sym c.is_same.ensures ∙ c.if-is_same.true))

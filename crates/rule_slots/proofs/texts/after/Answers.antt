@@ -1,7 +1,8 @@
 use Rattle.std.proofs.Common.{ap, ◌∙◌, drop}
 use Rattle.std.proofs.lemmas.List.{drop-drop}
 use Rattle.std.specs.Str.{chars}
-use Rattle.rule_slots.proofs.Characters.{next_left, rest_along}
+use Rattle.ocl_base.proofs.ForAbove.{next_left}
+use Rattle.rule_slots.proofs.Characters.{rest_along}
 use Rattle.rule_slots.proofs.texts.after.Goals as goal
 
 -- src/texts.rt
