@@ -1,5 +1,5 @@
 -- Code with kinds takes no operand from below those that it began with.
-use Rattle.std.proofs.Common.{◌≡◌, ℕ, suc, ◌+◌, ◌≤◌, true, List, [], ◌∷◌, ◌++◌, length, refl, ap, subst, arith}
+use Rattle.std.proofs.Common.{◌≡◌, ℕ, suc, ◌+◌, ◌≤◌, true, List, [], ◌∷◌, ◌++◌, length, ap, subst, arith}
 use Rattle.std.proofs.lemmas.Bool.{and_parts}
 use Rattle.std.proofs.lemmas.List.{length-drop}
 use Rattle.ocl_kinds.specs.declared.kind.Kind.{Kind}
@@ -14,6 +14,7 @@ use Rattle.rule_machine.specs.Places.{Place, kinds_of, given, places_left, bound
 use Rattle.rule_machine.specs.Live.{IsTaken, Kinded, block_gives, branch_gives}
 use Rattle.rule_machine.proofs.Blocks.{branch_takes}
 use Rattle.rule_machine.proofs.Deep.{as_many_below}
+use Rattle.rule_machine.proofs.Results.{kinds_count}
 use Rattle.rule_machine.specs.Counts.{Balanced}
 
 -- operands that match are there
@@ -22,16 +23,12 @@ enough m [] ks h = omega arith
 enough m (w ∷ ws) [] h = cc
 enough m (w ∷ ws) (k ∷ ks) h = omega (arith, enough m ws ks (and_parts (matches m w k) (all_match m ws ks) h).1)
 
-kinds_long : (ps : List Place) → length (kinds_of ps) ≡ length ps
-kinds_long [] = refl
-kinds_long (p ∷ ps) = ap suc (kinds_long ps)
-
 module _ (s : Setting) where
   -- what an instruction takes of its places, and what it leaves of them
   takes_of : (i : Instr) (vps ps : List Place) → IsTaken s i vps ps → length ps ≡ length (operands_of (judged_by s) i) + length (places_left s i ps)
   takes_of i vps ps t =
       let ws = operands_of (judged_by s) i in
-      omega (arith, enough s.population.model ws (kinds_of ps) t.match, kinds_long ps, length-drop (length ws) ps)
+      omega (arith, enough s.population.model ws (kinds_of ps) t.match, kinds_count ps, length-drop (length ws) ps)
 
   -- what has kinds is balanced
   pub balanced : (t : CodeTree) (vps ps out : List Place) (n : ℕ) → Kinded s t vps ps out n → Balanced s t (length ps) (length out)

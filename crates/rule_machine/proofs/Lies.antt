@@ -1,7 +1,8 @@
 -- Where marks lie, places whose stacks are equal to others, and states that are the same.
-use Rattle.std.proofs.Common.{◌≡◌, ℕ, zero, suc, ◌≤◌, Bool, true, false, List, [], ◌∷◌, ◌||◌, length, Option, Some, None, Result, Ok, Err, refl, sym, ap, ◌∙◌, subst, arith}
-use Rattle.std.specs.Prelude.{slice_get, MatchOption, IsOk, if◌then◌else◌}
+use Rattle.std.proofs.Common.{◌≡◌, ℕ, zero, suc, ◌≤◌, Bool, true, false, List, [], ◌∷◌, length, Option, Some, None, refl, sym, ap, ◌∙◌, subst, arith}
+use Rattle.std.specs.Prelude.{slice_get, MatchOption, if◌then◌else◌}
 use Rattle.std.specs.List.{list_any}
+use Rattle.std.proofs.lemmas.Bool.{or_left, or_right}
 use Rattle.rule_code.specs.declared.instruction.Instr.{Instr}
 use Rattle.rule_verify.specs.InstrKinds.{gathers}
 use Rattle.rule_machine.specs.Live.{is_iteration}
@@ -43,29 +44,16 @@ turn_made t u last m m' m'' ended went =
 pub is_between : (t : Task) (u : Turn) (last : Slot) (m m' : State) → HasStep t m → TurnEnded t u last m m' → (d : Configuration) × BetweenIn t u last m' d
 is_between t u last m m' goes ended = let over = ended.made goes.0 goes.1 goes.2 in (over.0, over.2)
 
--- a call that succeeds is no error
-pub not_refused : {A E : Type 0} (r : Result A E) (e : E) → r ≡ Err e → IsOk r → ⊥
-not_refused (Ok x) e is h = cc
-not_refused (Err x) e is h = let bad = h in cc
-
 -- the items that are left when the topmost is taken
 pub tail_taken : {A : Type 0} (r : Option A) (old new : List A) (y : A) (ys : List A) → MatchOption r ((old ≡ []) × (new ≡ [])) (λ x. old ≡ x ∷ new) → old ≡ y ∷ ys → new ≡ ys
 tail_taken None old new y ys h e = let bad = sym h.0 ∙ e in cc
 tail_taken (Some x) old new y ys h e = let both = sym h ∙ e in cc
 
-or_first : (a b : Bool) → a ≡ true → (a || b) ≡ true
-or_first true b h = refl
-or_first false b h = cc
-
-or_last : (a b : Bool) → b ≡ true → (a || b) ≡ true
-or_last true b h = refl
-or_last false b h = h
-
 -- an instruction of the code that gathers
 pub listed : (code : List Instr) (at : ℕ) (i : Instr) → slice_get code at ≡ Some i → gathers i ≡ true → list_any gathers code ≡ true
 listed [] at i e g = cc
-listed (j ∷ code) zero i e g = let q : j ≡ i = cc in or_first (gathers j) (list_any gathers code) (ap gathers q ∙ g)
-listed (j ∷ code) (suc at) i e g = or_last (gathers j) (list_any gathers code) (listed code at i e g)
+listed (j ∷ code) zero i e g = let q : j ≡ i = cc in or_left (gathers j) (list_any gathers code) (ap gathers q ∙ g)
+listed (j ∷ code) (suc at) i e g = or_right (gathers j) (list_any gathers code) (listed code at i e g)
 
 -- code that gathers nothing has no instruction that gathers
 pub gathers_none : (code : List Instr) (i : Instr) → (gathers i ≡ true → list_any gathers code ≡ true) → list_any gathers code ≡ false → gathers i ≡ false

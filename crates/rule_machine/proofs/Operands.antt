@@ -4,10 +4,8 @@ use Rattle.std.specs.Prelude.{◌&&◌}
 use Rattle.std.proofs.lemmas.Bool.{and_parts}
 use Rattle.std.proofs.lemmas.Option.{same_Some}
 use Rattle.imkl_population.specs.Population.{Population}
-use Rattle.ocl_base.specs.declared.collection_kind.CollectionKind.{CollectionKind}
-use Rattle.ocl_base.specs.declared.collection_kind.CollectionKind.TheVariants as collection
 use Rattle.ocl_kinds.specs.declared.kind.ScalarKind.{ScalarKind}
-use Rattle.ocl_kinds.specs.Kinds.{is_same_collection}
+use Rattle.ocl_kinds.proofs.ForAbove.{same_collection_itself}
 use Rattle.rule_code.specs.declared.instruction.Instr.{Instr}
 use Rattle.rule_code.specs.declared.kind.WrittenScalar.{WrittenScalar}
 use Rattle.rule_code.specs.declared.kind.WrittenScalar.TheVariants as written
@@ -52,16 +50,10 @@ covers_meant s (written.Class c) = by_name (named_at s.model s.unit c.0)
     by_name (Some n) = refl
 covers_meant s written.AnyObject = refl
 
-same_kind : (c : CollectionKind) → is_same_collection c c ≡ true
-same_kind collection.Set = refl
-same_kind collection.OrderedSet = refl
-same_kind collection.Bag = refl
-same_kind collection.Sequence = refl
-
 -- and so is a kind of values
 pub covers_kind_meant : (s : Surroundings) (w : WrittenKind) → covers_kind w (kind_meant s w) ≡ true
 covers_kind_meant s (kinds.Scalar w) = covers_meant s w
-covers_kind_meant s (kinds.Collection c w) = ap (λ z. z && covers w (scalar_meant s w)) (same_kind c) ∙ covers_meant s w
+covers_kind_meant s (kinds.Collection c w) = ap (λ z. z && covers w (scalar_meant s w)) (same_collection_itself c) ∙ covers_meant s w
 
 -- ---- patterns
 

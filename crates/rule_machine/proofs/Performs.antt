@@ -63,19 +63,6 @@ three_are (a ∷ []) x y z rest e h k = cc
 three_are (a ∷ b ∷ []) x y z rest e h k = cc
 three_are (a ∷ b ∷ c ∷ below) x y z rest e h k = (below, cc)
 
--- what works on one operand takes one
-one_taken : (s : Surroundings) (i : Instr) → TakesOne i → length (operands_of s i) ≡ 1
-one_taken s instrs.Neg t = refl
-one_taken s instrs.Abs t = refl
-one_taken s instrs.Not t = refl
-one_taken s instrs.Undef t = refl
-one_taken s instrs.IsInv t = refl
-one_taken s instrs.TLen t = refl
-one_taken s instrs.Size t = refl
-one_taken s instrs.IsEmpty t = refl
-one_taken s instrs.Sum t = refl
-one_taken s i t = absurd t
-
 -- and what works on two takes two
 two_taken : (s : Surroundings) (i : Instr) → TakesTwo i → length (operands_of s i) ≡ 2
 two_taken s instrs.Add t = refl

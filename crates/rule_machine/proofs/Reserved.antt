@@ -1,29 +1,19 @@
 -- What a new machine's stacks reserve: no more than the deepest rule wants.
-use Rattle.std.proofs.Common.{◌≡◌, ℕ, ◌+◌, ◌*◌, ◌<◌, ◌≤◌, length, arith, sym, subst, inl, inr}
+use Rattle.std.proofs.Common.{◌≡◌, ℕ, ◌+◌, ◌*◌, ◌≤◌, arith, sym, subst, inl, inr}
 use Rattle.std.proofs.lemmas.Bool.Decides.{leb_tells}
 use Rattle.std.specs.Prelude.{max}
 use Rattle.imkl_model.specs.ClassModel.{Model}
 use Rattle.rule_code.specs.Content.{Content}
 use Rattle.rule_verify.specs.UnitRules.{unit_rule, depths_of}
 use Rattle.rule_machine.specs.declared.state.State.{State}
-use Rattle.rule_machine.specs.Shown.{SameRoom, HasRoomFor, HasRoomForRules, HasNoRoom, HasRoomOfBoth, IsNoMoreThan, HasRoomForRulesAlone}
+use Rattle.rule_machine.specs.Shown.{HasRoomFor, HasRoomForRules, HasRoomOfBoth, IsNoMoreThan, HasRoomForRulesAlone}
 
 -- the greater of two numbers is within what both are
 max_within : (a b n : ℕ) → a ≤ n → b ≤ n → max a b ≤ n
 max_within a b n le of = omega (arith, le, of)
 
-none_wanted : (wants : ℕ → ℕ) (room : ℕ) → room ≡ 0 → IsNoMoreThan 0 wants room
-none_wanted wants room e = λ n all. omega (arith, e)
-
 one_more_wanted : (wants : ℕ → ℕ) (count old new : ℕ) → new ≡ max old (wants count) → IsNoMoreThan count wants old → IsNoMoreThan (count + 1) wants new
 one_more_wanted wants count old new e h = λ n all. subst (λ k. k ≤ n) (sym e) (max_within old (wants count) n (h n (λ r lt. all r (omega (arith, lt)))) (all count (omega arith)))
-
-more_wanted : (wants : ℕ → ℕ) (count more old new : ℕ) → count ≤ more → new ≡ old → IsNoMoreThan count wants old → IsNoMoreThan more wants new
-more_wanted wants count more old new le e h = λ n all. subst (λ k. k ≤ n) (sym e) (h n (λ r lt. all r (omega (arith, lt, le))))
-
--- of no rule
-pub alone_first : (model : Model) (u : Content) (m : State) → HasNoRoom m → HasRoomForRulesAlone model u 0 m
-alone_first model u m h = record { operands = none_wanted _ m.operands.1 h.operands; variables = none_wanted _ m.variables.1 h.variables; pieces = none_wanted _ m.pieces.1 h.pieces }
 
 -- of a rule more
 pub alone_next : (model : Model) (u : Content) (count : ℕ) (old new : State) → HasRoomOfBoth (depths_of model u count (unit_rule u count)) old new → HasRoomForRulesAlone model u count old → HasRoomForRulesAlone model u (count + 1) new
@@ -32,15 +22,6 @@ alone_next model u count old new g h =
       operands = one_more_wanted (λ r. (depths_of model u r (unit_rule u r)).operands + 2) count old.operands.1 new.operands.1 g.operands h.operands;
       variables = one_more_wanted (λ r. (depths_of model u r (unit_rule u r)).variables + 2) count old.variables.1 new.variables.1 g.variables h.variables;
       pieces = one_more_wanted (λ r. 2 * (depths_of model u r (unit_rule u r)).blocks + 3) count old.pieces.1 new.pieces.1 g.pieces h.pieces;
-    }
-
--- of all rules, where the stacks have as much room
-pub alone_all : (model : Model) (u : Content) (count : ℕ) (old new : State) → count ≤ length u.rules → SameRoom old new → HasRoomForRulesAlone model u count old → HasRoomForRulesAlone model u (length u.rules) new
-alone_all model u count old new le same h =
-    record {
-      operands = more_wanted (λ r. (depths_of model u r (unit_rule u r)).operands + 2) count (length u.rules) old.operands.1 new.operands.1 le same.operands h.operands;
-      variables = more_wanted (λ r. (depths_of model u r (unit_rule u r)).variables + 2) count (length u.rules) old.variables.1 new.variables.1 le same.variables h.variables;
-      pieces = more_wanted (λ r. 2 * (depths_of model u r (unit_rule u r)).blocks + 3) count (length u.rules) old.pieces.1 new.pieces.1 le same.pieces h.pieces;
     }
 
 -- and there is room for a rule more

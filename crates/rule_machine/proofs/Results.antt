@@ -46,7 +46,8 @@ use Rattle.rule_machine.proofs.FeatureValues.{feature_value_at, all_instances_at
 
 -- ---- variables
 
-kinds_count : (ps : List Place) → length (kinds_of ps) ≡ length ps
+-- places have as many kinds
+pub kinds_count : (ps : List Place) → length (kinds_of ps) ≡ length ps
 kinds_count [] = refl
 kinds_count (p ∷ ps) = ap suc (kinds_count ps)
 

@@ -158,16 +158,6 @@ module _ (s : Setting) (l : Lists) (code : List Instr) (p : List Slot) where
       omega (arith, ap length h.1.values, length-append h.1.here_values h.1.below_values, h.1.long)
   ops_there hi v n cs vs os ps vars ops h = absurd h
 
-  -- and as many variables
-  pub vars_there : (hi v n : ℕ) (cs : List Pending) (vs os : List Slot) (ps : List Piece) (vars ops : List Value) → StandsFor s l code p hi v n cs vs os ps vars ops → v ≤ length vars
-  vars_there hi v n [] vs os [] vars ops h = omega (arith, h.0)
-  vars_there hi v n (piece.Rest a b ∷ cs) vs os (Sequence t ∷ ps) vars ops h = vars_there hi v n cs vs os ps vars ops h.1
-  vars_there hi v n (piece.LetEnd ∷ cs) vs os (LetEnd ∷ ps) vars ops h = vars_there hi v n cs vs os ps vars ops h
-  vars_there hi v n (piece.Skipped ∷ cs) vs os (Skipped ∷ ps) vars ops h = vars_there hi v n cs vs os ps vars ops h
-  vars_there hi v n (piece.Turning t ∷ cs) vs os (Turning i body source left kept ∷ ps) vars ops h =
-      omega (arith, ap length h.0.values, length-append h.0.here_values h.0.below_values, h.0.long)
-  vars_there hi v n cs vs os ps vars ops h = absurd h
-
   -- so many are dropped from the innermost segment
   pub ops_drop : (hi v k n : ℕ) (cs : List Pending) (vs os : List Slot) (ps : List Piece) (vars ops : List Value) → StandsFor s l code p hi v (k + n) cs vs os ps vars ops → StandsFor s l code p hi v n cs vs (drop k os) ps vars (drop k ops)
   ops_drop hi v zero n cs vs os ps vars ops h = let e : 0 + n ≡ n = omega arith in subst (λ m. StandsFor s l code p hi v m cs vs os ps vars ops) e h

@@ -3,20 +3,20 @@
 
 mod applying;
 mod charging;
+mod instr;
+mod iterate;
 mod iteration_results;
 mod keeping;
 pub mod laws;
 mod machine;
-mod performing;
 mod piece;
 mod progress;
-mod running;
+mod run;
 mod spare;
 mod stack;
 mod state;
-mod stepping;
+mod step;
 mod task;
-mod turning;
 mod verdict;
 
 pub use machine::Machine;

@@ -1,8 +1,9 @@
 use Rattle.std.proofs.Common.{arith, refl, ap}
 use Rattle.std.proofs.lemmas.Result.{err_from_is_err_and}
+use Rattle.ocl_base.proofs.ForAbove.{not_both}
 use Rattle.rule_machine.specs.Shown.{code_in, setting_in, task_lists}
 use Rattle.rule_machine.proofs.InstrSteps.{can_perform, plain_steps}
-use Rattle.rule_machine.proofs.Lies.{is_with, is_under, listed, gathers_none, not_refused}
+use Rattle.rule_machine.proofs.Lies.{is_with, is_under, listed, gathers_none}
 use Rattle.rule_machine.proofs.state.State.carry_out.Goals as goal
 
 pub perform-requires-clause-can : goal.perform-requires-clause-can
@@ -30,7 +31,7 @@ pub returns-in_err-perform-clause-spare : goal.returns-in_err-perform-clause-spa
 returns-in_err-perform-clause-spare c =
     let m = c.args.self.now in
     let code = code_in c.args.task in
-    λ none. absurd (not_refused c.perform.result _ c.in_err-perform.was (c.perform.ensures.spare (gathers_none code c.args.instr (listed code m.at c.args.instr c.requires.here) none)))
+    λ none. absurd (not_both c.perform.result _ c.in_err-perform.was (c.perform.ensures.spare (gathers_none code c.args.instr (listed code m.at c.args.instr c.requires.here) none)))
 
 pub returns-clause-made : goal.returns-clause-made
 returns-clause-made c =

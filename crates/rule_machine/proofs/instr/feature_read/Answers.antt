@@ -2,7 +2,7 @@ use Rattle.std.proofs.Common.{◌≡◌, Some, length, ap, subst}
 use Rattle.rule_values.specs.Operations.{value_read}
 use Rattle.rule_slots.specs.Slots.{SlotIs}
 use Rattle.rule_machine.specs.Shown.{lists_of}
-use Rattle.rule_machine.proofs.performing.feature_read.Goals as goal
+use Rattle.rule_machine.proofs.instr.feature_read.Goals as goal
 
 pub returns : goal.returns
 returns c = λ pool x r.

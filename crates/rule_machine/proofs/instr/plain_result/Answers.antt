@@ -15,7 +15,7 @@ use Rattle.rule_machine.specs.StandFor.{CanPerform}
 use Rattle.rule_machine.specs.Shown.{setting_in, task_lists}
 use Rattle.rule_machine.proofs.Operands.{first_what, second_what, third_what}
 use Rattle.rule_machine.proofs.Performs.{variable_there, of_variable, of_none, of_three, operands_there, three_are}
-use Rattle.rule_machine.proofs.performing.plain_result.Goals as goal
+use Rattle.rule_machine.proofs.instr.plain_result.Goals as goal
 
 pub variable-requires : goal.variable-requires
 variable-requires c =

@@ -8,7 +8,7 @@ use Rattle.rule_machine.specs.Machine.{judged_by}
 use Rattle.rule_machine.specs.Shown.{setting_in, task_lists}
 use Rattle.rule_machine.proofs.Operands.{covers_meant, elements_what, first_what}
 use Rattle.rule_machine.proofs.Performs.{of_one_made}
-use Rattle.rule_machine.proofs.performing.result_of.Goals as goal
+use Rattle.rule_machine.proofs.instr.result_of.Goals as goal
 
 pub returns-in_ok-made-in-AsSet-clause-gives : goal.returns-in_ok-made-in-AsSet-clause-gives
 returns-in_ok-made-in-AsSet-clause-gives c =

@@ -3,7 +3,7 @@ use Rattle.rule_slots.specs.Slots.{PartIs}
 use Rattle.rule_slots.specs.Compared.{covers}
 use Rattle.rule_machine.specs.Shown.{task_lists}
 use Rattle.rule_machine.proofs.Blocks.{instr_of, block_is}
-use Rattle.rule_machine.proofs.turning.keeps_distinct.Goals as goal
+use Rattle.rule_machine.proofs.iterate.keeps_distinct.Goals as goal
 
 pub returns-in-Some-IsUnique-clause-told : goal.returns-in-Some-IsUnique-clause-told
 returns-in-Some-IsUnique-clause-told c =

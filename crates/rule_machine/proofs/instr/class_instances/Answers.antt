@@ -2,7 +2,7 @@ use Rattle.std.proofs.Common.{length, ap, subst}
 use Rattle.rule_values.specs.Operations.{all_instances}
 use Rattle.rule_slots.specs.Slots.{SlotIs}
 use Rattle.rule_machine.specs.Shown.{lists_of}
-use Rattle.rule_machine.proofs.performing.class_instances.Goals as goal
+use Rattle.rule_machine.proofs.instr.class_instances.Goals as goal
 
 pub returns : goal.returns
 returns c = λ pool.

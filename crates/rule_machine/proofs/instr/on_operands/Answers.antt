@@ -3,7 +3,7 @@ use Rattle.std.proofs.Common.{sym, subst}
 use Rattle.rule_machine.specs.Applied.{CanTakeOne, GivesOfOne}
 use Rattle.rule_machine.specs.Shown.{setting_in, task_lists}
 use Rattle.rule_machine.proofs.Performs.{can_one, can_two, of_one, of_two, two_are, two_there}
-use Rattle.rule_machine.proofs.performing.on_operands.Goals as goal
+use Rattle.rule_machine.proofs.instr.on_operands.Goals as goal
 
 pub apply_one-requires-clause-can : goal.apply_one-requires-clause-can
 apply_one-requires-clause-can c =

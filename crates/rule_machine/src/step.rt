@@ -11,7 +11,7 @@ ghost use Rattle.rule_machine.specs.Live.{is_iteration};
 ghost use Rattle.rule_machine.specs.StandFor.{choice_slot, opening_mark};
 ghost use Rattle.rule_machine.specs.Shown.{code_in, IsTask, LiesIn, HasStep, Room, Same, Stepped, IsAtFront};
 
-use crate::performing::perform;
+use crate::instr::perform;
 use crate::piece::{Piece, Turn};
 use crate::stack::ReservedStack;
 use crate::state::State;
