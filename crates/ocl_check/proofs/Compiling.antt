@@ -1,8 +1,7 @@
 -- What compiling came to, and what is written of it.
-use Rattle.std.proofs.Common.{◌≡◌, ℕ, Bool, true, false, List, take, Option, Some, None, Result, Ok, Err, IfOk, IsOk, refl, sym, ap, ◌∙◌, subst}
+use Rattle.std.proofs.Common.{◌≡◌, ℕ, Bool, true, false, List, Option, Some, None, Result, Ok, Err, IfOk, IsOk, refl, sym, ap, ◌∙◌, subst}
 use Rattle.std.proofs.lemmas.Bool.{false≢true}
 use Rattle.std.proofs.lemmas.Option.{none-some}
-use Rattle.std.specs.Io.KnownBytes.{Appends}
 use Rattle.imkl_model.specs.ClassModel.{Model}
 use Rattle.imkl_model.specs.declared.fault.ModelFault.{ModelFault}
 use Rattle.rule_code.specs.Content.{Content}
@@ -26,7 +25,7 @@ use Rattle.ocl_pipeline.specs.declared.stopped.Stopped.{Stopped}
 use Rattle.ocl_pipeline.specs.declared.stopped.Stopped.TheVariants as stop
 use Rattle.ocl_pipeline.specs.Stops.{stopped}
 use Rattle.ocl_pipeline.specs.Steps.{refused_as, text_refusal, model_in, text_in}
-use Rattle.ocl_check.specs.Compile.{CompileAnswer, nothing_compiled, compiled_code, compiled_answer, compile_model_answer, compile_answer, HasUnit, HasUnitFor, WholeUnless, IsCodeWritten, IsOfUnit}
+use Rattle.ocl_check.specs.Compile.{CompileAnswer, nothing_compiled, compiled_code, compiled_answer, compile_model_answer, compile_answer, HasUnit, HasUnitFor, IsCodeWritten, IsOfUnit}
 use Rattle.ocl_check.specs.CompileParts.{compiled_seen, is_ended, IsNothingFor}
 
 -- one answer for another that is equal
@@ -113,11 +112,3 @@ nothing_written contents has_failed None s fault other = refl
 nothing_written contents has_failed (Some code) s OutOfMemory other = refl
 nothing_written contents has_failed (Some code) s Read other = refl
 nothing_written contents has_failed (Some code) s Write other = absurd (false≢true (sym other))
-
--- a sink that failed took a prefix
-pub failed_prefix : (failed : Bool) (old new : Option (List ℕ)) (code : List ℕ) → failed ≡ true → ((n : ℕ) × Appends old new (take n code)) → WholeUnless failed old new code
-failed_prefix failed old new code is h = subst (λ (b : Bool). WholeUnless b old new code) (sym is) h
-
--- one that didn't took all
-pub unfailed_whole : (failed : Bool) (old new : Option (List ℕ)) (code : List ℕ) → failed ≡ false → Appends old new code → WholeUnless failed old new code
-unfailed_whole failed old new code is h = subst (λ (b : Bool). WholeUnless b old new code) (sym is) h

@@ -1,8 +1,6 @@
 -- How a part of a command ends.
-use Rattle.std.proofs.Common.{◌≡◌, ◌≤◌, ℕ, Bool, true, false, List, length, Option, Result, Ok, Err, refl, sym, ap, ◌∙◌, subst}
+use Rattle.std.proofs.Common.{◌≡◌, ◌≤◌, ℕ, Bool, true, false, List, length, Option, refl, ap, ◌∙◌, subst}
 use Rattle.std.proofs.KnownBytes.{Appends-nil}
-use Rattle.std.proofs.lemmas.Bool.{false≢true}
-use Rattle.ocl_base.proofs.ForAbove.{not_okay}
 use Rattle.ocl_check.specs.declared.input.InputFault.{InputFault}
 use Rattle.ocl_check.specs.declared.input.InputFault.TheVariants as input
 use Rattle.ocl_check.specs.declared.outcome.CommandFault.{CommandFault}
@@ -11,15 +9,8 @@ use Rattle.ocl_check.specs.declared.outcome.Outcome.{Outcome}
 use Rattle.ocl_check.specs.declared.outcome.Outcome.TheVariants.{Status, Failed}
 use Rattle.ocl_check.specs.Reply.{Answer}
 use Rattle.ocl_check.specs.declared.input.TheConstants.{MAX_INPUT}
-use Rattle.ocl_check.specs.Answers.{IsAnswered, IsCutBy, IsFlushedBy, IsWithin, KeepsSink, KeepsUnread, input_failure, is_read, is_write}
+use Rattle.ocl_check.specs.Answers.{IsAnswered, IsCutBy, IsFlushedBy, IsWithin, KeepsSink, KeepsUnread, input_failure, is_write}
 use Rattle.ocl_check.specs.Ending.{IsEnding, KeepsBy}
-
--- what came of reading inputs
-abbrev unread : {X : Type 0} → InputFault → Result X InputFault
-unread f = Err f
-
-abbrev had : {X : Type 0} → X → Result X InputFault
-had x = Ok x
 
 -- one answer for another that is equal
 pub ending_as : {S : Type 0} {contents : S → Option (List ℕ)} {has_failed : S → Bool} {flushes : S → ℕ} {has_pending : S → Bool} {is_whole : Bool} {a b : Answer} {old new : S} {o : Outcome}
@@ -98,23 +89,3 @@ input_no_write input.OutOfMemory = refl
 -- a command that fails for an input doesn't fail for a write
 pub no_write : (c : CommandFault) (f : InputFault) → c ≡ input_failure f → is_write c ≡ false
 no_write c f is = ap is_write is ∙ input_no_write f
-
-input_is_read : (f : InputFault) → is_read (input_failure f) ≡ true → f ≡ input.Read
-input_is_read input.Read h = refl
-input_is_read input.OutOfMemory h = absurd (false≢true h)
-
--- it fails for a read only where the input can't be read
-pub failed_read : {X : Type 0} (c : CommandFault) (f : InputFault) → c ≡ input_failure f → is_read c ≡ true → unread {X = X} f ≡ unread input.Read
-failed_read c f is h = ap unread (input_is_read f (sym (ap is_read is) ∙ h))
-
--- and there it does
-pub read_fails : {X : Type 0} (c : CommandFault) (f : InputFault) → c ≡ input_failure f → unread {X = X} f ≡ unread input.Read → is_read c ≡ true
-read_fails c f is h = let same : f ≡ input.Read = cc in ap is_read (is ∙ ap input_failure same)
-
--- where a command doesn't fail for a read, that isn't why its inputs can't be had
-pub not_read : {X : Type 0} (c : CommandFault) (f : InputFault) → c ≡ input_failure f → is_read c ≡ false → unread {X = X} f ≡ unread input.Read → ⊥
-not_read c f is other h = false≢true (sym other ∙ read_fails c f is h)
-
--- inputs that were read didn't fail
-pub was_read : {X : Type 0} (x : X) → had x ≡ unread input.Read → ⊥
-was_read x h = not_okay input.Read x (sym h)

@@ -1,5 +1,6 @@
 pub mod Said
 pub mod Endings
+pub mod Sources
 pub mod Inputs
 pub mod MeantReports
 pub mod TextReports

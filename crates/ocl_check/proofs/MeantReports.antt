@@ -1,5 +1,5 @@
 -- The report of the machine's runs of compiled rules is the one that the rules mean.
-use Rattle.std.proofs.Common.{◌≡◌, ℕ, zero, suc, ◌<◌, Bool, true, List, [], ◌∷◌, ◌++◌, length, map, get_or, Option, Some, Ok, refl, sym, ap, ◌∙◌, subst, arith, add-one, append_assoc, length-append, zero-add, add-suc, All}
+use Rattle.std.proofs.Common.{◌≡◌, ℕ, suc, ◌<◌, List, [], ◌∷◌, ◌++◌, length, map, get_or, Option, Some, Ok, refl, sym, ap, ◌∙◌, subst, arith, append_assoc, length-append}
 use Rattle.std.specs.Prelude.{slice_get}
 use Rattle.std.specs.List.{flat_map}
 use Rattle.std.proofs.lemmas.List.{append-nil}
@@ -19,7 +19,7 @@ use Rattle.ocl_semantics.specs.Meaning.{meant_verdict}
 use Rattle.ocl_compile.specs.Compiling.{compile_of}
 use Rattle.ocl_compile.specs.CompileLaws.{AreTypedRules, KeepsRules}
 use Rattle.ocl_compile.proofs.ForAbove.{compiled_keeps_rules, verdicts_are_meant}
-use Rattle.rule_report.specs.Report.{instances_of, context_objects, rule_verdicts, verdicts_below, all_verdicts, counts_of, line_of, name_of, object_line, rule_line_of, rule_line, total_line, report_of_rule, reports_below, report_of, summary_of}
+use Rattle.rule_report.specs.Report.{instances_of, context_objects, rule_verdicts, verdicts_below, counts_of, line_of, name_of, object_line, rule_line_of, rule_line, total_line, report_of_rule, reports_below, report_of, summary_of}
 use Rattle.ocl_check.specs.MeantReport.{meant_verdicts, meant_line, meant_report_of_rule, meant_summary, meant_report}
 
 -- ---- lists

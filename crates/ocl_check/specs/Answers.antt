@@ -1,5 +1,5 @@
 -- How a command ends, and what it has read and written then.
-use Rattle.std.specs.Prelude.{◌≡◌, ◌≤◌, ◌+◌, ℕ, Bool, true, false, List, length, take, Option, Some, None, ⊤, codes}
+use Rattle.std.specs.Prelude.{◌≡◌, ◌≤◌, ℕ, Bool, true, false, List, length, take, Option, Some, None, ⊤, codes}
 use Rattle.std.specs.Io.KnownBytes.{Appends}
 use Rattle.rule_report.specs.Sink.{IsFlushedOnce}
 use Rattle.ocl_check.specs.declared.outcome.Outcome.{Outcome}
@@ -9,7 +9,6 @@ use Rattle.ocl_check.specs.declared.outcome.CommandFault.TheVariants.{OutOfMemor
 use Rattle.ocl_check.specs.declared.input.TheConstants.{MAX_INPUT}
 use Rattle.ocl_check.specs.declared.input.InputFault.{InputFault}
 use Rattle.ocl_check.specs.declared.input.InputFault.TheVariants as input
-use Rattle.ocl_check.specs.Input.{ConsumesAtMost}
 use Rattle.ocl_check.specs.Reply.{Answer}
 
 -- ---- what is read
@@ -27,11 +26,6 @@ IsWithin (Failed fault) xs = ⊤
 -- an input that a command read, or would have read, has this fact
 abbrev pub ReadBy : Outcome → Option (List ℕ) → (List ℕ → Type 0) → Type 0
 ReadBy outcome known Fact = (xs : List ℕ) × MayHave known xs × IsWithin outcome xs × Fact xs
-
--- whatever a command answers, at most one byte more than the limit was read of an input, by at most as many reads
-pub record IsReadWithinLimits (old new : Option (List ℕ)) (reads : ℕ) : Type 0 where
-  pub bytes : ConsumesAtMost old new (MAX_INPUT + 1)
-  pub few : reads ≤ MAX_INPUT + 1
 
 -- no read of an input was made, so none has failed
 abbrev pub IsUnread : Bool → ℕ → Type 0

@@ -1,5 +1,6 @@
 -- Definitions: what contracts mean.
 pub mod Input
+pub mod Sources
 pub mod Reply
 pub mod Answers
 pub mod ThreeInputs

@@ -1,11 +1,12 @@
 //! Reading an input whole.
 
-ghost use Rattle.std.specs.Prelude.{◌≡◌, ◌≢◌, ◌≤◌, ◌<◌, ◌+◌, ◌^◌, ◌⊎◌, ◌||◌, List, ℕ, false, true, Err, OnOk, IfOk, length};
+ghost use Rattle.std.specs.Prelude.{◌≡◌, ◌≢◌, ◌≤◌, ◌<◌, ◌+◌, ◌^◌, false, true, Err, OnOk, IfOk, length};
 ghost use Rattle.std.specs.Io.KnownBytes.{Consumes, IsAtEnd};
 ghost use Rattle.ocl_check.specs.declared.input.InputFault.TheVariants as fault;
 ghost use Rattle.ocl_check.specs.Input.{ConsumesAtMost, CantBeRead};
-ghost use Rattle.ocl_check.specs.Answers.{IsReadWithinLimits, IsUnread};
+ghost use Rattle.ocl_check.specs.Answers.{IsUnread};
 ghost use Rattle.ocl_check.specs.Ending.{IsInput};
+ghost use Rattle.ocl_check.specs.Sources.{ReadsInOrder, none, ◌then◌, used, fails_for_read};
 
 use crate::source::Source;
 use std::alloc::Global;
@@ -13,6 +14,9 @@ use thiserror::Error;
 
 /// The greatest number of bytes in an input.
 pub const MAX_INPUT: u64 = 268_435_456;
+
+/// At most so many bytes are asked of a source at once.
+const PIECE_BYTES: usize = 65_536;
 
 /// Why an input could not be read.
 #[derive(Clone, Copy, Debug, PartialEq, Eq, Error)]
@@ -53,9 +57,9 @@ pub fn read_input<R: Source>(
     ensures failed { R.has_failed source.new ≡ true → result ≡ Err fault.Read }
 {
     let mut found = Vec::new(alloc);
-    let mut piece = [0u8; 65_536];
+    let mut piece = [0u8; PIECE_BYTES];
     for _ in 0..limit + 1 {
-        let room = (limit + 1 - found.len() as u64).min(65_536) as usize;
+        let room = (limit + 1 - found.len() as u64).min(PIECE_BYTES as u64) as usize;
         let Ok(n) = source.read(&mut piece[..room]) else {
             return Err(InputFault::Read);
         };
@@ -84,22 +88,8 @@ pub(crate) fn read_two<A: Source, B: Source>(
     ensures first { IfOk result (λ i. IsInput (A.remaining first.old) i.0.items) }
     ensures second { IfOk result (λ i. IsInput (B.remaining second.old) i.1.items) }
     ensures end { OnOk result (IsAtEnd (B.remaining second.new)) }
-    ensures first_read { IsReadWithinLimits (A.remaining first.old) (A.remaining first.new)
-        (A.reads first.new) }
-    ensures second_read { IsReadWithinLimits (B.remaining second.old) (B.remaining second.new)
-        (B.reads second.new) }
-    ensures read_fault { result ≡ Err fault.Read →
-        CantBeRead MAX_INPUT (A.remaining first.old) (A.remaining first.new)
-        (A.has_failed first.new)
-        ⊎ CantBeRead MAX_INPUT (B.remaining second.old) (B.remaining second.new)
-        (B.has_failed second.new) }
-    // Unless a failed read is returned, no more than the limit was read of each.
-    ensures within { result ≢ Err fault.Read →
-        ConsumesAtMost (A.remaining first.old) (A.remaining first.new) MAX_INPUT
-        × ConsumesAtMost (B.remaining second.old) (B.remaining second.new) MAX_INPUT }
-    ensures failed { (A.has_failed first.new || B.has_failed second.new) ≡ true →
-        result ≡ Err fault.Read }
-    ensures second_waits { IsAtEnd (A.remaining first.new) ⊎ (second.new ≡ second.old) }
+    ensures read { ReadsInOrder (none then used A.remaining A.has_failed A.reads first.old first.new
+        then used B.remaining B.has_failed B.reads second.old second.new) (fails_for_read result) }
 {
     let bytes = read_input(alloc, first, MAX_INPUT)?;
     let more = read_input(alloc, second, MAX_INPUT)?;

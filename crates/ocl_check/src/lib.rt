@@ -18,5 +18,5 @@ pub use commands::verify::{run_verify, verify_inputs};
 pub use input::{InputFault, MAX_INPUT, read_input};
 pub use outcome::{CommandFault, Outcome, stop};
 pub use rule_report::{Sink, Telling};
-pub use source::{Counting, Source};
+pub use source::{CountedReader, Source};
 pub use watch::{Unwatched, Watch};

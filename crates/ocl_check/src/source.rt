@@ -33,13 +33,13 @@ pub trait Source {
 /// Any reader as a source. Contracts see the reader, how many reads were made of it, and whether one has failed. Each call
 /// of it is one call of the reader: that none is made again is shown by the tests `readers` of `ocl_tests`.
 #[derive(Drop)]
-pub struct Counting<R> {
+pub struct CountedReader<R> {
     inner: R,
     reads: u64,
     failed: bool,
 }
 
-impl<R> Model for Counting<R> {
+impl<R> Model for CountedReader<R> {
     ghost use Rattle.std.specs.Prelude.{ℕ, Bool};
 
     ghost Value = { R × ℕ × Bool };
@@ -47,12 +47,12 @@ impl<R> Model for Counting<R> {
     ghost view = { λ c. (c.inner, c.reads, c.failed) };
 }
 
-impl<R> Counting<R> {
+impl<R> CountedReader<R> {
     /// The reader as a source of which no read was made.
-    pub fn new(inner: R) -> Counting<R>
+    pub fn new(inner: R) -> CountedReader<R>
         ensures { result ≡ (inner, 0, false) }
     {
-        Counting {
+        CountedReader {
             inner,
             reads: 0,
             failed: false,
@@ -63,7 +63,7 @@ impl<R> Counting<R> {
     pub fn into_inner(self) -> R
         ensures { result ≡ self.0 }
     {
-        let Counting {
+        let CountedReader {
             inner,
             reads: _,
             failed: _,
@@ -72,7 +72,7 @@ impl<R> Counting<R> {
     }
 }
 
-impl<R: Read> Source for Counting<R> {
+impl<R: Read> Source for CountedReader<R> {
     ghost remaining = { λ c. R.remaining c.0 };
 
     ghost has_failed = { λ c. c.2 };

@@ -1,14 +1,12 @@
 //! The command `bound`.
 
-ghost use Rattle.std.specs.Prelude.{◌≡◌, ◌⊎◌, ◌||◌, ◌++◌, true, false, IfOk, OnOk, string_bytes};
-ghost use Rattle.std.specs.Io.KnownBytes.{IsAtEnd};
-ghost use Rattle.ocl_check.specs.declared.input.TheConstants.{MAX_INPUT};
-ghost use Rattle.ocl_check.specs.Answers.{IsAnswered, IsFlushedBy, IsReadWithinLimits, IsUnread, KeepsSink, ReadBy, fails_read, fails_write};
+ghost use Rattle.std.specs.Prelude.{◌≡◌, ◌++◌, true, false, IfOk, OnOk, string_bytes};
+ghost use Rattle.ocl_check.specs.Answers.{IsAnswered, IsFlushedBy, IsUnread, KeepsSink, ReadBy, fails_read, fails_write};
 ghost use Rattle.ocl_check.specs.Bound.{bound_line_of, bound_lines, bounds_answer, bound_answer};
 ghost use Rattle.ocl_check.specs.Ending.{IsEnding};
 ghost use Rattle.ocl_check.specs.Given.{given_answer, pair_answer};
-ghost use Rattle.ocl_check.specs.Input.{CantBeRead, ConsumesAtMost};
 ghost use Rattle.ocl_check.specs.Reply.{said};
+ghost use Rattle.ocl_check.specs.Sources.{ReadsInOrder, none, ◌then◌, used};
 
 use crate::outcome::{CommandFault, Outcome, answer, stop};
 use crate::reply::Reply;
@@ -129,28 +127,9 @@ pub fn run_bound<M: Source, D: Source, C: Source, S: Sink>(
     ensures sink { S.has_failed sink.new ≡ fails_write result }
     ensures flushed { IsFlushedBy S.flushes S.has_pending result sink.old sink.new }
     ensures kept { KeepsSink result sink.old sink.new }
-    ensures model_read { IsReadWithinLimits (M.remaining model.old) (M.remaining model.new)
-        (M.reads model.new) }
-    ensures delivery_read { IsReadWithinLimits (D.remaining delivery.old) (D.remaining delivery.new)
-        (D.reads delivery.new) }
-    ensures code_read { IsReadWithinLimits (C.remaining code.old) (C.remaining code.new)
-        (C.reads code.new) }
-    ensures read_fault { fails_read result ≡ true →
-        CantBeRead MAX_INPUT (M.remaining model.old) (M.remaining model.new)
-        (M.has_failed model.new)
-        ⊎ (CantBeRead MAX_INPUT (D.remaining delivery.old) (D.remaining delivery.new)
-        (D.has_failed delivery.new)
-        ⊎ CantBeRead MAX_INPUT (C.remaining code.old) (C.remaining code.new)
-        (C.has_failed code.new)) }
-    // Unless a failed read is returned, no more than the limit was read of each.
-    ensures within { fails_read result ≡ false →
-        ConsumesAtMost (M.remaining model.old) (M.remaining model.new) MAX_INPUT
-        × ConsumesAtMost (D.remaining delivery.old) (D.remaining delivery.new) MAX_INPUT
-        × ConsumesAtMost (C.remaining code.old) (C.remaining code.new) MAX_INPUT }
-    ensures failed { (M.has_failed model.new || D.has_failed delivery.new
-        || C.has_failed code.new) ≡ true → fails_read result ≡ true }
-    ensures delivery_waits { IsAtEnd (M.remaining model.new) ⊎ (delivery.new ≡ delivery.old) }
-    ensures code_waits { IsAtEnd (D.remaining delivery.new) ⊎ (code.new ≡ code.old) }
+    ensures read { ReadsInOrder (none then used M.remaining M.has_failed M.reads model.old model.new
+        then used D.remaining D.has_failed D.reads delivery.old delivery.new
+        then used C.remaining C.has_failed C.reads code.old code.new) (fails_read result) }
 {
     match read_inputs(alloc, model, delivery, code) {
         Ok(inputs) => bound_inputs(

@@ -1,17 +1,15 @@
 //! The command `compile`.
 
 ghost use Rattle.std.specs.Prelude.{◌≡◌, ◌⊎◌, ◌||◌, true, false, IfOk, IsOk};
-ghost use Rattle.std.specs.Io.KnownBytes.{IsAtEnd};
 ghost use Rattle.rule_code.specs.View.{content};
 ghost use Rattle.rule_report.specs.Sink.{IsFlushedOnce};
-ghost use Rattle.ocl_check.specs.declared.input.TheConstants.{MAX_INPUT};
-ghost use Rattle.ocl_check.specs.Answers.{IsAnswered, IsFlushedBy, IsReadWithinLimits, IsUnread, KeepsSink, ReadBy, fails_read, fails_write};
+ghost use Rattle.ocl_check.specs.Answers.{IsAnswered, IsFlushedBy, IsUnread, KeepsSink, ReadBy, fails_read, fails_write};
 ghost use Rattle.ocl_check.specs.Compile.{CompileAnswer, compiled_code, compiled_answer, compile_answer, HasUnit, HasUnitFor, IsCodeWritten, IsOfUnit};
-ghost use Rattle.ocl_check.specs.Input.{CantBeRead, ConsumesAtMost};
 ghost use Rattle.ocl_check.specs.Reply.{said};
 ghost use Rattle.ocl_pipeline.specs.TextReading.{TextReading, ReadsAs};
 ghost use Rattle.ocl_pipeline.specs.Inputs.{model_of};
 ghost use Rattle.ocl_check.specs.CompileParts.{compiled_seen, is_ended, IsNothingFor};
+ghost use Rattle.ocl_check.specs.Sources.{ReadsInOrder, none, ◌then◌, used};
 ghost use Rattle.ocl_pipeline.specs.CompiledRules.{compiled_rules};
 
 use crate::input::read_two;
@@ -214,22 +212,8 @@ pub fn run_compile<M: Source, R: Source, O: Sink, S: Sink>(
     ensures code_first { O.has_failed out.new ≡ true → sink.new ≡ sink.old }
     ensures flushed { IsFlushedBy S.flushes S.has_pending result sink.old sink.new }
     ensures kept { KeepsSink result sink.old sink.new }
-    ensures model_read { IsReadWithinLimits (M.remaining model.old) (M.remaining model.new)
-        (M.reads model.new) }
-    ensures rules_read { IsReadWithinLimits (R.remaining rules.old) (R.remaining rules.new)
-        (R.reads rules.new) }
-    ensures read_fault { fails_read result ≡ true →
-        CantBeRead MAX_INPUT (M.remaining model.old) (M.remaining model.new)
-        (M.has_failed model.new)
-        ⊎ CantBeRead MAX_INPUT (R.remaining rules.old) (R.remaining rules.new)
-        (R.has_failed rules.new) }
-    // Unless a failed read is returned, no more than the limit was read of each.
-    ensures within { fails_read result ≡ false →
-        ConsumesAtMost (M.remaining model.old) (M.remaining model.new) MAX_INPUT
-        × ConsumesAtMost (R.remaining rules.old) (R.remaining rules.new) MAX_INPUT }
-    ensures failed { (M.has_failed model.new || R.has_failed rules.new) ≡ true →
-        fails_read result ≡ true }
-    ensures rules_wait { IsAtEnd (M.remaining model.new) ⊎ (rules.new ≡ rules.old) }
+    ensures read { ReadsInOrder (none then used M.remaining M.has_failed M.reads model.old model.new
+        then used R.remaining R.has_failed R.reads rules.old rules.new) (fails_read result) }
 {
     each_text_is_read();
     match read_two(alloc, model, rules) {

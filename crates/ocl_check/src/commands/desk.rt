@@ -1,15 +1,13 @@
 //! The command `desk`.
 
-ghost use Rattle.std.specs.Prelude.{◌≡◌, ◌≢◌, ◌⊎◌, ◌||◌, true, false, Ok, Err, IfOk};
-ghost use Rattle.std.specs.Io.KnownBytes.{IsAtEnd};
+ghost use Rattle.std.specs.Prelude.{◌≡◌, false, Ok, Err, IfOk};
 ghost use Rattle.rule_cost.specs.Admission.{Fits};
 ghost use Rattle.desk_script.specs.Script.{script_of};
-ghost use Rattle.ocl_check.specs.declared.input.InputFault.TheVariants as fault;
-ghost use Rattle.ocl_check.specs.Answers.{IsAnswered, IsFlushedBy, IsReadWithinLimits, IsUnread, KeepsUnread, ReadBy, fails_read, fails_write};
+ghost use Rattle.ocl_check.specs.Answers.{IsAnswered, IsFlushedBy, IsUnread, KeepsUnread, ReadBy, fails_read, fails_write};
 ghost use Rattle.ocl_check.specs.Desk.{script_answer, calls_answer, desk_answer};
 ghost use Rattle.ocl_check.specs.Ending.{IsEnding, IsInput};
 ghost use Rattle.ocl_check.specs.Given.{given_answer, pair_answer};
-ghost use Rattle.ocl_check.specs.Input.{CantBeRead, ConsumesAtMost};
+ghost use Rattle.ocl_check.specs.Sources.{ReadsInOrder, none, ◌then◌, used, fails_for_read};
 
 use crate::commands::judge::MAX_BUDGET;
 use crate::input::{InputFault, MAX_INPUT, read_input};
@@ -165,34 +163,10 @@ fn read_all<M: Source, D: Source, C: Source, P: Source>(
     ensures delivery { IfOk result (λ i. IsInput (D.remaining delivery.old) i.0.delivery.items) }
     ensures code { IfOk result (λ i. IsInput (C.remaining code.old) i.0.rules.items) }
     ensures script { IfOk result (λ i. IsInput (P.remaining script.old) i.1.items) }
-    ensures model_read { IsReadWithinLimits (M.remaining model.old) (M.remaining model.new)
-        (M.reads model.new) }
-    ensures delivery_read { IsReadWithinLimits (D.remaining delivery.old) (D.remaining delivery.new)
-        (D.reads delivery.new) }
-    ensures code_read { IsReadWithinLimits (C.remaining code.old) (C.remaining code.new)
-        (C.reads code.new) }
-    ensures script_read { IsReadWithinLimits (P.remaining script.old) (P.remaining script.new)
-        (P.reads script.new) }
-    ensures read_fault { result ≡ Err fault.Read →
-        CantBeRead MAX_INPUT (M.remaining model.old) (M.remaining model.new)
-        (M.has_failed model.new)
-        ⊎ (CantBeRead MAX_INPUT (D.remaining delivery.old) (D.remaining delivery.new)
-        (D.has_failed delivery.new)
-        ⊎ (CantBeRead MAX_INPUT (C.remaining code.old) (C.remaining code.new)
-        (C.has_failed code.new)
-        ⊎ CantBeRead MAX_INPUT (P.remaining script.old) (P.remaining script.new)
-        (P.has_failed script.new))) }
-    // Unless a failed read is returned, no more than the limit was read of each.
-    ensures within { result ≢ Err fault.Read →
-        ConsumesAtMost (M.remaining model.old) (M.remaining model.new) MAX_INPUT
-        × ConsumesAtMost (D.remaining delivery.old) (D.remaining delivery.new) MAX_INPUT
-        × ConsumesAtMost (C.remaining code.old) (C.remaining code.new) MAX_INPUT
-        × ConsumesAtMost (P.remaining script.old) (P.remaining script.new) MAX_INPUT }
-    ensures failed { (M.has_failed model.new || D.has_failed delivery.new
-        || C.has_failed code.new || P.has_failed script.new) ≡ true → result ≡ Err fault.Read }
-    ensures delivery_waits { IsAtEnd (M.remaining model.new) ⊎ (delivery.new ≡ delivery.old) }
-    ensures code_waits { IsAtEnd (D.remaining delivery.new) ⊎ (code.new ≡ code.old) }
-    ensures script_waits { IsAtEnd (C.remaining code.new) ⊎ (script.new ≡ script.old) }
+    ensures read { ReadsInOrder (none then used M.remaining M.has_failed M.reads model.old model.new
+        then used D.remaining D.has_failed D.reads delivery.old delivery.new
+        then used C.remaining C.has_failed C.reads code.old code.new
+        then used P.remaining P.has_failed P.reads script.old script.new) (fails_for_read result) }
 {
     let inputs = read_inputs(alloc, model, delivery, code)?;
     let script = read_input(alloc, script, MAX_INPUT)?;
@@ -227,34 +201,10 @@ pub fn run_desk<M: Source, D: Source, C: Source, P: Source, S: Sink>(
     ensures sink { S.has_failed sink.new ≡ fails_write result }
     ensures flushed { IsFlushedBy S.flushes S.has_pending result sink.old sink.new }
     ensures kept { KeepsUnread result sink.old sink.new }
-    ensures model_read { IsReadWithinLimits (M.remaining model.old) (M.remaining model.new)
-        (M.reads model.new) }
-    ensures delivery_read { IsReadWithinLimits (D.remaining delivery.old) (D.remaining delivery.new)
-        (D.reads delivery.new) }
-    ensures code_read { IsReadWithinLimits (C.remaining code.old) (C.remaining code.new)
-        (C.reads code.new) }
-    ensures script_read { IsReadWithinLimits (P.remaining script.old) (P.remaining script.new)
-        (P.reads script.new) }
-    ensures read_fault { fails_read result ≡ true →
-        CantBeRead MAX_INPUT (M.remaining model.old) (M.remaining model.new)
-        (M.has_failed model.new)
-        ⊎ (CantBeRead MAX_INPUT (D.remaining delivery.old) (D.remaining delivery.new)
-        (D.has_failed delivery.new)
-        ⊎ (CantBeRead MAX_INPUT (C.remaining code.old) (C.remaining code.new)
-        (C.has_failed code.new)
-        ⊎ CantBeRead MAX_INPUT (P.remaining script.old) (P.remaining script.new)
-        (P.has_failed script.new))) }
-    // Unless a failed read is returned, no more than the limit was read of each.
-    ensures within { fails_read result ≡ false →
-        ConsumesAtMost (M.remaining model.old) (M.remaining model.new) MAX_INPUT
-        × ConsumesAtMost (D.remaining delivery.old) (D.remaining delivery.new) MAX_INPUT
-        × ConsumesAtMost (C.remaining code.old) (C.remaining code.new) MAX_INPUT
-        × ConsumesAtMost (P.remaining script.old) (P.remaining script.new) MAX_INPUT }
-    ensures failed { (M.has_failed model.new || D.has_failed delivery.new
-        || C.has_failed code.new || P.has_failed script.new) ≡ true → fails_read result ≡ true }
-    ensures delivery_waits { IsAtEnd (M.remaining model.new) ⊎ (delivery.new ≡ delivery.old) }
-    ensures code_waits { IsAtEnd (D.remaining delivery.new) ⊎ (code.new ≡ code.old) }
-    ensures script_waits { IsAtEnd (C.remaining code.new) ⊎ (script.new ≡ script.old) }
+    ensures read { ReadsInOrder (none then used M.remaining M.has_failed M.reads model.old model.new
+        then used D.remaining D.has_failed D.reads delivery.old delivery.new
+        then used C.remaining C.has_failed C.reads code.old code.new
+        then used P.remaining P.has_failed P.reads script.old script.new) (fails_read result) }
 {
     match read_all(alloc, model, delivery, code, script) {
         Ok((inputs, script)) => reply_inputs(

@@ -1,16 +1,14 @@
 //! The command `judge`.
 
-ghost use Rattle.std.specs.Prelude.{◌≡◌, ◌⊎◌, ◌||◌, ◌+◌, true, false};
-ghost use Rattle.std.specs.Io.KnownBytes.{IsAtEnd};
+ghost use Rattle.std.specs.Prelude.{◌≡◌, false};
 ghost use Rattle.rule_cost.specs.Admission.{Fits};
-ghost use Rattle.ocl_check.specs.declared.input.TheConstants.{MAX_INPUT};
-ghost use Rattle.ocl_check.specs.Answers.{IsAnsweredBy, IsFlushedBy, IsReadWithinLimits, IsUnread, KeepsUnread, ReadBy, fails_read, fails_write};
+ghost use Rattle.ocl_check.specs.Answers.{IsAnsweredBy, IsFlushedBy, IsUnread, KeepsUnread, ReadBy, fails_read, fails_write};
 ghost use Rattle.ocl_check.specs.Ending.{IsEnding};
 ghost use Rattle.ocl_check.specs.Given.{given_answer, pair_answer, meant_within};
-ghost use Rattle.ocl_check.specs.Input.{CantBeRead, ConsumesAtMost};
 ghost use Rattle.ocl_check.specs.Judge.{status_of, report_answer, budget_answer};
 ghost use Rattle.ocl_check.specs.JudgeText.{JudgeAnswers};
 ghost use Rattle.ocl_check.specs.Reply.{Answer};
+ghost use Rattle.ocl_check.specs.Sources.{ReadsInOrder, none, ◌then◌, used};
 
 use crate::outcome::{CommandFault, Outcome, stop};
 use crate::source::Source;
@@ -219,30 +217,9 @@ pub fn run_judge<M: Source, D: Source, R: Source, S: Sink>(
     ensures sink { S.has_failed sink.new ≡ fails_write result }
     ensures flushed { IsFlushedBy S.flushes S.has_pending result sink.old sink.new }
     ensures kept { KeepsUnread result sink.old sink.new }
-    // Whatever is answered, so much is read of each input.
-    ensures model_read { IsReadWithinLimits (M.remaining model.old) (M.remaining model.new)
-        (M.reads model.new) }
-    ensures delivery_read { IsReadWithinLimits (D.remaining delivery.old) (D.remaining delivery.new)
-        (D.reads delivery.new) }
-    ensures rules_read { IsReadWithinLimits (R.remaining rules.old) (R.remaining rules.new)
-        (R.reads rules.new) }
-    // A failed read is returned only where an input can't be read, and always where a read failed.
-    ensures read_fault { fails_read result ≡ true →
-        CantBeRead MAX_INPUT (M.remaining model.old) (M.remaining model.new)
-        (M.has_failed model.new)
-        ⊎ (CantBeRead MAX_INPUT (D.remaining delivery.old) (D.remaining delivery.new)
-        (D.has_failed delivery.new)
-        ⊎ CantBeRead MAX_INPUT (R.remaining rules.old) (R.remaining rules.new)
-        (R.has_failed rules.new)) }
-    // Unless a failed read is returned, no more than the limit was read of each.
-    ensures within { fails_read result ≡ false →
-        ConsumesAtMost (M.remaining model.old) (M.remaining model.new) MAX_INPUT
-        × ConsumesAtMost (D.remaining delivery.old) (D.remaining delivery.new) MAX_INPUT
-        × ConsumesAtMost (R.remaining rules.old) (R.remaining rules.new) MAX_INPUT }
-    ensures failed { (M.has_failed model.new || D.has_failed delivery.new
-        || R.has_failed rules.new) ≡ true → fails_read result ≡ true }
-    ensures delivery_waits { IsAtEnd (M.remaining model.new) ⊎ (delivery.new ≡ delivery.old) }
-    ensures rules_wait { IsAtEnd (D.remaining delivery.new) ⊎ (rules.new ≡ rules.old) }
+    ensures read { ReadsInOrder (none then used M.remaining M.has_failed M.reads model.old model.new
+        then used D.remaining D.has_failed D.reads delivery.old delivery.new
+        then used R.remaining R.has_failed R.reads rules.old rules.new) (fails_read result) }
 {
     each_text_is_read();
     match read_inputs(alloc, model, delivery, rules) {

@@ -1,14 +1,12 @@
 //! The command `verify`.
 
-ghost use Rattle.std.specs.Prelude.{◌≡◌, ◌⊎◌, ◌||◌, true, false, Ok, IfOk};
-ghost use Rattle.std.specs.Io.KnownBytes.{IsAtEnd};
+ghost use Rattle.std.specs.Prelude.{◌≡◌, true, false, Ok, IfOk};
 ghost use Rattle.rule_code.specs.CodeFile.{unit_of};
 ghost use Rattle.ocl_check.specs.Reply.{said};
-ghost use Rattle.ocl_check.specs.declared.input.TheConstants.{MAX_INPUT};
-ghost use Rattle.ocl_check.specs.Answers.{IsAnswered, IsFlushedBy, IsReadWithinLimits, IsUnread, KeepsSink, ReadBy, fails_read, fails_write};
+ghost use Rattle.ocl_check.specs.Answers.{IsAnswered, IsFlushedBy, IsUnread, KeepsSink, ReadBy, fails_read, fails_write};
 ghost use Rattle.ocl_check.specs.Ending.{IsEnding};
-ghost use Rattle.ocl_check.specs.Input.{CantBeRead, ConsumesAtMost};
 ghost use Rattle.ocl_check.specs.Verify.{verify_code_answer, verify_answer};
+ghost use Rattle.ocl_check.specs.Sources.{ReadsInOrder, none, ◌then◌, used};
 
 use crate::input::read_two;
 use crate::outcome::{CommandFault, Outcome, answer};
@@ -92,22 +90,8 @@ pub fn run_verify<M: Source, C: Source, S: Sink>(
     ensures sink { S.has_failed sink.new ≡ fails_write result }
     ensures flushed { IsFlushedBy S.flushes S.has_pending result sink.old sink.new }
     ensures kept { KeepsSink result sink.old sink.new }
-    ensures model_read { IsReadWithinLimits (M.remaining model.old) (M.remaining model.new)
-        (M.reads model.new) }
-    ensures code_read { IsReadWithinLimits (C.remaining code.old) (C.remaining code.new)
-        (C.reads code.new) }
-    ensures read_fault { fails_read result ≡ true →
-        CantBeRead MAX_INPUT (M.remaining model.old) (M.remaining model.new)
-        (M.has_failed model.new)
-        ⊎ CantBeRead MAX_INPUT (C.remaining code.old) (C.remaining code.new)
-        (C.has_failed code.new) }
-    // Unless a failed read is returned, no more than the limit was read of each.
-    ensures within { fails_read result ≡ false →
-        ConsumesAtMost (M.remaining model.old) (M.remaining model.new) MAX_INPUT
-        × ConsumesAtMost (C.remaining code.old) (C.remaining code.new) MAX_INPUT }
-    ensures failed { (M.has_failed model.new || C.has_failed code.new) ≡ true →
-        fails_read result ≡ true }
-    ensures code_waits { IsAtEnd (M.remaining model.new) ⊎ (code.new ≡ code.old) }
+    ensures read { ReadsInOrder (none then used M.remaining M.has_failed M.reads model.old model.new
+        then used C.remaining C.has_failed C.reads code.old code.new) (fails_read result) }
 {
     match read_two(alloc, model, code) {
         Ok((model, code)) => verify_inputs(alloc, &Unwatched, &model, &code, sink),

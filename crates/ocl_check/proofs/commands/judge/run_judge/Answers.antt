@@ -1,9 +1,9 @@
 use Rattle.std.proofs.Common.{false, sym, ◌∙◌}
-use Rattle.std.proofs.lemmas.Bool.{false≢true}
 use Rattle.ocl_check.specs.declared.outcome.Outcome.TheVariants.{Failed}
-use Rattle.ocl_check.proofs.Endings.{within, kept_unread, kept_untouched, no_write, failed_read, read_fails, not_read, was_read, nothing_said, unflushed}
+use Rattle.ocl_check.proofs.Endings.{within, kept_unread, kept_untouched, no_write, nothing_said, unflushed}
 use Rattle.ocl_check.proofs.Inputs.{known_bytes, has_known}
 use Rattle.ocl_check.proofs.Judging.{judged_alike, some_answer}
+use Rattle.ocl_check.proofs.Sources.{failing, had_all}
 use Rattle.ocl_check.proofs.commands.judge.run_judge.Goals as goal
 
 pub returns-in-Ok-clause-answered : goal.returns-in-Ok-clause-answered
@@ -26,12 +26,6 @@ returns-in-Ok-clause-answered g c =
 
 pub returns-in-Ok-clause-kept : goal.returns-in-Ok-clause-kept
 returns-in-Ok-clause-kept g c = kept_unread false c.judge_inputs.result c.args.sink.now c.judge_inputs.new.sink c.judge_inputs.ensures.2.kept
-
-pub returns-in-Ok-clause-read_fault : goal.returns-in-Ok-clause-read_fault
-returns-in-Ok-clause-read_fault g c = λ h. absurd (false≢true (sym c.judge_inputs.ensures.2.read ∙ h))
-
-pub returns-in-Ok-clause-failed : goal.returns-in-Ok-clause-failed
-returns-in-Ok-clause-failed g c = λ h. absurd (was_read c.in-Ok.inputs (c.in-Ok.ensures.failed h))
 
 pub returns-in-Err-clause-answered : goal.returns-in-Err-clause-answered
 returns-in-Err-clause-answered g c =
@@ -56,17 +50,11 @@ returns-in-Err-clause-sink g c = c.requires.sink ∙ sym (no_write c.from.result
 pub returns-in-Err-clause-kept : goal.returns-in-Err-clause-kept
 returns-in-Err-clause-kept g c = kept_unread false (Failed c.from.result) c.args.sink.now c.args.sink.now (kept_untouched false c.from.result c.args.sink.now)
 
-pub returns-in-Err-clause-read_fault : goal.returns-in-Err-clause-read_fault
-returns-in-Err-clause-read_fault g c = λ h. c.in-Err.ensures.read_fault (failed_read c.from.result c.in-Err.fault c.from.ensures h)
-
-pub returns-in-Err-clause-failed : goal.returns-in-Err-clause-failed
-returns-in-Err-clause-failed g c = λ h. read_fails c.from.result c.in-Err.fault c.from.ensures (c.in-Err.ensures.failed h)
-
-pub returns-in-Ok-clause-within : goal.returns-in-Ok-clause-within
-returns-in-Ok-clause-within g c = λ h. c.in-Ok.ensures.within (was_read c.in-Ok.inputs)
-
-pub returns-in-Err-clause-within : goal.returns-in-Err-clause-within
-returns-in-Err-clause-within g c = λ h. c.in-Err.ensures.within (not_read c.from.result c.in-Err.fault c.from.ensures h)
-
 pub returns-in-Err-clause-flushed : goal.returns-in-Err-clause-flushed
 returns-in-Err-clause-flushed g c = unflushed g.S.Sink.flushes g.S.Sink.has_pending c.from.result c.args.sink.now
+
+pub returns-in-Ok-clause-read : goal.returns-in-Ok-clause-read
+returns-in-Ok-clause-read g c = had_all _ _ c.judge_inputs.ensures.2.read c.in-Ok.ensures.read
+
+pub returns-in-Err-clause-read : goal.returns-in-Err-clause-read
+returns-in-Err-clause-read g c = failing _ c.in-Err.fault c.from.result c.from.ensures c.in-Err.ensures.read
