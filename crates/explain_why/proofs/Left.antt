@@ -1,14 +1,21 @@
 -- What is left: characters of a text, the first elements of a list, and links.
-use Rattle.std.proofs.Common.{◌≡◌, ℕ, zero, suc, List, [], ◌∷◌, ◌++◌, length, take, drop, Result, Ok, Err, OnOk, refl, sym, ap, ◌∙◌, subst, append_assoc}
+use Rattle.std.proofs.Common.{◌≡◌, ℕ, zero, suc, Bool, true, false, List, [], ◌∷◌, ◌++◌, length, take, drop, Option, Some, None, refl, sym, ap, ◌∙◌, subst, append_assoc}
 use Rattle.imkl_population.specs.Population.{Population}
-use Rattle.std.specs.Prelude.{encode_utf8}
+use Rattle.imkl_population.specs.Consistency.{IsConsistent}
+use Rattle.ocl_core.specs.Core.{CoreTrees, no_core, one_core}
+use Rattle.rule_values.specs.Value.{Element, Value}
+use Rattle.ocl_semantics.specs.Meaning.{meanings}
+use Rattle.ocl_semantics.specs.Resolved.{AreResolved, AreThere}
+use Rattle.ocl_semantics.proofs.ForAbove.{meaning_there}
+use Rattle.std.specs.Prelude.{encode_utf8, if◌then◌else◌}
 use Rattle.std.specs.List.{flat_map}
-use Rattle.std.specs.List.{AllByRecursion}
+use Rattle.std.specs.List.{AllByRecursion, filter}
 use Rattle.std.specs.Str.{chars, IsUtf8}
 use Rattle.std.proofs.lemmas.Str.{chars-nil, chars_past_char, IsUtf8-past_char}
 use Rattle.std.proofs.lemmas.List.{append-nil, nil_from_length, take-map}
 use Rattle.owned_values.specs.declared.value.Element.{Element as OwnedElement}
-use Rattle.owned_values.specs.Meant.{meant_element, meant_elements, IsElementThere, AreElementsThere}
+use Rattle.owned_values.specs.Meant.{meant_element, meant_elements, IsElementThere, IsValueThere, AreElementsThere}
+use Rattle.explain_why.specs.Turns.{Turn, turns_from, changes, breaks, last_number, is_told, max_turns, told_by, told_turns, IsTurnThere, AreTurnsThere}
 
 -- the first n of no characters are none
 nothing_taken : (n : ℕ) (xs : List ℕ) → xs ≡ [] → take n xs ≡ []
@@ -32,15 +39,6 @@ all_first_put f out whole text n none so_far =
     sym (append-nil out)
     ∙ ap (λ xs. out ++ flat_map f xs) (sym (nothing_taken n (chars text) (ap chars (nil_from_length text none) ∙ chars-nil)))
     ∙ so_far
-
--- no more are shown
-pub enough_put : (f : ℕ → List ℕ) (out whole text : List ℕ) (n : ℕ) → n ≡ 0 → out ++ flat_map f (take n (chars text)) ≡ whole → out ≡ whole
-enough_put f out whole text n done so_far = sym (append-nil out) ∙ ap (λ k. out ++ flat_map f (take k (chars text))) (sym done) ∙ so_far
-
--- what follows where a call succeeded
-pub where_ok : {A E P Q : Type 0} (r : Result A E) → (P → Q) → OnOk r P → OnOk r Q
-where_ok (Ok x) f p = f p
-where_ok (Err e) f p = tt
 
 -- three pieces are put one after another
 pub three_put : (out one two three a b c : List ℕ) → one ≡ out ++ a → two ≡ one ++ b → three ≡ two ++ c → three ≡ out ++ (a ++ (b ++ c))
@@ -69,3 +67,35 @@ left_all P (x ∷ xs) (suc n) h = left_all P xs n h.1
 
 pub first_there : (p : Population) (items : List OwnedElement) (n : ℕ) → AreElementsThere p (meant_elements items) → AreElementsThere p (meant_elements (take n items))
 first_there p items n h = subst (AreElementsThere p) (take-map meant_element n items) (first_all (IsElementThere p) (meant_elements items) n h)
+
+-- everything is there in what trees mean
+pub meanings_there : (p : Population) → IsConsistent p → (ts : CoreTrees) (vars : List Value) → AreResolved p.model ts → AreThere p vars → AreThere p (meanings p ts vars)
+meanings_there p sound no_core vars h there = tt
+meanings_there p sound (one_core t ts) vars h there = (meaning_there p sound t vars h.0 there, meanings_there p sound ts vars h.1 there)
+
+-- what holds of all holds of those that a test keeps
+all_if : {X : Type 0} (P : X → Type 0) (b : Bool) (x : X) (xs : List X) → P x → AllByRecursion P xs → AllByRecursion P (if b then x ∷ xs else xs)
+all_if P true x xs first others = (first, others)
+all_if P false x xs first others = others
+
+filter_all : {X : Type 0} (P : X → Type 0) (test : X → Bool) (xs : List X) → AllByRecursion P xs → AllByRecursion P (filter test xs)
+filter_all P test [] h = tt
+filter_all P test (x ∷ xs) h = all_if P (test x) x (filter test xs) h.0 (filter_all P test xs h.1)
+
+-- everything is there in the elements that a test keeps
+pub filter_there : (p : Population) (test : Element → Bool) (es : List Element) → AreElementsThere p es → AreElementsThere p (filter test es)
+filter_there p test es h = filter_all (IsElementThere p) test es h
+
+-- everything is there in turns, and in those that are told of
+pub turns_there : (p : Population) (n : ℕ) (next : Element → Value → Value) (a : Value) (es : List Element) → ((e : Element) (b : Value) → IsElementThere p e → IsValueThere p b → IsValueThere p (next e b)) → IsValueThere p a → AreElementsThere p es → AreTurnsThere p (turns_from n next a es)
+turns_there p n next a [] goes_on here h = tt
+turns_there p n next a (e ∷ es) goes_on here h = (record { element = h.0; before = here }, turns_there p (suc n) next (next e a) es goes_on (goes_on e a h.0 here) h.1)
+
+told_there_by : (p : Population) (change break : Option ℕ) (ts : List Turn) → AreTurnsThere p ts → AreTurnsThere p (told_by change break ts)
+told_there_by p None None ts h = first_all (IsTurnThere p) ts max_turns h
+told_there_by p None (Some n) ts h = filter_all (IsTurnThere p) (is_told None (Some n) (length ts)) ts h
+told_there_by p (Some m) break ts h = filter_all (IsTurnThere p) (is_told (Some m) break (length ts)) ts h
+
+pub told_there : (p : Population) (ts : List Turn) → AreTurnsThere p ts → AreTurnsThere p (told_turns ts)
+unfolding told_turns
+told_there p ts h = told_there_by p (last_number changes None ts) (last_number breaks None ts) ts h

@@ -3,3 +3,4 @@ pub mod TextNodes
 pub mod PartNodes
 pub mod LeftOut
 pub mod Repeated
+pub mod ObjectTexts

@@ -31,7 +31,8 @@ use Rattle.explain_why.specs.Texts.{text_of}
 use Rattle.explain_why.specs.TextWalk.{tree_text, link_text}
 use Rattle.explain_why.proofs.TextNodes.{link_text_is}
 use Rattle.explain_why.specs.Reasons.{choice_reason}
-use Rattle.explain_why.specs.Explanation.{lines_if, Batch, decides, deciding, beside, more_line, deciding_lines, batch_lines, chosen_lines, part_line, part_of, iteration_lines, accumulation_lines, explained}
+use Rattle.explain_why.specs.Turns.{Turn, told_turns}
+use Rattle.explain_why.specs.Explanation.{turns_lines, lines_if, Batch, decides, deciding, beside, more_line, deciding_lines, batch_lines, chosen_lines, part_line, part_of, iteration_lines, accumulation_lines, explained}
 use Rattle.explain_why.specs.PartWalk.{node_reason, node_line, is_source_shown, spine_lines, below_lines, element_lines, step_lines, rest_lines, link_lines, links_lines, bound_lines, lets_lines}
 
 -- a link after others stands on what they make
@@ -179,14 +180,21 @@ next_left ls n l some within is =
     drop-cons ls (n - 1) l (omega (arith, some, within)) ∙ ap (λ (x : CoreLink). x ∷ drop (suc (n - 1)) ls) (sym is) ∙ ap (λ m. l ∷ drop m ls) same
 
 -- the first of some elements, and how many more there are
-pub shown_lines : (f : List Element → List ℕ) (k most n : ℕ) (items : List OwnedElement) (es : List Element) → meant_elements items ≡ es → n ≡ min (length items) most → f (meant_elements (take n items)) ++ more_line k (length items - n) ≡ f (take most es) ++ more_line k (length es - most)
-shown_lines f k most n items es held is =
+pub shown_lines : (f : List Element → List ℕ) (more : ℕ → List ℕ) (most n : ℕ) (items : List OwnedElement) (es : List Element) → meant_elements items ≡ es → n ≡ min (length items) most → f (meant_elements (take n items)) ++ more (length items - n) ≡ f (take most es) ++ more (length es - most)
+shown_lines f more most n items es held is =
     let long : length (meant_elements items) ≡ length items = length-map items meant_element in
     let same : n ≡ min most (length (meant_elements items)) = omega (arith, clamps, is, long) in
     let left : length items - n ≡ length (meant_elements items) - most = omega (arith, clamps, is, long) in
-    ap (λ xs. f xs ++ more_line k (length items - n)) (sym (take-map meant_element n items) ∙ ap (λ m. take m (meant_elements items)) same ∙ take_min most (meant_elements items))
-    ∙ ap (λ m. f (take most (meant_elements items)) ++ more_line k m) left
-    ∙ ap (λ (xs : List Element). f (take most xs) ++ more_line k (length xs - most)) held
+    ap (λ xs. f xs ++ more (length items - n)) (sym (take-map meant_element n items) ∙ ap (λ m. take m (meant_elements items)) same ∙ take_min most (meant_elements items))
+    ∙ ap (λ m. f (take most (meant_elements items)) ++ more m) left
+    ∙ ap (λ (xs : List Element). f (take most xs) ++ more (length xs - most)) held
+
+-- the turns that are told of, and how many more there are
+pub turns_shown : (show : Element → Value → List ℕ) (k n : ℕ) (told ts : List Turn) → told ≡ told_turns ts → n ≡ length ts - length told → flat_map (λ t. show t.element t.before) told ++ more_line k n ≡ turns_lines show k ts
+unfolding turns_lines
+turns_shown show k n told ts is count =
+    ap (λ m. flat_map (λ t. show t.element t.before) told ++ more_line k m) count
+    ∙ ap (λ (xs : List Turn). flat_map (λ t. show t.element t.before) xs ++ more_line k (length ts - length xs)) is
 
 -- ---- what was put, one after another
 
@@ -237,7 +245,7 @@ module _ (core : Core) (kind : Kind) (condition then_branch else_branch : Box Co
 -- of a batch so many are shown, and how many more there are
 pub batch_shown : (show : Element → List ℕ) (k : ℕ) (g : Batch) (es : List Element) (bs : List Value) (items : List OwnedElement) (most n : ℕ) → most ≡ g.most → meant_elements items ≡ kept_by (decides g.which) es bs → n ≡ min (length items) most → flat_map show (meant_elements (take n items)) ++ more_line k (length items - n) ≡ batch_lines show k g es bs
 batch_shown show k g es bs items most n most_is held is =
-    shown_lines (flat_map show) k most n items (kept_by (decides g.which) es bs) held is
+    shown_lines (flat_map show) (more_line k) most n items (kept_by (decides g.which) es bs) held is
     ∙ ap (λ m. deciding_lines show k m (kept_by (decides g.which) es bs)) most_is
 
 -- of an iteration two batches

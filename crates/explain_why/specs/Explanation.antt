@@ -25,6 +25,7 @@ use Rattle.explain_why.specs.declared.deciding.Deciding.TheVariants as held
 use Rattle.explain_why.specs.declared.deciding.Batch as declared_batch
 use Rattle.explain_why.specs.Values.{max_shown, value_text}
 use Rattle.explain_why.specs.Texts.{variable_name, text_of}
+use Rattle.explain_why.specs.Turns.{Turn, turns_from, told_turns}
 use Rattle.explain_why.specs.Reasons.{operation_reason, feature_reason, choice_reason}
 
 -- ---- lines
@@ -35,11 +36,11 @@ indent k = replicate (2 * k) 32
 
 -- a part with its value, and why that is null or invalid
 abbrev pub part_line : ℕ → List ℕ → List ℕ → List ℕ → List ℕ
-part_line k part value reason = indent k ++ (part ++ (codes " = " ++ (value ++ (reason ++ 10 ∷ []))))
+part_line k part value reason = indent k ++ (part ++ (codes " is " ++ (value ++ (reason ++ 10 ∷ []))))
 
 -- a variable with its value
 abbrev pub named_value : ℕ → List ℕ → List ℕ
-named_value n value = variable_name n ++ (codes " = " ++ value)
+named_value n value = variable_name n ++ (codes " is " ++ value)
 
 abbrev pub binding_line : ℕ → ℕ → List ℕ → List ℕ
 binding_line k n value = indent k ++ (named_value n value ++ 10 ∷ [])
@@ -192,15 +193,14 @@ iteration_lines i show body k (value.Collection c es) =
     batch_lines show k (deciding i (map body es)) es (map body es) ++ batch_lines show k (beside i (map body es)) es (map body es)
 iteration_lines i show body k v = []
 
--- the lines of elements of a fold, each with what is accumulated before it
-abbrev pub steps_lines : (Element → Value → List ℕ) → (Element → Value → Value) → Value → List Element → List ℕ
-steps_lines show next a [] = []
-steps_lines show next a (e ∷ es) = show e a ++ steps_lines show next (next e a) es
+-- the lines of turns of a fold, each with what is accumulated before it, and how many more turns there are
+unfoldable pub turns_lines : (Element → Value → List ℕ) → ℕ → List Turn → List ℕ
+turns_lines show k ts =
+    flat_map (λ t. show t.element t.before) (told_turns ts) ++ more_line k (length ts - length (told_turns ts))
 
 -- the lines of a fold over a collection, from what is accumulated at its start
 abbrev pub accumulation_lines : (Element → Value → List ℕ) → (Element → Value → Value) → ℕ → Value → Value → List ℕ
-accumulation_lines show next k start (value.Collection c es) =
-    steps_lines show next start (take max_shown es) ++ more_line k (length es - max_shown)
+accumulation_lines show next k start (value.Collection c es) = turns_lines show k (turns_from 0 next start es)
 accumulation_lines show next k start v = []
 
 -- ---- parts

@@ -1,14 +1,20 @@
--- What an explanation leaves out decides nothing: where one operand alone is shown, the operation's value is the same whatever
--- the others are.
-use Rattle.std.specs.Prelude.{◌≡◌, ◌≤◌, false, List, ◌∷◌, map}
+-- What holds of what explanations show and leave out. What is left out decides nothing: where one operand alone is shown, the
+-- operation's value is the same whatever the others are.
+use Rattle.std.specs.Prelude.{◌≡◌, ℕ, ◌<◌, ◌≤◌, ◌^◌, false, List, ◌∷◌, length, map, Some, ⊤}
+use Rattle.std.specs.Int.Signed.{mag}
 use Rattle.std.specs.List.{count_by}
+use Rattle.imkl_model.specs.WellFormed.{IsClassModel}
+use Rattle.imkl_population.specs.declared.scalar.Scalar.TheVariants as scalar
 use Rattle.imkl_population.specs.Population.{Population}
+use Rattle.imkl_population.specs.Consistency.{IsConsistent}
 use Rattle.ocl_core.specs.declared.operator.Operator.{Operator}
 use Rattle.ocl_core.specs.declared.core_tree.Iteration.TheVariants as iteration
 use Rattle.ocl_kinds.specs.declared.kind.ScalarKind.{ScalarKind}
 use Rattle.rule_values.specs.Value.{Element, Value, element_value, truth_value}
 use Rattle.rule_values.specs.Endings.{unique_bodies}
 use Rattle.ocl_semantics.specs.Meaning.{operation_value}
+use Rattle.owned_values.specs.Meant.{IsElementThere}
+use Rattle.explain_why.specs.Values.{is_object_element, element_text, object_text}
 use Rattle.explain_why.specs.Explanation.{is_first_shown, are_others_shown, decides, deciding}
 
 -- the operands after the first are left out
@@ -25,3 +31,13 @@ FirstDecidesNothing =
 abbrev pub RepeatedAreShown : Type 0
 RepeatedAreShown =
     (k : ScalarKind) (es : List Element) → unique_bodies (map element_value es) ≡ truth_value false → 2 ≤ count_by (decides (deciding (iteration.IsUnique k) (map element_value es)).which) (map element_value es)
+
+-- a whole number is one of 64 bits
+abbrev pub IsInRange : Element → Type 0
+IsInRange (Some (scalar.Int n)) = mag n < 2 ^ 64
+IsInRange v = ⊤
+
+-- an object's text is no other value's
+abbrev pub ObjectsAreToldApart : Type 0
+ObjectsAreToldApart =
+    (p : Population) (o : ℕ) (v : Element) → IsConsistent p → IsClassModel p.model → o < length p.objects → IsElementThere p v → is_object_element v ≡ false → IsInRange v → element_text p v ≡ object_text p o → ⊥

@@ -1,7 +1,9 @@
 -- Definitions: what contracts mean.
 pub mod Values
 pub mod Texts
+pub mod Differences
 pub mod Reasons
+pub mod Turns
 pub mod Explanation
 pub mod Laws
 -- Bookkeeping: what only proofs and private contracts use.

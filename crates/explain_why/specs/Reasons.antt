@@ -1,11 +1,11 @@
 -- Why a value is null or invalid, where that begins: which feature is absent, which operation had no result and why. Nothing
--- is said where an operand is invalid already.
+-- is said where an operand is invalid already. Of an operation on two collections that is false, which elements make it so.
 use Rattle.std.specs.Prelude.{ℕ, pos, Bool, true, false, List, [], ◌∷◌, ◌++◌, codes, Some, None, if◌then◌else◌}
 use Rattle.std.specs.Ordering.{int_eq}
 use Rattle.std.specs.List.{list_any}
 use Rattle.imkl_model.specs.ClassModel.{class_at, feature_at}
 use Rattle.imkl_population.specs.declared.scalar.Scalar.TheVariants as scalar
-use Rattle.imkl_population.specs.Population.{Population, object_at}
+use Rattle.imkl_population.specs.Population.{Population}
 use Rattle.ocl_core.specs.declared.operator.PlainOperator.{PlainOperator}
 use Rattle.ocl_core.specs.declared.operator.PlainOperator.TheVariants as plain
 use Rattle.ocl_core.specs.declared.operator.ClassOperator.{ClassOperator}
@@ -13,7 +13,9 @@ use Rattle.ocl_core.specs.declared.operator.ClassOperator.TheVariants as of_clas
 use Rattle.ocl_core.specs.declared.operator.Operator.{Operator}
 use Rattle.ocl_core.specs.declared.operator.Operator.TheVariants.{Plain, OfClass, OfElements, Equal}
 use Rattle.rule_values.specs.Value.{Element, Value, Null, Single, Collection}
-use Rattle.rule_values.specs.Operations.{is_null, is_invalid}
+use Rattle.rule_values.specs.Operations.{is_false, is_null, is_invalid}
+use Rattle.explain_why.specs.Values.{object_text}
+use Rattle.explain_why.specs.Differences.{difference_text}
 
 abbrev pub is_null_element : Element → Bool
 is_null_element None = true
@@ -43,7 +45,7 @@ plain_reason operator v ws = codes ": out of range"
 module _ (p : Population) where
   -- an object that isn't of the class that it is taken for
   abbrev pub other_class_reason : ℕ → ℕ → List ℕ
-  other_class_reason o c = codes ": " ++ ((object_at p o).id ++ (codes " is no " ++ (class_at p.model c).name))
+  other_class_reason o c = codes ": " ++ (object_text p o ++ (codes " is no " ++ (class_at p.model c).name))
 
   abbrev pub cast_reason : ℕ → Value → List ℕ
   cast_reason c (Single (scalar.Object o)) = other_class_reason o c
@@ -66,12 +68,13 @@ module _ (p : Population) where
       if list_any is_invalid (v ∷ ws) then [] else (if list_any is_null (v ∷ ws) then codes ": an operand is null" else own_reason operator v ws)
 
   -- an operation, by its operands and what it gave
-  abbrev pub operation_reason : Operator → Value → List Value → Value → List ℕ
-  operation_reason operator v ws gave = if is_invalid gave then invalid_reason operator v ws else []
+  unfoldable pub operation_reason : Operator → Value → List Value → Value → List ℕ
+  operation_reason operator v ws gave =
+      if is_invalid gave then invalid_reason operator v ws else (if is_false gave then difference_text p operator v ws else [])
 
   -- an object with nothing at a feature
   abbrev pub absent_reason : ℕ → ℕ → List ℕ
-  absent_reason o f = codes ": " ++ ((object_at p o).id ++ (codes " has no " ++ (feature_at p.model f).name))
+  absent_reason o f = codes ": " ++ (object_text p o ++ (codes " has no " ++ (feature_at p.model f).name))
 
   -- a feature, by what it was read of and what it gave
   abbrev pub feature_reason : ℕ → Value → Value → List ℕ

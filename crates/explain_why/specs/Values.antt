@@ -1,14 +1,16 @@
--- Values as OCL writes them: objects by their ids, of a collection at most ten elements and how many more there are.
-use Rattle.std.specs.Prelude.{ℕ, zero, suc, ◌-◌, ◌==◌, Bool, true, false, List, [], ◌∷◌, ◌++◌, length, take, codes, Some, None, slice_index_or, if◌then◌else◌}
+-- Values as OCL writes them: objects by their ids, which are told apart from other values, of a collection at most ten
+-- elements and how many more there are.
+use Rattle.std.specs.Prelude.{ℕ, zero, suc, ◌-◌, ◌==◌, ◌&&◌, Bool, true, false, not, List, [], ◌∷◌, ◌++◌, length, take, codes, Some, None, slice_index_or, if◌then◌else◌}
 use Rattle.std.specs.Fmt.{decimal, signed_decimal}
-use Rattle.std.specs.List.{flat_map}
+use Rattle.std.specs.List.{flat_map, list_any}
 use Rattle.ocl_base.specs.declared.collection_kind.CollectionKind.{CollectionKind}
 use Rattle.ocl_base.specs.declared.collection_kind.CollectionKind.TheVariants as collection
-use Rattle.imkl_model.specs.ClassModel.{Model, enumeration_at}
+use Rattle.ocl_base.specs.Words.{begins_with_letter, is_reserved}
+use Rattle.imkl_model.specs.ClassModel.{Model, class_at, enumeration_at}
 use Rattle.explain_notes.specs.Showing.{shown_character}
 use Rattle.imkl_population.specs.declared.scalar.Scalar.{Scalar}
 use Rattle.imkl_population.specs.declared.scalar.Scalar.TheVariants as scalar
-use Rattle.imkl_population.specs.Population.{Population, object_at}
+use Rattle.imkl_population.specs.Population.{Population, class_of, object_at}
 use Rattle.rule_values.specs.Value.{Element, Value, Invalid, Null, Single, Collection}
 
 -- a literal, with the enumeration that it is of
@@ -36,6 +38,20 @@ length_text hidden n = if hidden == 0 then [] else length_note n
 abbrev pub quoted_text : List ℕ → List ℕ
 quoted_text t = 39 ∷ (flat_map quoted_character (take max_quoted t) ++ (39 ∷ length_text (length t - max_quoted) (length t)))
 
+abbrev pub has_colon : List ℕ → Bool
+has_colon text = list_any (λ b. b == 58) text
+
+-- an id that can be read as nothing else: it begins with a letter, is no word of OCL, and has no colon, as literals have
+abbrev pub stands_alone : List ℕ → Bool
+stands_alone id = begins_with_letter id && (not (is_reserved id) && not (has_colon id))
+
+-- an object by its id, or behind the name of its class
+abbrev pub object_by : List ℕ → List ℕ → List ℕ
+object_by class id = if stands_alone id then id else (class ++ (40 ∷ (id ++ 41 ∷ [])))
+
+abbrev pub object_text : Population → ℕ → List ℕ
+object_text p o = object_by (class_at p.model (class_of p o)).name (object_at p o).id
+
 abbrev pub truth_text : Bool → List ℕ
 truth_text true = codes "true"
 truth_text false = codes "false"
@@ -45,7 +61,11 @@ scalar_text p (scalar.Bool b) = truth_text b
 scalar_text p (scalar.Int n) = signed_decimal n
 scalar_text p (scalar.Text t) = quoted_text t
 scalar_text p (scalar.Literal e l) = literal_text p.model e l
-scalar_text p (scalar.Object o) = (object_at p o).id
+scalar_text p (scalar.Object o) = object_text p o
+
+abbrev pub is_object_element : Element → Bool
+is_object_element (Some (scalar.Object o)) = true
+is_object_element v = false
 
 abbrev pub element_text : Population → Element → List ℕ
 element_text p None = codes "null"
@@ -75,9 +95,12 @@ abbrev pub elements_text : Population → ℕ → List Element → List ℕ
 elements_text p k [] = []
 elements_text p k (e ∷ es) = before_element k ++ (element_text p e ++ elements_text p (suc k) es)
 
+-- the first elements, and how many more there are
+abbrev pub some_elements_text : Population → List Element → List ℕ
+some_elements_text p es = elements_text p 0 (take max_shown es) ++ more_text (length es - max_shown)
+
 abbrev pub collection_text : Population → CollectionKind → List Element → List ℕ
-collection_text p c es =
-    kind_name c ++ (123 ∷ (elements_text p 0 (take max_shown es) ++ (more_text (length es - max_shown) ++ 125 ∷ [])))
+collection_text p c es = kind_name c ++ (123 ∷ (some_elements_text p es ++ 125 ∷ []))
 
 abbrev pub value_text : Population → Value → List ℕ
 value_text p Invalid = codes "invalid"

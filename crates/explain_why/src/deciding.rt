@@ -216,7 +216,7 @@ pub(crate) fn batch_beside<'b, 'a>(iteration: &Iteration, bodies: &[Value<'_>]) 
 }
 
 /// Puts a copy of an element at a list's end, if it is to be kept.
-fn keep_if<'a>(
+pub(crate) fn keep_if<'a>(
     kept: &mut Vec<Element<'a>>,
     keep: bool,
     element: &Element<'a>,

@@ -11,7 +11,8 @@ ghost use Rattle.owned_values.specs.Meant.{meant, meant_element, meant_elements,
 ghost use Rattle.ocl_semantics.specs.Resolved.{IsResolved, AreResolved, AreThere};
 ghost use Rattle.ocl_semantics.specs.Evaluated.{bindings, on_null, IsLinkResolved, AreLinksResolved};
 ghost use Rattle.explain_why.specs.Values.{value_text};
-ghost use Rattle.explain_why.specs.Explanation.{lines_if, part_line, named_value, binding_line, bindings_line, batch_of, batch_lines, iteration_lines, steps_lines, accumulation_lines, part_of, explained, all_explained, verdict_word, verdict_line, explanation};
+ghost use Rattle.explain_why.specs.Explanation.{lines_if, part_line, named_value, binding_line, bindings_line, batch_of, batch_lines, iteration_lines, accumulation_lines, part_of, explained, all_explained, verdict_word, verdict_line, explanation};
+ghost use Rattle.explain_why.specs.Turns.{fold_turn, IsTurnThere, AreTurnsThere};
 ghost use Rattle.explain_why.specs.PartWalk.{node_reason, node_line, is_source_shown, below_lines, element_lines, step_lines, link_lines, links_lines, bound_lines, lets_lines};
 
 use crate::deciding::{Batch, batch_beside, batch_that_decides, deciding_elements};
@@ -19,14 +20,15 @@ use crate::operands::{are_others_shown, is_first_shown};
 use crate::pieces::{put, put_indent, put_more};
 use crate::reasons::{choice_reason, put_feature_reason, put_operation_reason};
 use crate::texts::{let_text, link_text, next, put_variable, spine_text, text_of};
-use crate::values::{MAX_SHOWN, put_element, put_value};
+use crate::turns::{Turn, told_turns, turns_of};
+use crate::values::put_value;
 use imkl_population::{ObjectNo, Population};
 use ocl_base::OutOfMemory;
 use ocl_core::{Core, CoreLink, CoreRule, Iteration};
 use ocl_semantics::{
     Variables, evaluate, evaluate_all, evaluate_bodies, evaluate_link, evaluate_links,
 };
-use owned_values::{Element, Value, element_value, is_false, is_true};
+use owned_values::{Element, Value, copy_value, element_value, is_false, is_true};
 use std::alloc::Global;
 
 /// Puts a part with its value, and why that is null or invalid.
@@ -45,7 +47,7 @@ fn put_part(
 {
     put_indent(out, level)?;
     put(out, part)?;
-    put(out, " = ")?;
+    put(out, " is ")?;
     put_value(alloc, out, population, value)?;
     put(out, reason)?;
     put(out, "\n")
@@ -85,7 +87,7 @@ fn put_binding(
         named_value number (value_text population.now.content (meant value.now))) }
 {
     put_variable(alloc, out, number)?;
-    put(out, " = ")?;
+    put(out, " is ")?;
     put_value(alloc, out, population, value)
 }
 
@@ -498,8 +500,17 @@ fn link_reason<'a>(
             put_feature_reason(&mut reason, population, *feature, source, gave)?;
         }
         CoreLink::Operation { operator, others } => {
+            population.consistent();
             let others = evaluate_all(alloc, population, others, variables)?;
-            put_operation_reason(&mut reason, population, *operator, source, &others, gave)?;
+            put_operation_reason(
+                alloc,
+                &mut reason,
+                population,
+                *operator,
+                source,
+                &others,
+                gave,
+            )?;
         }
         CoreLink::AsCollection { .. } | CoreLink::Iterate { .. } | CoreLink::Fold { .. } => {}
     }
@@ -696,7 +707,7 @@ fn explain_element<'a>(
     Ok(())
 }
 
-/// Puts the first elements of a fold, each with what is accumulated before it and the parts of its body.
+/// Puts the turns of a fold that tell how it came to its value, each with the parts of its body, and how many more there are.
 #[cycle(explain)]
 fn explain_fold<'a>(
     alloc: Global,
@@ -721,93 +732,66 @@ fn explain_fold<'a>(
     let Value::Collection(_, elements) = source else {
         return Ok(());
     };
-    let shown = elements.len().min(MAX_SHOWN);
-    explain_steps(
-        alloc,
-        out,
-        population,
-        level,
-        &elements[..shown],
-        start,
-        body,
-        variables,
-    )?;
-    put_more(alloc, out, level, elements.len() - shown)
+    population.consistent();
+    let turns = turns_of(alloc, population, elements, start, body, variables)?;
+    let told = told_turns(alloc, &turns)?;
+    let more = turns.len().saturating_sub(told.len());
+    explain_turns(alloc, out, population, level, &told, body, variables)?;
+    put_more(alloc, out, level, more)
 }
 
-/// Puts elements of a fold, each with what is accumulated before it and the parts of its body.
+/// Puts turns of a fold, each with what is accumulated before it and the parts of its body.
 #[cycle(explain)]
-fn explain_steps<'a>(
+fn explain_turns<'a>(
     alloc: Global,
     out: &mut String,
     population: &'a Population<'_>,
     level: usize,
-    elements: &[Element<'a>],
-    start: Value<'a>,
+    turns: &[Turn<'a>],
     body: &'a Core,
     variables: &mut Variables<'a>,
 ) -> Result<(), OutOfMemory>
-    requires elements { AreElementsThere population.now.content (meant_elements elements.now) }
-    requires start { IsValueThere population.now.content (meant start) }
+    requires turns { AreTurnsThere population.now.content (map fold_turn turns.now) }
     requires body { IsResolved population.now.content.model (core_view body.now) }
     requires there { AreThere population.now.content variables.old }
-    ensures text { OnOk result (string_bytes out.new ≡ string_bytes out.old ++ steps_lines
-        (step_lines population.now.content (core_view body.now) level variables.old)
-        (λ e a. meaning population.now.content (core_view body.now)
-        (a ∷ element_value e ∷ variables.old)) (meant start.entry) (meant_elements elements.now)) }
+    ensures text { OnOk result (string_bytes out.new ≡ string_bytes out.old ++ flat_map
+        (λ t. step_lines population.now.content (core_view body.now) level variables.old
+        t.element t.before) (map fold_turn turns.now)) }
     ensures kept { OnOk result (variables.new ≡ variables.old) }
 {
-    let mut accumulated = start;
-    'elements: for element in elements {
-        accumulated = explain_step(
-            alloc,
-            out,
-            population,
-            level,
-            element,
-            accumulated,
-            body,
-            variables,
-        )?;
+    'turns: for turn in turns {
+        explain_turn(alloc, out, population, level, turn, body, variables)?;
     }
     Ok(())
 }
 
-/// Puts an element of a fold with what is accumulated before it and the parts of its body, and computes what is
-/// accumulated after it.
+/// Puts a turn of a fold with what is accumulated before it and the parts of its body.
 #[cycle(explain)]
-fn explain_step<'a>(
+fn explain_turn<'a>(
     alloc: Global,
     out: &mut String,
     population: &'a Population<'_>,
     level: usize,
-    element: &Element<'a>,
-    accumulated: Value<'a>,
+    turn: &Turn<'a>,
     body: &'a Core,
     variables: &mut Variables<'a>,
-) -> Result<Value<'a>, OutOfMemory>
-    requires element { IsElementThere population.now.content (meant_element element.now) }
-    requires accumulated { IsValueThere population.now.content (meant accumulated) }
+) -> Result<(), OutOfMemory>
+    requires turn { IsTurnThere population.now.content (fold_turn turn.now) }
     requires body { IsResolved population.now.content.model (core_view body.now) }
     requires there { AreThere population.now.content variables.old }
     ensures text { OnOk result (string_bytes out.new ≡ string_bytes out.old ++ step_lines
         population.now.content (core_view body.now) level variables.old
-        (meant_element element.now) (meant accumulated.entry)) }
-    ensures value { IfOk result (λ v. meant v ≡ meaning population.now.content
-        (core_view body.now) (meant accumulated.entry ∷ element_value (meant_element element.now)
-        ∷ variables.old)) }
-    ensures there { IfOk result (λ v. IsValueThere population.now.content (meant v)) }
+        (meant_element turn.now.element) (meant turn.now.before)) }
     ensures kept { OnOk result (variables.new ≡ variables.old) }
 {
     let number = variables.len();
-    let value = element_value(element);
-    put_bindings_line(alloc, out, population, level, number, &value, &accumulated)?;
+    let value = element_value(&turn.element);
+    put_bindings_line(alloc, out, population, level, number, &value, &turn.before)?;
     variables.bind(value)?;
-    variables.bind(accumulated)?;
+    variables.bind(copy_value(alloc, &turn.before)?)?;
     explain(alloc, out, population, next(level)?, body, variables)?;
-    let after = evaluate(alloc, population, body, variables)?;
     variables.forget(2);
-    Ok(after)
+    Ok(())
 }
 
 /// The word for the verdict of a value.

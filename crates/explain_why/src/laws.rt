@@ -1,6 +1,6 @@
 //! Laws of what explanations show and leave out.
 
-ghost use Rattle.explain_why.specs.Laws.{OthersDecideNothing, FirstDecidesNothing, RepeatedAreShown};
+ghost use Rattle.explain_why.specs.Laws.{OthersDecideNothing, FirstDecidesNothing, RepeatedAreShown, ObjectsAreToldApart};
 
 /// An operand that is left out decides nothing: the operation has its value whatever that operand is.
 pub fn left_out_decides_nothing()
@@ -11,4 +11,9 @@ pub fn left_out_decides_nothing()
 /// Of an `isUnique` that is false, two elements at least are shown, with equal bodies.
 pub fn repeated_are_shown()
     ensures { RepeatedAreShown }
+{}
+
+/// An object is written as no other value is: not as a number, a word of OCL, a literal or a String.
+pub fn objects_are_told_apart()
+    ensures { ObjectsAreToldApart }
 {}

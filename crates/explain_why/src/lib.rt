@@ -3,12 +3,14 @@
 #![tactic(auto)]
 
 mod deciding;
+mod differences;
 mod explaining;
 pub mod laws;
 mod operands;
 mod pieces;
 mod reasons;
 mod texts;
+mod turns;
 mod values;
 mod words;
 

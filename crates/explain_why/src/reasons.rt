@@ -4,15 +4,18 @@ ghost use Rattle.std.specs.Prelude.{◌≡◌, ◌++◌, ◌∷◌, ◌<◌, len
 ghost use Rattle.std.specs.List.{list_any};
 ghost use Rattle.rule_values.specs.Operations.{is_null, is_invalid};
 ghost use Rattle.owned_values.specs.Meant.{meant, meant_element, meant_elements, IsValueThere};
-ghost use Rattle.ocl_semantics.specs.Resolved.{IsOperatorOf};
+ghost use Rattle.ocl_semantics.specs.Resolved.{IsOperatorOf, AreThere};
 ghost use Rattle.explain_why.specs.Reasons.{is_null_element, sum_reason, divisor_reason, quotient_reason, plain_reason, other_class_reason, cast_reason, class_reason, own_reason, invalid_reason, operation_reason, absent_reason, feature_reason, choice_reason};
 
+use crate::differences::put_difference;
 use crate::pieces::put;
+use crate::values::put_object;
 use imkl_model::{ClassNo, FeatureNo};
 use imkl_population::{ObjectNo, Population};
 use ocl_base::OutOfMemory;
 use ocl_core::{ClassOperator, Operator, PlainOperator};
-use owned_values::{Element, Value, is_invalid, is_null};
+use owned_values::{Element, Value, is_false, is_invalid, is_null};
+use std::alloc::Global;
 
 /// Whether an element is null.
 fn is_null_element(element: &Element<'_>) -> bool
@@ -117,7 +120,7 @@ fn put_other_class(
         other_class_reason population.now.content object class) }
 {
     put(out, ": ")?;
-    put(out, population.id(object))?;
+    put_object(out, population, object)?;
     put(out, " is no ")?;
     put(out, population.model().class_name(class))
 }
@@ -191,8 +194,32 @@ fn any_null(v: &Value<'_>, others: &[Value<'_>]) -> bool
     false
 }
 
-/// Puts why an operation has no result, by its operands and what it gave.
+/// Puts why an operation has no result, by its operands.
+fn put_invalid_reason(
+    out: &mut String,
+    population: &Population<'_>,
+    operator: Operator,
+    v: &Value<'_>,
+    others: &[Value<'_>],
+) -> Result<(), OutOfMemory>
+    requires operator { IsOperatorOf population.now.content.model operator }
+    requires there { IsValueThere population.now.content (meant v.now) }
+    ensures { OnOk result (string_bytes out.new ≡ string_bytes out.old ++
+        invalid_reason population.now.content operator (meant v.now) (map meant others.now)) }
+{
+    if any_invalid(v, others) {
+        return Ok(());
+    }
+    if any_null(v, others) {
+        return put(out, ": an operand is null");
+    }
+    put_own_reason(out, population, operator, v, others)
+}
+
+/// Puts why an operation has no result or is false, by its operands and what it gave.
+#[tactic(auto, unfolding(crate::specs::Reasons::operation_reason))]
 pub(crate) fn put_operation_reason(
+    alloc: Global,
     out: &mut String,
     population: &Population<'_>,
     operator: Operator,
@@ -202,16 +229,17 @@ pub(crate) fn put_operation_reason(
 ) -> Result<(), OutOfMemory>
     requires operator { IsOperatorOf population.now.content.model operator }
     requires there { IsValueThere population.now.content (meant v.now) }
+    requires others { AreThere population.now.content (map meant others.now) }
     ensures { OnOk result (string_bytes out.new ≡ string_bytes out.old ++ operation_reason
         population.now.content operator (meant v.now) (map meant others.now) (meant gave.now)) }
 {
-    if !is_invalid(gave) || any_invalid(v, others) {
-        return Ok(());
+    if is_invalid(gave) {
+        return put_invalid_reason(out, population, operator, v, others);
     }
-    if any_null(v, others) {
-        return put(out, ": an operand is null");
+    if is_false(gave) {
+        return put_difference(alloc, out, population, operator, v, others);
     }
-    put_own_reason(out, population, operator, v, others)
+    Ok(())
 }
 
 /// Puts that an object has nothing at a feature.
@@ -227,7 +255,7 @@ fn put_absent(
         absent_reason population.now.content object feature) }
 {
     put(out, ": ")?;
-    put(out, population.id(object))?;
+    put_object(out, population, object)?;
     put(out, " has no ")?;
     put(out, population.model().feature_info(feature).name.as_str())
 }

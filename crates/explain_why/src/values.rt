@@ -3,16 +3,17 @@
 ghost use Rattle.std.specs.Prelude.{◌≡◌, ◌++◌, ◌<◌, length, take, OnOk, string_bytes};
 ghost use Rattle.std.specs.List.{flat_map};
 ghost use Rattle.std.specs.Str.{chars};
+ghost use Rattle.ocl_base.specs.Words.{begins_with_letter};
 ghost use Rattle.imkl_model.specs.ClassModel.{enumeration_at};
 ghost use Rattle.owned_values.specs.Meant.{meant, meant_element, meant_elements, IsElementThere, AreElementsThere, IsValueThere};
-ghost use Rattle.explain_why.specs.Values.{literal_text, quoted_character, max_quoted, length_note, length_text, quoted_text, kind_name, element_text, before_element, elements_text, more_text, collection_text, value_text};
+ghost use Rattle.explain_why.specs.Values.{literal_text, quoted_character, max_quoted, length_note, length_text, quoted_text, has_colon, stands_alone, object_text, kind_name, element_text, before_element, elements_text, more_text, some_elements_text, collection_text, value_text};
 
 use crate::pieces::{put, put_count, put_number};
 use crate::words::kind_name;
 use explain_notes::push_shown;
 use imkl_model::{ClassModel, EnumNo, LiteralNo};
-use imkl_population::Population;
-use ocl_base::{CollectionKind, OutOfMemory};
+use imkl_population::{ObjectNo, Population};
+use ocl_base::{CollectionKind, OutOfMemory, is_reserved};
 use owned_values::{Element, Value};
 use std::alloc::Global;
 
@@ -119,6 +120,59 @@ fn put_characters(out: &mut String, text: &str) -> Result<(), OutOfMemory>
     Ok(())
 }
 
+/// Whether bytes begin with a letter or `_`.
+fn begins_with_letter(bytes: &[u8]) -> bool
+    ensures { result ≡ begins_with_letter bytes.now }
+{
+    match bytes {
+        [first, ..] => first.is_ascii_alphabetic() || *first == b'_',
+        [] => false,
+    }
+}
+
+/// Whether one of these bytes is a colon.
+fn has_colon(bytes: &[u8]) -> bool
+    ensures { result ≡ has_colon bytes.now }
+{
+    for byte in bytes {
+        if *byte == b':' {
+            return true;
+        }
+    }
+    false
+}
+
+/// Whether an id can be read as nothing else: not as a number, a word of OCL or a literal.
+fn stands_alone(id: &str) -> bool
+    ensures { result ≡ stands_alone id.now }
+{
+    let bytes = id.as_bytes();
+    begins_with_letter(bytes) && !is_reserved(id) && !has_colon(bytes)
+}
+
+/// Puts an object by its id; one that could be read as something else behind the name of its class.
+pub(crate) fn put_object(
+    out: &mut String,
+    population: &Population<'_>,
+    object: ObjectNo,
+) -> Result<(), OutOfMemory>
+    requires { object < length population.now.content.objects }
+    ensures { OnOk result (string_bytes out.new ≡ string_bytes out.old ++
+        object_text population.now.content object) }
+{
+    let id = population.id(object);
+    if stands_alone(id) {
+        return put(out, id);
+    }
+    put(
+        out,
+        population.model().class_name(population.class_of(object)),
+    )?;
+    put(out, "(")?;
+    put(out, id)?;
+    put(out, ")")
+}
+
 /// Puts an element, or a single value.
 pub(crate) fn put_element(
     alloc: Global,
@@ -139,7 +193,7 @@ pub(crate) fn put_element(
         Element::Literal(enumeration, literal) => {
             put_literal(out, population.model(), *enumeration, *literal)
         }
-        Element::Object(object) => put(out, population.id(*object)),
+        Element::Object(object) => put_object(out, population, *object),
     }
 }
 
@@ -183,6 +237,22 @@ fn put_elements(
     Ok(())
 }
 
+/// Puts the first `MAX_SHOWN` elements, and how many more there are.
+pub(crate) fn put_some_elements(
+    alloc: Global,
+    out: &mut String,
+    population: &Population<'_>,
+    elements: &[Element<'_>],
+) -> Result<(), OutOfMemory>
+    requires { AreElementsThere population.now.content (meant_elements elements.now) }
+    ensures { OnOk result (string_bytes out.new ≡ string_bytes out.old ++
+        some_elements_text population.now.content (meant_elements elements.now)) }
+{
+    let shown = elements.len().min(MAX_SHOWN);
+    put_elements(alloc, out, population, &elements[..shown])?;
+    put_more_elements(alloc, out, elements.len() - shown)
+}
+
 /// Puts a collection, of which at most `MAX_SHOWN` elements are shown.
 fn put_collection(
     alloc: Global,
@@ -195,11 +265,9 @@ fn put_collection(
     ensures { OnOk result (string_bytes out.new ≡ string_bytes out.old ++
         collection_text population.now.content kind (meant_elements elements.now)) }
 {
-    let shown = elements.len().min(MAX_SHOWN);
     put(out, kind_name(kind))?;
     put(out, "{")?;
-    put_elements(alloc, out, population, &elements[..shown])?;
-    put_more_elements(alloc, out, elements.len() - shown)?;
+    put_some_elements(alloc, out, population, elements)?;
     put(out, "}")
 }
 

@@ -1,18 +1,19 @@
-use Rattle.std.proofs.Common.{◌≡◌, ◌∷◌, ◌++◌, length, map, string_bytes, refl, sym, ap, ◌∙◌, rules}
+use Rattle.std.proofs.Common.{◌≡◌, ◌∷◌, ◌++◌, ◌-◌, arith, length, map, string_bytes, refl, sym, ap, ◌∙◌, rules}
 use Rattle.std.specs.Prelude.{min}
+use Rattle.std.proofs.lemmas.List.{length-map}
 use Rattle.std.proofs.lemmas.Result.{on_ok_weaker}
 use Rattle.ocl_core.specs.declared.core_tree.Core.{the_lemmas}
 use Rattle.ocl_core.specs.CoreView.{core_view}
 use Rattle.ocl_semantics.specs.Meaning.{meaning}
-use Rattle.rule_values.specs.Value.{element_value}
-use Rattle.owned_values.specs.Meant.{meant, meant_elements, AreElementsThere}
-use Rattle.owned_values.proofs.ForAbove.{kept_there}
-use Rattle.ocl_semantics.proofs.ForAbove.{spine_names, let_names}
-use Rattle.explain_why.proofs.Left.{first_there, left_all}
-use Rattle.explain_why.specs.Values.{max_shown}
-use Rattle.explain_why.specs.Explanation.{batch_of, steps_lines}
+use Rattle.rule_values.specs.Value.{Element, Value, element_value}
+use Rattle.owned_values.specs.Meant.{meant, meant_elements, AreElementsThere, IsElementThere, IsValueThere}
+use Rattle.owned_values.proofs.ForAbove.{kept_there, element_there}
+use Rattle.ocl_semantics.proofs.ForAbove.{meaning_there, spine_names, let_names}
+use Rattle.explain_why.proofs.Left.{first_there, left_all, told_there, turns_there}
+use Rattle.explain_why.specs.Turns.{fold_turn, turns_from}
+use Rattle.explain_why.specs.Explanation.{batch_of}
 use Rattle.explain_why.specs.PartWalk.{element_lines, step_lines}
-use Rattle.explain_why.proofs.PartNodes.{let_value, spine_put, let_parts, first_parts, second_parts, no_parts, iterate_lines, fold_lines, shown_lines, batch_shown, iteration_shown, two_put, three_put}
+use Rattle.explain_why.proofs.PartNodes.{let_value, spine_put, let_parts, first_parts, second_parts, no_parts, iterate_lines, fold_lines, turns_shown, batch_shown, iteration_shown, two_put, three_put}
 use Rattle.explain_why.proofs.explaining.+explain.Goals as goal
 
 -- ---- a first operand with its links
@@ -71,10 +72,17 @@ explain_batch-explain_elements-requires t c =
     let chosen : AreElementsThere c.args.population.now.content (meant_elements c.deref.result.now) = rw (c.deref.ensures.value, c.in_ok-chosen.ensures) (kept_there c.args.population.now.content _ _ _ c.requires.elements) in
     (search (rules, the_lemmas), (first_there c.args.population.now.content c.deref.result.now c.min-shown.result chosen, (c.requires.body, c.requires.there)))
 
-pub explain_fold-explain_steps-requires : goal.explain_fold-explain_steps-requires
-explain_fold-explain_steps-requires t c =
-    let there = rw c.in-Collection.is at c.requires.source in
-    (search (rules, the_lemmas), (first_there c.args.population.now.content c.deref.result.now c.min-shown.result (rw c.deref.ensures.value there), (c.requires.start, (c.requires.body, c.requires.there))))
+pub explain_fold-explain_turns-requires : goal.explain_fold-explain_turns-requires
+explain_fold-explain_turns-requires t c =
+    let p = c.args.population.now.content in
+    let body = core_view c.args.body.now in
+    let next : Element → Value → Value = λ e a. meaning p body (a ∷ element_value e ∷ c.args.variables.now) in
+    let source = rw c.in-Collection.is at c.requires.source in
+    let goes_on : (e : Element) (b : Value) → IsElementThere p e → IsValueThere p b → IsValueThere p (next e b) = λ e b first before. meaning_there p c.consistent.ensures body (b ∷ element_value e ∷ c.args.variables.now) c.requires.body (before, (element_there p e first, c.requires.there)) in
+    let turns = rw c.deref.ensures.value at c.in_ok-turns.ensures.turns in
+    let told = rw (c.deref-2.ensures.value, turns) at c.in_ok-told.ensures in
+    let there = told_there p _ (turns_there p 0 next (meant c.args.start) (meant_elements c.in-Collection.elements.items) goes_on c.requires.start source) in
+    (search (rules, the_lemmas), (rw (c.deref-3.ensures.value, told, c.in_ok-turns.ensures.kept) (there, (c.requires.body, c.requires.there))))
 
 -- ---- what is put
 
@@ -137,12 +145,19 @@ explain_link-returns-in_ok-start-in-Fold-clause-text t c =
 
 pub explain_fold-returns-clause-text : goal.explain_fold-returns-clause-text
 explain_fold-returns-clause-text t c =
-    let many : c.len-2.result ≡ length c.in-Collection.elements.items = search rules in
-    let shown : c.min-shown.result ≡ min (length c.in-Collection.elements.items) max_shown = search rules in
-    let steps = rw c.deref.ensures.value at c.in_ok-explain_steps.ensures.text in
-    let more = rw many at c.put_more.ensures in
-    let whole = shown_lines (steps_lines (step_lines c.args.population.now.content (core_view c.args.body.now) c.args.level c.args.variables.now) (λ e a. meaning c.args.population.now.content (core_view c.args.body.now) (a ∷ element_value e ∷ c.args.variables.now)) (meant c.args.start)) c.args.level max_shown c.min-shown.result c.in-Collection.elements.items (meant_elements c.in-Collection.elements.items) refl shown in
-    rw c.in-Collection.is (on_ok_weaker c.put_more.result (λ h. two_put _ _ _ _ _ _ steps h whole) more)
+    let p = c.args.population.now.content in
+    let body = core_view c.args.body.now in
+    let next : Element → Value → Value = λ e a. meaning p body (a ∷ element_value e ∷ c.args.variables.now) in
+    let show = step_lines p body c.args.level c.args.variables.now in
+    let turns = rw c.deref.ensures.value at c.in_ok-turns.ensures.turns in
+    let told = rw (c.deref-2.ensures.value, turns) at c.in_ok-told.ensures in
+    let put = rw (c.deref-3.ensures.value, c.in_ok-turns.ensures.kept) at c.in_ok-explain_turns.ensures.text in
+    let all = turns_from 0 next (meant c.args.start) (meant_elements c.in-Collection.elements.items) in
+    let many : length all ≡ length c.in_ok-turns.turns.items = ap length (sym turns) ∙ length-map c.in_ok-turns.turns.items fold_turn in
+    let few : length (map fold_turn c.in_ok-told.told.items) ≡ length c.in_ok-told.told.items = length-map c.in_ok-told.told.items fold_turn in
+    let count : c.saturating_sub-more.result ≡ length all - length (map fold_turn c.in_ok-told.told.items) = omega (arith, c.saturating_sub-more.ensures, c.len.ensures, c.len-2.ensures, many, few) in
+    let whole = turns_shown show c.args.level c.saturating_sub-more.result (map fold_turn c.in_ok-told.told.items) all told count in
+    rw c.in-Collection.is (on_ok_weaker c.put_more.result (λ h. two_put _ _ _ _ _ _ put h whole) c.put_more.ensures)
 
 pub explain_batch-returns-clause-text : goal.explain_batch-returns-clause-text
 explain_batch-returns-clause-text t c =

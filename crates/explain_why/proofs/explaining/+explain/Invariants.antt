@@ -1,13 +1,13 @@
-use Rattle.std.proofs.Common.{◌≡◌, ◌∷◌, ◌+◌, ◌++◌, map, drop, string_bytes}
+use Rattle.std.proofs.Common.{◌≡◌, ◌+◌, ◌++◌, map, drop, string_bytes}
 use Rattle.std.specs.List.{AllByRecursion, flat_map}
 use Rattle.ocl_core.specs.Core.{cores_of, lets_of}
 use Rattle.ocl_core.specs.CoreView.{core_view}
-use Rattle.rule_values.specs.Value.{element_value}
 use Rattle.owned_values.specs.Meant.{meant, meant_elements, IsValueThere, AreElementsThere}
 use Rattle.ocl_semantics.specs.Meaning.{meaning}
 use Rattle.ocl_semantics.specs.Resolved.{IsResolved, AreResolved, AreThere}
 use Rattle.ocl_semantics.specs.Evaluated.{bindings, AreLinksResolved}
-use Rattle.explain_why.specs.Explanation.{steps_lines, all_explained}
+use Rattle.explain_why.specs.Turns.{fold_turn, AreTurnsThere}
+use Rattle.explain_why.specs.Explanation.{all_explained}
 use Rattle.explain_why.specs.PartWalk.{element_lines, step_lines, links_lines, lets_lines}
 use Rattle.explain_why.proofs.explaining.+explain.Given as goal
 
@@ -45,10 +45,9 @@ invariant-explain_elements-elements l =
     ≡ string_bytes l.initial.out ++ flat_map (element_lines l.population.content (core_view l.body) l.level l.initial.variables) (meant_elements l.elements))
     × (AreElementsThere l.population.content (meant_elements (drop l.element-index l.elements)) × (l.variables ≡ l.initial.variables))
 
--- what was put, what is accumulated, and the elements that are left
-abbrev pub invariant-explain_steps-elements : goal.invariant-explain_steps-elements
-invariant-explain_steps-elements l =
-    (string_bytes l.out ++ steps_lines (step_lines l.population.content (core_view l.body) l.level l.initial.variables) (λ e a. meaning l.population.content (core_view l.body) (a ∷ element_value e ∷ l.initial.variables)) (meant l.accumulated) (meant_elements (drop l.element-index l.elements))
-    ≡ string_bytes l.initial.out ++ steps_lines (step_lines l.population.content (core_view l.body) l.level l.initial.variables) (λ e a. meaning l.population.content (core_view l.body) (a ∷ element_value e ∷ l.initial.variables)) (meant l.fn.start) (meant_elements l.elements))
-    × (IsValueThere l.population.content (meant l.accumulated)
-    × (AreElementsThere l.population.content (meant_elements (drop l.element-index l.elements)) × (l.variables ≡ l.initial.variables)))
+-- what was put, and the turns that are left
+abbrev pub invariant-explain_turns-turns : goal.invariant-explain_turns-turns
+invariant-explain_turns-turns l =
+    (string_bytes l.out ++ flat_map (λ t. step_lines l.population.content (core_view l.body) l.level l.initial.variables t.element t.before) (map fold_turn (drop l.turn-index l.turns))
+    ≡ string_bytes l.initial.out ++ flat_map (λ t. step_lines l.population.content (core_view l.body) l.level l.initial.variables t.element t.before) (map fold_turn l.turns))
+    × (AreTurnsThere l.population.content (map fold_turn (drop l.turn-index l.turns)) × (l.variables ≡ l.initial.variables))
