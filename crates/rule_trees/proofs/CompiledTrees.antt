@@ -1,31 +1,20 @@
 -- A rule of a compiled unit has the very tree that was compiled.
-use Rattle.std.proofs.Common.{◌≡◌, ℕ, zero, suc, List, [], ◌∷◌, Some, sym, ap, ◌∙◌, subst}
+use Rattle.std.proofs.Common.{◌≡◌, [], Some, sym, ap, ◌∙◌, subst}
 use Rattle.std.specs.Prelude.{slice_get}
 use Rattle.std.specs.Option.{option_map}
 use Rattle.std.proofs.lemmas.Option.{slice_get-map, get_or_from_slice_get}
-use Rattle.imkl_model.specs.ClassModel.{Model}
-use Rattle.ocl_core.specs.Core.{CheckedRule}
 use Rattle.ocl_core.specs.Typing.{IsTypedRule}
 use Rattle.rule_code.specs.Content.{Content, RuleContent}
 use Rattle.rule_code.proofs.ForAbove.{AllByRecursion-at}
 use Rattle.rule_verify.specs.CodeTree.{End, code_tree}
 use Rattle.rule_verify.specs.UnitRules.{unit_rule, empty_rule}
-use Rattle.ocl_compile.specs.Numbering.{Numbering, rule_uses, rules_uses, numbering_of}
-use Rattle.ocl_compile.specs.ResolvedUses.{AreUsesResolved}
+use Rattle.ocl_compile.specs.Numbering.{numbering_of}
 use Rattle.ocl_compile.specs.Translation.{rule_tree, translate_rule, translate_rules}
 use Rattle.ocl_compile.specs.Compiling.{first_passed}
-use Rattle.ocl_compile.proofs.ForAbove.{of_first, of_rest, rules_resolved, compiled_is, rule_code_is}
+use Rattle.ocl_compile.proofs.ForAbove.{rules_resolved, compiled_is, rule_code_is, resolved_at}
 use Rattle.rule_trees.specs.CoreOf.{sole, core_of, surroundings_of_rule}
 use Rattle.rule_trees.specs.Laws.{IsCoreOf, CompiledRulesKeepTrees}
 use Rattle.rule_trees.proofs.TreesBack.{trees_back}
-
--- of the uses of all rules, those of one
-resolved_at : (m : Model) (u : Content) (k : Numbering) (rs : List CheckedRule) (n : ℕ) (r : CheckedRule) → AreUsesResolved m u k (rules_uses m rs) → slice_get rs n ≡ Some r → AreUsesResolved m u k (rule_uses m r)
-resolved_at m u k [] n r h e = cc
-resolved_at m u k (x ∷ rs) zero r h e =
-    let same : x ≡ r = cc in
-    subst (λ (y : CheckedRule). AreUsesResolved m u k (rule_uses m y)) same (of_first m u k (rule_uses m x) (rules_uses m rs) h)
-resolved_at m u k (x ∷ rs) (suc n) r h e = resolved_at m u k rs n r (of_rest m u k (rule_uses m x) (rules_uses m rs) h) e
 
 -- the law
 pub compiled_rules_keep_trees : CompiledRulesKeepTrees

@@ -6,3 +6,5 @@ pub mod TreesBack
 pub mod TreesThere
 pub mod CompiledTrees
 pub mod TreesResolved
+pub mod Families
+pub mod Walked

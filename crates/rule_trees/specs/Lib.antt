@@ -2,3 +2,5 @@
 pub mod InstrTrees
 pub mod CoreOf
 pub mod Laws
+-- Bookkeeping: views, layouts, walks and tables that only proofs and private contracts use.
+pub mod TreeWalk
