@@ -1,23 +1,23 @@
-//! From bytes to verdicts.
+//! From bytes to the objects that break a rule.
 
-ghost use Rattle.std.specs.Prelude.{◌≡◌, ◌<◌, length, All, IfOk, OnOk, Some};
+ghost use Rattle.std.specs.Prelude.{◌≡◌, ◌<◌, [], length, All, IfOk, OnOk, Some};
 ghost use Rattle.imkl_population.specs.Population as population;
 ghost use Rattle.imkl_population.specs.Population.{IsInstance};
 ghost use Rattle.rule_code.specs.Content.{Content};
+ghost use Rattle.rule_cost.specs.Admission.{Fits};
 ghost use Rattle.rule_machine.specs.Laws.{verdict_at};
 ghost use Rattle.rule_machine.specs.Contract.{SameTask};
 ghost use Rattle.rule_machine.specs.Machine.{setting_of};
-ghost use Rattle.embedding.specs.Breaks.{Breaks};
+ghost use Rattle.ocl_pipeline.specs.Asked.{code_with};
+ghost use Rattle.ocl_pipeline.specs.Steps.{inputs_in};
+ghost use Rattle.embedding.specs.Breaks.{Breaks, AreBroken, AreBrokenWithin};
 
-use crate::refusal::Refusal;
-use imkl_delivery::load;
-use imkl_model::ClassModel;
-use imkl_population::{ObjectNo, Population, Sizes};
+use imkl_population::{ObjectNo, Population};
 use ocl_base::OutOfMemory;
-use rule_code::{Unit, read_unit};
-use rule_cost::admit;
+use ocl_pipeline::{AdmittedAsker, CodeAsker, OfCode, Place, Stopped, ask_admitted, ask_inputs};
+use rule_cost::Admitted;
 use rule_machine::{Machine, Verdict};
-use rule_verify::{Accepted, verify};
+use rule_verify::Accepted;
 use std::alloc::Global;
 
 /// An object that breaks a rule.
@@ -70,97 +70,88 @@ fn judge_rule(
     Ok(())
 }
 
-/// The objects that break a rule of accepted code, over a population of its class model.
+/// Notes the objects that break a rule of accepted code, over a population of its class model.
 fn judge_all(
     alloc: Global,
     accepted: &Accepted<'_>,
     population: &Population<'_>,
-) -> Result<Vec<Broken>, OutOfMemory>
-    requires { population.now.content.model ≡ accepted.now.model }
-    ensures { IfOk result (λ v.
-        All (Breaks accepted.now.unit population.now.content) v.items) }
+    broken: &mut Vec<Broken>,
+) -> Result<(), OutOfMemory>
+    requires one_model { population.now.content.model ≡ accepted.now.model }
+    requires none { broken.old.items ≡ [] }
+    ensures { OnOk result (All (Breaks accepted.now.unit population.now.content) broken.new.items) }
 {
     let mut machine = Machine::new(alloc, accepted, population)?;
-    let mut broken = Vec::new(alloc);
     for rule in 0..accepted.rules() {
         let objects = population.instances(accepted.context(rule));
-        judge_rule(&mut machine, rule, objects, &mut broken)?;
+        judge_rule(&mut machine, rule, objects, broken)?;
     }
-    Ok(broken)
+    Ok(())
 }
 
-/// The objects that break a rule of accepted code, where its rules are within the budget for populations of these sizes.
-fn broken_within(
-    alloc: Global,
-    population: &Population<'_>,
-    sizes: &Sizes<'_>,
-    accepted: &Accepted<'_>,
+/// Asks for the objects that break a rule, where each rule is within a budget.
+#[derive(Clone, Copy)]
+struct BrokenRules {
+    /// The greatest bound that a rule may have, in charges for an object.
     budget: u64,
-) -> Result<Vec<Broken>, Refusal>
-    requires one_model { population.now.content.model ≡ accepted.now.model }
-    requires sizes { sizes.now.model ≡ accepted.now.model }
-{
-    match admit(alloc, accepted, sizes, budget) {
-        Ok(admitted) => match judge_all(alloc, admitted.accepted(), population) {
-            Ok(broken) => Ok(broken),
-            Err(_refused) => Err(Refusal::OutOfMemory),
-        },
-        Err(fault) => Err(Refusal::Cost(fault)),
-    }
 }
 
-/// The objects that break a rule of accepted code, where its rules are within the budget.
-fn broken_of_accepted(
-    alloc: Global,
-    population: &Population<'_>,
-    accepted: &Accepted<'_>,
-    budget: u64,
-) -> Result<Vec<Broken>, Refusal>
-    requires { population.now.content.model ≡ accepted.now.model }
-{
-    match population.sizes(alloc) {
-        Ok(sizes) => broken_within(alloc, population, &sizes, accepted, budget),
-        Err(_refused) => Err(Refusal::OutOfMemory),
-    }
-}
+impl AdmittedAsker<Vec<Broken>> for BrokenRules {
+    type Output = Result<(), Stopped>;
 
-/// The objects that break a rule of a unit, where it is accepted and its rules are within the budget.
-fn broken_of_unit(
-    alloc: Global,
-    population: &Population<'_>,
-    unit: Unit,
-    budget: u64,
-) -> Result<Vec<Broken>, Refusal> {
-    match verify(alloc, population.model(), unit) {
-        Ok(accepted) => broken_of_accepted(alloc, population, &accepted, budget),
-        Err((fault, _unit)) => Err(Refusal::Verifier(fault)),
+    ghost can_ask = { λ v. v.items ≡ [] };
+
+    ghost answers = { λ _ p given old o new. OnOk o (AreBroken p given new.items) };
+
+    fn ask(
+        &self,
+        alloc: Global,
+        population: &Population<'_>,
+        admitted: &Admitted<'_>,
+        broken: &mut Vec<Broken>,
+    ) -> Result<(), Stopped> {
+        match judge_all(alloc, admitted.accepted(), population, broken) {
+            Ok(()) => Ok(()),
+            Err(_refused) => Err(Stopped::OutOfMemory),
+        }
+    }
+
+    fn stop(
+        &self,
+        _alloc: Global,
+        _place: Place<'_>,
+        why: Stopped,
+        _broken: &mut Vec<Broken>,
+    ) -> Result<(), Stopped> {
+        Err(why)
     }
 }
 
-/// The objects of a population that break a rule of a code file.
-fn broken_by_code(
-    alloc: Global,
-    population: &Population<'_>,
-    code: &[u8],
-    budget: u64,
-) -> Result<Vec<Broken>, Refusal> {
-    match read_unit(alloc, code) {
-        Ok(unit) => broken_of_unit(alloc, population, unit, budget),
-        Err(fault) => Err(Refusal::Code(fault)),
-    }
-}
+impl CodeAsker<Vec<Broken>> for BrokenRules {
+    type Output = Result<(), Stopped>;
 
-/// The objects of a delivery for this class model that break a rule of a code file.
-fn broken_in_delivery(
-    alloc: Global,
-    model: &ClassModel,
-    delivery: &[u8],
-    code: &[u8],
-    budget: u64,
-) -> Result<Vec<Broken>, Refusal> {
-    match load(alloc, delivery, model) {
-        Ok(population) => broken_by_code(alloc, &population, code, budget),
-        Err(fault) => Err(Refusal::Delivery(fault)),
+    ghost can_ask = { λ v. v.items ≡ [] };
+
+    ghost answers = { λ r given old o new. OnOk o (AreBrokenWithin r.budget given new.items) };
+
+    fn ask(
+        &self,
+        alloc: Global,
+        population: &Population<'_>,
+        accepted: &Accepted<'_>,
+        broken: &mut Vec<Broken>,
+    ) -> Result<(), Stopped> {
+        ask_admitted(alloc, self, self.budget, population, accepted, broken)
+    }
+
+    fn stop(
+        &self,
+        _alloc: Global,
+        _place: Place<'_>,
+        why: Stopped,
+        _broken: &mut Vec<Broken>,
+    ) -> Result<(), Stopped> {
+        Err(why)
     }
 }
 
@@ -172,9 +163,15 @@ pub fn broken_rules(
     delivery: &[u8],
     code: &[u8],
     budget: u64,
-) -> Result<Vec<Broken>, Refusal> {
-    match ClassModel::read(alloc, model) {
-        Ok(model) => broken_in_delivery(alloc, &model, delivery, code, budget),
-        Err(fault) => Err(Refusal::Model(fault)),
-    }
+) -> Result<Vec<Broken>, Stopped>
+    ensures { IfOk result (λ v. AreBrokenWithin budget
+        (code_with code.now (inputs_in model.now delivery.now)) v.items) }
+{
+    let asker = OfCode {
+        asker: &BrokenRules { budget },
+        code,
+    };
+    let mut broken = Vec::new(alloc);
+    ask_inputs(alloc, &asker, model, delivery, &mut broken)?;
+    Ok(broken)
 }

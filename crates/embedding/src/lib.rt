@@ -3,7 +3,5 @@
 #![tactic(auto)]
 
 mod judging;
-mod refusal;
 
 pub use judging::{Broken, broken_rules};
-pub use refusal::Refusal;
