@@ -1,17 +1,17 @@
 #!/bin/sh
 # Seconds and peak memory of judge without a rule on deliveries of 20,000 and 200,000 objects that hold one another, beside those of the
-# floor: the program json_floor, which makes the tree of the same JSON and drops it. The best of three runs counts.
+# floor: the program bench_json, which makes the tree of the same JSON and drops it. The best of three runs counts.
 
 here=$(dirname -- "$(readlink -f -- "$0")")
 . "$here/measure.sh"
 : >"$room/none.rules"
 
 # The first run builds the floor; what is measured is the program alone.
-(cd "$root/crates/json_floor" && rt run -- "$root/examples/cable-600.json") </dev/null >"$room/said" 2>&1 || {
+(cd "$root/crates/bench_json" && rt run -- "$root/examples/cable-600.json") </dev/null >"$room/said" 2>&1 || {
     cat "$room/said" >&2
     fail "the floor isn't built"
 }
-floor=$root/crates/json_floor/out/json_floor
+floor=$root/crates/bench_json/out/bench_json
 
 # Runs a command three times, and keeps the least seconds, with their memory.
 least() {

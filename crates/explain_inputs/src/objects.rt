@@ -3,13 +3,13 @@
 use crate::entries::Entry;
 use crate::report::{Report, Subject};
 use crate::values::{is_of_type, number_of, quote_value, values_of, write_type};
-use explain_notes::{Nearest, quote};
-use imkl_model::{ClassModel, ClassNo, ElementType, FeatureInfo, FeatureNo, Role};
-use imkl_population::{MAX_ID_LENGTH, PopulationFault};
-use model_names::{
+use explain_names::{
     belongs, class_name, feature_info, feature_named, is_abstract, is_class_below, offer_classes,
     offer_features,
 };
+use explain_notes::{Nearest, quote};
+use imkl_model::{ClassModel, ClassNo, ElementType, FeatureInfo, FeatureNo, Role};
+use imkl_population::{MAX_ID_LENGTH, PopulationFault};
 use serde_json::Value;
 use std::alloc::{AllocError, Global};
 use std::collections::BTreeMap;

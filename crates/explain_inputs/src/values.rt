@@ -1,8 +1,8 @@
 //! The values of a feature as they are written, and the notes on them.
 
+use explain_names::{class_name, enumeration_name, is_literal, literal_count, literal_name};
 use explain_notes::quote;
 use imkl_model::{ClassModel, ElementType, EnumNo};
-use model_names::{class_name, enumeration_name, is_literal, literal_count, literal_name};
 use serde_json::Value;
 use std::alloc::{AllocError, Global};
 use std::slice;

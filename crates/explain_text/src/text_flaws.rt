@@ -455,6 +455,19 @@ pub fn length_of_token(alloc: Global, bytes: &[u8], offset: usize) -> Result<usi
     }
 }
 
+/// Writes that a code file is no rule text.
+fn explain_code_file(out: &mut String, path: &str, flaw: TextFlaw) -> Result<(), AllocError> {
+    let number = flaw.number();
+    writeln!(
+        out,
+        "{path}: this is a code file, and no rule text (text {number})"
+    )?;
+    writeln!(
+        out,
+        "  it is judged without `--text`, and `ocl_explain list` shows what is in it; `why` takes rule texts alone"
+    )
+}
+
 /// Writes why a rule text is refused that has this flaw at an offset.
 pub fn explain_text_flaw(
     alloc: Global,
@@ -463,6 +476,9 @@ pub fn explain_text_flaw(
     flaw: TextFlaw,
     offset: usize,
 ) -> Result<(), AllocError> {
+    if input.bytes.starts_with(b"OCLB\x00") {
+        return explain_code_file(out, input.path, flaw);
+    }
     let Ok(text) = str::from_utf8(input.bytes) else {
         return explain_bytes(alloc, out, input, false, flaw, offset);
     };

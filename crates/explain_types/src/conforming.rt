@@ -1,8 +1,9 @@
 //! Which type conforms to which, and of which types operators and operations take values.
 
 use crate::operations::{Argument, operation_on};
+use explain_names::is_class_below;
 use imkl_model::ClassModel;
-use model_names::is_class_below;
+use ocl_core::BasicType;
 use ocl_kinds::{Kind, ScalarKind, common_kind, elements_kind, is_same_collection};
 use ocl_text::BinaryOperator;
 
@@ -79,9 +80,14 @@ fn can_be_compared(left: &Kind, right: &Kind) -> bool {
     }
 }
 
+/// Whether a type is a basic one, or that of null.
+fn is_basic(wanted: BasicType, kind: &Kind) -> bool {
+    *kind == Kind::Scalar(wanted.kind()) || *kind == Kind::Scalar(ScalarKind::Void)
+}
+
 /// Whether a type is that of an Integer, or of null.
 pub(crate) fn is_integer(kind: &Kind) -> bool {
-    matches!(kind, Kind::Scalar(ScalarKind::Integer | ScalarKind::Void))
+    is_basic(BasicType::Integer, kind)
 }
 
 /// Whether an operator that isn't of Booleans takes operands of two types.
@@ -96,7 +102,7 @@ pub(crate) fn are_taken(operator: BinaryOperator, left: &Kind, right: &Kind) -> 
 fn fits_argument(argument: Argument, on: &Kind, kind: &Kind) -> bool {
     let element = elements_kind(on);
     match argument {
-        Argument::Integer => is_integer(kind),
+        Argument::Of(wanted) => is_basic(wanted, kind),
         Argument::Element => match kind {
             Kind::Scalar(other) => common_kind(&element, other).is_some(),
             Kind::Collection(_, _) => false,
@@ -112,8 +118,8 @@ fn fits_argument(argument: Argument, on: &Kind, kind: &Kind) -> bool {
 /// Whether an operation on values of a type takes an argument of another one; what isn't an argument of it counts as taken.
 pub(crate) fn is_taken(name: &str, on: &Kind, index: usize, kind: &Kind) -> bool {
     match operation_on(name, on) {
-        Some(operation) => match operation.arguments.get(index) {
-            Some(argument) => fits_argument(*argument, on, kind),
+        Some(operation) => match operation.argument(index) {
+            Some(argument) => fits_argument(argument, on, kind),
             None => true,
         },
         None => true,

@@ -2,8 +2,8 @@
 //! decide: comparisons of values of types that have nothing in common, and tests of classes.
 
 use crate::conforming::{have_something_in_common, is_arithmetic, is_below};
+use explain_names::{is_abstract, is_class_below};
 use imkl_model::{ClassModel, ClassNo};
-use model_names::{is_abstract, is_class_below};
 use ocl_kinds::{Kind, ScalarKind};
 use ocl_text::{BinaryOperator, IteratorKind};
 

@@ -1,14 +1,14 @@
 //! What may have been meant by a name that isn't there: a feature of a class below, a feature for an operation, an operation
 //! for a feature, or what other OCL has.
 
-use crate::operations::{operation_on, operations};
+use crate::operations::{operation_at, operation_count, operation_on};
 use crate::reading::{Reading, called_on};
 use crate::scope::{Scope, kind_of_feature};
 use crate::type_names::type_name;
 use crate::writing::{Words, list, write_quoted};
+use explain_names::{class_name, is_class_below};
 use explain_text::{instead_of_name, instead_on_collection, instead_on_value, is_iteration};
 use imkl_model::{ClassModel, ClassNo};
-use model_names::{class_name, is_class_below};
 use ocl_kinds::{Kind, ScalarKind, elements_kind};
 use ocl_text::Navigation;
 use std::alloc::{AllocError, Global};
@@ -173,10 +173,13 @@ pub(crate) fn write_feature_advice(
 fn write_operations(help: &mut String, on: &Kind) -> Result<(), AllocError> {
     help.push_str("its operations are ")?;
     let mut is_first = true;
-    for operation in operations() {
-        if operation.is_on(on) {
-            list(help, is_first, operation.name)?;
-            is_first = false;
+    for index in 0..operation_count() {
+        match operation_at(index) {
+            Some(operation) if operation.is_on(on) => {
+                list(help, is_first, operation.name())?;
+                is_first = false;
+            }
+            _ => {}
         }
     }
     match on {

@@ -167,7 +167,7 @@ impl<'t> Reading<'t> {
 
     /// Whether this is the fault.
     fn is_fault(&self, flaw: TypeFlaw, offset: usize) -> bool {
-        self.offset == offset && self.flaw.number() == flaw.number()
+        self.offset == offset && self.flaw == flaw
     }
 
     /// Stops where this is the fault, with what was found there.

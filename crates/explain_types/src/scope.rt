@@ -1,8 +1,8 @@
 //! The variables that a part of a rule sees.
 
+use explain_names::{feature_info, feature_named, offer_features};
 use explain_notes::Nearest;
 use imkl_model::{ClassModel, ClassNo};
-use model_names::{feature_info, feature_named, offer_features};
 use ocl_kinds::{Kind, ScalarKind, feature_kind};
 use ocl_text::Name;
 use std::alloc::{AllocError, Global};

@@ -1,7 +1,7 @@
 //! Types as OCL writes them.
 
+use explain_names::{class_name, enumeration_name};
 use imkl_model::{ClassModel, CollectionKind};
-use model_names::{class_name, enumeration_name};
 use ocl_kinds::{Kind, ScalarKind};
 use std::fmt;
 

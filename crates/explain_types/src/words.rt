@@ -6,17 +6,18 @@ use crate::meant::{
     write_name_meant, write_no_feature,
 };
 use crate::operands::{no_integer, operands};
-use crate::operations::{Argument, operation_on, operations};
+use crate::operations::{Argument, operation_at, operation_count, operation_on};
 use crate::reading::{Reading, called_on};
 use crate::type_names::{a_type, type_name};
 use crate::writing::{Words, list, suggest, write_quoted};
-use explain_notes::{Nearest, quote};
-use explain_text::instead_of_type;
-use imkl_model::{ClassModel, ClassNo, EnumNo};
-use model_names::{
+use explain_names::{
     class_name, enumeration_name, literal_count, literal_name, offer_classes, offer_enumerations,
     offer_features, offer_literals,
 };
+use explain_notes::{Nearest, quote};
+use explain_text::instead_of_type;
+use imkl_model::{ClassModel, ClassNo, EnumNo};
+use ocl_core::BasicType;
 use ocl_kinds::{Kind, ScalarKind, elements_kind};
 use ocl_text::Navigation;
 use std::alloc::{AllocError, Global};
@@ -119,7 +120,7 @@ fn branches(
 /// The number of arguments that an operation on values of a type takes.
 fn arguments_wanted(name: &str, on: &Kind) -> usize {
     match operation_on(name, on) {
-        Some(operation) => operation.arguments.len(),
+        Some(operation) => operation.argument_count(),
         None => 0,
     }
 }
@@ -153,7 +154,9 @@ fn write_argument(
 ) -> Result<(), AllocError> {
     let element = type_name(model, &Kind::Scalar(elements_kind(on)));
     match argument {
-        Argument::Integer => message.push_str("an Integer"),
+        Argument::Of(BasicType::Boolean) => message.push_str("a Boolean"),
+        Argument::Of(BasicType::Integer) => message.push_str("an Integer"),
+        Argument::Of(BasicType::String) => message.push_str("a String"),
         Argument::Class => message.push_str("the name of a class"),
         Argument::Element => {
             write!(
@@ -184,14 +187,14 @@ fn argument(
     };
     let given = a_type(model, given);
     let which = match index {
-        0 if operation.arguments.len() == 1 => "the argument",
+        0 if operation.argument_count() == 1 => "the argument",
         0 => "the first argument",
         _ => "the second argument",
     };
     write!(&mut words.label, "{which} is {given}")?;
     write!(&mut words.message, "`{name}` takes ")?;
-    match operation.arguments.get(index) {
-        Some(argument) => write_argument(&mut words.message, model, *argument, on),
+    match operation.argument(index) {
+        Some(argument) => write_argument(&mut words.message, model, argument, on),
         None => Ok(()),
     }
 }
@@ -406,9 +409,10 @@ fn unknown_operation<'t>(
 ) -> Result<(), AllocError> {
     let on = called_on(navigation, left);
     let mut nearest = Nearest::to(name);
-    for operation in operations() {
-        if operation.is_on(&on) {
-            nearest.offer(alloc, operation.name)?;
+    for index in 0..operation_count() {
+        match operation_at(index) {
+            Some(operation) if operation.is_on(&on) => nearest.offer(alloc, operation.name())?,
+            _ => {}
         }
     }
     if instead_on(&on, name).is_empty() {

@@ -2,16 +2,16 @@
 #![tactic(auto)]
 
 mod command_line;
-mod opening;
+mod lazy_input;
 
 use clap::error::{Error, ErrorKind};
 use command_line::read_words;
+use lazy_input::LazyInput;
 use ocl_check::{
-    CommandFault, Counting, JudgeOptions, Outcome, Telling, run_bound, run_compile, run_desk,
+    CommandFault, CountedReader, JudgeOptions, Outcome, Telling, run_bound, run_compile, run_desk,
     run_judge, run_verify,
 };
-use ocl_programs::{CompileFiles, Creating, DeskFiles, Request, RuleFiles, VerifyFiles};
-use opening::Opening;
+use ocl_programs::{CompileFiles, DeskFiles, LazyOutput, Request, RuleFiles, VerifyFiles};
 use std::process::ExitCode;
 use std::{env, io};
 
@@ -39,9 +39,9 @@ fn judge(rt: &HostRuntime, files: RuleFiles<'_>, options: JudgeOptions) -> Outco
     run_judge(
         rt.alloc(),
         options,
-        &mut Counting::new(Opening::new(rt, files.model)),
-        &mut Counting::new(Opening::new(rt, files.delivery)),
-        &mut Counting::new(Opening::new(rt, files.rules)),
+        &mut CountedReader::new(LazyInput::new(rt, files.model)),
+        &mut CountedReader::new(LazyInput::new(rt, files.delivery)),
+        &mut CountedReader::new(LazyInput::new(rt, files.rules)),
         &mut Telling::new(io::writer(rt)),
     )
 }
@@ -49,9 +49,9 @@ fn judge(rt: &HostRuntime, files: RuleFiles<'_>, options: JudgeOptions) -> Outco
 fn compile(rt: &HostRuntime, files: CompileFiles<'_>) -> Outcome {
     run_compile(
         rt.alloc(),
-        &mut Counting::new(Opening::new(rt, files.model)),
-        &mut Counting::new(Opening::new(rt, files.rules)),
-        &mut Telling::new(Creating::new(rt, files.out)),
+        &mut CountedReader::new(LazyInput::new(rt, files.model)),
+        &mut CountedReader::new(LazyInput::new(rt, files.rules)),
+        &mut Telling::new(LazyOutput::new(rt, files.out)),
         &mut Telling::new(io::writer(rt)),
     )
 }
@@ -59,9 +59,9 @@ fn compile(rt: &HostRuntime, files: CompileFiles<'_>) -> Outcome {
 fn bound(rt: &HostRuntime, files: RuleFiles<'_>) -> Outcome {
     run_bound(
         rt.alloc(),
-        &mut Counting::new(Opening::new(rt, files.model)),
-        &mut Counting::new(Opening::new(rt, files.delivery)),
-        &mut Counting::new(Opening::new(rt, files.rules)),
+        &mut CountedReader::new(LazyInput::new(rt, files.model)),
+        &mut CountedReader::new(LazyInput::new(rt, files.delivery)),
+        &mut CountedReader::new(LazyInput::new(rt, files.rules)),
         &mut Telling::new(io::writer(rt)),
     )
 }
@@ -69,8 +69,8 @@ fn bound(rt: &HostRuntime, files: RuleFiles<'_>) -> Outcome {
 fn verify(rt: &HostRuntime, files: VerifyFiles<'_>) -> Outcome {
     run_verify(
         rt.alloc(),
-        &mut Counting::new(Opening::new(rt, files.model)),
-        &mut Counting::new(Opening::new(rt, files.code)),
+        &mut CountedReader::new(LazyInput::new(rt, files.model)),
+        &mut CountedReader::new(LazyInput::new(rt, files.code)),
         &mut Telling::new(io::writer(rt)),
     )
 }
@@ -78,10 +78,10 @@ fn verify(rt: &HostRuntime, files: VerifyFiles<'_>) -> Outcome {
 fn desk(rt: &HostRuntime, files: DeskFiles<'_>) -> Outcome {
     run_desk(
         rt.alloc(),
-        &mut Counting::new(Opening::new(rt, files.rules.model)),
-        &mut Counting::new(Opening::new(rt, files.rules.delivery)),
-        &mut Counting::new(Opening::new(rt, files.rules.rules)),
-        &mut Counting::new(Opening::new(rt, files.script)),
+        &mut CountedReader::new(LazyInput::new(rt, files.rules.model)),
+        &mut CountedReader::new(LazyInput::new(rt, files.rules.delivery)),
+        &mut CountedReader::new(LazyInput::new(rt, files.rules.rules)),
+        &mut CountedReader::new(LazyInput::new(rt, files.script)),
         &mut Telling::new(io::writer(rt)),
     )
 }

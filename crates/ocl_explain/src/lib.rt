@@ -9,7 +9,7 @@ mod faults;
 mod findings;
 mod given;
 mod json;
-mod keeping;
+mod last_error;
 mod listing;
 mod refusals;
 mod texts;
@@ -24,7 +24,7 @@ pub use answers::{answer_bound, answer_compile, answer_desk, answer_judge, answe
 pub use explaining::{Ending, Listener, Words};
 pub use findings::{RuleAsked, answer_judge_why, answer_why_rule};
 pub use json::answer_judge_json;
-pub use keeping::Keeping;
+pub use last_error::WithLastError;
 pub use listing::list_code;
 pub use weaving::Shown;
 pub use whys::{WhyAsked, answer_why};

@@ -1,8 +1,8 @@
 //! Inputs that are read whole before any is looked at, outputs, and why one fails.
 
 use explain_notes::Input;
-use ocl_check::{CommandFault, Counting, InputFault, MAX_INPUT, read_input};
-use ocl_explain::Keeping;
+use ocl_check::{CommandFault, CountedReader, InputFault, MAX_INPUT, read_input};
+use ocl_explain::WithLastError;
 use ocl_programs::STANDARD_INPUT;
 use std::fs;
 use std::io::{Error, ErrorKind, Read};
@@ -44,7 +44,7 @@ fn read_whole<'a, R: Read + Drop>(
     path: &'a str,
     reader: R,
 ) -> Result<Bytes<'a>, CommandFault> {
-    let mut source = Counting::new(Keeping::new(reader));
+    let mut source = CountedReader::new(WithLastError::new(reader));
     match read_input(rt.alloc(), &mut source, MAX_INPUT) {
         Ok(bytes) => Ok(Bytes { path, bytes }),
         Err(InputFault::OutOfMemory) => Err(CommandFault::OutOfMemory),

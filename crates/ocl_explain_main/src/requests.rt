@@ -5,10 +5,10 @@ use crate::files::{read_file, report_write};
 use explain_notes::Input;
 use ocl_check::{CommandFault, JudgeOptions, Outcome, Telling};
 use ocl_explain::{
-    Ending, Keeping, Listener, Words, answer_bound, answer_compile, answer_desk, answer_judge,
-    answer_judge_json, answer_judge_why, answer_verify, list_code,
+    Ending, Listener, WithLastError, Words, answer_bound, answer_compile, answer_desk,
+    answer_judge, answer_judge_json, answer_judge_why, answer_verify, list_code,
 };
-use ocl_programs::{CompileFiles, Creating, DeskFiles, Request, RuleFiles, VerifyFiles};
+use ocl_programs::{CompileFiles, DeskFiles, LazyOutput, Request, RuleFiles, VerifyFiles};
 use std::io;
 
 /// Says on standard error why an input was refused, or what is hardly meant.
@@ -54,7 +54,7 @@ fn print_report<'i>(
     delivery: Input<'i>,
     rules: Input<'i>,
 ) -> Outcome {
-    let mut sink = Telling::new(Keeping::new(io::writer(rt)));
+    let mut sink = Telling::new(WithLastError::new(io::writer(rt)));
     let (alloc, listener, options) = (rt.alloc(), &StandardError { rt }, judging.options);
     let ending = match judging.form {
         ReportForm::Plain => {
@@ -91,7 +91,7 @@ fn bound_inputs<'i>(
     delivery: Input<'i>,
     code: Input<'i>,
 ) -> Outcome {
-    let mut sink = Telling::new(Keeping::new(io::writer(rt)));
+    let mut sink = Telling::new(WithLastError::new(io::writer(rt)));
     let ending = answer_bound(rt.alloc(), model, delivery, code, &mut sink);
     report_write(rt, "standard output", sink.into_inner().error());
     end(rt, ending)
@@ -111,7 +111,7 @@ fn desk_inputs<'i>(
     code: Input<'i>,
     script: Input<'i>,
 ) -> Outcome {
-    let mut sink = Telling::new(Keeping::new(io::writer(rt)));
+    let mut sink = Telling::new(WithLastError::new(io::writer(rt)));
     let ending = answer_desk(rt.alloc(), model, delivery, code, script, &mut sink);
     report_write(rt, "standard output", sink.into_inner().error());
     end(rt, ending)
@@ -132,7 +132,7 @@ fn desk(rt: &HostRuntime, files: DeskFiles<'_>) -> Result<Outcome, CommandFault>
 }
 
 fn verify_inputs(rt: &HostRuntime, model: Input<'_>, code: Input<'_>) -> Outcome {
-    let mut sink = Telling::new(Keeping::new(io::writer(rt)));
+    let mut sink = Telling::new(WithLastError::new(io::writer(rt)));
     let ending = answer_verify(rt.alloc(), model, code, &mut sink);
     report_write(rt, "standard output", sink.into_inner().error());
     end(rt, ending)
@@ -145,8 +145,8 @@ fn verify(rt: &HostRuntime, files: VerifyFiles<'_>) -> Result<Outcome, CommandFa
 }
 
 fn compile_inputs(rt: &HostRuntime, path: &str, model: Input<'_>, rules: Input<'_>) -> Outcome {
-    let mut out = Telling::new(Keeping::new(Creating::new(rt, path)));
-    let mut sink = Telling::new(Keeping::new(io::writer(rt)));
+    let mut out = Telling::new(WithLastError::new(LazyOutput::new(rt, path)));
+    let mut sink = Telling::new(WithLastError::new(io::writer(rt)));
     let ending = answer_compile(rt.alloc(), model, rules, &mut out, &mut sink);
     report_write(rt, path, out.into_inner().error());
     report_write(rt, "standard output", sink.into_inner().error());
@@ -177,7 +177,7 @@ pub fn answer(rt: &HostRuntime, request: Request<'_>, form: ReportForm) -> Outco
 
 /// Lists a code file that was read, with a class model if there is one, and says why something is refused, if it is.
 fn list_inputs(rt: &HostRuntime, code: Input<'_>, model: Option<Input<'_>>) -> Outcome {
-    let mut sink = Telling::new(Keeping::new(io::writer(rt)));
+    let mut sink = Telling::new(WithLastError::new(io::writer(rt)));
     let ending = list_code(rt.alloc(), code, model, &mut sink);
     report_write(rt, "standard output", sink.into_inner().error());
     end(rt, ending)

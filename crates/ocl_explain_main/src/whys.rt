@@ -5,12 +5,12 @@ use crate::files::{read_file, report_write};
 use crate::requests::end;
 use explain_notes::Input;
 use ocl_check::{CommandFault, Outcome, Telling};
-use ocl_explain::{Keeping, RuleAsked, WhyAsked, answer_why, answer_why_rule};
+use ocl_explain::{RuleAsked, WhyAsked, WithLastError, answer_why, answer_why_rule};
 use std::io;
 
 /// Explains a verdict over inputs that were read.
 fn explain_object(rt: &HostRuntime, asked: WhyAsked<'_>) -> Outcome {
-    let mut sink = Telling::new(Keeping::new(io::writer(rt)));
+    let mut sink = Telling::new(WithLastError::new(io::writer(rt)));
     let ending = answer_why(rt.alloc(), asked, &mut sink);
     report_write(rt, "standard output", sink.into_inner().error());
     end(rt, ending)
@@ -18,7 +18,7 @@ fn explain_object(rt: &HostRuntime, asked: WhyAsked<'_>) -> Outcome {
 
 /// Explains the findings of a rule over inputs that were read.
 fn explain_rule(rt: &HostRuntime, asked: RuleAsked<'_>) -> Outcome {
-    let mut sink = Telling::new(Keeping::new(io::writer(rt)));
+    let mut sink = Telling::new(WithLastError::new(io::writer(rt)));
     let ending = answer_why_rule(rt.alloc(), asked, &mut sink);
     report_write(rt, "standard output", sink.into_inner().error());
     end(rt, ending)

@@ -3,12 +3,12 @@
 #![tactic(auto)]
 
 mod commands;
-mod creating;
 mod help;
+mod lazy_output;
 
 pub use commands::{
     CompileFiles, DeskFiles, Request, RuleFiles, STANDARD_INPUT, VerifyFiles, bound, compile, desk,
     judge, request_of, verify, word,
 };
-pub use creating::Creating;
 pub use help::VERSION;
+pub use lazy_output::LazyOutput;

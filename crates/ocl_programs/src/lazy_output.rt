@@ -7,16 +7,16 @@ use std::{fs, io};
 /// A file that is created, or emptied, at its first write, so that it is untouched where nothing is written. A file
 /// that can't be created is a failed write.
 #[derive(Drop)]
-pub struct Creating<'a> {
+pub struct LazyOutput<'a> {
     rt: &'a HostRuntime,
     path: &'a str,
     file: Option<File>,
 }
 
-impl<'a> Creating<'a> {
+impl<'a> LazyOutput<'a> {
     /// The file of this path, not created yet.
-    pub fn new(rt: &'a HostRuntime, path: &'a str) -> Creating<'a> {
-        Creating {
+    pub fn new(rt: &'a HostRuntime, path: &'a str) -> LazyOutput<'a> {
+        LazyOutput {
             rt,
             path,
             file: None,
@@ -24,7 +24,7 @@ impl<'a> Creating<'a> {
     }
 }
 
-impl Write for Creating<'_> {
+impl Write for LazyOutput<'_> {
     fn write(&mut self, bytes: &[u8]) -> io::Result<usize> {
         if let Some(file) = &mut self.file {
             return file.write(bytes);

@@ -9,12 +9,12 @@ use std::marker::Model;
 /// A reader or a writer that keeps the last error that it returned. Contracts see the inner one, and whether an error is
 /// kept. It reads what the inner one reads, and writes what that writes.
 #[derive(Drop)]
-pub struct Keeping<T> {
+pub struct WithLastError<T> {
     inner: T,
     error: Option<Error>,
 }
 
-impl<T> Model for Keeping<T> {
+impl<T> Model for WithLastError<T> {
     ghost use Rattle.std.specs.Prelude.{Bool, is_some};
 
     ghost Value = { T × Bool };
@@ -22,12 +22,12 @@ impl<T> Model for Keeping<T> {
     ghost view = { λ k. (k.inner, is_some k.error) };
 }
 
-impl<T> Keeping<T> {
+impl<T> WithLastError<T> {
     /// A reader or a writer that has returned no error yet.
-    pub fn new(inner: T) -> Keeping<T>
+    pub fn new(inner: T) -> WithLastError<T>
         ensures { result ≡ (inner, false) }
     {
-        Keeping { inner, error: None }
+        WithLastError { inner, error: None }
     }
 
     /// The last error that it returned, if there was one.
@@ -38,7 +38,7 @@ impl<T> Keeping<T> {
     }
 }
 
-impl<T: Read> Read for Keeping<T> {
+impl<T: Read> Read for WithLastError<T> {
     ghost remaining = { λ k. T.remaining k.0 };
 
     fn read(&mut self, piece: &mut [u8]) -> io::Result<usize> {
@@ -52,7 +52,7 @@ impl<T: Read> Read for Keeping<T> {
     }
 }
 
-impl<T: Write> Write for Keeping<T> {
+impl<T: Write> Write for WithLastError<T> {
     ghost contents = { λ k. T.contents k.0 };
 
     fn write(&mut self, bytes: &[u8]) -> io::Result<usize> {

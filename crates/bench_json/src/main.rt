@@ -1,4 +1,4 @@
-//! The program `json_floor`: makes the tree of a JSON file, as reading a delivery does, and drops it. What that takes
+//! The program `bench_json`: makes the tree of a JSON file, as reading a delivery does, and drops it. What that takes
 //! is the least that judging the file takes.
 #![tactic(auto)]
 

@@ -9,16 +9,16 @@ use std::{fs, io};
 /// writer that feeds several pipes in turn is not kept waiting. A file that can't be opened is a failed read. Standard
 /// input, which is open already, is read as it is.
 #[derive(Drop)]
-pub struct Opening<'a> {
+pub struct LazyInput<'a> {
     rt: &'a HostRuntime,
     path: &'a str,
     file: Option<File>,
 }
 
-impl<'a> Opening<'a> {
+impl<'a> LazyInput<'a> {
     /// The file of this path, not opened yet.
-    pub fn new(rt: &'a HostRuntime, path: &'a str) -> Opening<'a> {
-        Opening {
+    pub fn new(rt: &'a HostRuntime, path: &'a str) -> LazyInput<'a> {
+        LazyInput {
             rt,
             path,
             file: None,
@@ -26,7 +26,7 @@ impl<'a> Opening<'a> {
     }
 }
 
-impl Read for Opening<'_> {
+impl Read for LazyInput<'_> {
     fn read(&mut self, piece: &mut [u8]) -> io::Result<usize> {
         if self.path == STANDARD_INPUT {
             return self.rt.stdin().read(piece);
