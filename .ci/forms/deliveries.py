@@ -221,9 +221,9 @@ def value_of(room, _, population, read, value):
 
     def found(answer):
         lines = [it.strip() for it in answer.out.decode().splitlines()]
-        return next((it for it in lines if it.startswith(f"{expression} = ")), answer.out)
+        return next((it for it in lines if it.startswith(f"{expression} is ")), answer.out)
 
-    return case.Case(["ocl_explain", "why", "model.json", "delivery.json", "r.rules", "r", id], f"{expression} = {value}", found)
+    return case.Case(["ocl_explain", "why", "model.json", "delivery.json", "r.rules", "r", id], f"{expression} is {value}", found)
 
 
 def size(room, _, population, what, number):

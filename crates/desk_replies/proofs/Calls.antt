@@ -1,5 +1,6 @@
 -- What a call of a desk did, as an event of its world.
 use Rattle.std.proofs.Common.{◌≡◌, ℕ, List, ◌++◌, Option, Some, None, Result, Ok, Err, OnOk, refl, sym, ap, ◌∙◌, subst}
+use Rattle.std.proofs.lemmas.Result.{on_ok_weaker}
 use Rattle.rule_desk.specs.declared.job.JobReply.{JobReply}
 use Rattle.rule_desk.specs.declared.job.JobReply.TheVariants.{Paused, Over}
 use Rattle.rule_desk.specs.declared.fault.DeskFault.{DeskFault}
@@ -43,11 +44,6 @@ granted law old new k n r h other =
       subst (λ (o : Own). grant_answer r (job_at new k) ≡ says o (job_at old k)) is e.2.answered,
     )
 
--- what follows where a call succeeded
-pub on_ok : {X E A B : Type 0} (r : Result X E) → (A → B) → OnOk r A → OnOk r B
-on_ok (Ok x) f h = f h
-on_ok (Err e) f h = tt
-
 -- a grant's line is appended
 pub grant_replied : (old new : Jobs) (k n : ℕ) (r : Result JobReply DeskFault) (before after line : List ℕ)
     → (new ≡ next (To k (Given n)) old) × (grant_answer r (job_at new k) ≡ answer (To k (Given n)) old)
@@ -69,4 +65,4 @@ no_lines d k e before after line none fault said appended = λ a p. record {
 pub as_any : {X E : Type 0} (r : Result X E) (a : Admission) (p : Population) (c made : Call) (old new : Jobs) (before after : List ℕ) → c ≡ made
     → OnOk r (IsRepliedAnyway made old new before after) → OnOk r (IsReplied a p c old new before after)
 as_any r a p c made old new before after is h =
-    on_ok r (λ (f : IsRepliedAnyway made old new before after). subst (λ (x : Call). IsReplied a p x old new before after) (sym is) (f a p)) h
+    on_ok_weaker r (λ (f : IsRepliedAnyway made old new before after). subst (λ (x : Call). IsReplied a p x old new before after) (sym is) (f a p)) h

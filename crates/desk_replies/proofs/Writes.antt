@@ -1,31 +1,23 @@
 -- Replies that are written as they are told.
-use Rattle.std.proofs.Common.{◌≡◌, ℕ, ◌+◌, ◌<◌, ◌≤◌, min, List, [], ◌∷◌, ◌++◌, length, take, drop, get_or, Option, Result, Ok, Err, OnErr, sym, ap, ◌∙◌, subst, arith, append_assoc}
+use Rattle.std.proofs.Common.{◌≡◌, ℕ, ◌+◌, ◌<◌, ◌≤◌, min, List, ◌∷◌, ◌++◌, length, take, drop, get_or, Option, sym, ap, ◌∙◌, subst, arith, append_assoc}
 use Rattle.std.specs.Io.KnownBytes.{Appends}
 use Rattle.std.proofs.KnownBytes.{Appends-nil, Appends-trans}
 use Rattle.std.proofs.lemmas.List.{take-append-le, take_min, append-nil, at_drop_more, at_drop_all}
 use Rattle.std.proofs.Math.Seq.{take-append-add}
 use Rattle.imkl_population.specs.Population.{Population}
 use Rattle.rule_cost.specs.Admission.{Admission}
-use Rattle.rule_report.specs.Sink.{WritesPrefix}
+use Rattle.rule_report.specs.Sink.{WritesPrefix, IsWrittenSoFar}
 use Rattle.rule_desk.specs.World.{Jobs}
 use Rattle.desk_script.specs.declared.call.Call.{Call}
 use Rattle.desk_script.specs.declared.call.Call.TheVariants.{Enter}
 use Rattle.desk_replies.specs.Replies.{event_of, next_jobs, reply_to, replies_from, script_replies}
-use Rattle.desk_replies.specs.Told.{IsReplied, IsToldSoFar}
+use Rattle.desk_replies.specs.Told.{IsReplied}
 
 -- what is told and what is still to be replied is all that is replied to a script
 pub record IsAt (a : Admission) (p : Population) (calls : List Call) (i : ℕ) (d : Jobs) (old now : Option (List ℕ)) (waiting : List ℕ) : Type 0 where
   pub told : List ℕ
-  pub written : IsToldSoFar old now waiting told
+  pub written : IsWrittenSoFar old now waiting told
   pub whole : told ++ replies_from a p (drop i calls) d ≡ script_replies a p calls
-
--- nothing is told yet
-pub at_first : (a : Admission) (p : Population) (calls : List Call) (d : Jobs) (o : Option (List ℕ)) (waiting : List ℕ) → d ≡ [] → waiting ≡ [] → IsAt a p calls 0 d o o waiting
-at_first a p calls d o waiting none empty = record {
-  told = [];
-  written = ([], Appends-nil o, empty);
-  whole = ap (replies_from a p calls) none;
-}
 
 -- what is replied next
 next_reply : (a : Admission) (p : Population) (calls : List Call) (i : ℕ) (call : Call) (d : Jobs) → i < length calls → call ≡ get_or calls i Enter
@@ -34,7 +26,7 @@ next_reply a p calls i call d lt is =
     at_drop_more (λ (cs : List Call). replies_from a p cs d) calls i Enter lt ∙ ap (λ (c : Call). replies_from a p (c ∷ drop (i + 1) calls) d) (sym is)
 
 -- what was written is a prefix of all, also where a write took only some of what waited
-prefix_of : (old mid new : Option (List ℕ)) (waiting told rest all : List ℕ) → IsToldSoFar old mid waiting told → told ++ rest ≡ all → WritesPrefix mid new waiting → WritesPrefix old new all
+prefix_of : (old mid new : Option (List ℕ)) (waiting told rest all : List ℕ) → IsWrittenSoFar old mid waiting told → told ++ rest ≡ all → WritesPrefix mid new waiting → WritesPrefix old new all
 prefix_of old mid new waiting told rest all so is some =
     let k = min some.0 (length waiting) in
     let whole : all ≡ so.0 ++ (waiting ++ rest) = sym is ∙ ap (λ (x : List ℕ). x ++ rest) (sym so.2) ∙ append_assoc so.0 waiting rest in
@@ -45,7 +37,7 @@ prefix_of old mid new waiting told rest all so is some =
 
 module _ (a : Admission) (p : Population) (calls : List Call) (i : ℕ) (call : Call) (d e : Jobs) (old mid : Option (List ℕ)) (waiting more : List ℕ) (lt : i < length calls) (is : call ≡ get_or calls i Enter) (at : IsAt a p calls i d old mid waiting) (replied : IsReplied a p call d e waiting more) where
   -- the next reply waits with what waited
-  abbrev waits : IsToldSoFar old mid more (at.told ++ reply_to a p call d)
+  abbrev waits : IsWrittenSoFar old mid more (at.told ++ reply_to a p call d)
   waits = (
     at.written.0,
     at.written.1,
@@ -60,7 +52,7 @@ module _ (a : Admission) (p : Population) (calls : List Call) (i : ℕ) (call : 
       ∙ ap (λ (x : List ℕ). at.told ++ x) (sym (next_reply a p calls i call d lt is)) ∙ at.whole
 
   -- one call more, and some of what waits is written
-  pub at_next : (new : Option (List ℕ)) (still : List ℕ) → IsToldSoFar mid new still more → IsAt a p calls (i + 1) e old new still
+  pub at_next : (new : Option (List ℕ)) (still : List ℕ) → IsWrittenSoFar mid new still more → IsAt a p calls (i + 1) e old new still
   at_next new still on = record {
     told = at.told ++ reply_to a p call d;
     written = (at.written.0 ++ on.0, Appends-trans old mid new at.written.0 on.0 at.written.1 on.1, append_assoc at.written.0 on.0 still ∙ ap (λ (x : List ℕ). at.written.0 ++ x) on.2 ∙ waits.2);
@@ -86,8 +78,3 @@ pub at_last : (a : Admission) (p : Population) (calls : List Call) (i : ℕ) (d 
 at_last a p calls i d old mid new waiting end at now =
     let all : at.told ≡ script_replies a p calls = sym (append-nil at.told) ∙ ap (λ (x : List ℕ). at.told ++ x) (sym (at_drop_all (λ (cs : List Call). replies_from a p cs d) calls i end)) ∙ at.whole in
     subst (λ (x : List ℕ). Appends old new x) (at.written.2 ∙ all) (Appends-trans old mid new at.written.0 waiting at.written.1 now)
-
--- what holds anyway holds where an error is answered
-pub on_err : {X E : Type 0} (r : Result X E) (A : Type 0) → A → OnErr r A
-on_err (Ok x) A h = tt
-on_err (Err e) A h = h

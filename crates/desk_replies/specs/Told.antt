@@ -1,6 +1,5 @@
 -- What private contracts say of replies that are told one after another.
-use Rattle.std.specs.Prelude.{◌≡◌, ℕ, List, ◌++◌, Option}
-use Rattle.std.specs.Io.KnownBytes.{Appends}
+use Rattle.std.specs.Prelude.{◌≡◌, ℕ, List, ◌++◌}
 use Rattle.imkl_population.specs.Population.{Population}
 use Rattle.rule_cost.specs.Admission.{Admission}
 use Rattle.rule_desk.specs.World.{Jobs}
@@ -15,7 +14,3 @@ pub record IsReplied (a : Admission) (p : Population) (c : Call) (old new : Jobs
 -- the same of a call that enters no job, whatever a job would be
 abbrev pub IsRepliedAnyway : Call → Jobs → Jobs → List ℕ → List ℕ → Type 0
 IsRepliedAnyway c old new before after = (a : Admission) (p : Population) → IsReplied a p c old new before after
-
--- the sink took some bytes, and with the text that waits they are all of it
-abbrev pub IsToldSoFar : Option (List ℕ) → Option (List ℕ) → List ℕ → List ℕ → Type 0
-IsToldSoFar old new waiting all = (bytes : List ℕ) × Appends old new bytes × (bytes ++ waiting ≡ all)

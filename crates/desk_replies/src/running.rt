@@ -1,41 +1,20 @@
 //! The calls of a script, one after another.
 
-ghost use Rattle.std.specs.Prelude.{◌≡◌, false, OnOk, OnErr, IfErr, is_err};
+ghost use Rattle.std.specs.Prelude.{◌≡◌, false, OnOk, OnErr, IfErr};
 ghost use Rattle.std.specs.Io.KnownBytes.{Appends};
 ghost use Rattle.rule_cost.specs.Admission.{Fits};
 ghost use Rattle.rule_report.specs.declared.fault.ReportFault.TheVariants as fault;
 ghost use Rattle.rule_report.specs.Sink.{WritesPrefix, IsFlushedOnce};
 ghost use Rattle.rule_report.specs.Writing.{is_write_fault};
 ghost use Rattle.desk_replies.specs.Replies.{script_replies};
-ghost use Rattle.desk_replies.specs.Told.{IsToldSoFar};
 
 use crate::reply::reply;
 use desk_script::Call;
 use imkl_population::Population;
 use rule_cost::Admitted;
 use rule_desk::Desk;
-use rule_report::{ReportFault, Sink, WriteFailed, write_and_flush, write_whole};
+use rule_report::{ReportFault, Sink, write_and_flush, write_piece};
 use std::alloc::Global;
-
-/// Replies are written once there are so many bytes of them.
-const PIECE_BYTES: usize = 8_192;
-
-/// Writes the text, and empties it, once there is enough of it.
-fn write_piece<S: Sink>(sink: &mut S, text: &mut Vec<u8>) -> Result<(), WriteFailed>
-    requires { S.has_failed sink.old ≡ false }
-    ensures ok { OnOk result (IsToldSoFar (S.contents sink.old) (S.contents sink.new)
-        text.new.items text.old.items) }
-    ensures err { OnErr result
-        (WritesPrefix (S.contents sink.old) (S.contents sink.new) text.old.items) }
-    ensures failed { S.has_failed sink.new ≡ is_err result }
-    ensures flushes { S.flushes sink.new ≡ S.flushes sink.old }
-{
-    if text.len() >= PIECE_BYTES {
-        write_whole(sink, text)?;
-        text.clear();
-    }
-    Ok(())
-}
 
 /// Makes the calls of a script on a desk without jobs, each job being the report on a population that fits the admitted
 /// code, writes what is replied, and then flushes the sink once. Where memory runs out or a write fails, the sink took a

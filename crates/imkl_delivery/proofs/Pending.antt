@@ -3,7 +3,7 @@ use Rattle.std.proofs.Common.{◌≡◌, ◌≢◌, ◌∙◌, ◌<◌, ◌≤�
 use Rattle.std.specs.Prelude.{nat_eq}
 use Rattle.std.specs.Ordering.{nat_cmp, match_ordering}
 use Rattle.std.specs.Cmp.Lexicographic.{slice_cmp}
-use Rattle.std.proofs.lemmas.Bool.{false≢true, and_parts, or_parts, eqb-false, eq-eqb}
+use Rattle.std.proofs.lemmas.Bool.{false≢true, and_parts, or_parts, or_right, eqb-false, eq-eqb}
 use Rattle.std.proofs.lemmas.Bool.Decides.{eqb_tells, leb_tells}
 use Rattle.std.proofs.lemmas.List.{get_or-set_same, get_or-set_other, length-set, take_more, take-append-drop}
 use Rattle.std.proofs.lemmas.Cmp.{nat_eq_equiv}
@@ -182,13 +182,9 @@ among_by p n f xs b is lt passes before =
       | inl le ↦
           let same : f ≡ n = omega (arith, le, lt) in
           let here : b ≡ true = sym is ∙ ap p (sym same) ∙ passes in
-          or_last (is_one_of xs f) (is_one_of (if b then n ∷ [] else []) f) (rw here (rw (eq-eqb f n same) refl))
+          or_right (is_one_of xs f) (is_one_of (if b then n ∷ [] else []) f) (rw here (rw (eq-eqb f n same) refl))
       | inr less ↦ rw (before less.1) refl
     ]
-  where
-    or_last : (a c : Bool) → c ≡ true → (a || c) ≡ true
-    or_last true c h = refl
-    or_last false c h = h
 
 -- a number below the bound that passes is among the places
 among_places : (p : ℕ → Bool) (n f : ℕ) → f < n → p f ≡ true → is_one_of (places p n) f ≡ true

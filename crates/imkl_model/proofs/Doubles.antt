@@ -7,7 +7,7 @@ use Rattle.std.proofs.lemmas.Bool.Decides.{eqb_tells, leb_tells, Decides-eqb}
 use Rattle.std.proofs.lemmas.List.{length-map, get_or-map}
 use Rattle.std.proofs.lemmas.Slice.Eq.{bytes_eq-Decides}
 use Rattle.ocl_base.specs.Numbers.{least}
-use Rattle.ocl_base.proofs.ForAbove.{least_passes, least_found, place_of, places_below, places_pass}
+use Rattle.ocl_base.proofs.ForAbove.{same_test, least_passes, least_found, place_of, places_below, places_pass}
 use Rattle.imkl_model.specs.declared.entry.Class.{Class}
 use Rattle.imkl_model.specs.declared.feature.FeatureInfo.{FeatureInfo}
 use Rattle.imkl_model.specs.Chains.{any_below, is_or_reaches}
@@ -201,12 +201,6 @@ double_cases m c f g h apart =
           (joined (is_named m (feature_at m f).name g) _ (belongs m c f) (belongs m c g) ((bytes_eq-Decides (feature_at m f).name (feature_at m g).name).1 h.one_name) (unequal (feature_at m f).owner (feature_at m g).owner differ.1) h.first_belongs h.second_belongs)
     ]
 
--- two truths of which each gives the other
-pub same_truth : (a b : Bool) → (a ≡ true → b ≡ true) → (b ≡ true → a ≡ true) → a ≡ b
-same_truth true b f g = sym (f refl)
-same_truth false true f g = g refl
-same_truth false false f g = refl
-
 -- ---- entries as features of their classes
 
 module _ (m : Model) where
@@ -287,7 +281,7 @@ module _ (m : Model) where
   -- old names clash with names of today just where the walk finds one, if they don't clash with each other
   pub old_names_clash : ((i j : ℕ) → AreOfOneOwner aliases i j → ⊥) → has_clash renamed ≡ false → any_below (shares renamed present) (length aliases) ≡ renames_clash m
   old_names_clash apart none =
-      same_truth (any_below (shares renamed present) (length aliases)) (renames_clash m) shared_entries
+      same_test (any_below (shares renamed present) (length aliases)) (renames_clash m) shared_entries
       (λ e.
       let w = found_taken m e in
       let c = w.0 in

@@ -1,5 +1,6 @@
 -- The features that a class model writes: attributes, then pairs of ends.
 use Rattle.std.proofs.Common.{◌≡◌, ℕ, zero, suc, ◌+◌, ◌<◌, List, [], ◌∷◌, ◌++◌, length, get_or, map, true, false, None, refl, ap, ◌∙◌, subst, arith}
+use Rattle.std.specs.List.{AllByRecursion}
 use Rattle.std.proofs.lemmas.Bool.{false≢true}
 use Rattle.imkl_model.specs.declared.written.WrittenFeature.{WrittenFeature}
 use Rattle.imkl_model.specs.declared.written.WrittenClass.{WrittenClass}
@@ -10,7 +11,7 @@ use Rattle.imkl_model.specs.declared.feature.Role.TheVariants as role
 use Rattle.imkl_model.specs.WrittenFeatures.{written_attribute_of, written_source_end, written_opposite_end, written_attributes, written_ends, written_features}
 use Rattle.imkl_model.specs.Features.{is_end}
 use Rattle.imkl_model.specs.Spelled.{IsSpelledFeature, IsSpelledAttribute, IsSpelledClass, IsSpelledAssociation, IsSpelled}
-use Rattle.ocl_base.proofs.ForAbove.{AllOf, from_all, all_joined, all_mapped}
+use Rattle.ocl_base.proofs.ForAbove.{from_all, all_joined, all_mapped}
 
 abbrev pub no_written : WrittenFeature
 no_written = record { owner = []; name = []; element = []; lower = 0; upper = None; ordered = false; unique = false; role = role.Attribute }
@@ -88,17 +89,17 @@ ends_paired (a ∷ as') n =
     let later : ArePairs rest (suc (suc n)) = subst (ArePairs rest) (omega arith) (ends_paired as' (n + 2)) in
     record { sources = end_sources n a rest later; opposites = end_opposites n a rest later }
 
-joined : (xs : List WrittenFeature) → AllOf (λ d. d.role ≡ role.Attribute) xs → (ys : List WrittenFeature) (b n : ℕ) → n ≡ b + length xs → ArePairs ys n → ArePairs (xs ++ ys) b
+joined : (xs : List WrittenFeature) → AllByRecursion (λ d. d.role ≡ role.Attribute) xs → (ys : List WrittenFeature) (b n : ℕ) → n ≡ b + length xs → ArePairs ys n → ArePairs (xs ++ ys) b
 joined [] h ys b n e pairs = subst (ArePairs ys) (omega (arith, e)) pairs
 joined (x ∷ xs) h ys b n e pairs =
     let later = joined xs h.1 ys (suc b) n (omega (arith, e)) pairs in
     record { sources = attribute_sources x (xs ++ ys) b h.0 later; opposites = attribute_opposites x (xs ++ ys) b h.0 later }
 
-all_of_map : {X : Type 0} (Q : WrittenFeature → Type 0) (f : X → WrittenFeature) → ((x : X) → Q (f x)) → (xs : List X) → AllOf Q (map f xs)
+all_of_map : {X : Type 0} (Q : WrittenFeature → Type 0) (f : X → WrittenFeature) → ((x : X) → Q (f x)) → (xs : List X) → AllByRecursion Q (map f xs)
 all_of_map Q f each [] = tt
 all_of_map Q f each (x ∷ xs) = (each x, all_of_map Q f each xs)
 
-attributes : (cs : List WrittenClass) → AllOf (λ d. d.role ≡ role.Attribute) (written_attributes cs)
+attributes : (cs : List WrittenClass) → AllByRecursion (λ d. d.role ≡ role.Attribute) (written_attributes cs)
 attributes [] = tt
 attributes (c ∷ cs) = all_joined (λ (d : WrittenFeature). d.role ≡ role.Attribute) (map (written_attribute_of c.name) c.attributes) (written_attributes cs) (all_of_map (λ d. d.role ≡ role.Attribute) (written_attribute_of c.name) (λ a. refl) c.attributes) (attributes cs)
 
@@ -113,16 +114,16 @@ paired w =
 abbrev pub IsUniqueEnd : WrittenFeature → Type 0
 IsUniqueEnd d = is_end d.role ≡ true → d.unique ≡ true
 
-attributes_unique : (cs : List WrittenClass) → AllOf IsUniqueEnd (written_attributes cs)
+attributes_unique : (cs : List WrittenClass) → AllByRecursion IsUniqueEnd (written_attributes cs)
 attributes_unique [] = tt
 attributes_unique (c ∷ cs) = all_joined IsUniqueEnd (map (written_attribute_of c.name) c.attributes) (written_attributes cs) (all_of_map IsUniqueEnd (written_attribute_of c.name) (λ a e. absurd (false≢true e)) c.attributes) (attributes_unique cs)
 
-ends_unique : (n : ℕ) (as' : List WrittenAssociation) → AllOf IsUniqueEnd (written_ends n as')
+ends_unique : (n : ℕ) (as' : List WrittenAssociation) → AllByRecursion IsUniqueEnd (written_ends n as')
 ends_unique n [] = tt
 ends_unique n (a ∷ as') = (λ e. refl, (λ e. refl, ends_unique (n + 2) as'))
 
 -- each end that a model writes is unique
-pub all_unique : (w : Written) → AllOf IsUniqueEnd (written_features w)
+pub all_unique : (w : Written) → AllByRecursion IsUniqueEnd (written_features w)
 all_unique w = all_joined IsUniqueEnd (written_attributes w.classes) (written_ends (length (written_attributes w.classes)) w.associations) (attributes_unique w.classes) (ends_unique (length (written_attributes w.classes)) w.associations)
 
 -- ---- names are names, and bounds are small
@@ -130,18 +131,18 @@ all_unique w = all_joined IsUniqueEnd (written_attributes w.classes) (written_en
 abbrev pub IsSpelledWritten : WrittenFeature → Type 0
 IsSpelledWritten d = IsSpelledFeature d.name d.lower d.upper
 
-attributes_spelled : (cs : List WrittenClass) → AllOf IsSpelledClass cs → AllOf IsSpelledWritten (written_attributes cs)
+attributes_spelled : (cs : List WrittenClass) → AllByRecursion IsSpelledClass cs → AllByRecursion IsSpelledWritten (written_attributes cs)
 attributes_spelled [] h = tt
 attributes_spelled (c ∷ cs) h =
     all_joined IsSpelledWritten (map (written_attribute_of c.name) c.attributes) (written_attributes cs)
     (all_mapped IsSpelledAttribute IsSpelledWritten (written_attribute_of c.name) (λ a g. g) c.attributes (from_all IsSpelledAttribute c.attributes h.0.1)) (attributes_spelled cs h.1)
 
-ends_spelled : (n : ℕ) (as' : List WrittenAssociation) → AllOf IsSpelledAssociation as' → AllOf IsSpelledWritten (written_ends n as')
+ends_spelled : (n : ℕ) (as' : List WrittenAssociation) → AllByRecursion IsSpelledAssociation as' → AllByRecursion IsSpelledWritten (written_ends n as')
 ends_spelled n [] h = tt
 ends_spelled n (a ∷ as') h = (h.0.1, (h.0.2, ends_spelled (n + 2) as' h.1))
 
 -- where what a model writes is spelled well, its features have names that are names and small bounds
-pub all_spelled : (w : Written) → IsSpelled w → AllOf IsSpelledWritten (written_features w)
+pub all_spelled : (w : Written) → IsSpelled w → AllByRecursion IsSpelledWritten (written_features w)
 all_spelled w h =
     all_joined IsSpelledWritten (written_attributes w.classes) (written_ends (length (written_attributes w.classes)) w.associations) (attributes_spelled w.classes (from_all IsSpelledClass w.classes h.2))
     (ends_spelled (length (written_attributes w.classes)) w.associations (from_all IsSpelledAssociation w.associations h.3))

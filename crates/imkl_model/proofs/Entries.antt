@@ -1,5 +1,6 @@
 -- Old names as they are written: those of classes, and those of features.
 use Rattle.std.proofs.Common.{◌≡◌, ◌∙◌, ◌≤◌, ℕ, List, [], ◌∷◌, ◌++◌, length, drop, All, sym, ap, subst}
+use Rattle.std.specs.List.{AllByRecursion}
 use Rattle.std.proofs.lemmas.List.{append-nil}
 use Rattle.std.proofs.Math.ListN.{drop_of_length-le}
 use Rattle.imkl_model.specs.declared.written.WrittenRename.{WrittenRename}
@@ -8,14 +9,14 @@ use Rattle.imkl_model.specs.declared.written.WrittenClassRename.{WrittenClassRen
 use Rattle.imkl_model.specs.declared.written.WrittenFeatureRename.{WrittenFeatureRename}
 use Rattle.imkl_model.specs.Shape.{class_renames_of, feature_renames_of}
 use Rattle.imkl_model.specs.Spelled.{IsSpelledRename, IsSpelledClassRename, IsSpelledFeatureRename}
-use Rattle.ocl_base.proofs.ForAbove.{AllOf, all_at, from_all}
+use Rattle.ocl_base.proofs.ForAbove.{all_at, from_all}
 
-class_spelled : (rs : List WrittenRename) → AllOf IsSpelledRename rs → AllOf IsSpelledClassRename (class_renames_of rs)
+class_spelled : (rs : List WrittenRename) → AllByRecursion IsSpelledRename rs → AllByRecursion IsSpelledClassRename (class_renames_of rs)
 class_spelled [] h = tt
 class_spelled (renames.Class r ∷ rs) h = (h.0, class_spelled rs h.1)
 class_spelled (renames.Feature r ∷ rs) h = class_spelled rs h.1
 
-feature_spelled : (rs : List WrittenRename) → AllOf IsSpelledRename rs → AllOf IsSpelledFeatureRename (feature_renames_of rs)
+feature_spelled : (rs : List WrittenRename) → AllByRecursion IsSpelledRename rs → AllByRecursion IsSpelledFeatureRename (feature_renames_of rs)
 feature_spelled [] h = tt
 feature_spelled (renames.Class r ∷ rs) h = feature_spelled rs h.1
 feature_spelled (renames.Feature r ∷ rs) h = (h.0, feature_spelled rs h.1)

@@ -4,6 +4,7 @@ use Rattle.std.specs.Option.{option_map_or}
 use Rattle.std.proofs.lemmas.Bool.{cases_Bool, and_parts}
 use Rattle.std.proofs.lemmas.List.{length-map, length-append, get_or-map, get_or_append_left, get_or-append-add}
 use Rattle.std.proofs.lemmas.List.Quantifiers.{position-Some}
+use Rattle.std.proofs.lemmas.Option.{same_Some}
 use Rattle.std.proofs.lemmas.Slice.Eq.{bytes_eq-Decides}
 use Rattle.ocl_base.proofs.ForAbove.{least_passes}
 use Rattle.ocl_base.specs.Numbers.{least}
@@ -22,9 +23,6 @@ use Rattle.imkl_model.proofs.ModelLaws.{classes_have_names, features_have_names}
 
 nothing : {X : Type 0} (x : X) → None ≡ Some x → ⊥
 nothing x e = cc
-
-one : {X : Type 0} (x y : X) → Some x ≡ Some y → x ≡ y
-one x y e = cc
 
 pub no_number : (f : ℕ → ℕ) (o : Option ℕ) → None ≡ option_map f o → o ≡ None
 no_number f None e = refl
@@ -48,7 +46,7 @@ module _ (m : Model) where
   class_by_entry well name None c is e = absurd (nothing c (sym e))
   class_by_entry well name (Some i) c is e =
       let k = (class_rename_at m i).class in
-      let same : c ≡ k = one c k e in
+      let same : c ≡ k = same_Some c k e in
       let there : k < length m.classes = well.renamed_classes i (class_entry name i is).0 in
       ap (λ (o : Option ℕ). class_number m (option_map_or (λ j. (class_at m (class_rename_at m j).class).name) o name)) is
       ∙ (classes_have_names m well (class_at m k).name k).1 (there, refl) ∙ ap (λ (x : ℕ). Some x) (sym same)
@@ -101,7 +99,7 @@ module _ (m : Model) where
   feature_by_entry well c name None f is e = absurd (nothing f (sym e))
   feature_by_entry well c name (Some i) f is e =
       let k = (feature_rename_at m i).feature in
-      let same : f ≡ k = one f k e in
+      let same : f ≡ k = same_Some f k e in
       let entry = feature_entry c name i is in
       let inside : IsFeature m k = well.renamed_features i entry.0 in
       let here : belongs m c k ≡ true = ap (conforms m c) (well.renamed_owners i entry.0) ∙ entry.2 in

@@ -1,6 +1,6 @@
 -- What is known of the parts of a class model that was numbered.
 use Rattle.std.proofs.Common.{◌≡◌, ℕ, ◌<◌, ◌||◌, List, [], ◌∷◌, ◌++◌, length, get_or, map, Bool, true, false, Some, Ok, refl, sym, ap, subst, ◌∙◌, All, bytes_eq, position, nat_eq, inl, inr}
-use Rattle.std.specs.List.{list_any}
+use Rattle.std.specs.List.{AllByRecursion, list_any}
 use Rattle.std.proofs.lemmas.Bool.{false≢true, or_parts, or_cases, or_left, or_right, eqb-true}
 use Rattle.std.proofs.lemmas.List.{map-id}
 use Rattle.std.proofs.lemmas.List.Quantifiers.{position-Some}
@@ -28,7 +28,7 @@ use Rattle.imkl_model.specs.Tables.{AreWithin}
 use Rattle.imkl_model.specs.ClassModel.{names_of_classes, names_of_enumerations, supers_in, own_feature_number}
 use Rattle.imkl_model.specs.Renames.{old_names_of}
 use Rattle.imkl_model.proofs.Repeated.{repeats_front, repeats_back}
-use Rattle.ocl_base.proofs.ForAbove.{each_first, each_nothing, okay, ok_is, both_steps, found_is, each_map, all_each, all_at, all_mapped, AllOf}
+use Rattle.ocl_base.proofs.ForAbove.{each_first, each_nothing, okay, ok_is, both_steps, found_is, each_map, all_each, all_at, all_mapped}
 
 -- ---- names
 
@@ -132,7 +132,7 @@ abbrev SupersWithin : ℕ → Class → Type 0
 SupersWithin n k = All (λ d. d < n) k.supers
 
 -- the superclasses of classes that were numbered are classes of the scope
-pub supers_within : (s : Scope) (cs : List WrittenClass) (ks : List Class) → each (class_in_scope s) cs ≡ Ok ks → AllOf (SupersWithin (length s.classes)) ks
+pub supers_within : (s : Scope) (cs : List WrittenClass) (ks : List Class) → each (class_in_scope s) cs ≡ Ok ks → AllByRecursion (SupersWithin (length s.classes)) ks
 supers_within s cs ks e =
     all_each (class_in_scope s) (SupersWithin (length s.classes)) (λ c k h. all_at (λ d. d < length s.classes) k.supers (all_each (number_in s.classes) (λ d. d < length s.classes) (λ name n g. (number_is s.classes name n g).0) c.supers k.supers (class_is s c k h).1)) cs ks e
 
@@ -163,7 +163,7 @@ feature_rename_is s fs r k e =
     (ap (λ (x : FeatureRename). x.old) (sym same), p.1 ∙ ap (λ (x : FeatureRename). okay x.class) same, subst (λ (x : FeatureRename). own_feature_number fs x.class r.new ≡ Some x.feature) same there)
 
 -- where each class has superclasses below n, each row of superclasses is below n
-pub rows_within : (n : ℕ) (ks : List Class) → AllOf (SupersWithin n) ks → AreWithin n (supers_in ks)
+pub rows_within : (n : ℕ) (ks : List Class) → AllByRecursion (SupersWithin n) ks → AreWithin n (supers_in ks)
 rows_within n ks h = all_at (λ row. All (λ d. d < n) row) (supers_in ks) (all_mapped (SupersWithin n) (λ row. All (λ d. d < n) row) (λ k. k.supers) (λ k g. g) ks h)
 
 -- direct superclasses with names that differ have numbers that differ
@@ -194,7 +194,7 @@ abbrev pub SupersDiffer : Class → Type 0
 SupersDiffer k = repeats nat_eq k.supers ≡ false
 
 -- where no class writes a superclass twice, none has a superclass twice once numbered
-pub supers_differ : (s : Scope) (cs : List WrittenClass) (ks : List Class) → each (class_in_scope s) cs ≡ Ok ks → list_any (λ c. repeats bytes_eq c.supers) cs ≡ false → AllOf SupersDiffer ks
+pub supers_differ : (s : Scope) (cs : List WrittenClass) (ks : List Class) → each (class_in_scope s) cs ≡ Ok ks → list_any (λ c. repeats bytes_eq c.supers) cs ≡ false → AllByRecursion SupersDiffer ks
 supers_differ s [] ks e apart = rw (each_nothing (class_in_scope s) ks e) tt
 supers_differ s (c ∷ cs) ks e apart =
     let p = each_first (class_in_scope s) c cs ks e in

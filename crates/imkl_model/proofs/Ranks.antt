@@ -11,7 +11,7 @@ use Rattle.std.proofs.lemmas.List.Sums.{prefix_len_passes}
 use Rattle.std.proofs.lemmas.List.Quantifiers.{position-Some}
 use Rattle.indexmap.specs.IndexSet.{insert_key}
 use Rattle.ocl_base.specs.Lists.{is_among, repeats}
-use Rattle.ocl_base.proofs.ForAbove.{apart_push}
+use Rattle.ocl_base.proofs.ForAbove.{all_weaker, apart_push}
 use Rattle.imkl_model.specs.Ranks.{named, rank_in, AreRanks}
 
 -- ---- tests that agree on each element
@@ -26,10 +26,6 @@ position_alike p q f xs same = rw (prefix_alike p q f xs same, length-map xs f) 
 any_alike : {X Y : Type 0} (p : Y → Bool) (q : X → Bool) (f : X → Y) (xs : List X) → AllByRecursion (λ x. p (f x) ≡ q x) xs → list_any p (map f xs) ≡ list_any q xs
 any_alike p q f [] same = refl
 any_alike p q f (x ∷ xs) same = rw (same.0, any_alike p q f xs same.1) refl
-
-each_so : {X : Type 0} (P Q : X → Type 0) → ((x : X) → P x → Q x) → (xs : List X) → AllByRecursion P xs → AllByRecursion Q xs
-each_so P Q f [] h = tt
-each_so P Q f (x ∷ xs) h = (f x h.0, each_so P Q f xs h.1)
 
 each_push : {X : Type 0} (P : X → Type 0) (xs : List X) (y : X) → AllByRecursion P xs → P y → AllByRecursion P (xs ++ y ∷ [])
 each_push P [] y h last = (last, tt)
@@ -60,10 +56,6 @@ module _ (sorted : List (List ℕ)) where
   within : (name : List ℕ) (rank : ℕ) → rank_in sorted name ≡ Some rank → rank < length sorted
   within name rank e = (position-Some (bytes_eq name) sorted rank [] e).0
 
-  -- the ranks are places of the list
-  pub ranks_within : (ranks : List ℕ) (i : ℕ) → AreRanks sorted ranks → i < length ranks → get_or ranks i 0 < length sorted
-  ranks_within ranks i h lt = within (named sorted (get_or ranks i 0)) (get_or ranks i 0) (each_at (λ rank. rank_in sorted (named sorted rank) ≡ Some rank) ranks i h lt)
-
   same_rank : (name : List ℕ) (r k : ℕ) → rank_in sorted name ≡ Some r → rank_in sorted (named sorted k) ≡ Some k → bytes_eq name (named sorted k) ≡ eqb r k
   same_rank name r k at_r at_k =
       elim (eqb_tells r k) [
@@ -82,15 +74,15 @@ module _ (sorted : List (List ℕ)) where
       ]
 
   among_ranks : (name : List ℕ) (r : ℕ) (ranks : List ℕ) → rank_in sorted name ≡ Some r → AreRanks sorted ranks → is_among bytes_eq (map (named sorted) ranks) name ≡ list_any (eqb r) ranks
-  among_ranks name r ranks at_r h = any_alike (bytes_eq name) (eqb r) (named sorted) ranks (each_so _ _ (λ k at_k. same_rank name r k at_r at_k) ranks h)
+  among_ranks name r ranks at_r h = any_alike (bytes_eq name) (eqb r) (named sorted) ranks (all_weaker _ _ (λ k at_k. same_rank name r k at_r at_k) ranks h)
 
   -- a name's number is that of its rank
   pub number_of_rank : (name : List ℕ) (r : ℕ) (ranks : List ℕ) → rank_in sorted name ≡ Some r → AreRanks sorted ranks → position (bytes_eq name) (map (named sorted) ranks) ≡ position (eqb r) ranks
-  number_of_rank name r ranks at_r h = position_alike (bytes_eq name) (eqb r) (named sorted) ranks (each_so _ _ (λ k at_k. same_rank name r k at_r at_k) ranks h)
+  number_of_rank name r ranks at_r h = position_alike (bytes_eq name) (eqb r) (named sorted) ranks (all_weaker _ _ (λ k at_k. same_rank name r k at_r at_k) ranks h)
 
   pub number_of_none : (name : List ℕ) (ranks : List ℕ) → rank_in sorted name ≡ None → AreRanks sorted ranks → position (bytes_eq name) (map (named sorted) ranks) ≡ None
   number_of_none name ranks none h =
-      position_alike (bytes_eq name) (λ _. false) (named sorted) ranks (each_so _ _ (λ k at_k. no_rank name k none at_k) ranks h)
+      position_alike (bytes_eq name) (λ _. false) (named sorted) ranks (all_weaker _ _ (λ k at_k. no_rank name k none at_k) ranks h)
       ∙ rw (nowhere ranks, le-ltb (length ranks) (length ranks) (omega arith)) refl
 
   -- ---- names that are taken in one by one
@@ -100,9 +92,6 @@ module _ (sorted : List (List ℕ)) where
     pub names : map (named sorted) ks ≡ ns
     pub ranks : AreRanks sorted ks
     pub apart : repeats bytes_eq ns ≡ false
-
-  pub none_taken : AreTaken [] []
-  none_taken = record { names = refl; ranks = tt; apart = refl }
 
   -- the rank of a name is there just if the name is
   pub is_taken : (names : List (List ℕ)) (ranks : List ℕ) (name : List ℕ) (r : ℕ) → AreTaken names ranks → rank_in sorted name ≡ Some r → list_any (eqb r) ranks ≡ is_among bytes_eq names name

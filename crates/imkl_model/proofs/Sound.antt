@@ -1,6 +1,6 @@
 -- A class model that was numbered and checked keeps what a class model keeps.
 use Rattle.std.proofs.Common.{◌≡◌, ℕ, zero, suc, ◌+◌, ◌<◌, ◌≤◌, ◌&&◌, ◌||◌, not, Bool, true, false, List, [], ◌∷◌, ◌++◌, length, get_or, map, eqb, leb, Option, Some, Ok, All, IfSome, refl, sym, ap, ◌∙◌, subst, arith, inl, inr, nat_le, nat_lt, if◌then◌else◌, bytes_eq}
-use Rattle.std.specs.List.{list_all, list_any}
+use Rattle.std.specs.List.{AllByRecursion, list_all, list_any}
 use Rattle.std.proofs.lemmas.Bool.{false≢true, and_parts, or_parts}
 use Rattle.std.proofs.lemmas.Bool.Decides.{eqb_tells, leb_tells, Decides-eqb}
 use Rattle.std.proofs.lemmas.List.{length-map, get_or-map}
@@ -36,7 +36,7 @@ use Rattle.ocl_base.specs.CollectionKinds.{is_unique_kind}
 use Rattle.imkl_model.specs.WellFormed.{IsClassModel, ArePaired, IsFeature, IsFeatureRename, IsModelName, type_names}
 use Rattle.imkl_model.specs.Spelled.{IsSpelledClass, IsSpelledEnumeration, IsSpelledAssociation, IsSpelledClassRename}
 use Rattle.imkl_model.specs.Drafts.{IsNumbered}
-use Rattle.ocl_base.proofs.ForAbove.{okay, ok_is, both_steps, each_length, each_at, AllOf, all_at, all_mapped, all_joined, from_all, least_passes}
+use Rattle.ocl_base.proofs.ForAbove.{okay, ok_is, both_steps, each_length, each_at, all_at, all_mapped, all_joined, from_all, least_passes}
 use Rattle.imkl_model.proofs.Parts.{differs, number_is, class_names_kept, supers_within, SupersDiffer, supers_differ, enumeration_names_kept, class_rename_is, old_names_kept, feature_rename_is}
 use Rattle.imkl_model.proofs.FeatureParts.{IsFrom, feature_is, attribute_is, source_is, opposite_is, class_within, enumeration_within}
 use Rattle.imkl_model.proofs.Ends.{no_written, at, PairAt, paired, IsUniqueEnd, all_unique, IsSpelledWritten, all_spelled}
@@ -127,15 +127,15 @@ few w e =
     }
 
 -- each enumeration's literals
-of_each : (p : WrittenEnumeration → Bool) (es : List WrittenEnumeration) → list_all p es ≡ true → AllOf (λ e. p e ≡ true) es
+of_each : (p : WrittenEnumeration → Bool) (es : List WrittenEnumeration) → list_all p es ≡ true → AllByRecursion (λ e. p e ≡ true) es
 of_each p [] h = tt
 of_each p (e ∷ es) h = let g = and_parts (p e) (list_all p es) h in (g.0, of_each p es g.1)
 
-of_none : (p : WrittenEnumeration → Bool) (es : List WrittenEnumeration) → list_any p es ≡ false → AllOf (λ e. p e ≡ false) es
+of_none : (p : WrittenEnumeration → Bool) (es : List WrittenEnumeration) → list_any p es ≡ false → AllByRecursion (λ e. p e ≡ false) es
 of_none p [] h = tt
 of_none p (e ∷ es) h = let g = or_parts (p e) (list_any p es) h in (g.0, of_none p es g.1)
 
-along : {X : Type 0} (P : X → Type 0) (xs ys : List X) → ys ≡ xs → AllOf P xs → All P ys
+along : {X : Type 0} (P : X → Type 0) (xs ys : List X) → ys ≡ xs → AllByRecursion P xs → All P ys
 along {X} P xs ys e h = subst (λ (zs : List X). All P zs) (sym e) (all_at P xs h)
 
 module _ (w : Written) (m : Model) (limits : checks.is_within_limits w ≡ true) (distinct : checks.repeats_name w ≡ false) (parts : Made w m) where
@@ -344,7 +344,7 @@ module _ (w : Written) (m : Model) (limits : checks.is_within_limits w ≡ true)
   small_upper : (upper : Option ℕ) (u : ℕ) → IfSome upper (λ x. x ≤ MAX_BOUND) → upper ≡ Some u → u ≤ MAX_BOUND
   small_upper upper u e h = rw h at e
 
-  module _ (spelled : AllOf IsSpelledWritten (written_features w)) (bounds : list_all checks.has_multiplicity m.features ≡ true) where
+  module _ (spelled : AllByRecursion IsSpelledWritten (written_features w)) (bounds : list_all checks.has_multiplicity m.features ≡ true) where
     pub lower_bounds : (f : ℕ) → IsFeature m f → (feature_at m f).lower ≤ MAX_BOUND
     lower_bounds f lt = subst (λ (n : ℕ). n ≤ MAX_BOUND) (sym (from f lt).lower) (all_at IsSpelledWritten (written_features w) spelled f no_written (within f lt)).1
 
@@ -358,7 +358,7 @@ module _ (w : Written) (m : Model) (limits : checks.is_within_limits w ≡ true)
     named_features f lt = subst IsModelName (sym (from f lt).name) (all_at IsSpelledWritten (written_features w) spelled f no_written (within f lt)).0
 
 -- the names of what is written are names
-names_of : {X : Type 0} (P : X → Type 0) (f : X → List ℕ) (xs : List X) → ((x : X) → P x → IsModelName (f x)) → All P xs → AllOf IsModelName (map f xs)
+names_of : {X : Type 0} (P : X → Type 0) (f : X → List ℕ) (xs : List X) → ((x : X) → P x → IsModelName (f x)) → All P xs → AllByRecursion IsModelName (map f xs)
 names_of P f xs step h = all_mapped P IsModelName f step xs (from_all P xs h)
 
 -- a model that was numbered, without a cycle or a clash and with its multiplicities in order, is a class model

@@ -1,5 +1,5 @@
--- Tests of all elements, and tests that agree.
-use Rattle.std.proofs.Common.{◌≡◌, ◌==◌, suc, Bool, true, false, List, [], ◌∷◌, length, refl, sym, arith}
+-- Tests of all elements.
+use Rattle.std.proofs.Common.{◌≡◌, ◌==◌, suc, Bool, true, false, List, [], ◌∷◌, length, refl, arith}
 use Rattle.std.specs.List.{list_all}
 use Rattle.std.proofs.lemmas.Bool.{and_parts, and_from, ne_eqb}
 
@@ -14,9 +14,3 @@ list_all-weaker p q weaker (x ∷ xs) h =
 pub list_all-none : {X : Type 0} (p : X → Bool) → ((x : X) → p x ≡ false) → (xs : List X) → (length xs == 0) ≡ list_all p xs
 list_all-none p none [] = refl
 list_all-none p none (x ∷ xs) = rw (none x) (ne_eqb (suc (length xs)) 0 (λ e. absurd (omega arith)))
-
--- two tests that hold together are equal
-pub same_test : (a b : Bool) → (a ≡ true → b ≡ true) → (b ≡ true → a ≡ true) → a ≡ b
-same_test true b to back = sym (to refl)
-same_test false true to back = back refl
-same_test false false to back = refl

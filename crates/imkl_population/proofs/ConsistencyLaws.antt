@@ -2,7 +2,7 @@
 use Rattle.std.proofs.Common.{◌≡◌, ◌⊎◌, ℕ, zero, suc, ◌<◌, Bool, true, false, ◌&&◌, List, [], length, Option, Some, None, refl, sym, subst, if◌then◌else◌, nat_lt, inl, inr, arith}
 use Rattle.std.specs.List.{list_all}
 use Rattle.std.specs.Option.{option_or}
-use Rattle.std.proofs.lemmas.Bool.{false≢true, and_from, le-ltb, lt-ltb, cases_Bool}
+use Rattle.std.proofs.lemmas.Bool.{false≢true, and_from, lt-ltb, cases_Bool}
 use Rattle.std.proofs.lemmas.Bool.Decides.{leb_tells}
 use Rattle.std.proofs.lemmas.List.Folds.{list_all-map}
 use Rattle.imkl_model.specs.declared.feature.ElementType.TheVariants as element
@@ -18,7 +18,7 @@ use Rattle.imkl_population.specs.declared.scalar.Scalar.TheVariants as scalar
 use Rattle.imkl_population.specs.Numbers.{first_below}
 use Rattle.imkl_population.specs.Population.{Population, object_at, class_of, written_at, values_of, values_by, opposite_end}
 use Rattle.imkl_model.specs.Features.{is_attribute, is_opposite, is_unique}
-use Rattle.imkl_population.specs.Values.{is_of_type, is_target_of, is_over, repeats_value}
+use Rattle.imkl_population.specs.Values.{is_of_type, is_target_of, repeats_value}
 use Rattle.imkl_population.specs.Written.{is_set}
 use Rattle.imkl_population.specs.Building.{bounds_fault}
 use Rattle.imkl_population.specs.Draft.{IsDraft, is_sound}
@@ -26,6 +26,7 @@ use Rattle.imkl_population.specs.Finishing.{gap, end_fault, first_object_fault}
 use Rattle.imkl_population.specs.Consistency.{IsConsistent}
 use Rattle.imkl_population.proofs.EndLaws.{values_written}
 use Rattle.imkl_population.proofs.Holders.{holders_all, holders_apart}
+use Rattle.imkl_population.proofs.Stored.{nothing_over}
 use Rattle.imkl_population.proofs.Soundness.{AreTargets, known_in, sound_in, unset_in, values_sound, targets_sound, end_within}
 
 neither : {A : Type 0} (a b : Option A) → option_or a b ≡ None → (a ≡ None) × (b ≡ None)
@@ -55,12 +56,8 @@ not_few true p o f true e h = absurd (let bad : Some (TooFew o f) ≡ None = h i
 not_few true p o f false e h = refl
 not_few false p o f few e h = absurd (false≢true e)
 
-none_over : (upper : Option ℕ) → is_over upper 0 ≡ false
-none_over None = refl
-none_over (Some u) = le-ltb u 0 (omega arith)
-
 bounds_zero : (i : FeatureInfo) (o f : ℕ) → nat_lt 0 i.lower ≡ false → bounds_fault i o f 0 ≡ None
-bounds_zero i o f h = rw (h, none_over i.upper) refl
+bounds_zero i o f h = rw (h, nothing_over i.upper) refl
 
 module _ (p : Population) (ids : List ℕ → Option ℕ) (draft : IsDraft p ids) (known : IsClassModel p.model) (gaps : first_object_fault gap p ≡ None) (ends : first_object_fault end_fault p ≡ None) where
   written_sound : (o f : ℕ) → o < length p.objects → (written_at p o f ≡ []) ⊎ (is_sound p o (f, written_at p o f) ≡ true)

@@ -1,12 +1,13 @@
 -- Texts and literals as keys of sets.
-use Rattle.std.proofs.Common.{◌≡◌, ℕ, true, ◌&&◌, List, Ordering, Less, Equal, Greater, refl, sym, ap, ◌∙◌, eqb, bytes_eq, inl, inr, arith}
+use Rattle.std.proofs.Common.{◌≡◌, ℕ, true, ◌&&◌, List, refl, sym, ap, ◌∙◌, eqb, bytes_eq, inl, inr, arith}
+use Rattle.std.specs.Cmp.{tied_then}
 use Rattle.std.specs.Ordering.{nat_cmp, is_eq, ordering_then}
 use Rattle.std.specs.Prelude.{encode_utf8_all}
 use Rattle.std.specs.Str.{chars, IsUtf8, all_scalars}
 use Rattle.std.proofs.lemmas.Bool.{cases_order, eq-eqb, ne_eqb, lt-ltb, le-ltb}
 use Rattle.std.proofs.lemmas.Str.{chars-encodes, encodes-chars, scalars-chars}
 use Rattle.std.proofs.lemmas.Slice.Eq.{bytes_eq-Decides}
-use Rattle.imkl_population.proofs.Bools.{same_test}
+use Rattle.ocl_base.proofs.ForAbove.{same_test}
 
 -- texts of scalar values are equal where their encodings are
 pub bytes_eq-encoded : (t u : List ℕ) → all_scalars t ≡ true → all_scalars u ≡ true → bytes_eq (encode_utf8_all t) (encode_utf8_all u) ≡ bytes_eq u t
@@ -35,11 +36,6 @@ is_eq-nat_cmp m n =
       ]
     ]
 
-is_eq-then : (o p : Ordering) → is_eq (ordering_then o p) ≡ (is_eq o && is_eq p)
-is_eq-then Less p = refl
-is_eq-then Equal p = refl
-is_eq-then Greater p = refl
-
 -- two pairs compare equal where both parts are
 pub is_eq-pair : (d a e b : ℕ) → is_eq (ordering_then (nat_cmp d e) (nat_cmp a b)) ≡ (eqb e d && eqb b a)
-is_eq-pair d a e b = is_eq-then (nat_cmp d e) (nat_cmp a b) ∙ rw (is_eq-nat_cmp d e, is_eq-nat_cmp a b) refl
+is_eq-pair d a e b = sym (tied_then (nat_cmp d e) (nat_cmp a b)) ∙ rw (is_eq-nat_cmp d e, is_eq-nat_cmp a b) refl

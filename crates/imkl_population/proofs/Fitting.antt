@@ -4,7 +4,7 @@ use Rattle.std.specs.Prelude.{max}
 use Rattle.std.specs.Ordering.{nat_cmp, ord_max}
 use Rattle.std.proofs.Math.ListN.{get_or-append}
 use Rattle.std.proofs.Math.Seq.{get_or-append_seam}
-use Rattle.std.proofs.lemmas.List.{take_more, take_all}
+use Rattle.std.proofs.lemmas.List.{take_all}
 use Rattle.std.proofs.lemmas.Bool.Decides.{leb_tells}
 use Rattle.imkl_population.specs.Sizes.{list_below}
 use Rattle.imkl_population.proofs.Lengths.{length-list_below}
@@ -22,15 +22,6 @@ get_or-list_below g (suc n) i d lt =
           ap (λ k. get_or (list_below g n ++ g n ∷ []) k d) here ∙ get_or-append_seam (list_below g n) (g n) [] d ∙ ap g (sym last)
       | inr h ↦ get_or-append (list_below g n) (g n ∷ []) d i (omega (arith, h.1, length-list_below g n)) ∙ get_or-list_below g n i d h.1
     ]
-
--- one number more is the same
-pub one_more_same : (g : ℕ → ℕ) (xs : List ℕ) (i n : ℕ) → list_below g i ≡ take i xs → i < length xs → get_or xs i 0 ≡ n → n ≡ g i → list_below g (i + 1) ≡ take (i + 1) xs
-one_more_same g xs i n before lt read same =
-    let more : i + 1 ≡ suc i = omega arith in
-    ap (list_below g) more
-    ∙ ap (λ l. l ++ g i ∷ []) before
-    ∙ ap (λ k. take i xs ++ k ∷ []) (sym (read ∙ same))
-    ∙ sym (take_more xs i 0 lt)
 
 -- all numbers are the same
 pub all_same : (g : ℕ → ℕ) (xs : List ℕ) (n : ℕ) → list_below g n ≡ take n xs → length xs ≤ n → list_below g n ≡ xs

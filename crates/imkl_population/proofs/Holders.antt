@@ -10,8 +10,7 @@ use Rattle.imkl_population.specs.Building.{as_objects}
 use Rattle.imkl_population.specs.Values.{same_scalar, is_value_among, repeats_value}
 use Rattle.imkl_population.specs.Population.{Population, pairs_of, pairs_below, holders_of, held_by, written_at}
 use Rattle.imkl_population.proofs.Pairs.{holders_of-append}
-use Rattle.imkl_population.proofs.Bools.{same_test}
-use Rattle.ocl_base.proofs.ForAbove.{apart_push}
+use Rattle.ocl_base.proofs.ForAbove.{apart_push, same_test}
 use Rattle.imkl_population.proofs.Twice.{same_scalar-sym}
 
 -- a target more: the holder once more, or not

@@ -11,6 +11,7 @@ use Rattle.std.proofs.lemmas.Bool.Decides.{nat_tests}
 use Rattle.std.proofs.lemmas.Bool.{eq-eqb, ne_eqb, eqb-true, cases_eq}
 use Rattle.std.proofs.lemmas.List.{append-nil, map-append, take_more}
 use Rattle.std.proofs.lemmas.List.Elements.{All-nil, All-cons, All-append, All-head, All-tail, All-weaker, All-push, filter_map-append}
+use Rattle.ocl_base.proofs.ForAbove.{all_weaker}
 use Rattle.imkl_population.specs.declared.scalar.Scalar.{Scalar}
 use Rattle.imkl_population.specs.declared.scalar.Scalar.TheVariants as scalar
 use Rattle.imkl_population.specs.declared.object.Head.{Head}
@@ -24,7 +25,7 @@ use Rattle.imkl_population.specs.Layout.{stored_content}
 use Rattle.imkl_population.proofs.Encoded.{is_eq-nat_cmp}
 use Rattle.imkl_population.proofs.ForAbove.{lookup-put}
 use Rattle.imkl_population.proofs.Pairs.{holders_of-append}
-use Rattle.imkl_population.proofs.Stored.{weaker, less_is}
+use Rattle.imkl_population.proofs.Stored.{less_is}
 use Rattle.imkl_population.proofs.Rows.{row-lookup}
 use Rattle.imkl_population.proofs.Layouts.{length-content, written-column}
 
@@ -96,7 +97,12 @@ below_later e w n below o le =
 
 -- keys that come after a in order are at least a + 1
 pub above : (w : Map) (a : ℕ) → AllByRecursion (λ k. nat_cmp a k ≡ Less) (keys_of w) → AllByRecursion (λ k. suc a ≤ k) (keys_of w)
-above w a h = weaker (λ k. nat_cmp a k ≡ Less) (λ k. suc a ≤ k) (λ k c. omega (arith, less_is a k c)) (keys_of w) h
+above w a h = all_weaker (λ k. nat_cmp a k ≡ Less) (λ k. suc a ≤ k) (λ k c. omega (arith, less_is a k c)) (keys_of w) h
+
+-- each number is at least 0
+pub all_from : (ks : List ℕ) → AllByRecursion (λ k. 0 ≤ k) ks
+all_from [] = tt
+all_from (k ∷ ks) = (omega arith, all_from ks)
 
 -- the objects have the pairs of the entries
 met : (w : Map) (a m : ℕ) → IsMap w → AllByRecursion (λ k. a ≤ k) (keys_of w) → IsBelow (a + m) w → pairs_from w a m ≡ pairs_in w
@@ -113,8 +119,8 @@ met (e ∷ w) a (suc m) sorted from below =
           rw (here, passed e w (suc a) m (omega (arith, same)), met w (suc a) m sorted.1 rest (below_later e w (suc a + m) below2), same) refl
       | inr apart ↦
           let lt : a < e.0 = omega (arith, from.0, apart) in
-          let all : AllByRecursion (λ k. suc a ≤ k) (keys_of (e ∷ w)) = (omega (arith, lt), weaker (λ k. suc e.0 ≤ k) (λ k. suc a ≤ k) (λ k le. omega (arith, le, lt)) (keys_of w) (above w e.0 sorted.0)) in
-          let none : lookup (is_at (nat_cmp a)) (e ∷ w) ≡ None = absent (e ∷ w) a (weaker (λ k. suc a ≤ k) (λ k. a < k) (λ k le. omega (arith, le)) (keys_of (e ∷ w)) all) in
+          let all : AllByRecursion (λ k. suc a ≤ k) (keys_of (e ∷ w)) = (omega (arith, lt), all_weaker (λ k. suc e.0 ≤ k) (λ k. suc a ≤ k) (λ k le. omega (arith, le, lt)) (keys_of w) (above w e.0 sorted.0)) in
+          let none : lookup (is_at (nat_cmp a)) (e ∷ w) ≡ None = absent (e ∷ w) a (all_weaker (λ k. suc a ≤ k) (λ k. a < k) (λ k le. omega (arith, le)) (keys_of (e ∷ w)) all) in
           let nothing : written_in (e ∷ w) a ≡ [] = ap (λ (r : Option (List Scalar)). unwrap_or r []) none in
           rw nothing (met (e ∷ w) (suc a) m sorted all below2)
     ]
@@ -134,10 +140,6 @@ column-pairs p source w sorted same below =
     let n : ℕ = length p.objects in
     let none : 0 + n ≡ n = omega arith in
     sym (joined p source w n same 0 n none ∙ met w 0 n sorted (all_from (keys_of w)) (subst (λ (k : ℕ). IsBelow k w) (sym none) below))
-  where
-    all_from : (ks : List ℕ) → AllByRecursion (λ k. 0 ≤ k) ks
-    all_from [] = tt
-    all_from (k ∷ ks) = (omega arith, all_from ks)
 
 -- the same, in a builder, whose columns have nothing for objects that aren't there
 pub builder-pairs : (m : Model) (hs : List Head) (maps : List Map) (p : Population) (source : ℕ) → stored_content m hs maps ≡ p → ((o : ℕ) → length hs ≤ o → object_row maps o ≡ []) → IsMap (get_or maps source [])

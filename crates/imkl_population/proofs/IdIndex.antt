@@ -1,5 +1,5 @@
 -- How ids are found once one more has a number.
-use Rattle.std.proofs.Common.{◌≡◌, ℕ, zero, suc, ◌+◌, ◌<◌, ◌≤◌, Bool, true, false, cond, List, [], ◌∷◌, ◌++◌, length, get_or, Option, Some, None, refl, sym, ap, subst, ◌∙◌, bytes_eq, arith, slice_index_or, if◌then◌else◌, ◌⊎◌, inl, inr, ◌≢◌, eqb, suc-ne-zero}
+use Rattle.std.proofs.Common.{◌≡◌, ℕ, zero, suc, ◌+◌, ◌<◌, ◌≤◌, Bool, true, false, cond, List, [], ◌∷◌, ◌++◌, length, get_or, Option, Some, None, refl, sym, ap, subst, ◌∙◌, bytes_eq, arith, slice_index_or, if◌then◌else◌, ◌⊎◌, inl, inr, ◌≢◌, eqb}
 use Rattle.std.proofs.lemmas.Bool.Decides.{eqb_tells}
 use Rattle.std.proofs.lemmas.List.{get_or-set_same, get_or-set_other, length-set}
 use Rattle.std.proofs.lemmas.Slice.Eq.{bytes_eq-Decides}
@@ -61,9 +61,6 @@ differs : (b : Bool) (id q : List ℕ) → bytes_eq id q ≡ b → (b ≡ true �
 differs true id q same fails = absurd (fails refl)
 differs false id q same fails = refl
 
-same_id : (id q : List ℕ) → bytes_eq id q ≡ true → id ≡ q
-same_id id q h = (bytes_eq-Decides id q).0 h
-
 module _ (slots new : List ℕ) (others : List ℕ → Option ℕ) (hs : List Head) (h : Head) (id : List ℕ) (n : ℕ) (next : n ≡ length hs) (named : h.id ≡ id) (takes : TakesSlot slots id n new) (guarded : IsGuarded slots others) where
   inside : slot_of id (length slots) < length slots
   inside = slot-known id (length slots) takes.0
@@ -90,7 +87,7 @@ module _ (slots new : List ℕ) (others : List ℕ → Option ℕ) (hs : List He
 
   other : (q : List ℕ) → (slot_of q (length slots) ≡ slot_of id (length slots) → ⊥) → number_found new others (hs ++ h ∷ []) q ≡ cond (bytes_eq id q) (Some n) (number_found slots others hs q)
   other q apart =
-      let fails : bytes_eq id q ≡ false = differs (bytes_eq id q) id q refl (λ holds. apart (ap (λ (x : List ℕ). slot_of x (length slots)) (sym (same_id id q holds)))) in
+      let fails : bytes_eq id q ≡ false = differs (bytes_eq id q) id q refl (λ holds. apart (ap (λ (x : List ℕ). slot_of x (length slots)) (sym ((bytes_eq-Decides id q).0 holds)))) in
       let head : bytes_eq h.id q ≡ false = ap (λ (x : List ℕ). bytes_eq x q) named ∙ fails in
       found-held new others (hs ++ h ∷ []) q (subst (λ (x : ℕ). 0 < x) (sym same_length) takes.0)
       ∙ ap (λ (x : ℕ). held (slice_index_or new (slot_of q x) 0) others (hs ++ h ∷ []) q) same_length
@@ -107,20 +104,12 @@ module _ (slots new : List ℕ) (others : List ℕ → Option ℕ) (hs : List He
   pub found-taken : (q : List ℕ) → number_found new others (hs ++ h ∷ []) q ≡ cond (bytes_eq id q) (Some n) (number_found slots others hs q)
   found-taken q = by_slot q (eqb_tells (slot_of q (length slots)) (slot_of id (length slots)))
 
-  empty_by : (q : List ℕ) → slice_index_or new (slot_of q (length new)) 0 ≡ 0 → ((eqb (slot_of q (length slots)) (slot_of id (length slots)) ≡ true) × (slot_of q (length slots) ≡ slot_of id (length slots))) ⊎ ((eqb (slot_of q (length slots)) (slot_of id (length slots)) ≡ false) × (slot_of q (length slots) ≢ slot_of id (length slots))) → others q ≡ None
-  empty_by q empty (inl at) = absurd (suc-ne-zero n (sym (slot-at (slot_of q (length slots)) at.1) ∙ ap (λ (x : ℕ). slice_index_or new (slot_of q x) 0) (sym same_length) ∙ empty))
-  empty_by q empty (inr apart) = guarded q takes.0 (sym (slot-apart (slot_of q (length slots)) apart.1) ∙ ap (λ (x : ℕ). slice_index_or new (slot_of q x) 0) (sym same_length) ∙ empty)
-
-  -- an id whose slot is still empty isn't among the others
-  pub guarded-taken : IsGuarded new others
-  guarded-taken q some empty = empty_by q empty (eqb_tells (slot_of q (length slots)) (slot_of id (length slots)))
-
 module _ (slots : List ℕ) (others after : List ℕ → Option ℕ) (id : List ℕ) (n : ℕ) (taken : IsOccupied slots id) (follows : (q : List ℕ) → after q ≡ cond (bytes_eq id q) (Some n) (others q)) where
   other_kept : (q : List ℕ) → bytes_eq id q ≡ false → after q ≡ others q
   other_kept q fails = follows q ∙ rw fails refl
 
   guard_by : (b : Bool) (q : List ℕ) → bytes_eq id q ≡ b → IsGuarded slots others → 0 < length slots → slice_index_or slots (slot_of q (length slots)) 0 ≡ 0 → after q ≡ None
-  guard_by true q same guarded some empty = absurd (taken some (subst (λ (x : List ℕ). slice_index_or slots (slot_of x (length slots)) 0 ≡ 0) (sym (same_id id q same)) empty))
+  guard_by true q same guarded some empty = absurd (taken some (subst (λ (x : List ℕ). slice_index_or slots (slot_of x (length slots)) 0 ≡ 0) (sym ((bytes_eq-Decides id q).0 same)) empty))
   guard_by false q apart guarded some empty = other_kept q apart ∙ guarded q some empty
 
   -- an id whose slot is empty isn't among the others
@@ -142,7 +131,7 @@ module _ (slots : List ℕ) (others after : List ℕ → Option ℕ) (id : List 
     by_test true q same some none =
         let mine : number_found slots after (hs ++ h ∷ []) id ≡ Some n =
         found-held slots after (hs ++ h ∷ []) id some ∙ own (slice_index_or slots (slot_of id (length slots)) 0) (taken some) (sym (found-held slots others hs id some) ∙ none) in
-        subst (λ (x : List ℕ). number_found slots after (hs ++ h ∷ []) x ≡ Some n) (same_id id q same) mine
+        subst (λ (x : List ℕ). number_found slots after (hs ++ h ∷ []) x ≡ Some n) ((bytes_eq-Decides id q).0 same) mine
     by_test false q apart some none =
         found-held slots after (hs ++ h ∷ []) q some
         ∙ held-push (slice_index_or slots (slot_of q (length slots)) 0) others after hs h q (ap (λ (x : List ℕ). bytes_eq x q) named ∙ apart) (other_kept q apart)

@@ -9,6 +9,7 @@ use Rattle.std.specs.BTreeMap.{is_at}
 use Rattle.std.proofs.Math.Nat.{max-zero, zero-max}
 use Rattle.std.proofs.lemmas.Bool.{cases_eq, eq-eqb, ne_eqb}
 use Rattle.std.proofs.lemmas.List.{take_more}
+use Rattle.ocl_base.proofs.ForAbove.{max_assoc, all_weaker}
 use Rattle.imkl_model.specs.ClassModel.{Model, feature_at}
 use Rattle.imkl_model.specs.Features.{is_opposite}
 use Rattle.imkl_population.specs.declared.scalar.Scalar.{Scalar}
@@ -21,15 +22,11 @@ use Rattle.imkl_population.specs.Store.{longest_in, object_row}
 use Rattle.imkl_population.specs.Layout.{stored_content}
 use Rattle.imkl_population.proofs.Encoded.{is_eq-nat_cmp}
 use Rattle.imkl_population.proofs.EndLaws.{values_written}
-use Rattle.imkl_population.proofs.Holdings.{Map, IsBelow, absent, above, below_here, below_later}
+use Rattle.imkl_population.proofs.Holdings.{Map, IsBelow, absent, above, all_from, below_here, below_later}
 use Rattle.imkl_population.proofs.Layouts.{Maps, length-content, written-column}
 use Rattle.imkl_population.proofs.Rows.{row-lookup}
-use Rattle.imkl_population.proofs.Stored.{weaker}
 
 -- ---- entry by entry
-
-longer_of : (a b c : ℕ) → max a (max b c) ≡ max (max a b) c
-longer_of a b c = omega arith
 
 -- the greatest number of values of entries
 abbrev pub longest_span : List Entry → ℕ
@@ -38,7 +35,7 @@ longest_span (e ∷ es) = max (e.end - e.start) (longest_span es)
 
 span-push : (es : List Entry) (e : Entry) → longest_span (es ++ e ∷ []) ≡ max (longest_span es) (e.end - e.start)
 span-push [] e = max-zero (e.end - e.start) ∙ sym (zero-max (e.end - e.start))
-span-push (x ∷ es) e = ap (max (x.end - x.start)) (span-push es e) ∙ longer_of (x.end - x.start) (longest_span es) (e.end - e.start)
+span-push (x ∷ es) e = ap (max (x.end - x.start)) (span-push es e) ∙ max_assoc (x.end - x.start) (longest_span es) (e.end - e.start)
 
 -- one entry more
 pub entry-longer : (es : List Entry) (i : ℕ) (e : Entry) (old new : ℕ) → i < length es → e ≡ get_or es i e → old ≡ longest_span (take i es) → new ≡ max old (e.end - e.start) → new ≡ longest_span (take (i + 1) es)
@@ -78,8 +75,8 @@ met (e ∷ w) a (suc m) sorted from below =
           rw (here, passed e w (suc a) m (omega (arith, same)), met w (suc a) m sorted.1 rest (below_later e w (suc a + m) below2)) refl
       | inr apart ↦
           let lt : a < e.0 = omega (arith, from.0, apart) in
-          let all : AllByRecursion (λ k. suc a ≤ k) (keys_of (e ∷ w)) = (omega (arith, lt), weaker (λ k. suc e.0 ≤ k) (λ k. suc a ≤ k) (λ k le. omega (arith, le, lt)) (keys_of w) (above w e.0 sorted.0)) in
-          let none : lookup (is_at (nat_cmp a)) (e ∷ w) ≡ None = absent (e ∷ w) a (weaker (λ k. suc a ≤ k) (λ k. a < k) (λ k le. omega (arith, le)) (keys_of (e ∷ w)) all) in
+          let all : AllByRecursion (λ k. suc a ≤ k) (keys_of (e ∷ w)) = (omega (arith, lt), all_weaker (λ k. suc e.0 ≤ k) (λ k. suc a ≤ k) (λ k le. omega (arith, le, lt)) (keys_of w) (above w e.0 sorted.0)) in
+          let none : lookup (is_at (nat_cmp a)) (e ∷ w) ≡ None = absent (e ∷ w) a (all_weaker (λ k. suc a ≤ k) (λ k. a < k) (λ k le. omega (arith, le)) (keys_of (e ∷ w)) all) in
           let nothing : written_in (e ∷ w) a ≡ [] = ap (λ (r : Option (List Scalar)). unwrap_or r []) none in
           rw nothing (zero-max (longest_from (e ∷ w) (suc a) m) ∙ met (e ∷ w) (suc a) m sorted all below2)
     ]
@@ -92,11 +89,7 @@ joined p f w n same a zero e =
 joined p f w n same a (suc m) e =
     joined p f w n same (suc a) m (omega (arith, e))
     ∙ ap (λ (vs : List Scalar). max (max (longest_below p f a) (length vs)) (longest_from w (suc a) m)) (same a (omega (arith, e)))
-    ∙ sym (longer_of (longest_below p f a) (length (written_in w a)) (longest_from w (suc a) m))
-
-all_from : (ks : List ℕ) → AllByRecursion (λ k. 0 ≤ k) ks
-all_from [] = tt
-all_from (k ∷ ks) = (omega arith, all_from ks)
+    ∙ sym (max_assoc (longest_below p f a) (length (written_in w a)) (longest_from w (suc a) m))
 
 -- the greatest length of what is written at a feature is that in its column
 pub longest-stored : (m : Model) (hs : List Head) (maps : Maps) (f : ℕ) → IsMap (get_or maps f []) → ((o : ℕ) → length (stored_content m hs maps).objects ≤ o → object_row maps o ≡ []) → is_opposite (feature_at m f).role ≡ false

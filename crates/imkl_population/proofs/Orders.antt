@@ -16,10 +16,10 @@ use Rattle.std.proofs.lemmas.Map.Lookups.{btree_set_from_contains}
 use Rattle.std.proofs.lemmas.Map.Views.{Contains-from_any, list_any-from_Contains}
 use Rattle.std.proofs.lemmas.List.Elements.{All-append, All-contains, All-weaker}
 use Rattle.std.proofs.lemmas.Cmp.{nat_cmp_total}
+use Rattle.ocl_base.proofs.ForAbove.{same_test}
 use Rattle.ocl_base.specs.Numbers.{places}
 use Rattle.imkl_population.specs.Order.{AreInOrder}
 use Rattle.imkl_population.specs.Required.{is_one_of}
-use Rattle.imkl_population.proofs.Bools.{same_test}
 use Rattle.imkl_population.proofs.Encoded.{is_eq-nat_cmp}
 use Rattle.imkl_population.proofs.Places.{Passes, places-pass}
 

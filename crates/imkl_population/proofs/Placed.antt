@@ -1,5 +1,5 @@
 -- Columns whose values stand in one list, each behind the one before it.
-use Rattle.std.proofs.Common.{◌≡◌, ℕ, zero, suc, ◌+◌, ◌-◌, ◌^◌, ◌<◌, ◌≤◌, ◌==◌, Bool, true, false, cond, List, [], ◌∷◌, ◌++◌, length, length-append, append_assoc, map, take, drop, get_or, slice_range, Option, Some, None, All, refl, sym, ap, subst, ◌∙◌, arith}
+use Rattle.std.proofs.Common.{◌≡◌, ℕ, zero, suc, ◌+◌, ◌-◌, ◌<◌, ◌≤◌, ◌==◌, Bool, true, false, cond, List, [], ◌∷◌, ◌++◌, length, length-append, append_assoc, map, take, drop, get_or, slice_range, Option, Some, None, All, refl, sym, ap, subst, ◌∙◌, arith}
 use Rattle.std.specs.Prelude.{find, max, min, unwrap_or}
 use Rattle.std.specs.Map.{lookup, keys_of}
 use Rattle.std.specs.Ordering.{nat_cmp}
@@ -10,7 +10,7 @@ use Rattle.imkl_population.specs.declared.entries.Entry.{Entry}
 use Rattle.imkl_population.specs.declared.scalar.Scalar.{Scalar}
 use Rattle.imkl_population.specs.declared.store.Segment.{Segment}
 use Rattle.imkl_population.specs.FinishedPopulation.{no_segment, range_in}
-use Rattle.imkl_population.specs.Store.{Stored, AreRangesWithin, AreSegments, IsEntry, IsPlaced, IsSegment, longest_in, longest_range, maps_in, maps_of, segment_behind, objects_in, range_of, ranges_from, scalars_of, shifted, values_in}
+use Rattle.imkl_population.specs.Store.{Stored, AreRangesWithin, AreSegments, IsSegment, longest_in, longest_range, maps_in, maps_of, segment_behind, objects_in, range_of, ranges_from, scalars_of, shifted, values_in}
 use Rattle.imkl_population.proofs.Encoded.{is_eq-nat_cmp}
 use Rattle.imkl_population.proofs.Longest.{longest_span}
 use Rattle.imkl_population.proofs.Stored.{length-range, slice_range-more}
@@ -76,10 +76,6 @@ keys_of-column s [] zero = refl
 keys_of-column s [] (suc f) = refl
 keys_of-column s (c ∷ cs) zero = keys_of-values s c
 keys_of-column s (c ∷ cs) (suc f) = keys_of-column s cs f
-
--- entries within m values have places of 64 bits, where n values before these do
-pub entries-placed : (n m : ℕ) (es : List Entry) → n + m < 2 ^ 64 → All (IsEntry m) es → All (IsPlaced n) es
-entries-placed n m es fits within = All-weaker (IsEntry m) (IsPlaced n) (λ e h. (h.0, omega (arith, h.1, fits))) es within
 
 -- ---- the ranges of all columns
 

@@ -1,7 +1,7 @@
 -- Values that stand: counted, and copied without those that were replaced.
-use Rattle.std.proofs.Common.{◌≡◌, ℕ, zero, suc, ◌+◌, ◌-◌, ◌<◌, List, [], ◌∷◌, ◌++◌, length, map, take, set, get_or, refl, sym, ap, subst, ◌∙◌, arith, length-append, slice_range, All}
+use Rattle.std.proofs.Common.{◌≡◌, ℕ, zero, suc, ◌+◌, ◌-◌, ◌<◌, List, [], ◌∷◌, ◌++◌, length, map, take, set, get_or, sym, ap, subst, ◌∙◌, arith, length-append, slice_range, All}
 use Rattle.std.proofs.lemmas.List.{take_more, take_more_set, map-append}
-use Rattle.std.proofs.lemmas.List.Elements.{All-push, All-nil}
+use Rattle.std.proofs.lemmas.List.Elements.{All-push}
 use Rattle.std.specs.Prelude.{min}
 use Rattle.std.specs.List.Sorted.{IsStrictlySortedBy}
 use Rattle.std.specs.Map.{keys_of}
@@ -39,10 +39,6 @@ pub record AreCopied (s0 : List Scalar) (from : List Entry) (s : List Scalar) (e
   pub within : All (IsEntry (length s)) es
   pub shown : map (entry_of s) es ≡ map (entry_of s0) from
   pub count : length s ≡ standing (map range_of es)
-
--- at first nothing is copied
-pub nothing-copied : (s0 s : List Scalar) (es : List Entry) → s ≡ [] → es ≡ [] → AreCopied s0 [] s es
-nothing-copied s0 s es none empty = rw (none, empty) (record { within = All-nil (IsEntry 0); shown = refl; count = refl })
 
 module _ (s0 s s1 : List Scalar) (all es new : List Entry) (i : ℕ) (e x : Entry) (vs : List Scalar) (inside : i < length all) (is : e ≡ get_or all i e) (before : AreCopied s0 (take i all) s es)
     (shows : vs ≡ slice_range s0 e.start e.end) (grown : s1 ≡ s ++ vs) (object : x.object ≡ e.object) (start : x.start ≡ length s) (end : x.end ≡ length s1) (pushed : new ≡ es ++ x ∷ []) where

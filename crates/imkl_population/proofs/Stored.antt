@@ -13,6 +13,7 @@ use Rattle.std.specs.BTreeMap.{insert_entry, is_at}
 use Rattle.std.specs.Cmp.{nat_cmp_is}
 use Rattle.std.proofs.lemmas.Cmp.{ranked}
 use Rattle.std.specs.FinMap.{nat_cmp-IsAntisymmetric}
+use Rattle.ocl_base.proofs.ForAbove.{all_weaker}
 use Rattle.imkl_population.specs.declared.scalar.Scalar.{Scalar}
 use Rattle.imkl_population.specs.declared.entries.Entry.{Entry}
 use Rattle.imkl_population.specs.Written.{written_in, IsMap}
@@ -115,11 +116,6 @@ objects-put : (P : ℕ → Type 0) (es : List Entry) (x : Entry) → AllByRecurs
 objects-put P [] x h here = (here, tt)
 objects-put P (e ∷ es) x h here = above_by P (nat_cmp x.object e.object) e x es (put_entry es x) h here (objects-put P es x h.1 here)
 
--- a property that follows from one that each key has, each key has too
-pub weaker : {K : Type 0} (P Q : K → Type 0) → ((k : K) → P k → Q k) → (ks : List K) → AllByRecursion P ks → AllByRecursion Q ks
-weaker P Q f [] h = tt
-weaker P Q f (k ∷ ks) h = (f k h.0, weaker P Q f ks h.1)
-
 further : (x e k : ℕ) → nat_cmp x e ≡ Less → nat_cmp e k ≡ Less → nat_cmp x k ≡ Less
 further x e k c h =
     let first : x < e = less_is x e c in
@@ -130,7 +126,7 @@ ascend_by : (o : Ordering) (e x : Entry) (es more : List Entry) → nat_cmp x.ob
     → (AllByRecursion (λ k. nat_cmp e.object k ≡ Less) (objects_in es) → nat_cmp e.object x.object ≡ Less → AllByRecursion (λ k. nat_cmp e.object k ≡ Less) (objects_in more))
     → IsStrictlySortedBy nat_cmp (objects_in (match_ordering o (x ∷ e ∷ es) (x ∷ es) (e ∷ more)))
 unfolding IsStrictlySortedBy
-ascend_by Less e x es more c h later above = ((c, weaker (λ k. nat_cmp e.object k ≡ Less) (λ k. nat_cmp x.object k ≡ Less) (λ k. further x.object e.object k c) (objects_in es) h.0), h)
+ascend_by Less e x es more c h later above = ((c, all_weaker (λ k. nat_cmp e.object k ≡ Less) (λ k. nat_cmp x.object k ≡ Less) (λ k. further x.object e.object k c) (objects_in es) h.0), h)
 ascend_by Equal e x es more c h later above =
     let same : e.object ≡ x.object = sym (nat_cmp-IsAntisymmetric x.object e.object c) in
     (subst (λ (n : ℕ). AllByRecursion (λ k. nat_cmp n k ≡ Less) (objects_in es)) same h.0, h.1)
@@ -267,7 +263,8 @@ not_over true upper s e first o r is within over lt later =
       | inr h ↦ rw long h
     ]
 
-nothing_over : (upper : Option ℕ) → is_over upper 0 ≡ false
+-- no values are not too many
+pub nothing_over : (upper : Option ℕ) → is_over upper 0 ≡ false
 nothing_over None = refl
 nothing_over (Some u) = le-ltb u 0 (omega arith)
 

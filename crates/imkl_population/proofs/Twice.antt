@@ -4,11 +4,10 @@ use Rattle.std.specs.Cmp.{int_eq_equiv}
 use Rattle.std.proofs.lemmas.Bool.{false≢true, eqb-true, eq-eqb}
 use Rattle.std.proofs.lemmas.Cmp.{nat_list_eq_equiv}
 use Rattle.std.proofs.lemmas.List.{take-append-drop}
-use Rattle.ocl_base.proofs.ForAbove.{found_again}
+use Rattle.ocl_base.proofs.ForAbove.{found_again, same_test}
 use Rattle.imkl_population.specs.declared.scalar.Scalar.{Scalar}
 use Rattle.imkl_population.specs.declared.scalar.Scalar.TheVariants as scalar
 use Rattle.imkl_population.specs.Values.{same_scalar, is_value_among, repeats_value}
-use Rattle.imkl_population.proofs.Bools.{same_test}
 
 eqb-sym : (m n : ℕ) → eqb m n ≡ eqb n m
 eqb-sym m n = same_test (eqb m n) (eqb n m) (λ h. eq-eqb n m (sym (eqb-true m n h))) (λ h. eq-eqb m n (sym (eqb-true n m h)))

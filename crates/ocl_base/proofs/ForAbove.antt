@@ -1,6 +1,8 @@
--- What the crates above cite: steps that may fail, lists that loops read, numbers that pass a test, and the items of a stack by their numbers.
+-- What the crates above cite: steps that may fail, lists that loops read, numbers that pass a test, the items of a stack
+-- by their numbers, and the characters of a text.
 use Rattle.std.proofs.Common.{◌≡◌, ℕ, zero, suc, ◌+◌, ◌<◌, ◌≤◌, ◌&&◌, ◌||◌, ◌⊎◌, inl, inr, Bool, true, false, if◌then◌else◌, List, [], ◌∷◌, ◌++◌, length, get_or, drop, map, find, Option, Some, None, IfSome, Result, Ok, Err, refl, sym, ap, subst, ◌∙◌, append_assoc, drop-cons, add-one, arith, All}
-use Rattle.std.specs.Prelude.{nat_eq}
+use Rattle.std.specs.Prelude.{nat_eq, max, is_err, IsOk, OnOk, OnErr}
+use Rattle.std.specs.List.{AllByRecursion}
 use Rattle.std.specs.Option.{option_or}
 use Rattle.std.proofs.lemmas.Bool.{false≢true, or_parts, or_left, or_right, ne_eqb}
 use Rattle.std.proofs.lemmas.Bool.Decides.{leb_tells}
@@ -15,6 +17,7 @@ use Rattle.ocl_base.specs.Lists.{is_among, repeats}
 use Rattle.ocl_base.specs.Steps.{◌>>=◌, found, each, FaultMeaning, fault, out_of_memory, never, Means, Fails}
 use Rattle.ocl_base.specs.Numbers.{places, least}
 pub use Rattle.ocl_base.proofs.Stacks.{at_bottom, past_bottom}
+pub use Rattle.ocl_base.proofs.Characters.{next_left}
 
 -- ---- steps that succeeded
 
@@ -38,6 +41,35 @@ both_steps (Err z) f y e = absurd (not_okay z y e)
 pub found_is : {A E : Type 0} (o : Option A) (z : E) (x : A) → found o z ≡ Ok x → o ≡ Some x
 found_is None z x e = absurd (not_okay z x e)
 found_is (Some y) z x e = ap (λ (v : _). Some v) (ok_is y x e)
+
+-- ---- calls that may fail
+
+-- what a call that is no error says on success
+pub on_success : {A E : Type 0} (r : Result A E) (P : Type 0) → is_err r ≡ false → OnOk r P → P
+on_success (Ok x) P e h = h
+on_success (Err x) P e h = absurd (false≢true (sym e))
+
+-- what holds anyway holds on an error
+pub anyway_on_err : {A E : Type 0} (r : Result A E) (P : Type 0) → P → OnErr r P
+anyway_on_err (Ok x) P h = tt
+anyway_on_err (Err e) P h = h
+
+-- a call that succeeded gave no error
+pub not_both : {A E : Type 0} (r : Result A E) (e : E) → r ≡ Err e → IsOk r → ⊥
+not_both (Ok x) e is h = cc
+not_both (Err x) e is h = let bad = h in cc
+
+-- ---- tests and numbers
+
+-- two tests of which each passes where the other does
+pub same_test : (a b : Bool) → (a ≡ true → b ≡ true) → (b ≡ true → a ≡ true) → a ≡ b
+same_test true b to back = sym (to refl)
+same_test false true to back = back refl
+same_test false false to back = refl
+
+-- the greatest of three, whichever two are compared first
+pub max_assoc : (a b c : ℕ) → max a (max b c) ≡ max (max a b) c
+max_assoc a b c = omega arith
 
 -- ---- each of a list
 
@@ -74,33 +106,34 @@ each_map {B = B} f g h same (x ∷ xs) ys e =
 
 -- ---- what holds of each element, by recursion
 
-abbrev pub AllOf : {X : Type 0} → (X → Type 0) → List X → Type 0
-AllOf P [] = Unit {0}
-AllOf P (x ∷ xs) = P x × AllOf P xs
-
 -- what holds of each element holds of the one at an index
-pub all_at : {X : Type 0} (P : X → Type 0) (xs : List X) → AllOf P xs → (i : ℕ) (d : X) → i < length xs → P (get_or xs i d)
+pub all_at : {X : Type 0} (P : X → Type 0) (xs : List X) → AllByRecursion P xs → (i : ℕ) (d : X) → i < length xs → P (get_or xs i d)
 all_at P [] h i d lt = absurd (omega (arith, lt))
 all_at P (x ∷ xs) h zero d lt = h.0
 all_at P (x ∷ xs) h (suc i) d lt = all_at P xs h.1 i d (omega (arith, lt))
 
 -- what holds of the element at each index holds of each element
-pub from_all : {X : Type 0} (P : X → Type 0) (xs : List X) → All P xs → AllOf P xs
+pub from_all : {X : Type 0} (P : X → Type 0) (xs : List X) → All P xs → AllByRecursion P xs
 from_all P [] h = tt
 from_all P (x ∷ xs) h = (h 0 x (omega arith), from_all P xs (λ k d lt. h (suc k) d (omega (arith, lt))))
 
+-- what follows from what holds of each element holds of each
+pub all_weaker : {X : Type 0} (P Q : X → Type 0) → ((x : X) → P x → Q x) → (xs : List X) → AllByRecursion P xs → AllByRecursion Q xs
+all_weaker P Q f [] h = tt
+all_weaker P Q f (x ∷ xs) h = (f x h.0, all_weaker P Q f xs h.1)
+
 -- what holds of each element of two lists holds of each element of the two joined
-pub all_joined : {X : Type 0} (P : X → Type 0) (xs ys : List X) → AllOf P xs → AllOf P ys → AllOf P (xs ++ ys)
+pub all_joined : {X : Type 0} (P : X → Type 0) (xs ys : List X) → AllByRecursion P xs → AllByRecursion P ys → AllByRecursion P (xs ++ ys)
 all_joined P [] ys h g = g
 all_joined P (x ∷ xs) ys h g = (h.0, all_joined P xs ys h.1 g)
 
 -- where each element has one property, what is made of each has the property that follows from it
-pub all_mapped : {X Y : Type 0} (P : X → Type 0) (Q : Y → Type 0) (f : X → Y) → ((x : X) → P x → Q (f x)) → (xs : List X) → AllOf P xs → AllOf Q (map f xs)
+pub all_mapped : {X Y : Type 0} (P : X → Type 0) (Q : Y → Type 0) (f : X → Y) → ((x : X) → P x → Q (f x)) → (xs : List X) → AllByRecursion P xs → AllByRecursion Q (map f xs)
 all_mapped P Q f step [] h = tt
 all_mapped P Q f step (x ∷ xs) h = (step x h.0, all_mapped P Q f step xs h.1)
 
 -- what each step gives, each element keeps
-pub all_each : {X A E : Type 0} (f : X → Result A E) (Q : A → Type 0) → ((x : X) (y : A) → f x ≡ Ok y → Q y) → (xs : List X) (ys : List A) → each f xs ≡ Ok ys → AllOf Q ys
+pub all_each : {X A E : Type 0} (f : X → Result A E) (Q : A → Type 0) → ((x : X) (y : A) → f x ≡ Ok y → Q y) → (xs : List X) (ys : List A) → each f xs ≡ Ok ys → AllByRecursion Q ys
 all_each f Q step [] ys e = rw (each_nothing f ys e) tt
 all_each f Q step (x ∷ xs) ys e = let p = each_first f x xs ys e in rw p.4 (step x p.0 p.2, all_each f Q step xs p.1 p.3)
 

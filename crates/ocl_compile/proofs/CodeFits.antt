@@ -4,6 +4,7 @@ use Rattle.std.specs.Prelude.{slice_get, unwrap_or}
 use Rattle.std.specs.Option.{option_map, option_map_or}
 use Rattle.std.specs.List.{AllByRecursion}
 use Rattle.std.proofs.lemmas.Option.{slice_get-map, slice_get-get_or, slice_get_within}
+use Rattle.ocl_base.proofs.ForAbove.{all_joined}
 use Rattle.imkl_model.specs.ClassModel.{Model}
 use Rattle.ocl_kinds.specs.declared.kind.ScalarKind.{ScalarKind}
 use Rattle.ocl_kinds.specs.declared.kind.ScalarKind.TheVariants as element
@@ -48,11 +49,6 @@ first_all P (x ∷ xs) ys h = (h.0, first_all P xs ys h.1)
 pub rest_all : {A : Type 0} (P : A → Type 0) (xs ys : List A) → AllByRecursion P (xs ++ ys) → AllByRecursion P ys
 rest_all P [] ys h = h
 rest_all P (x ∷ xs) ys h = rest_all P xs ys h.1
-
--- what holds of two lists holds of both together
-pub both_all : {A : Type 0} (P : A → Type 0) (xs ys : List A) → AllByRecursion P xs → AllByRecursion P ys → AllByRecursion P (xs ++ ys)
-both_all P [] ys h g = g
-both_all P (x ∷ xs) ys h g = (h.0, both_all P xs ys h.1 g)
 
 -- the tag of what is named
 abbrev pub tag_of_named : Named → SymbolTag
@@ -182,7 +178,7 @@ module _ (m : Model) (n : Numbering) where
 
   block_fits : (g : List Kind) (x : Kind) (i : Instr) (body rest : CodeTree) → IsSmall g (code.Block i body rest) → (IsSmall (g ++ x ∷ []) body → AllFit body) → (instr_count body < 2 ^ 16 → Fits i) → (IsSmall g rest → AllFit rest) → AllFit (code.Block i body rest)
   block_fits g x i body rest small in_body instr later =
-      (instr (omega (arith, small)), both_all Fits (instrs_of body) (instrs_of rest) (in_body (omega (arith, small, length-append g (x ∷ [])))) (later (omega (arith, small))))
+      (instr (omega (arith, small)), all_joined Fits (instrs_of body) (instrs_of rest) (in_body (omega (arith, small, length-append g (x ∷ [])))) (later (omega (arith, small))))
 
   mutual
     -- the code of a typed tree fits the unit, in front of code that does
@@ -222,7 +218,7 @@ module _ (m : Model) (n : Numbering) where
         (λ s. tree_fits start g _ t.1.6 (first_all (Has m n) (tree_uses m start) _ after) w.1.0 _ s
         (λ z. (
           (scalar_within x (first_all (Has m n) (scalar_uses x) _ last), (omega (arith, z), tt)),
-          both_all Fits (instrs_of b) (instrs_of rest) (tree_fits body _ t.1.4 t.1.9 (rest_all (Has m n) (scalar_uses x) _ last) w.1.1 code.End in_body (λ _. tt)) (later (omega (arith, z))),
+          all_joined Fits (instrs_of b) (instrs_of rest) (tree_fits body _ t.1.4 t.1.9 (rest_all (Has m n) (scalar_uses x) _ last) w.1.1 code.End in_body (λ _. tt)) (later (omega (arith, z))),
         )))
     tree_fits (tree.Let v body) g k t h w rest small later =
         let b = translate m n body code.End in
@@ -238,8 +234,8 @@ module _ (m : Model) (n : Numbering) where
         tree_fits condition g t.1.0 t.1.3 (first_all (Has m n) (tree_uses m condition) _ h) w.0 _ small
         (λ s. (
           (kind_within kind (first_all (Has m n) (kind_uses kind) _ after), (omega (arith, s), (omega (arith, s), tt))),
-          both_all Fits (instrs_of a) (instrs_of b ++ instrs_of rest) (tree_fits first g t.1.1 t.1.5 (first_all (Has m n) (tree_uses m first) _ branches) w.1.0 code.End (omega (arith, s)) (λ _. tt))
-              (both_all Fits (instrs_of b) (instrs_of rest) (tree_fits second g t.1.2 t.1.7 (rest_all (Has m n) (tree_uses m first) _ branches) w.1.1 code.End (omega (arith, s)) (λ _. tt)) (later (omega (arith, s)))),
+          all_joined Fits (instrs_of a) (instrs_of b ++ instrs_of rest) (tree_fits first g t.1.1 t.1.5 (first_all (Has m n) (tree_uses m first) _ branches) w.1.0 code.End (omega (arith, s)) (λ _. tt))
+              (all_joined Fits (instrs_of b) (instrs_of rest) (tree_fits second g t.1.2 t.1.7 (rest_all (Has m n) (tree_uses m first) _ branches) w.1.1 code.End (omega (arith, s)) (λ _. tt)) (later (omega (arith, s)))),
         ))
 
     trees_fit : (ts : CoreTrees) (g ks : List Kind) → AreTyped m g ts ks → HasAll (trees_uses m ts) → AreWritten ts

@@ -40,7 +40,8 @@ typed_at m [] n r h e = cc
 typed_at m (x ∷ rs) zero r h e = let same : x ≡ r = cc in subst (IsTypedRule m) same h.0
 typed_at m (x ∷ rs) (suc n) r h e = typed_at m rs n r h.1 e
 
-resolved_at : (m : Model) (u : Content) (k : Numbering) (rs : List CheckedRule) (n : ℕ) (r : CheckedRule) → AreUsesResolved m u k (rules_uses m rs) → slice_get rs n ≡ Some r → AreUsesResolved m u k (rule_uses m r)
+-- of the uses of all rules, those of one
+pub resolved_at : (m : Model) (u : Content) (k : Numbering) (rs : List CheckedRule) (n : ℕ) (r : CheckedRule) → AreUsesResolved m u k (rules_uses m rs) → slice_get rs n ≡ Some r → AreUsesResolved m u k (rule_uses m r)
 resolved_at m u k [] n r h e = cc
 resolved_at m u k (x ∷ rs) zero r h e =
     let same : x ≡ r = cc in

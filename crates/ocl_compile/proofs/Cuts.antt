@@ -1,7 +1,7 @@
 -- Extents may be cut before they are put together.
 use Rattle.std.proofs.Common.{◌≡◌, ℕ, refl, arith}
 use Rattle.ocl_compile.specs.declared.extent.Extent.{Extent}
-use Rattle.ocl_compile.specs.Extents.{extent, then_instruction, then_above, then_block, then_branches, cut_extent}
+use Rattle.ocl_compile.specs.Extents.{extent, then_instruction, then_above, then_block, cut_extent}
 
 same_extent : (a b c x y z : ℕ) → a ≡ x → b ≡ y → c ≡ z → extent a b c ≡ extent x y z
 same_extent a b c x y z e f g = rw (e, f, g) refl
@@ -15,6 +15,3 @@ cut_above below x y = same_extent _ _ _ _ _ _ (omega arith) (omega arith) (omega
 
 pub cut_block : (x y : Extent) → cut_extent (then_block (cut_extent x) (cut_extent y)) ≡ cut_extent (then_block x y)
 cut_block x y = same_extent _ _ _ _ _ _ (omega arith) (omega arith) (omega arith)
-
-pub cut_branches : (x y z : Extent) → cut_extent (then_branches (cut_extent x) (cut_extent y) (cut_extent z)) ≡ cut_extent (then_branches x y z)
-cut_branches x y z = same_extent _ _ _ _ _ _ (omega arith) (omega arith) (omega arith)

@@ -321,11 +321,6 @@ module _ (m : Model) (n : Numbering) where
   operands_here xs i x is lt h =
       subst (λ (ys : List Core). AreEmittable m n (cores_of (map core_view ys))) (drop_more xs i x lt ∙ ap (λ (y : Core). y ∷ drop (i + 1) xs) (sym is)) h
 
-  -- and of links likewise
-  pub links_here : (xs : List CoreLink) (i : ℕ) (x : CoreLink) → x ≡ get_or xs i x → i < length xs → AreEmittableLinks m n (drop i xs) → IsTopEmittable m n (link_node x) × AreEmittableLinks m n (drop (i + 1) xs)
-  links_here xs i x is lt h =
-      subst (AreEmittableLinks m n) (drop_more xs i x lt ∙ ap (λ (y : CoreLink). y ∷ drop (i + 1) xs) (sym is)) h
-
 -- ---- what the code says of whole numbers
 
 link_written : (link : CoreLink) (left : CoreTree) → IsWritten left → IsWritten (link_node link) → IsWritten (core_link_of link left)

@@ -1,8 +1,6 @@
 -- Symbols are compared by their keys.
-use Rattle.std.proofs.Common.{◌≡◌, ℕ, ◌&&◌, ◌==◌, Bool, refl, ap, ◌∙◌, nat_cmp}
-use Rattle.std.specs.Cmp.{unsigned_tied}
-use Rattle.std.specs.declared.cmp.Ordering.{Ordering}
-use Rattle.std.specs.declared.cmp.Ordering.TheVariants.{Less, Equal, Greater}
+use Rattle.std.proofs.Common.{◌≡◌, ℕ, ◌&&◌, ◌==◌, Bool, refl, sym, ap, ◌∙◌, nat_cmp}
+use Rattle.std.specs.Cmp.{tied_then, unsigned_tied}
 use Rattle.std.specs.Ordering.{is_eq, ordering_then}
 use Rattle.rule_verify.specs.declared.named.Named.{Named}
 use Rattle.rule_verify.specs.declared.named.Named.TheVariants as named
@@ -10,14 +8,9 @@ use Rattle.ocl_compile.specs.contracts.symbols.KeyOrd.TheImpl.{cmp-value}
 use Rattle.ocl_compile.specs.Numbering.{same_named}
 use Rattle.ocl_compile.specs.NumbersView.{key_of}
 
-both_equal : (o p : Ordering) → is_eq (ordering_then o p) ≡ (is_eq o && is_eq p)
-both_equal Less p = refl
-both_equal Equal p = refl
-both_equal Greater p = refl
-
 pairs_tied : (c f d g : ℕ) → is_eq (ordering_then (nat_cmp c d) (nat_cmp f g)) ≡ (c == d && f == g)
 pairs_tied c f d g =
-    both_equal (nat_cmp c d) (nat_cmp f g)
+    sym (tied_then (nat_cmp c d) (nat_cmp f g))
     ∙ ap (λ (b : Bool). b && is_eq (nat_cmp f g)) (unsigned_tied c d)
     ∙ ap (λ (b : Bool). c == d && b) (unsigned_tied f g)
 

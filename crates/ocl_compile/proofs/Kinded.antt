@@ -2,6 +2,7 @@
 use Rattle.std.proofs.Common.{◌≡◌, ◌⊎◌, ℕ, zero, suc, ◌+◌, ◌<◌, ◌≤◌, ◌==◌, max, Bool, true, false, List, [], ◌∷◌, ◌++◌, length, Some, Result, Ok, refl, sym, ap, ◌∙◌, inl, inr, ⊎_elim, arith, length-append}
 use Rattle.std.specs.Prelude.{slice_get, nat_le, nat_lt, if◌then◌else◌}
 use Rattle.std.proofs.lemmas.Bool.{le-leb, lt-ltb, eq-eqb, ne_eqb}
+use Rattle.rule_verify.proofs.ForAbove.{below_count}
 use Rattle.ocl_base.specs.Steps.{◌>>=◌, check}
 use Rattle.imkl_model.specs.ClassModel.{Model}
 use Rattle.ocl_kinds.specs.declared.kind.Kind.{Kind}
@@ -9,7 +10,6 @@ use Rattle.ocl_kinds.specs.Kinds.{fits}
 use Rattle.rule_code.specs.declared.instruction.Instr.{Instr}
 use Rattle.rule_verify.specs.declared.depths.Depths.{Depths}
 use Rattle.rule_verify.specs.declared.fault.VerifyFlaw.TheVariants as flaws
-use Rattle.rule_verify.specs.declared.pattern.Pattern.{Pattern}
 use Rattle.rule_verify.specs.CodeTree.{CodeTree, End, Plain, Block, Branch, Torn, instr_count}
 use Rattle.rule_verify.specs.CodeDepths.{deeper, past_instr, in_binding, in_branch, deepest}
 use Rattle.ocl_base.specs.Lists.{variable_at}
@@ -88,11 +88,6 @@ pub record TakesKinds (s : Surroundings) (vars : List Kind) (i : Instr) (stack l
   pub match : all_match s.model (operands_of s i) stack ≡ true
   pub leaves : below (operands_of s i) stack ≡ left
 
-there_count : (ws : List Pattern) (ks : List Kind) → are_there ws ks ≡ true → length ks ≡ length ws + length (below ws ks)
-there_count [] ks e = omega arith
-there_count (w ∷ ws) [] e = cc
-there_count (w ∷ ws) (k ∷ ks) e = omega (arith, there_count ws ks e)
-
 taken_is : (s : Surroundings) (vars : List Kind) (i : Instr) (at : ℕ) (stack left : List Kind) → TakesKinds s vars i stack left → taken s vars i at stack ≡ Ok left
 taken_is s vars i at stack left t =
     let fault : _ → InstrFault = λ f. instr_fault f s.rule at in
@@ -103,7 +98,7 @@ taken_is s vars i at stack left t =
     ∙ ap (λ (l : List Kind). Ok l) t.leaves
 
 left_count : (s : Surroundings) (vars : List Kind) (i : Instr) (stack left : List Kind) → TakesKinds s vars i stack left → length stack ≡ length (operands_of s i) + length left
-left_count s vars i stack left t = there_count (operands_of s i) stack t.there ∙ ap (λ (l : List Kind). length (operands_of s i) + length l) t.leaves
+left_count s vars i stack left t = below_count (operands_of s i) stack t.there ∙ ap (λ (l : List Kind). length (operands_of s i) + length l) t.leaves
 
 -- ---- code
 

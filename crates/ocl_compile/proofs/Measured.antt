@@ -124,13 +124,6 @@ module _ (s : Surroundings) where
   begins_with_operands (code.Branch i first second rest) o = omega arith
   begins_with_operands (code.Torn i left) o = omega arith
 
-  begins_in_blocks : (t : CodeTree) (b : ℕ) → b ≤ most_blocks t b
-  begins_in_blocks code.End b = omega arith
-  begins_in_blocks (code.Plain i rest) b = omega arith
-  begins_in_blocks (code.Block i body rest) b = omega arith
-  begins_in_blocks (code.Branch i first second rest) b = omega arith
-  begins_in_blocks (code.Torn i left) b = omega arith
-
 -- ---- the depths of the code of core trees
 
 -- code has an operand, and no more of anything than instructions

@@ -185,16 +185,6 @@ module _ (s : Surroundings) (n : Numbering) where
   pub is_fitting : (j k : Kind) → j ≡ k → fits s.model j k ≡ true
   is_fitting j k e = ap (λ (x : Kind). fits s.model x k) e ∙ fits_itself s.model k
 
-  -- a kind that fits a collection's is a collection's
-  pub fits_collection : (l : Kind) (c : CollectionKind) (e : ScalarKind) → fits s.model l (Collection c e) ≡ true → (d : CollectionKind) × (f : ScalarKind) × (l ≡ Collection d f) × (is_same_collection d c ≡ true) × (scalar_fits s.model f e ≡ true)
-  fits_collection (Scalar j) c e h = cc
-  fits_collection (Collection d j) c e h = let p = and_parts (is_same_collection d c) (scalar_fits s.model j e) h in (d, j, refl, p.0, p.1)
-
-  -- and one that fits a single value's is a single value's
-  pub fits_scalar : (l : Kind) (e : ScalarKind) → fits s.model l (Scalar e) ≡ true → (f : ScalarKind) × (l ≡ Scalar f) × (scalar_fits s.model f e ≡ true)
-  fits_scalar (Scalar j) e h = (j, refl, h)
-  fits_scalar (Collection d j) e h = cc
-
   collection_matches : (l : Kind) (c : CollectionKind) (e k : ScalarKind) → fits s.model l (Collection c e) ≡ true → scalar_fits s.model e k ≡ true → matches s.model (pattern.CollectionOf k) l ≡ true
   collection_matches (Scalar j) c e k h g = cc
   collection_matches (Collection d j) c e k h g = scalar_fits_along s.model j e k (and_parts (is_same_collection d c) (scalar_fits s.model j e) h).1 g

@@ -3,7 +3,7 @@ use Rattle.std.proofs.Common.{◌≡◌, ℕ, suc, ◌+◌, ◌<◌, ◌==◌, B
 use Rattle.std.specs.Prelude.{slice_get, unwrap_or, option_and_then}
 use Rattle.std.specs.Option.{option_map}
 use Rattle.std.specs.List.{list_any, AllByRecursion, position_or_len, prefix_len}
-use Rattle.std.proofs.lemmas.Bool.{and_parts, lt-ltb, eq-eqb, eqb-true}
+use Rattle.std.proofs.lemmas.Bool.{and_parts, or_right, lt-ltb, eq-eqb, eqb-true}
 use Rattle.std.proofs.lemmas.List.Folds.{list_any-append}
 use Rattle.std.proofs.lemmas.List.Quantifiers.{position-Some}
 use Rattle.std.proofs.lemmas.Option.{slice_get-map, slice_get-get_or}
@@ -66,13 +66,9 @@ stays same xs x y e = by_test (is_among same xs x)
 is_added : {A : Type 0} (same : A → A → Bool) (xs : List A) (x : A) → same x x ≡ true → is_among same (once_more same xs x) x ≡ true
 is_added same xs x itself = by_test (is_among same xs x) refl
   where
-    or_true : (a b : Bool) → b ≡ true → (a || b) ≡ true
-    or_true true b e = refl
-    or_true false b e = e
-
     by_test : (b : Bool) → is_among same xs x ≡ b → list_any (same x) (if b then xs else xs ++ x ∷ []) ≡ true
     by_test true h = h
-    by_test false h = list_any-append (same x) xs (x ∷ []) ∙ or_true (list_any (same x) xs) (list_any (same x) (x ∷ [])) (ap (λ (t : Bool). t || false) itself)
+    by_test false h = list_any-append (same x) xs (x ∷ []) ∙ or_right (list_any (same x) xs) (list_any (same x) (x ∷ [])) (ap (λ (t : Bool). t || false) itself)
 
 -- a text is equal to itself
 pub text_itself : (t : List ℕ) → bytes_eq t t ≡ true

@@ -67,11 +67,6 @@ module _ (m : Model) (all : List CheckedRule) where
     pub typed : AllByRecursion (IsTypedRule m) left
     pub passed : first_passed m all [] all ≡ first_passed m all before left
 
-  -- before the first rule, none is numbered
-  pub none_numbered : AllByRecursion (IsTypedRule m) all → NumberedTo no_numbers 0 all
-  none_numbered typed =
-      record { before = []; numbers = refl; count = refl; parts = refl; short = refl; typed = typed; passed = refl }
-
   module _ (n new : Numbering) (i : ℕ) (r : CheckedRule) (left : List CheckedRule) (h : NumberedTo n i (r ∷ left)) (e : new ≡ with_uses m n (rule_uses m r)) where
     now : new ≡ numbering_of m (h.before ++ r ∷ [])
     now = e ∙ ap (λ (o : Numbering). with_uses m o (rule_uses m r)) h.numbers ∙ sym (numbering_more m h.before r)

@@ -6,6 +6,7 @@ use Rattle.std.specs.List.{AllByRecursion, list_any}
 use Rattle.std.proofs.lemmas.Bool.{ltb-false, leb-false}
 use Rattle.std.proofs.lemmas.List.{length-map}
 use Rattle.std.proofs.lemmas.Slice.Eq.{bytes_eq-Decides}
+use Rattle.ocl_base.proofs.ForAbove.{all_joined}
 use Rattle.ocl_base.specs.Lists.{is_among, repeats}
 use Rattle.ocl_base.specs.Words.{is_name}
 use Rattle.imkl_model.specs.ClassModel.{Model, class_at, enumeration_at, feature_at}
@@ -26,7 +27,7 @@ use Rattle.ocl_compile.specs.Written.{IsWrittenRule}
 use Rattle.ocl_compile.proofs.Added.{or_parts}
 use Rattle.ocl_compile.proofs.Flat.{flat_count, translated_cut}
 use Rattle.ocl_compile.proofs.Resolving.{HasText, Has, Grows, all_texts, has_uses, texts_added, grows_by_use, text_stands}
-use Rattle.ocl_compile.proofs.CodeFits.{first_all, rest_all, both_all, text_within, symbol_within, tree_fits}
+use Rattle.ocl_compile.proofs.CodeFits.{first_all, rest_all, text_within, symbol_within, tree_fits}
 use Rattle.ocl_compile.proofs.CompiledUnits.{none_later}
 use Rattle.ocl_compile.proofs.Versions.{HasInstrs, version_has}
 
@@ -86,7 +87,7 @@ once_more_all P same xs x h g = by_test (is_among same xs x)
   where
     by_test : (b : Bool) → AllByRecursion P (if b then xs else xs ++ x ∷ [])
     by_test true = h
-    by_test false = both_all P xs (x ∷ []) h (g, tt)
+    by_test false = all_joined P xs (x ∷ []) h (g, tt)
 
 with_texts_all : (P : List ℕ → Type 0) (texts ts : List (List ℕ)) → AllByRecursion P texts → AllByRecursion P ts → AllByRecursion P (with_texts texts ts)
 with_texts_all P texts [] h g = h

@@ -41,11 +41,13 @@ text_is : (t : TextReading) (rules : List Rule) → in_text t ≡ Ok rules → t
 text_is (Ok rs) rules e = ap Ok (ok_is rs rules e)
 text_is (Err f) rules e = absurd (not_okay (InText f) rules e)
 
-types_are : (o : Result (List CheckedRule) RulesFaultAt) (rs : List CheckedRule) → in_types o ≡ Ok rs → o ≡ Ok rs
+-- rules that have types
+pub types_are : (o : Result (List CheckedRule) RulesFaultAt) (rs : List CheckedRule) → in_types o ≡ Ok rs → o ≡ Ok rs
 types_are (Ok xs) rs e = ap Ok (ok_is xs rs e)
 types_are (Err f) rs e = absurd (not_okay (InTypes f) rs e)
 
-code_is : (rs : List CheckedRule) (o : Result Content LimitAt) (c : CompiledRules) → in_code rs o ≡ Ok c → (rs ≡ c.rules) × (o ≡ Ok c.unit)
+-- rules and their code
+pub code_is : (rs : List CheckedRule) (o : Result Content LimitAt) (c : CompiledRules) → in_code rs o ≡ Ok c → (rs ≡ c.rules) × (o ≡ Ok c.unit)
 code_is rs (Ok u) c e = let same = ok_is (rules_with rs u) c e in (ap (λ (x : CompiledRules). x.rules) same, ap (λ (x : CompiledRules). Ok x.unit) same)
 code_is rs (Err l) c e = absurd (not_okay (InCode l) c e)
 

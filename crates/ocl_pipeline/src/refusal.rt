@@ -100,8 +100,8 @@ impl Refusal {
             Refusal::Text { flaw, .. } => flaw.number(),
             Refusal::Types { flaw, .. } => flaw.number(),
             Refusal::Compile { limit, .. } => limit.number(),
-            Refusal::Code { flaw, .. } => *flaw as u8,
-            Refusal::Verify { flaw, .. } => *flaw as u8,
+            Refusal::Code { flaw, .. } => flaw.number(),
+            Refusal::Verify { flaw, .. } => flaw.number(),
             Refusal::Cost { .. } | Refusal::Script { .. } => 1,
         }
     }

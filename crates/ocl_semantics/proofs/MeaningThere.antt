@@ -5,6 +5,7 @@ use Rattle.std.specs.Prelude.{pos, ◌*ℤ◌, neg_ℤ, int_div, if◌then◌els
 use Rattle.std.specs.Int.{int_min, int_max}
 use Rattle.std.specs.Ordering.{int_eq}
 use Rattle.std.specs.List.{AllByRecursion, list_any}
+use Rattle.ocl_base.proofs.ForAbove.{all_mapped}
 use Rattle.ocl_base.specs.Lists.{is_among, variable_at}
 use Rattle.imkl_model.specs.ClassModel.{conforms}
 use Rattle.imkl_population.specs.declared.scalar.Scalar.TheVariants as scalar
@@ -29,7 +30,7 @@ use Rattle.rule_values.specs.Equality.{occurrences}
 use Rattle.rule_values.specs.Operations.{integer_value, or_invalid, is_true, is_false, is_invalid}
 use Rattle.rule_values.specs.Endings.{Source, is_undecided, count_true, kept_by}
 use Rattle.owned_values.specs.Meant.{IsElementThere, AreElementsThere, IsValueThere}
-use Rattle.owned_values.proofs.ForAbove.{each_there, if_there, known_there, integer_there, on_integers_there, on_integer_there, substring_there, unless_there, on_object_there, as_collection_there, on_elements_there, on_element_there, summation_there, as_set_there, element_there, kept_there, collected_there, joined_there, instances_there, read_there}
+use Rattle.owned_values.proofs.ForAbove.{if_there, known_there, integer_there, on_integers_there, on_integer_there, substring_there, unless_there, on_object_there, as_collection_there, on_elements_there, on_element_there, summation_there, as_set_there, element_there, kept_there, collected_there, joined_there, instances_there, read_there}
 use Rattle.ocl_semantics.specs.Resolved.{IsResolved, AreThere}
 use Rattle.ocl_semantics.specs.Evaluated.{node_value}
 
@@ -125,7 +126,7 @@ module _ (p : Population) where
 
   iterated_there : (i : Iteration) (v : Value) (body : Element → Value) → ((e : Element) → IsElementThere p e → There (body e)) → There v → There (iterated i v body)
   iterated_there i (Collection c es) body step h =
-      iteration_there i (record { kind = c; elements = es }) (map body es) h (each_there (IsElementThere p) There body step es h)
+      iteration_there i (record { kind = c; elements = es }) (map body es) h (all_mapped (IsElementThere p) There body step es h)
   iterated_there i Invalid body step h = tt
   iterated_there i Null body step h = tt
   iterated_there i (Single v) body step h = tt

@@ -1,6 +1,7 @@
 //! The verdicts of `embedding` on a delivery of a duct and two cables, of which one is 600 deep and the other has no depth.
 
-use embedding::{Refusal, broken_rules};
+use embedding::broken_rules;
+use ocl_pipeline::{Refusal, Stopped};
 use std::alloc::Global;
 use std::test::*;
 use test_support::{CATALOGUE, DUCT};
@@ -27,8 +28,8 @@ enum Answered {
 fn answer_of(alloc: Global, code: &[u8], budget: u64) -> Answered {
     match broken_rules(alloc, CATALOGUE.as_bytes(), DUCT.as_bytes(), code, budget) {
         Ok(broken) => Answered::Broken(broken.len()),
-        Err(Refusal::Code(_)) => Answered::NoCode,
-        Err(Refusal::Cost(_)) => Answered::AboveBudget,
+        Err(Stopped::Refused(Refusal::Code { .. })) => Answered::NoCode,
+        Err(Stopped::Refused(Refusal::Cost { .. })) => Answered::AboveBudget,
         Err(_) => Answered::Other,
     }
 }

@@ -1,6 +1,6 @@
 //! A budget above 2^63-1, the largest that the command line takes and the largest bound that there is.
 
-use ocl_check::{Counting, JudgeOptions, Outcome, RulesForm, Telling, run_judge};
+use ocl_check::{CountedReader, JudgeOptions, Outcome, RulesForm, Telling, run_judge};
 use std::alloc::{AllocError, Global};
 use std::test::*;
 use test_support::{CATALOGUE, DUCT};
@@ -30,9 +30,9 @@ fn judged(alloc: Global, rules: &str, text: &str) -> (Outcome, bool) {
     let outcome = run_judge(
         alloc,
         WITHIN_ALL,
-        &mut Counting::new(CATALOGUE.as_bytes()),
-        &mut Counting::new(DUCT.as_bytes()),
-        &mut Counting::new(rules.as_bytes()),
+        &mut CountedReader::new(CATALOGUE.as_bytes()),
+        &mut CountedReader::new(DUCT.as_bytes()),
+        &mut CountedReader::new(rules.as_bytes()),
         &mut sink,
     );
     (outcome, sink.into_inner().as_slice() == text.as_bytes())

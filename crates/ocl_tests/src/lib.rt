@@ -1,5 +1,5 @@
 //! What the rows of tests/ can't see: inputs and outputs that fail, a budget above the largest of the command line, and
-//! how other code uses the crates.
+//! how other code uses the crates, and that a stranger's code has core trees.
 #![tactic(auto)]
 
 #[cfg(test)]
@@ -12,5 +12,7 @@ mod long;
 mod places;
 #[cfg(test)]
 mod readers;
+#[cfg(test)]
+mod trees;
 #[cfg(test)]
 mod writers;

@@ -3,7 +3,7 @@
 ghost use Rattle.std.specs.Prelude.{◌≡◌, false};
 
 use ocl_check::{
-    Counting, JudgeOptions, MAX_BUDGET, Outcome, RulesForm, Telling, run_bound, run_compile,
+    CountedReader, JudgeOptions, MAX_BUDGET, Outcome, RulesForm, Telling, run_bound, run_compile,
     run_desk, run_judge,
 };
 use std::alloc::{AllocError, Global};
@@ -54,8 +54,8 @@ fn compile_into<W: io::Write>(alloc: Global, rules: &str, out: &mut Telling<W>) 
 {
     run_compile(
         alloc,
-        &mut Counting::new(CATALOGUE.as_bytes()),
-        &mut Counting::new(rules.as_bytes()),
+        &mut CountedReader::new(CATALOGUE.as_bytes()),
+        &mut CountedReader::new(rules.as_bytes()),
         out,
         &mut Telling::new(wide(alloc)),
     )
@@ -78,9 +78,9 @@ fn is_judged(alloc: Global, rules: &str) -> bool {
     let outcome = run_judge(
         alloc,
         JudgeOptions { form, budget },
-        &mut Counting::new(CATALOGUE.as_bytes()),
-        &mut Counting::new(DUCT.as_bytes()),
-        &mut Counting::new(rules.as_bytes()),
+        &mut CountedReader::new(CATALOGUE.as_bytes()),
+        &mut CountedReader::new(DUCT.as_bytes()),
+        &mut CountedReader::new(rules.as_bytes()),
         &mut sink,
     );
     is_whole(outcome, 1, sink)
@@ -91,9 +91,9 @@ fn is_bounded(alloc: Global, code: &[u8]) -> bool {
     let mut sink = Telling::new(wide(alloc));
     let outcome = run_bound(
         alloc,
-        &mut Counting::new(CATALOGUE.as_bytes()),
-        &mut Counting::new(DUCT.as_bytes()),
-        &mut Counting::new(code),
+        &mut CountedReader::new(CATALOGUE.as_bytes()),
+        &mut CountedReader::new(DUCT.as_bytes()),
+        &mut CountedReader::new(code),
         &mut sink,
     );
     is_whole(outcome, 0, sink)
@@ -104,10 +104,10 @@ fn is_replied(alloc: Global, code: &[u8], script: &str) -> bool {
     let mut sink = Telling::new(wide(alloc));
     let outcome = run_desk(
         alloc,
-        &mut Counting::new(CATALOGUE.as_bytes()),
-        &mut Counting::new(DUCT.as_bytes()),
-        &mut Counting::new(code),
-        &mut Counting::new(script.as_bytes()),
+        &mut CountedReader::new(CATALOGUE.as_bytes()),
+        &mut CountedReader::new(DUCT.as_bytes()),
+        &mut CountedReader::new(code),
+        &mut CountedReader::new(script.as_bytes()),
         &mut sink,
     );
     is_whole(outcome, 0, sink)

@@ -3,7 +3,7 @@
 ghost use Rattle.std.specs.Prelude.{◌≡◌, false};
 
 use ocl_check::{
-    CommandFault, Counting, InputFault, JudgeOptions, MAX_BUDGET, Outcome, RulesForm, Telling,
+    CommandFault, CountedReader, InputFault, JudgeOptions, MAX_BUDGET, Outcome, RulesForm, Telling,
     read_input, run_bound, run_compile, run_desk, run_judge, run_verify,
 };
 use std::alloc::Global;
@@ -36,7 +36,7 @@ impl Read for Fed<'_> {
 
 /// How many bytes are read under a limit of 8, and by how many reads.
 fn read_of(alloc: Global, fed: Fed<'_>) -> (Result<usize, InputFault>, u32) {
-    let mut source = Counting::new(fed);
+    let mut source = CountedReader::new(fed);
     let read = match read_input(alloc, &mut source, 8) {
         Ok(bytes) => Ok(bytes.len()),
         Err(fault) => Err(fault),
@@ -97,10 +97,10 @@ struct Failing {
 
 impl Failing {
     /// The input of a number, seven bytes at a time, of which no read was made.
-    fn input<'b>(self, number: usize, bytes: &'b [u8]) -> Counting<Fed<'b>>
+    fn input<'b>(self, number: usize, bytes: &'b [u8]) -> CountedReader<Fed<'b>>
         ensures unread { (result.2 ≡ false) × (result.1 ≡ 0) }
     {
-        Counting::new(Fed {
+        CountedReader::new(Fed {
             bytes,
             width: 7,
             fails_at: if number == self.input {
@@ -115,7 +115,7 @@ impl Failing {
 
     /// Whether an input of a number was read as it must be: those before the one that fails to their end, that one until it
     /// failed, those after it not at all.
-    fn is_read_so(self, number: usize, source: Counting<Fed<'_>>) -> bool {
+    fn is_read_so(self, number: usize, source: CountedReader<Fed<'_>>) -> bool {
         let fed = source.into_inner();
         if number < self.input {
             fed.bytes.is_empty()

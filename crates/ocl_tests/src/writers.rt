@@ -1,7 +1,7 @@
 //! Writers that fail, and how often they are flushed.
 
 use ocl_check::{
-    CommandFault, Counting, JudgeOptions, MAX_BUDGET, Outcome, RulesForm, Telling, run_bound,
+    CommandFault, CountedReader, JudgeOptions, MAX_BUDGET, Outcome, RulesForm, Telling, run_bound,
     run_compile, run_desk, run_judge, run_verify,
 };
 use std::alloc::Global;
@@ -76,9 +76,9 @@ fn report_into(alloc: Global, writer: Narrow) -> (Outcome, Narrow) {
     let outcome = run_judge(
         alloc,
         JudgeOptions { form, budget },
-        &mut Counting::new(CATALOGUE.as_bytes()),
-        &mut Counting::new(DUCT.as_bytes()),
-        &mut Counting::new(DUCT_DEPTH),
+        &mut CountedReader::new(CATALOGUE.as_bytes()),
+        &mut CountedReader::new(DUCT.as_bytes()),
+        &mut CountedReader::new(DUCT_DEPTH),
         &mut sink,
     );
     (outcome, sink.into_inner())
@@ -88,9 +88,9 @@ fn bounds_into(alloc: Global, writer: Narrow) -> (Outcome, Narrow) {
     let mut sink = Telling::new(writer);
     let outcome = run_bound(
         alloc,
-        &mut Counting::new(CATALOGUE.as_bytes()),
-        &mut Counting::new(DUCT.as_bytes()),
-        &mut Counting::new(DUCT_DEPTH),
+        &mut CountedReader::new(CATALOGUE.as_bytes()),
+        &mut CountedReader::new(DUCT.as_bytes()),
+        &mut CountedReader::new(DUCT_DEPTH),
         &mut sink,
     );
     (outcome, sink.into_inner())
@@ -100,8 +100,8 @@ fn accepted_into(alloc: Global, writer: Narrow) -> (Outcome, Narrow) {
     let mut sink = Telling::new(writer);
     let outcome = run_verify(
         alloc,
-        &mut Counting::new(CATALOGUE.as_bytes()),
-        &mut Counting::new(DUCT_DEPTH),
+        &mut CountedReader::new(CATALOGUE.as_bytes()),
+        &mut CountedReader::new(DUCT_DEPTH),
         &mut sink,
     );
     (outcome, sink.into_inner())
@@ -111,10 +111,10 @@ fn replies_into(alloc: Global, writer: Narrow) -> (Outcome, Narrow) {
     let mut sink = Telling::new(writer);
     let outcome = run_desk(
         alloc,
-        &mut Counting::new(CATALOGUE.as_bytes()),
-        &mut Counting::new(DUCT.as_bytes()),
-        &mut Counting::new(DUCT_DEPTH),
-        &mut Counting::new(SCRIPT),
+        &mut CountedReader::new(CATALOGUE.as_bytes()),
+        &mut CountedReader::new(DUCT.as_bytes()),
+        &mut CountedReader::new(DUCT_DEPTH),
+        &mut CountedReader::new(SCRIPT),
         &mut sink,
     );
     (outcome, sink.into_inner())
@@ -131,8 +131,8 @@ fn compiled_into(
     let mut sink = Telling::new(printed);
     let outcome = run_compile(
         alloc,
-        &mut Counting::new(CATALOGUE.as_bytes()),
-        &mut Counting::new(rules.as_bytes()),
+        &mut CountedReader::new(CATALOGUE.as_bytes()),
+        &mut CountedReader::new(rules.as_bytes()),
         &mut out,
         &mut sink,
     );

@@ -1,6 +1,6 @@
 -- Scopes that grow and are cut back.
 use Rattle.std.proofs.Common.{◌≡◌, ◌≤◌, ℕ, List, [], ◌∷◌, ◌++◌, length, take, All, sym, ap, ◌∙◌, arith}
-use Rattle.std.proofs.lemmas.List.{map-append, length-take, take-take, take-append-le, take-map}
+use Rattle.std.proofs.lemmas.List.{map-append, length-take, take-append-le, take-map}
 use Rattle.std.proofs.lemmas.List.Elements.{All-push, All-nil, All-cons, All-head, All-tail}
 use Rattle.std.proofs.Math.Seq.{take-length}
 use Rattle.imkl_model.specs.ClassModel.{Model}
@@ -41,10 +41,5 @@ extends_itself s = take-length s
 -- still, with one more variable
 pub extends_inside : (outer s : VariableScope) (v : ScopeVariable) → Extends outer s → Extends outer (inside s v)
 extends_inside outer s v h = take-append-le (length outer) s (v ∷ []) (no_longer outer s h) ∙ h
-
--- and with what that one begins with
-pub extends_through : (outer middle s : VariableScope) → Extends outer middle → Extends middle s → Extends outer s
-extends_through outer middle s h k =
-    sym (take-take (length outer) (length middle) s (no_longer outer middle h)) ∙ ap (take (length outer)) k ∙ h
 
 pub ruleset scopes = (view_inside, view_cut, known_inside, known_each, extends_itself, extends_inside)

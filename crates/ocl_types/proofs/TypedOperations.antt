@@ -1,10 +1,10 @@
 -- Operations are typed: each row of the table and each operator asks what its operator does.
 use Rattle.std.proofs.Common.{◌≡◌, ◌<◌, ◌&&◌, ◌==◌, ℕ, Bool, true, false, List, [], ◌∷◌, length, Option, Some, None, IfSome, IfOk, bytes_eq, if◌then◌else◌, refl, sym, ap, subst, arith}
+use Rattle.std.specs.List.{AllByRecursion}
 use Rattle.std.proofs.lemmas.Bool.{and_from, and_parts, eqb-true}
 use Rattle.imkl_model.specs.ClassModel.{Model}
 use Rattle.ocl_base.specs.declared.collection_kind.CollectionKind.{CollectionKind}
 use Rattle.ocl_base.specs.Steps.{check, found}
-use Rattle.ocl_base.proofs.ForAbove.{AllOf}
 use Rattle.ocl_kinds.specs.declared.kind.ScalarKind.{ScalarKind}
 use Rattle.ocl_kinds.specs.declared.kind.ScalarKind.TheVariants as element
 use Rattle.ocl_kinds.specs.declared.kind.Kind.{Kind}
@@ -64,7 +64,7 @@ IsRow row = IsEffect row.source row.effect row.is_negated
 not_negated : {P : Type 0} → false ≡ true → P
 not_negated e = absurd (let bad : false ≡ true = e in cc)
 
-rows_are : AllOf IsRow operations
+rows_are : AllByRecursion IsRow operations
 rows_are = (
   (refl, refl, not_negated),
   (
@@ -288,14 +288,14 @@ module _ (m : Model) where
 
   -- several values are typed
   abbrev pub AreSound : List Kind → TypedTrees → Type 0
-  AreSound g xs = AreTyped m g (cores_of xs.cores) xs.kinds × AllOf (IsKindOf m) xs.kinds
+  AreSound g xs = AreTyped m g (cores_of xs.cores) xs.kinds × AllByRecursion (IsKindOf m) xs.kinds
 
   -- arguments are typed values, or classes of the class model
   abbrev pub HasArguments : List Kind → Arguments → Type 0
-  HasArguments g (Classes operator classes) = AllOf (λ c. c < length m.classes) classes
+  HasArguments g (Classes operator classes) = AllByRecursion (λ c. c < length m.classes) classes
   HasArguments g (Values xs) = AreSound g xs
 
-  one_of : (classes : List ℕ) → AllOf (λ c. c < length m.classes) classes → IfSome (one_class classes) (λ c. c < length m.classes)
+  one_of : (classes : List ℕ) → AllByRecursion (λ c. c < length m.classes) classes → IfSome (one_class classes) (λ c. c < length m.classes)
   one_of [] h = tt
   one_of (c ∷ []) h = h.0
   one_of (c ∷ d ∷ cs) h = tt
@@ -315,7 +315,7 @@ module _ (m : Model) where
   class_known class.IsTypeOf c h = tt
   class_known class.AsType c h = h
 
-  class_sound : (g : List Kind) (x : TypedTree) (operator : ClassOperator) (classes : List ℕ) (offset : ℕ) → Sound m g x → AllOf (λ c. c < length m.classes) classes → IfOk (class_call x operator classes offset) (Sound m g)
+  class_sound : (g : List Kind) (x : TypedTree) (operator : ClassOperator) (classes : List ℕ) (offset : ℕ) → Sound m g x → AllByRecursion (λ c. c < length m.classes) classes → IfOk (class_call x operator classes offset) (Sound m g)
   unfolding class_call
   class_sound g x operator classes offset p ps =
       chained (λ u. is_object x.kind ≡ true) (Sound m g) (check (is_object x.kind) (type_fault_at UnknownOperation offset)) _ (checked (is_object x.kind) _) (λ u h.
@@ -358,7 +358,7 @@ module _ (m : Model) where
   row_by true kind row o h k = h refl
   row_by false kind row o h k = k
 
-  row_is : (name : List ℕ) (kind : Kind) (rows : List OperationRow) → AllOf IsRow rows → IfSome (row_for m name kind rows) (Row kind)
+  row_is : (name : List ℕ) (kind : Kind) (rows : List OperationRow) → AllByRecursion IsRow rows → IfSome (row_for m name kind rows) (Row kind)
   row_is name kind [] h = tt
   row_is name kind (row ∷ rows) h =
       row_by (is_row_for m name kind row) kind row (row_for m name kind rows)
@@ -404,24 +404,24 @@ module _ (m : Model) where
   with_argument e P (Some d) h = paired e d P (common_kind e d) h (itself (common_kind e d))
 
   -- its kind is of the class model
-  argument_known : (k : Kind) (kinds : List Kind) → kinds ≡ k ∷ [] → AllOf (IsKindOf m) kinds → IsKindOf m k
+  argument_known : (k : Kind) (kinds : List Kind) → kinds ≡ k ∷ [] → AllByRecursion (IsKindOf m) kinds → IsKindOf m k
   argument_known k kinds is h = (rw is at h).0
 
   mapped : {A : Type 0} (P Q : A → Type 0) (o : Option A) → ((x : A) → P x → Q x) → IfSome o P → IfSome o Q
   mapped P Q None f h = tt
   mapped P Q (Some x) f h = f x h
 
-  one_scalar : (operator : ElementOperator) (c : CollectionKind) (e d k : ScalarKind) (kinds : List Kind) → ((j : ScalarKind) → scalar_fits m d j ≡ true → AreOthers m operator j (Scalar d ∷ [])) → kinds ≡ Scalar d ∷ [] → common_kind e d ≡ Some k → IsScalarKindOf m e → AllOf (IsKindOf m) kinds → OnKinds operator c e kinds k
+  one_scalar : (operator : ElementOperator) (c : CollectionKind) (e d k : ScalarKind) (kinds : List Kind) → ((j : ScalarKind) → scalar_fits m d j ≡ true → AreOthers m operator j (Scalar d ∷ [])) → kinds ≡ Scalar d ∷ [] → common_kind e d ≡ Some k → IsScalarKindOf m e → AllByRecursion (IsKindOf m) kinds → OnKinds operator c e kinds k
   one_scalar operator c e d k kinds others is common known ps =
       let w = both_fit_common m e d k common in
       (common_known e d k common known (argument_known (Scalar d) kinds is ps), (c, e, refl, w.0, rw is (others k w.1), refl))
 
-  one_collection : (operator : ElementOperator) (c b : CollectionKind) (e d k : ScalarKind) (kinds : List Kind) → ((j : ScalarKind) → scalar_fits m d j ≡ true → AreOthers m operator j (Collection b d ∷ [])) → kinds ≡ Collection b d ∷ [] → common_kind e d ≡ Some k → IsScalarKindOf m e → AllOf (IsKindOf m) kinds → OnKinds operator c e kinds k
+  one_collection : (operator : ElementOperator) (c b : CollectionKind) (e d k : ScalarKind) (kinds : List Kind) → ((j : ScalarKind) → scalar_fits m d j ≡ true → AreOthers m operator j (Collection b d ∷ [])) → kinds ≡ Collection b d ∷ [] → common_kind e d ≡ Some k → IsScalarKindOf m e → AllByRecursion (IsKindOf m) kinds → OnKinds operator c e kinds k
   one_collection operator c b e d k kinds others is common known ps =
       let w = both_fit_common m e d k common in
       (common_known e d k common known (argument_known (Collection b d) kinds is ps), (c, e, refl, w.0, rw is (others k w.1), refl))
 
-  elements_by : (operator : ElementOperator) (c : CollectionKind) (e : ScalarKind) (kinds : List Kind) → (length kinds == element_parameters operator) ≡ true → IsScalarKindOf m e → AllOf (IsKindOf m) kinds → IfSome (comparison_kind operator e kinds) (OnKinds operator c e kinds)
+  elements_by : (operator : ElementOperator) (c : CollectionKind) (e : ScalarKind) (kinds : List Kind) → (length kinds == element_parameters operator) ≡ true → IsScalarKindOf m e → AllByRecursion (IsKindOf m) kinds → IfSome (comparison_kind operator e kinds) (OnKinds operator c e kinds)
   elements_by of.Includes c e kinds n known ps =
       mapped _ (OnKinds of.Includes c e kinds) (comparison_kind of.Includes e kinds) (λ k w. one_scalar of.Includes c e w.0 k kinds (λ j f. f) w.1 w.2 known ps) (with_argument e (λ d. kinds ≡ Scalar d ∷ []) (scalar_argument kinds) (scalar_there kinds))
   elements_by of.Occurrences c e kinds n known ps =

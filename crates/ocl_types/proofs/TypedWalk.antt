@@ -1,9 +1,9 @@
 -- What the walk gives is typed, by induction on the surface tree.
 use Rattle.std.proofs.Common.{◌≡◌, ◌<◌, ◌==◌, ℕ, true, List, [], ◌∷◌, ◌++◌, length, Option, Some, None, Result, Ok, Err, IfOk, slice_get, refl, ap, subst, ◌∙◌}
+use Rattle.std.specs.List.{AllByRecursion}
 use Rattle.imkl_model.specs.ClassModel.{Model, class_number}
 use Rattle.imkl_model.specs.WellFormed.{IsClassModel}
 use Rattle.ocl_base.specs.Steps.{check, found, Gives}
-use Rattle.ocl_base.proofs.ForAbove.{AllOf}
 use Rattle.ocl_kinds.specs.declared.kind.Kind.{Kind}
 use Rattle.ocl_kinds.specs.declared.kind.Kind.TheVariants.{Scalar, Collection}
 use Rattle.ocl_kinds.specs.Kinds.{IsScalarKindOf, IsKindOf, fits}
@@ -55,17 +55,17 @@ module _ (m : Model) (well : IsClassModel m) (context : ℕ) (within : context <
   argument_by offset (Some name) =
       there (λ c. c < length m.classes) (class_number m name.0) (type_fault_at UnknownName name.1) (class_within m well name.0 (class_number m name.0) (itself (class_number m name.0)))
 
-  classes_known : (arguments : Trees) → IfOk (classes_of_arguments m arguments) (AllOf (λ c. c < length m.classes))
+  classes_known : (arguments : Trees) → IfOk (classes_of_arguments m arguments) (AllByRecursion (λ c. c < length m.classes))
   unfolding classes_of_arguments
   classes_known t.none = tt
   classes_known (t.some first rest) =
       let IsClass : ℕ → Type 0 = λ c. c < length m.classes in
-      chained IsClass (AllOf IsClass) (class_of_argument m first) _ (argument_by (offset_of first) (as_name first)) (λ c lt.
-      chained (AllOf IsClass) (AllOf IsClass) (classes_of_arguments m rest) _ (classes_known rest) (λ cs h. (lt, h)))
+      chained IsClass (AllByRecursion IsClass) (class_of_argument m first) _ (argument_by (offset_of first) (as_name first)) (λ c lt.
+      chained (AllByRecursion IsClass) (AllByRecursion IsClass) (classes_of_arguments m rest) _ (classes_known rest) (λ cs h. (lt, h)))
 
   arguments_sound : (g : List Kind) (operator : Option ClassOperator) (arguments : Trees) (values : Result TypedTrees TypeFaultAt) → IfOk values (AreSound m g) → IfOk (arguments_of operator (classes_of_arguments m arguments) values) (HasArguments m g)
   arguments_sound g (Some operator) arguments values h =
-      chained (AllOf (λ c. c < length m.classes)) (HasArguments m g) (classes_of_arguments m arguments) _ (classes_known arguments) (λ cs p. p)
+      chained (AllByRecursion (λ c. c < length m.classes)) (HasArguments m g) (classes_of_arguments m arguments) _ (classes_known arguments) (λ cs p. p)
   arguments_sound g None arguments values h = chained (AreSound m g) (HasArguments m g) values _ h (λ xs p. p)
 
   dot_scoped : (s : VariableScope) (kind : Kind) → IsKindOf m kind → Scoped m context s → Scoped m context (seen_after_dot s kind)

@@ -2,12 +2,12 @@
 pub mod Faults
 pub mod TypedTrees
 pub mod Operators
+pub mod TableView
 pub mod Scope
 pub mod Elaboration
 pub mod AllRules
 -- Bookkeeping: views, layouts, walks and tables that only proofs and private contracts use.
 pub mod TypedView
-pub mod TableView
 pub mod ScopeView
 pub mod ScopeIndex
 pub mod EnvironmentView

@@ -8,7 +8,7 @@ use std::alloc::{AllocError, AllocFailed};
 use thiserror::Error;
 
 /// What is wrong with the types of a rule.
-#[derive(Clone, Copy, Debug, Error)]
+#[derive(Clone, Copy, Debug, PartialEq, Eq, Error)]
 pub enum TypeFlaw {
     /// A name that names nothing here; the name, or for a literal its enumeration.
     #[error("an unknown name")]

@@ -28,3 +28,4 @@ pub use all_rules::check_rules;
 pub use fault::{TypeFault, TypeFlaw};
 pub use rules::check;
 pub use rules_fault::RulesFault;
+pub use table::{Effect, Operation, Source, class_operator, operations};

@@ -77,7 +77,7 @@ pub(crate) fn left_of(
 {
     match operands_of(operator) {
         Binary::Truths(_) => asks_truth(model, kind, offset),
-        Binary::Numbers(_, _) | Binary::Equality(_) => Ok(()),
+        Binary::Numbers(_, _) | Binary::Equality { .. } => Ok(()),
     }
 }
 
@@ -149,7 +149,7 @@ pub(crate) fn binary_of(
                 kind: TRUTH,
             })
         }
-        Binary::Equality(is_negated) => {
+        Binary::Equality { is_negated } => {
             let Some(operator) = equality_operator(&left.kind, &right.kind) else {
                 return Err(wrong_type);
             };

@@ -13,7 +13,7 @@ use ocl_text::{BinaryOperator, IteratorKind};
 
 /// What an operation asks of its source.
 #[derive(Clone, Copy, Debug)]
-pub(crate) enum Source {
+pub enum Source {
     /// A value of this type.
     OfType(BasicType),
     /// A single value.
@@ -32,7 +32,10 @@ pub(crate) enum Binary {
     /// Truth values; it gives one.
     Truths(PlainOperator),
     /// Values that can be compared; it says whether they are equal, or whether they aren't.
-    Equality(bool),
+    Equality {
+        /// Whether it says that they aren't.
+        is_negated: bool,
+    },
 }
 
 /// What an iteration asks of its body, and what it gives.
@@ -49,23 +52,27 @@ pub(crate) enum Turn {
 }
 
 /// What an operation does.
-pub(crate) enum Effect {
+pub enum Effect {
     /// An operator is applied to the source and to arguments of these types.
     Plainly(PlainOperator, &'static [BasicType], BasicType),
     /// An operator is applied to the elements of the source.
     OnElements(ElementOperator),
 }
 
-/// An operation: its name, what its source must be, what it does, and whether its result is the negation of that.
-pub(crate) struct Row {
-    pub(crate) name: &'static str,
-    pub(crate) source: Source,
-    pub(crate) effect: Effect,
-    pub(crate) is_negated: bool,
+/// An operation, but for the three that take the name of a class.
+pub struct Operation {
+    /// Its name.
+    pub name: &'static str,
+    /// What its source must be.
+    pub source: Source,
+    /// What it does.
+    pub effect: Effect,
+    /// Whether its result is the negation of that.
+    pub is_negated: bool,
 }
 
-static OPERATIONS: [Row; 19] = [
-    Row {
+static OPERATIONS: [Operation; 19] = [
+    Operation {
         name: "div",
         source: Source::OfType(BasicType::Integer),
         effect: Effect::Plainly(
@@ -75,7 +82,7 @@ static OPERATIONS: [Row; 19] = [
         ),
         is_negated: false,
     },
-    Row {
+    Operation {
         name: "mod",
         source: Source::OfType(BasicType::Integer),
         effect: Effect::Plainly(
@@ -85,7 +92,7 @@ static OPERATIONS: [Row; 19] = [
         ),
         is_negated: false,
     },
-    Row {
+    Operation {
         name: "min",
         source: Source::OfType(BasicType::Integer),
         effect: Effect::Plainly(
@@ -95,7 +102,7 @@ static OPERATIONS: [Row; 19] = [
         ),
         is_negated: false,
     },
-    Row {
+    Operation {
         name: "max",
         source: Source::OfType(BasicType::Integer),
         effect: Effect::Plainly(
@@ -105,19 +112,19 @@ static OPERATIONS: [Row; 19] = [
         ),
         is_negated: false,
     },
-    Row {
+    Operation {
         name: "abs",
         source: Source::OfType(BasicType::Integer),
         effect: Effect::Plainly(PlainOperator::Absolute, &[], BasicType::Integer),
         is_negated: false,
     },
-    Row {
+    Operation {
         name: "size",
         source: Source::OfType(BasicType::String),
         effect: Effect::Plainly(PlainOperator::CharacterCount, &[], BasicType::Integer),
         is_negated: false,
     },
-    Row {
+    Operation {
         name: "substring",
         source: Source::OfType(BasicType::String),
         effect: Effect::Plainly(
@@ -127,73 +134,73 @@ static OPERATIONS: [Row; 19] = [
         ),
         is_negated: false,
     },
-    Row {
+    Operation {
         name: "oclIsUndefined",
         source: Source::Single,
         effect: Effect::Plainly(PlainOperator::IsUndefined, &[], BasicType::Boolean),
         is_negated: false,
     },
-    Row {
+    Operation {
         name: "oclIsInvalid",
         source: Source::Single,
         effect: Effect::Plainly(PlainOperator::IsInvalid, &[], BasicType::Boolean),
         is_negated: false,
     },
-    Row {
+    Operation {
         name: "size",
         source: Source::AnyCollection,
         effect: Effect::Plainly(PlainOperator::ElementCount, &[], BasicType::Integer),
         is_negated: false,
     },
-    Row {
+    Operation {
         name: "isEmpty",
         source: Source::AnyCollection,
         effect: Effect::Plainly(PlainOperator::IsEmpty, &[], BasicType::Boolean),
         is_negated: false,
     },
-    Row {
+    Operation {
         name: "notEmpty",
         source: Source::AnyCollection,
         effect: Effect::Plainly(PlainOperator::IsEmpty, &[], BasicType::Boolean),
         is_negated: true,
     },
-    Row {
+    Operation {
         name: "includes",
         source: Source::AnyCollection,
         effect: Effect::OnElements(ElementOperator::Includes),
         is_negated: false,
     },
-    Row {
+    Operation {
         name: "excludes",
         source: Source::AnyCollection,
         effect: Effect::OnElements(ElementOperator::Includes),
         is_negated: true,
     },
-    Row {
+    Operation {
         name: "count",
         source: Source::AnyCollection,
         effect: Effect::OnElements(ElementOperator::Occurrences),
         is_negated: false,
     },
-    Row {
+    Operation {
         name: "includesAll",
         source: Source::AnyCollection,
         effect: Effect::OnElements(ElementOperator::IncludesAll),
         is_negated: false,
     },
-    Row {
+    Operation {
         name: "excludesAll",
         source: Source::AnyCollection,
         effect: Effect::OnElements(ElementOperator::ExcludesAll),
         is_negated: false,
     },
-    Row {
+    Operation {
         name: "sum",
         source: Source::CollectionOf(BasicType::Integer),
         effect: Effect::Plainly(PlainOperator::Sum, &[], BasicType::Integer),
         is_negated: false,
     },
-    Row {
+    Operation {
         name: "asSet",
         source: Source::AnyCollection,
         effect: Effect::OnElements(ElementOperator::AsSet),
@@ -201,8 +208,15 @@ static OPERATIONS: [Row; 19] = [
     },
 ];
 
+/// All operations but the three that take the name of a class (`docs/use/language.md`, "Types").
+pub fn operations() -> &'static [Operation]
+    ensures { map operation_row_of result.now ≡ spec.operations }
+{
+    &OPERATIONS
+}
+
 /// The operator of the operation of this name, if it is one of the three whose argument is a class's name.
-pub(crate) fn class_operator(name: &str) -> Option<ClassOperator>
+pub fn class_operator(name: &str) -> Option<ClassOperator>
     ensures { result ≡ spec.class_operator name.now }
 {
     match name {
@@ -233,14 +247,19 @@ fn is_source(model: &ClassModel, source: Source, kind: &Kind) -> bool
     }
 }
 
-fn is_row_for(model: &ClassModel, name: &str, kind: &Kind, row: &Row) -> bool
+fn is_row_for(model: &ClassModel, name: &str, kind: &Kind, row: &Operation) -> bool
     requires { IsKindOf model.now kind.now }
     ensures { result ≡ spec.is_row_for model.now name.now kind.now (operation_row_of row.now) }
 {
     row.name == name && is_source(model, row.source, kind)
 }
 
-fn row_in<'t>(model: &ClassModel, name: &str, kind: &Kind, rows: &'t [Row]) -> Option<&'t Row>
+fn row_in<'t>(
+    model: &ClassModel,
+    name: &str,
+    kind: &Kind,
+    rows: &'t [Operation],
+) -> Option<&'t Operation>
     requires { IsKindOf model.now kind.now }
     ensures { option_map (λ r. operation_row_of r.now) result
         ≡ spec.row_for model.now name.now kind.now (map operation_row_of rows.now) }
@@ -254,7 +273,7 @@ fn row_in<'t>(model: &ClassModel, name: &str, kind: &Kind, rows: &'t [Row]) -> O
 }
 
 /// The first operation of this name on such a source.
-pub(crate) fn row_for(model: &ClassModel, name: &str, kind: &Kind) -> Option<&'static Row>
+pub(crate) fn row_for(model: &ClassModel, name: &str, kind: &Kind) -> Option<&'static Operation>
     requires { IsKindOf model.now kind.now }
     ensures { option_map (λ r. operation_row_of r.now) result
         ≡ spec.row_for model.now name.now kind.now spec.operations }
@@ -278,8 +297,8 @@ pub(crate) fn operands_of(operator: BinaryOperator) -> Binary
         BinaryOperator::GreaterEqual => {
             Binary::Numbers(PlainOperator::GreaterEqual, BasicType::Boolean)
         }
-        BinaryOperator::Equal => Binary::Equality(false),
-        BinaryOperator::NotEqual => Binary::Equality(true),
+        BinaryOperator::Equal => Binary::Equality { is_negated: false },
+        BinaryOperator::NotEqual => Binary::Equality { is_negated: true },
         BinaryOperator::And => Binary::Truths(PlainOperator::And),
         BinaryOperator::Or => Binary::Truths(PlainOperator::Or),
         BinaryOperator::Xor => Binary::Truths(PlainOperator::Xor),

@@ -1,11 +1,12 @@
 -- In each model that a file describes, a symbol of present names names what its names name.
-use Rattle.std.proofs.Common.{◌≡◌, ◌∙◌, ⊎_elim, ℕ, zero, suc, ◌+◌, ◌<◌, ◌&&◌, ◌||◌, ◌++◌, not, Bool, true, false, List, [], length, get_or, map, bytes_eq, Option, Some, None, is_some, option_and_then, Ok, IfSome, refl, sym, ap, subst, arith}
-use Rattle.std.specs.Option.{option_map, option_map_or}
+use Rattle.std.proofs.Common.{◌≡◌, ◌∙◌, ⊎_elim, ℕ, zero, suc, ◌+◌, ◌<◌, ◌&&◌, ◌||◌, ◌++◌, not, Bool, true, false, List, [], length, get_or, map, bytes_eq, Option, Some, None, is_some, Ok, IfSome, refl, sym, ap, subst, arith}
+use Rattle.std.specs.Option.{option_map_or}
 use Rattle.std.specs.List.{list_all, list_any}
 use Rattle.std.proofs.lemmas.Bool.{false≢true, and_parts, or_parts, cases_eq}
 use Rattle.std.proofs.lemmas.List.{length-map, length-append, get_or_append_left, get_or-append-add}
 use Rattle.std.proofs.lemmas.List.Quantifiers.{position-Some}
 use Rattle.std.proofs.lemmas.Slice.Eq.{bytes_eq-Decides}
+use Rattle.rule_verify.proofs.ForAbove.{symbols_stay}
 use Rattle.serde_json.specs.Data.{Data}
 use Rattle.ocl_base.specs.Lists.{repeats}
 use Rattle.ocl_base.specs.Steps.{check, each}
@@ -28,19 +29,12 @@ use Rattle.imkl_model.specs.Checks.{written_enumeration_names, written_class_nam
 use Rattle.imkl_model.specs.Numbering.{number_in, class_in_scope, feature_in_scope, class_rename_in_scope, feature_rename_in_scope, renames_in_scope, numbered_model}
 use Rattle.imkl_model.specs.Shape.{written_from}
 use Rattle.imkl_model.specs.Description.{checked_model, describes_model}
-use Rattle.rule_code.specs.declared.symbol.Symbol.TheVariants as symbols
-use Rattle.rule_code.specs.Content.{text_at}
-use Rattle.rule_verify.specs.declared.named.Named.{Named}
-use Rattle.rule_verify.specs.declared.named.Named.TheVariants as named
 use Rattle.rule_verify.specs.Laws.{PresentSymbolsStay}
 
 -- no old name is a present one: that of no class, nor that of a feature of a class for which its entry holds
 pub record NamesApart (m : Model) : Type 0 where
   pub classes : (name : List ℕ) (c : ℕ) → class_number m name ≡ Some c → class_rename_number m name ≡ None
   pub features : (c f : ℕ) (name : List ℕ) → c < length m.classes → feature_number m c name ≡ Some f → feature_rename_number m c name ≡ None
-
-nothing : {X Y : Type 0} (x : X) → None ≡ Some x → Y
-nothing x e = cc
 
 -- ---- symbols
 
@@ -56,29 +50,8 @@ module _ (m : Model) (apart : NamesApart m) where
       ap (λ (o : Option ℕ). option_map_or (λ k. renamed_in m k name) o name) class_is
       ∙ ap (λ (o : Option ℕ). option_map_or (λ i. (feature_at m (feature_rename_at m i).feature).name) o name) (apart.features c f name within is)
 
-  class_stays : (name : List ℕ) (x : Named) (o : Option ℕ) → class_number m name ≡ o → option_map named.Class o ≡ Some x → option_map named.Class (class_number m (renamed_class m name)) ≡ Some x
-  class_stays name x None is e = nothing x e
-  class_stays name x (Some c) is e = ap (λ (n : List ℕ). option_map named.Class (class_number m n)) (class_name_stays name c is) ∙ ap (λ (o : Option ℕ). option_map named.Class o) is ∙ e
-
-  feature_stays : (class name : List ℕ) (x : Named) (c : ℕ) → class_number m class ≡ Some c → (o : Option ℕ) → feature_number m c name ≡ o → option_map (named.Feature c) o ≡ Some x
-      → option_and_then (λ k. option_map (named.Feature k) (feature_number m k (renamed_feature m (renamed_class m class) name))) (class_number m (renamed_class m class)) ≡ Some x
-  feature_stays class name x c class_is None is e = nothing x e
-  feature_stays class name x c class_is (Some f) is e =
-      ap (λ (n : List ℕ). option_and_then (λ k. option_map (named.Feature k) (feature_number m k (renamed_feature m n name))) (class_number m n)) (class_name_stays class c class_is)
-      ∙ ap (λ (o : Option ℕ). option_and_then (λ k. option_map (named.Feature k) (feature_number m k (renamed_feature m class name))) o) class_is
-      ∙ ap (λ (n : List ℕ). option_map (named.Feature c) (feature_number m c n)) (feature_name_stays class name c f class_is is)
-      ∙ ap (λ (o : Option ℕ). option_map (named.Feature c) o) is ∙ e
-
-  in_class : (class name : List ℕ) (x : Named) (o : Option ℕ) → class_number m class ≡ o → option_and_then (λ k. option_map (named.Feature k) (feature_number m k name)) o ≡ Some x
-      → option_and_then (λ k. option_map (named.Feature k) (feature_number m k (renamed_feature m (renamed_class m class) name))) (class_number m (renamed_class m class)) ≡ Some x
-  in_class class name x None is e = nothing x e
-  in_class class name x (Some c) is e = feature_stays class name x c is (feature_number m c name) refl e
-
-  symbols_stay : PresentSymbolsStay m
-  symbols_stay texts (symbols.Class c) x e = class_stays (text_at texts c.0) x (class_number m (text_at texts c.0)) refl e
-  symbols_stay texts (symbols.Enumeration n) x e = e
-  symbols_stay texts (symbols.Feature c f) x e = in_class (text_at texts c.0) (text_at texts f.0) x (class_number m (text_at texts c.0)) refl e
-  symbols_stay texts (symbols.Literal n l) x e = e
+  present_names_stay : PresentSymbolsStay m
+  present_names_stay = symbols_stay m class_name_stays feature_name_stays
 
 -- ---- classes: no name is repeated
 
@@ -214,4 +187,4 @@ described_apart d m e =
 
 -- in each model that a tree describes, present symbols stay
 pub described_symbols_stay : (d : Data) (m : Model) → describes_model d ≡ Ok m → PresentSymbolsStay m
-described_symbols_stay d m e = symbols_stay m (described_apart d m e)
+described_symbols_stay d m e = present_names_stay m (described_apart d m e)

@@ -1,5 +1,6 @@
 -- The laws of the answers by rule texts.
 use Rattle.std.proofs.Common.{◌≡◌, ◌∙◌, ℕ, List, All, Result, Ok, Err, refl, sym, ap, subst}
+use Rattle.ocl_pipeline.proofs.ForAbove.{types_are, code_is}
 use Rattle.ocl_base.proofs.ForAbove.{both_steps}
 use Rattle.imkl_model.specs.declared.fault.ModelFault.{ModelFault}
 use Rattle.imkl_model.specs.ClassModel.{Model, Renames, no_renames}
@@ -9,17 +10,17 @@ use Rattle.imkl_population.specs.Population.{Population}
 use Rattle.imkl_population.specs.Sizes.{sizes_of}
 use Rattle.ocl_text.specs.Tree.{Rule}
 use Rattle.ocl_core.specs.Core.{CheckedRule}
-use Rattle.ocl_types.specs.AllRules.{RulesFaultAt, elaborate_rules}
+use Rattle.ocl_types.specs.AllRules.{elaborate_rules}
 use Rattle.ocl_types.proofs.ForAbove.{all_typed}
 use Rattle.rule_code.specs.Content.{Content}
 use Rattle.rule_verify.specs.Laws.{PresentSymbolsStay, SymbolsNameAsWritten}
 use Rattle.rule_cost.specs.Admission.{admission}
-use Rattle.ocl_compile.specs.Compiling.{LimitAt, compile_of}
+use Rattle.ocl_compile.specs.Compiling.{compile_of}
 use Rattle.ocl_compile.specs.CompileLaws.{CompiledIsAccepted}
 use Rattle.ocl_check.specs.Judge.{status_of}
 use Rattle.ocl_check.specs.JudgeText.{within_answer, rules_answer, text_answer}
 use Rattle.ocl_pipeline.specs.TextReading.{TextReading}
-use Rattle.ocl_pipeline.specs.CompiledRules.{CompiledRules, TextRefusal, in_text, in_types, in_code, compiled_rules}
+use Rattle.ocl_pipeline.specs.CompiledRules.{CompiledRules, TextRefusal, in_text, in_types, compiled_rules}
 use Rattle.ocl_check.specs.Compile.{compiled_answer, compile_model_answer}
 use Rattle.old_name_laws.specs.OldNames.{with_old_names, population_with}
 use Rattle.old_name_laws.specs.Laws.{CompileStays, JudgeTextStays}
@@ -42,22 +43,14 @@ pub record Parts (m : Model) (c : CompiledRules) : Type 0 where
   pub typed : elaborate_rules m 0 rules ≡ Ok c.rules
   pub compiled : compile_of m c.rules ≡ Ok c.unit
 
-typed_is : (o : Result (List CheckedRule) RulesFaultAt) (rs : List CheckedRule) → in_types o ≡ Ok rs → o ≡ Ok rs
-typed_is (Ok xs) rs h = let same : xs ≡ rs = cc in ap Ok same
-typed_is (Err f) rs h = cc
-
-coded_is : (rs : List CheckedRule) (o : Result Content LimitAt) (c : CompiledRules) → in_code rs o ≡ Ok c → (rs ≡ c.rules) × (o ≡ Ok c.unit)
-coded_is rs (Ok u) c h = let same : record { rules = rs; unit = u } ≡ c = cc in (ap (λ (y : CompiledRules). y.rules) same, ap (λ (y : CompiledRules). Ok y.unit) same)
-coded_is rs (Err l) c h = cc
-
 parts_of : (m : Model) (t : TextReading) (c : CompiledRules) → compiled_rules m t ≡ Ok c → Parts m c
 parts_of m t c h =
     let a = both_steps (in_text t) _ c h in
     let b = both_steps (in_types (elaborate_rules m 0 a.0)) _ c a.2 in
-    let d = coded_is b.0 (compile_of m b.0) c b.2 in
+    let d = code_is b.0 (compile_of m b.0) c b.2 in
     record {
       rules = a.0;
-      typed = typed_is (elaborate_rules m 0 a.0) b.0 b.1 ∙ ap Ok d.0;
+      typed = types_are (elaborate_rules m 0 a.0) b.0 b.1 ∙ ap Ok d.0;
       compiled = ap (compile_of m) (sym d.0) ∙ d.1;
     }
 

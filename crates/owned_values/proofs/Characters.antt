@@ -1,14 +1,13 @@
 -- The characters of texts.
-use Rattle.std.proofs.Common.{◌≡◌, ℕ, ◌-◌, List, [], ◌++◌, length, take, drop, Option, Some, None, sym, ap, ◌∙◌, subst, bytes_eq, append_assoc, arith}
+use Rattle.std.proofs.Common.{◌≡◌, ℕ, ◌-◌, List, ◌++◌, length, take, drop, sym, ap, ◌∙◌, subst, bytes_eq, append_assoc, arith}
 use Rattle.std.specs.Str.{chars, IsUtf8, IsCharBoundary}
-use Rattle.std.proofs.lemmas.Str.{encodes-chars, chars-nil, chars_past_char, chars-append, IsUtf8-past_char, IsUtf8-take, IsCharBoundary-at_seam}
-use Rattle.std.proofs.lemmas.List.{nil_from_length, length-append, append_cancel_right, take-append-drop}
+use Rattle.std.proofs.lemmas.Str.{encodes-chars, chars-append, IsUtf8-take, IsCharBoundary-at_seam}
+use Rattle.std.proofs.lemmas.List.{length-append, append_cancel_right, take-append-drop}
 use Rattle.std.proofs.Math.Seq.{take-append_seam}
-use Rattle.std.specs.Option.{MatchOption}
 use Rattle.owned_values.specs.Walks.{IsSuffix}
 use Rattle.std.proofs.lemmas.Slice.Eq.{bytes_eq-Decides}
 use Rattle.std.proofs.lemmas.Bool.Decides.{same_from_decides}
-use Rattle.std.specs.Prelude.{encode_utf8_all, encode_utf8}
+use Rattle.std.specs.Prelude.{encode_utf8_all}
 
 -- texts are equal where their characters are
 pub same_chars : (xs ys : List ℕ) → IsUtf8 xs → IsUtf8 ys → bytes_eq xs ys ≡ bytes_eq (chars xs) (chars ys)
@@ -18,16 +17,6 @@ same_chars xs ys u v =
     ((λ h. sym (encodes-chars xs u) ∙ ap encode_utf8_all (by_chars.0 h) ∙ encodes-chars ys v), (λ e. by_chars.1 (ap chars e)))
 
 -- ---- passing characters
-
--- one character comes off a text, or none is left
-pub next_left : {S : Type 0} (bytes_of : S → List ℕ) (o : Option ℕ) (s t : S) → MatchOption o ((length (bytes_of s) ≡ 0) × (t ≡ s)) (λ c. bytes_of s ≡ encode_utf8 c ++ bytes_of t) → IsUtf8 (bytes_of s)
-    → IsUtf8 (bytes_of t) × (chars (bytes_of t) ≡ drop 1 (chars (bytes_of s))) × (front : List ℕ) × (bytes_of s ≡ front ++ bytes_of t)
-next_left bytes_of None s t m u =
-    let none : bytes_of s ≡ [] = nil_from_length (bytes_of s) m.0 in
-    let same : bytes_of t ≡ bytes_of s = ap bytes_of m.1 in
-    (subst IsUtf8 (sym same) u, ap chars (same ∙ none) ∙ chars-nil ∙ ap (drop 1) (sym (ap chars none ∙ chars-nil)), [], sym same)
-next_left bytes_of (Some c) s t m u =
-    (IsUtf8-past_char (bytes_of s) (bytes_of t) c u m, sym (ap (drop 1) (chars_past_char (bytes_of s) (bytes_of t) c u m)), encode_utf8 c, m)
 
 -- a suffix of a suffix is one
 pub suffix_along : (text middle rest : List ℕ) → IsSuffix middle text → IsUtf8 rest → (front : List ℕ) → middle ≡ front ++ rest → IsSuffix rest text

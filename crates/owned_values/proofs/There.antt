@@ -7,7 +7,7 @@ use Rattle.std.proofs.lemmas.Bool.{false≢true, and_parts, eqb-true, ltb-true}
 use Rattle.std.proofs.lemmas.Bool.Decides.{leb_tells}
 use Rattle.std.proofs.lemmas.List.{get_or_past}
 use Rattle.ocl_base.specs.Lists.{is_among}
-use Rattle.ocl_base.proofs.ForAbove.{places_below}
+use Rattle.ocl_base.proofs.ForAbove.{places_below, all_joined, all_mapped}
 use Rattle.ocl_base.specs.declared.collection_kind.CollectionKind.{CollectionKind}
 use Rattle.imkl_model.specs.declared.feature.ElementType.{ElementType}
 use Rattle.imkl_model.specs.declared.feature.ElementType.TheVariants as type
@@ -23,18 +23,6 @@ use Rattle.rule_values.specs.Value.{Element, Value, Invalid, Null, Single, Colle
 use Rattle.rule_values.specs.Operations.{integer_value, on_integers, on_integer, truth_known, unless_invalid, characters, substring, on_object, single_value, feature_value, value_read, or_invalid, all_instances, as_collection, on_elements, on_element, sum_of, summation, distinct_after, as_set}
 use Rattle.rule_values.specs.Endings.{collection_elements, joined, kept_by}
 use Rattle.owned_values.specs.Meant.{IsScalarThere, IsElementThere, IsValueThere}
-
--- ---- lists
-
--- what holds of the elements of two lists holds of those of the two joined
-pub both_there : {X : Type 0} (P : X → Type 0) (xs ys : List X) → AllByRecursion P xs → AllByRecursion P ys → AllByRecursion P (xs ++ ys)
-both_there P [] ys h g = g
-both_there P (x ∷ xs) ys h g = (h.0, both_there P xs ys h.1 g)
-
--- what holds of what is made of each element
-pub each_there : {X Y : Type 0} (P : X → Type 0) (Q : Y → Type 0) (f : X → Y) → ((x : X) → P x → Q (f x)) → (xs : List X) → AllByRecursion P xs → AllByRecursion Q (map f xs)
-each_there P Q f step [] h = tt
-each_there P Q f step (x ∷ xs) h = (step x h.0, each_there P Q f step xs h.1)
 
 module _ (p : Population) where
   abbrev There : Value → Type 0
@@ -91,7 +79,7 @@ module _ (p : Population) where
   pub feature_there : (f : FeatureInfo) (vs : List Scalar) → AllByRecursion (IsScalarThere p) vs → There (feature_value f vs)
   feature_there f vs h =
       if_there (is_single f.upper) (single_value vs) (Collection f.kind (map Some vs)) (single_there vs h)
-      (each_there (IsScalarThere p) (IsElementThere p) Some (λ v here. here) vs h)
+      (all_mapped (IsScalarThere p) (IsElementThere p) Some (λ v here. here) vs h)
 
   -- ---- collections
 
@@ -161,7 +149,7 @@ module _ (p : Population) where
 
   pub joined_there : (bs : List Value) → AllByRecursion There bs → AreAll (joined bs)
   joined_there [] h = tt
-  joined_there (b ∷ bs) h = both_there (IsElementThere p) (collection_elements b) (joined bs) (elements_there b h.0) (joined_there bs h.1)
+  joined_there (b ∷ bs) h = all_joined (IsElementThere p) (collection_elements b) (joined bs) (elements_there b h.0) (joined_there bs h.1)
 
   -- ---- what stands in the population
 

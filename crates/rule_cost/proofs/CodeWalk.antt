@@ -119,13 +119,3 @@ reached_next c vars p q charges more at a left new ops after r from to same step
       before = omega (arith, step.within, to);
       cost = record { charges = both.charges ∙ sum; lengths = both.lengths };
     }
-
--- at the end
-pub reached_end : (c : SizedCode) (vars : List ℕ) (p : Place) (charges at : ℕ) (left ops : List ℕ) (t : Total) → Reached c vars p charges at left ops → p.end ≤ at → t.charges ≡ charges → t.length ≡ top_length ops → Totals c vars p t
-reached_end c vars p charges at left ops t r past is top =
-    let K : Cost → Type 0 = λ k. SameCost (cost_between c vars p.at p.end []) (more_charges charges k) in
-    let h = subst K (nothing_left c vars at p.end ops past) r.cost in
-    record {
-      charges = h.charges ∙ ap capped ((let e : charges + 0 ≡ charges = omega arith in e) ∙ sym is);
-      length = top_same _ _ h.lengths ∙ ap capped (sym top);
-    }

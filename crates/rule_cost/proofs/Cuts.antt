@@ -1,10 +1,9 @@
 -- Cut numbers: cutting early or late is the same.
-use Rattle.std.proofs.Common.{◌≡◌, ℕ, zero, suc, ◌+◌, ◌*◌, ◌<◌, ◌≤◌, inl, inr, refl, sym, ap, ◌∙◌, arith}
-use Rattle.std.specs.Prelude.{max, false, nat_lt}
-use Rattle.std.proofs.lemmas.Bool.{lt-leb}
+use Rattle.std.proofs.Common.{◌≡◌, ℕ, zero, suc, ◌+◌, ◌*◌, ◌<◌, ◌≤◌, inl, inr, sym, ap, ◌∙◌, arith}
+use Rattle.std.specs.Prelude.{max}
 use Rattle.std.proofs.lemmas.Bool.Decides.{leb_tells}
 use Rattle.std.proofs.Math.Nat.{min-eq_left, min-eq_right, le-mul_of_pos_right, mul_comm, mul-zero}
-use Rattle.rule_cost.specs.Limits.{step_limit, limited_bound, capped, SameCut}
+use Rattle.rule_cost.specs.Limits.{step_limit, capped, SameCut}
 
 -- ---- sums, products, maxima
 
@@ -54,17 +53,3 @@ pub cut_again : (r n : ℕ) → r ≡ capped n → SameCut r n
 cut_again r n is = ap capped is ∙ (let h : capped (capped n) ≡ capped n = omega arith in h)
 
 -- ---- bounds
-
--- the bound of a number is that of the number cut
-bound_cut : (n : ℕ) → limited_bound n ≡ limited_bound (capped n)
-bound_cut n =
-    elim (leb_tells (suc n) step_limit) [
-      | inl h ↦ ap limited_bound (sym (min-eq_left (omega (arith, h.1))))
-      | inr h ↦
-          let over : nat_lt (capped n) step_limit ≡ false = lt-leb (suc (capped n)) step_limit (omega (arith, h.1)) in
-          rw (h.0, over) refl
-    ]
-
--- numbers that are one when they are cut have one bound
-pub bound_same : (m n : ℕ) → SameCut m n → limited_bound m ≡ limited_bound n
-bound_same m n e = bound_cut m ∙ ap limited_bound e ∙ sym (bound_cut n)

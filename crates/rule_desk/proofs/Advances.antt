@@ -1,6 +1,6 @@
 -- A grant as far as one pair goes: what the job's fields are after the pair was begun and the machine ran.
 use Rattle.std.proofs.Common.{◌≡◌, ℕ, ◌+◌, ◌-◌, ◌^◌, ◌<◌, ◌≤◌, Bool, true, false, List, length, sum, sym, ap, ◌∙◌, subst, arith, Option, Some, None, Result, Ok, Err}
-use Rattle.std.specs.Prelude.{IsErr, IsOk, is_err, OnOk}
+use Rattle.std.specs.Prelude.{IsErr, IsOk, is_err}
 use Rattle.imkl_population.specs.Population.{Population}
 use Rattle.rule_code.specs.Content.{Content}
 use Rattle.rule_verify.specs.UnitRules.{unit_rule, takes_memory}
@@ -52,19 +52,10 @@ over_is j k i n rest first second over within sum =
     let paid = paid_all j.admission.resolved.unit j.population (j.spent + n) (omega (arith, cost, over, sum)) in
     (omega (arith, paid, cost, over, within), omega (arith, cost, over, sum))
 
--- a call that isn't an error told what it says on success
-pub is_told : {A E : Type 0} (r : Result A E) (X : Type 0) → is_err r ≡ false → OnOk r X → X
-is_told (Ok x) X e h = h
-is_told (Err x) X e h = let bad = e in cc
-
--- nor is one that succeeded an error
+-- a call that succeeded is no error
 pub not_refused : {A E : Type 0} (r : Result A E) → IsOk r → is_err r ≡ true → ⊥
 not_refused (Ok x) h e = let bad = e in cc
 not_refused (Err x) h e = let bad = h in cc
-
-pub not_ok : {A E : Type 0} (r : Result A E) (x : E) → r ≡ Err x → IsOk r → ⊥
-not_ok (Ok y) x e h = let bad = e in cc
-not_ok (Err y) x e h = let bad = h in cc
 
 -- where there is room for the longest report, the pair that is due can be begun
 pub begins : {A E : Type 0} (a : Admission) (p : Population) (c : CursorSeen) (m : Seen) (begun : Bool) (lines : List ℕ) (capacity spent : ℕ) (result : Result A E)

@@ -89,12 +89,6 @@ few_pairs : (u : Content) (p : Population) (n : ℕ) → IsConsistent p → leng
 few_pairs u p zero consistent = omega arith
 few_pairs u p (suc r) consistent = omega (arith, few_pairs u p r consistent, few_objects u p r consistent, pairs_of_rule u p r)
 
-more_pairs : (u : Content) (p : Population) (r n : ℕ) → length (pairs_of_rules u p r) ≤ length (pairs_of_rules u p (r + n))
-more_pairs u p r zero = let same : r + zero ≡ r = omega arith in omega (arith, ap (λ n. length (pairs_of_rules u p n)) same)
-more_pairs u p r (suc n) =
-    let next : r + suc n ≡ suc (r + n) = omega arith in
-    omega (arith, more_pairs u p r n, ap (λ n. length (pairs_of_rules u p n)) next, pairs_of_rule u p (r + n))
-
 -- ---- lines of objects
 
 named_length : (word name id : List ℕ) → length (word ++ (name ++ (32 ∷ (id ++ 10 ∷ [])))) ≡ length word + length name + length id + 2

@@ -1,5 +1,5 @@
 -- A report that is written as it goes.
-use Rattle.std.proofs.Common.{◌≡◌, ℕ, suc, ◌+◌, ◌-◌, ◌<◌, min, List, [], ◌++◌, length, get_or, take, drop, inl, inr, Option, Some, None, Result, Ok, Err, OnErr, sym, ap, ◌∙◌, subst, arith, append_assoc}
+use Rattle.std.proofs.Common.{◌≡◌, ℕ, suc, ◌+◌, ◌-◌, ◌<◌, min, List, [], ◌++◌, length, get_or, take, drop, inl, inr, Option, Some, None, sym, ap, ◌∙◌, subst, arith, append_assoc}
 use Rattle.std.specs.List.{concat}
 use Rattle.std.specs.Io.KnownBytes.{Appends}
 use Rattle.std.proofs.KnownBytes.{Appends-trans}
@@ -8,10 +8,10 @@ use Rattle.std.proofs.Math.Seq.{take-append-add}
 use Rattle.imkl_population.specs.Population.{Population}
 use Rattle.rule_code.specs.Content.{Content}
 use Rattle.rule_report.specs.Report.{Verdicts, report_by, report_parts}
-use Rattle.rule_report.specs.Sink.{WritesPrefix}
+use Rattle.rule_report.specs.Sink.{WritesPrefix, IsWrittenSoFar}
 use Rattle.rule_machine.specs.Laws.{verdict_at}
 use Rattle.rule_report.specs.Cursor.{CursorSeen, told_pairs, all_pairs, due, IsToldBy, part_of, report_until}
-use Rattle.rule_report.specs.Pieces.{IsReportedMore, IsWrittenSoFar}
+use Rattle.rule_report.specs.Pieces.{IsReportedMore}
 use Rattle.rule_report.proofs.Told.{until_next, until_past}
 use Rattle.rule_report.proofs.Parts.{parts_are_the_report}
 use Rattle.std.proofs.lemmas.List.Folds.{concat-append}
@@ -59,11 +59,6 @@ written_stops u p v n old new waiting same so = written_prefix u p v n old new n
 pub appends_none : (o : Option (List ℕ)) → Appends o o []
 appends_none None = tt
 appends_none (Some xs) = sym (append-nil xs)
-
--- what holds anyway holds where an error is answered
-pub on_err : {A E : Type 0} (r : Result A E) (X : Type 0) → X → OnErr r X
-on_err (Ok x) X h = tt
-on_err (Err e) X h = h
 
 -- ---- pair after pair
 

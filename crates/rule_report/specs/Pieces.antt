@@ -1,6 +1,5 @@
 -- A report that is written in pieces.
-use Rattle.std.specs.Prelude.{◌≡◌, ℕ, suc, List, ◌++◌, Option}
-use Rattle.std.specs.Io.KnownBytes.{Appends}
+use Rattle.std.specs.Prelude.{◌≡◌, ℕ, suc, List, ◌++◌}
 use Rattle.rule_machine.specs.Laws.{verdict_at}
 use Rattle.rule_report.specs.Cursor.{CursorSeen, told_pairs, IsToldBy, part_of}
 
@@ -12,7 +11,3 @@ pub record IsReportedMore (old : CursorSeen) (old_bytes : List ℕ) (new : Curso
   pub told : IsToldBy old (verdict_at old.unit old.population) → IsToldBy new (verdict_at old.unit old.population)
   pub part : IsToldBy old (verdict_at old.unit old.population)
       → new_bytes ≡ old_bytes ++ part_of old.unit old.population (verdict_at old.unit old.population) (suc (told_pairs old))
-
--- the sink took some bytes, and with the text that waits they are all of it
-abbrev pub IsWrittenSoFar : Option (List ℕ) → Option (List ℕ) → List ℕ → List ℕ → Type 0
-IsWrittenSoFar old new waiting all = (bytes : List ℕ) × Appends old new bytes × (bytes ++ waiting ≡ all)

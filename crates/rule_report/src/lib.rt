@@ -14,7 +14,7 @@ mod writing;
 
 pub use cursor::ReportCursor;
 pub use fault::ReportFault;
-pub use put::{WriteFailed, write_and_flush, write_whole};
+pub use put::{WriteFailed, write_and_flush, write_piece, write_whole};
 pub use sink::{Sink, Telling};
 pub use summary::Summary;
 pub use writing::write_report;

@@ -1,13 +1,13 @@
 //! Writing a report as it goes: pair by pair, in pieces.
 
-ghost use Rattle.std.specs.Prelude.{◌≡◌, ◌<◌, false, length, Some, OnOk, OnErr, IfOk, IfErr, is_err};
+ghost use Rattle.std.specs.Prelude.{◌≡◌, ◌<◌, false, length, Some, OnOk, OnErr, IfOk, IfErr};
 ghost use Rattle.std.specs.Io.KnownBytes.{Appends};
 ghost use Rattle.imkl_population.specs.Population.{IsInstance};
 ghost use Rattle.rule_cost.specs.Admission.{Fits};
 ghost use Rattle.rule_machine.specs.Contract.{SameTask};
 ghost use Rattle.rule_machine.specs.Machine.{setting_of};
 ghost use Rattle.rule_report.specs.Cursor.{due};
-ghost use Rattle.rule_report.specs.Pieces.{IsReportedMore, IsWrittenSoFar};
+ghost use Rattle.rule_report.specs.Pieces.{IsReportedMore};
 ghost use Rattle.rule_report.specs.Sink.{WritesPrefix, IsFlushedOnce};
 ghost use Rattle.rule_report.specs.Report.{report_of, summary_of};
 ghost use Rattle.rule_report.specs.declared.fault.ReportFault.TheVariants as fault;
@@ -15,7 +15,7 @@ ghost use Rattle.rule_report.specs.Writing.{is_write_fault};
 
 use crate::cursor::ReportCursor;
 use crate::fault::ReportFault;
-use crate::put::{WriteFailed, write_and_flush, write_whole};
+use crate::put::{write_and_flush, write_piece};
 use crate::sink::Sink;
 use crate::summary::Summary;
 use imkl_population::{ObjectNo, Population};
@@ -23,9 +23,6 @@ use ocl_base::OutOfMemory;
 use rule_cost::Admitted;
 use rule_machine::Machine;
 use std::alloc::Global;
-
-/// Text is written once there are so many bytes of it.
-const PIECE_BYTES: usize = 8_192;
 
 /// Judges the pair that is due, and appends its line and all up to the next pair's.
 fn report_pair(
@@ -47,23 +44,6 @@ fn report_pair(
     let (rule, object) = pair;
     let verdict = machine.judge(rule, object)?;
     cursor.tell(verdict, text)
-}
-
-/// Writes the text, and empties it, once there is enough of it.
-fn put_piece<S: Sink>(sink: &mut S, text: &mut Vec<u8>) -> Result<(), WriteFailed>
-    requires { S.has_failed sink.old ≡ false }
-    ensures ok { OnOk result (IsWrittenSoFar (S.contents sink.old) (S.contents sink.new)
-        text.new.items text.old.items) }
-    ensures err { OnErr result
-        (WritesPrefix (S.contents sink.old) (S.contents sink.new) text.old.items) }
-    ensures failed { S.has_failed sink.new ≡ is_err result }
-    ensures flushes { S.flushes sink.new ≡ S.flushes sink.old }
-{
-    if text.len() >= PIECE_BYTES {
-        write_whole(sink, text)?;
-        text.clear();
-    }
-    Ok(())
 }
 
 /// Writes the report on a population that fits the admitted code, so that no run is charged more than the budget, and
@@ -94,7 +74,7 @@ pub fn write_report<S: Sink>(
     let mut machine = Machine::new(alloc, admitted.accepted(), population)?;
     while let Some(pair) = cursor.next() {
         report_pair(&mut machine, &mut cursor, pair, &mut text)?;
-        put_piece(sink, &mut text)?;
+        write_piece(sink, &mut text)?;
     }
     write_and_flush(sink, &text)?;
     Ok(cursor.summary())

@@ -1,6 +1,6 @@
 -- Elements each taken once.
-use Rattle.std.proofs.Common.{◌≡◌, ℕ, suc, ◌≤◌, Bool, true, false, List, [], ◌∷◌, ◌++◌, length, Some, None, refl, ap, ◌∙◌, arith}
-use Rattle.std.specs.Prelude.{◌==◌, bytes_eq, ℤ, not, if◌then◌else◌}
+use Rattle.std.proofs.Common.{◌≡◌, suc, ◌≤◌, Bool, true, false, List, [], ◌∷◌, ◌++◌, length, Some, None, refl, ap, ◌∙◌, arith}
+use Rattle.std.specs.Prelude.{◌==◌, ℤ, not, if◌then◌else◌}
 use Rattle.std.specs.List.{list_all, list_any}
 use Rattle.std.specs.Ordering.{int_eq}
 use Rattle.std.proofs.lemmas.Bool.{and_parts, and_from, or_from, or_left, or_right, eqb-true, eq-eqb, false_from_ne_true}
@@ -24,14 +24,11 @@ bool_is false false h = refl
 int_is : (a b : ℤ) → int_eq a b ≡ true → a ≡ b
 int_is a b h = (Decides-int_eq a b).0 h
 
-bytes_is : (a b : List ℕ) → bytes_eq a b ≡ true → a ≡ b
-bytes_is a b h = (bytes_eq-Decides a b).0 h
-
 -- scalars that are the same are equal
 same_scalar_is : (v w : Scalar) → same_scalar v w ≡ true → v ≡ w
 same_scalar_is (scalar.Bool a) (scalar.Bool b) h = ap scalar.Bool (bool_is a b h)
 same_scalar_is (scalar.Int a) (scalar.Int b) h = ap scalar.Int (int_is a b h)
-same_scalar_is (scalar.Text a) (scalar.Text b) h = ap scalar.Text (bytes_is a b h)
+same_scalar_is (scalar.Text a) (scalar.Text b) h = ap scalar.Text ((bytes_eq-Decides a b).0 h)
 same_scalar_is (scalar.Literal d a) (scalar.Literal e b) h =
     let parts = and_parts (d == e) (a == b) h in
     ap (λ x. scalar.Literal x a) (eqb-true d e parts.0) ∙ ap (scalar.Literal e) (eqb-true a b parts.1)

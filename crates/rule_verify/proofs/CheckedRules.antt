@@ -1,7 +1,7 @@
 -- The rules of a unit, and what is known where they are accepted.
 use Rattle.std.proofs.Common.{◌≡◌, ℕ, zero, suc, ◌+◌, ◌-◌, ◌<◌, ◌≤◌, List, [], ◌∷◌, ◌++◌, length, get_or, drop, Result, Ok, Err, Option, Some, None, refl, sym, ap, ◌∙◌, subst, arith, append_assoc, zero-add}
 use Rattle.std.specs.Prelude.{slice_get, slice_range, unwrap_or}
-use Rattle.std.proofs.lemmas.List.{drop_more, drop_all, take_all, append-nil}
+use Rattle.std.proofs.lemmas.List.{drop_more, drop_all, take_all}
 use Rattle.std.proofs.lemmas.Option.{get_or_from_slice_get}
 use Rattle.std.proofs.Math.Nat.{zero-max}
 use Rattle.imkl_model.specs.ClassModel.{Model}
@@ -127,18 +127,9 @@ module _ (m : Model) (u : Content) where
             ∙ sym (append_assoc before (d ∷ []) (depths_of_rules m u (n + 1) (drop (n + 1) u.rules)));
       })
 
-  -- the first rule with a fault: it is the fault of the unit
-  pub one_wrong : (n : ℕ) (before : List Depths) (e : VerifyFault) → Checked n before → n < length u.rules → Fails verify_fault e (check_rule m u n (unit_rule u n)) → Fails verify_fault e (check_unit m u)
-  one_wrong n before OutOfMemory c lt h = tt
-  one_wrong n before (At flaw rule at) c lt h = c.left ∙ ap (check_rules m u n) (next_rule n lt) ∙ ap (λ (o : Result (Unit {0}) InstrFault). o >>= (λ z. check_rules m u (n + 1) (drop (n + 1) u.rules))) h
-
   -- when all rules are checked, the unit is accepted
   pub all_checked : (n : ℕ) (depths : List Depths) → Checked n depths → length u.rules ≤ n → check_unit m u ≡ Ok tt
   all_checked n depths c le = c.left ∙ ap (check_rules m u n) (drop_all n u.rules le)
-
-  -- when all rules are checked, the depths are those of all rules
-  pub all_deep : (n : ℕ) (depths : List Depths) → Checked n depths → length u.rules ≤ n → depths ≡ depths_of_rules m u 0 u.rules
-  all_deep n depths c le = sym (c.deep ∙ ap (λ (rs : List RuleContent). depths ++ depths_of_rules m u n rs) (drop_all n u.rules le) ∙ append-nil depths)
 
   -- ---- accepted units
 

@@ -31,12 +31,6 @@ others_take s i h1 h2 h3 h4 h5 h6 h7 h8 = refl
 
 -- ---- operands that are taken one by one
 
--- fewer operands than are wanted: they are not all there
-pub too_few : (ws : List Pattern) (ks : List Kind) (n m : ℕ) → n ≡ length ks → m ≡ length ws → n < m → are_there ws ks ≡ false
-too_few [] ks n m e f lt = absurd (omega arith)
-too_few (w ∷ ws) [] n m e f lt = refl
-too_few (w ∷ ws) (k ∷ ks) n m e f lt = too_few ws ks (n - 1) (m - 1) (omega arith) (omega arith) (omega arith)
-
 -- as many operands as are wanted are all there
 pub enough : (ws : List Pattern) (ks : List Kind) → length ws ≤ length ks → are_there ws ks ≡ true
 enough [] ks le = refl
@@ -85,12 +79,6 @@ none_left m ws old i ks t lt e = by_list ws i lt (sym (ap (are_there (drop i ws)
     by_list [] j lt h = absurd (omega arith)
     by_list (v ∷ vs) zero lt h = cc
     by_list (v ∷ vs) (suc j) lt h = by_list vs j (omega arith) h
-
--- the topmost operand doesn't match the next pattern: not all operands match
-pub misfit : (m : Model) (ws : List Pattern) (old : List Kind) (i : ℕ) (ks : List Kind) (d : Pattern) (k : Kind) (rest : List Kind) → Taking m ws old i ks → i < length ws → ks ≡ k ∷ rest → matches m (get_or ws i d) k ≡ false → all_match m ws old ≡ false
-misfit m ws old i ks d k rest t lt e f =
-    let w = get_or ws i d in let dr = drop_more ws i d lt in
-    t.fit_is ∙ ap (λ l. all_match m l ks) dr ∙ ap (all_match m (w ∷ drop (i + 1) ws)) e ∙ ap (λ b. b && all_match m (drop (i + 1) ws) rest) f
 
 -- when all patterns are done, the operands match them, and what is left lies below them
 pub all_taken : (m : Model) (ws : List Pattern) (old : List Kind) (i : ℕ) (ks : List Kind) → Taking m ws old i ks → length ws ≤ i → (all_match m ws old ≡ true) × (ks ≡ below ws old)

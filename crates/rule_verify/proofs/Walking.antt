@@ -1,8 +1,9 @@
 -- The verifier's walk: what each instruction comes to, by its shape.
 use Rattle.std.proofs.Common.{◌≡◌, ℕ, suc, ◌+◌, ◌<◌, ◌≤◌, inl, inr, Bool, true, false, List, [], ◌∷◌, ◌++◌, length, length-append, Result, Ok, Err, Some, refl, sym, ap, ◌∙◌, subst, arith}
-use Rattle.std.specs.Prelude.{slice_get, slice_range, nat_le, nat_lt, max}
+use Rattle.std.specs.Prelude.{slice_get, slice_range, nat_le, nat_lt}
 use Rattle.std.proofs.lemmas.Bool.{le-leb, lt-leb, le-ltb, lt-ltb}
 use Rattle.std.proofs.lemmas.Bool.Decides.{leb_tells}
+use Rattle.ocl_base.proofs.ForAbove.{max_assoc}
 use Rattle.ocl_base.specs.Steps.{◌>>=◌, check, Fails}
 use Rattle.ocl_kinds.specs.declared.kind.Kind.{Kind}
 use Rattle.rule_code.specs.declared.instruction.Instr.{Instr}
@@ -16,7 +17,7 @@ use Rattle.rule_verify.specs.declared.place.Place.{Place}
 use Rattle.rule_verify.specs.declared.pattern.Pattern.{Pattern}
 use Rattle.rule_verify.specs.declared.shape.Shape.{Shape}
 use Rattle.rule_verify.specs.declared.shape.Shape.TheVariants.{Single, OneBody, TwoBodies}
-use Rattle.rule_verify.specs.CodeTree.{CodeTree, End, Plain, Block, Branch, shape_of, instr_count, code_tree}
+use Rattle.rule_verify.specs.CodeTree.{CodeTree, Plain, Block, Branch, shape_of, instr_count, code_tree}
 use Rattle.rule_verify.specs.CodeDepths.{deeper, past_instr, in_binding, in_branch, deepest}
 use Rattle.rule_verify.specs.Faults.{verify_fault}
 use Rattle.rule_verify.specs.InstrKinds.{Surroundings, has_names, has_variable, operands_of, result_kind, block_operand, binds, bound_count, ends_with, yields}
@@ -24,8 +25,8 @@ use Rattle.rule_verify.specs.declared.limits.TheConstants.{MAX_BLOCKS, MAX_OPERA
 use Rattle.rule_verify.specs.KindRules.{InstrFault, instr_fault, Enclosing, in_block, taken, opened, ended_with, kinds_after}
 use Rattle.rule_verify.specs.Known.{AreKnownKinds}
 use Rattle.rule_verify.specs.Patterns.{are_there, all_match, below}
-use Rattle.rule_verify.specs.Walk.{surroundings_of, IsPlace, enclosing, kinds_from, depth_at, depths_from, moved, place_inside, Gone, Goes, IsBlock, body_ends, Walked}
-use Rattle.rule_verify.proofs.Stretches.{code_tree_count, stretch_length, stretch_none, tree_plain, tree_block, tree_branch, tree_torn, tree_torn_branch}
+use Rattle.rule_verify.specs.Walk.{surroundings_of, IsPlace, enclosing, kinds_from, depth_at, depths_from, moved, place_inside, Gone, IsBlock, body_ends}
+use Rattle.rule_verify.proofs.Stretches.{code_tree_count, stretch_length, tree_plain, tree_block, tree_branch, tree_torn, tree_torn_branch}
 
 -- ---- steps
 
@@ -48,9 +49,6 @@ then_same (Err e) f g h = refl
 
 depths_are : (a b c a' b' c' : ℕ) → a ≡ a' → b ≡ b' → c ≡ c' → ◌≡◌ {A = Depths} (record { operands = a; variables = b; blocks = c }) (record { operands = a'; variables = b'; blocks = c' })
 depths_are a b c a' b' c' e f g = rw (e, f, g) refl
-
-max_assoc : (a b c : ℕ) → max a (max b c) ≡ max (max a b) c
-max_assoc a b c = omega arith
 
 deeper_assoc : (a b c : Depths) → deeper a (deeper b c) ≡ deeper (deeper a b) c
 deeper_assoc a b c =
@@ -80,7 +78,8 @@ takes_from s vars i at ks left e =
     let p = taken_by (has_names s i) (has_variable vars i) (are_there (operands_of s i) ks) (all_match s.model (operands_of s i) ks) _ _ _ _ (below (operands_of s i) ks) left e in
     record { names = p.0; variable = p.1; there = p.2; fitting = p.3; left_is = sym p.4 }
 
-below_count : (ws : List Pattern) (ks : List Kind) → are_there ws ks ≡ true → length ks ≡ length ws + length (below ws ks)
+-- what is taken and what is left
+pub below_count : (ws : List Pattern) (ks : List Kind) → are_there ws ks ≡ true → length ks ≡ length ws + length (below ws ks)
 below_count [] ks e = omega arith
 below_count (w ∷ ws) [] e = absurd cc
 below_count (w ∷ ws) (k ∷ ks) e = omega (arith, below_count ws ks e)
@@ -354,40 +353,3 @@ module _ (r : RuleCode) (vars : List Kind) (p : Place) (ks : List Kind) (i : Ins
             forward = omega arith;
             place = record { before = omega arith; within = le; room = omega (arith, counted, one_operand s i (n + m) (subst (λ (shape : Shape). IsBlock shape (n + m)) (sym is) refl), ok.room); nested = ok.nested; variables_known = ok.variables_known; operands_known = known };
           })
-
--- ---- sequences
-
--- one instruction more
-pub gone_on : (r : RuleCode) (vars : List Kind) (old mid new : Depths) (p : Place) (ks now after : List Kind) (at next : ℕ) (held kept : List Kind) → Gone r vars old p ks at held mid now → Goes r held mid (moved p at) now (Ok next) kept new after → Gone r vars old p ks next kept new after
-gone_on r vars old mid new p ks now after at next held kept g s =
-    let P : List Kind → Type 0 = λ v. Gone r v mid (moved p at) now next kept new after in
-    let h = subst P g.kept s.0 in
-    record { kinds = g.kinds ∙ h.kinds; kept = h.kept; depths = g.depths ∙ h.depths; forward = omega (arith, g.forward, h.forward); place = h.place }
-
--- a fault from the instruction on that the walk has come to is the fault from its beginning on
-pub goes_wrong : (r : RuleCode) (vars : List Kind) (old mid : Depths) (p : Place) (ks now : List Kind) (at : ℕ) (held : List Kind) (e : VerifyFault) → Gone r vars old p ks at held mid now → Fails verify_fault e (kinds_from r held (moved p at) now) → Fails verify_fault e (kinds_from r vars p ks)
-goes_wrong r vars old mid p ks now at held OutOfMemory g h = tt
-goes_wrong r vars old mid p ks now at held (At flaw rule n) g h = g.kinds ∙ ap (λ (v : List Kind). kinds_from r v (moved p at) now) (sym g.kept) ∙ h
-
--- at the end of the sequence
-end_tree : (r : RuleCode) (p : Place) (at : ℕ) → p.end ≤ at → code_tree (slice_range r.code.now at p.end) ≡ End
-end_tree r p at le = ap code_tree (stretch_none r.code.now at p.end le)
-
--- a walk that has come to the end of its sequence has the operands that stand there
-pub gone_through : (r : RuleCode) (vars : List Kind) (old mid : Depths) (p : Place) (ks now : List Kind) (at : ℕ) (held : List Kind) → Gone r vars old p ks at held mid now → p.end ≤ at → kinds_from r vars p ks ≡ Ok now
-gone_through r vars old mid p ks now at held g le = g.kinds ∙ ap (λ (t : CodeTree). kinds_after (surroundings_of r) t (enclosing vars p) at now) (end_tree r p at le)
-
--- a walk that has come to the end of its sequence has walked it, and knows how deep it goes
-pub walked_through : (r : RuleCode) (vars : List Kind) (old mid new : Depths) (p : Place) (now : List Kind) (at : ℕ) (held kept : List Kind) → Gone r vars old p [] at held mid now → p.end ≤ at → kept ≡ held → new ≡ deeper mid (depth_at held (moved p at) now) → Walked r vars old p kept new
-walked_through r vars old mid new p now at held kept g le same deep = record {
-  kept = same ∙ g.kept;
-  depths =
-      deep
-      ∙ ap (λ (v : List Kind). deeper mid (depth_at v (moved p at) now)) g.kept
-      ∙ ap (λ (t : CodeTree). deeper mid (deepest (surroundings_of r) t (depth_at vars (moved p at) now))) (sym (end_tree r p at le))
-      ∙ sym g.depths;
-}
-
--- at the first instruction
-pub gone_nowhere : (r : RuleCode) (vars : List Kind) (old : Depths) (p : Place) (ks : List Kind) → IsPlace r vars p ks → Gone r vars old p ks p.at vars old ks
-gone_nowhere r vars old p ks ok = record { kinds = refl; kept = refl; depths = refl; forward = omega arith; place = ok }

@@ -2,7 +2,7 @@
 
 ghost use Rattle.std.specs.Prelude.{◌≡◌};
 ghost use Rattle.rule_verify.specs.declared.fault.VerifyFault.TheVariants.{OutOfMemory};
-ghost use Rattle.rule_verify.specs.FaultNumber.{verify_fault_number};
+ghost use Rattle.rule_verify.specs.FaultNumber.{verify_fault_number, verify_flaw_number};
 
 use std::alloc::{AllocError, AllocFailed};
 use thiserror::Error;
@@ -28,6 +28,15 @@ pub enum VerifyFlaw {
     NestLimit = 8,
 }
 
+impl VerifyFlaw {
+    /// The documented number of the flaw, 1 to 8.
+    pub fn number(self) -> u8
+        ensures { result ≡ verify_flaw_number self }
+    {
+        self as u8
+    }
+}
+
 /// Why a unit is not accepted.
 #[derive(Debug, Drop, Error)]
 pub enum VerifyFault {
@@ -50,7 +59,7 @@ impl VerifyFault {
         ensures { result ≡ verify_fault_number self.now }
     {
         match self {
-            VerifyFault::At { flaw, .. } => *flaw as u8,
+            VerifyFault::At { flaw, .. } => flaw.number(),
             VerifyFault::OutOfMemory => 9,
         }
     }

@@ -1,7 +1,8 @@
 use Rattle.std.proofs.Common.{ap, ◌∙◌, drop}
 use Rattle.std.proofs.lemmas.List.{drop-drop}
 use Rattle.std.specs.Str.{chars}
-use Rattle.owned_values.proofs.Characters.{next_left, suffix_along}
+use Rattle.ocl_base.proofs.ForAbove.{next_left}
+use Rattle.owned_values.proofs.Characters.{suffix_along}
 use Rattle.owned_values.proofs.texts.after.Goals as goal
 
 -- src/texts.rt

@@ -1,7 +1,7 @@
 use Rattle.std.proofs.Common.{◌≡◌, ◌-◌, length, false}
 use Rattle.rule_machine.specs.Laws.{verdict_at}
+use Rattle.rule_report.specs.Sink.{IsWrittenSoFar}
 use Rattle.rule_report.specs.Cursor.{told_pairs, all_pairs, IsToldBy, report_until}
-use Rattle.rule_report.specs.Pieces.{IsWrittenSoFar}
 use Rattle.rule_report.proofs.writing.write_report.Given as goal
 
 abbrev pub invariant-loop-pair : goal.invariant-loop-pair

@@ -1,11 +1,12 @@
 use Rattle.std.proofs.Common.{◌≡◌, ◌+◌, ◌<◌, ◌∙◌, true, false, sum, sym, ap, subst, arith, vec_capacity, Ok}
+use Rattle.ocl_base.proofs.ForAbove.{on_success, not_both}
 use Rattle.rule_desk.specs.Seen.{JobSeen}
 use Rattle.rule_desk.specs.Held.{JobHeld, job_in}
 use Rattle.rule_desk.specs.Rooms.{NeedsNoMemory}
 use Rattle.rule_desk.specs.Job.{costs_of, total_cost, spent_after}
 use Rattle.rule_desk.specs.Stands.{Stands}
 use Rattle.rule_desk.proofs.Jobs.{spent_whole, spent_within}
-use Rattle.rule_desk.proofs.Advances.{advanced_err, is_told, not_refused, ready, count_is, used_within_grant, spent_fits, still_stands, paused_at, refused_at, below_cost, paused_pays, next_stands, not_ok, begins, goes_on}
+use Rattle.rule_desk.proofs.Advances.{advanced_err, not_refused, ready, count_is, used_within_grant, spent_fits, still_stands, paused_at, refused_at, below_cost, paused_pays, next_stands, begins, goes_on}
 use Rattle.rule_desk.proofs.job.Job.advance.Goals as goal
 
 -- src/job.rt: the pair can't be begun
@@ -21,7 +22,7 @@ pub returns-in_err-begin-clause-succeeds : goal.returns-in_err-begin-clause-succ
 returns-in_err-begin-clause-succeeds c = λ needs.
     let i = c.self.inside in
     let none = subst (λ (h : JobHeld). NeedsNoMemory h.job h.room) (sym c.self.view_is) needs in
-    absurd (not_ok c.begin.result _ c.in_err-begin.was (begins i.admitted.now i.population.now.content i.cursor i.machine i.begun i.lines.items (vec_capacity i.lines) i.spent c.begin.result c.self.invariant c.begin.ensures.succeeds none.1))
+    absurd (not_both c.begin.result _ c.in_err-begin.was (begins i.admitted.now i.population.now.content i.cursor i.machine i.begun i.lines.items (vec_capacity i.lines) i.spent c.begin.result c.self.invariant c.begin.ensures.succeeds none.1))
 
 -- src/job.rt: the machine's count rises
 pub overflow_sub-used : goal.overflow_sub-used
@@ -71,7 +72,7 @@ pub returns-in_err-ran-clause-succeeds : goal.returns-in_err-ran-clause-succeeds
 returns-in_err-ran-clause-succeeds c = λ needs.
     let i = c.self.inside in
     let none = subst (λ (h : JobHeld). NeedsNoMemory h.job h.room) (sym c.self.view_is) needs in
-    absurd (not_ok c.run-ran.result _ c.in_err-ran.was
+    absurd (not_both c.run-ran.result _ c.in_err-ran.was
     (goes_on i.admitted.now i.population.now.content i.cursor i.machine c.begin.new.machine c.run-ran.new.self i.begun i.lines.items c.begin.new.lines.items (vec_capacity i.lines) (vec_capacity c.begin.new.lines) i.spent c.args.grant c.run-ran.result
     c.self.invariant c.begin.ensures.task c.run-ran.ensures.task c.begin.ensures.lines c.in_ok-begin.ensures.ready c.run-ran.ensures.ran none.0 c.run-ran.ensures.succeeds))
 
@@ -120,7 +121,7 @@ invariant_of-self-in-Done c =
     let i = c.self.inside in
     let used = c.from.ensures ∙ (count_is i.admitted.now i.population.now.content i.cursor i.machine c.begin.new.machine c.run-ran.new.self i.begun i.lines.items c.begin.new.lines.items (vec_capacity i.lines) (vec_capacity c.begin.new.lines) i.spent c.args.grant c.run-ran.result
     c.self.invariant c.begin.ensures.task c.run-ran.ensures.task c.begin.ensures.lines c.in_ok-begin.ensures.ready c.run-ran.ensures.ran c.steps-before.result c.steps.result c.steps-before.ensures.count c.steps.ensures.count).1 in
-    let more = is_told c.tell.result _ (sym c.is_err.ensures.value ∙ c.if-is_err.false) c.tell.ensures.told in
+    let more = on_success c.tell.result _ (sym c.is_err.ensures.value ∙ c.if-is_err.false) c.tell.ensures.told in
     let next = next_stands i.admitted.now i.population.now.content i.cursor i.machine c.begin.new.machine c.run-ran.new.self i.begun i.lines.items c.begin.new.lines.items (vec_capacity i.lines) (vec_capacity c.begin.new.lines) i.spent c.args.grant c.run-ran.result
     c.self.invariant c.begin.ensures.task c.run-ran.ensures.task c.begin.ensures.lines c.in_ok-begin.ensures.ready c.run-ran.ensures.ran c.in-Done.verdict c.tell.new.self c.tell.new.out.items (vec_capacity c.tell.new.out) (c.in_ok-ran.was ∙ ap Ok c.in-Done.is) more in
     subst (λ n. Stands i.admitted.now i.population.now.content c.tell.new.self c.run-ran.new.self false c.tell.new.out.items (vec_capacity c.tell.new.out) (i.spent + n)) (sym used) next.1
@@ -132,7 +133,7 @@ returns-else-is_err-clause-moved c =
     let total : sum (costs_of i.admitted.now.resolved.unit i.population.now.content) ≡ total_cost c.args.self.now.job = ap total_cost (ap job_in c.self.view_is) in
     let count = (count_is i.admitted.now i.population.now.content i.cursor i.machine c.begin.new.machine c.run-ran.new.self i.begun i.lines.items c.begin.new.lines.items (vec_capacity i.lines) (vec_capacity c.begin.new.lines) i.spent c.args.grant c.run-ran.result
     c.self.invariant c.begin.ensures.task c.run-ran.ensures.task c.begin.ensures.lines c.in_ok-begin.ensures.ready c.run-ran.ensures.ran c.steps-before.result c.steps.result c.steps-before.ensures.count c.steps.ensures.count).1 in
-    let more = is_told c.tell.result _ (sym c.is_err.ensures.value ∙ c.if-is_err.false) c.tell.ensures.told in
+    let more = on_success c.tell.result _ (sym c.is_err.ensures.value ∙ c.if-is_err.false) c.tell.ensures.told in
     let next = next_stands i.admitted.now i.population.now.content i.cursor i.machine c.begin.new.machine c.run-ran.new.self i.begun i.lines.items c.begin.new.lines.items (vec_capacity i.lines) (vec_capacity c.begin.new.lines) i.spent c.args.grant c.run-ran.result
     c.self.invariant c.begin.ensures.task c.run-ran.ensures.task c.begin.ensures.lines c.in_ok-begin.ensures.ready c.run-ran.ensures.ran c.in-Done.verdict c.tell.new.self c.tell.new.out.items (vec_capacity c.tell.new.out) (c.in_ok-ran.was ∙ ap Ok c.in-Done.is) more in
     let within = used_within_grant i.admitted.now i.population.now.content i.cursor i.machine c.begin.new.machine c.run-ran.new.self i.begun i.lines.items c.begin.new.lines.items (vec_capacity i.lines) (vec_capacity c.begin.new.lines) i.spent c.args.grant c.run-ran.result
