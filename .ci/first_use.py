@@ -104,17 +104,18 @@ class Build:
                     os.killpg(process.pid, signal.SIGKILL)
 
     def start_ready(self):
-        """Starts what can be proved now. Half as many jobs again as there are processors keep these busy. The crate that most
-        others wait for has the jobs that are left when each other has one, and goes first."""
+        """Starts what can be proved now. The crate that most others wait for has a job for each processor, whatever else runs, and
+        goes first. Half as many jobs again as there are processors keep these busy; the other crates share what is left of them."""
         ready = [it for it in self.left if all(use in self.found for use in self.tree.own_uses(it))]
         ready.sort(key=self.height, reverse=True)
         tallest = max([*ready, *self.running], key=self.height, default=None)
         for place, crate in enumerate(ready):
-            cores = prover.cores() if not self.running else len(os.sched_getaffinity(0))
+            cores = len(os.sched_getaffinity(0)) if self.running else prover.cores()
             idle = cores + cores // 2 - sum(jobs for _, jobs in self.running.values())
-            jobs = min(4, max(1, idle - (len(ready) - place - 1)))
-            if idle < 1 or (self.running and prover.cores() < 1):
+            if idle < 1 and crate != tallest:
                 break
+            jobs = cores if crate == tallest else max(1, idle - (len(ready) - place - 1))
+            jobs = min(4, jobs)
             self.left.remove(crate)
             self.running[crate] = self.start(crate, jobs, 0 if crate == tallest else 5), jobs
 
