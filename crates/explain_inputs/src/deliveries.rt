@@ -1,15 +1,15 @@
 //! Why a delivery is refused.
 
 use crate::entries::{Entry, entries_of, offsets_of};
+use crate::holders::Holders;
 use crate::json_notes::explain_json;
 use crate::objects::{Document, look_at_object};
+use crate::places::{document_offset, member_offset};
 use crate::report::Report;
 use crate::shapes::delivery_shape;
-use crate::values::values_of;
-use explain_names::{belongs, feature_info};
 use explain_notes::{Input, quote};
 use imkl_delivery::DeliveryFault;
-use imkl_model::{ClassModel, FeatureNo, Role};
+use imkl_model::ClassModel;
 use serde_json::Value;
 use std::alloc::{AllocError, Global};
 use std::collections::BTreeMap;
@@ -26,58 +26,6 @@ fn ids_of<'v>(
         }
     }
     Ok(ids)
-}
-
-/// Counts one more holder of an object at an opposite end.
-fn count_holder(
-    holders: &mut BTreeMap<(usize, usize), usize>,
-    key: (usize, usize),
-) -> Result<(), AllocError> {
-    let count = holders.get(&key).copied().unwrap_or(0);
-    holders.insert(key, count.saturating_add(1))?;
-    Ok(())
-}
-
-/// Counts an object as a holder of all that it writes at a source end.
-fn count_targets(
-    holders: &mut BTreeMap<(usize, usize), usize>,
-    ids: &BTreeMap<&str, usize>,
-    opposite: FeatureNo,
-    value: &Value,
-) -> Result<(), AllocError> {
-    for target in values_of(value) {
-        if let Some(id) = target.as_str()
-            && let Some(index) = ids.get(id)
-        {
-            count_holder(holders, (opposite.index(), *index))?;
-        }
-    }
-    Ok(())
-}
-
-/// How many objects write an object at the source end of an opposite end, by that end and the object's index.
-fn holders_of(
-    alloc: Global,
-    model: &ClassModel,
-    entries: &[Entry<'_>],
-    ids: &BTreeMap<&str, usize>,
-) -> Result<BTreeMap<(usize, usize), usize>, AllocError> {
-    let mut holders = BTreeMap::new(alloc);
-    for entry in entries {
-        let Some(class) = model.class(entry.class) else {
-            continue;
-        };
-        for (name, value) in entry.features {
-            if let Some(feature) = model.feature(class, name.as_str())
-                && let Some(info) = feature_info(model, feature)
-                && let Role::SourceEnd { opposite } = info.role
-                && belongs(model, class, feature)
-            {
-                count_targets(&mut holders, ids, opposite, value)?;
-            }
-        }
-    }
-    Ok(holders)
 }
 
 /// Says all that is wrong with the objects of a document.
@@ -105,7 +53,7 @@ fn look_with_ids<'v>(
     entries: &[Entry<'v>],
     ids: &BTreeMap<&'v str, usize>,
 ) -> Result<(), AllocError> {
-    let holders = holders_of(alloc, model, entries, ids)?;
+    let holders = Holders::of_entries(alloc, model, entries, ids)?;
     let document = Document {
         model,
         entries,
@@ -138,14 +86,8 @@ fn explain_objects(
     let mut report = Report::new(alloc, input);
     let entries = entries_of(alloc, document)?;
     look_at_entries(alloc, &mut report, model, &entries)?;
-    out.push_str(report.lines())?;
-    let (path, faults) = (input.path, report.faults());
-    match faults {
-        0 => writeln!(out, "{path}: {fault}"),
-        1 => writeln!(out, "{path}: 1 fault"),
-        100 => writeln!(out, "{path}: 100 faults; there may be more"),
-        _ => writeln!(out, "{path}: {faults} faults"),
-    }
+    let known = format!(in alloc; "{fault}")?;
+    report.write(out, known.as_str())
 }
 
 /// Writes that a delivery is for another class model.
@@ -156,16 +98,19 @@ fn explain_other_model(
     model: &ClassModel,
     document: &Value,
 ) -> Result<(), AllocError> {
-    let path = input.path;
     let wanted = quote(alloc, model.name())?;
     let given = match document.get("model").and_then(Value::as_str) {
         Some(name) => quote(alloc, name)?,
         None => String::new(alloc),
     };
-    writeln!(
-        out,
-        "{path}: this delivery is for the class model `{given}`, and not for `{wanted}` (delivery 3)"
-    )
+    let message = format!(in alloc;
+        "this delivery is for the class model `{given}`, and not for `{wanted}`"
+    )?;
+    let begin = document_offset(input.bytes);
+    let offset = member_offset(alloc, input.bytes, begin, "model")?.unwrap_or(begin);
+    let mut report = Report::new(alloc, input);
+    report.tell(offset, message.as_str(), "delivery 3")?;
+    report.write(out, "")
 }
 
 /// Writes why a delivery is refused that has this fault: all faults of its objects, at most 100, unless it is no JSON, has

@@ -1,5 +1,6 @@
 //! The objects of a delivery as they are written, and where.
 
+use crate::walk::Walk;
 use serde_json::{Map, Value};
 use std::alloc::{AllocError, Global};
 
@@ -39,51 +40,16 @@ pub(crate) fn entries_of(alloc: Global, document: &Value) -> Result<Vec<Entry<'_
     Ok(entries)
 }
 
-/// What goes over the bytes of a document: how deep it is in lists and objects, and whether it is in a string.
-#[derive(Clone, Copy)]
-struct Walk {
-    depth: usize,
-    is_in_string: bool,
-    is_escaped: bool,
-}
-
-impl Walk {
-    /// After one more byte.
-    fn after(self, byte: u8) -> Walk {
-        if self.is_in_string {
-            return Walk {
-                depth: self.depth,
-                is_in_string: self.is_escaped || byte != b'"',
-                is_escaped: !self.is_escaped && byte == b'\\',
-            };
-        }
-        let depth = match byte {
-            b'{' | b'[' => self.depth.saturating_add(1),
-            b'}' | b']' => self.depth.saturating_sub(1),
-            _ => self.depth,
-        };
-        Walk {
-            depth,
-            is_in_string: byte == b'"',
-            is_escaped: false,
-        }
-    }
-}
-
 /// Where each object of a document begins, in bytes from 0: what opens by a brace in a list that is a member of the
 /// document. Where a member stands twice these are the objects of the last.
 pub(crate) fn offsets_of(alloc: Global, bytes: &[u8]) -> Result<Vec<usize>, AllocError> {
     let mut offsets = Vec::new(alloc);
-    let mut walk = Walk {
-        depth: 0,
-        is_in_string: false,
-        is_escaped: false,
-    };
+    let mut walk = Walk::new();
     for (offset, byte) in bytes.iter().enumerate() {
-        if !walk.is_in_string && *byte == b'[' && walk.depth == 1 {
+        if !walk.is_in_string() && *byte == b'[' && walk.depth() == 1 {
             offsets.clear();
         }
-        if !walk.is_in_string && *byte == b'{' && walk.depth == 2 {
+        if !walk.is_in_string() && *byte == b'{' && walk.depth() == 2 {
             offsets.push(offset)?;
         }
         walk = walk.after(*byte);

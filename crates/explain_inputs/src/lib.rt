@@ -5,15 +5,19 @@
 mod deliveries;
 mod drafts;
 mod entries;
+mod holders;
 mod json_notes;
+mod members;
 mod model_faults;
 mod models;
 mod objects;
 mod old_names;
+mod places;
 mod report;
 mod shapes;
 mod stop;
 mod values;
+mod walk;
 
 pub use deliveries::explain_delivery;
 pub use models::explain_model;

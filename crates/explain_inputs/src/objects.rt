@@ -1,7 +1,8 @@
 //! The faults of one object of a delivery.
 
 use crate::entries::Entry;
-use crate::report::{Report, Subject};
+use crate::holders::Holders;
+use crate::report::{Report, Spot, Subject};
 use crate::values::{is_of_type, number_of, quote_value, values_of, write_type};
 use explain_names::{
     belongs, class_name, feature_info, feature_named, is_abstract, is_class_below, offer_classes,
@@ -21,8 +22,7 @@ pub(crate) struct Document<'d, 'v> {
     pub(crate) entries: &'d [Entry<'v>],
     /// The first object of each id.
     pub(crate) ids: &'d BTreeMap<&'v str, usize>,
-    /// How many objects write an object at the source end of an opposite end, by that end and the object's index.
-    pub(crate) holders: &'d BTreeMap<(usize, usize), usize>,
+    pub(crate) holders: &'d Holders,
 }
 
 /// Whether an id may be one.
@@ -135,7 +135,8 @@ fn look_at_members(
     for (name, _) in entry.features {
         if feature_named(model, class, name.as_str()).is_none() {
             let message = unknown_feature(alloc, model, class, name.as_str())?;
-            report.say(alloc, subject, "delivery 5", message.as_str())?;
+            let subject = subject.at(Spot::Feature(name.as_str()));
+            report.say(alloc, &subject, "delivery 5", message.as_str())?;
         }
     }
     Ok(())
@@ -198,6 +199,25 @@ fn look_at_count(
     report.refuse(alloc, subject, fault, message.as_str())
 }
 
+/// Says whether an object has too few or too many holders; too few may follow from one that names no object.
+fn look_at_holders(
+    alloc: Global,
+    report: &mut Report<'_>,
+    subject: &Subject<'_>,
+    feature: &FeatureInfo,
+    count: usize,
+    may_follow: bool,
+) -> Result<(), AllocError> {
+    let Some(fault) = count_fault(feature, count) else {
+        return Ok(());
+    };
+    let mut message = wrong_count(alloc, feature, count)?;
+    if fault == TOO_FEW && may_follow {
+        message.push_str("; this may follow from an id that isn't there")?;
+    }
+    report.refuse(alloc, subject, fault, message.as_str())
+}
+
 /// What is said of a value of another type than a feature wants.
 fn wrong_type(
     alloc: Global,
@@ -222,12 +242,13 @@ fn look_at_types(
     feature: &FeatureInfo,
     values: &[Value],
 ) -> Result<bool, AllocError> {
-    for value in values {
+    for (index, value) in values.iter().enumerate() {
         if !is_of_type(model, feature.element, value) {
             let message = wrong_type(alloc, model, feature, value)?;
+            let subject = subject.at(Spot::Value(feature.name.as_str(), index));
             report.refuse(
                 alloc,
-                subject,
+                &subject,
                 PopulationFault::WrongKind.number(),
                 message.as_str(),
             )?;
@@ -306,9 +327,10 @@ fn look_at_targets(
     };
     let name = feature.name.as_str();
     let mut is_wrong = false;
-    for value in values {
+    for (index, value) in values.iter().enumerate() {
+        let subject = subject.at(Spot::Value(name, index));
         if let Some(id) = value.as_str()
-            && look_at_target(alloc, report, document, subject, name, class, id)?
+            && look_at_target(alloc, report, document, &subject, name, class, id)?
         {
             is_wrong = true;
         }
@@ -316,11 +338,11 @@ fn look_at_targets(
     Ok(is_wrong)
 }
 
-/// The first value that stands twice in a list of values of one type.
-fn first_repeat<'v>(alloc: Global, values: &'v [Value]) -> Result<Option<&'v Value>, AllocError> {
+/// The index of the first value in a list of values of one type that an earlier one is equal to.
+fn first_repeat(alloc: Global, values: &[Value]) -> Result<Option<usize>, AllocError> {
     let mut texts = BTreeMap::new(alloc);
     let mut numbers = BTreeMap::new(alloc);
-    for value in values {
+    for (index, value) in values.iter().enumerate() {
         let earlier = if let Some(text) = value.as_str() {
             texts.insert(text, ())?
         } else if let Some(number) = number_of(value) {
@@ -329,7 +351,7 @@ fn first_repeat<'v>(alloc: Global, values: &'v [Value]) -> Result<Option<&'v Val
             None
         };
         if earlier.is_some() {
-            return Ok(Some(value));
+            return Ok(Some(index));
         }
     }
     Ok(None)
@@ -351,13 +373,14 @@ fn look_at_values(
         return Ok(());
     }
     if feature.is_unique()
-        && let Some(value) = first_repeat(alloc, values)?
+        && let Some(index) = first_repeat(alloc, values)?
+        && let Some(value) = values.get(index)
     {
         let value = quote_value(alloc, value)?;
         let message = format!(in alloc; "`{name}` has {value} twice")?;
         return report.refuse(
             alloc,
-            subject,
+            &subject.at(Spot::Value(name, index)),
             PopulationFault::DuplicateTarget.number(),
             message.as_str(),
         );
@@ -395,9 +418,9 @@ fn look_at_opposite(
             message.as_str(),
         );
     }
-    let key = (number.index(), subject.index);
-    let count = document.holders.get(&key).copied().unwrap_or(0);
-    look_at_count(alloc, report, subject, feature, count)
+    let count = document.holders.count(number, subject.index);
+    let may_follow = document.holders.is_lost(number);
+    look_at_holders(alloc, report, subject, feature, count, may_follow)
 }
 
 /// Says what is wrong with a feature of an object.
@@ -412,6 +435,7 @@ fn look_at_feature(
     let Some(feature) = feature_info(document.model, number) else {
         return Ok(());
     };
+    let subject = &subject.at(Spot::Feature(feature.name.as_str()));
     let member = entry.features.get(feature.name.as_str());
     if let Role::OppositeEnd { source } = feature.role {
         let is_written = match member {
@@ -443,10 +467,12 @@ pub(crate) fn look_at_object(
         offset,
         id: entry.id,
         class: entry.class,
+        spot: Spot::Whole,
     };
-    look_at_id(alloc, report, document, &subject)?;
+    look_at_id(alloc, report, document, &subject.at(Spot::Member("id")))?;
     let model = document.model;
-    let Some(class) = look_at_class(alloc, report, model, &subject)? else {
+    let of_class = subject.at(Spot::Member("class"));
+    let Some(class) = look_at_class(alloc, report, model, &of_class)? else {
         return Ok(());
     };
     look_at_members(alloc, report, model, &subject, class, entry)?;
