@@ -2,6 +2,7 @@
 
 The words stand in a file of tests/explain: those of a row below a line of `== ` and what the row shows, up to an empty line."""
 import functools
+import json
 import re
 
 import answers
@@ -95,6 +96,25 @@ def listing(room, shows, model, code):
     names = [inputs.put(room, "r.code", code)] + [inputs.put(room, "model.json", model)] * (model != "-")
     found = lambda answer: (answer.status, answer.out.decode(), answer.err)
     return case.Case(["ocl_explain", "list", *names], (0, words_of("listings.said", shows), b""), found)
+
+
+def schema(room, shows, model, wanted):
+    """The JSON Schema of the deliveries of a class model, but for what each has: its definitions without `id` and `integer`."""
+    name = inputs.put(room, "model.json", model)
+
+    def found(answer):
+        try:
+            definitions = json.loads(answer.out)["$defs"]
+        except (ValueError, KeyError):
+            return answer.status, answer.out, answer.err
+        return answer.status, {it: at for it, at in definitions.items() if it not in ("id", "integer")}, answer.err
+
+    return case.Case(["ocl_explain", "schema", name], (0, json.loads(wanted), b""), found)
+
+
+def no_schema(room, shows, model):
+    """Why no schema is printed for a class model that is refused."""
+    return said("inputs.said", ["schema", inputs.put(room, "model.json", model)], shows)
 
 
 def asked(room, delivery, object, rules):
@@ -206,6 +226,8 @@ FORMS = {
     "warning of compile": warning_compiled,
     "no words": silent,
     "listing": listing,
+    "schema": schema,
+    "no schema": no_schema,
     "why": why,
     "why in few lines": why_cut,
     "why of many elements": why_many,

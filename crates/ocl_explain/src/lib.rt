@@ -4,6 +4,7 @@
 
 mod answers;
 mod costs;
+mod endings;
 mod explaining;
 mod faults;
 mod findings;
@@ -12,6 +13,7 @@ mod json;
 mod last_error;
 mod listing;
 mod refusals;
+mod schema;
 mod texts;
 mod unknown;
 mod verdicts;
@@ -26,5 +28,6 @@ pub use findings::{RuleAsked, answer_judge_why, answer_why_rule};
 pub use json::answer_judge_json;
 pub use last_error::WithLastError;
 pub use listing::list_code;
+pub use schema::print_schema;
 pub use weaving::Shown;
 pub use whys::{WhyAsked, answer_why};

@@ -2,14 +2,14 @@
 
 ghost use Rattle.std.specs.Prelude.{◌≡◌, false, OnOk};
 
+use crate::endings::{ended, failed, model_refusal, refused};
 use crate::explaining::{Ending, Words};
 use crate::refusals::explain_rejected;
 use explain_code::{explain_code_flaw, list_counts, list_rule};
-use explain_inputs::explain_model;
 use explain_notes::Input;
 use imkl_model::ClassModel;
-use ocl_check::{CommandFault, Outcome, Sink};
-use ocl_pipeline::{Refusal, Rejected, Stopped, accept, read_model};
+use ocl_check::{CommandFault, Sink};
+use ocl_pipeline::{Rejected, Stopped, accept, read_model};
 use rule_code::{CodeFault, CodeFlaw, Unit, read_unit};
 use rule_report::write_and_flush;
 use rule_verify::{Resolved, resolve};
@@ -67,33 +67,6 @@ fn write_unit<S: Sink>(
     Ok(())
 }
 
-/// An ending by what failed.
-fn failed(alloc: Global, fault: CommandFault) -> Ending {
-    Ending {
-        outcome: Outcome::Failed(fault),
-        words: Ok(String::new(alloc)),
-    }
-}
-
-/// An ending with nothing to say.
-fn listed(alloc: Global) -> Ending {
-    Ending {
-        outcome: Outcome::Status(0),
-        words: Ok(String::new(alloc)),
-    }
-}
-
-/// An ending with the words of a refusal.
-fn refused(alloc: Global, words: Words) -> Ending {
-    match words {
-        Ok(words) => Ending {
-            outcome: Outcome::Status(2),
-            words: Ok(words),
-        },
-        Err(_) => failed(alloc, CommandFault::OutOfMemory),
-    }
-}
-
 /// Why a unit is rejected.
 fn rejection(alloc: Global, code: Input<'_>, model: &ClassModel, rejected: Rejected) -> Words {
     let mut out = String::new(alloc);
@@ -104,7 +77,7 @@ fn rejection(alloc: Global, code: Input<'_>, model: &ClassModel, rejected: Rejec
 /// Verifies a unit, and says why it isn't accepted for a class model, if it isn't.
 fn verify_listed(alloc: Global, code: Input<'_>, model: &ClassModel, unit: Unit) -> Ending {
     match accept(alloc, model, unit) {
-        Ok(_accepted) => listed(alloc),
+        Ok(_accepted) => ended(alloc),
         Err(rejected) => refused(alloc, rejection(alloc, code, model, rejected)),
     }
 }
@@ -137,7 +110,7 @@ fn list_unit<S: Sink>(
 {
     let Some(model) = model else {
         return match write_unit(alloc, sink, &unit, None) {
-            Ok(()) => listed(alloc),
+            Ok(()) => ended(alloc),
             Err(fault) => failed(alloc, fault),
         };
     };
@@ -168,15 +141,6 @@ fn list_over<S: Sink>(
         Err(CodeFault::At { flaw, offset }) => refused(alloc, flaw_of(alloc, code, flaw, offset)),
         Err(CodeFault::OutOfMemory) => failed(alloc, CommandFault::OutOfMemory),
     }
-}
-
-/// Why a class model is refused.
-fn model_refusal(alloc: Global, model: Input<'_>, refusal: &Refusal) -> Words {
-    let mut out = String::new(alloc);
-    if let Refusal::Model(fault) = refusal {
-        explain_model(alloc, &mut out, model, *fault)?;
-    }
-    Ok(out)
 }
 
 /// Lists a code file with a class model, which is read first.

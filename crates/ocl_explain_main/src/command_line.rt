@@ -24,6 +24,15 @@ beside each instruction, and it is said why the code isn't accepted, if it isn't
 Status 0: printed. 2: the file or the class model is refused, or the code isn't accepted. 3: memory,
 a read or a write failed.";
 
+/// The end of the help of `schema`.
+const SCHEMA: &str = "\
+Prints the JSON Schema (2020-12) of the deliveries of a class model, for editors and for programs that
+make deliveries. Each delivery that is judged validates. For instance
+  ocl_explain schema examples/catalogue.json
+docs/use/schema.md has what a schema can't say.
+
+Status 0: printed. 2: the class model is refused. 3: memory, a read or a write failed.";
+
 /// The end of the help of `why`.
 const WHY: &str = "\
 Prints the verdict of a rule for an object, and below it each part of the rule's expression with its
@@ -63,6 +72,8 @@ pub enum Asked<'a> {
     Answer(Request<'a>, ReportForm),
     /// To list a code file.
     List(ListFiles<'a>),
+    /// To print the JSON Schema of the deliveries of a class model, by its path.
+    Schema(&'a str),
     /// To explain a verdict.
     Why(WhyWords<'a>),
 }
@@ -152,6 +163,17 @@ fn list<'a>(alloc: Global) -> Result<Command<'a>, AllocError> {
         .arg(Arg::new(alloc, "MODEL").help("The class model, a JSON file"))
 }
 
+fn schema<'a>(alloc: Global) -> Result<Command<'a>, AllocError> {
+    Command::new(alloc, "schema")
+        .about("Prints the JSON Schema of deliveries")
+        .after_help(SCHEMA)
+        .arg(
+            Arg::new(alloc, "MODEL")
+                .required(true)
+                .help("The class model, a JSON file"),
+        )
+}
+
 fn why<'a>(alloc: Global) -> Result<Command<'a>, AllocError> {
     Command::new(alloc, "why")
         .about("Says why a rule has its verdict for an object")
@@ -216,6 +238,7 @@ fn command<'a>(alloc: Global) -> Result<Command<'a>, AllocError> {
         .subcommand(bound(alloc)?)?
         .subcommand(desk(alloc)?)?
         .subcommand(list(alloc)?)?
+        .subcommand(schema(alloc)?)?
         .subcommand(why(alloc)?)
 }
 
@@ -258,6 +281,10 @@ fn asked_by<'a>(matches: &ArgMatches<'a>) -> Asked<'a> {
             code: word(list, "CODE"),
             model: files.get_str("MODEL"),
         });
+    }
+    let schema = matches.subcommand_matches("schema");
+    if schema.is_some() {
+        return Asked::Schema(word(schema, "MODEL"));
     }
     let why = matches.subcommand_matches("why");
     if why.is_some() {

@@ -10,7 +10,7 @@ use clap::error::{Error, ErrorKind};
 use command_line::{Asked, read_words};
 use ocl_check::{CommandFault, Outcome};
 use ocl_programs::{Request, STANDARD_INPUT};
-use requests::{answer, list};
+use requests::{answer, list, schema};
 use std::process::ExitCode;
 use std::{env, io};
 use whys::explain;
@@ -40,6 +40,7 @@ fn shares_standard_input(asked: &Asked<'_>) -> bool {
     match asked {
         Asked::Answer(request, _) => request.shares_standard_input(),
         Asked::List(files) => files.code == STANDARD_INPUT && files.model == Some(STANDARD_INPUT),
+        Asked::Schema(_) => false,
         Asked::Why(words) => Request::Bound(words.files).shares_standard_input(),
     }
 }
@@ -65,6 +66,7 @@ fn main(rt: HostRuntime) -> ExitCode {
         }
         Ok(Asked::Answer(request, form)) => exit_status(&rt, answer(&rt, request, form)),
         Ok(Asked::List(files)) => exit_status(&rt, list(&rt, files)),
+        Ok(Asked::Schema(model)) => exit_status(&rt, schema(&rt, model)),
         Ok(Asked::Why(words)) => exit_status(&rt, explain(&rt, words)),
         Err(error) => report_refusal(&rt, &error),
     }

@@ -6,7 +6,7 @@ use explain_notes::Input;
 use ocl_check::{CommandFault, JudgeOptions, Outcome, Telling};
 use ocl_explain::{
     Ending, Listener, WithLastError, Words, answer_bound, answer_compile, answer_desk,
-    answer_judge, answer_judge_json, answer_judge_why, answer_verify, list_code,
+    answer_judge, answer_judge_json, answer_judge_why, answer_verify, list_code, print_schema,
 };
 use ocl_programs::{CompileFiles, DeskFiles, LazyOutput, Request, RuleFiles, VerifyFiles};
 use std::io;
@@ -198,6 +198,22 @@ fn list_files(rt: &HostRuntime, files: ListFiles<'_>) -> Result<Outcome, Command
 pub fn list(rt: &HostRuntime, files: ListFiles<'_>) -> Outcome {
     match list_files(rt, files) {
         Ok(outcome) => outcome,
+        Err(fault) => Outcome::Failed(fault),
+    }
+}
+
+/// Prints the schema of a class model that was read.
+fn schema_input(rt: &HostRuntime, model: Input<'_>) -> Outcome {
+    let mut sink = Telling::new(WithLastError::new(io::writer(rt)));
+    let ending = print_schema(rt.alloc(), model, &mut sink);
+    report_write(rt, "standard output", sink.into_inner().error());
+    end(rt, ending)
+}
+
+/// Prints the JSON Schema of a class model's deliveries.
+pub fn schema(rt: &HostRuntime, path: &str) -> Outcome {
+    match read_file(rt, path) {
+        Ok(model) => schema_input(rt, model.input()),
         Err(fault) => Outcome::Failed(fault),
     }
 }

@@ -2,7 +2,7 @@
 _ocl_explain() {
     local word=${COMP_WORDS[COMP_CWORD]} place=0 at options kinds
     if [ "$COMP_CWORD" = 1 ]; then
-        mapfile -t COMPREPLY < <(compgen -W "judge compile verify bound desk list why --help --version" -- "$word")
+        mapfile -t COMPREPLY < <(compgen -W "judge compile verify bound desk list schema why --help --version" -- "$word")
         return
     fi
     case ${COMP_WORDS[1]} in
@@ -12,6 +12,7 @@ _ocl_explain() {
         bound) options="" kinds=(json json file) ;;
         desk) options="" kinds=(json json file file) ;;
         list) options="" kinds=(file json) ;;
+        schema) options="" kinds=(json) ;;
         why) options="--lines --max" kinds=(json json file word) ;;
         *) return ;;
     esac

@@ -1,0 +1,44 @@
+//! How the commands end that `ocl_check` doesn't have.
+
+use crate::explaining::{Ending, Words};
+use explain_inputs::explain_model;
+use explain_notes::Input;
+use ocl_check::{CommandFault, Outcome};
+use ocl_pipeline::Refusal;
+use std::alloc::Global;
+
+/// An ending by what failed.
+pub(crate) fn failed(alloc: Global, fault: CommandFault) -> Ending {
+    Ending {
+        outcome: Outcome::Failed(fault),
+        words: Ok(String::new(alloc)),
+    }
+}
+
+/// An ending with nothing to say.
+pub(crate) fn ended(alloc: Global) -> Ending {
+    Ending {
+        outcome: Outcome::Status(0),
+        words: Ok(String::new(alloc)),
+    }
+}
+
+/// An ending with the words of a refusal.
+pub(crate) fn refused(alloc: Global, words: Words) -> Ending {
+    match words {
+        Ok(words) => Ending {
+            outcome: Outcome::Status(2),
+            words: Ok(words),
+        },
+        Err(_) => failed(alloc, CommandFault::OutOfMemory),
+    }
+}
+
+/// Why a class model is refused.
+pub(crate) fn model_refusal(alloc: Global, model: Input<'_>, refusal: &Refusal) -> Words {
+    let mut out = String::new(alloc);
+    if let Refusal::Model(fault) = refusal {
+        explain_model(alloc, &mut out, model, *fault)?;
+    }
+    Ok(out)
+}
