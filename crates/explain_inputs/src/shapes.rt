@@ -75,6 +75,9 @@ impl Look<'_> {
             }
         }
         for (name, value) in map {
+            if self.report.is_full() {
+                return Ok(());
+            }
             if member_of(members, name.as_str()).is_none() {
                 self.other(alloc, looked, name.as_str(), value, optional)?;
             }
