@@ -8,8 +8,11 @@ use crate::members::{
 use crate::places::{document_offset, element_offsets, member_offset};
 use crate::report::Report;
 use explain_notes::{Input, quote};
-use serde_json::Value;
+use serde_json::{Map, Value};
 use std::alloc::{AllocError, Global};
+
+/// So many members are told of an object that can't be there.
+const MAX_OTHERS: usize = 3;
 
 /// A value that is looked at.
 #[derive(Clone, Copy, Drop)]
@@ -74,12 +77,29 @@ impl Look<'_> {
                 }
             }
         }
+        self.others(alloc, looked, map, members, optional)
+    }
+
+    /// Looks at the members of an object that are none of those which must be there. Of those that can't be there the first
+    /// ones are told: each costs a walk over the object's text.
+    fn others(
+        &mut self,
+        alloc: Global,
+        looked: Looked<'_>,
+        map: &Map<String, Value>,
+        members: &[Member],
+        optional: &[Member],
+    ) -> Result<(), AllocError> {
+        let mut told = 0usize;
         for (name, value) in map {
-            if self.report.is_full() {
-                return Ok(());
+            if member_of(members, name.as_str()).is_some() {
+                continue;
             }
-            if member_of(members, name.as_str()).is_none() {
-                self.other(alloc, looked, name.as_str(), value, optional)?;
+            if let Some(member) = member_of(optional, name.as_str()) {
+                self.member(alloc, looked, member, value)?;
+            } else if told < MAX_OTHERS {
+                told += 1;
+                self.other(alloc, looked, name.as_str())?;
             }
         }
         Ok(())
@@ -103,18 +123,8 @@ impl Look<'_> {
         self.say(offset, message.as_str())
     }
 
-    /// Looks at a member that is none of those which must be there.
-    fn other(
-        &mut self,
-        alloc: Global,
-        looked: Looked<'_>,
-        name: &str,
-        value: &Value,
-        optional: &[Member],
-    ) -> Result<(), AllocError> {
-        if let Some(member) = member_of(optional, name) {
-            return self.member(alloc, looked, member, value);
-        }
+    /// Says that an object has a member that can't be there.
+    fn other(&mut self, alloc: Global, looked: Looked<'_>, name: &str) -> Result<(), AllocError> {
         let (title, shown) = (looked.title, quote(alloc, name)?);
         let message = format!(in alloc; "{title} has a member `{shown}`, which it can't have")?;
         let offset = self.place(alloc, looked, name)?;
