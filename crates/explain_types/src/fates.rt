@@ -1,7 +1,11 @@
-//! What a rule may come to by its types alone: whether any object can keep it, and whether any can break it. Two things
-//! decide: comparisons of values of types that have nothing in common, and tests of classes.
+//! What a rule may come to whatever the delivery: whether any object can keep it, and whether any can break it. Comparisons
+//! decide, of values of types that have nothing in common and of known numbers and literals, and tests of classes.
 
 use crate::conforming::{have_something_in_common, is_arithmetic, is_below};
+use crate::known::{
+    Both, Bound, Comparison, Interval, Known, Subject, asks_for_numbers, compared,
+    comparison_bound, joined,
+};
 use explain_names::{is_abstract, is_class_below};
 use imkl_model::{ClassModel, ClassNo};
 use ocl_kinds::{Kind, ScalarKind};
@@ -44,6 +48,17 @@ impl Fate {
         self.opposite().and(other.opposite()).opposite()
     }
 
+    /// As far as a comparison that is known lets it.
+    fn limited(self, known: Option<Comparison>) -> Fate {
+        match known {
+            Some(known) => Fate {
+                may_hold: self.may_hold && known.may_hold,
+                may_fail: self.may_fail && known.may_fail,
+            },
+            None => self,
+        }
+    }
+
     /// One of the two.
     fn either(self, other: Fate) -> Fate {
         Fate {
@@ -60,6 +75,12 @@ pub(crate) struct Part {
     pub(crate) fate: Fate,
     /// Whether its value is never null.
     pub(crate) is_there: bool,
+    /// What else is known of its value.
+    pub(crate) known: Known,
+    /// The place whose value it is, if it is one.
+    pub(crate) subject: Option<Subject>,
+    /// What is known of a place where it holds.
+    pub(crate) bound: Option<Bound>,
 }
 
 impl Part {
@@ -69,16 +90,65 @@ impl Part {
             kind,
             fate: Fate::open(),
             is_there: matches!(kind, Kind::Collection(_, _)),
+            known: Known::Nothing,
+            subject: None,
+            bound: None,
         }
     }
 
     /// A value that is written.
     pub(crate) fn of_value(kind: Kind) -> Part {
         Part {
-            kind,
-            fate: Fate::open(),
             is_there: true,
+            ..Part::of_kind(kind)
         }
+    }
+
+    /// A part of which this is known besides its type.
+    pub(crate) fn of_known(kind: Kind, known: Known) -> Part {
+        Part {
+            known,
+            ..Part::of_kind(kind)
+        }
+    }
+
+    /// A Boolean with the other value.
+    pub(crate) fn negated(self) -> Part {
+        Part {
+            fate: self.fate.opposite(),
+            is_there: self.is_there,
+            ..Part::of_kind(Kind::Scalar(ScalarKind::Boolean))
+        }
+    }
+
+    /// A whole number that is written.
+    pub(crate) fn of_number(number: u64) -> Part {
+        Part {
+            known: Known::Number(Interval::single(number)),
+            ..Part::of_value(Kind::Scalar(ScalarKind::Integer))
+        }
+    }
+
+    /// The value of a place.
+    pub(crate) fn of_place(kind: Kind, subject: Option<Subject>) -> Part {
+        Part {
+            subject,
+            ..Part::of_kind(kind)
+        }
+    }
+
+    /// The part without what is known of places: variables that it names may be gone.
+    pub(crate) fn outside(self) -> Part {
+        Part {
+            subject: None,
+            bound: None,
+            ..self
+        }
+    }
+
+    /// Whether its value is null or invalid wherever it stands.
+    fn is_absent(&self) -> bool {
+        self.kind == Kind::Scalar(ScalarKind::Void) || matches!(self.known, Known::Invalid)
     }
 
     /// The part, which is a call of an operation on a value of a type with the name of a class, if that is a test.
@@ -115,8 +185,43 @@ fn equal_fate(left: &Part, right: &Part) -> Fate {
     }
 }
 
-/// What an operator between parts comes to.
-pub(crate) fn operator_part(operator: BinaryOperator, left: &Part, right: &Part) -> Part {
+/// Whether an operator between parts is invalid, since one of them is null or invalid.
+pub(crate) fn is_invalid(operator: BinaryOperator, left: &Part, right: &Part) -> bool {
+    asks_for_numbers(operator) && (left.is_absent() || right.is_absent())
+}
+
+/// What a comparison of parts comes to by what is known of their values; none where that doesn't tell.
+pub(crate) fn comparison(
+    operator: BinaryOperator,
+    left: &Part,
+    right: &Part,
+) -> Option<Comparison> {
+    compared(operator, left.known, right.known)
+}
+
+/// Whether two conditions can't both hold, since a value would have to be of two intervals.
+pub(crate) fn are_never_both(operator: BinaryOperator, left: &Part, right: &Part) -> bool {
+    matches!(operator, BinaryOperator::And)
+        && matches!(joined(left.bound, right.bound), Both::Never)
+}
+
+/// What is known of a place where an operator between parts holds.
+fn operator_bound(operator: BinaryOperator, left: &Part, right: &Part) -> Option<Bound> {
+    match operator {
+        BinaryOperator::And => match joined(left.bound, right.bound) {
+            Both::Bounded(bound) => bound,
+            Both::Never => None,
+        },
+        _ => comparison_bound(
+            operator,
+            (left.subject, left.known),
+            (right.subject, right.known),
+        ),
+    }
+}
+
+/// What an operator between Booleans, or a comparison, may come to.
+fn operator_fate(operator: BinaryOperator, left: &Part, right: &Part) -> Fate {
     let (one, other) = (left.fate, right.fate);
     let fate = match operator {
         BinaryOperator::Equal => equal_fate(left, right),
@@ -126,16 +231,34 @@ pub(crate) fn operator_part(operator: BinaryOperator, left: &Part, right: &Part)
         BinaryOperator::Implies => one.opposite().or(other),
         _ => Fate::open(),
     };
+    if are_never_both(operator, left, right) || is_invalid(operator, left, right) {
+        return Fate {
+            may_hold: false,
+            may_fail: fate.may_fail && !is_invalid(operator, left, right),
+        };
+    }
+    fate.limited(comparison(operator, left, right))
+}
+
+/// What an operator between parts comes to.
+pub(crate) fn operator_part(operator: BinaryOperator, left: &Part, right: &Part) -> Part {
     let is_there = is_arithmetic(operator);
     let scalar = if is_there {
         ScalarKind::Integer
     } else {
         ScalarKind::Boolean
     };
+    let known = if is_invalid(operator, left, right) {
+        Known::Invalid
+    } else {
+        Known::Nothing
+    };
     Part {
-        kind: Kind::Scalar(scalar),
-        fate,
+        fate: operator_fate(operator, left, right),
         is_there,
+        known,
+        bound: operator_bound(operator, left, right),
+        ..Part::of_kind(Kind::Scalar(scalar))
     }
 }
 
@@ -185,5 +308,6 @@ pub(crate) fn branches_part(model: &ClassModel, one: &Part, other: &Part) -> Par
         },
         fate: one.fate.either(other.fate),
         is_there: one.is_there && other.is_there,
+        ..Part::of_kind(one.kind)
     }
 }

@@ -4,6 +4,7 @@
 mod conforming;
 mod fates;
 mod found;
+mod known;
 mod meant;
 mod operands;
 mod operations;

@@ -3,11 +3,15 @@
 //! whole rule, and gathers what there are warnings of.
 
 use crate::conforming::{are_taken, have_something_in_common, is_equality, is_integer, is_taken};
-use crate::fates::{Part, branches_part, iteration_fate, operator_part};
+use crate::fates::{
+    Part, are_never_both, branches_part, comparison, is_invalid, iteration_fate, operator_part,
+};
 use crate::found::{Finding, Stop};
+use crate::known::{Interval, Known, Subject};
 use crate::operations::{operation_on, takes_class};
-use crate::scope::{Scope, kind_of_feature};
-use imkl_model::{ClassModel, ClassNo, CollectionKind};
+use crate::scope::{Decision, Scope, kind_of_feature};
+use explain_names::{feature_named, literal_count, literal_name};
+use imkl_model::{ClassModel, ClassNo, CollectionKind, EnumNo};
 use ocl_kinds::{Kind, ScalarKind, collected_kind, elements_kind};
 use ocl_text::{
     BinaryOperator, Binding, DeclaredType, Expression, IteratorKind, Keyword, Link, Name,
@@ -143,6 +147,84 @@ fn class_before<'t>(first: &'t Expression, links: &'t [Link]) -> Option<(&'t Nam
     }
 }
 
+/// The literal of a name, as what is known of it.
+fn known_literal(model: &ClassModel, enumeration: EnumNo, name: &str) -> Known {
+    for index in 0..literal_count(model, enumeration) {
+        if literal_name(model, enumeration, index) == name {
+            return Known::Literal(index);
+        }
+    }
+    Known::Nothing
+}
+
+/// The place that a feature of the object of a place is, where that is a variable.
+fn feature_of_place(
+    model: &ClassModel,
+    place: Option<Subject>,
+    class: ClassNo,
+    name: &str,
+) -> Option<Subject> {
+    let feature = feature_named(model, class, name)?;
+    match place? {
+        Subject {
+            variable,
+            feature: None,
+        } => Some(Subject {
+            variable,
+            feature: Some(feature.index()),
+        }),
+        _ => None,
+    }
+}
+
+/// Whether `null` is written as an argument of an operation that asks for numbers.
+fn is_null_taken(name: &str, arguments: &[Expression]) -> bool {
+    matches!(name, "max" | "min" | "div" | "mod" | "substring")
+        && arguments.iter().any(|it| {
+            matches!(
+                it,
+                Expression::Keyword {
+                    keyword: Keyword::Null,
+                    ..
+                }
+            )
+        })
+}
+
+/// What is known of the result of an operation on a value of a type.
+fn known_result(name: &str, on: &Kind, arguments: &[Expression]) -> Known {
+    if is_null_taken(name, arguments) {
+        return Known::Invalid;
+    }
+    match (name, on) {
+        ("size" | "count", _) => Known::Number(Interval::counts()),
+        ("abs", Kind::Scalar(_)) => Known::Number(Interval::counts()),
+        _ => Known::Nothing,
+    }
+}
+
+/// What is decided of an operator between parts, whatever the delivery.
+fn decision_of(operator: BinaryOperator, left: &Part, right: &Part) -> Option<Decision> {
+    if is_invalid(operator, left, right) {
+        // (of what is invalid already it was said)
+        let is_here = left.kind == VOID || right.kind == VOID;
+        return if is_here {
+            Some(Decision::Invalid)
+        } else {
+            None
+        };
+    }
+    if are_never_both(operator, left, right) {
+        return Some(Decision::NeverBoth);
+    }
+    let known = comparison(operator, left, right)?;
+    match (known.may_hold, known.may_fail) {
+        (false, true) => Some(Decision::NeverTrue),
+        (true, false) => Some(Decision::NeverFalse),
+        _ => None,
+    }
+}
+
 impl<'t> Reading<'t> {
     /// A reading of a rule of a context class, which has this flaw at an offset.
     pub(crate) fn of_rule(
@@ -258,7 +340,10 @@ impl<'t> Reading<'t> {
     /// The part that a bare name is.
     fn name(&mut self, name: &'t Name, offset: usize) -> Result<Part, Stop> {
         match self.scope.kind_of_name(self.model, name.as_str()) {
-            Some(kind) => Ok(Part::of_kind(kind)),
+            Some(kind) => {
+                let place = self.scope.place_of_name(self.model, name.as_str());
+                Ok(Part::of_place(kind, place))
+            }
             None => {
                 self.look_up(name.as_str(), offset, Finding::Name)?;
                 Err(Stop::Fault)
@@ -278,16 +363,35 @@ impl<'t> Reading<'t> {
             return Err(Stop::Fault);
         };
         self.look_up(literal.as_str(), offset, Finding::Literal(number))?;
-        Ok(Part::of_value(Kind::Scalar(ScalarKind::Enumeration(number))))
+        let known = known_literal(self.model, number, literal.as_str());
+        Ok(Part {
+            is_there: true,
+            ..Part::of_known(Kind::Scalar(ScalarKind::Enumeration(number)), known)
+        })
     }
 
     /// The part that a word is.
     fn keyword(&self, keyword: Keyword) -> Part {
         match keyword {
             Keyword::True | Keyword::False => Part::of_value(BOOLEAN),
-            Keyword::SelfObject => Part::of_value(self.scope.context_kind()),
+            Keyword::SelfObject => Part {
+                subject: Some(Subject {
+                    variable: 0,
+                    feature: None,
+                }),
+                ..Part::of_value(self.scope.context_kind())
+            },
             Keyword::Null | Keyword::Invalid => Part::of_kind(VOID),
         }
+    }
+
+    /// The part that a minus sign makes of its operand.
+    fn negated(&mut self, operand: Part, offset: usize) -> Result<Part, Stop> {
+        let (kind, known) = (operand.kind, operand.known.opposite());
+        if !is_integer(&kind) {
+            self.look(TypeFlaw::WrongType, offset, Finding::NoInteger(kind))?;
+        }
+        Ok(Part::of_known(INTEGER, known))
     }
 
     /// The part that a prefix operator makes of its operand.
@@ -298,18 +402,8 @@ impl<'t> Reading<'t> {
         offset: usize,
     ) -> Result<Part, Stop> {
         match operator {
-            PrefixOperator::Not => Ok(Part {
-                kind: BOOLEAN,
-                fate: operand.fate.opposite(),
-                is_there: operand.is_there,
-            }),
-            PrefixOperator::Negate => {
-                if !is_integer(&operand.kind) {
-                    let found = Finding::NoInteger(operand.kind);
-                    self.look(TypeFlaw::WrongType, offset, found)?;
-                }
-                Ok(Part::of_kind(INTEGER))
-            }
+            PrefixOperator::Not => Ok(operand.negated()),
+            PrefixOperator::Negate => self.negated(operand, offset),
         }
     }
 
@@ -343,19 +437,24 @@ impl<'t> Reading<'t> {
         self.look_at_operands(operator, left.kind, right.kind, offset)?;
         if is_equality(operator) && !have_something_in_common(&left.kind, &right.kind) {
             self.scope.note_unequal(offset, left.kind, right.kind)?;
+        } else if let Some(decision) = decision_of(operator, &left, &right) {
+            self.scope.note_decided(offset, decision)?;
         }
         Ok(operator_part(operator, &left, &right))
     }
 
     /// The part that a feature after a dot is.
-    fn property(&mut self, left: Kind, name: &'t Name, offset: usize) -> Result<Part, Stop> {
+    fn property(&mut self, left: &Part, name: &'t Name, offset: usize) -> Result<Part, Stop> {
         let name = name.as_str();
-        self.look_up(name, offset, Finding::Feature(left))?;
-        let ScalarKind::Class(class) = elements_kind(&left) else {
+        self.look_up(name, offset, Finding::Feature(left.kind))?;
+        let ScalarKind::Class(class) = elements_kind(&left.kind) else {
             return Err(Stop::Fault);
         };
         match kind_of_feature(self.model, class, name) {
-            Some(own) => Ok(Part::of_kind(collection_of(left, own))),
+            Some(own) => Ok(Part::of_place(
+                collection_of(left.kind, own),
+                feature_of_place(self.model, left.subject, class, name),
+            )),
             None => Err(Stop::Fault),
         }
     }
@@ -391,10 +490,11 @@ impl<'t> Reading<'t> {
             Some(kind) => kind,
             None => Kind::Scalar(ScalarKind::Class(class.ok_or(Stop::Fault)?)),
         };
-        let part = Part::of_kind(match navigation {
+        let kind = match navigation {
             Navigation::Dot => collection_of(left, one),
             Navigation::Arrow => one,
-        });
+        };
+        let part = Part::of_known(kind, known_result(name, &on, arguments));
         Ok(match class {
             Some(class) => part.of_test(self.model, name, &left, class),
             None => part,
@@ -526,7 +626,7 @@ impl<'t> Reading<'t> {
     #[cycle(reading)]
     pub(crate) fn part_of(&mut self, expression: &'t Expression) -> Result<Part, Stop> {
         let part = match expression {
-            Expression::Number { .. } => Part::of_value(INTEGER),
+            Expression::Number { value, .. } => Part::of_number(value.get()),
             Expression::String { .. } => Part::of_value(STRING),
             Expression::Keyword { keyword, .. } => self.keyword(*keyword),
             Expression::Name { name, offset } => self.name(name, *offset)?,
@@ -568,7 +668,7 @@ impl<'t> Reading<'t> {
                 }
                 let part = self.part_of(body)?;
                 self.scope.cut(outside)?;
-                part
+                part.outside()
             }
             Expression::If {
                 condition,
@@ -626,7 +726,7 @@ impl<'t> Reading<'t> {
                 Ok(right) => self.binary(*operator, left, right, *offset),
                 Err(stop) => Err(stop),
             },
-            Link::Property { name, offset } => self.property(left.kind, name, *offset),
+            Link::Property { name, offset } => self.property(&left, name, *offset),
             Link::Call {
                 navigation,
                 name,
@@ -663,6 +763,9 @@ impl<'t> Reading<'t> {
         if let Some((index, given)) = untaken {
             let found = Finding::Argument { on, index, given };
             self.look(TypeFlaw::WrongType, offset, found)?;
+        }
+        if is_null_taken(name, arguments) {
+            self.scope.note_decided(offset, Decision::Invalid)?;
         }
         self.called(navigation, name, arguments, left)
     }

@@ -1,8 +1,9 @@
 //! The variables that a part of a rule sees.
 
+use crate::known::Subject;
 use explain_names::{feature_info, feature_named, offer_features};
 use explain_notes::Nearest;
-use imkl_model::{ClassModel, ClassNo};
+use imkl_model::{ClassModel, ClassNo, FeatureNo};
 use ocl_kinds::{Kind, ScalarKind, feature_kind};
 use ocl_text::Name;
 use std::alloc::{AllocError, Global};
@@ -27,6 +28,28 @@ pub(crate) struct Unequal {
     pub(crate) right: Kind,
 }
 
+/// What is decided, whatever the delivery.
+#[derive(Clone, Copy, Drop)]
+pub(crate) enum Decision {
+    /// A comparison that is never true.
+    NeverTrue,
+    /// One that is never false.
+    NeverFalse,
+    /// Two conditions that are never both true.
+    NeverBoth,
+    /// A value that is invalid, since an operand is null.
+    Invalid,
+}
+
+/// A part of which something is decided.
+#[derive(Clone, Copy, Drop)]
+pub(crate) struct Decided {
+    /// Where its operator or its operation's name stands, in bytes from 0.
+    pub(crate) offset: usize,
+    /// What is.
+    pub(crate) decision: Decision,
+}
+
 /// The variables, outermost first; the outermost is the context object. And what a reading that ends well has met, of which
 /// there are warnings.
 #[derive(Drop)]
@@ -39,6 +62,8 @@ pub(crate) struct Scope<'t> {
     pub(crate) unequal: Vec<Unequal>,
     /// Where the names of variables stand that nothing reads.
     pub(crate) unread: Vec<usize>,
+    /// The parts of which something is decided.
+    pub(crate) decided: Vec<Decided>,
 }
 
 /// The type of the feature of a name that an object of a class has.
@@ -52,6 +77,17 @@ pub(crate) fn kind_of_feature(model: &ClassModel, class: ClassNo, name: &str) ->
 fn push<T: Drop>(items: &mut Vec<T>, item: T) -> Result<(), AllocError> {
     items.push(item)?;
     Ok(())
+}
+
+/// The feature of a name that a variable lends.
+fn feature_lent(model: &ClassModel, variable: &Variable<'_>, name: &str) -> Option<FeatureNo> {
+    if variable.name.is_some() {
+        return None;
+    }
+    match &variable.kind {
+        Kind::Scalar(ScalarKind::Class(class)) => feature_named(model, *class, name),
+        _ => None,
+    }
 }
 
 /// The type of the feature of a name that a variable lends.
@@ -74,6 +110,7 @@ impl<'t> Scope<'t> {
             is_read: Vec::new(alloc),
             unequal: Vec::new(alloc),
             unread: Vec::new(alloc),
+            decided: Vec::new(alloc),
         };
         scope.push_unnamed(Kind::Scalar(ScalarKind::Class(context)))?;
         Ok(scope)
@@ -162,6 +199,36 @@ impl<'t> Scope<'t> {
             right,
         };
         push(&mut self.unequal, unequal)
+    }
+
+    /// Notes a part of which something is decided.
+    pub(crate) fn note_decided(
+        &mut self,
+        offset: usize,
+        decision: Decision,
+    ) -> Result<(), AllocError> {
+        push(&mut self.decided, Decided { offset, decision })
+    }
+
+    /// The place that a bare name is: a variable, or else a feature that one without a name lends.
+    pub(crate) fn place_of_name(&self, model: &ClassModel, name: &str) -> Option<Subject> {
+        if let Some(variable) = self.variable_of_name(name) {
+            return Some(Subject {
+                variable,
+                feature: None,
+            });
+        }
+        for variable in (0..self.variables.len()).rev() {
+            if let Some(lending) = self.variables.get(variable)
+                && let Some(feature) = feature_lent(model, lending, name)
+            {
+                return Some(Subject {
+                    variable,
+                    feature: Some(feature.index()),
+                });
+            }
+        }
+        None
     }
 
     /// The index of the innermost variable of a name.

@@ -3,7 +3,7 @@
 use crate::fates::Fate;
 use crate::found::Stop;
 use crate::reading::Reading;
-use crate::scope::{Scope, Unequal};
+use crate::scope::{Decided, Decision, Scope, Unequal};
 use crate::type_names::a_type;
 use explain_names::{enumeration_name, literal_name};
 use explain_notes::{Input, Note};
@@ -84,6 +84,31 @@ fn write_unread(
     note.write(alloc, out)
 }
 
+/// Writes a warning of a part of which something is decided whatever the delivery.
+fn write_decided(
+    alloc: Global,
+    out: &mut String,
+    input: Input<'_>,
+    decided: &Decided,
+) -> Result<(), AllocError> {
+    let message = match decided.decision {
+        Decision::NeverTrue => "this is never true",
+        Decision::NeverFalse => "this is never false",
+        Decision::NeverBoth => "the two sides are never both true",
+        Decision::Invalid => "this has no value, since an operand is null",
+    };
+    let note = Note {
+        input,
+        offset: decided.offset,
+        length: length_of_token(alloc, input.bytes, decided.offset)?,
+        message,
+        fault: "warning",
+        label: "",
+        help: "",
+    };
+    note.write(alloc, out)
+}
+
 /// Writes the warnings that a reading gathered.
 fn write_gathered(
     alloc: Global,
@@ -98,6 +123,9 @@ fn write_gathered(
     for offset in &scope.unread {
         write_unread(alloc, out, input, *offset)?;
     }
+    for decided in &scope.decided {
+        write_decided(alloc, out, input, decided)?;
+    }
     Ok(())
 }
 
@@ -111,12 +139,9 @@ fn write_fate(
 ) -> Result<(), AllocError> {
     let (what, label) = match (fate.may_hold, fate.may_fail) {
         (true, true) => return Ok(()),
-        (false, true) => ("no object can keep", "by its types this is never true"),
-        (true, false) => ("no object can break", "by its types this is never false"),
-        (false, false) => (
-            "no object can keep or break",
-            "by its types this is never true or false",
-        ),
+        (false, true) => ("no object can keep", "this is never true"),
+        (true, false) => ("no object can break", "this is never false"),
+        (false, false) => ("no object can keep or break", "this is never true or false"),
     };
     let name = rule.name.as_str();
     let message = format!(in alloc; "{what} rule `{name}`")?;
