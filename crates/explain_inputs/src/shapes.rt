@@ -2,12 +2,13 @@
 
 use crate::drafts::items;
 use crate::members::{
-    CLASS_RENAME, DELIVERY, END, FEATURE_RENAME, List, MODEL, Member, NONE_OPTIONAL, OPTIONAL,
-    RENAMES, associations, attributes, classes, enumerations, member_of, objects,
+    List, associations, attributes, classes, enumerations, member_of, objects, words,
 };
 use crate::places::{document_offset, element_offsets, member_offset};
 use crate::report::Report;
 use explain_notes::{Input, quote};
+use imkl_delivery::members::DELIVERY;
+use imkl_model::members::{CLASS_RENAME, END, FEATURE_RENAME, MODEL, Member, RENAMES};
 use serde_json::{Map, Value};
 use std::alloc::{AllocError, Global};
 
@@ -51,7 +52,7 @@ impl Look<'_> {
         looked: Looked<'_>,
         members: &[Member],
     ) -> Result<(), AllocError> {
-        self.object(alloc, looked, members, &NONE_OPTIONAL)
+        self.object(alloc, looked, members, &[])
     }
 
     /// Looks at a value that should be an object of these members, and may have those that are optional.
@@ -113,11 +114,11 @@ impl Look<'_> {
         member: &Member,
         value: &Value,
     ) -> Result<(), AllocError> {
-        let (name, is) = *member;
+        let Member(name, is) = *member;
         if is.holds(value) {
             return Ok(());
         }
-        let (title, wanted) = (looked.title, is.words());
+        let (title, wanted) = (looked.title, words(is));
         let message = format!(in alloc; "the member `{name}` of {title} is not {wanted}")?;
         let offset = self.place(alloc, looked, name)?;
         self.say(offset, message.as_str())
@@ -222,8 +223,9 @@ impl Look<'_> {
 
     /// Looks at the entries of `renames`: each is of a feature where it has a member `class`, else of a class.
     fn renames(&mut self, alloc: Global, document: Looked<'_>) -> Result<(), AllocError> {
-        for (index, (offset, value)) in self.located(alloc, document, RENAMES)?.iter().enumerate() {
-            let title = format!(in alloc; "entry {index} of `{RENAMES}`")?;
+        let member = RENAMES.0;
+        for (index, (offset, value)) in self.located(alloc, document, member)?.iter().enumerate() {
+            let title = format!(in alloc; "entry {index} of `{member}`")?;
             let looked = Looked {
                 value,
                 offset: *offset,
@@ -240,7 +242,7 @@ impl Look<'_> {
 
     /// Looks at the shape of a class model.
     fn model(&mut self, alloc: Global, document: Looked<'_>) -> Result<(), AllocError> {
-        self.object(alloc, document, &MODEL, &OPTIONAL)?;
+        self.object(alloc, document, &MODEL, &[RENAMES])?;
         self.list(alloc, document, enumerations())?;
         self.list(alloc, document, classes())?;
         self.list(alloc, document, associations())?;

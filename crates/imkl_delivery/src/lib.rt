@@ -8,6 +8,7 @@ mod features;
 mod guesses;
 pub mod laws;
 mod loading;
+pub mod members;
 mod outline;
 mod pending_value;
 mod scalars;

@@ -7,6 +7,7 @@ pub mod ClassModel
 pub mod Renames
 pub mod WellFormed
 pub mod Shape
+pub mod Members
 pub mod WrittenFeatures
 pub mod Checks
 pub mod Scopes

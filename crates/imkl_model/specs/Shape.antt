@@ -1,6 +1,6 @@
 -- What a JSON tree has to look like, and the class model that it writes. One function for each row of the format's table:
 -- an object has exactly the members that its function reads.
-use Rattle.std.specs.Prelude.{ℕ, ◌+◌, List, [], ◌∷◌, ◌++◌, Option, Some, None, is_some, Result, Ok, Err, nat_le, if◌then◌else◌, codes}
+use Rattle.std.specs.Prelude.{ℕ, ◌+◌, List, [], ◌∷◌, ◌++◌, Bool, Option, Some, None, is_some, Result, Ok, Err, nat_le, if◌then◌else◌, codes}
 use Rattle.serde_json.specs.Data.{Data, null}
 use Rattle.serde_json.specs.Find.{get, as_str, as_bool}
 use Rattle.imkl_model.specs.declared.fault.ModelFault.{ModelFault}
@@ -44,6 +44,26 @@ upper_from null = Ok None
 upper_from d = do
   n ← lower_from d
   Ok (Some n)
+
+-- true or false
+abbrev pub truth_from : Data → Result Bool ModelFault
+truth_from d = found (as_bool d) Shape
+
+-- a list
+abbrev pub trees_from : Data → Result (List Data) ModelFault
+trees_from d = found (list_from d) Shape
+
+-- a list of names
+abbrev pub names_from : Data → Result (List (List ℕ)) ModelFault
+names_from d = do
+  names ← found (list_from d) Shape
+  each name_from names
+
+-- a member, by what it is
+abbrev pub member_from : {A : Type 0} → (Data → Result A ModelFault) → List ℕ → Data → Result A ModelFault
+member_from from name d = do
+  m ← found (get name d) Shape
+  from m
 
 unfoldable pub attribute_from : Data → Result WrittenAttribute ModelFault
 attribute_from d = do

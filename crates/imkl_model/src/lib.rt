@@ -20,6 +20,7 @@ mod items;
 pub mod laws;
 mod limits;
 mod lists;
+pub mod members;
 mod model;
 mod names;
 mod numbering;

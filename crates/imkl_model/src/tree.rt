@@ -1,23 +1,27 @@
-//! From a JSON tree to the class model that it writes.
+//! From a JSON tree to the class model that it writes, by the tables of members.
 
 ghost use Rattle.std.specs.Prelude.{◌≡◌, ◌≤◌, true, map, All, IfOk, IfSome, codes};
 ghost use Rattle.imkl_model.specs.Spelled.{IsSpelledAttribute, IsSpelledClass, IsSpelledEnumeration, IsSpelledEnd, IsSpelledAssociation, IsSpelledRename, IsSpelled};
 ghost use Rattle.serde_json.specs.View.{view, members_view};
-ghost use Rattle.serde_json.specs.Find.{get, as_str, as_bool};
+ghost use Rattle.serde_json.specs.Find.{get, as_bool};
 ghost use Rattle.ocl_base.specs.Steps.{Gives, found};
 ghost use Rattle.imkl_model.specs.declared.fault.ModelFault.TheVariants.{Shape};
+ghost use Rattle.imkl_model.specs.declared.members.Is.TheVariants as is;
 ghost use Rattle.imkl_model.specs.Words.{is_title};
 ghost use Rattle.imkl_model.specs.WellFormed.{IsModelName};
 ghost use Rattle.imkl_model.specs.Faults.{model_fault};
-ghost use Rattle.imkl_json.specs.Json.{list_from, record_from, natural_from};
-ghost use Rattle.imkl_model.specs.Shape.{title_from, name_from, lower_from, upper_from, attribute_from, class_from, enumeration_from, end_from, association_from, class_rename_from, feature_rename_from, rename_from, renames_in, written_from};
+ghost use Rattle.imkl_json.specs.Json.{list_from, record_from};
+ghost use Rattle.imkl_model.specs.Shape.{title_from, name_from, lower_from, upper_from, member_from, truth_from, trees_from, names_from, attribute_from, class_from, enumeration_from, end_from, association_from, class_rename_from, feature_rename_from, rename_from, renames_in, written_from};
 
 use crate::fault::ModelFault;
 use crate::items::Items;
 use crate::limits::MAX_BOUND;
 use crate::lists::{Spelled, each_of};
+use crate::members::{
+    ASSOCIATION, ATTRIBUTE, CLASS, CLASS_RENAME, END, ENUMERATION, FEATURE_RENAME, MODEL, Member,
+    RENAMES, lower_in, name_in, title_in, upper_in,
+};
 use crate::renames::{class_renames, feature_renames};
-use crate::words::{is_model_name, is_title};
 use crate::written::{
     Written, WrittenAssociation, WrittenAttribute, WrittenClass, WrittenClassRename, WrittenEnd,
     WrittenEnumeration, WrittenFeatureRename, WrittenRename,
@@ -35,83 +39,90 @@ fn record(value: &Value, members: usize) -> Result<&Map<String, Value>, ModelFau
     record_of(value, members).ok_or(ModelFault::Shape)
 }
 
-fn member<'v>(value: &'v Value, name: &str) -> Result<&'v Value, ModelFault>
+/// The value of a member, whatever it is.
+fn value_at<'v>(object: &'v Value, member: Member) -> Result<&'v Value, ModelFault>
     ensures { Gives model_fault (λ v. view v.now) result
-        (found (get name.now (view value.now)) Shape) }
+        (found (get member.0.now (view object.now)) Shape) }
 {
-    value.get(name).ok_or(ModelFault::Shape)
+    object.get(member.0).ok_or(ModelFault::Shape)
 }
 
-fn text(value: &Value) -> Result<&str, ModelFault>
-    ensures { Gives model_fault (λ s. s.now) result (found (as_str (view value.now)) Shape) }
-{
-    value.as_str().ok_or(ModelFault::Shape)
-}
-
-fn truth(value: &Value) -> Result<bool, ModelFault>
-    ensures { Gives model_fault (λ b. b) result (found (as_bool (view value.now)) Shape) }
-{
-    value.as_bool().ok_or(ModelFault::Shape)
-}
-
-fn number(value: &Value) -> Result<u64, ModelFault>
-    ensures { Gives model_fault (λ n. n) result (found (natural_from (view value.now)) Shape) }
-{
-    value.as_u64().ok_or(ModelFault::Shape)
-}
-
+/// The values of a list.
 fn list(value: &Value) -> Result<&[Value], ModelFault>
-    ensures { Gives model_fault (λ vs. map view vs.now) result
-        (found (list_from (view value.now)) Shape) }
+    ensures { Gives model_fault (λ vs. map view vs.now) result (trees_from (view value.now)) }
 {
     list_of(value).ok_or(ModelFault::Shape)
 }
 
-#[tactic(auto, unfolding(crate::specs::Shape::title_from))]
-fn title_of(alloc: Global, value: &Value) -> Result<Text, ModelFault>
-    ensures tree { Gives model_fault (λ n. n) result (title_from (view value.now)) }
-    ensures fits { IfOk result (λ n. is_title n ≡ true) }
-{
-    let title = text(value)?;
-    if !is_title(title) {
-        return Err(ModelFault::Shape);
-    }
-    Ok(Text::new(String::from_str(alloc, title)?))
-}
-
-#[tactic(auto, unfolding(crate::specs::Shape::name_from))]
 fn name_of(alloc: Global, value: &Value) -> Result<Text, ModelFault>
     ensures tree { Gives model_fault (λ n. n) result (name_from (view value.now)) }
     ensures fits { IfOk result IsModelName }
 {
-    let name = text(value)?;
-    if !is_model_name(name) {
-        return Err(ModelFault::Shape);
-    }
+    let name = name_in(value).ok_or(ModelFault::Shape)?;
     Ok(Text::new(String::from_str(alloc, name)?))
 }
 
-#[tactic(auto, unfolding(crate::specs::Shape::lower_from))]
-fn lower_of(value: &Value) -> Result<u32, ModelFault>
-    ensures tree { Gives model_fault (λ n. n) result (lower_from (view value.now)) }
-    ensures fits { IfOk result (λ n. n ≤ MAX_BOUND) }
+fn title_at(alloc: Global, object: &Value, member: Member) -> Result<Text, ModelFault>
+    requires { member.1 ≡ is.Title }
+    ensures tree { Gives model_fault (λ n. n) result (member_from title_from member.0.now (view object.now)) }
+    ensures fits { IfOk result (λ n. is_title n ≡ true) }
 {
-    let bound = number(value)?;
-    if bound > MAX_BOUND {
-        return Err(ModelFault::Shape);
-    }
-    Ok(bound as u32)
+    let title = title_in(value_at(object, member)?).ok_or(ModelFault::Shape)?;
+    Ok(Text::new(String::from_str(alloc, title)?))
 }
 
-#[tactic(auto, unfolding(crate::specs::Shape::upper_from))]
-fn upper_of(value: &Value) -> Result<Option<u32>, ModelFault>
-    ensures tree { Gives model_fault (λ n. n) result (upper_from (view value.now)) }
+fn name_at(alloc: Global, object: &Value, member: Member) -> Result<Text, ModelFault>
+    requires { member.1 ≡ is.Name }
+    ensures tree { Gives model_fault (λ n. n) result (member_from name_from member.0.now (view object.now)) }
+    ensures fits { IfOk result IsModelName }
+{
+    name_of(alloc, value_at(object, member)?)
+}
+
+fn truth_at(object: &Value, member: Member) -> Result<bool, ModelFault>
+    requires { member.1 ≡ is.Truth }
+    ensures { Gives model_fault (λ b. b) result (member_from truth_from member.0.now (view object.now)) }
+{
+    value_at(object, member)?.as_bool().ok_or(ModelFault::Shape)
+}
+
+fn lower_at(object: &Value, member: Member) -> Result<u32, ModelFault>
+    requires { member.1 ≡ is.Lower }
+    ensures tree { Gives model_fault (λ n. n) result (member_from lower_from member.0.now (view object.now)) }
+    ensures fits { IfOk result (λ n. n ≤ MAX_BOUND) }
+{
+    lower_in(value_at(object, member)?).ok_or(ModelFault::Shape)
+}
+
+fn upper_at(object: &Value, member: Member) -> Result<Option<u32>, ModelFault>
+    requires { member.1 ≡ is.Upper }
+    ensures tree { Gives model_fault (λ n. n) result (member_from upper_from member.0.now (view object.now)) }
     ensures fits { IfOk result (λ upper. IfSome upper (λ u. u ≤ MAX_BOUND)) }
 {
-    match value {
-        Value::Null => Ok(None),
-        _ => Ok(Some(lower_of(value)?)),
-    }
+    upper_in(value_at(object, member)?).ok_or(ModelFault::Shape)
+}
+
+fn list_at<'v>(object: &'v Value, member: Member) -> Result<&'v [Value], ModelFault>
+    requires { member.1 ≡ is.List }
+    ensures { Gives model_fault (λ vs. map view vs.now) result (member_from trees_from member.0.now (view object.now)) }
+{
+    list(value_at(object, member)?)
+}
+
+fn names_at(alloc: Global, object: &Value, member: Member) -> Result<Items<Text>, ModelFault>
+    requires { member.1 ≡ is.Names }
+    ensures tree { Gives model_fault (λ ns. ns) result (member_from names_from member.0.now (view object.now)) }
+    ensures fits { IfOk result (λ ns. All IsModelName ns) }
+{
+    Ok(Items::new(each_of::<Text>(alloc, list(value_at(object, member)?)?)?))
+}
+
+fn end_at(alloc: Global, object: &Value, member: Member) -> Result<WrittenEnd, ModelFault>
+    requires { member.1 ≡ is.Object }
+    ensures tree { Gives model_fault (λ e. e) result (member_from end_from member.0.now (view object.now)) }
+    ensures fits { IfOk result IsSpelledEnd }
+{
+    end_of(alloc, value_at(object, member)?)
 }
 
 #[tactic(auto, unfolding(crate::specs::Shape::attribute_from))]
@@ -119,20 +130,15 @@ fn attribute_of(alloc: Global, value: &Value) -> Result<WrittenAttribute, ModelF
     ensures tree { Gives model_fault (λ a. a) result (attribute_from (view value.now)) }
     ensures fits { IfOk result IsSpelledAttribute }
 {
-    record(value, 6)?;
-    let name = name_of(alloc, member(value, "name")?)?;
-    let element = name_of(alloc, member(value, "type")?)?;
-    let lower = lower_of(member(value, "lower")?)?;
-    let upper = upper_of(member(value, "upper")?)?;
-    let ordered = truth(member(value, "ordered")?)?;
-    let unique = truth(member(value, "unique")?)?;
+    record(value, ATTRIBUTE.len())?;
+    let [name, element, lower, upper, ordered, unique] = ATTRIBUTE;
     Ok(WrittenAttribute {
-        name,
-        element,
-        lower,
-        upper,
-        ordered,
-        unique,
+        name: name_at(alloc, value, name)?,
+        element: name_at(alloc, value, element)?,
+        lower: lower_at(value, lower)?,
+        upper: upper_at(value, upper)?,
+        ordered: truth_at(value, ordered)?,
+        unique: truth_at(value, unique)?,
     })
 }
 
@@ -141,16 +147,13 @@ fn class_of(alloc: Global, value: &Value) -> Result<WrittenClass, ModelFault>
     ensures tree { Gives model_fault (λ c. c) result (class_from (view value.now)) }
     ensures fits { IfOk result IsSpelledClass }
 {
-    record(value, 4)?;
-    let name = name_of(alloc, member(value, "name")?)?;
-    let is_abstract = truth(member(value, "abstract")?)?;
-    let supers = each_of::<Text>(alloc, list(member(value, "supers")?)?)?;
-    let attributes = each_of::<WrittenAttribute>(alloc, list(member(value, "attributes")?)?)?;
+    record(value, CLASS.len())?;
+    let [name, is_abstract, supers, attributes] = CLASS;
     Ok(WrittenClass {
-        name,
-        is_abstract,
-        supers: Items::new(supers),
-        attributes: Items::new(attributes),
+        name: name_at(alloc, value, name)?,
+        is_abstract: truth_at(value, is_abstract)?,
+        supers: names_at(alloc, value, supers)?,
+        attributes: Items::new(each_of::<WrittenAttribute>(alloc, list_at(value, attributes)?)?),
     })
 }
 
@@ -159,12 +162,11 @@ fn enumeration_of(alloc: Global, value: &Value) -> Result<WrittenEnumeration, Mo
     ensures tree { Gives model_fault (λ e. e) result (enumeration_from (view value.now)) }
     ensures fits { IfOk result IsSpelledEnumeration }
 {
-    record(value, 2)?;
-    let name = name_of(alloc, member(value, "name")?)?;
-    let literals = each_of::<Text>(alloc, list(member(value, "literals")?)?)?;
+    record(value, ENUMERATION.len())?;
+    let [name, literals] = ENUMERATION;
     Ok(WrittenEnumeration {
-        name,
-        literals: Items::new(literals),
+        name: name_at(alloc, value, name)?,
+        literals: names_at(alloc, value, literals)?,
     })
 }
 
@@ -173,16 +175,13 @@ fn end_of(alloc: Global, value: &Value) -> Result<WrittenEnd, ModelFault>
     ensures tree { Gives model_fault (λ e. e) result (end_from (view value.now)) }
     ensures fits { IfOk result IsSpelledEnd }
 {
-    record(value, 4)?;
-    let name = name_of(alloc, member(value, "name")?)?;
-    let lower = lower_of(member(value, "lower")?)?;
-    let upper = upper_of(member(value, "upper")?)?;
-    let ordered = truth(member(value, "ordered")?)?;
+    record(value, END.len())?;
+    let [name, lower, upper, ordered] = END;
     Ok(WrittenEnd {
-        name,
-        lower,
-        upper,
-        ordered,
+        name: name_at(alloc, value, name)?,
+        lower: lower_at(value, lower)?,
+        upper: upper_at(value, upper)?,
+        ordered: truth_at(value, ordered)?,
     })
 }
 
@@ -191,18 +190,14 @@ fn association_of(alloc: Global, value: &Value) -> Result<WrittenAssociation, Mo
     ensures tree { Gives model_fault (λ a. a) result (association_from (view value.now)) }
     ensures fits { IfOk result IsSpelledAssociation }
 {
-    record(value, 5)?;
-    let name = name_of(alloc, member(value, "name")?)?;
-    let from = name_of(alloc, member(value, "from")?)?;
-    let to = name_of(alloc, member(value, "to")?)?;
-    let end = end_of(alloc, member(value, "end")?)?;
-    let opposite = end_of(alloc, member(value, "opposite")?)?;
+    record(value, ASSOCIATION.len())?;
+    let [name, from, to, end, opposite] = ASSOCIATION;
     Ok(WrittenAssociation {
-        name,
-        from,
-        to,
-        end,
-        opposite,
+        name: name_at(alloc, value, name)?,
+        from: name_at(alloc, value, from)?,
+        to: name_at(alloc, value, to)?,
+        end: end_at(alloc, value, end)?,
+        opposite: end_at(alloc, value, opposite)?,
     })
 }
 
@@ -211,9 +206,10 @@ fn class_rename_of(alloc: Global, value: &Value) -> Result<WrittenRename, ModelF
     ensures tree { Gives model_fault (λ r. r) result (class_rename_from (view value.now)) }
     ensures fits { IfOk result IsSpelledRename }
 {
-    record(value, 2)?;
-    let old = name_of(alloc, member(value, "old")?)?;
-    let new = name_of(alloc, member(value, "new")?)?;
+    record(value, CLASS_RENAME.len())?;
+    let [old, new] = CLASS_RENAME;
+    let old = name_at(alloc, value, old)?;
+    let new = name_at(alloc, value, new)?;
     Ok(WrittenRename::Class(WrittenClassRename { old, new }))
 }
 
@@ -222,10 +218,11 @@ fn feature_rename_of(alloc: Global, value: &Value) -> Result<WrittenRename, Mode
     ensures tree { Gives model_fault (λ r. r) result (feature_rename_from (view value.now)) }
     ensures fits { IfOk result IsSpelledRename }
 {
-    record(value, 3)?;
-    let class = name_of(alloc, member(value, "class")?)?;
-    let old = name_of(alloc, member(value, "old")?)?;
-    let new = name_of(alloc, member(value, "new")?)?;
+    record(value, FEATURE_RENAME.len())?;
+    let [class, old, new] = FEATURE_RENAME;
+    let class = name_at(alloc, value, class)?;
+    let old = name_at(alloc, value, old)?;
+    let new = name_at(alloc, value, new)?;
     Ok(WrittenRename::Feature(WrittenFeatureRename { class, old, new }))
 }
 
@@ -234,7 +231,8 @@ fn rename_of(alloc: Global, value: &Value) -> Result<WrittenRename, ModelFault>
     ensures tree { Gives model_fault (λ r. r) result (rename_from (view value.now)) }
     ensures fits { IfOk result IsSpelledRename }
 {
-    match value.get("class") {
+    let [class, ..] = FEATURE_RENAME;
+    match value.get(class.0) {
         Some(_) => feature_rename_of(alloc, value),
         None => class_rename_of(alloc, value),
     }
@@ -246,7 +244,7 @@ fn renames_of(alloc: Global, value: &Value) -> Result<Vec<WrittenRename>, ModelF
         (renames_in (get (codes "renames") (view value.now))) }
     ensures fits { IfOk result (λ v. All IsSpelledRename v.items) }
 {
-    match value.get("renames") {
+    match value.get(RENAMES.0) {
         Some(renames) => each_of::<WrittenRename>(alloc, list(renames)?),
         None => Ok(Vec::new(alloc)),
     }
@@ -336,11 +334,12 @@ pub(crate) fn written_of(alloc: Global, value: &Value) -> Result<Written, ModelF
     ensures tree { Gives model_fault (λ w. w) result (written_from (view value.now)) }
     ensures fits { IfOk result IsSpelled }
 {
-    record(value, 4 + member_count(value, "renames"))?;
-    let name = title_of(alloc, member(value, "model")?)?;
-    let enumerations = each_of::<WrittenEnumeration>(alloc, list(member(value, "enums")?)?)?;
-    let classes = each_of::<WrittenClass>(alloc, list(member(value, "classes")?)?)?;
-    let associations = each_of::<WrittenAssociation>(alloc, list(member(value, "associations")?)?)?;
+    record(value, MODEL.len() + member_count(value, RENAMES.0))?;
+    let [name, enumerations, classes, associations] = MODEL;
+    let name = title_at(alloc, value, name)?;
+    let enumerations = each_of::<WrittenEnumeration>(alloc, list_at(value, enumerations)?)?;
+    let classes = each_of::<WrittenClass>(alloc, list_at(value, classes)?)?;
+    let associations = each_of::<WrittenAssociation>(alloc, list_at(value, associations)?)?;
     let renames = renames_of(alloc, value)?;
     let old_classes = class_renames(alloc, &renames)?;
     let old_features = feature_renames(alloc, &renames)?;
