@@ -1,5 +1,5 @@
-//! Why a class model or a delivery is refused: what is no JSON, what has another shape, and every fault of a delivery,
-//! object by object.
+//! Why a class model or a delivery is refused: it is no JSON, it has another shape, or a delivery
+//! has faults. All faults of a delivery are listed, object by object.
 #![tactic(auto)]
 
 mod deliveries;

@@ -1,4 +1,4 @@
-//! Where values stand in a JSON text, in bytes from 0.
+//! Places of values in a JSON text, in bytes from 0.
 
 use crate::walk::Walk;
 use std::alloc::{AllocError, Global};

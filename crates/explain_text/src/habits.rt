@@ -1,5 +1,5 @@
-//! What is said of a token that can't stand where it is, for habits of other OCL: a type that is left out, a call without a
-//! source, an operation that isn't there with a variable, and the like.
+//! Messages for tokens that other OCL allows here: a type that is left out, a call without a
+//! source, a variable for an operation that takes none, and the like.
 
 use crate::foreign::{instead_of_word, instead_on_collection};
 use explain_notes::Nearest;

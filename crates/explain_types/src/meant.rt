@@ -1,5 +1,5 @@
-//! What may have been meant by a name that isn't there: a feature of a class below, a feature for an operation, an operation
-//! for a feature, or what other OCL has.
+//! What may have been meant by a name that isn't there. It may be a feature of a class below, a
+//! feature for an operation, an operation for a feature, or a name of other OCL.
 
 use crate::operations::{operation_at, operation_count, operation_on};
 use crate::reading::{Reading, called_on};

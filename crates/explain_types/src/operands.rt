@@ -1,4 +1,4 @@
-//! What is said of operands that an operator doesn't take.
+//! Messages for operands that an operator doesn't take.
 
 use crate::conforming::{is_equality, is_integer};
 use crate::type_names::a_type;

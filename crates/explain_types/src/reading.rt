@@ -1,6 +1,6 @@
-//! A reading of a rule by the types of its parts. Where its types are wrong it stops at the fault, which is known to be
-//! there: before it all has types, and what is at the fault is looked at closely. Where they are right it goes through the
-//! whole rule, and gathers what there are warnings of.
+//! A reading of a rule by the types of its parts. Where its types are wrong it stops at the fault,
+//! whose place is known. Before the fault all has types, and what is at the fault is looked at
+//! closely. Where the types are right it reads the whole rule, and gathers warnings.
 
 use crate::conforming::{are_taken, have_something_in_common, is_equality, is_integer, is_taken};
 use crate::fates::{

@@ -1,4 +1,4 @@
-//! What is said of a fault of types.
+//! Messages for faults of types.
 
 use crate::found::Finding;
 use crate::meant::{

@@ -1,4 +1,4 @@
-//! What is said of a fault of types, and names as it writes them.
+//! Messages for faults of types, and how they write names.
 
 use explain_notes::{Nearest, quote};
 use std::alloc::{AllocError, Global};

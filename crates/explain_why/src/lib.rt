@@ -1,5 +1,5 @@
-//! Why a rule has its verdict for an object: each part of its expression with its value, down to what is absent or has no
-//! result.
+//! Why a rule has its verdict for an object: each part of its expression with its value, down to
+//! what is absent or invalid.
 #![tactic(auto)]
 
 mod deciding;

@@ -1,4 +1,4 @@
-//! The turns of a fold, and which of them tell how it came to its value.
+//! The turns of a fold, and those that decide its value.
 
 ghost use Rattle.std.specs.Prelude.{◌≡◌, ◌∷◌, None, length, map, IfOk, OnOk};
 ghost use Rattle.std.specs.List.{filter};

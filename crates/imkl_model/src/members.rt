@@ -1,5 +1,5 @@
-//! The members of each JSON object of a class model, and what each is: one table, for its readers and for those who explain
-//! why a class model is refused.
+//! The members of each JSON object of a class model, and what each is. Readers and explanations
+//! share this one table.
 
 ghost use Rattle.std.specs.Prelude.{◌≡◌, ◌≤◌, true, is_ok, IfSome, option_map};
 ghost use Rattle.serde_json.specs.View.{view};

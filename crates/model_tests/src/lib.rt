@@ -1,5 +1,5 @@
-//! What the rows of tests/models.rows and tests/deliveries.rows can't see of class models, populations and kinds: calls that no
-//! program makes, calls behind others that were refused, numbers, and whether contents are equal.
+//! What rows can't show of class models, populations and kinds: calls that no program makes, calls
+//! after refused ones, numbers, and whether contents are equal.
 #![tactic(auto)]
 
 #[cfg(test)]

@@ -1,4 +1,4 @@
-//! Who watches a command, as what explains its answer does.
+//! What watches a command, for explanations.
 
 ghost use Rattle.rule_cost.specs.Admission.{Fits};
 

@@ -1,4 +1,4 @@
-//! The answers of `ocl_check` for inputs that were read already, each with what is said behind it.
+//! The results of `ocl_check` for inputs that were read already, and the explanation after each.
 
 ghost use Rattle.std.specs.Prelude.{◌≡◌, ◌⊎◌, ◌||◌, true, false};
 ghost use Rattle.rule_report.specs.Sink.{IsFlushedOnce};

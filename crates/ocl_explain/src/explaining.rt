@@ -1,4 +1,4 @@
-//! What is said beside the answer of a command: why an input is refused, or what is hardly meant.
+//! Explanations of refusals, and warnings.
 
 ghost use Rattle.std.specs.Prelude.{◌≡◌};
 

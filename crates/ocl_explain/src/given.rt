@@ -1,4 +1,4 @@
-//! What a command is given.
+//! The inputs of a command.
 
 use explain_notes::Input;
 use ocl_check::{JudgeOptions, MAX_BUDGET, RulesForm};

@@ -1,4 +1,4 @@
-//! The answer of `judge` as JSON lines.
+//! The output of `judge` as JSON lines.
 
 ghost use Rattle.std.specs.Prelude.{◌≡◌, [], Some, true, false, IfOk};
 ghost use Rattle.ocl_check.specs.Answers.{IsAnswered, IsAnsweredBy, IsFlushedBy, KeepsSink, fails_read, fails_write};

@@ -1,5 +1,5 @@
-//! The commands of `ocl_check` over inputs that were read already, each with what is said beside its answer: why an input
-//! is refused, in words, or what is hardly meant.
+//! The commands of `ocl_check` over inputs that were read already, each with an explanation on
+//! standard error.
 #![tactic(auto)]
 
 mod answers;

@@ -1,4 +1,4 @@
-//! Why there is no answer: an input is refused, or memory ran out.
+//! Why the pipeline stopped: an input is refused, or memory ran out.
 
 ghost use Rattle.std.specs.Prelude.{◌≡◌};
 ghost use Rattle.ocl_pipeline.specs.Stops.{code_stop, compile_stop, cost_stop, delivery_stop, model_stop, text_stop, types_stop, verify_stop};

@@ -1,5 +1,5 @@
-//! What the rows of tests/ can't see: inputs and outputs that fail, a budget above the largest of the command line, and
-//! how other code uses the crates, and that a stranger's code has core trees.
+//! What the rows of tests/ can't show. Inputs and outputs fail, a budget is above the largest of
+//! the command line, other code uses the crates, and a stranger's code has core trees.
 #![tactic(auto)]
 
 #[cfg(test)]

@@ -1,4 +1,4 @@
-//! Answers that are longer than what is written at once: each is flushed once, after its last byte.
+//! Outputs longer than one write: each is flushed once, after its last byte.
 
 ghost use Rattle.std.specs.Prelude.{◌≡◌, false};
 

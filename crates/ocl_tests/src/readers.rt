@@ -1,4 +1,4 @@
-//! Readers that fail, never end, or give a byte at a time.
+//! Readers that fail, never end, or return a byte at a time.
 
 ghost use Rattle.std.specs.Prelude.{◌≡◌, false};
 

@@ -1,7 +1,7 @@
 //! The walk over a rule's expression: children before their node, left before right.
 //!
-//! Hundreds of its calls can wait for one another, so their frames are small: values are boxed, and what makes nodes of
-//! them, or goes through a `let` or an `if`, is not inlined.
+//! Hundreds of its calls can wait for one another, so their frames are small. Values are boxed, and what makes nodes of them
+//! isn't inlined, nor what handles a `let` or an `if`.
 
 ghost use Rattle.std.specs.Prelude.{◌≡◌, map, drop, All, Some, None, Ok, IfOk, OnOk};
 ghost use Rattle.ocl_base.specs.Steps.{Gives};

@@ -1,4 +1,4 @@
-//! A report and its JSON say the same.
+//! A report and its JSON have the same content.
 
 ghost use Rattle.report_json.specs.Laws.{ReportIsOfItsLines, JsonIsOfTheSameLines, MeantReportIsOfItsLines, MeantJsonIsOfTheSameLines};
 

@@ -1,5 +1,5 @@
-//! The part of a report between the line of a rule and the next line of an object: the lines of rules without objects,
-//! and the total at the end.
+//! The part of a report between the line of a rule and the next line of an object. It has the lines
+//! of rules without objects, and the total at the end.
 
 ghost use Rattle.std.specs.Prelude.{◌≡◌, ◌+◌, ◌-◌, ◌*◌, ◌≤◌, ◌++◌, length, vec_capacity};
 ghost use Rattle.rule_report.specs.Report.{total_line};

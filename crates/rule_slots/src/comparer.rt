@@ -1,4 +1,4 @@
-//! What comparisons of collections are told: where elements are and of which kind, and what is asked of them.
+//! What a comparison of collections needs: where elements are, of which kind, and what to compare.
 
 ghost use Rattle.std.specs.Prelude.{◌≡◌, ◌<◌, slice_get, Some};
 ghost use Rattle.rule_slots.specs.Slots.{lists_in};

@@ -1,6 +1,6 @@
-//! Sorted copies of collections in room of their own, for collections that are too long for what the pool has behind its
-//! end. It is given back as soon as they are compared; where it is refused there are no copies, and the collections are
-//! compared without them.
+//! Sorted copies of collections in room of their own, for collections that are too long for what
+//! the pool has behind its end. The room is freed as soon as they are compared. Where it is refused
+//! there are no copies, and the collections are compared without them.
 
 ghost use Rattle.std.specs.Prelude.{◌≡◌, ◌+◌, ◌≤◌, ◌++◌, length, vec_capacity, MatchOption};
 ghost use Rattle.rule_slots.specs.Slots.{lists_in, held_slots, IsInHome};

@@ -1,6 +1,6 @@
-//! Sorted copies whose slots hold the first index of an equal element. The index is only a hint, and nothing depends on
-//! it being right: an element that is left out is compared with the earlier one that it is said to equal, and those that
-//! are kept are sorted again to see that they all differ.
+//! Sorted copies whose slots hold the first index of an equal element. The index is a hint alone:
+//! nothing depends on it being right. An element that is left out is compared with the earlier one
+//! that it should equal. Those that are kept are sorted again, which shows that they all differ.
 
 ghost use Rattle.std.specs.Prelude.{◌≡◌, ◌+◌, ◌≤◌, length, take, vec_capacity};
 ghost use Rattle.rule_slots.specs.Slots.{lists_in, IsInHome};

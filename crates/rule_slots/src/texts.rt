@@ -1,5 +1,6 @@
-//! Operations on texts, by characters. A part of a text is a narrower range of its bytes. Of a text of the population the
-//! number of characters is kept, so only parts of texts with longer characters, and texts of the unit, are counted.
+//! Operations on texts, by characters. A part of a text is a narrower range of its bytes. The
+//! population keeps the number of characters of each of its texts. So only parts of texts with
+//! longer characters, and texts of the unit, are counted.
 
 ghost use Rattle.std.specs.Prelude.{◌≡◌, ◌==◌, ◌+◌, ◌<◌, ◌≤◌, ◌^◌, ℕ, List, length, take, drop, slice_range, true, Some, IfSome};
 ghost use Rattle.std.specs.Str.{chars};

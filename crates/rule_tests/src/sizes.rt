@@ -1,4 +1,4 @@
-//! Which deliveries fit what was admitted for others, and budgets that no command line gives.
+//! Which deliveries fit what was admitted for others, and budgets that no command line has.
 
 use crate::asked::{Asked, Inputs, is_answered};
 use std::alloc::{AllocError, Global};

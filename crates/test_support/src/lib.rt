@@ -1,5 +1,5 @@
-//! What the crates of tests share: bytes written as hexadecimal digits, code files of rules that are written in words, the
-//! catalogue of cables, ducts and nets with deliveries, and writers that fail.
+//! What the crates of tests share: bytes as hexadecimal digits, code files of rules in words, a
+//! catalogue with deliveries, and writers that fail.
 #![tactic(auto)]
 
 mod assembly;
