@@ -5,9 +5,14 @@ use imkl_model::{ClassModel, ElementType, FeatureInfo, FeatureNo, Role};
 use serde_json::{Value, json};
 use std::alloc::{AllocError, Global};
 
+/// Where the schema defines something of this sort, by its name.
+pub(crate) fn path_of(alloc: Global, sort: &str, name: &str) -> Result<String, AllocError> {
+    format!(in alloc; "#/$defs/{sort}.{name}")
+}
+
 /// A reference to a definition of the schema: of something of this sort, by its name.
 pub(crate) fn reference(alloc: Global, sort: &str, name: &str) -> Result<Value, AllocError> {
-    let path = format!(in alloc; "#/$defs/{sort}.{name}")?;
+    let path = path_of(alloc, sort, name)?;
     json!(in alloc; {"$ref": path})
 }
 

@@ -1,6 +1,6 @@
 //! What an object of a delivery may be.
 
-use crate::features::reference;
+use crate::features::path_of;
 use explain_names::{class_name, is_abstract};
 use imkl_model::{ClassModel, ClassNo};
 use serde_json::{Value, json};
@@ -8,7 +8,7 @@ use std::alloc::{AllocError, Global};
 
 /// That an object of a class has the features of that class, and no others.
 fn features_of_class(alloc: Global, name: &str) -> Result<Value, AllocError> {
-    let path = format!(in alloc; "#/$defs/class.{name}")?;
+    let path = path_of(alloc, "class", name)?;
     json!(in alloc; {
         "if": {"properties": {"class": {"const": name}}},
         "then": {"properties": {"features": {"$ref": path, "unevaluatedProperties": false}}}

@@ -5,11 +5,9 @@ use crate::objects::object_schema;
 use explain_names::{class_name, literal_count, literal_name};
 use explain_notes::steers;
 use imkl_model::{ClassModel, ClassNo, EnumNo};
+use imkl_population::{MAX_ID_LENGTH, MAX_OBJECTS};
 use serde_json::{Map, Value, json};
 use std::alloc::{AllocError, Global};
-
-/// The most objects that a delivery has.
-const MAX_OBJECTS: u32 = 1_000_000;
 
 /// What a value of an enumeration may be.
 fn enumeration_schema(
@@ -58,7 +56,8 @@ fn add_classes(
 /// The definitions that the schema refers to.
 fn definitions(alloc: Global, model: &ClassModel) -> Result<Value, AllocError> {
     let mut definitions = Map::new(alloc);
-    let id = json!(in alloc; {"type": "string", "pattern": "^[A-Za-z0-9._:-]{1,128}$"})?;
+    let pattern = format!(in alloc; "^[A-Za-z0-9._:-]{{1,{MAX_ID_LENGTH}}}$")?;
+    let id = json!(in alloc; {"type": "string", "pattern": pattern})?;
     definitions.insert(String::from_str(alloc, "id")?, id)?;
     let integer = json!(in alloc; {"type": "integer", "minimum": i64::MIN, "maximum": i64::MAX})?;
     definitions.insert(String::from_str(alloc, "integer")?, integer)?;
