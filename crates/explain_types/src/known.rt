@@ -36,7 +36,8 @@ impl Interval {
         }
     }
 
-    /// Those below all of them, or up to the greatest.
+    /// Those up to the greatest: each is less than some number of this interval, or, unless strict, equal to one. (`i64::MIN`
+    /// is always among them.)
     fn up_to(self, is_strict: bool) -> Interval {
         Interval {
             least: i64::MIN,
@@ -44,7 +45,8 @@ impl Interval {
         }
     }
 
-    /// Those above all of them, or from the least on.
+    /// Those from the least on: each is greater than some number of this interval, or, unless strict, equal to one.
+    /// (`i64::MAX` is always among them.)
     fn from(self, is_strict: bool) -> Interval {
         Interval {
             least: self.least.saturating_add(i64::from(is_strict)),
