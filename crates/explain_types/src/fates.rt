@@ -3,70 +3,13 @@
 
 use crate::conforming::{have_something_in_common, is_arithmetic, is_below};
 use crate::known::{
-    Both, Bound, Comparison, Interval, Known, Subject, asks_for_numbers, compared,
-    comparison_bound, joined,
+    Both, Bound, Fate, Interval, Known, Subject, asks_for_numbers, compared, comparison_bound,
+    joined,
 };
 use explain_names::{is_abstract, is_class_below};
 use imkl_model::{ClassModel, ClassNo};
 use ocl_kinds::{Kind, ScalarKind};
 use ocl_text::{BinaryOperator, IteratorKind};
-
-/// What a Boolean may come to; it may always be null or invalid.
-#[derive(Clone, Copy, Drop)]
-pub(crate) struct Fate {
-    /// It may be true.
-    pub(crate) may_hold: bool,
-    /// It may be false.
-    pub(crate) may_fail: bool,
-}
-
-impl Fate {
-    /// Types don't tell.
-    fn open() -> Fate {
-        Fate {
-            may_hold: true,
-            may_fail: true,
-        }
-    }
-
-    /// That of the opposite.
-    pub(crate) fn opposite(self) -> Fate {
-        Fate {
-            may_hold: self.may_fail,
-            may_fail: self.may_hold,
-        }
-    }
-
-    fn and(self, other: Fate) -> Fate {
-        Fate {
-            may_hold: self.may_hold && other.may_hold,
-            may_fail: self.may_fail || other.may_fail,
-        }
-    }
-
-    fn or(self, other: Fate) -> Fate {
-        self.opposite().and(other.opposite()).opposite()
-    }
-
-    /// As far as a comparison that is known lets it.
-    fn limited(self, known: Option<Comparison>) -> Fate {
-        match known {
-            Some(known) => Fate {
-                may_hold: self.may_hold && known.may_hold,
-                may_fail: self.may_fail && known.may_fail,
-            },
-            None => self,
-        }
-    }
-
-    /// One of the two.
-    fn either(self, other: Fate) -> Fate {
-        Fate {
-            may_hold: self.may_hold || other.may_hold,
-            may_fail: self.may_fail || other.may_fail,
-        }
-    }
-}
 
 /// A part of a rule, as far as types tell.
 #[derive(Clone, Copy, Drop)]
@@ -190,12 +133,8 @@ pub(crate) fn is_invalid(operator: BinaryOperator, left: &Part, right: &Part) ->
     asks_for_numbers(operator) && (left.is_absent() || right.is_absent())
 }
 
-/// What a comparison of parts comes to by what is known of their values; none where that doesn't tell.
-pub(crate) fn comparison(
-    operator: BinaryOperator,
-    left: &Part,
-    right: &Part,
-) -> Option<Comparison> {
+/// What a comparison of parts may come to by what is known of their values.
+pub(crate) fn comparison(operator: BinaryOperator, left: &Part, right: &Part) -> Fate {
     compared(operator, left.known, right.known)
 }
 

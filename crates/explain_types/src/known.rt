@@ -1,4 +1,5 @@
-//! What is known of a value besides its type: that it is a whole number of an interval, a literal, or none at all.
+//! What is known of a value besides its type: that it is a whole number of an interval, a literal, or none at all; and of a
+//! Boolean, whether it may be true, and whether it may be false.
 
 use crate::conforming::is_arithmetic;
 use ocl_text::BinaryOperator;
@@ -141,75 +142,108 @@ pub(crate) fn joined(one: Option<Bound>, other: Option<Bound>) -> Both {
     }
 }
 
-/// Whether a comparison may be true, and whether it may be false.
+/// What a Boolean may come to; it may always be null or invalid.
 #[derive(Clone, Copy, Drop)]
-pub(crate) struct Comparison {
+pub(crate) struct Fate {
+    /// It may be true.
     pub(crate) may_hold: bool,
+    /// It may be false.
     pub(crate) may_fail: bool,
 }
 
+impl Fate {
+    /// Nothing is known.
+    pub(crate) fn open() -> Fate {
+        Fate {
+            may_hold: true,
+            may_fail: true,
+        }
+    }
+
+    /// That of the opposite.
+    pub(crate) fn opposite(self) -> Fate {
+        Fate {
+            may_hold: self.may_fail,
+            may_fail: self.may_hold,
+        }
+    }
+
+    pub(crate) fn and(self, other: Fate) -> Fate {
+        Fate {
+            may_hold: self.may_hold && other.may_hold,
+            may_fail: self.may_fail || other.may_fail,
+        }
+    }
+
+    pub(crate) fn or(self, other: Fate) -> Fate {
+        self.opposite().and(other.opposite()).opposite()
+    }
+
+    /// What a Boolean may come to of which both are known.
+    pub(crate) fn limited(self, other: Fate) -> Fate {
+        Fate {
+            may_hold: self.may_hold && other.may_hold,
+            may_fail: self.may_fail && other.may_fail,
+        }
+    }
+
+    /// One of the two.
+    pub(crate) fn either(self, other: Fate) -> Fate {
+        Fate {
+            may_hold: self.may_hold || other.may_hold,
+            may_fail: self.may_fail || other.may_fail,
+        }
+    }
+}
+
 /// Whether two numbers of intervals may be equal, and whether they may differ.
-fn equality(one: Interval, other: Interval) -> Comparison {
-    Comparison {
+fn equality(one: Interval, other: Interval) -> Fate {
+    Fate {
         may_hold: one.within(other).is_some(),
         may_fail: !one.is_same_number(other),
     }
 }
 
 /// Whether a number of an interval may be less than one of another (or equal, where that is asked too), and whether not.
-fn order(one: Interval, other: Interval, is_strict: bool) -> Comparison {
-    Comparison {
+fn order(one: Interval, other: Interval, is_strict: bool) -> Fate {
+    Fate {
         may_hold: one.within(other.up_to(is_strict)).is_some(),
         may_fail: one.within(other.from(!is_strict)).is_some(),
     }
 }
 
-impl Comparison {
-    /// That of the opposite.
-    fn opposite(self) -> Comparison {
-        Comparison {
-            may_hold: self.may_fail,
-            may_fail: self.may_hold,
-        }
-    }
-}
-
-/// What a comparison of two values comes to by what is known of them; none where that doesn't tell.
-pub(crate) fn compared(operator: BinaryOperator, left: Known, right: Known) -> Option<Comparison> {
+/// What a comparison of two values may come to by what is known of them.
+pub(crate) fn compared(operator: BinaryOperator, left: Known, right: Known) -> Fate {
     match (left, right) {
-        (Known::Invalid, _) | (_, Known::Invalid) => Some(Comparison {
+        (Known::Invalid, _) | (_, Known::Invalid) => Fate {
             may_hold: false,
             may_fail: false,
-        }),
+        },
         (Known::Number(one), Known::Number(other)) => numbers_compared(operator, one, other),
         (Known::Literal(one), Known::Literal(other)) => {
-            let same = Comparison {
+            let same = Fate {
                 may_hold: one == other,
                 may_fail: one != other,
             };
             match operator {
-                BinaryOperator::Equal => Some(same),
-                BinaryOperator::NotEqual => Some(same.opposite()),
-                _ => None,
+                BinaryOperator::Equal => same,
+                BinaryOperator::NotEqual => same.opposite(),
+                _ => Fate::open(),
             }
         }
-        _ => None,
+        _ => Fate::open(),
     }
 }
 
-fn numbers_compared(
-    operator: BinaryOperator,
-    one: Interval,
-    other: Interval,
-) -> Option<Comparison> {
+fn numbers_compared(operator: BinaryOperator, one: Interval, other: Interval) -> Fate {
     match operator {
-        BinaryOperator::Less => Some(order(one, other, true)),
-        BinaryOperator::LessEqual => Some(order(one, other, false)),
-        BinaryOperator::Greater => Some(order(other, one, true)),
-        BinaryOperator::GreaterEqual => Some(order(other, one, false)),
-        BinaryOperator::Equal => Some(equality(one, other)),
-        BinaryOperator::NotEqual => Some(equality(one, other).opposite()),
-        _ => None,
+        BinaryOperator::Less => order(one, other, true),
+        BinaryOperator::LessEqual => order(one, other, false),
+        BinaryOperator::Greater => order(other, one, true),
+        BinaryOperator::GreaterEqual => order(other, one, false),
+        BinaryOperator::Equal => equality(one, other),
+        BinaryOperator::NotEqual => equality(one, other).opposite(),
+        _ => Fate::open(),
     }
 }
 

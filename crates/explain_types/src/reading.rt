@@ -217,8 +217,8 @@ fn decision_of(operator: BinaryOperator, left: &Part, right: &Part) -> Option<De
     if are_never_both(operator, left, right) {
         return Some(Decision::NeverBoth);
     }
-    let known = comparison(operator, left, right)?;
-    match (known.may_hold, known.may_fail) {
+    let fate = comparison(operator, left, right);
+    match (fate.may_hold, fate.may_fail) {
         (false, true) => Some(Decision::NeverTrue),
         (true, false) => Some(Decision::NeverFalse),
         _ => None,

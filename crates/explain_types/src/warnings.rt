@@ -1,7 +1,7 @@
 //! Warnings of rules whose types are right.
 
-use crate::fates::Fate;
 use crate::found::Stop;
+use crate::known::Fate;
 use crate::reading::Reading;
 use crate::scope::{Decided, Decision, Scope, Unequal};
 use crate::type_names::a_type;
