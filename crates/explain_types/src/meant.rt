@@ -3,10 +3,10 @@
 
 use crate::operations::{operation_at, operation_count, operation_on};
 use crate::reading::{Reading, called_on};
-use crate::scope::{Scope, kind_of_feature};
+use crate::scope::Scope;
 use crate::type_names::type_name;
 use crate::writing::{Words, list, write_quoted};
-use explain_names::{class_name, is_class_below};
+use explain_names::{class_name, feature_named, is_class_below};
 use explain_text::{instead_of_name, instead_on_collection, instead_on_value, is_iteration};
 use imkl_model::{ClassModel, ClassNo};
 use ocl_kinds::{Kind, ScalarKind, elements_kind};
@@ -117,7 +117,7 @@ pub(crate) fn class_with_feature<'t>(
 ) -> Option<&'t str> {
     for index in 0..model.class_count() {
         let class = ClassNo::new(index);
-        if is_class_below(model, class, above) && kind_of_feature(model, class, name).is_some() {
+        if is_class_below(model, class, above) && feature_named(model, class, name).is_some() {
             return Some(model.class_name(class));
         }
     }
@@ -201,7 +201,7 @@ pub(crate) fn instead_on(kind: &Kind, name: &str) -> &'static str {
 /// Whether what is on the left has a feature of this name.
 fn is_feature_of(model: &ClassModel, left: &Kind, name: &str) -> bool {
     match elements_kind(left) {
-        ScalarKind::Class(class) => kind_of_feature(model, class, name).is_some(),
+        ScalarKind::Class(class) => feature_named(model, class, name).is_some(),
         _ => false,
     }
 }

@@ -9,9 +9,9 @@ use crate::fates::{
 use crate::found::{Finding, Stop};
 use crate::known::{Interval, Known, Subject};
 use crate::operations::{operation_on, takes_class};
-use crate::scope::{Decision, Scope, kind_of_feature};
-use explain_names::{feature_named, literal_count, literal_name};
-use imkl_model::{ClassModel, ClassNo, CollectionKind, EnumNo};
+use crate::scope::{Decision, Scope, feature_of_class};
+use explain_names::{literal_count, literal_name};
+use imkl_model::{ClassModel, ClassNo, CollectionKind, EnumNo, FeatureNo};
 use ocl_kinds::{Kind, ScalarKind, collected_kind, elements_kind};
 use ocl_text::{
     BinaryOperator, Binding, DeclaredType, Expression, IteratorKind, Keyword, Link, Name,
@@ -158,13 +158,7 @@ fn known_literal(model: &ClassModel, enumeration: EnumNo, name: &str) -> Known {
 }
 
 /// The place that a feature of the object of a place is, where that is a variable.
-fn feature_of_place(
-    model: &ClassModel,
-    place: Option<Subject>,
-    class: ClassNo,
-    name: &str,
-) -> Option<Subject> {
-    let feature = feature_named(model, class, name)?;
+fn feature_of_place(place: Option<Subject>, feature: FeatureNo) -> Option<Subject> {
     match place? {
         Subject {
             variable,
@@ -339,11 +333,8 @@ impl<'t> Reading<'t> {
 
     /// The part that a bare name is.
     fn name(&mut self, name: &'t Name, offset: usize) -> Result<Part, Stop> {
-        match self.scope.kind_of_name(self.model, name.as_str()) {
-            Some(kind) => {
-                let place = self.scope.place_of_name(self.model, name.as_str());
-                Ok(Part::of_place(kind, place))
-            }
+        match self.scope.place_of_name(self.model, name.as_str()) {
+            Some((place, kind)) => Ok(Part::of_place(kind, Some(place))),
             None => {
                 self.look_up(name.as_str(), offset, Finding::Name)?;
                 Err(Stop::Fault)
@@ -450,10 +441,10 @@ impl<'t> Reading<'t> {
         let ScalarKind::Class(class) = elements_kind(&left.kind) else {
             return Err(Stop::Fault);
         };
-        match kind_of_feature(self.model, class, name) {
-            Some(own) => Ok(Part::of_place(
+        match feature_of_class(self.model, class, name) {
+            Some((feature, own)) => Ok(Part::of_place(
                 collection_of(left.kind, own),
-                feature_of_place(self.model, left.subject, class, name),
+                feature_of_place(left.subject, feature),
             )),
             None => Err(Stop::Fault),
         }

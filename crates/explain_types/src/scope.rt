@@ -66,11 +66,15 @@ pub(crate) struct Scope<'t> {
     pub(crate) decided: Vec<Decided>,
 }
 
-/// The type of the feature of a name that an object of a class has.
-pub(crate) fn kind_of_feature(model: &ClassModel, class: ClassNo, name: &str) -> Option<Kind> {
+/// The feature of a name that an object of a class has, and its type.
+pub(crate) fn feature_of_class(
+    model: &ClassModel,
+    class: ClassNo,
+    name: &str,
+) -> Option<(FeatureNo, Kind)> {
     let feature = feature_named(model, class, name)?;
     let info = feature_info(model, feature)?;
-    Some(feature_kind(info))
+    Some((feature, feature_kind(info)))
 }
 
 /// Puts an item at a list's end.
@@ -79,24 +83,17 @@ fn push<T: Drop>(items: &mut Vec<T>, item: T) -> Result<(), AllocError> {
     Ok(())
 }
 
-/// The feature of a name that a variable lends.
-fn feature_lent(model: &ClassModel, variable: &Variable<'_>, name: &str) -> Option<FeatureNo> {
+/// The feature of a name that a variable lends, and its type.
+fn feature_lent(
+    model: &ClassModel,
+    variable: &Variable<'_>,
+    name: &str,
+) -> Option<(FeatureNo, Kind)> {
     if variable.name.is_some() {
         return None;
     }
     match &variable.kind {
-        Kind::Scalar(ScalarKind::Class(class)) => feature_named(model, *class, name),
-        _ => None,
-    }
-}
-
-/// The type of the feature of a name that a variable lends.
-fn kind_lent(model: &ClassModel, variable: &Variable<'_>, name: &str) -> Option<Kind> {
-    if variable.name.is_some() {
-        return None;
-    }
-    match &variable.kind {
-        Kind::Scalar(ScalarKind::Class(class)) => kind_of_feature(model, *class, name),
+        Kind::Scalar(ScalarKind::Class(class)) => feature_of_class(model, *class, name),
         _ => None,
     }
 }
@@ -210,27 +207,6 @@ impl<'t> Scope<'t> {
         push(&mut self.decided, Decided { offset, decision })
     }
 
-    /// The place that a bare name is: a variable, or else a feature that one without a name lends.
-    pub(crate) fn place_of_name(&self, model: &ClassModel, name: &str) -> Option<Subject> {
-        if let Some(variable) = self.variable_of_name(name) {
-            return Some(Subject {
-                variable,
-                feature: None,
-            });
-        }
-        for variable in (0..self.variables.len()).rev() {
-            if let Some(lending) = self.variables.get(variable)
-                && let Some(feature) = feature_lent(model, lending, name)
-            {
-                return Some(Subject {
-                    variable,
-                    feature: Some(feature.index()),
-                });
-            }
-        }
-        None
-    }
-
     /// The index of the innermost variable of a name.
     fn variable_of_name(&self, name: &str) -> Option<usize> {
         for index in (0..self.variables.len()).rev() {
@@ -244,29 +220,44 @@ impl<'t> Scope<'t> {
         None
     }
 
-    /// The type of the innermost variable of a name, which is read by that.
-    fn kind_of_variable(&mut self, name: &str) -> Option<Kind> {
-        let index = self.variable_of_name(name)?;
-        if index < self.is_read.len() {
-            self.is_read[index] = true;
+    /// A variable as a place, and its type; it is read by that.
+    fn read_variable(&mut self, variable: usize) -> Option<(Subject, Kind)> {
+        if variable < self.is_read.len() {
+            self.is_read[variable] = true;
         }
-        match self.variables.get(index) {
-            Some(variable) => Some(variable.kind),
+        let place = Subject {
+            variable,
+            feature: None,
+        };
+        match self.variables.get(variable) {
+            Some(own) => Some((place, own.kind)),
             None => None,
         }
     }
 
-    /// The type of a bare name: that of a variable, or else of a feature that one without a name lends.
-    pub(crate) fn kind_of_name(&mut self, model: &ClassModel, name: &str) -> Option<Kind> {
-        if let Some(kind) = self.kind_of_variable(name) {
-            return Some(kind);
-        }
-        for variable in self.variables.iter().rev() {
-            if let Some(kind) = kind_lent(model, variable, name) {
-                return Some(kind);
+    /// The feature of a name as a place that a variable without a name lends, the innermost that has one, and its type.
+    fn place_lent(&self, model: &ClassModel, name: &str) -> Option<(Subject, Kind)> {
+        for variable in (0..self.variables.len()).rev() {
+            if let Some(lending) = self.variables.get(variable)
+                && let Some((feature, kind)) = feature_lent(model, lending, name)
+            {
+                let feature = Some(feature.index());
+                return Some((Subject { variable, feature }, kind));
             }
         }
         None
+    }
+
+    /// The place that a bare name is, and its type: a variable, or else a feature that one without a name lends.
+    pub(crate) fn place_of_name(
+        &mut self,
+        model: &ClassModel,
+        name: &str,
+    ) -> Option<(Subject, Kind)> {
+        match self.variable_of_name(name) {
+            Some(variable) => self.read_variable(variable),
+            None => self.place_lent(model, name),
+        }
     }
 
     /// Offers the names that can stand by themselves.
