@@ -1,6 +1,6 @@
 //! The objects of a delivery as they are written, and where.
 
-use crate::walk::Walk;
+use crate::places::{document_offset, element_offsets, list_offset};
 use serde_json::{Map, Value};
 use std::alloc::{AllocError, Global};
 
@@ -40,19 +40,11 @@ pub(crate) fn entries_of(alloc: Global, document: &Value) -> Result<Vec<Entry<'_
     Ok(entries)
 }
 
-/// Where each object of a document begins, in bytes from 0: what opens by a brace in a list that is a member of the
-/// document. Where a member stands twice these are the objects of the last.
+/// Where each object of a document begins, in bytes from 0: the elements of the document's list, of the last where its
+/// member stands twice.
 pub(crate) fn offsets_of(alloc: Global, bytes: &[u8]) -> Result<Vec<usize>, AllocError> {
-    let mut offsets = Vec::new(alloc);
-    let mut walk = Walk::new();
-    for (offset, byte) in bytes.iter().enumerate() {
-        if !walk.is_in_string() && *byte == b'[' && walk.depth() == 1 {
-            offsets.clear();
-        }
-        if !walk.is_in_string() && *byte == b'{' && walk.depth() == 2 {
-            offsets.push(offset)?;
-        }
-        walk = walk.after(*byte);
+    match list_offset(alloc, bytes, document_offset(bytes))? {
+        Some(list) => element_offsets(alloc, bytes, list),
+        None => Ok(Vec::new(alloc)),
     }
-    Ok(offsets)
 }

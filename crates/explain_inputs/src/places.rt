@@ -74,6 +74,22 @@ pub(crate) fn member_offset(
     Ok(found)
 }
 
+/// Where the last list begins that is a member of an object, whatever the member's name, which may be written with escapes.
+/// The object begins at an offset.
+pub(crate) fn list_offset(
+    alloc: Global,
+    bytes: &[u8],
+    object: usize,
+) -> Result<Option<usize>, AllocError> {
+    let mut found = None;
+    for begin in begins_in(alloc, bytes, object)? {
+        if bytes.get(begin) == Some(&b'[') {
+            found = Some(begin);
+        }
+    }
+    Ok(found)
+}
+
 /// Where a document's value begins.
 pub(crate) fn document_offset(bytes: &[u8]) -> usize {
     bytes.iter().position(|byte| !is_space(*byte)).unwrap_or(0)
