@@ -1,5 +1,5 @@
-//! Messages for tokens that other OCL allows here: a type that is left out, a call without a
-//! source, a variable for an operation that takes none, and the like.
+//! Messages for tokens that other OCL allows here, such as a type that is left out or a call
+//! without a source.
 
 use crate::foreign::{instead_of_word, instead_on_collection};
 use explain_notes::Nearest;

@@ -1,5 +1,5 @@
-//! What the rows of tests/ can't show. Inputs and outputs fail, a budget is above the largest of
-//! the command line, other code uses the crates, and a stranger's code has core trees.
+//! What the rows of tests/ can't show. Inputs and outputs fail, and a budget is above the largest
+//! of the command line. Other code uses the crates, and a stranger's code has core trees.
 #![tactic(auto)]
 
 #[cfg(test)]

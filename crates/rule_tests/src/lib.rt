@@ -1,5 +1,5 @@
-//! What no row of `tests` shows of rules: files that are read and written again, calls that neither
-//! program makes, a machine that begins anew, and writers that fail.
+//! What no row of `tests` shows of rules. Files are read and written again, a machine begins anew,
+//! and writers fail. Calls are made that neither program makes.
 #![tactic(auto)]
 
 #[cfg(test)]
