@@ -251,7 +251,7 @@ static CHARACTERS: [(&str, &str); 30] = [
     ("\"", "a string stands in single quotes, as 'water'"),
     (
         "#",
-        "a literal is written with its enumeration, as `Thema::water`",
+        "a literal is written with its enumeration, as `Enumeration::literal`",
     ),
     ("%", "`mod` is the remainder"),
     ("&", "`and` joins two conditions"),

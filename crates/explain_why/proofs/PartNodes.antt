@@ -32,8 +32,8 @@ use Rattle.explain_why.specs.TextWalk.{tree_text, link_text}
 use Rattle.explain_why.proofs.TextNodes.{link_text_is}
 use Rattle.explain_why.specs.Reasons.{choice_reason}
 use Rattle.explain_why.specs.Turns.{Turn, told_turns}
-use Rattle.explain_why.specs.Explanation.{turns_lines, lines_if, Batch, decides, deciding, beside, more_line, deciding_lines, batch_lines, chosen_lines, part_line, part_of, iteration_lines, accumulation_lines, explained}
-use Rattle.explain_why.specs.PartWalk.{node_reason, node_line, is_source_shown, spine_lines, below_lines, element_lines, step_lines, rest_lines, link_lines, links_lines, bound_lines, lets_lines}
+use Rattle.explain_why.specs.Explanation.{turns_lines, lines_if, Batch, decides, deciding, beside, more_line, deciding_lines, batch_lines, chosen_lines, part_line, valued_part, iteration_lines, accumulation_lines, explained}
+use Rattle.explain_why.specs.PartWalk.{node_reason, node_line, is_source_shown, spine_lines, below_lines, element_lines, step_lines, rest_lines, link_lines, links_lines, let_value_lines, lets_lines}
 
 -- a link after others stands on what they make
 spine_last : (before : List CoreLink) (link : CoreLink) (first : CoreTree) → core_spine first (map core_link_of (before ++ link ∷ [])) ≡ core_link_of link (core_spine first (map core_link_of before))
@@ -107,8 +107,8 @@ lets_explained p [] body k vars =
     let same : k + 0 ≡ k = omega arith in
     ap (λ n. explained p body n vars) same
 lets_explained p (w ∷ ws) body k vars =
-    let whole = part_of p (lets_of (w ∷ ws) body) k vars [] in
-    let bound = bound_lines p w (suc k) vars in
+    let whole = valued_part p (lets_of (w ∷ ws) body) k vars [] in
+    let bound = let_value_lines p w (suc k) vars in
     let inner = lets_lines p ws body (suc k) (meaning p w vars ∷ vars) in
     let last = explained p body (k + suc (length ws)) (bindings p ws (meaning p w vars ∷ vars)) in
     let up : k + suc (length ws) ≡ suc k + length ws = omega arith in
@@ -212,32 +212,32 @@ three_put old mid next new a b c whole first second third is =
 
 module _ (core : Core) (kind : Kind) (condition then_branch else_branch : Box Core Global) (is : core ≡ v.If kind condition then_branch else_branch) (p : Population) (k : ℕ) (vars : List Value) (w : Value) (chosen : w ≡ meaning p (core_view condition.value) vars) where
   -- its line, its condition, and the branch that is chosen
-  choice_is : part_of p (core_view core) k vars (choice_reason w) ++ (explained p (core_view condition.value) (suc k) vars ++ chosen_lines w (explained p (core_view then_branch.value) (suc k) vars) (explained p (core_view else_branch.value) (suc k) vars)) ≡ explained p (core_view core) k vars
+  choice_is : valued_part p (core_view core) k vars (choice_reason w) ++ (explained p (core_view condition.value) (suc k) vars ++ chosen_lines w (explained p (core_view then_branch.value) (suc k) vars) (explained p (core_view else_branch.value) (suc k) vars)) ≡ explained p (core_view core) k vars
   choice_is =
       let view = ap core_view is ∙ core_view-If kind condition then_branch else_branch in
-      ap (λ t. part_of p t k vars (choice_reason w) ++ (explained p (core_view condition.value) (suc k) vars ++ chosen_lines w (explained p (core_view then_branch.value) (suc k) vars) (explained p (core_view else_branch.value) (suc k) vars))) view
-      ∙ ap (λ (x : Value). part_of p (tree.If kind (core_view condition.value) (core_view then_branch.value) (core_view else_branch.value)) k vars (choice_reason x) ++ (explained p (core_view condition.value) (suc k) vars ++ chosen_lines x (explained p (core_view then_branch.value) (suc k) vars) (explained p (core_view else_branch.value) (suc k) vars))) chosen
+      ap (λ t. valued_part p t k vars (choice_reason w) ++ (explained p (core_view condition.value) (suc k) vars ++ chosen_lines w (explained p (core_view then_branch.value) (suc k) vars) (explained p (core_view else_branch.value) (suc k) vars))) view
+      ∙ ap (λ (x : Value). valued_part p (tree.If kind (core_view condition.value) (core_view then_branch.value) (core_view else_branch.value)) k vars (choice_reason x) ++ (explained p (core_view condition.value) (suc k) vars ++ chosen_lines x (explained p (core_view then_branch.value) (suc k) vars) (explained p (core_view else_branch.value) (suc k) vars))) chosen
       ∙ ap (λ t. explained p t k vars) (sym view)
 
   -- the first branch
-  pub first_parts : is_true w ≡ true → part_of p (core_view core) k vars (choice_reason w) ++ (explained p (core_view condition.value) (suc k) vars ++ explained p (core_view then_branch.value) (suc k) vars) ≡ explained p (core_view core) k vars
+  pub first_parts : is_true w ≡ true → valued_part p (core_view core) k vars (choice_reason w) ++ (explained p (core_view condition.value) (suc k) vars ++ explained p (core_view then_branch.value) (suc k) vars) ≡ explained p (core_view core) k vars
   first_parts so =
-      ap (λ (b : Bool). part_of p (core_view core) k vars (choice_reason w) ++ (explained p (core_view condition.value) (suc k) vars ++ (if b then explained p (core_view then_branch.value) (suc k) vars else (if is_false w then explained p (core_view else_branch.value) (suc k) vars else [])))) (sym so)
+      ap (λ (b : Bool). valued_part p (core_view core) k vars (choice_reason w) ++ (explained p (core_view condition.value) (suc k) vars ++ (if b then explained p (core_view then_branch.value) (suc k) vars else (if is_false w then explained p (core_view else_branch.value) (suc k) vars else [])))) (sym so)
       ∙ choice_is
 
   -- the second
-  pub second_parts : is_true w ≡ false → is_false w ≡ true → part_of p (core_view core) k vars (choice_reason w) ++ (explained p (core_view condition.value) (suc k) vars ++ explained p (core_view else_branch.value) (suc k) vars) ≡ explained p (core_view core) k vars
+  pub second_parts : is_true w ≡ false → is_false w ≡ true → valued_part p (core_view core) k vars (choice_reason w) ++ (explained p (core_view condition.value) (suc k) vars ++ explained p (core_view else_branch.value) (suc k) vars) ≡ explained p (core_view core) k vars
   second_parts unlike so =
-      ap (λ (b : Bool). part_of p (core_view core) k vars (choice_reason w) ++ (explained p (core_view condition.value) (suc k) vars ++ (if b then explained p (core_view else_branch.value) (suc k) vars else []))) (sym so)
-      ∙ ap (λ (b : Bool). part_of p (core_view core) k vars (choice_reason w) ++ (explained p (core_view condition.value) (suc k) vars ++ (if b then explained p (core_view then_branch.value) (suc k) vars else (if is_false w then explained p (core_view else_branch.value) (suc k) vars else [])))) (sym unlike)
+      ap (λ (b : Bool). valued_part p (core_view core) k vars (choice_reason w) ++ (explained p (core_view condition.value) (suc k) vars ++ (if b then explained p (core_view else_branch.value) (suc k) vars else []))) (sym so)
+      ∙ ap (λ (b : Bool). valued_part p (core_view core) k vars (choice_reason w) ++ (explained p (core_view condition.value) (suc k) vars ++ (if b then explained p (core_view then_branch.value) (suc k) vars else (if is_false w then explained p (core_view else_branch.value) (suc k) vars else [])))) (sym unlike)
       ∙ choice_is
 
   -- neither
-  pub no_parts : is_true w ≡ false → is_false w ≡ false → part_of p (core_view core) k vars (choice_reason w) ++ explained p (core_view condition.value) (suc k) vars ≡ explained p (core_view core) k vars
+  pub no_parts : is_true w ≡ false → is_false w ≡ false → valued_part p (core_view core) k vars (choice_reason w) ++ explained p (core_view condition.value) (suc k) vars ≡ explained p (core_view core) k vars
   no_parts unlike neither =
-      ap (λ xs. part_of p (core_view core) k vars (choice_reason w) ++ xs) (sym (append-nil (explained p (core_view condition.value) (suc k) vars)))
-      ∙ ap (λ (b : Bool). part_of p (core_view core) k vars (choice_reason w) ++ (explained p (core_view condition.value) (suc k) vars ++ (if b then explained p (core_view else_branch.value) (suc k) vars else []))) (sym neither)
-      ∙ ap (λ (b : Bool). part_of p (core_view core) k vars (choice_reason w) ++ (explained p (core_view condition.value) (suc k) vars ++ (if b then explained p (core_view then_branch.value) (suc k) vars else (if is_false w then explained p (core_view else_branch.value) (suc k) vars else [])))) (sym unlike)
+      ap (λ xs. valued_part p (core_view core) k vars (choice_reason w) ++ xs) (sym (append-nil (explained p (core_view condition.value) (suc k) vars)))
+      ∙ ap (λ (b : Bool). valued_part p (core_view core) k vars (choice_reason w) ++ (explained p (core_view condition.value) (suc k) vars ++ (if b then explained p (core_view else_branch.value) (suc k) vars else []))) (sym neither)
+      ∙ ap (λ (b : Bool). valued_part p (core_view core) k vars (choice_reason w) ++ (explained p (core_view condition.value) (suc k) vars ++ (if b then explained p (core_view then_branch.value) (suc k) vars else (if is_false w then explained p (core_view else_branch.value) (suc k) vars else [])))) (sym unlike)
       ∙ choice_is
 
 -- ---- elements that decide

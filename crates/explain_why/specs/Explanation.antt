@@ -211,8 +211,8 @@ chosen_lines condition first second = if is_true condition then first else (if i
 
 module _ (p : Population) where
   -- a part, by what it means
-  abbrev pub part_of : CoreTree → ℕ → List Value → List ℕ → List ℕ
-  part_of t k vars reason = part_line k (text_of p.model t (length vars)) (value_text p (meaning p t vars)) reason
+  abbrev pub valued_part : CoreTree → ℕ → List Value → List ℕ → List ℕ
+  valued_part t k vars reason = part_line k (text_of p.model t (length vars)) (value_text p (meaning p t vars)) reason
 
   -- the variable that is bound next
   abbrev pub next_line : ℕ → List Value → Value → List ℕ
@@ -227,25 +227,25 @@ module _ (p : Population) where
     pub explained : CoreTree → ℕ → List Value → List ℕ
     explained (tree.Value c) k vars = []
     explained (tree.Variable n) k vars = []
-    explained (tree.AllInstances c) k vars = part_of (tree.AllInstances c) k vars []
+    explained (tree.AllInstances c) k vars = valued_part (tree.AllInstances c) k vars []
     explained (tree.Feature source f) k vars =
-        part_of (tree.Feature source f) k vars (feature_reason p f (meaning p source vars) (meaning p (tree.Feature source f) vars))
+        valued_part (tree.Feature source f) k vars (feature_reason p f (meaning p source vars) (meaning p (tree.Feature source f) vars))
         ++ explained source (suc k) vars
     explained (tree.Operation operator first others) k vars =
-        part_of (tree.Operation operator first others) k vars (operation_reason p operator (meaning p first vars) (meanings p others vars) (meaning p (tree.Operation operator first others) vars))
+        valued_part (tree.Operation operator first others) k vars (operation_reason p operator (meaning p first vars) (meanings p others vars) (meaning p (tree.Operation operator first others) vars))
         ++ (lines_if (is_first_shown operator (meaning p first vars) (meanings p others vars)) (explained first (suc k) vars)
         ++ lines_if (are_others_shown operator (meaning p first vars)) (all_explained others (suc k) vars))
     explained (tree.AsCollection c kind source) k vars =
-        part_of (tree.AsCollection c kind source) k vars [] ++ explained source (suc k) vars
+        valued_part (tree.AsCollection c kind source) k vars [] ++ explained source (suc k) vars
     explained (tree.Iterate i source body) k vars =
-        part_of (tree.Iterate i source body) k vars []
+        valued_part (tree.Iterate i source body) k vars []
         ++ (explained source (suc k) vars
         ++ iteration_lines i
         (λ e. next_line (suc k) vars (element_value e) ++ explained body (suc (suc k)) (element_value e ∷ vars))
         (λ e. meaning p body (element_value e ∷ vars))
         (suc k) (meaning p source vars))
     explained (tree.Fold kind source start body) k vars =
-        part_of (tree.Fold kind source start body) k vars []
+        valued_part (tree.Fold kind source start body) k vars []
         ++ (explained source (suc k) vars
         ++ (explained start (suc k) vars
         ++ accumulation_lines
@@ -253,11 +253,11 @@ module _ (p : Population) where
         (λ e a. meaning p body (a ∷ element_value e ∷ vars))
         (suc k) (meaning p start vars) (meaning p source vars)))
     explained (tree.Let value body) k vars =
-        part_of (tree.Let value body) k vars []
+        valued_part (tree.Let value body) k vars []
         ++ ((next_line (suc k) vars (meaning p value vars) ++ explained value (suc (suc k)) vars)
         ++ explained body (suc k) (meaning p value vars ∷ vars))
     explained (tree.If kind condition first second) k vars =
-        part_of (tree.If kind condition first second) k vars (choice_reason (meaning p condition vars))
+        valued_part (tree.If kind condition first second) k vars (choice_reason (meaning p condition vars))
         ++ (explained condition (suc k) vars
         ++ chosen_lines (meaning p condition vars) (explained first (suc k) vars) (explained second (suc k) vars))
 

@@ -9,7 +9,7 @@ use Rattle.rule_values.specs.Value.{Element, Value, element_value}
 use Rattle.ocl_semantics.specs.Meaning.{meaning, meanings}
 use Rattle.ocl_semantics.specs.Evaluated.{on_null, link_value}
 use Rattle.explain_why.specs.Reasons.{operation_reason, feature_reason}
-use Rattle.explain_why.specs.Explanation.{lines_if, is_first_shown, are_others_shown, iteration_lines, accumulation_lines, part_of, next_line, step_line, explained, all_explained}
+use Rattle.explain_why.specs.Explanation.{lines_if, is_first_shown, are_others_shown, iteration_lines, accumulation_lines, valued_part, next_line, step_line, explained, all_explained}
 
 module _ (p : Population) where
   -- why what a node makes of the value of its first operand is null or invalid
@@ -21,7 +21,7 @@ module _ (p : Population) where
   -- a link on a tree, with its value
   abbrev pub node_line : CoreLink → CoreTree → ℕ → List Value → List ℕ
   node_line link left k vars =
-      part_of p (core_link_of link left) k vars (node_reason (on_null link) vars (meaning p left vars) (meaning p (core_link_of link left) vars))
+      valued_part p (core_link_of link left) k vars (node_reason (on_null link) vars (meaning p left vars) (meaning p (core_link_of link left) vars))
 
   -- an element with the parts of a body
   abbrev pub element_lines : CoreTree → ℕ → List Value → Element → List ℕ
@@ -64,11 +64,11 @@ module _ (p : Population) where
       lines_if whole (explained p first k vars) ++ links_lines (drop from links) k vars (meaning p (core_spine first (map core_link_of (take from links))) vars)
 
   -- a variable that is bound to what a tree means, with the tree's parts
-  abbrev pub bound_lines : CoreTree → ℕ → List Value → List ℕ
-  bound_lines t k vars = next_line p k vars (meaning p t vars) ++ explained p t (suc k) vars
+  abbrev pub let_value_lines : CoreTree → ℕ → List Value → List ℕ
+  let_value_lines t k vars = next_line p k vars (meaning p t vars) ++ explained p t (suc k) vars
 
   -- values as variables of a body, up to the body's own parts
   abbrev pub lets_lines : List CoreTree → CoreTree → ℕ → List Value → List ℕ
   lets_lines [] body k vars = []
   lets_lines (w ∷ ws) body k vars =
-      part_of p (lets_of (w ∷ ws) body) k vars [] ++ (bound_lines w (suc k) vars ++ lets_lines ws body (suc k) (meaning p w vars ∷ vars))
+      valued_part p (lets_of (w ∷ ws) body) k vars [] ++ (let_value_lines w (suc k) vars ++ lets_lines ws body (suc k) (meaning p w vars ∷ vars))

@@ -11,9 +11,9 @@ ghost use Rattle.owned_values.specs.Meant.{meant, meant_element, meant_elements,
 ghost use Rattle.ocl_semantics.specs.Resolved.{IsResolved, AreResolved, AreThere};
 ghost use Rattle.ocl_semantics.specs.Evaluated.{bindings, on_null, IsLinkResolved, AreLinksResolved};
 ghost use Rattle.explain_why.specs.Values.{value_text};
-ghost use Rattle.explain_why.specs.Explanation.{lines_if, part_line, named_value, binding_line, bindings_line, batch_of, batch_lines, iteration_lines, accumulation_lines, part_of, explained, all_explained, verdict_word, verdict_line, explanation};
+ghost use Rattle.explain_why.specs.Explanation.{lines_if, part_line, named_value, binding_line, bindings_line, batch_of, batch_lines, iteration_lines, accumulation_lines, valued_part, explained, all_explained, verdict_word, verdict_line, explanation};
 ghost use Rattle.explain_why.specs.Turns.{fold_turn, IsTurnThere, AreTurnsThere};
-ghost use Rattle.explain_why.specs.PartWalk.{node_reason, node_line, is_source_shown, below_lines, element_lines, step_lines, link_lines, links_lines, bound_lines, lets_lines};
+ghost use Rattle.explain_why.specs.PartWalk.{node_reason, node_line, is_source_shown, below_lines, element_lines, step_lines, link_lines, links_lines, let_value_lines, lets_lines};
 
 use crate::deciding::{Batch, batch_beside, batch_that_decides, deciding_elements};
 use crate::operands::{are_others_shown, is_first_shown};
@@ -65,7 +65,7 @@ fn put_tree<'a>(
 ) -> Result<(), OutOfMemory>
     requires resolved { IsResolved population.now.content.model (core_view core.now) }
     requires there { AreThere population.now.content variables.old }
-    ensures text { OnOk result (string_bytes out.new ≡ string_bytes out.old ++ part_of
+    ensures text { OnOk result (string_bytes out.new ≡ string_bytes out.old ++ valued_part
         population.now.content (core_view core.now) level variables.old reason.now) }
     ensures kept { OnOk result (variables.new ≡ variables.old) }
 {
@@ -278,7 +278,7 @@ fn explain_bound<'a>(
 ) -> Result<(), OutOfMemory>
     requires resolved { IsResolved population.now.content.model (core_view core.now) }
     requires there { AreThere population.now.content variables.old }
-    ensures text { OnOk result (string_bytes out.new ≡ string_bytes out.old ++ bound_lines
+    ensures text { OnOk result (string_bytes out.new ≡ string_bytes out.old ++ let_value_lines
         population.now.content (core_view core.now) level variables.old) }
     ensures bound { OnOk result (variables.new ≡
         meaning population.now.content (core_view core.now) variables.old ∷ variables.old) }

@@ -13,7 +13,7 @@ pub mod Desk
 pub mod Verify
 pub mod Compile
 pub mod TextLaws
--- Bookkeeping: what only private contracts use.
+-- Bookkeeping: Ending and Given, which the calls over inputs that were read cite, and what only private contracts use.
 pub mod Ending
 pub mod Given
 pub mod CompileParts

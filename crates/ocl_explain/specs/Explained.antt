@@ -11,11 +11,11 @@ use Rattle.ocl_explain.specs.WhyAnswers.{why_text, why_answer, shown_answer}
 use Rattle.ocl_explain.specs.ExplainedReport.{explained_answer}
 
 -- the explanation that was found
-abbrev pub text_of : Found → Option (List ℕ)
-text_of (Explained text object) = Some (string_bytes text)
-text_of NoRule = None
-text_of NoObject = None
-text_of (NotJudged context class) = None
+abbrev pub found_text : Found → Option (List ℕ)
+found_text (Explained text object) = Some (string_bytes text)
+found_text NoRule = None
+found_text NoObject = None
+found_text (NotJudged context class) = None
 
 -- what `why` answers of a population and compiled rules: refused for the cost of one, else the explanation
 abbrev pub why_of : List ℕ → List ℕ → ℕ → PopulationAndRules → Answer

@@ -43,13 +43,13 @@ is_line_wanted (Some name) words = not (bytes_eq (word_at words 0) (codes "total
 
 module _ (p : Population) (rs : List CheckedRule) (shown : Shown) where
   -- below the line of a finding, if it may be explained
-  abbrev pub below : ℕ → List (List ℕ) → List ℕ
-  below zero words = []
-  below (suc left) words = parts_shown shown.lines (why_text p rs (word_at words 1) (word_at words 2))
+  abbrev pub below_finding : ℕ → List (List ℕ) → List ℕ
+  below_finding zero words = []
+  below_finding (suc left) words = parts_shown shown.lines (why_text p rs (word_at words 1) (word_at words 2))
 
   abbrev pub explained_line : Option (List ℕ) → ℕ → List ℕ → List ℕ
   explained_line rule left line =
-      if is_line_wanted rule (words_in line) then ended_line line ++ (if length (words_in line) == 3 then below left (words_in line) else []) else []
+      if is_line_wanted rule (words_in line) then ended_line line ++ (if length (words_in line) == 3 then below_finding left (words_in line) else []) else []
 
   abbrev pub explained_lines : Option (List ℕ) → ℕ → List (List ℕ) → List ℕ
   explained_lines rule left [] = []

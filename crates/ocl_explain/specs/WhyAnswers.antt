@@ -21,13 +21,13 @@ module _ (p : Population) where
   abbrev pub judged_text : CheckedRule → ℕ → Option (List ℕ)
   judged_text r o = if is_instance p r.context o then Some (explanation p r o) else None
 
-  abbrev pub object_text : CheckedRule → Option ℕ → Option (List ℕ)
-  object_text r None = None
-  object_text r (Some o) = judged_text r o
+  abbrev pub text_for_object : CheckedRule → Option ℕ → Option (List ℕ)
+  text_for_object r None = None
+  text_for_object r (Some o) = judged_text r o
 
   abbrev pub rule_text : Option CheckedRule → List ℕ → Option (List ℕ)
   rule_text None id = None
-  rule_text (Some r) id = object_text r (object_number p id)
+  rule_text (Some r) id = text_for_object r (object_number p id)
 
   -- why the rule of a name has its verdict for the object of an id; none where there is no such rule or no such object, or
   -- the rule doesn't judge it

@@ -5,8 +5,8 @@ ghost use Rattle.std.specs.List.{AllByRecursion};
 ghost use Rattle.imkl_population.specs.Population.{object_at, object_number, object_number_in};
 ghost use Rattle.ocl_core.specs.CoreView.{checked_rule_of};
 ghost use Rattle.ocl_core.specs.Typing.{IsTypedRule};
-ghost use Rattle.ocl_explain.specs.Explained.{text_of};
-ghost use Rattle.ocl_explain.specs.WhyAnswers.{judged_text, object_text, why_text};
+ghost use Rattle.ocl_explain.specs.Explained.{found_text};
+ghost use Rattle.ocl_explain.specs.WhyAnswers.{judged_text, text_for_object, why_text};
 
 use explain_why::explain_verdict;
 use imkl_population::{ObjectNo, Population};
@@ -76,7 +76,7 @@ fn find_judged<'m>(
 ) -> Result<Found<'m>, OutOfMemory>
     requires rule { IsTypedRule population.now.content.model (checked_rule_of rule.now) }
     requires object { object < length population.now.content.objects }
-    ensures { IfOk result (λ f. text_of f ≡ judged_text population.now.content
+    ensures { IfOk result (λ f. found_text f ≡ judged_text population.now.content
         (checked_rule_of rule.now) object) }
 {
     let (model, class) = (population.model(), population.class_of(object));
@@ -99,7 +99,7 @@ fn find_object<'m>(
     id: &[u8],
 ) -> Result<Found<'m>, OutOfMemory>
     requires { IsTypedRule population.now.content.model (checked_rule_of rule.now) }
-    ensures { IfOk result (λ f. text_of f ≡ object_text population.now.content
+    ensures { IfOk result (λ f. found_text f ≡ text_for_object population.now.content
         (checked_rule_of rule.now) (object_number population.now.content id.now)) }
 {
     match object_named(population, first, id) {
@@ -119,7 +119,7 @@ pub(crate) fn find_verdict<'m>(
 ) -> Result<Found<'m>, OutOfMemory>
     requires { AllByRecursion (IsTypedRule population.now.content.model)
         (map checked_rule_of rules.now) }
-    ensures { IfOk result (λ f. text_of f ≡ why_text population.now.content
+    ensures { IfOk result (λ f. found_text f ≡ why_text population.now.content
         (map checked_rule_of rules.now) name.now id.now) }
 {
     'rules: for rule in rules {

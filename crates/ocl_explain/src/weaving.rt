@@ -5,7 +5,7 @@ ghost use Rattle.std.specs.List.{AllByRecursion};
 ghost use Rattle.ocl_core.specs.CoreView.{checked_rule_of};
 ghost use Rattle.ocl_core.specs.Typing.{IsTypedRule};
 ghost use Rattle.report_json.specs.JsonLines.{words_in, word_at};
-ghost use Rattle.ocl_explain.specs.Explained.{text_of};
+ghost use Rattle.ocl_explain.specs.Explained.{found_text};
 ghost use Rattle.ocl_explain.specs.WhyAnswers.{why_text};
 ghost use Rattle.ocl_explain.specs.ExplainedReport.{ended_line, after_line, parts_shown, left_after, is_line_wanted, explained_line, explained_report};
 

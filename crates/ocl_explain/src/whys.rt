@@ -9,7 +9,7 @@ ghost use Rattle.ocl_pipeline.specs.CompiledRules.{rules_with};
 ghost use Rattle.ocl_check.specs.Answers.{IsAnsweredBy, IsFlushedBy, KeepsUnread, fails_read, fails_write};
 ghost use Rattle.ocl_check.specs.Ending.{IsEnding};
 ghost use Rattle.ocl_check.specs.Given.{given_answer};
-ghost use Rattle.ocl_explain.specs.Explained.{text_of, why_of};
+ghost use Rattle.ocl_explain.specs.Explained.{found_text, why_of};
 ghost use Rattle.ocl_explain.specs.WhyAnswers.{shown_answer, why_answer, why_text, WhyAnswers};
 
 use crate::explaining::{Ending, Explaining, Nobody, Words};
@@ -83,7 +83,7 @@ fn write_found<S: Sink>(
 ) -> Outcome
     requires { S.has_failed sink.old ≡ false }
     ensures { IsEnding S.contents S.has_failed S.flushes S.has_pending false
-        (shown_answer explanation.entry.asked.lines (why_answer (text_of found.entry)))
+        (shown_answer explanation.entry.asked.lines (why_answer (found_text found.entry)))
         sink.old result sink.new }
 {
     let Explanation { asked, watch } = explanation;

@@ -1,4 +1,4 @@
 -- Definitions: what contracts mean.
 pub mod Meant
--- Bookkeeping: what only proofs and private contracts use.
+-- Bookkeeping: what proofs and contracts of single walks use.
 pub mod Walks

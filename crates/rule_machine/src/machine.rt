@@ -75,8 +75,7 @@ impl<'a> Machine<'a> {
         })
     }
 
-    /// Stands before the first step of a rule for an object of its context class, whatever ran before. It takes no memory,
-    /// and is never refused.
+    /// Stands before the first step of a rule for an object of its context class, whatever ran before. It is never refused.
     pub fn start(&mut self, rule: usize, object: ObjectNo) -> Result<(), OutOfMemory>
         requires rule { rule < length self.old.unit.rules }
         requires object { IsInstance self.old.population

@@ -11,5 +11,5 @@ pub mod Faults
 pub mod CodeDepths
 pub mod UnitRules
 pub mod Laws
--- Bookkeeping: views, layouts, walks and tables that only proofs and private contracts use.
+-- Bookkeeping: what proofs, private contracts and the walk's own public calls use.
 pub mod Walk
