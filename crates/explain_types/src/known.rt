@@ -2,6 +2,7 @@
 //! Boolean, whether it may be true, and whether it may be false.
 
 use crate::conforming::is_arithmetic;
+use imkl_model::EnumNo;
 use ocl_text::BinaryOperator;
 
 /// The whole numbers from one to another, both among them.
@@ -80,8 +81,8 @@ pub(crate) enum Known {
     Nothing,
     /// It is a whole number of an interval, if it is there.
     Number(Interval),
-    /// It is a literal of its enumeration, by its number.
-    Literal(usize),
+    /// It is a literal of an enumeration, by its number.
+    Literal(EnumNo, usize),
     /// It is invalid, since an operand is null.
     Invalid,
 }
@@ -212,15 +213,34 @@ fn order(one: Interval, other: Interval, is_strict: bool) -> Fate {
     }
 }
 
-/// What a comparison of two values may come to by what is known of them.
+/// Whether an operator says which of two numbers is the greater.
+fn is_order(operator: BinaryOperator) -> bool {
+    matches!(
+        operator,
+        BinaryOperator::Less
+            | BinaryOperator::LessEqual
+            | BinaryOperator::Greater
+            | BinaryOperator::GreaterEqual
+    )
+}
+
+/// Whether an operator compares two values.
+fn is_comparison(operator: BinaryOperator) -> bool {
+    is_order(operator) || matches!(operator, BinaryOperator::Equal | BinaryOperator::NotEqual)
+}
+
+/// What a comparison of two values may come to by what is known of them; of any other operator nothing is known.
 pub(crate) fn compared(operator: BinaryOperator, left: Known, right: Known) -> Fate {
+    if !is_comparison(operator) {
+        return Fate::open();
+    }
     match (left, right) {
         (Known::Invalid, _) | (_, Known::Invalid) => Fate {
             may_hold: false,
             may_fail: false,
         },
         (Known::Number(one), Known::Number(other)) => numbers_compared(operator, one, other),
-        (Known::Literal(one), Known::Literal(other)) => {
+        (Known::Literal(of_one, one), Known::Literal(of_other, other)) if of_one == of_other => {
             let same = Fate {
                 may_hold: one == other,
                 may_fail: one != other,
@@ -295,12 +315,5 @@ pub(crate) fn comparison_bound(
 
 /// Whether an operator asks for numbers, so that its result is invalid where an operand is null.
 pub(crate) fn asks_for_numbers(operator: BinaryOperator) -> bool {
-    is_arithmetic(operator)
-        || matches!(
-            operator,
-            BinaryOperator::Less
-                | BinaryOperator::LessEqual
-                | BinaryOperator::Greater
-                | BinaryOperator::GreaterEqual
-        )
+    is_arithmetic(operator) || is_order(operator)
 }
