@@ -10,7 +10,7 @@ ROOT = pathlib.Path(__file__).resolve().parent.parent
 PROGRAM = pathlib.Path(os.environ.get("OCL_CHECK", ROOT / "crates/ocl_check_main/out/ocl_check_main"))
 EXPLAIN = pathlib.Path(os.environ.get("OCL_EXPLAIN", ROOT / "crates/ocl_explain_main/out/ocl_explain_main"))
 
-# (a hostile input may want any amount of memory; that it isn't had is an answer too)
+# (a hostile input may want any amount of memory; a refused request for memory is an accepted end)
 MOST_MEMORY = 4 << 30
 
 NAME = rb"[A-Za-z_][A-Za-z0-9_]*"

@@ -1,5 +1,5 @@
 #!/usr/bin/env python3
-"""growth.py PROGRAM ROOT ROOM: what bench/growth.sh says. The least of several runs counts."""
+"""growth.py PROGRAM ROOT ROOM: what bench/growth.sh measures. The least of several runs counts."""
 import math
 import os
 import subprocess

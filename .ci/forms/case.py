@@ -1,4 +1,4 @@
-"""What a form of .ci/rows makes of a row: a command over files, and the answer that is wanted."""
+"""What a form of .ci/rows makes of a row: a command over files, and the wanted output."""
 import dataclasses
 import subprocess
 import typing

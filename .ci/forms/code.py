@@ -1,4 +1,4 @@
-"""Code files: what is answered to verifying and listing them."""
+"""Code files: the output of `verify` and `list`."""
 import dataclasses
 import re
 

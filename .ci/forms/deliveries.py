@@ -1,4 +1,4 @@
-"""Deliveries: what loading them answers, and what is read of a population."""
+"""Deliveries: whether they are loaded, and what is read of a population."""
 import re
 
 import answers

@@ -1,6 +1,6 @@
-"""What ocl_explain says on standard error, and what it prints where ocl_check prints something else.
+"""What ocl_explain prints on standard error, and its output where that differs from ocl_check's.
 
-The words stand in a file of tests/explain: those of a row below a line of `== ` and what the row shows, up to an empty line."""
+The words are in a file of tests/explain: those of a row below a line of `== ` and what the row shows, up to an empty line."""
 import functools
 import json
 import re

@@ -1,4 +1,4 @@
-"""Class models: what reading them answers, names, old names, and the kinds of features."""
+"""Class models: whether they are read, names, old names, and the kinds of features."""
 import answers
 import assembly
 import case
