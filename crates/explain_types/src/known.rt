@@ -2,7 +2,6 @@
 //! Boolean, whether it may be true, and whether it may be false.
 
 use crate::conforming::is_arithmetic;
-use imkl_model::EnumNo;
 use ocl_text::BinaryOperator;
 
 /// The whole numbers from one to another, both among them.
@@ -81,8 +80,8 @@ pub(crate) enum Known {
     Nothing,
     /// It is a whole number of an interval, if it is there.
     Number(Interval),
-    /// It is a literal of an enumeration, by its number.
-    Literal(EnumNo, usize),
+    /// It is a literal of an enumeration, by the numbers of both.
+    Literal(usize, usize),
     /// It is invalid, since an operand is null.
     Invalid,
 }
@@ -240,7 +239,10 @@ pub(crate) fn compared(operator: BinaryOperator, left: Known, right: Known) -> F
             may_fail: false,
         },
         (Known::Number(one), Known::Number(other)) => numbers_compared(operator, one, other),
-        (Known::Literal(of_one, one), Known::Literal(of_other, other)) if of_one == of_other => {
+        (Known::Literal(first, one), Known::Literal(second, other)) => {
+            if first != second {
+                return Fate::open();
+            }
             let same = Fate {
                 may_hold: one == other,
                 may_fail: one != other,

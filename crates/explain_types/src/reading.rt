@@ -151,7 +151,7 @@ fn class_before<'t>(first: &'t Expression, links: &'t [Link]) -> Option<(&'t Nam
 fn known_literal(model: &ClassModel, enumeration: EnumNo, name: &str) -> Known {
     for index in 0..literal_count(model, enumeration) {
         if literal_name(model, enumeration, index) == name {
-            return Known::Literal(enumeration, index);
+            return Known::Literal(enumeration.index(), index);
         }
     }
     Known::Nothing
