@@ -5,7 +5,6 @@ import re
 import resource
 import subprocess
 import sys
-import unicodedata
 
 ROOT = pathlib.Path(__file__).resolve().parent.parent
 PROGRAM = pathlib.Path(os.environ.get("OCL_CHECK", ROOT / "crates/ocl_check_main/out/ocl_check_main"))
@@ -113,20 +112,13 @@ def explained_fault(answer, explained):
     return raw_fault(explained.err)
 
 
-def steers(character):
-    """Whether a terminal obeys a character, or turns by it, by Unicode's own tables."""
-    turns = unicodedata.bidirectional(character) in ("LRE", "RLE", "LRO", "RLO", "PDF", "LRI", "RLI", "FSI", "PDI")
-    return turns or unicodedata.category(character) in ("Cc", "Zl", "Zp") or character in "\u061c\u200e\u200f"
-
-
 def raw_fault(written):
-    """What is wrong with what ocl_explain writes, if it steers a terminal: controls, ends of lines, and what turns the direction of a
-    text. (Other characters that nobody sees, as U+FEFF, are written as they are.)"""
+    """What is wrong with what ocl_explain writes, if a terminal can't show it as it is."""
     try:
         text = written.decode("utf-8")
     except UnicodeDecodeError:
         return "ocl_explain writes something that is no UTF-8"
-    raw = next((it for it in text if it != "\n" and steers(it)), None)
+    raw = next((it for it in text if it != "\n" and not it.isprintable()), None)
     return raw and f"ocl_explain writes the raw character U+{ord(raw):04X}"
 
 
