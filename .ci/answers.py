@@ -5,6 +5,7 @@ import re
 import resource
 import subprocess
 import sys
+import unicodedata
 
 ROOT = pathlib.Path(__file__).resolve().parent.parent
 PROGRAM = pathlib.Path(os.environ.get("OCL_CHECK", ROOT / "crates/ocl_check_main/out/ocl_check_main"))
@@ -12,6 +13,9 @@ EXPLAIN = pathlib.Path(os.environ.get("OCL_EXPLAIN", ROOT / "crates/ocl_explain_
 
 # (a hostile input may want any amount of memory; a refused request for memory is an accepted end)
 MOST_MEMORY = 4 << 30
+
+# signs of numbers and verses, and of Egyptian writing: of the format characters those that are seen
+SEEN = "\u0600\u0601\u0602\u0603\u0604\u0605\u06dd\u070f\u0890\u0891\u08e2\U000110bd\U000110cd" + "".join(map(chr, range(0x13430, 0x13440)))
 
 NAME = rb"[A-Za-z_][A-Za-z0-9_]*"
 ID = rb"[A-Za-z0-9._:-]{1,128}"
@@ -112,13 +116,19 @@ def explained_fault(answer, explained):
     return raw_fault(explained.err)
 
 
+def is_hidden(character):
+    """Whether a terminal obeys a character, turns by it, shows nothing of it, or shows a space, by Unicode's own tables."""
+    kind = unicodedata.category(character)
+    return kind in ("Cc", "Zl", "Zp") or kind == "Zs" and character != " " or kind == "Cf" and character not in SEEN
+
+
 def raw_fault(written):
-    """What is wrong with what ocl_explain writes, if a terminal can't show it as it is."""
+    """What is wrong with what ocl_explain writes, if it hides something or steers a terminal."""
     try:
         text = written.decode("utf-8")
     except UnicodeDecodeError:
         return "ocl_explain writes something that is no UTF-8"
-    raw = next((it for it in text if it != "\n" and not it.isprintable()), None)
+    raw = next((it for it in text if it != "\n" and is_hidden(it)), None)
     return raw and f"ocl_explain writes the raw character U+{ord(raw):04X}"
 
 

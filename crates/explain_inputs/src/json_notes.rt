@@ -1,6 +1,6 @@
 //! Why bytes are no JSON, and where.
 
-use explain_notes::{Input, Note};
+use explain_notes::{Input, Note, first_character};
 use serde_json::{Category, Error, Value};
 use std::alloc::{AllocError, Global};
 
@@ -54,10 +54,12 @@ pub(crate) fn explain_json<'n>(
             "JSON has its names and texts in double quotes, a comma between two members, and none after the last",
         ),
     };
+    let offset = offset_of_error(input.bytes, &error);
+    let rest = input.bytes.get(offset..).unwrap_or(&[]);
     let note = Note {
         input,
-        offset: offset_of_error(input.bytes, &error),
-        length: 1,
+        offset,
+        length: first_character(rest).len().max(1),
         message: "this is no JSON",
         fault,
         label,

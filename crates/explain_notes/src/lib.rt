@@ -13,4 +13,4 @@ pub use lines::cut_text;
 pub use nearest::Nearest;
 pub use note::{Note, write_marked};
 pub use place::{Place, place_of};
-pub use showing::{push_shown, quote, steers, visible_text};
+pub use showing::{first_character, push_shown, quote, steers, visible_text};

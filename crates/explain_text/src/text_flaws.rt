@@ -3,7 +3,7 @@
 use crate::foreign::instead_of_character;
 use crate::habits::{Call, call_with_variable, help_at, instead_of_variable, nearest_iteration};
 use crate::wanted::write_wanted;
-use explain_notes::{Input, Note, quote, visible_text, write_marked};
+use explain_notes::{Input, Note, first_character, quote, visible_text, write_marked};
 use ocl_tokens::{TextFault, TextFlaw, Token, TokenKind, tokens};
 use std::alloc::{AllocError, Global};
 
@@ -54,18 +54,6 @@ fn unseen_name(character: &str) -> &'static str {
     for (unseen, name) in &UNSEEN {
         if *unseen == character {
             return *name;
-        }
-    }
-    ""
-}
-
-/// The first character of some bytes, with what follows it; nothing where they begin with no character.
-fn first_character(bytes: &[u8]) -> &str {
-    for length in 1..5usize {
-        if let Some(front) = bytes.get(..length)
-            && let Ok(text) = str::from_utf8(front)
-        {
-            return text;
         }
     }
     ""
@@ -403,22 +391,6 @@ fn explain_tokens(
     write_saying(alloc, out, input, flaw, offset, &saying)
 }
 
-/// Whether a text's byte order mark is at fault.
-fn is_order_mark(bytes: &[u8], offset: usize) -> bool {
-    offset == 0 && bytes.starts_with("\u{feff}".as_bytes())
-}
-
-/// A text as it is shown: without the byte order mark that is at fault, which can't be seen.
-fn as_shown<'a>(input: Input<'a>, offset: usize) -> Input<'a> {
-    if is_order_mark(input.bytes, offset) {
-        return Input {
-            path: input.path,
-            bytes: rest_of(input.bytes, 3),
-        };
-    }
-    input
-}
-
 /// Writes why bytes are refused that leave no tokens, or are no text.
 fn explain_bytes(
     alloc: Global,
@@ -434,10 +406,7 @@ fn explain_bytes(
     } else {
         bad_character(alloc, &mut saying, input.bytes, offset)?;
     }
-    if is_order_mark(input.bytes, offset) {
-        saying.length = 1;
-    }
-    write_saying(alloc, out, as_shown(input, offset), flaw, offset, &saying)
+    write_saying(alloc, out, input, flaw, offset, &saying)
 }
 
 /// How many bytes the token has that begins at an offset of a text; 1 where none does.
