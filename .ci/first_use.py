@@ -233,7 +233,7 @@ def build(program):
 
 
 def try_it(program, words):
-    """Runs the program unproved, with the files that the words name."""
+    """Runs the program unproved, with the files and folders that the words name."""
     print(f"{program}: this run is not of the proved program: nothing is proved of it", file=sys.stderr, flush=True)
     given, data = [], []
     for number, word in enumerate(words):
@@ -241,6 +241,8 @@ def try_it(program, words):
             name = word if not os.path.isabs(word) and ".." not in word.split("/") else f"{number}-{os.path.basename(word)}"
             data += ["--data", f"{os.path.normpath(name)}={os.path.abspath(word)}"]
             word = os.path.normpath(name)
+        elif os.path.isdir(word):
+            word = os.path.abspath(word)
         given.append(word)
     folder = prover.ROOT / "crates" / f"{program}_main"
     return subprocess.run(["rt", "try", *data, "--", *given], cwd=folder, stdin=subprocess.DEVNULL).returncode

@@ -2,5 +2,6 @@
 pub mod Judged
 pub mod WhyAnswers
 pub mod ExplainedReport
+pub mod TestedRules
 -- Bookkeeping: what only proofs and private contracts use.
 pub mod Explained

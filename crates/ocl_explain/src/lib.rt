@@ -4,6 +4,7 @@
 
 mod answers;
 mod costs;
+mod differences;
 mod endings;
 mod explaining;
 mod faults;
@@ -14,6 +15,7 @@ mod last_error;
 mod listing;
 mod refusals;
 mod schema;
+mod testing;
 mod texts;
 mod unknown;
 mod verdicts;
@@ -23,11 +25,13 @@ mod whys;
 mod writing;
 
 pub use answers::{answer_bound, answer_compile, answer_desk, answer_judge, answer_verify};
+pub use differences::put_differences;
 pub use explaining::{Ending, Listener, Words};
 pub use findings::{RuleAsked, answer_judge_why, answer_why_rule};
 pub use json::answer_judge_json;
 pub use last_error::WithLastError;
 pub use listing::list_code;
 pub use schema::print_schema;
+pub use testing::{Tested, test_rules};
 pub use weaving::Shown;
 pub use whys::{WhyAsked, answer_why};

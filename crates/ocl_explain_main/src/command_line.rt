@@ -33,6 +33,16 @@ docs/use/schema.md has what a schema can't say.
 
 Status 0: printed. 2: the class model is refused. 3: memory, a read or a write failed.";
 
+/// The end of the help of `test`.
+const TEST: &str = "\
+Judges each delivery NAME.json of a folder by a rule text, and compares the report with NAME.report,
+which judge --text has printed or somebody has written. Of a report that differs the lines are shown
+that were wanted (-) and that were found (+). With --accept the reports are written. For instance
+  ocl_explain test examples/rule-tests examples/catalogue.json examples/network.rules
+
+Status 0: each report is as wanted, or was written. 1: one isn't, or none is wanted. 2: the folder has
+no delivery. 3: memory, a read or a write failed.";
+
 /// The end of the help of `why`.
 const WHY: &str = "\
 Prints the verdict of a rule for an object, and below it each part of the rule's expression with its
@@ -74,6 +84,8 @@ pub enum Asked<'a> {
     List(ListFiles<'a>),
     /// To print the JSON Schema of the deliveries of a class model, by its path.
     Schema(&'a str),
+    /// To test rules by the deliveries of a folder.
+    Test(TestWords<'a>),
     /// To explain a verdict.
     Why(WhyWords<'a>),
 }
@@ -85,6 +97,19 @@ pub struct ListFiles<'a> {
     pub code: &'a str,
     /// The path of the class model, if there is one.
     pub model: Option<&'a str>,
+}
+
+/// The words of `test`.
+#[derive(Clone, Copy, Drop)]
+pub struct TestWords<'a> {
+    /// The path of the folder that has the deliveries and the reports.
+    pub folder: &'a str,
+    /// The path of the class model.
+    pub model: &'a str,
+    /// The path of the rule text.
+    pub rules: &'a str,
+    /// Whether reports that aren't as wanted are written.
+    pub accepts: bool,
 }
 
 /// The words of `why`.
@@ -174,6 +199,33 @@ fn schema<'a>(alloc: Global) -> Result<Command<'a>, AllocError> {
         )
 }
 
+fn test<'a>(alloc: Global) -> Result<Command<'a>, AllocError> {
+    Command::new(alloc, "test")
+        .about("Tests rules by the deliveries of a folder and their reports")
+        .after_help(TEST)
+        .arg(
+            Arg::new(alloc, "accept")
+                .long("accept")
+                .action(ArgAction::SetTrue)
+                .help("Writes each report that isn't as wanted"),
+        )?
+        .arg(
+            Arg::new(alloc, "FOLDER")
+                .required(true)
+                .help("The folder of the deliveries and their reports"),
+        )?
+        .arg(
+            Arg::new(alloc, "MODEL")
+                .required(true)
+                .help("The class model, a JSON file"),
+        )?
+        .arg(
+            Arg::new(alloc, "RULES")
+                .required(true)
+                .help("The rule text"),
+        )
+}
+
 fn why<'a>(alloc: Global) -> Result<Command<'a>, AllocError> {
     Command::new(alloc, "why")
         .about("Says why a rule has its verdict for an object")
@@ -239,7 +291,18 @@ fn command<'a>(alloc: Global) -> Result<Command<'a>, AllocError> {
         .subcommand(desk(alloc)?)?
         .subcommand(list(alloc)?)?
         .subcommand(schema(alloc)?)?
+        .subcommand(test(alloc)?)?
         .subcommand(why(alloc)?)
+}
+
+/// What the matches of `test` ask.
+fn test_words<'a>(matches: &ArgMatches<'a>) -> TestWords<'a> {
+    TestWords {
+        folder: word(Some(matches), "FOLDER"),
+        model: word(Some(matches), "MODEL"),
+        rules: word(Some(matches), "RULES"),
+        accepts: matches.get_flag("accept"),
+    }
 }
 
 /// What the matches of `why` ask.
@@ -285,6 +348,9 @@ fn asked_by<'a>(matches: &ArgMatches<'a>) -> Asked<'a> {
     let schema = matches.subcommand_matches("schema");
     if schema.is_some() {
         return Asked::Schema(word(schema, "MODEL"));
+    }
+    if let Some(test) = matches.subcommand_matches("test") {
+        return Asked::Test(test_words(test));
     }
     let why = matches.subcommand_matches("why");
     if why.is_some() {

@@ -4,6 +4,7 @@
 mod command_line;
 mod files;
 mod requests;
+mod testing;
 mod whys;
 
 use clap::error::{Error, ErrorKind};
@@ -13,6 +14,7 @@ use ocl_programs::{Request, STANDARD_INPUT};
 use requests::{answer, list, schema};
 use std::process::ExitCode;
 use std::{env, io};
+use testing::test;
 use whys::explain;
 
 /// The exit status of an outcome; that memory ran out is reported here, every other failure where it is met.
@@ -41,6 +43,7 @@ fn shares_standard_input(asked: &Asked<'_>) -> bool {
         Asked::Answer(request, _) => request.shares_standard_input(),
         Asked::List(files) => files.code == STANDARD_INPUT && files.model == Some(STANDARD_INPUT),
         Asked::Schema(_) => false,
+        Asked::Test(words) => words.model == STANDARD_INPUT && words.rules == STANDARD_INPUT,
         Asked::Why(words) => Request::Bound(words.files).shares_standard_input(),
     }
 }
@@ -67,6 +70,7 @@ fn main(rt: HostRuntime) -> ExitCode {
         Ok(Asked::Answer(request, form)) => exit_status(&rt, answer(&rt, request, form)),
         Ok(Asked::List(files)) => exit_status(&rt, list(&rt, files)),
         Ok(Asked::Schema(model)) => exit_status(&rt, schema(&rt, model)),
+        Ok(Asked::Test(words)) => exit_status(&rt, test(&rt, words)),
         Ok(Asked::Why(words)) => exit_status(&rt, explain(&rt, words)),
         Err(error) => report_refusal(&rt, &error),
     }

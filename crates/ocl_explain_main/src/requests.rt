@@ -12,7 +12,7 @@ use ocl_programs::{CompileFiles, DeskFiles, LazyOutput, Request, RuleFiles, Veri
 use std::io;
 
 /// Says on standard error why an input was refused, or what is hardly meant.
-fn say(rt: &HostRuntime, words: &Words) {
+pub fn say(rt: &HostRuntime, words: &Words) {
     let _ = match words {
         Ok(words) => rt.eprint(words.as_str()),
         Err(_) => rt.eprintln("memory ran out before it was explained"),

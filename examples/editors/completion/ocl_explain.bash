@@ -2,7 +2,7 @@
 _ocl_explain() {
     local word=${COMP_WORDS[COMP_CWORD]} place=0 at options kinds
     if [ "$COMP_CWORD" = 1 ]; then
-        mapfile -t COMPREPLY < <(compgen -W "judge compile verify bound desk list schema why --help --version" -- "$word")
+        mapfile -t COMPREPLY < <(compgen -W "judge compile verify bound desk list schema test why --help --version" -- "$word")
         return
     fi
     case ${COMP_WORDS[1]} in
@@ -13,6 +13,7 @@ _ocl_explain() {
         desk) options="" kinds=(json json file file) ;;
         list) options="" kinds=(file json) ;;
         schema) options="" kinds=(json) ;;
+        test) options="--accept" kinds=(file json file) ;;
         why) options="--lines --max" kinds=(json json file word) ;;
         *) return ;;
     esac

@@ -61,6 +61,12 @@ complete -c ocl_explain -n '__ocl_explain_at list 1' -k -a '(__fish_complete_suf
 complete -c ocl_explain -n __fish_use_subcommand -a schema -d 'Prints the JSON Schema of deliveries'
 complete -c ocl_explain -n '__ocl_explain_at schema 0' -k -a '(__fish_complete_suffix .json)'
 
+complete -c ocl_explain -n __fish_use_subcommand -a test -d 'Tests rules by the deliveries of a folder and their reports'
+complete -c ocl_explain -n '__fish_seen_subcommand_from test' -l accept -d 'Writes each report that isn\'t as wanted'
+complete -c ocl_explain -n '__ocl_explain_at test 0' -F
+complete -c ocl_explain -n '__ocl_explain_at test 1' -k -a '(__fish_complete_suffix .json)'
+complete -c ocl_explain -n '__ocl_explain_at test 2' -F
+
 complete -c ocl_explain -n __fish_use_subcommand -a why -d 'Says why a rule has its verdict for an object'
 complete -c ocl_explain -n '__fish_seen_subcommand_from why' -l lines -x -d 'Prints at most N lines of an explanation (400, and 20 without ID)'
 complete -c ocl_explain -n '__fish_seen_subcommand_from why' -l max -x -d 'Without ID: explains at most N objects (20)'

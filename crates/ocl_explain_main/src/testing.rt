@@ -1,0 +1,249 @@
+//! Tests of rules: the deliveries of a folder, each with the report that is wanted.
+
+use crate::command_line::TestWords;
+use crate::files::{Bytes, read_file, report_write};
+use crate::requests::say;
+use explain_notes::{Input, visible_text};
+use ocl_check::{CommandFault, JudgeOptions, MAX_BUDGET, Outcome, RulesForm};
+use ocl_explain::{Tested, put_differences, test_rules};
+use std::alloc::AllocError;
+use std::fs;
+use std::io::{Error, ErrorKind};
+
+/// How a test ended.
+#[derive(Clone, Copy)]
+enum End {
+    Passed,
+    Failed,
+    Written,
+}
+
+/// How many tests ended so.
+#[derive(Clone, Copy)]
+struct Counts {
+    passed: usize,
+    failed: usize,
+    written: usize,
+}
+
+impl Counts {
+    /// With one more.
+    fn with(self, end: End) -> Counts {
+        let mut counts = self;
+        match end {
+            End::Passed => counts.passed = self.passed.saturating_add(1),
+            End::Failed => counts.failed = self.failed.saturating_add(1),
+            End::Written => counts.written = self.written.saturating_add(1),
+        }
+        counts
+    }
+}
+
+/// The inputs of all tests.
+#[derive(Clone, Copy, Drop)]
+struct Shared<'a> {
+    words: TestWords<'a>,
+    model: Input<'a>,
+    rules: Input<'a>,
+}
+
+/// What was made in memory.
+fn in_memory<T: Drop>(made: Result<T, AllocError>) -> Result<T, CommandFault> {
+    match made {
+        Ok(made) => Ok(made),
+        Err(_) => Err(CommandFault::OutOfMemory),
+    }
+}
+
+/// Prints what is written on standard output.
+fn print(rt: &HostRuntime, text: &str) -> Result<(), CommandFault> {
+    match rt.print(text) {
+        Ok(()) => Ok(()),
+        Err(error) => {
+            report_write(rt, "standard output", Some(error));
+            Err(CommandFault::Write)
+        }
+    }
+}
+
+/// Why a folder couldn't be listed.
+fn unlisted(rt: &HostRuntime, folder: &str, error: Error) -> CommandFault {
+    if error.kind() == ErrorKind::OutOfMemory {
+        return CommandFault::OutOfMemory;
+    }
+    let _ = eprintln!(rt; "{folder}: it can't be listed: {error}");
+    CommandFault::Read
+}
+
+/// The names of a folder's deliveries in order, without `.json`.
+fn delivery_names(rt: &HostRuntime, folder: &str) -> Result<Vec<String>, CommandFault> {
+    let entries = match fs::read_dir(rt, folder) {
+        Ok(entries) => entries,
+        Err(error) => return Err(unlisted(rt, folder, error)),
+    };
+    let mut names = Vec::new(rt.alloc());
+    for entry in entries {
+        let entry = match entry {
+            Ok(entry) => entry,
+            Err(error) => return Err(unlisted(rt, folder, error)),
+        };
+        if let Some(name) = entry.file_name().strip_suffix(".json") {
+            let name = in_memory(String::from_str(rt.alloc(), name))?;
+            if names.push(name).is_err() {
+                return Err(CommandFault::OutOfMemory);
+            }
+        }
+    }
+    names.sort_unstable();
+    Ok(names)
+}
+
+/// The report that is wanted, if its file is there.
+fn wanted_report<'a>(rt: &HostRuntime, path: &'a str) -> Result<Option<Bytes<'a>>, CommandFault> {
+    match fs::exists(rt, path) {
+        Ok(false) => Ok(None),
+        Ok(true) | Err(_) => Ok(Some(read_file(rt, path)?)),
+    }
+}
+
+/// Writes the report that is wanted from now on.
+fn write_report(rt: &HostRuntime, path: &str, report: &[u8]) -> Result<(), CommandFault> {
+    match fs::write(rt, path, report) {
+        Ok(()) => Ok(()),
+        Err(error) => {
+            report_write(rt, path, Some(error));
+            Err(CommandFault::Write)
+        }
+    }
+}
+
+/// Prints that a report isn't as wanted, and in what; on standard error why an input is refused, if one is.
+fn print_failure(
+    rt: &HostRuntime,
+    name: &str,
+    wanted: Option<&[u8]>,
+    tested: &Tested,
+) -> Result<(), CommandFault> {
+    let mut out = String::new(rt.alloc());
+    in_memory(match wanted {
+        Some(_) => writeln!(out, "differs {name}"),
+        None => writeln!(out, "no report {name}"),
+    })?;
+    if let Some(wanted) = wanted {
+        in_memory(put_differences(rt.alloc(), &mut out, wanted, &tested.report))?;
+    }
+    print(rt, out.as_str())?;
+    say(rt, &tested.words);
+    Ok(())
+}
+
+/// Runs the test of a delivery that was read.
+fn run_on<'a>(
+    rt: &HostRuntime,
+    shared: Shared<'a>,
+    name: &str,
+    delivery: Input<'a>,
+    report_path: &str,
+) -> Result<End, CommandFault> {
+    let options = JudgeOptions {
+        form: RulesForm::Text,
+        budget: MAX_BUDGET,
+    };
+    let kept = wanted_report(rt, report_path)?;
+    let wanted = match &kept {
+        Some(kept) => Some(kept.input().bytes),
+        None => None,
+    };
+    let tested = in_memory(test_rules(
+        rt.alloc(),
+        options,
+        shared.model,
+        delivery,
+        shared.rules,
+        wanted,
+    ))?;
+    if tested.passes {
+        print(
+            rt,
+            in_memory(format!(in rt.alloc(); "ok {name}\n"))?.as_str(),
+        )?;
+        return Ok(End::Passed);
+    }
+    if shared.words.accepts {
+        write_report(rt, report_path, &tested.report)?;
+        print(
+            rt,
+            in_memory(format!(in rt.alloc(); "written {name}\n"))?.as_str(),
+        )?;
+        return Ok(End::Written);
+    }
+    print_failure(rt, name, wanted, &tested)?;
+    Ok(End::Failed)
+}
+
+/// Runs the test of a name.
+fn run_test(rt: &HostRuntime, shared: Shared<'_>, name: &str) -> Result<End, CommandFault> {
+    let folder = shared.words.folder;
+    let path = in_memory(format!(in rt.alloc(); "{folder}/{name}.json"))?;
+    let report_path = in_memory(format!(in rt.alloc(); "{folder}/{name}.report"))?;
+    let shown = in_memory(visible_text(rt.alloc(), name.as_bytes()))?;
+    let delivery = read_file(rt, path.as_str())?;
+    run_on(
+        rt,
+        shared,
+        shown.as_str(),
+        delivery.input(),
+        report_path.as_str(),
+    )
+}
+
+/// Runs all tests of a folder over inputs that were read, and prints how many ended how.
+fn run_tests(rt: &HostRuntime, shared: Shared<'_>) -> Result<Outcome, CommandFault> {
+    let folder = shared.words.folder;
+    let names = delivery_names(rt, folder)?;
+    if names.is_empty() {
+        let _ = eprintln!(rt; "{folder}: it has no delivery, a file whose name ends in .json");
+        return Ok(Outcome::Status(2));
+    }
+    let mut counts = Counts {
+        passed: 0,
+        failed: 0,
+        written: 0,
+    };
+    for name in &names {
+        counts = counts.with(run_test(rt, shared, name.as_str())?);
+    }
+    let (
+        tests,
+        Counts {
+            passed,
+            failed,
+            written,
+        },
+    ) = (names.len(), counts);
+    let line = format!(in rt.alloc();
+        "tests {tests} passed {passed} failed {failed} written {written}\n"
+    );
+    print(rt, in_memory(line)?.as_str())?;
+    Ok(Outcome::Status(if failed == 0 { 0 } else { 1 }))
+}
+
+/// Reads the class model and the rules, and runs the tests.
+fn test_files(rt: &HostRuntime, words: TestWords<'_>) -> Result<Outcome, CommandFault> {
+    let model = read_file(rt, words.model)?;
+    let rules = read_file(rt, words.rules)?;
+    let shared = Shared {
+        words,
+        model: model.input(),
+        rules: rules.input(),
+    };
+    run_tests(rt, shared)
+}
+
+/// Tests rules by the deliveries of a folder.
+pub fn test(rt: &HostRuntime, words: TestWords<'_>) -> Outcome {
+    match test_files(rt, words) {
+        Ok(outcome) => outcome,
+        Err(fault) => Outcome::Failed(fault),
+    }
+}
