@@ -1,0 +1,25 @@
+-- What a call returns, and what the caller's buffer has then: as much of the answer as there was room for.
+use Rattle.std.specs.Prelude.{◌≡◌, ◌⊎◌, ℕ, Bool, true, false, List, ◌++◌, length, take, drop, nat_le, if◌then◌else◌}
+use Rattle.ocl_check.specs.declared.commands.judge.JudgeOptions.{JudgeOptions}
+use Rattle.ocl_check.specs.declared.commands.judge.RulesForm.{RulesForm}
+use Rattle.ocl_check.specs.declared.commands.judge.RulesForm.TheVariants.{Code, Text}
+use Rattle.ocl_check.specs.Reply.{Answer}
+
+-- the form in which rules come
+abbrev pub form_of : Bool → RulesForm
+form_of true = Text
+form_of false = Code
+
+abbrev pub options_of : Bool → ℕ → JudgeOptions
+options_of is_text budget = record { form = form_of is_text; budget = budget }
+
+-- the bytes of a text over those that the buffer had, as far as there is room
+abbrev pub copied : List ℕ → List ℕ → List ℕ
+copied text old = if nat_le (length text) (length old) then text ++ drop (length text) old else take (length old) text
+
+-- The status is that of an answer, of which the buffer has what there was room for, and `wants` is how long it is; or it is 3,
+-- where memory ran out: then the buffer is as it was.
+abbrev pub IsReturned : (Answer → Type 0) → ℕ → List ℕ → List ℕ → ℕ → Type 0
+IsReturned Answers status old new wants =
+    ((answer : Answer) × Answers answer × (status ≡ answer.1) × (new ≡ copied answer.0 old) × (wants ≡ length answer.0))
+    ⊎ ((status ≡ 3) × (new ≡ old) × (wants ≡ 0))
