@@ -6,12 +6,12 @@ use Rattle.ocl_check.specs.declared.commands.judge.RulesForm.TheVariants.{Code, 
 use Rattle.ocl_check.specs.Reply.{Answer}
 
 -- the form in which rules come
-abbrev pub form_of : Bool → RulesForm
-form_of true = Text
-form_of false = Code
+abbrev pub rules_form : Bool → RulesForm
+rules_form true = Text
+rules_form false = Code
 
 abbrev pub options_of : Bool → ℕ → JudgeOptions
-options_of is_text budget = record { form = form_of is_text; budget = budget }
+options_of is_text budget = record { form = rules_form is_text; budget = budget }
 
 -- the bytes of a text over those that the buffer had, as far as there is room
 abbrev pub copied : List ℕ → List ℕ → List ℕ
