@@ -4,7 +4,7 @@ ghost use Rattle.std.specs.Prelude.{◌≡◌, option_map, IfOk};
 ghost use Rattle.ocl_explain.specs.TestedRules.{IsReport, is_as_wanted};
 
 use crate::answers::answer_judge;
-use crate::explaining::{Ending, Nobody, Words};
+use crate::explaining::{Nobody, Words};
 use explain_notes::Input;
 use ocl_check::{JudgeOptions, Outcome, Telling};
 use std::alloc::{AllocError, Global};
@@ -46,17 +46,15 @@ pub fn test_rules<'i>(
         is_as_wanted (option_map (λ w. w.now) wanted.entry) t.report.items) }
 {
     let mut sink = Telling::new(Vec::new(alloc));
-    let Ending { outcome, words } = answer_judge(
-        alloc, &Nobody, options, model, delivery, rules, &mut sink,
-    );
+    let judged = answer_judge(alloc, &Nobody, options, model, delivery, rules, &mut sink);
     let report = sink.into_inner();
-    match outcome {
+    match judged.outcome {
         Outcome::Status(_) => {
             let passes = is_as_wanted(wanted, &report);
             Ok(Tested {
                 report,
                 passes,
-                words,
+                words: judged.words,
             })
         }
         // Memory takes all bytes that there is room for.
