@@ -4,12 +4,13 @@ ghost use Rattle.std.specs.Prelude.{◌≡◌};
 ghost use Rattle.ocl_check.specs.JudgeText.{JudgeAnswers};
 ghost use Rattle.ocl_check.specs.Bound.{bound_answer};
 ghost use Rattle.ocl_check.specs.Verify.{verify_answer};
-ghost use Rattle.ocl_check_c.specs.Buffers.{IsReturned, options_of};
+ghost use Rattle.ocl_check_c.specs.Buffers.{IsReturned, IsCompiled, options_of};
 ghost use Rattle.ocl_check_c.specs.Puts.{IsPut};
 
 use crate::buffer::copy_into;
 use ocl_check::{
-    JudgeOptions, Outcome, RulesForm, Telling, Unwatched, bound_inputs, judge_inputs, verify_inputs,
+    JudgeOptions, Outcome, RulesForm, Telling, Unwatched, bound_inputs, compile_inputs,
+    judge_inputs, verify_inputs,
 };
 use std::alloc::Global;
 
@@ -98,5 +99,28 @@ pub extern "C" fn ocl_check_bound(
 {
     let mut sink = Telling::new(Vec::new(alloc));
     let outcome = bound_inputs(alloc, &Unwatched, model, delivery, code, &mut sink);
+    put_answer(outcome, &sink.into_inner(), out, wants)
+}
+
+/// The code file of a rule text, as `run_compile` writes it into `code`, with `code_wants`, and the line that it writes
+/// beside. The status is 0, or 2 where an input is refused: then there is no code file, and `code_wants` is 0; 3 where memory
+/// ran out. Buffers and lengths are as those of `ocl_check_judge`.
+#[unsafe(no_mangle)]
+pub extern "C" fn ocl_check_compile(
+    alloc: Global,
+    model: &[u8],
+    rules: &[u8],
+    code: &mut [u8],
+    code_wants: &mut usize,
+    out: &mut [u8],
+    wants: &mut usize,
+) -> u8
+    ensures { IsCompiled model.now rules.now result code.old code.new code_wants.new out.old
+        out.new wants.new }
+{
+    let mut file = Telling::new(Vec::new(alloc));
+    let mut sink = Telling::new(Vec::new(alloc));
+    let outcome = compile_inputs(alloc, &Unwatched, model, rules, &mut file, &mut sink);
+    let _ = put_answer(outcome, &file.into_inner(), code, code_wants);
     put_answer(outcome, &sink.into_inner(), out, wants)
 }

@@ -66,16 +66,16 @@ impl<'l, 't> Rest<'l, 't> {
     /// What comes after these lines and the one that both have.
     fn after(self, lines: Differing) -> Rest<'l, 't> {
         Rest {
-            wanted: self
-                .wanted
-                .get(lines.wanted.saturating_add(1)..)
-                .unwrap_or(&[]),
-            found: self
-                .found
-                .get(lines.found.saturating_add(1)..)
-                .unwrap_or(&[]),
+            wanted: after_line(self.wanted, lines.wanted),
+            found: after_line(self.found, lines.found),
         }
     }
+}
+
+/// What comes after a line.
+fn after_line<'l, 't>(lines: &'l [&'t [u8]], line: usize) -> &'l [&'t [u8]] {
+    let begin = line.saturating_add(1).min(lines.len());
+    lines.get(begin..).unwrap_or(lines)
 }
 
 /// Writes so many lines that a text begins with, at most as many as may still be written; returns how many may be then,
@@ -115,11 +115,11 @@ fn put_differing(
 
 /// Writes the lines in which a report differs from the one that is wanted, at most 20: behind `-` those that are wanted,
 /// behind `+` those that were found.
-pub fn put_differences(
+pub fn put_differences<'t>(
     alloc: Global,
     out: &mut String,
-    wanted: &[u8],
-    found: &[u8],
+    wanted: &'t [u8],
+    found: &'t [u8],
 ) -> Result<(), AllocError> {
     let (wanted, found) = (lines_in(alloc, wanted)?, lines_in(alloc, found)?);
     let mut rest = Rest {
