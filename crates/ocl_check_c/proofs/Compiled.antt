@@ -38,7 +38,7 @@ pub compiled : {S : Type 0} (contents : S → Option (List ℕ)) (has_failed : S
     → IsCompiled model rules status code_old code_new code_wants old new wants
 compiled contents has_failed from to had has model rules (Status s) first status code_old code_new code_wants old new wants file reply (t, reads, unit, written, answered) code put empty whole begins ends =
     let said = subst (λ (bytes : Option (List ℕ)). IsAnswered (compile_answer model t).said bytes (Some reply) (Status s)) begins
-            (subst (λ (bytes : Option (List ℕ)). IsAnswered (compile_answer model t).said had bytes (Status s)) ends answered) in
+    (subst (λ (bytes : Option (List ℕ)). IsAnswered (compile_answer model t).said had bytes (Status s)) ends answered) in
     inl (t, reads, (put.0 ∙ said.1, code_of contents has_failed from to file empty whole (compile_answer model t).code s code_old code_new code_wants written code.1 code.2, put.1 ∙ ap (λ (bytes : List ℕ). copied bytes old) said.0, put.2 ∙ ap (λ (bytes : List ℕ). length bytes) said.0))
 compiled contents has_failed from to had has model rules (Failed fault) first status code_old code_new code_wants old new wants file reply answered code put empty whole begins ends =
     inr (put.0, code.1, code.2, put.1, put.2)
