@@ -39,14 +39,6 @@ impl Counts {
     }
 }
 
-/// The inputs of all tests.
-#[derive(Clone, Copy, Drop)]
-struct Shared<'a> {
-    words: TestWords<'a>,
-    model: Input<'a>,
-    rules: Input<'a>,
-}
-
 /// What was made in memory.
 fn in_memory<T: Drop>(made: Result<T, AllocError>) -> Result<T, CommandFault> {
     match made {
@@ -137,31 +129,15 @@ fn print_failure(
     Ok(())
 }
 
-/// Runs the test of a delivery that was read.
-fn run_on<'a>(
+/// Says how a test ended; a report that isn't as wanted is written, where that is asked.
+fn finish(
     rt: &HostRuntime,
-    shared: Shared<'a>,
+    accepts: bool,
     name: &str,
-    delivery: Input<'a>,
     report_path: &str,
+    wanted: Option<&[u8]>,
+    tested: &Tested,
 ) -> Result<End, CommandFault> {
-    let options = JudgeOptions {
-        form: RulesForm::Text,
-        budget: MAX_BUDGET,
-    };
-    let kept = wanted_report(rt, report_path)?;
-    let wanted = match &kept {
-        Some(kept) => Some(kept.input().bytes),
-        None => None,
-    };
-    let tested = in_memory(test_rules(
-        rt.alloc(),
-        options,
-        shared.model,
-        delivery,
-        shared.rules,
-        wanted,
-    ))?;
     if tested.passes {
         print(
             rt,
@@ -169,7 +145,7 @@ fn run_on<'a>(
         )?;
         return Ok(End::Passed);
     }
-    if shared.words.accepts {
+    if accepts {
         write_report(rt, report_path, &tested.report)?;
         print(
             rt,
@@ -177,29 +153,73 @@ fn run_on<'a>(
         )?;
         return Ok(End::Written);
     }
-    print_failure(rt, name, wanted, &tested)?;
+    print_failure(rt, name, wanted, tested)?;
     Ok(End::Failed)
 }
 
+/// Judges a delivery by the rule text, and compares the report with the one that is wanted.
+fn judge<'i>(
+    rt: &HostRuntime,
+    model: Input<'i>,
+    delivery: Input<'i>,
+    rules: Input<'i>,
+    wanted: Option<&[u8]>,
+) -> Result<Tested, CommandFault> {
+    let options = JudgeOptions {
+        form: RulesForm::Text,
+        budget: MAX_BUDGET,
+    };
+    in_memory(test_rules(rt.alloc(), options, model, delivery, rules, wanted))
+}
+
 /// Runs the test of a name.
-fn run_test(rt: &HostRuntime, shared: Shared<'_>, name: &str) -> Result<End, CommandFault> {
-    let folder = shared.words.folder;
+fn run_test(
+    rt: &HostRuntime,
+    words: TestWords<'_>,
+    model: Input<'_>,
+    rules: Input<'_>,
+    name: &str,
+) -> Result<End, CommandFault> {
+    let (folder, accepts) = (words.folder, words.accepts);
     let path = in_memory(format!(in rt.alloc(); "{folder}/{name}.json"))?;
     let report_path = in_memory(format!(in rt.alloc(); "{folder}/{name}.report"))?;
     let shown = in_memory(visible_text(rt.alloc(), name.as_bytes()))?;
     let delivery = read_file(rt, path.as_str())?;
-    run_on(
-        rt,
-        shared,
-        shown.as_str(),
-        delivery.input(),
-        report_path.as_str(),
-    )
+    match wanted_report(rt, report_path.as_str())? {
+        Some(wanted) => {
+            let bytes = wanted.input().bytes;
+            let tested = judge(rt, model, delivery.input(), rules, Some(bytes))?;
+            finish(
+                rt,
+                accepts,
+                shown.as_str(),
+                report_path.as_str(),
+                Some(bytes),
+                &tested,
+            )
+        }
+        None => {
+            let tested = judge(rt, model, delivery.input(), rules, None)?;
+            finish(
+                rt,
+                accepts,
+                shown.as_str(),
+                report_path.as_str(),
+                None,
+                &tested,
+            )
+        }
+    }
 }
 
 /// Runs all tests of a folder over inputs that were read, and prints how many ended how.
-fn run_tests(rt: &HostRuntime, shared: Shared<'_>) -> Result<Outcome, CommandFault> {
-    let folder = shared.words.folder;
+fn run_tests(
+    rt: &HostRuntime,
+    words: TestWords<'_>,
+    model: Input<'_>,
+    rules: Input<'_>,
+) -> Result<Outcome, CommandFault> {
+    let folder = words.folder;
     let names = delivery_names(rt, folder)?;
     if names.is_empty() {
         let _ = eprintln!(rt; "{folder}: it has no delivery, a file whose name ends in .json");
@@ -211,16 +231,10 @@ fn run_tests(rt: &HostRuntime, shared: Shared<'_>) -> Result<Outcome, CommandFau
         written: 0,
     };
     for name in &names {
-        counts = counts.with(run_test(rt, shared, name.as_str())?);
+        counts = counts.with(run_test(rt, words, model, rules, name.as_str())?);
     }
-    let (
-        tests,
-        Counts {
-            passed,
-            failed,
-            written,
-        },
-    ) = (names.len(), counts);
+    let (tests, passed, failed) = (names.len(), counts.passed, counts.failed);
+    let written = counts.written;
     let line = format!(in rt.alloc();
         "tests {tests} passed {passed} failed {failed} written {written}\n"
     );
@@ -232,12 +246,7 @@ fn run_tests(rt: &HostRuntime, shared: Shared<'_>) -> Result<Outcome, CommandFau
 fn test_files(rt: &HostRuntime, words: TestWords<'_>) -> Result<Outcome, CommandFault> {
     let model = read_file(rt, words.model)?;
     let rules = read_file(rt, words.rules)?;
-    let shared = Shared {
-        words,
-        model: model.input(),
-        rules: rules.input(),
-    };
-    run_tests(rt, shared)
+    run_tests(rt, words, model.input(), rules.input())
 }
 
 /// Tests rules by the deliveries of a folder.
