@@ -6,18 +6,13 @@ use Rattle.imkl_population.specs.Population.{Population}
 use Rattle.ocl_core.specs.Core.{CheckedRule}
 use Rattle.ocl_check.specs.Reply.{Answer}
 use Rattle.ocl_check.specs.JudgeText.{meant_answer}
-use Rattle.report_json.specs.JsonLines.{lines_in, words_in, word_at}
+use Rattle.report_forms.specs.ReportRows.{lines_in, words_in, word_at, ended_line}
 use Rattle.explain_notes.specs.Lines.{cut_text}
 use Rattle.ocl_explain.specs.declared.weaving.Shown.{Shown}
 use Rattle.ocl_explain.specs.Judged.{AreJudged, IsRefusedBy}
 use Rattle.ocl_explain.specs.WhyAnswers.{rule_named, why_text}
 
 -- ---- lines
-
--- a line with its end; what comes after the last line is none
-abbrev pub ended_line : List ℕ → List ℕ
-ended_line [] = []
-ended_line (b ∷ bs) = (b ∷ bs) ++ 10 ∷ []
 
 -- what comes after the first line
 abbrev pub after_line : List ℕ → List ℕ

@@ -1,7 +1,7 @@
 //! Where a report differs from the one that is wanted, line by line.
 
 use explain_notes::visible_text;
-use report_json::lines_in;
+use report_forms::lines_in;
 use std::alloc::{AllocError, Global};
 
 /// The most lines that are shown of two texts.

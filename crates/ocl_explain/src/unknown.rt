@@ -1,6 +1,7 @@
 //! Why there is no verdict of the rule and the object that `why` is asked for, in words.
 
 use crate::explaining::Words;
+use crate::selecting::no_rule;
 use crate::whys::WhyAsked;
 use explain_notes::Nearest;
 use ocl_core::CoreRule;
@@ -12,12 +13,7 @@ pub(crate) fn unknown_rule(alloc: Global, path: &str, name: &str, rules: &[CoreR
     for rule in rules {
         nearest.offer(alloc, rule.name.as_str())?;
     }
-    match nearest.name() {
-        Some(near) => {
-            format!(in alloc; "{path}: no rule is named `{name}`; did you mean `{near}`?\n")
-        }
-        None => format!(in alloc; "{path}: no rule is named `{name}`\n"),
-    }
+    no_rule(alloc, path, name, &nearest)
 }
 
 /// That no object has the id.

@@ -1,8 +1,7 @@
 //! The explanation of the verdict of a rule for an object, by the rule's name and the object's id.
 
-ghost use Rattle.std.specs.Prelude.{◌≡◌, ◌<◌, true, length, map, drop, bytes_eq, IfOk, IfSome};
+ghost use Rattle.std.specs.Prelude.{◌≡◌, ◌<◌, length, map, IfOk};
 ghost use Rattle.std.specs.List.{AllByRecursion};
-ghost use Rattle.imkl_population.specs.Population.{object_at, object_number, object_number_in};
 ghost use Rattle.ocl_core.specs.CoreView.{checked_rule_of};
 ghost use Rattle.ocl_core.specs.Typing.{IsTypedRule};
 ghost use Rattle.ocl_explain.specs.Explained.{found_text};
@@ -12,6 +11,7 @@ use explain_why::explain_verdict;
 use imkl_population::{ObjectNo, Population};
 use ocl_base::OutOfMemory;
 use ocl_core::CoreRule;
+use report_forms::object_named;
 use std::alloc::Global;
 
 /// What there is of a rule's name and an object's id.
@@ -35,36 +35,6 @@ pub(crate) enum Found<'m> {
         /// The name of the object's class.
         class: &'m str,
     },
-}
-
-/// The object of an id, if it is there from one object on.
-fn object_from(population: &Population<'_>, first: usize, id: &[u8]) -> Option<ObjectNo>
-    ensures number { result ≡ object_number_in first
-        (drop first population.now.content.objects) id.now }
-    ensures there { IfSome result (λ o. o < length population.now.content.objects) }
-    ensures named { IfSome result (λ o.
-        bytes_eq id.now (object_at population.now.content o).id ≡ true) }
-{
-    population.consistent();
-    for index in first..population.objects() {
-        let object = ObjectNo::new(index);
-        if id == population.id(object).as_bytes() {
-            return Some(object);
-        }
-    }
-    None
-}
-
-/// The object of an id. It is looked for from one object on, and then from the first.
-fn object_named(population: &Population<'_>, first: usize, id: &[u8]) -> Option<ObjectNo>
-    ensures number { result ≡ object_number population.now.content id.now }
-    ensures there { IfSome result (λ o. o < length population.now.content.objects) }
-{
-    population.consistent();
-    match object_from(population, first, id) {
-        Some(object) => Some(object),
-        None => object_from(population, 0, id),
-    }
 }
 
 /// What there is of a rule and an object.

@@ -4,17 +4,17 @@ ghost use Rattle.std.specs.Prelude.{◌≡◌, ◌++◌, map, option_map, IfOk, 
 ghost use Rattle.std.specs.List.{AllByRecursion};
 ghost use Rattle.ocl_core.specs.CoreView.{checked_rule_of};
 ghost use Rattle.ocl_core.specs.Typing.{IsTypedRule};
-ghost use Rattle.report_json.specs.JsonLines.{words_in, word_at};
+ghost use Rattle.report_forms.specs.ReportRows.{words_in, word_at};
 ghost use Rattle.ocl_explain.specs.Explained.{found_text};
 ghost use Rattle.ocl_explain.specs.WhyAnswers.{why_text};
-ghost use Rattle.ocl_explain.specs.ExplainedReport.{ended_line, after_line, parts_shown, left_after, is_line_wanted, explained_line, explained_report};
+ghost use Rattle.ocl_explain.specs.ExplainedReport.{after_line, parts_shown, left_after, is_line_wanted, explained_line, explained_report};
 
 use crate::verdicts::{Found, find_verdict};
 use explain_notes::cut_text;
 use imkl_population::Population;
 use ocl_base::OutOfMemory;
 use ocl_core::CoreRule;
-use report_json::{lines_in, words_in};
+use report_forms::{lines_in, put_ended, word_at, words_in};
 use std::alloc::Global;
 
 /// How much is shown of the explanations of a report.
@@ -42,18 +42,6 @@ struct Progress {
     left: usize,
     /// The object from which on the next one is looked for.
     first: usize,
-}
-
-/// Puts a line with its end; nothing for what comes after the last line.
-fn put_ended(out: &mut Vec<u8>, line: &[u8]) -> Result<(), OutOfMemory>
-    ensures { OnOk result (out.new.items ≡ out.old.items ++ ended_line line.now) }
-{
-    if line.is_empty() {
-        return Ok(());
-    }
-    out.extend_from_slice(line)?;
-    out.extend_from_slice(b"\n")?;
-    Ok(())
 }
 
 /// What comes after the first line.
@@ -106,16 +94,6 @@ fn put_explanation(
             Ok(object.index())
         }
         Found::NoRule | Found::NoObject | Found::NotJudged { .. } => Ok(first),
-    }
-}
-
-/// The word of a number; none is empty.
-fn word_at<'w>(words: &[&'w [u8]], number: usize) -> &'w [u8]
-    ensures { result.now ≡ word_at (map (λ w. w.now) words.now) number }
-{
-    match words.get(number) {
-        Some(word) => word,
-        None => &[],
     }
 }
 

@@ -5,6 +5,7 @@ use ocl_explain::Shown;
 use ocl_programs::{
     Request, RuleFiles, VERSION, bound, compile, desk, judge, request_of, verify, word,
 };
+use report_forms::Form;
 use std::alloc::{AllocError, Global};
 
 /// The end of the program's help.
@@ -69,17 +70,26 @@ const DEFAULT_FINDINGS: u64 = 20;
 pub enum ReportForm {
     /// As `ocl_check` prints it.
     Plain,
-    /// As JSON.
-    Json,
+    /// In another form, each finding with its place, class and message.
+    Formed(Form),
     /// With the explanation of each finding below its line.
     Explained(Shown),
+}
+
+/// What is printed of a report, and how.
+#[derive(Clone, Copy, Drop)]
+pub struct Printing<'a> {
+    /// The form of the report.
+    pub form: ReportForm,
+    /// The names of the rules that are judged, separated by commas, if not all are.
+    pub rules: Option<&'a str>,
 }
 
 /// What is asked.
 #[derive(Clone, Copy, Drop)]
 pub enum Asked<'a> {
-    /// To answer a command of `ocl_check`, and to explain the answer; a report in this form.
-    Answer(Request<'a>, ReportForm),
+    /// To answer a command of `ocl_check`, and to explain the answer; how a report is printed.
+    Answer(Request<'a>, Printing<'a>),
     /// To list a code file.
     List(ListFiles<'a>),
     /// To print the JSON Schema of the deliveries of a class model, by its path.
@@ -142,12 +152,34 @@ impl<'a> WhyWords<'a> {
     }
 }
 
+/// The names of the forms of a report.
+const FORMS: [&str; 5] = ["text", "json", "github", "junit", "sarif"];
+
+/// The option of `judge` that chooses the form of the report.
+fn format<'a>(alloc: Global) -> Arg<'a> {
+    Arg::new(alloc, "format")
+        .long("format")
+        .value_name("FORM")
+        .value_parser(FORMS.as_slice())
+        .help("Prints each finding with its place, class and message")
+}
+
 /// The option of `judge` that prints JSON.
-fn json<'a>(alloc: Global) -> Arg<'a> {
+fn json<'a>(alloc: Global) -> Result<Arg<'a>, AllocError> {
     Arg::new(alloc, "json")
         .long("json")
         .action(ArgAction::SetTrue)
-        .help("Prints the report as JSON, an object in each line")
+        .help("The same as --format json: an object in each line")
+        .conflicts_with("format")
+}
+
+/// The option of `judge` that chooses rules.
+fn rules<'a>(alloc: Global) -> Result<Arg<'a>, AllocError> {
+    Arg::new(alloc, "rule")
+        .long("rule")
+        .value_name("NAMES")
+        .help("With --text: judges by the rules of these names, which commas separate")
+        .requires_arg("text")
 }
 
 /// The option of `judge` that explains its findings.
@@ -157,7 +189,8 @@ fn explained<'a>(alloc: Global) -> Result<Arg<'a>, AllocError> {
         .action(ArgAction::SetTrue)
         .help("Prints below each finding the parts of the rule with their values; with --text")
         .requires_arg("text")?
-        .conflicts_with("json")
+        .conflicts_with("json")?
+        .conflicts_with("format")
 }
 
 /// The option of `judge --why` that limits how many findings are explained.
@@ -280,7 +313,9 @@ fn command<'a>(alloc: Global) -> Result<Command<'a>, AllocError> {
         .subcommand_required(true)
         .subcommand(
             judge(alloc)?
-                .arg(json(alloc))?
+                .arg(format(alloc))?
+                .arg(json(alloc)?)?
+                .arg(rules(alloc)?)?
                 .arg(explained(alloc)?)?
                 .arg(findings(alloc)?)?
                 .arg(finding_lines(alloc)?)?,
@@ -320,10 +355,24 @@ fn why_words<'a>(matches: Option<&ArgMatches<'a>>) -> WhyWords<'a> {
     }
 }
 
+/// The form of a name.
+fn form_named(name: &str) -> Form {
+    match name {
+        "json" => Form::Json,
+        "github" => Form::Github,
+        "junit" => Form::Junit,
+        "sarif" => Form::Sarif,
+        _ => Form::Text,
+    }
+}
+
 /// In which form the report of `judge` is printed.
 fn report_form(judge: &ArgMatches<'_>) -> ReportForm {
     if judge.get_flag("json") {
-        return ReportForm::Json;
+        return ReportForm::Formed(Form::Json);
+    }
+    if let Some(name) = judge.get_str("format") {
+        return ReportForm::Formed(form_named(name));
     }
     if !judge.get_flag("why") {
         return ReportForm::Plain;
@@ -356,11 +405,17 @@ fn asked_by<'a>(matches: &ArgMatches<'a>) -> Asked<'a> {
     if why.is_some() {
         return Asked::Why(why_words(why));
     }
-    let form = match matches.subcommand_matches("judge") {
-        Some(judge) => report_form(judge),
-        None => ReportForm::Plain,
+    let printing = match matches.subcommand_matches("judge") {
+        Some(judge) => Printing {
+            form: report_form(judge),
+            rules: judge.get_str("rule"),
+        },
+        None => Printing {
+            form: ReportForm::Plain,
+            rules: None,
+        },
     };
-    Asked::Answer(request_of(matches), form)
+    Asked::Answer(request_of(matches), printing)
 }
 
 /// What the words ask.

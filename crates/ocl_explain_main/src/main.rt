@@ -67,7 +67,7 @@ fn main(rt: HostRuntime) -> ExitCode {
             let _ = rt.eprintln("error: standard input (-) may be named for one input only");
             ExitCode::from(2)
         }
-        Ok(Asked::Answer(request, form)) => exit_status(&rt, answer(&rt, request, form)),
+        Ok(Asked::Answer(request, printing)) => exit_status(&rt, answer(&rt, request, printing)),
         Ok(Asked::List(files)) => exit_status(&rt, list(&rt, files)),
         Ok(Asked::Schema(model)) => exit_status(&rt, schema(&rt, model)),
         Ok(Asked::Test(words)) => exit_status(&rt, test(&rt, words)),

@@ -1,14 +1,16 @@
 //! The commands over files: every input is read before the first is looked at.
 
-use crate::command_line::{ListFiles, ReportForm};
+use crate::command_line::{ListFiles, Printing, ReportForm};
 use crate::files::{read_file, report_write};
 use explain_notes::Input;
 use ocl_check::{CommandFault, JudgeOptions, Outcome, Telling};
 use ocl_explain::{
-    Ending, Listener, WithLastError, Words, answer_bound, answer_compile, answer_desk,
-    answer_judge, answer_judge_json, answer_judge_why, answer_verify, list_code, print_schema,
+    Ending, FormAsked, Listener, Selected, WithLastError, Words, answer_bound, answer_compile,
+    answer_desk, answer_judge, answer_judge_form, answer_judge_why, answer_verify, list_code,
+    print_schema, select_rules,
 };
 use ocl_programs::{CompileFiles, DeskFiles, LazyOutput, Request, RuleFiles, VerifyFiles};
+use std::alloc::AllocError;
 use std::io;
 
 /// Says on standard error why an input was refused, or what is hardly meant.
@@ -39,29 +41,36 @@ pub fn end(rt: &HostRuntime, ending: Ending) -> Outcome {
     ending.outcome
 }
 
-/// How a delivery is judged, and in which form the report is printed.
+/// How a delivery is judged, and how the report is printed.
 #[derive(Clone, Copy, Drop)]
-struct Judging {
+struct Judging<'a> {
     options: JudgeOptions,
-    form: ReportForm,
+    printing: Printing<'a>,
 }
 
 /// Prints the report, or what is refused.
 fn print_report<'i>(
     rt: &HostRuntime,
-    judging: Judging,
+    judging: Judging<'_>,
     model: Input<'i>,
     delivery: Input<'i>,
     rules: Input<'i>,
 ) -> Outcome {
     let mut sink = Telling::new(WithLastError::new(io::writer(rt)));
     let (alloc, listener, options) = (rt.alloc(), &StandardError { rt }, judging.options);
-    let ending = match judging.form {
+    let ending = match judging.printing.form {
         ReportForm::Plain => {
             answer_judge(alloc, listener, options, model, delivery, rules, &mut sink)
         }
-        ReportForm::Json => {
-            answer_judge_json(alloc, listener, options, model, delivery, rules, &mut sink)
+        ReportForm::Formed(form) => {
+            let asked = FormAsked {
+                model,
+                delivery,
+                rules,
+                options,
+                form,
+            };
+            answer_judge_form(alloc, listener, asked, &mut sink)
         }
         ReportForm::Explained(shown) => {
             let budget = options.budget;
@@ -74,15 +83,42 @@ fn print_report<'i>(
     end(rt, ending)
 }
 
+/// Prints the report by some rules of a text, or that there is no rule of a name.
+fn print_selected<'i>(
+    rt: &HostRuntime,
+    judging: Judging<'_>,
+    names: &str,
+    model: Input<'i>,
+    delivery: Input<'i>,
+    rules: Input<'i>,
+) -> Outcome {
+    match select_rules(rt.alloc(), rules, names) {
+        Ok(Selected::Text(text)) => {
+            let path = rules.path;
+            let rules = Input { path, bytes: &text };
+            print_report(rt, judging, model, delivery, rules)
+        }
+        Ok(Selected::Unknown(words)) => {
+            let _ = rt.eprint(words.as_str());
+            Outcome::Status(2)
+        }
+        Err(AllocError) => Outcome::Failed(CommandFault::OutOfMemory),
+    }
+}
+
 fn judge(
     rt: &HostRuntime,
     files: RuleFiles<'_>,
-    judging: Judging,
+    judging: Judging<'_>,
 ) -> Result<Outcome, CommandFault> {
     let model = read_file(rt, files.model)?;
     let delivery = read_file(rt, files.delivery)?;
     let rules = read_file(rt, files.rules)?;
-    Ok(print_report(rt, judging, model.input(), delivery.input(), rules.input()))
+    let (model, delivery, rules) = (model.input(), delivery.input(), rules.input());
+    Ok(match judging.printing.rules {
+        Some(names) => print_selected(rt, judging, names, model, delivery, rules),
+        None => print_report(rt, judging, model, delivery, rules),
+    })
 }
 
 fn bound_inputs<'i>(
@@ -161,9 +197,9 @@ fn compile(rt: &HostRuntime, files: CompileFiles<'_>) -> Result<Outcome, Command
 
 /// Answers a command of `ocl_check` as it does, with a report in the form that is wanted, and explains a refusal on standard
 /// error.
-pub fn answer(rt: &HostRuntime, request: Request<'_>, form: ReportForm) -> Outcome {
+pub fn answer(rt: &HostRuntime, request: Request<'_>, printing: Printing<'_>) -> Outcome {
     let answered = match request {
-        Request::Judge(files, options) => judge(rt, files, Judging { options, form }),
+        Request::Judge(files, options) => judge(rt, files, Judging { options, printing }),
         Request::Compile(files) => compile(rt, files),
         Request::Bound(files) => bound(rt, files),
         Request::Verify(files) => verify(rt, files),

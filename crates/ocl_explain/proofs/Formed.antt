@@ -1,0 +1,66 @@
+-- What `judge` prints in a form is its answer in the form, of a population that its inputs describe or of a refusal.
+use Rattle.std.proofs.Common.{◌≡◌, inl, inr, ◌∙◌, ℕ, List, Result, Ok, Err, refl, sym, ap, subst}
+use Rattle.ocl_base.specs.Steps.{◌>>=◌, Fails}
+use Rattle.ocl_base.proofs.ForAbove.{both_steps, ok_is}
+use Rattle.imkl_population.specs.Population.{Population}
+use Rattle.ocl_pipeline.specs.declared.refusal.Refusal.{Refusal}
+use Rattle.ocl_pipeline.specs.declared.refusal.Refusal.TheVariants as refusal
+use Rattle.ocl_pipeline.specs.declared.stopped.Stopped.{Stopped}
+use Rattle.ocl_pipeline.specs.declared.stopped.Stopped.TheVariants.{Refused, OutOfMemory}
+use Rattle.ocl_pipeline.specs.Stops.{stopped}
+use Rattle.ocl_pipeline.specs.Inputs.{model_of, population_of}
+use Rattle.ocl_pipeline.specs.Steps.{model_in, population_in, inputs_in, unit_in, text_in}
+use Rattle.ocl_pipeline.specs.TextReading.{TextReading}
+use Rattle.ocl_pipeline.specs.Asked.{PopulationAndUnit, PopulationAndRules, with_unit, with_rules, with_code, with_text}
+use Rattle.ocl_pipeline.proofs.ForAbove.{not_refused}
+use Rattle.ocl_check.specs.Reply.{Answer, refused}
+use Rattle.ocl_check.specs.Given.{given_answer}
+use Rattle.report_forms.specs.declared.beside.RuleMessage.{RuleMessage}
+use Rattle.report_forms.specs.declared.form.Form.{Form}
+use Rattle.ocl_explain.specs.FormedReport.{formed_in, formed_refusal, formed_given, IsFormDue, AreInputsOf, IsFormOf}
+
+-- where this is why the pipeline stopped, the form of its line is due
+pub form_due : {A : Type 0} (form : Form) (path delivery : List ℕ) (messages : List RuleMessage) (why : Stopped) (given : Result A Refusal) (of : A → Population) (f : A → Answer)
+    → Fails stopped why given → IsFormDue form path delivery messages why (formed_given form path delivery messages of f given)
+form_due form path delivery messages (Refused r) given of f h = sym (ap (formed_given form path delivery messages of f) h)
+form_due form path delivery messages OutOfMemory given of f h = tt
+
+module _ (form : Form) (path : List ℕ) (messages : List RuleMessage) (model delivery : List ℕ) where
+  -- the inputs describe the population
+  are_inputs : (p : Population) → inputs_in model delivery ≡ Ok p → AreInputsOf model delivery p
+  are_inputs p is =
+      let read = both_steps (model_in model) (population_in delivery) p is in
+      (read.0, not_refused refusal.Model (model_of model) read.0 read.1, not_refused refusal.Delivery (population_of read.0 delivery) p read.2)
+
+  module _ {A : Type 0} (of : A → Population) (f : A → Answer) (asked : Result A Refusal)
+      (described : (x : A) → asked ≡ Ok x → inputs_in model delivery ≡ Ok (of x)) where
+    by_given : (g : Result A Refusal) → asked ≡ g → IsFormOf form path messages model delivery (given_answer f g) (formed_given form path delivery messages of f g)
+    by_given (Ok x) is = inr (of x, are_inputs (of x) (described x is), refl)
+    by_given (Err r) is = inl (refl, refl)
+
+    is_form : (a : Answer) → given_answer f asked ≡ a → IsFormOf form path messages model delivery a (formed_given form path delivery messages of f asked)
+    is_form a same = subst (λ (x : Answer). IsFormOf form path messages model delivery x (formed_given form path delivery messages of f asked)) same (by_given asked refl)
+
+  -- of a code file
+  code_described : (code : List ℕ) (x : PopulationAndUnit) → (inputs_in model delivery >>= with_code code) ≡ Ok x → inputs_in model delivery ≡ Ok x.0
+  code_described code x is =
+      let a = both_steps (inputs_in model delivery) (with_code code) x is in
+      let b = both_steps (unit_in a.0.model code) (with_unit a.0) x a.2 in
+      let same = ok_is (a.0, b.0) x b.2 in
+      subst (λ (y : PopulationAndUnit). inputs_in model delivery ≡ Ok y.0) same a.1
+
+  pub code_form : (f : PopulationAndUnit → Answer) (code : List ℕ) (a : Answer) → given_answer f (inputs_in model delivery >>= with_code code) ≡ a
+      → IsFormOf form path messages model delivery a (formed_given form path delivery messages (λ x. x.0) f (inputs_in model delivery >>= with_code code))
+  code_form f code a same = is_form (λ x. x.0) f (inputs_in model delivery >>= with_code code) (code_described code) a same
+
+  -- of a text
+  text_described : (t : TextReading) (x : PopulationAndRules) → (inputs_in model delivery >>= with_text t) ≡ Ok x → inputs_in model delivery ≡ Ok x.0
+  text_described t x is =
+      let a = both_steps (inputs_in model delivery) (with_text t) x is in
+      let b = both_steps (text_in a.0.model t) (with_rules a.0) x a.2 in
+      let same = ok_is (a.0, b.0) x b.2 in
+      subst (λ (y : PopulationAndRules). inputs_in model delivery ≡ Ok y.0) same a.1
+
+  pub text_form : (f : PopulationAndRules → Answer) (t : TextReading) (a : Answer) → given_answer f (inputs_in model delivery >>= with_text t) ≡ a
+      → IsFormOf form path messages model delivery a (formed_given form path delivery messages (λ x. x.0) f (inputs_in model delivery >>= with_text t))
+  text_form f t a same = is_form (λ x. x.0) f (inputs_in model delivery >>= with_text t) (text_described t) a same

@@ -1,0 +1,1 @@
+use Rattle.ocl_explain.proofs.formed.FormedReport.end_stopped.Goals as goal

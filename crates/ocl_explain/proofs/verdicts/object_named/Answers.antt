@@ -1,7 +1,0 @@
-use Rattle.std.proofs.Common.{sym}
-use Rattle.ocl_explain.proofs.Named.{named_is}
-use Rattle.ocl_explain.proofs.verdicts.object_named.Goals as goal
-
-pub returns-in-Some-clause-number : goal.returns-in-Some-clause-number
-returns-in-Some-clause-number c =
-    sym (named_is c.args.population.now.content c.consistent.ensures c.in-Some.object c.args.id.now c.in-Some.ensures.there c.in-Some.ensures.named)

@@ -1,0 +1,58 @@
+-- What `judge` prints in a form: its answer as the form has it, with the places, classes and messages of the findings.
+use Rattle.std.specs.Prelude.{◌≡◌, ◌⊎◌, ℕ, List, Result, Ok, Err, ⊤}
+use Rattle.imkl_model.specs.ClassModel.{Model}
+use Rattle.imkl_population.specs.Population.{Population}
+use Rattle.ocl_pipeline.specs.declared.refusal.Refusal.{Refusal}
+use Rattle.ocl_pipeline.specs.declared.stopped.Stopped.{Stopped}
+use Rattle.ocl_pipeline.specs.declared.stopped.Stopped.TheVariants.{Refused, OutOfMemory}
+use Rattle.ocl_pipeline.specs.Inputs.{model_of, population_of}
+use Rattle.ocl_check.specs.declared.commands.judge.JudgeOptions.{JudgeOptions}
+use Rattle.ocl_check.specs.Reply.{Answer, refused}
+use Rattle.ocl_check.specs.JudgeText.{JudgeAnswers}
+use Rattle.report_forms.specs.declared.beside.RuleMessage.{RuleMessage}
+use Rattle.report_forms.specs.declared.form.Form.{Form}
+use Rattle.report_forms.specs.Places.{entry_places}
+use Rattle.report_forms.specs.Findings.{Context}
+use Rattle.report_forms.specs.Forms.{form_of_answer, form_of_refusal}
+
+-- the path of the delivery and its bytes, and the messages of the rules
+module _ (form : Form) (path delivery : List ℕ) (messages : List RuleMessage) where
+  -- what is known beside the report on the population that the delivery describes
+  abbrev pub context_in : Population → Context
+  context_in p = record { path = path; population = p; places = entry_places delivery; messages = messages }
+
+  abbrev pub formed_in : Population → Answer → Answer
+  formed_in p a = form_of_answer form (context_in p) a
+
+  abbrev pub formed_refusal : Answer → Answer
+  formed_refusal a = (form_of_refusal form path a.0, a.1)
+
+  -- of what the pipeline gives
+  abbrev pub formed_given : {A : Type 0} → (A → Population) → (A → Answer) → Result A Refusal → Answer
+  formed_given of f (Ok x) = formed_in (of x) (f x)
+  formed_given of f (Err r) = formed_refusal (refused r)
+
+  -- what is due where this is why there is no other answer
+  abbrev pub IsFormDue : Stopped → Answer → Type 0
+  IsFormDue (Refused r) formed = formed_refusal (refused r) ≡ formed
+  IsFormDue OutOfMemory formed = ⊤
+
+-- the bytes of a class model and a delivery describe a population
+abbrev pub AreInputsOf : List ℕ → List ℕ → Population → Type 0
+AreInputsOf model delivery p = (m : Model) × (model_of model ≡ Ok m) × (population_of m delivery ≡ Ok p)
+
+-- the form of an answer: of a refusal, or of a report on the population
+abbrev pub IsFormOf : Form → List ℕ → List RuleMessage → List ℕ → List ℕ → Answer → Answer → Type 0
+IsFormOf form path messages model delivery a formed =
+    ((a.1 ≡ 2) × (formed ≡ formed_refusal form path delivery messages a))
+    ⊎ ((p : Population) × AreInputsOf model delivery p × (formed ≡ formed_in form path delivery messages p a))
+
+-- what is printed of the bytes of the three inputs, with these messages of rules
+abbrev pub FormAnswersWith : List RuleMessage → Form → List ℕ → JudgeOptions → List ℕ → List ℕ → List ℕ → Answer → Type 0
+FormAnswersWith messages form path options model delivery rules formed =
+    (a : Answer) × JudgeAnswers options model delivery rules a × IsFormOf form path messages model delivery a formed
+
+-- what may be printed: with some messages
+abbrev pub FormAnswers : Form → List ℕ → JudgeOptions → List ℕ → List ℕ → List ℕ → Answer → Type 0
+FormAnswers form path options model delivery rules formed =
+    (messages : List RuleMessage) × FormAnswersWith messages form path options model delivery rules formed

@@ -1,0 +1,335 @@
+//! The output of `judge` in a form, with the places, classes and messages of its findings.
+
+ghost use Rattle.std.specs.Prelude.{◌≡◌, [], Some, true, false, IfOk};
+ghost use Rattle.ocl_check.specs.Answers.{IsAnswered, IsAnsweredBy, IsFlushedBy, KeepsSink, fails_read, fails_write};
+ghost use Rattle.ocl_check.specs.Ending.{IsEnding};
+ghost use Rattle.ocl_check.specs.Given.{pair_answer, meant_within};
+ghost use Rattle.ocl_check.specs.Judge.{budget_answer};
+ghost use Rattle.ocl_check.specs.Reply.{Answer};
+ghost use Rattle.report_forms.specs.Forms.{form_of_report};
+ghost use Rattle.ocl_explain.specs.FormedReport.{context_in, formed_in, formed_refusal, formed_given, IsFormDue, FormAnswersWith, FormAnswers};
+
+use crate::explaining::{Ending, Explaining, Listener};
+use crate::given::Given;
+use crate::writing::write_answer;
+use explain_notes::Input;
+use imkl_population::Population;
+use ocl_check::{CommandFault, JudgeOptions, Outcome, Report, RulesForm, Sink, Telling, stop};
+use ocl_core::CoreRule;
+use ocl_pipeline::{CodeAsker, OfCode, OfText, Place, Stopped, TextAsker, ask_inputs};
+use report_forms::{
+    Beside, Form, RuleMessage, entry_places, form_of_refusal, form_of_report, rule_messages,
+};
+use rule_verify::Accepted;
+use std::alloc::{AllocError, Global};
+
+/// Asks for the report in a form.
+#[derive(Clone, Copy)]
+struct FormedReport<'a, L> {
+    budget: u64,
+    form: Form,
+    delivery: Input<'a>,
+    messages: &'a [RuleMessage],
+    watch: &'a Explaining<'a, L>,
+}
+
+/// A report on the population of a delivery, in a form.
+fn formed_report(
+    alloc: Global,
+    form: Form,
+    delivery: Input<'_>,
+    messages: &[RuleMessage],
+    population: &Population<'_>,
+    text: &[u8],
+) -> Result<Vec<u8>, AllocError>
+    ensures { IfOk result (λ v. v.items ≡ form_of_report form (context_in
+        delivery.entry.path.now delivery.entry.bytes.now messages.now population.now.content)
+        text.now) }
+{
+    let places = entry_places(alloc, delivery.bytes)?;
+    let beside = Beside {
+        path: delivery.path,
+        population,
+        places: &places,
+        messages,
+    };
+    form_of_report(alloc, form, beside, text)
+}
+
+/// Writes what was put together, with this status.
+fn write_made<S: Sink>(sink: &mut S, made: Result<Vec<u8>, AllocError>, status: u8) -> Outcome
+    requires { S.has_failed sink.old ≡ false }
+    ensures { (a : Answer) → IfOk made (λ v. (v.items, status) ≡ a) →
+        IsEnding S.contents S.has_failed S.flushes S.has_pending true a sink.old result sink.new }
+{
+    match made {
+        Ok(text) => write_answer(sink, &text, status),
+        Err(_error) => Outcome::Failed(CommandFault::OutOfMemory),
+    }
+}
+
+impl<L: Listener> FormedReport<'_, L> {
+    /// Writes the line of a refusal in the form, of which these bytes were written into memory.
+    fn write_refusal<S: Sink>(
+        &self,
+        alloc: Global,
+        text: &[u8],
+        stopped: Outcome,
+        sink: &mut S,
+    ) -> Outcome
+        requires { S.has_failed sink.old ≡ false }
+        ensures { (said : Answer) → IsAnswered said (Some []) (Some text.now) stopped →
+            IsEnding S.contents S.has_failed S.flushes S.has_pending true (formed_refusal
+            self.now.form self.now.delivery.path.now self.now.delivery.bytes.now
+            self.now.messages.now said) sink.old result sink.new }
+    {
+        match stopped {
+            Outcome::Status(status) => {
+                let made = form_of_refusal(alloc, self.form, self.delivery.path, text);
+                write_made(sink, made, status)
+            }
+            // Memory takes all bytes that there is room for.
+            Outcome::Failed(_) => Outcome::Failed(CommandFault::OutOfMemory),
+        }
+    }
+
+    /// Writes an answer of `judge` that has this status, in the form.
+    fn write_answered<S: Sink>(
+        &self,
+        alloc: Global,
+        population: &Population<'_>,
+        text: &[u8],
+        status: u8,
+        sink: &mut S,
+    ) -> Outcome
+        requires { S.has_failed sink.old ≡ false }
+        ensures { IsEnding S.contents S.has_failed S.flushes S.has_pending true (formed_in
+            self.now.form self.now.delivery.path.now self.now.delivery.bytes.now
+            self.now.messages.now population.now.content (text.now, status))
+            sink.old result sink.new }
+    {
+        let (form, delivery) = (self.form, self.delivery);
+        let made = if status == 2 {
+            form_of_refusal(alloc, form, delivery.path, text)
+        } else {
+            formed_report(alloc, form, delivery, self.messages, population, text)
+        };
+        write_made(sink, made, status)
+    }
+
+    /// Writes what `judge` answered in the form, of which it wrote these bytes into memory.
+    fn write_judged<S: Sink>(
+        &self,
+        alloc: Global,
+        population: &Population<'_>,
+        text: &[u8],
+        judged: Outcome,
+        sink: &mut S,
+    ) -> Outcome
+        requires { S.has_failed sink.old ≡ false }
+        ensures { (said : Answer) → IsAnswered said (Some []) (Some text.now) judged →
+            IsEnding S.contents S.has_failed S.flushes S.has_pending true (formed_in
+            self.now.form self.now.delivery.path.now self.now.delivery.bytes.now
+            self.now.messages.now population.now.content said) sink.old result sink.new }
+    {
+        match judged {
+            Outcome::Status(status) => self.write_answered(alloc, population, text, status, sink),
+            // Memory takes all bytes that there is room for.
+            Outcome::Failed(_) => Outcome::Failed(CommandFault::OutOfMemory),
+        }
+    }
+
+    /// Ends where an input is refused, or memory ran out.
+    fn end_stopped<S: Sink>(
+        &self,
+        alloc: Global,
+        place: Place<'_>,
+        why: Stopped,
+        sink: &mut S,
+    ) -> Outcome
+        requires { S.has_failed sink.old ≡ false }
+        ensures { (a : Answer) → IsFormDue self.now.form self.now.delivery.path.now
+            self.now.delivery.bytes.now self.now.messages.now why a → IsEnding S.contents
+            S.has_failed S.flushes S.has_pending true a sink.old result sink.new }
+    {
+        if let Stopped::OutOfMemory = why {
+            return Outcome::Failed(CommandFault::OutOfMemory);
+        }
+        let mut memory = Telling::new(Vec::new(alloc));
+        let stopped = stop(alloc, self.watch, place, why, &mut memory);
+        let text = memory.into_inner();
+        self.write_refusal(alloc, &text, stopped, sink)
+    }
+}
+
+impl<S: Sink, L: Listener> CodeAsker<S> for FormedReport<'_, L> {
+    type Output = Outcome;
+
+    ghost can_ask = { λ s. S.has_failed s ≡ false };
+
+    ghost answers = { λ f given old o new. IsEnding S.contents S.has_failed S.flushes S.has_pending
+        true (formed_given f.form f.delivery.path.now f.delivery.bytes.now f.messages.now
+        (λ x. x.0) (pair_answer (budget_answer f.budget)) given) old o new };
+
+    fn ask(
+        &self,
+        alloc: Global,
+        population: &Population<'_>,
+        accepted: &Accepted<'_>,
+        sink: &mut S,
+    ) -> Outcome {
+        let report = Report {
+            budget: self.budget,
+            watch: self.watch,
+        };
+        let mut memory = Telling::new(Vec::new(alloc));
+        let judged = CodeAsker::ask(&report, alloc, population, accepted, &mut memory);
+        let text = memory.into_inner();
+        self.write_judged(alloc, population, &text, judged, sink)
+    }
+
+    fn stop(&self, alloc: Global, place: Place<'_>, why: Stopped, sink: &mut S) -> Outcome {
+        self.end_stopped(alloc, place, why, sink)
+    }
+}
+
+impl<S: Sink, L: Listener> TextAsker<S> for FormedReport<'_, L> {
+    type Output = Outcome;
+
+    ghost can_ask = { λ s. S.has_failed s ≡ false };
+
+    ghost answers = { λ f given old o new. IsEnding S.contents S.has_failed S.flushes S.has_pending
+        true (formed_given f.form f.delivery.path.now f.delivery.bytes.now f.messages.now
+        (λ x. x.0) (meant_within f.budget) given) old o new };
+
+    fn ask(
+        &self,
+        alloc: Global,
+        population: &Population<'_>,
+        rules: &[CoreRule],
+        accepted: &Accepted<'_>,
+        sink: &mut S,
+    ) -> Outcome {
+        let report = Report {
+            budget: self.budget,
+            watch: self.watch,
+        };
+        let mut memory = Telling::new(Vec::new(alloc));
+        let judged = TextAsker::ask(&report, alloc, population, rules, accepted, &mut memory);
+        let text = memory.into_inner();
+        self.write_judged(alloc, population, &text, judged, sink)
+    }
+
+    fn stop(&self, alloc: Global, place: Place<'_>, why: Stopped, sink: &mut S) -> Outcome {
+        self.end_stopped(alloc, place, why, sink)
+    }
+}
+
+/// What is judged, and how the report is printed.
+#[derive(Clone, Copy, Drop)]
+pub struct FormAsked<'a> {
+    /// The class model.
+    pub model: Input<'a>,
+    /// The delivery.
+    pub delivery: Input<'a>,
+    /// The rules, in the form that the options say.
+    pub rules: Input<'a>,
+    /// The form of the rules, and the budget within which they are admitted.
+    pub options: JudgeOptions,
+    /// The form of the report.
+    pub form: Form,
+}
+
+/// Asks for the report in a form, with messages.
+fn ask_form<'a, S: Sink, L: Listener>(
+    alloc: Global,
+    asked: FormAsked<'a>,
+    messages: &[RuleMessage],
+    watch: &Explaining<'a, L>,
+    sink: &mut S,
+) -> Outcome
+    requires { S.has_failed sink.old ≡ false }
+    ensures { (a : Answer) × FormAnswersWith messages.now asked.entry.form asked.entry.delivery.path.now
+        asked.entry.options asked.entry.model.bytes.now asked.entry.delivery.bytes.now
+        asked.entry.rules.bytes.now a × IsEnding S.contents S.has_failed S.flushes S.has_pending
+        true a sink.old result sink.new }
+{
+    let FormAsked {
+        model,
+        delivery,
+        rules,
+        options,
+        form,
+    } = asked;
+    let asker = &FormedReport {
+        budget: options.budget,
+        form,
+        delivery,
+        messages,
+        watch,
+    };
+    match options.form {
+        RulesForm::Code => {
+            let asker = OfCode {
+                asker,
+                code: rules.bytes,
+            };
+            ask_inputs(alloc, &asker, model.bytes, delivery.bytes, sink)
+        }
+        RulesForm::Text => {
+            let asker = OfText {
+                asker,
+                text: rules.bytes,
+            };
+            ask_inputs(alloc, &asker, model.bytes, delivery.bytes, sink)
+        }
+    }
+}
+
+/// The messages of rules in this form; code has none.
+fn messages_of(
+    alloc: Global,
+    form: RulesForm,
+    rules: &[u8],
+) -> Result<Vec<RuleMessage>, AllocError> {
+    match form {
+        RulesForm::Code => Ok(Vec::new(alloc)),
+        RulesForm::Text => rule_messages(alloc, rules),
+    }
+}
+
+/// Judges a delivery by rules as `run_judge` does, and writes the report, or what is refused, in a form, with the same status.
+/// Each finding has the place of its object's entry in the delivery, the object's class, and of rules that come as text the
+/// rule's message. The listener hears what it hears of `answer_judge`.
+///
+/// The answer is put together whole before its first byte is written. `Failed(OutOfMemory)`: memory ran out; nothing was
+/// written. `Failed(Write)`: the sink has failed, after a prefix of the answer.
+pub fn answer_judge_form<'a, S: Sink, L: Listener>(
+    alloc: Global,
+    listener: &'a L,
+    asked: FormAsked<'a>,
+    sink: &mut S,
+) -> Ending
+    requires { S.has_failed sink.old ≡ false }
+    ensures answered { IsAnsweredBy (FormAnswers asked.entry.form asked.entry.delivery.path.now
+        asked.entry.options asked.entry.model.bytes.now asked.entry.delivery.bytes.now
+        asked.entry.rules.bytes.now) (S.contents sink.old) (S.contents sink.new) result.outcome }
+    ensures sink { S.has_failed sink.new ≡ fails_write result.outcome }
+    ensures flushed { IsFlushedBy S.flushes S.has_pending result.outcome sink.old sink.new }
+    ensures kept { KeepsSink result.outcome sink.old sink.new }
+    ensures read { fails_read result.outcome ≡ false }
+{
+    let given = Given {
+        model: asked.model,
+        delivery: Some(asked.delivery),
+        rules: asked.rules,
+        script: None,
+        options: asked.options,
+    };
+    let watch = Explaining::new(given, listener);
+    let outcome = match messages_of(alloc, asked.options.form, asked.rules.bytes) {
+        Ok(messages) => ask_form(alloc, asked, &messages, &watch, sink),
+        Err(AllocError) => Outcome::Failed(CommandFault::OutOfMemory),
+    };
+    watch.ending(alloc, outcome)
+}

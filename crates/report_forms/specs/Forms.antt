@@ -1,0 +1,35 @@
+-- An answer of `judge` in a form: the report, or the line of a refusal.
+use Rattle.std.specs.Prelude.{◌==◌, ℕ, List, ◌++◌, codes, if◌then◌else◌}
+use Rattle.ocl_check.specs.Reply.{Answer}
+use Rattle.report_forms.specs.declared.form.Form.{Form}
+use Rattle.report_forms.specs.declared.form.Form.TheVariants as form
+use Rattle.report_forms.specs.declared.lines.Part.TheVariants as part
+use Rattle.report_forms.specs.ReportRows.{lines_in, word_at}
+use Rattle.report_forms.specs.Findings.{Context}
+use Rattle.report_forms.specs.Lines.{lines_by}
+use Rattle.report_forms.specs.JsonForm.{json_refusal}
+use Rattle.report_forms.specs.GithubForm.{github_refusal}
+use Rattle.report_forms.specs.JunitForm.{junit_report, junit_refusal}
+use Rattle.report_forms.specs.SarifForm.{sarif_run, sarif_refusal}
+
+abbrev pub form_of_report : Form → Context → List ℕ → List ℕ
+form_of_report form.Text c text = lines_by part.Text c text
+form_of_report form.Json c text = lines_by part.Json c text
+form_of_report form.Github c text = lines_by part.Github c text
+form_of_report form.Junit c text = junit_report c text
+form_of_report form.Sarif c text = sarif_run (lines_by part.SarifRules c text) (lines_by part.SarifResults c text)
+
+-- of the first line, which is the only one
+abbrev pub form_of_line : Form → List ℕ → List ℕ → List ℕ
+form_of_line form.Text path line = line ++ codes "\n"
+form_of_line form.Json path line = json_refusal line
+form_of_line form.Github path line = github_refusal line
+form_of_line form.Junit path line = junit_refusal path line
+form_of_line form.Sarif path line = sarif_refusal line
+
+abbrev pub form_of_refusal : Form → List ℕ → List ℕ → List ℕ
+form_of_refusal form path text = form_of_line form path (word_at (lines_in text) 0)
+
+-- a refusal has status 2; the status stays
+abbrev pub form_of_answer : Form → Context → Answer → Answer
+form_of_answer form c a = (if a.1 == 2 then form_of_refusal form c.path a.0 else form_of_report form c a.0, a.1)
