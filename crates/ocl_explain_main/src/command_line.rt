@@ -153,7 +153,7 @@ impl<'a> WhyWords<'a> {
 }
 
 /// The names of the forms of a report.
-const FORMS: [&str; 5] = ["text", "json", "github", "junit", "sarif"];
+const FORMS: [&str; 6] = ["text", "json", "github", "junit", "sarif", "html"];
 
 /// The option of `judge` that chooses the form of the report.
 fn format<'a>(alloc: Global) -> Arg<'a> {
@@ -362,6 +362,7 @@ fn form_named(name: &str) -> Form {
         "github" => Form::Github,
         "junit" => Form::Junit,
         "sarif" => Form::Sarif,
+        "html" => Form::Html,
         _ => Form::Text,
     }
 }

@@ -1,6 +1,9 @@
 -- Pieces that were put one after another, as one piece behind what was there.
 use Rattle.std.proofs.Common.{◌≡◌, ℕ, List, ◌++◌, append_assoc}
 
+pub pieces2 : (o a b : List ℕ) → (o ++ a) ++ b ≡ o ++ (a ++ b)
+pieces2 o a b = simp append_assoc
+
 pub pieces3 : (o a b c : List ℕ) → ((o ++ a) ++ b) ++ c ≡ o ++ (a ++ (b ++ c))
 pieces3 o a b c = simp append_assoc
 

@@ -11,6 +11,7 @@ use Rattle.report_forms.specs.JsonForm.{json_refusal}
 use Rattle.report_forms.specs.GithubForm.{github_refusal}
 use Rattle.report_forms.specs.JunitForm.{junit_report, junit_refusal}
 use Rattle.report_forms.specs.SarifForm.{sarif_run, sarif_refusal}
+use Rattle.report_forms.specs.HtmlForm.{html_page, html_refusal}
 
 abbrev pub form_of_report : Form → Context → List ℕ → List ℕ
 form_of_report form.Text c text = lines_by part.Text c text
@@ -18,6 +19,7 @@ form_of_report form.Json c text = lines_by part.Json c text
 form_of_report form.Github c text = lines_by part.Github c text
 form_of_report form.Junit c text = junit_report c text
 form_of_report form.Sarif c text = sarif_run (lines_by part.SarifRules c text) (lines_by part.SarifResults c text)
+form_of_report form.Html c text = html_page c.path (lines_by part.HtmlRules c text) (lines_by part.HtmlFindings c text)
 
 -- of the first line, which is the only one
 abbrev pub form_of_line : Form → List ℕ → List ℕ → List ℕ
@@ -26,6 +28,7 @@ form_of_line form.Json path line = json_refusal line
 form_of_line form.Github path line = github_refusal line
 form_of_line form.Junit path line = junit_refusal path line
 form_of_line form.Sarif path line = sarif_refusal line
+form_of_line form.Html path line = html_refusal path line
 
 abbrev pub form_of_refusal : Form → List ℕ → List ℕ → List ℕ
 form_of_refusal form path text = form_of_line form path (word_at (lines_in text) 0)

@@ -7,6 +7,7 @@ pub mod JsonForm
 pub mod GithubForm
 pub mod JunitForm
 pub mod SarifForm
+pub mod HtmlForm
 pub mod Lines
 pub mod Forms
 pub mod ReportLines

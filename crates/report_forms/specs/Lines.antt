@@ -8,6 +8,7 @@ use Rattle.report_forms.specs.Findings.{Context, Finding, finding_of, placed}
 use Rattle.report_forms.specs.JsonForm.{json_of_finding, json_of_words}
 use Rattle.report_forms.specs.GithubForm.{github_finding}
 use Rattle.report_forms.specs.SarifForm.{sarif_result, sarif_rule_of}
+use Rattle.report_forms.specs.HtmlForm.{html_finding, html_of_words}
 
 abbrev pub finding_by : Part → Context → Finding → List ℕ
 finding_by part.Text c f = placed c.path f
@@ -15,6 +16,8 @@ finding_by part.Json c f = json_of_finding f
 finding_by part.Github c f = github_finding c.path f
 finding_by part.SarifRules c f = []
 finding_by part.SarifResults c f = sarif_result c.path f
+finding_by part.HtmlRules c f = []
+finding_by part.HtmlFindings c f = html_finding f
 
 -- any other line: as text, and among annotations, it stays as it is
 abbrev pub other_by : Part → Context → List ℕ → List ℕ
@@ -23,6 +26,8 @@ other_by part.Json c line = json_of_words (words_in line)
 other_by part.Github c line = ended_line line
 other_by part.SarifRules c line = sarif_rule_of c (words_in line)
 other_by part.SarifResults c line = []
+other_by part.HtmlRules c line = html_of_words c (words_in line)
+other_by part.HtmlFindings c line = []
 
 abbrev pub line_by : Part → Context → List ℕ → List ℕ
 line_by part c line = if length (words_in line) == 3 then finding_by part c (finding_of c (words_in line)) else other_by part c line

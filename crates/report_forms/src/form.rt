@@ -7,6 +7,7 @@ ghost use Rattle.report_forms.specs.Forms.{form_of_line, form_of_refusal, form_o
 
 use crate::beside::Beside;
 use crate::github::github_refusal;
+use crate::html::{html_page, html_refusal};
 use crate::json::json_refusal;
 use crate::junit::{junit_refusal, junit_report};
 use crate::lines::{Part, lines_by};
@@ -27,6 +28,8 @@ pub enum Form {
     Junit,
     /// SARIF 2.1.0.
     Sarif,
+    /// A page of HTML.
+    Html,
 }
 
 /// A report in SARIF.
@@ -37,6 +40,16 @@ fn sarif_report(alloc: Global, beside: Beside<'_, '_>, text: &[u8]) -> Result<Ve
     let rules = lines_by(alloc, Part::SarifRules, beside, text)?;
     let results = lines_by(alloc, Part::SarifResults, beside, text)?;
     sarif_run(alloc, &rules, &results)
+}
+
+/// A report as a page of HTML.
+fn html_report(alloc: Global, beside: Beside<'_, '_>, text: &[u8]) -> Result<Vec<u8>, AllocError>
+    ensures { IfOk result (λ v. v.items ≡
+        form_of_report form.Html (context_of beside.entry) text.now) }
+{
+    let rules = lines_by(alloc, Part::HtmlRules, beside, text)?;
+    let findings = lines_by(alloc, Part::HtmlFindings, beside, text)?;
+    html_page(alloc, beside.path, &rules, &findings)
 }
 
 /// A report in a form. Where memory runs out there is none.
@@ -54,6 +67,7 @@ pub fn form_of_report(
         Form::Github => lines_by(alloc, Part::Github, beside, text),
         Form::Junit => junit_report(alloc, beside, text),
         Form::Sarif => sarif_report(alloc, beside, text),
+        Form::Html => html_report(alloc, beside, text),
     }
 }
 
@@ -77,6 +91,7 @@ fn form_of_line(alloc: Global, form: Form, path: &str, line: &[u8]) -> Result<Ve
         Form::Github => github_refusal(alloc, line),
         Form::Junit => junit_refusal(alloc, path, line),
         Form::Sarif => sarif_refusal(alloc, line),
+        Form::Html => html_refusal(alloc, path, line),
     }
 }
 

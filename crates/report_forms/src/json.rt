@@ -7,6 +7,7 @@ ghost use Rattle.report_forms.specs.JsonForm.{json_of_entry, json_of_finding, js
 use crate::escapes::put_json;
 use crate::finding::Finding;
 use crate::pieces::{put, put_number};
+use crate::rows::Counts;
 use std::alloc::{AllocError, Global};
 
 /// Puts the class of a finding's object, and where its entry begins.
@@ -49,15 +50,6 @@ pub(crate) fn put_json_finding(
     put_json(out, finding.message.as_bytes())?;
     put(out, "\"}\n")?;
     Ok(())
-}
-
-/// The numbers in the line of a rule.
-#[derive(Clone, Copy)]
-struct Counts<'t> {
-    objects: &'t [u8],
-    holds: &'t [u8],
-    fails: &'t [u8],
-    undecided: &'t [u8],
 }
 
 /// Puts a number behind its key.

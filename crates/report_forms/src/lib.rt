@@ -7,6 +7,7 @@ mod escapes;
 mod finding;
 mod form;
 mod github;
+mod html;
 mod json;
 mod junit;
 pub mod laws;

@@ -8,6 +8,7 @@ ghost use Rattle.report_forms.specs.Lines.{finding_by, other_by, line_by, lines_
 use crate::beside::Beside;
 use crate::finding::{Finding, finding_of, next_first, object_in};
 use crate::github::put_annotation;
+use crate::html::{put_html_finding, put_html_words};
 use crate::json::{put_json_finding, put_json_words};
 use crate::rows::{lines_in, put_ended, words_in};
 use crate::sarif::{put_result, put_rule_of};
@@ -26,6 +27,10 @@ pub(crate) enum Part {
     SarifRules,
     /// The results of SARIF, each behind a comma.
     SarifResults,
+    /// The rows of rules of a page.
+    HtmlRules,
+    /// The rows of findings of a page.
+    HtmlFindings,
 }
 
 /// Puts what a finding gives.
@@ -43,8 +48,9 @@ fn put_finding(
         Part::Text => finding.put_placed(alloc, out, beside.path),
         Part::Json => put_json_finding(alloc, out, finding),
         Part::Github => put_annotation(alloc, out, beside.path, finding),
-        Part::SarifRules => Ok(()),
         Part::SarifResults => put_result(alloc, out, beside.path, finding),
+        Part::HtmlFindings => put_html_finding(alloc, out, finding),
+        Part::SarifRules | Part::HtmlRules => Ok(()),
     }
 }
 
@@ -64,7 +70,8 @@ fn put_other(
         Part::Text | Part::Github => put_ended(out, line),
         Part::Json => put_json_words(out, words),
         Part::SarifRules => put_rule_of(out, beside, words),
-        Part::SarifResults => Ok(()),
+        Part::HtmlRules => put_html_words(out, beside, words),
+        Part::SarifResults | Part::HtmlFindings => Ok(()),
     }
 }
 

@@ -5,6 +5,15 @@ ghost use Rattle.report_forms.specs.ReportRows.{lines_in, words_in, word_at, end
 
 use std::alloc::{AllocError, Global};
 
+/// The numbers in the line of a rule.
+#[derive(Clone, Copy)]
+pub(crate) struct Counts<'t> {
+    pub(crate) objects: &'t [u8],
+    pub(crate) holds: &'t [u8],
+    pub(crate) fails: &'t [u8],
+    pub(crate) undecided: &'t [u8],
+}
+
 /// The lines of a report, and after the last line feed an empty one.
 pub fn lines_in(alloc: Global, text: &[u8]) -> Result<Vec<&[u8]>, AllocError>
     ensures { IfOk result (λ v. map (λ l. l.now) v.items ≡ lines_in text.now) }

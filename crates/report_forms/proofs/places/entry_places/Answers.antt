@@ -25,7 +25,7 @@ bytes-preserved c =
       column_fits = search (rules, tests);
       depth_fits = search (rules, tests);
       places = c.bytes.invariant.places
-      ∙ (ap (places_from s c.bytes.places.items) here
-      ∙ (ap (λ (k : List EntryPlace). places_from (scan_after s b) k rest) (sym known)
-      ∙ ap (λ (t : Scan). places_from t c.if-begins_list.places.items rest) (sym after)));
+          ∙ (ap (places_from s c.bytes.places.items) here
+          ∙ (ap (λ (k : List EntryPlace). places_from (scan_after s b) k rest) (sym known)
+          ∙ ap (λ (t : Scan). places_from t c.if-begins_list.places.items rest) (sym after)));
     }
