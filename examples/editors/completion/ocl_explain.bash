@@ -6,7 +6,7 @@ _ocl_explain() {
         return
     fi
     case ${COMP_WORDS[1]} in
-        judge) options="--text --budget --json --why --max --lines" kinds=(json json file) ;;
+        judge) options="--text --budget --format --json --rule --why --max --lines" kinds=(json json file) ;;
         compile) options="" kinds=(json file file) ;;
         verify) options="" kinds=(json file) ;;
         bound) options="" kinds=(json json file) ;;
@@ -19,7 +19,7 @@ _ocl_explain() {
     esac
     for ((at = 2; at < COMP_CWORD; at++)); do
         case ${COMP_WORDS[at]} in
-            --budget|--lines|--max)
+            --budget|--format|--lines|--max|--rule)
                 ((++at))
                 if [ "${COMP_WORDS[at]}" = = ]; then ((++at)); fi
                 ;;
