@@ -1,6 +1,6 @@
 pub mod Words
 pub mod Bytes
-pub mod Rows
+pub mod WordRows
 pub mod Reported
 pub mod Objects
 pub mod Regrouped

@@ -21,7 +21,7 @@ use Rattle.report_forms.specs.ReportRows.{rows_in}
 use Rattle.report_forms.specs.ReportLines.{ReportLine, OfObject, OfRule, OfAll, written_as_text, report_rows_of, lines_of_rule, report_lines_below, report_lines, meant_lines_of_rule, meant_lines}
 use Rattle.report_forms.proofs.Words.{IsAbove}
 use Rattle.report_forms.proofs.Bytes.{above_id, above_name}
-use Rattle.report_forms.proofs.Rows.{IsOfWords, lines_rows}
+use Rattle.report_forms.proofs.WordRows.{IsOfWords, lines_rows}
 
 -- objects' lines, and one line more
 texts_of : (f : ℕ → ReportLine) (os : List ℕ) (l : ReportLine)
