@@ -1,3 +1,3 @@
 pub mod Named
 pub mod Answering
-pub mod Formed
+pub mod FormAnswers

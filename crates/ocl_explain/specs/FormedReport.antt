@@ -15,27 +15,28 @@ use Rattle.report_forms.specs.Places.{entry_places}
 use Rattle.report_forms.specs.Findings.{Context}
 use Rattle.report_forms.specs.Forms.{form_of_answer, form_of_refusal}
 
--- the path of the delivery and its bytes, and the messages of the rules
-module _ (form : Form) (path delivery : List ℕ) (messages : List RuleMessage) where
-  -- what is known beside the report on the population that the delivery describes
-  abbrev pub context_in : Population → Context
-  context_in p = record { path = path; population = p; places = entry_places delivery; messages = messages }
+-- what is known beside the report on the population that a delivery describes: the delivery's path and its bytes, and the
+-- messages of the rules
+abbrev pub context_in : List ℕ → List ℕ → List RuleMessage → Population → Context
+context_in path delivery messages p = record { path = path; population = p; places = entry_places delivery; messages = messages }
 
-  abbrev pub formed_in : Population → Answer → Answer
-  formed_in p a = form_of_answer form (context_in p) a
+-- the form of the line of a refusal
+abbrev pub formed_refusal : Form → List ℕ → Answer → Answer
+formed_refusal form path a = (form_of_refusal form path a.0, a.1)
 
-  abbrev pub formed_refusal : Answer → Answer
-  formed_refusal a = (form_of_refusal form path a.0, a.1)
+-- that of any answer
+abbrev pub formed_in : Form → List ℕ → List ℕ → List RuleMessage → Population → Answer → Answer
+formed_in form path delivery messages p a = form_of_answer form (context_in path delivery messages p) a
 
-  -- of what the pipeline gives
-  abbrev pub formed_given : {A : Type 0} → (A → Population) → (A → Answer) → Result A Refusal → Answer
-  formed_given of f (Ok x) = formed_in (of x) (f x)
-  formed_given of f (Err r) = formed_refusal (refused r)
+-- that of what is answered of what the pipeline gives
+abbrev pub formed_given : {A : Type 0} → Form → List ℕ → List ℕ → List RuleMessage → (A → Population) → (A → Answer) → Result A Refusal → Answer
+formed_given form path delivery messages of f (Ok x) = formed_in form path delivery messages (of x) (f x)
+formed_given form path delivery messages of f (Err r) = formed_refusal form path (refused r)
 
-  -- what is due where this is why there is no other answer
-  abbrev pub IsFormDue : Stopped → Answer → Type 0
-  IsFormDue (Refused r) formed = formed_refusal (refused r) ≡ formed
-  IsFormDue OutOfMemory formed = ⊤
+-- it is due where this is why there is no other answer
+abbrev pub IsFormDue : Form → List ℕ → Stopped → Answer → Type 0
+IsFormDue form path (Refused r) formed = formed_refusal form path (refused r) ≡ formed
+IsFormDue form path OutOfMemory formed = ⊤
 
 -- the bytes of a class model and a delivery describe a population
 abbrev pub AreInputsOf : List ℕ → List ℕ → Population → Type 0
@@ -44,15 +45,10 @@ AreInputsOf model delivery p = (m : Model) × (model_of model ≡ Ok m) × (popu
 -- the form of an answer: of a refusal, or of a report on the population
 abbrev pub IsFormOf : Form → List ℕ → List RuleMessage → List ℕ → List ℕ → Answer → Answer → Type 0
 IsFormOf form path messages model delivery a formed =
-    ((a.1 ≡ 2) × (formed ≡ formed_refusal form path delivery messages a))
+    ((a.1 ≡ 2) × (formed ≡ formed_refusal form path a))
     ⊎ ((p : Population) × AreInputsOf model delivery p × (formed ≡ formed_in form path delivery messages p a))
 
--- what is printed of the bytes of the three inputs, with these messages of rules
-abbrev pub FormAnswersWith : List RuleMessage → Form → List ℕ → JudgeOptions → List ℕ → List ℕ → List ℕ → Answer → Type 0
-FormAnswersWith messages form path options model delivery rules formed =
-    (a : Answer) × JudgeAnswers options model delivery rules a × IsFormOf form path messages model delivery a formed
-
--- what may be printed: with some messages
+-- what may be printed of the bytes of the three inputs, with some messages of rules
 abbrev pub FormAnswers : Form → List ℕ → JudgeOptions → List ℕ → List ℕ → List ℕ → Answer → Type 0
 FormAnswers form path options model delivery rules formed =
-    (messages : List RuleMessage) × FormAnswersWith messages form path options model delivery rules formed
+    (messages : List RuleMessage) × (a : Answer) × JudgeAnswers options model delivery rules a × IsFormOf form path messages model delivery a formed

@@ -1,13 +1,14 @@
 //! The output of `judge` in a form, with the places, classes and messages of its findings.
 
-ghost use Rattle.std.specs.Prelude.{◌≡◌, [], Some, true, false, IfOk};
+ghost use Rattle.std.specs.Prelude.{◌≡◌, ℕ, List, [], Some, true, false, IfOk};
 ghost use Rattle.ocl_check.specs.Answers.{IsAnswered, IsAnsweredBy, IsFlushedBy, KeepsSink, fails_read, fails_write};
 ghost use Rattle.ocl_check.specs.Ending.{IsEnding};
 ghost use Rattle.ocl_check.specs.Given.{pair_answer, meant_within};
 ghost use Rattle.ocl_check.specs.Judge.{budget_answer};
-ghost use Rattle.ocl_check.specs.Reply.{Answer};
+ghost use Rattle.ocl_check.specs.Reply.{Answer, refused};
+ghost use Rattle.report_forms.specs.declared.beside.RuleMessage.{RuleMessage};
 ghost use Rattle.report_forms.specs.Forms.{form_of_report};
-ghost use Rattle.ocl_explain.specs.FormedReport.{context_in, formed_in, formed_refusal, formed_given, IsFormDue, FormAnswersWith, FormAnswers};
+ghost use Rattle.ocl_explain.specs.FormedReport.{context_in, formed_in, formed_refusal, formed_given, IsFormDue, FormAnswers};
 
 use crate::explaining::{Ending, Explaining, Listener};
 use crate::given::Given;
@@ -16,7 +17,7 @@ use explain_notes::Input;
 use imkl_population::Population;
 use ocl_check::{CommandFault, JudgeOptions, Outcome, Report, RulesForm, Sink, Telling, stop};
 use ocl_core::CoreRule;
-use ocl_pipeline::{CodeAsker, OfCode, OfText, Place, Stopped, TextAsker, ask_inputs};
+use ocl_pipeline::{CodeAsker, OfCode, OfText, Place, Refusal, Stopped, TextAsker, ask_inputs};
 use report_forms::{
     Beside, Form, RuleMessage, entry_places, form_of_refusal, form_of_report, rule_messages,
 };
@@ -29,7 +30,7 @@ struct FormedReport<'a, L> {
     budget: u64,
     form: Form,
     delivery: Input<'a>,
-    messages: &'a [RuleMessage],
+    rules: &'a [u8],
     watch: &'a Explaining<'a, L>,
 }
 
@@ -59,8 +60,8 @@ fn formed_report(
 /// Writes what was put together, with this status.
 fn write_made<S: Sink>(sink: &mut S, made: Result<Vec<u8>, AllocError>, status: u8) -> Outcome
     requires { S.has_failed sink.old ≡ false }
-    ensures { (a : Answer) → IfOk made (λ v. (v.items, status) ≡ a) →
-        IsEnding S.contents S.has_failed S.flushes S.has_pending true a sink.old result sink.new }
+    ensures { (text : List ℕ) → IfOk made (λ v. v.items ≡ text) → IsEnding S.contents
+        S.has_failed S.flushes S.has_pending true (text, status) sink.old result sink.new }
 {
     match made {
         Ok(text) => write_answer(sink, &text, status),
@@ -69,6 +70,17 @@ fn write_made<S: Sink>(sink: &mut S, made: Result<Vec<u8>, AllocError>, status: 
 }
 
 impl<L: Listener> FormedReport<'_, L> {
+    /// Writes the line of a refusal, with this status, in the form.
+    fn write_line<S: Sink>(&self, alloc: Global, text: &[u8], status: u8, sink: &mut S) -> Outcome
+        requires { S.has_failed sink.old ≡ false }
+        ensures { IsEnding S.contents S.has_failed S.flushes S.has_pending true (formed_refusal
+            self.now.form self.now.delivery.path.now (text.now, status))
+            sink.old result sink.new }
+    {
+        let made = form_of_refusal(alloc, self.form, self.delivery.path, text);
+        write_made(sink, made, status)
+    }
+
     /// Writes the line of a refusal in the form, of which these bytes were written into memory.
     fn write_refusal<S: Sink>(
         &self,
@@ -80,17 +92,35 @@ impl<L: Listener> FormedReport<'_, L> {
         requires { S.has_failed sink.old ≡ false }
         ensures { (said : Answer) → IsAnswered said (Some []) (Some text.now) stopped →
             IsEnding S.contents S.has_failed S.flushes S.has_pending true (formed_refusal
-            self.now.form self.now.delivery.path.now self.now.delivery.bytes.now
-            self.now.messages.now said) sink.old result sink.new }
+            self.now.form self.now.delivery.path.now said) sink.old result sink.new }
     {
         match stopped {
-            Outcome::Status(status) => {
-                let made = form_of_refusal(alloc, self.form, self.delivery.path, text);
-                write_made(sink, made, status)
-            }
+            Outcome::Status(status) => self.write_line(alloc, text, status, sink),
             // Memory takes all bytes that there is room for.
             Outcome::Failed(_) => Outcome::Failed(CommandFault::OutOfMemory),
         }
+    }
+
+    /// Writes a report that has this status, in the form.
+    fn write_report<S: Sink>(
+        &self,
+        alloc: Global,
+        population: &Population<'_>,
+        messages: &[RuleMessage],
+        text: &[u8],
+        status: u8,
+        sink: &mut S,
+    ) -> Outcome
+        requires { S.has_failed sink.old ≡ false }
+        ensures { IsEnding S.contents S.has_failed S.flushes S.has_pending true (
+          form_of_report
+              self.now.form (context_in self.now.delivery.path.now self.now.delivery.bytes.now
+              messages.now population.now.content) text.now,
+          status,
+        ) sink.old result sink.new }
+    {
+        let made = formed_report(alloc, self.form, self.delivery, messages, population, text);
+        write_made(sink, made, status)
     }
 
     /// Writes an answer of `judge` that has this status, in the form.
@@ -98,6 +128,7 @@ impl<L: Listener> FormedReport<'_, L> {
         &self,
         alloc: Global,
         population: &Population<'_>,
+        messages: &[RuleMessage],
         text: &[u8],
         status: u8,
         sink: &mut S,
@@ -105,20 +136,41 @@ impl<L: Listener> FormedReport<'_, L> {
         requires { S.has_failed sink.old ≡ false }
         ensures { IsEnding S.contents S.has_failed S.flushes S.has_pending true (formed_in
             self.now.form self.now.delivery.path.now self.now.delivery.bytes.now
-            self.now.messages.now population.now.content (text.now, status))
-            sink.old result sink.new }
+            messages.now population.now.content (text.now, status)) sink.old result sink.new }
     {
-        let (form, delivery) = (self.form, self.delivery);
-        let made = if status == 2 {
-            form_of_refusal(alloc, form, delivery.path, text)
-        } else {
-            formed_report(alloc, form, delivery, self.messages, population, text)
-        };
-        write_made(sink, made, status)
+        if status == 2 {
+            return self.write_line(alloc, text, status, sink);
+        }
+        self.write_report(alloc, population, messages, text, status, sink)
     }
 
     /// Writes what `judge` answered in the form, of which it wrote these bytes into memory.
     fn write_judged<S: Sink>(
+        &self,
+        alloc: Global,
+        population: &Population<'_>,
+        messages: &[RuleMessage],
+        text: &[u8],
+        judged: Outcome,
+        sink: &mut S,
+    ) -> Outcome
+        requires { S.has_failed sink.old ≡ false }
+        ensures { (said : Answer) → IsAnswered said (Some []) (Some text.now) judged →
+            IsEnding S.contents S.has_failed S.flushes S.has_pending true (formed_in
+            self.now.form self.now.delivery.path.now self.now.delivery.bytes.now
+            messages.now population.now.content said) sink.old result sink.new }
+    {
+        match judged {
+            Outcome::Status(status) => {
+                self.write_answered(alloc, population, messages, text, status, sink)
+            }
+            // Memory takes all bytes that there is room for.
+            Outcome::Failed(_) => Outcome::Failed(CommandFault::OutOfMemory),
+        }
+    }
+
+    /// The same, with the messages of the rules of a text.
+    fn write_with_messages<S: Sink>(
         &self,
         alloc: Global,
         population: &Population<'_>,
@@ -128,15 +180,39 @@ impl<L: Listener> FormedReport<'_, L> {
     ) -> Outcome
         requires { S.has_failed sink.old ≡ false }
         ensures { (said : Answer) → IsAnswered said (Some []) (Some text.now) judged →
-            IsEnding S.contents S.has_failed S.flushes S.has_pending true (formed_in
-            self.now.form self.now.delivery.path.now self.now.delivery.bytes.now
-            self.now.messages.now population.now.content said) sink.old result sink.new }
+            (messages : List RuleMessage) × IsEnding S.contents S.has_failed S.flushes
+            S.has_pending true (formed_in self.now.form self.now.delivery.path.now
+            self.now.delivery.bytes.now messages population.now.content said)
+            sink.old result sink.new }
     {
-        match judged {
-            Outcome::Status(status) => self.write_answered(alloc, population, text, status, sink),
-            // Memory takes all bytes that there is room for.
-            Outcome::Failed(_) => Outcome::Failed(CommandFault::OutOfMemory),
+        match rule_messages(alloc, self.rules) {
+            Ok(messages) => self.write_judged(alloc, population, &messages, text, judged, sink),
+            Err(_error) => Outcome::Failed(CommandFault::OutOfMemory),
         }
+    }
+
+    /// Ends where an input is refused.
+    fn end_refused<S: Sink>(
+        &self,
+        alloc: Global,
+        place: Place<'_>,
+        refusal: Refusal,
+        sink: &mut S,
+    ) -> Outcome
+        requires { S.has_failed sink.old ≡ false }
+        ensures { IsEnding S.contents S.has_failed S.flushes S.has_pending true (formed_refusal
+            self.now.form self.now.delivery.path.now (refused refusal)) sink.old result sink.new }
+    {
+        let mut memory = Telling::new(Vec::new(alloc));
+        let stopped = stop(
+            alloc,
+            self.watch,
+            place,
+            Stopped::Refused(refusal),
+            &mut memory,
+        );
+        let text = memory.into_inner();
+        self.write_refusal(alloc, &text, stopped, sink)
     }
 
     /// Ends where an input is refused, or memory ran out.
@@ -148,17 +224,14 @@ impl<L: Listener> FormedReport<'_, L> {
         sink: &mut S,
     ) -> Outcome
         requires { S.has_failed sink.old ≡ false }
-        ensures { (a : Answer) → IsFormDue self.now.form self.now.delivery.path.now
-            self.now.delivery.bytes.now self.now.messages.now why a → IsEnding S.contents
-            S.has_failed S.flushes S.has_pending true a sink.old result sink.new }
+        ensures { (a : Answer) → IsFormDue self.now.form self.now.delivery.path.now why a →
+            IsEnding S.contents S.has_failed S.flushes S.has_pending true a
+            sink.old result sink.new }
     {
-        if let Stopped::OutOfMemory = why {
-            return Outcome::Failed(CommandFault::OutOfMemory);
+        match why {
+            Stopped::Refused(refusal) => self.end_refused(alloc, place, refusal, sink),
+            Stopped::OutOfMemory => Outcome::Failed(CommandFault::OutOfMemory),
         }
-        let mut memory = Telling::new(Vec::new(alloc));
-        let stopped = stop(alloc, self.watch, place, why, &mut memory);
-        let text = memory.into_inner();
-        self.write_refusal(alloc, &text, stopped, sink)
     }
 }
 
@@ -168,8 +241,8 @@ impl<S: Sink, L: Listener> CodeAsker<S> for FormedReport<'_, L> {
     ghost can_ask = { λ s. S.has_failed s ≡ false };
 
     ghost answers = { λ f given old o new. IsEnding S.contents S.has_failed S.flushes S.has_pending
-        true (formed_given f.form f.delivery.path.now f.delivery.bytes.now f.messages.now
-        (λ x. x.0) (pair_answer (budget_answer f.budget)) given) old o new };
+        true (formed_given f.form f.delivery.path.now f.delivery.bytes.now [] (λ x. x.0)
+        (pair_answer (budget_answer f.budget)) given) old o new };
 
     fn ask(
         &self,
@@ -185,7 +258,7 @@ impl<S: Sink, L: Listener> CodeAsker<S> for FormedReport<'_, L> {
         let mut memory = Telling::new(Vec::new(alloc));
         let judged = CodeAsker::ask(&report, alloc, population, accepted, &mut memory);
         let text = memory.into_inner();
-        self.write_judged(alloc, population, &text, judged, sink)
+        self.write_judged(alloc, population, &[], &text, judged, sink)
     }
 
     fn stop(&self, alloc: Global, place: Place<'_>, why: Stopped, sink: &mut S) -> Outcome {
@@ -198,9 +271,9 @@ impl<S: Sink, L: Listener> TextAsker<S> for FormedReport<'_, L> {
 
     ghost can_ask = { λ s. S.has_failed s ≡ false };
 
-    ghost answers = { λ f given old o new. IsEnding S.contents S.has_failed S.flushes S.has_pending
-        true (formed_given f.form f.delivery.path.now f.delivery.bytes.now f.messages.now
-        (λ x. x.0) (meant_within f.budget) given) old o new };
+    ghost answers = { λ f given old o new. (messages : List RuleMessage) × IsEnding S.contents
+        S.has_failed S.flushes S.has_pending true (formed_given f.form f.delivery.path.now
+        f.delivery.bytes.now messages (λ x. x.0) (meant_within f.budget) given) old o new };
 
     fn ask(
         &self,
@@ -217,7 +290,7 @@ impl<S: Sink, L: Listener> TextAsker<S> for FormedReport<'_, L> {
         let mut memory = Telling::new(Vec::new(alloc));
         let judged = TextAsker::ask(&report, alloc, population, rules, accepted, &mut memory);
         let text = memory.into_inner();
-        self.write_judged(alloc, population, &text, judged, sink)
+        self.write_with_messages(alloc, population, &text, judged, sink)
     }
 
     fn stop(&self, alloc: Global, place: Place<'_>, why: Stopped, sink: &mut S) -> Outcome {
@@ -238,64 +311,6 @@ pub struct FormAsked<'a> {
     pub options: JudgeOptions,
     /// The form of the report.
     pub form: Form,
-}
-
-/// Asks for the report in a form, with messages.
-fn ask_form<'a, S: Sink, L: Listener>(
-    alloc: Global,
-    asked: FormAsked<'a>,
-    messages: &[RuleMessage],
-    watch: &Explaining<'a, L>,
-    sink: &mut S,
-) -> Outcome
-    requires { S.has_failed sink.old ≡ false }
-    ensures { (a : Answer) × FormAnswersWith messages.now asked.entry.form asked.entry.delivery.path.now
-        asked.entry.options asked.entry.model.bytes.now asked.entry.delivery.bytes.now
-        asked.entry.rules.bytes.now a × IsEnding S.contents S.has_failed S.flushes S.has_pending
-        true a sink.old result sink.new }
-{
-    let FormAsked {
-        model,
-        delivery,
-        rules,
-        options,
-        form,
-    } = asked;
-    let asker = &FormedReport {
-        budget: options.budget,
-        form,
-        delivery,
-        messages,
-        watch,
-    };
-    match options.form {
-        RulesForm::Code => {
-            let asker = OfCode {
-                asker,
-                code: rules.bytes,
-            };
-            ask_inputs(alloc, &asker, model.bytes, delivery.bytes, sink)
-        }
-        RulesForm::Text => {
-            let asker = OfText {
-                asker,
-                text: rules.bytes,
-            };
-            ask_inputs(alloc, &asker, model.bytes, delivery.bytes, sink)
-        }
-    }
-}
-
-/// The messages of rules in this form; code has none.
-fn messages_of(
-    alloc: Global,
-    form: RulesForm,
-    rules: &[u8],
-) -> Result<Vec<RuleMessage>, AllocError> {
-    match form {
-        RulesForm::Code => Ok(Vec::new(alloc)),
-        RulesForm::Text => rule_messages(alloc, rules),
-    }
 }
 
 /// Judges a delivery by rules as `run_judge` does, and writes the report, or what is refused, in a form, with the same status.
@@ -327,9 +342,39 @@ pub fn answer_judge_form<'a, S: Sink, L: Listener>(
         options: asked.options,
     };
     let watch = Explaining::new(given, listener);
-    let outcome = match messages_of(alloc, asked.options.form, asked.rules.bytes) {
-        Ok(messages) => ask_form(alloc, asked, &messages, &watch, sink),
-        Err(AllocError) => Outcome::Failed(CommandFault::OutOfMemory),
-    };
+    let outcome = ask_form(alloc, asked, &watch, sink);
     watch.ending(alloc, outcome)
+}
+
+/// Asks for the report in a form.
+fn ask_form<S: Sink, L: Listener>(
+    alloc: Global,
+    asked: FormAsked<'_>,
+    watch: &Explaining<'_, L>,
+    sink: &mut S,
+) -> Outcome
+    requires { S.has_failed sink.old ≡ false }
+    ensures { (a : Answer) × FormAnswers asked.entry.form asked.entry.delivery.path.now
+        asked.entry.options asked.entry.model.bytes.now asked.entry.delivery.bytes.now
+        asked.entry.rules.bytes.now a × IsEnding S.contents S.has_failed S.flushes S.has_pending
+        true a sink.old result sink.new }
+{
+    let (model, delivery, rules) = (asked.model.bytes, asked.delivery, asked.rules.bytes);
+    let asker = &FormedReport {
+        budget: asked.options.budget,
+        form: asked.form,
+        delivery,
+        rules,
+        watch,
+    };
+    match asked.options.form {
+        RulesForm::Code => {
+            let asker = OfCode { asker, code: rules };
+            ask_inputs(alloc, &asker, model, delivery.bytes, sink)
+        }
+        RulesForm::Text => {
+            let asker = OfText { asker, text: rules };
+            ask_inputs(alloc, &asker, model, delivery.bytes, sink)
+        }
+    }
 }

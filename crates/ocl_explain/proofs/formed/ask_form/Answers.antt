@@ -1,8 +1,9 @@
+use Rattle.std.proofs.Common.{[]}
 use Rattle.ocl_check.specs.Given.{pair_answer, meant_within}
 use Rattle.ocl_check.specs.Judge.{budget_answer, judge_answer}
 use Rattle.ocl_check.specs.JudgeText.{judge_text_answer}
 use Rattle.ocl_check.proofs.ForAbove.{code_is_answered, text_is_answered, judged_code, judged_text}
-use Rattle.ocl_explain.proofs.Formed.{code_form, text_form}
+use Rattle.ocl_explain.proofs.FormAnswers.{code_form, text_form}
 use Rattle.ocl_explain.proofs.formed.ask_form.Goals as goal
 
 pub returns-in-Code : goal.returns-in-Code
@@ -15,7 +16,7 @@ returns-in-Code g c =
     let answer = judge_answer budget model delivery code in
     let same = code_is_answered (budget_answer budget) model delivery code in (
       _,
-      (answer, judged_code asked.options.form budget model delivery code c.in-Code.is, code_form asked.form asked.delivery.path.now c.args.messages.now model delivery (pair_answer (budget_answer budget)) code answer same),
+      ([], answer, judged_code asked.options.form budget model delivery code c.in-Code.is, code_form asked.form asked.delivery.path.now [] model delivery (pair_answer (budget_answer budget)) code answer same),
       c.ask_inputs.ensures,
     )
 
@@ -29,6 +30,6 @@ returns-in-Text g c =
     let answer = judge_text_answer budget model delivery h.0 in
     let same = text_is_answered budget h.0 model delivery in (
       _,
-      (answer, judged_text asked.options.form budget model delivery asked.rules.bytes.now h.0 c.in-Text.is h.1, text_form asked.form asked.delivery.path.now c.args.messages.now model delivery (meant_within budget) h.0 answer same),
-      h.2,
+      (h.2.0, answer, judged_text asked.options.form budget model delivery asked.rules.bytes.now h.0 c.in-Text.is h.1, text_form asked.form asked.delivery.path.now h.2.0 model delivery (meant_within budget) h.0 answer same),
+      h.2.1,
     )

@@ -1,12 +1,13 @@
+use Rattle.std.proofs.Common.{[]}
 use Rattle.ocl_check.specs.Given.{pair_answer}
 use Rattle.ocl_check.specs.Judge.{budget_answer}
 use Rattle.ocl_explain.specs.FormedReport.{formed_given}
-use Rattle.ocl_explain.proofs.Formed.{form_due}
+use Rattle.ocl_explain.proofs.FormAnswers.{form_due}
 use Rattle.ocl_explain.proofs.formed.FormedReportCodeAsker.stop.Goals as goal
 
 pub returns : goal.returns
 returns g c = λ given fails.
     let f = c.args.self.now in
     let answer = pair_answer (budget_answer f.budget) in
-    c.end_stopped.ensures (formed_given f.form f.delivery.path.now f.delivery.bytes.now f.messages.now (λ x. x.0) answer given)
-    (form_due f.form f.delivery.path.now f.delivery.bytes.now f.messages.now c.args.why given (λ x. x.0) answer fails)
+    c.end_stopped.ensures (formed_given f.form f.delivery.path.now f.delivery.bytes.now [] (λ x. x.0) answer given)
+    (form_due f.form f.delivery.path.now f.delivery.bytes.now [] c.args.why given (λ x. x.0) answer fails)

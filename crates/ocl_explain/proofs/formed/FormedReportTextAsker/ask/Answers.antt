@@ -8,4 +8,4 @@ returns g c = λ t compiled are typed same.
     let said = meant_within c.args.self.now.budget (p, compiled) in
     let h = c.ask-judged.ensures t compiled are typed same in
     let text = c.into_inner-text.ensures in
-    c.write_judged.ensures said (let judged = h.answered in search rules)
+    c.write_with_messages.ensures said (let judged = h.answered in search rules)

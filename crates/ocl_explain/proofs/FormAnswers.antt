@@ -21,7 +21,7 @@ use Rattle.ocl_explain.specs.FormedReport.{formed_in, formed_refusal, formed_giv
 
 -- where this is why the pipeline stopped, the form of its line is due
 pub form_due : {A : Type 0} (form : Form) (path delivery : List ℕ) (messages : List RuleMessage) (why : Stopped) (given : Result A Refusal) (of : A → Population) (f : A → Answer)
-    → Fails stopped why given → IsFormDue form path delivery messages why (formed_given form path delivery messages of f given)
+    → Fails stopped why given → IsFormDue form path why (formed_given form path delivery messages of f given)
 form_due form path delivery messages (Refused r) given of f h = sym (ap (formed_given form path delivery messages of f) h)
 form_due form path delivery messages OutOfMemory given of f h = tt
 
