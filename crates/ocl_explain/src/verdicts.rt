@@ -2,6 +2,7 @@
 
 ghost use Rattle.std.specs.Prelude.{◌≡◌, ◌<◌, length, map, IfOk};
 ghost use Rattle.std.specs.List.{AllByRecursion};
+ghost use Rattle.imkl_population.specs.Population.{object_number};
 ghost use Rattle.ocl_core.specs.CoreView.{checked_rule_of};
 ghost use Rattle.ocl_core.specs.Typing.{IsTypedRule};
 ghost use Rattle.ocl_explain.specs.Explained.{found_text};
