@@ -29,7 +29,14 @@ _{program}() {{
     done
     COMPREPLY=()
     # (the value of an option is none of the words)
-    if ((at > COMP_CWORD)); then return; fi
+    if ((at > COMP_CWORD)); then
+        at=${{COMP_WORDS[COMP_CWORD - 1]}}
+        if [ "$at" = = ]; then at=${{COMP_WORDS[COMP_CWORD - 2]}}; fi
+        case $at in
+{values}
+        esac
+        return
+    fi
     if [[ $word == -* ]]; then
         mapfile -t COMPREPLY < <(compgen -W "$options --help" -- "$word")
         return
@@ -122,13 +129,24 @@ def valued(sources):
     return sorted({it.split()[0] for _, _, options, _ in commands(sources) for it, _ in options if " " in it})
 
 
+def values(sources):
+    """The values that an option may have, of those that have a closed list of them."""
+    lists = dict(re.findall(r"const (\w+): \[&str; \d+\] = \[([^\]]*)\];", sources))
+    found = re.findall(r'long\("([\w-]+)"\)[^;]*?value_parser\((\w+)\.as_slice\(\)\)', re.sub(r"(?s)\n}", ";", sources))
+    return {f"--{option}": re.findall(r'"([^"]+)"', lists[name]) for option, name in found}
+
+
 def bash(program, sources):
     cases = []
     for name, _, options, arguments in commands(sources):
         listed = " ".join(it.split()[0] for it, _ in options)
         cases.append(f'        {name}) options="{listed}" kinds=({" ".join(kind(*it) for it in arguments)}) ;;')
     names = " ".join(it for it, *_ in commands(sources))
-    return BASH.format(program=program, commands=names, cases="\n".join(cases), valued="|".join(valued(sources)))
+    offers = [
+        f'            {option}) mapfile -t COMPREPLY < <(compgen -W "{" ".join(words)}" -- "$word") ;;'
+        for option, words in values(sources).items()
+    ] or ["            *) ;;"]
+    return BASH.format(program=program, commands=names, cases="\n".join(cases), valued="|".join(valued(sources)), values="\n".join(offers))
 
 
 def in_quotes(text):
@@ -141,13 +159,14 @@ def escaped(text, characters):
     return re.sub(f"([{re.escape(characters)}])", r"\\\1", text)
 
 
-def zsh_words(options, arguments):
+def zsh_words(options, arguments, offers):
     """What `_arguments` is told of a command."""
     completers = {"json": '_files -g "*.json(-.)"', "file": "_files", "word": " "}
     yield in_quotes("--help[Prints help]")
     for written, meaning in options:
         option, _, value = written.partition(" ")
-        yield in_quotes(f"{option}[{escaped(meaning, '[]:')}]" + (f":{value}: " if value else ""))
+        words = f"({' '.join(offers[option])})" if option in offers else " "
+        yield in_quotes(f"{option}[{escaped(meaning, '[]:')}]" + (f":{value}:{words}" if value else ""))
     for place, (name, meaning) in enumerate(arguments, 1):
         said = escaped(f"{name}, {meaning[0].lower()}{meaning[1:]}", ":")
         yield in_quotes(f"{place}:{said}:{completers[kind(name, meaning)]}")
@@ -157,7 +176,7 @@ def zsh(program, sources):
     names = [f"{' ' * 16}{in_quotes(f'{name}:{about}')}" for name, about, _, _ in commands(sources)]
     cases = []
     for name, _, options, arguments in commands(sources):
-        words = " \\\n".join(" " * 24 + it for it in zsh_words(options, arguments))
+        words = " \\\n".join(" " * 24 + it for it in zsh_words(options, arguments, values(sources)))
         cases.append(f"                {name})\n                    _arguments \\\n{words}\n                    ;;")
     return ZSH.format(program=program, commands="\n".join(names), cases="\n".join(cases))
 
@@ -171,6 +190,8 @@ def fish(program, sources):
         for written, meaning in options:
             option, _, value = written.partition(" ")
             shape = f"-l {option.removeprefix('--')}" + (" -x" if value else "")
+            if option in values(sources):
+                shape += f" -a '{' '.join(values(sources)[option])}'"
             lines.append(f"complete -c {program} -n '__fish_seen_subcommand_from {name}' {shape} -d {quoted(meaning)}")
         for place, it in enumerate(arguments):
             if kind(*it) != "word":

@@ -29,7 +29,14 @@ _ocl_explain() {
     done
     COMPREPLY=()
     # (the value of an option is none of the words)
-    if ((at > COMP_CWORD)); then return; fi
+    if ((at > COMP_CWORD)); then
+        at=${COMP_WORDS[COMP_CWORD - 1]}
+        if [ "$at" = = ]; then at=${COMP_WORDS[COMP_CWORD - 2]}; fi
+        case $at in
+            --format) mapfile -t COMPREPLY < <(compgen -W "text json github junit sarif html" -- "$word") ;;
+        esac
+        return
+    fi
     if [[ $word == -* ]]; then
         mapfile -t COMPREPLY < <(compgen -W "$options --help" -- "$word")
         return

@@ -26,7 +26,7 @@ complete -c ocl_explain -n __fish_use_subcommand -l version -d 'Prints the versi
 complete -c ocl_explain -n __fish_use_subcommand -a judge -d 'Judges a delivery by rules, and prints the report'
 complete -c ocl_explain -n '__fish_seen_subcommand_from judge' -l text -d 'RULES is a rule text; without this option it is a code file'
 complete -c ocl_explain -n '__fish_seen_subcommand_from judge' -l budget -x -d 'The most that a rule may be charged for an object; 2^63-1 where not given'
-complete -c ocl_explain -n '__fish_seen_subcommand_from judge' -l format -x -d 'Prints each finding with its place, class and message'
+complete -c ocl_explain -n '__fish_seen_subcommand_from judge' -l format -x -a 'text json github junit sarif html' -d 'Prints each finding with its place, class and message'
 complete -c ocl_explain -n '__fish_seen_subcommand_from judge' -l json -d 'The same as --format json: an object in each line'
 complete -c ocl_explain -n '__fish_seen_subcommand_from judge' -l rule -x -d 'With --text: judges by the rules of these names, which commas separate'
 complete -c ocl_explain -n '__fish_seen_subcommand_from judge' -l why -d 'Prints below each finding the parts of the rule with their values; with --text'
