@@ -5,6 +5,8 @@ import manual
 
 # what isn't a file, of the arguments of commands
 WORDS = {"RULE", "ID", "NAME", "EXPR"}
+# values of options that are files
+FILES = {"RULES"}
 
 BASH = """# completion of {program} for bash
 _{program}() {{
@@ -132,8 +134,13 @@ def valued(sources):
 def values(sources):
     """The values that an option may have, of those that have a closed list of them."""
     lists = dict(re.findall(r"const (\w+): \[&str; \d+\] = \[([^\]]*)\];", sources))
-    found = re.findall(r'long\("([\w-]+)"\)[^;]*?value_parser\((\w+)\.as_slice\(\)\)', re.sub(r"(?s)\n}", ";", sources))
+    found = re.findall(r'long\("([\w-]+)"\)(?:(?!long\()[^;])*?value_parser\((\w+)\.as_slice\(\)\)', re.sub(r"(?s)\n}", ";", sources))
     return {f"--{option}": re.findall(r'"([^"]+)"', lists[name]) for option, name in found}
+
+
+def file_options(sources):
+    """The options whose value is a file."""
+    return sorted({it.split()[0] for _, _, options, _ in commands(sources) for it, _ in options if it.partition(" ")[2] in FILES})
 
 
 def bash(program, sources):
@@ -145,7 +152,9 @@ def bash(program, sources):
     offers = [
         f'            {option}) mapfile -t COMPREPLY < <(compgen -W "{" ".join(words)}" -- "$word") ;;'
         for option, words in values(sources).items()
-    ] or ["            *) ;;"]
+    ]
+    offers += [f'            {it}) mapfile -t COMPREPLY < <(compgen -f -- "$word") ;;' for it in file_options(sources)]
+    offers = offers or ["            *) ;;"]
     return BASH.format(program=program, commands=names, cases="\n".join(cases), valued="|".join(valued(sources)), values="\n".join(offers))
 
 
@@ -165,8 +174,9 @@ def zsh_words(options, arguments, offers):
     yield in_quotes("--help[Prints help]")
     for written, meaning in options:
         option, _, value = written.partition(" ")
-        words = f"({' '.join(offers[option])})" if option in offers else " "
-        yield in_quotes(f"{option}[{escaped(meaning, '[]:')}]" + (f":{value}:{words}" if value else ""))
+        words = f"({' '.join(offers[option])})" if option in offers else completers["file" if value in FILES else "word"]
+        many = "*" if meaning.endswith("may be repeated") else ""
+        yield in_quotes(f"{many}{option}[{escaped(meaning, '[]:')}]" + (f":{value}:{words}" if value else ""))
     for place, (name, meaning) in enumerate(arguments, 1):
         said = escaped(f"{name}, {meaning[0].lower()}{meaning[1:]}", ":")
         yield in_quotes(f"{place}:{said}:{completers[kind(name, meaning)]}")
@@ -189,7 +199,7 @@ def fish(program, sources):
         lines += ["", f"complete -c {program} -n __fish_use_subcommand -a {name} -d {quoted(about)}"]
         for written, meaning in options:
             option, _, value = written.partition(" ")
-            shape = f"-l {option.removeprefix('--')}" + (" -x" if value else "")
+            shape = f"-l {option.removeprefix('--')}" + (" -r -F" if value in FILES else " -x" if value else "")
             if option in values(sources):
                 shape += f" -a '{' '.join(values(sources)[option])}'"
             lines.append(f"complete -c {program} -n '__fish_seen_subcommand_from {name}' {shape} -d {quoted(meaning)}")

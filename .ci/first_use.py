@@ -237,7 +237,9 @@ def try_it(program, words):
     print(f"{program}: this run is not of the proved program: nothing is proved of it", file=sys.stderr, flush=True)
     given, data = [], []
     for number, word in enumerate(words):
-        if os.path.isfile(word):
+        if number == 0:  # the command: a folder may have its name
+            pass
+        elif os.path.isfile(word):
             name = word if not os.path.isabs(word) and ".." not in word.split("/") else f"{number}-{os.path.basename(word)}"
             data += ["--data", f"{os.path.normpath(name)}={os.path.abspath(word)}"]
             word = os.path.normpath(name)

@@ -265,12 +265,12 @@ def readmes():
 
 
 def sources_of_programs():
-    """The texts of the command line of each program that has one, by its name."""
+    """The texts of the command line of each program that has one, by its name; those of a command of its own file `X_words.rt` too."""
     shared = [CRATES_FOLDER / "ocl_programs/src" / it for it in ("help.rt", "commands.rt")]
-    owns = {it.removesuffix("_main"): CRATES_FOLDER / it / "src/command_line.rt" for it in CRATES}
+    owns = {it.removesuffix("_main"): CRATES_FOLDER / it / "src" for it in CRATES}
     return {
-        program: "\n".join(it.read_text(encoding="utf-8") for it in [*shared, own])
-        for program, own in owns.items() if own.is_file()
+        program: "\n".join(it.read_text(encoding="utf-8") for it in [*shared, *sorted(own.glob("*_words.rt")), own / "command_line.rt"])
+        for program, own in owns.items() if (own / "command_line.rt").is_file()
     }
 
 

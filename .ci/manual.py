@@ -26,7 +26,7 @@ def arguments(body, shared):
 
 def optional_arguments(body):
     """The arguments of a command that may be left out, each with what it is."""
-    return re.findall(r'Arg::new\(alloc, "(\w+)"\) ?\.help\("([^"]+)"\)', re.sub(r"\s+", " ", body))
+    return re.findall(r'Arg::new\(alloc, "(\w+)"\)(?: ?\.allow_\w+\(true\))* ?\.help\("([^"]+)"\)', re.sub(r"\s+", " ", body))
 
 
 def options(body, functions):
@@ -38,7 +38,7 @@ def options(body, functions):
         written = "--" + re.search(r'long\("([\w-]+)"\)', option)[1] + (f" {value[1]}" if value else "")
         found.append((written, re.search(r'\.help\("([^"]+)"\)', option)[1]))
     flat = re.sub(r"\s+", " ", body)
-    for name, more, meaning in re.findall(r'Arg::new\(alloc, "\w+"\) ?\.long\("([\w-]+)"\)((?: ?\.\w+\((?!")[^)]*\)+| ?\.value_name\("\w+"\))*) ?\.help\("([^"]+)"\)', flat):
+    for name, more, meaning in re.findall(r'Arg::new\(alloc, "[\w-]+"\) ?\.long\("([\w-]+)"\)((?: ?\.\w+\((?!")[^)]*\)+| ?\.value_name\("\w+"\))*) ?\.help\("([^"]+)"\)', flat):
         value = re.search(r'value_name\("(\w+)"\)', more)
         found.append((f"--{name}" + (f" {value[1]}" if value else ""), meaning))
     return found

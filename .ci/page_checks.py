@@ -1,5 +1,5 @@
 """Checks of the pages by reading them: links, the README's length, the cells of tables, blocks, the names in the table of
-promises, and that rows try what a page's tables claim."""
+promises and its page's excerpts, and that rows try what a page's tables claim."""
 import re
 
 from generated import ROOT, slug
@@ -140,6 +140,22 @@ def promise_faults(text):
                 yield number, f"`{name}` is in none of the files named"
 
 
+def is_excerpt(shown, source):
+    """Whether the lines are some of a source's, where a line `...` stands for any number of lines."""
+    pattern = "".join(r"(?:.*\n)*?" if it == "..." else re.escape(it) + "\n" for it in shown)
+    return re.search("(?m)^" + pattern, source) is not None
+
+
+def excerpt_faults(text):
+    """Blocks that aren't excerpts of the definitions that the first link of the lines right above them names."""
+    lines = text.splitlines()
+    for number, info, shown in blocks(text):
+        above = "\n".join(lines[: number - 1]).rstrip().rsplit("\n\n", 1)[-1]
+        path = re.search(r"\]\(([^)\s#]+\.antt)\)", above)
+        if info == ["text"] and not (path and is_excerpt(shown, (PROMISES.parent / path[1]).read_text(encoding="utf-8"))):
+            yield number, "a block that is no excerpt of the definitions linked above it"
+
+
 def page_faults(path):
     text = path.read_text(encoding="utf-8")
     yield from link_faults(path, text)
@@ -151,6 +167,7 @@ def page_faults(path):
         yield from untried_faults(text, TRIED[path])
     if path == PROMISES:
         yield from promise_faults(text)
+        yield from excerpt_faults(text)
     if path == ROOT / "README.md" and len(text.splitlines()) > MOST_LINES:
         yield len(text.splitlines()), f"{len(text.splitlines())} lines; {MOST_LINES} at most"
 

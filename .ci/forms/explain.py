@@ -10,7 +10,7 @@ import case
 import commands
 import inputs
 from assembly import file_of_rule
-from notation import lines_of, parts_of
+from notation import lines_of, parts_of, written_out
 
 FOLDER = answers.ROOT / "tests/explain"
 JUDGED = ["model.json", "delivery.json", "rules.ocl"]
@@ -176,6 +176,24 @@ def why_not(room, shows, object, line, rules):
     return case.Case(asked(room, "duct-600-and-none.delivery.json", object, rules), wanted, found)
 
 
+def evaluated(room, object, expression):
+    """The words of `eval` for an expression in the delivery of examples/network.json; `self` is an object, or none for `-`."""
+    names = [inputs.put(room, "model.json", "catalogue.json"), inputs.put(room, "delivery.json", "network.json")]
+    return ["ocl_explain", "eval", *names, written_out(expression), *([object] if object != "-" else [])]
+
+
+def value(room, shows, object, wanted, expression):
+    """The value of an expression, and its type."""
+    found = lambda answer: (answer.status, answer.out.decode(), answer.err.decode())
+    return case.Case(evaluated(room, object, expression), (0, wanted + "\n", ""), found)
+
+
+def no_value(room, shows, object, expression):
+    """Why an expression has no value."""
+    found = lambda answer: (answer.status, answer.out.decode(), answer.err.decode())
+    return case.Case(evaluated(room, object, expression), (2, "", words_of("evals.said", shows)), found)
+
+
 def json_report(room, shows, delivery, status, lines, rules):
     """What `judge --json` prints for a text."""
     words = judge(room, ["--text", "--json"], "catalogue.json", delivery, rules)
@@ -228,6 +246,8 @@ FORMS = {
     "listing": listing,
     "schema": schema,
     "no schema": no_schema,
+    "value": value,
+    "no value": no_value,
     "why": why,
     "why in few lines": why_cut,
     "why of many elements": why_many,

@@ -1,7 +1,7 @@
 //! What a script asks of a desk.
 
 /// A call of a desk. Jobs are named by their numbers.
-#[derive(Clone, Copy, PartialEq, Eq, Debug)]
+#[derive(Clone, Copy)]
 pub enum Call {
     /// A new job enters.
     Enter,

@@ -21,7 +21,7 @@ use rule_verify::Accepted;
 use std::alloc::Global;
 
 /// An object that breaks a rule.
-#[derive(Clone, Copy, Debug, PartialEq, Eq)]
+#[derive(Clone, Copy)]
 pub struct Broken {
     /// The rule's index in the code file, from 0.
     pub rule: usize,

@@ -4,9 +4,10 @@ use crate::entries::{Entry, entries_of, offsets_of};
 use crate::holders::Holders;
 use crate::json_notes::explain_json;
 use crate::objects::{Document, look_at_object};
-use crate::places::{document_offset, member_offset};
+use crate::places::{located_document, located_member};
 use crate::report::Report;
 use crate::shapes::delivery_shape;
+use explain_faults::Faults;
 use explain_notes::{Input, quote};
 use imkl_delivery::DeliveryFault;
 use imkl_model::ClassModel;
@@ -74,10 +75,10 @@ fn look_at_entries(
     look_with_ids(alloc, report, model, entries, &ids)
 }
 
-/// Writes all faults of the objects of a delivery, and how many they are; the fault that is known where none is found.
+/// Adds all faults of the objects of a delivery, and writes how many they are; the fault that is known where none is found.
 fn explain_objects(
     alloc: Global,
-    out: &mut String,
+    out: &mut Faults,
     input: Input<'_>,
     model: &ClassModel,
     document: &Value,
@@ -87,13 +88,13 @@ fn explain_objects(
     let entries = entries_of(alloc, document)?;
     look_at_entries(alloc, &mut report, model, &entries)?;
     let known = format!(in alloc; "{fault}")?;
-    report.write(out, known.as_str())
+    report.end(alloc, out, known.as_str())
 }
 
-/// Writes that a delivery is for another class model.
+/// Adds that a delivery is for another class model.
 fn explain_other_model(
     alloc: Global,
-    out: &mut String,
+    out: &mut Faults,
     input: Input<'_>,
     model: &ClassModel,
     document: &Value,
@@ -106,18 +107,21 @@ fn explain_other_model(
     let message = format!(in alloc;
         "this delivery is for the class model `{given}`, and not for `{wanted}`"
     )?;
-    let begin = document_offset(input.bytes);
-    let offset = member_offset(alloc, input.bytes, begin, "model")?.unwrap_or(begin);
+    let whole = located_document(alloc, input.bytes)?;
+    let at = match located_member(alloc, input.bytes, &whole, "model")? {
+        Some(member) => member,
+        None => whole,
+    };
     let mut report = Report::new(alloc, input);
-    report.tell(offset, message.as_str(), "delivery 3")?;
-    report.write(out, "")
+    report.tell(alloc, at, message.as_str(), "delivery 3")?;
+    report.end(alloc, out, "")
 }
 
-/// Writes why a delivery is refused that has this fault: all faults of its objects, at most 100, unless it is no JSON, has
+/// Says why a delivery is refused that has this fault: all faults of its objects, at most 100, unless it is no JSON, has
 /// another shape, or is for another class model.
 pub fn explain_delivery(
     alloc: Global,
-    out: &mut String,
+    out: &mut Faults,
     input: Input<'_>,
     model: &ClassModel,
     fault: &DeliveryFault,

@@ -1,5 +1,6 @@
 //! Why bytes are no JSON, and where.
 
+use explain_faults::Faults;
 use explain_notes::{Input, Note, first_character};
 use serde_json::{Category, Error, Value};
 use std::alloc::{AllocError, Global};
@@ -31,10 +32,10 @@ fn offset_of_error(bytes: &[u8], error: &Error) -> usize {
     }
 }
 
-/// Writes why bytes are no JSON, if they aren't.
+/// Says why bytes are no JSON, if they aren't.
 pub(crate) fn explain_json<'n>(
     alloc: Global,
-    out: &mut String,
+    out: &mut Faults,
     input: Input<'n>,
     fault: &'n str,
 ) -> Result<(), AllocError> {
@@ -65,5 +66,5 @@ pub(crate) fn explain_json<'n>(
         label,
         help,
     };
-    note.write(alloc, out)
+    out.add_note(alloc, &note)
 }

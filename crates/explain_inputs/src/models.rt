@@ -4,32 +4,33 @@ use crate::json_notes::explain_json;
 use crate::model_faults::look_for_fault;
 use crate::shapes::model_shape;
 use crate::stop::Stop;
+use explain_faults::{Fault, Faults};
 use explain_notes::Input;
 use imkl_model::ModelFault;
 use serde_json::Value;
 use std::alloc::{AllocError, Global};
 
-/// Writes what is wrong with a class model that has the shape of one.
+/// Says what is wrong with a class model that has the shape of one.
 fn explain_content(
     alloc: Global,
-    out: &mut String,
+    out: &mut Faults,
     input: Input<'_>,
     document: &Value,
     fault: ModelFault,
 ) -> Result<(), AllocError> {
-    let path = input.path;
     let number = fault.number();
-    match look_for_fault(alloc, document, fault) {
-        Err(Stop::Flaw(words)) => writeln!(out, "{path}: {words} (model {number})"),
-        Err(Stop::OutOfMemory) => Err(AllocError),
-        Ok(()) => writeln!(out, "{path}: {fault} (model {number})"),
-    }
+    let text = match look_for_fault(alloc, document, fault) {
+        Err(Stop::Flaw(words)) => format!(in alloc; "{words} (model {number})")?,
+        Err(Stop::OutOfMemory) => return Err(AllocError),
+        Ok(()) => format!(in alloc; "{fault} (model {number})")?,
+    };
+    out.add(Fault::of_whole(alloc, input.path, text)?)
 }
 
-/// Writes why a class model is refused that has this fault.
+/// Says why a class model is refused that has this fault.
 pub fn explain_model(
     alloc: Global,
-    out: &mut String,
+    out: &mut Faults,
     input: Input<'_>,
     fault: ModelFault,
 ) -> Result<(), AllocError> {

@@ -1,6 +1,8 @@
-//! Places of values in a JSON text, in bytes from 0.
+//! Places of values in a JSON text, in bytes from 0, and the pointers to them.
 
 use crate::walk::Walk;
+use explain_faults::{ROOT, element_pointer, member_pointer};
+use serde_json::{Category, Value};
 use std::alloc::{AllocError, Global};
 
 /// Whether a byte is a space between values.
@@ -93,4 +95,122 @@ pub(crate) fn list_offset(
 /// Where a document's value begins.
 pub(crate) fn document_offset(bytes: &[u8]) -> usize {
     bytes.iter().position(|byte| !is_space(*byte)).unwrap_or(0)
+}
+
+/// Where a value begins, and the pointer to it, if it has one.
+#[derive(Drop)]
+pub(crate) struct Located {
+    pub(crate) offset: usize,
+    pub(crate) pointer: Option<String>,
+}
+
+impl Located {
+    /// The same value.
+    pub(crate) fn copied(&self) -> Result<Located, AllocError> {
+        let pointer = match &self.pointer {
+            Some(pointer) => Some(pointer.clone()?),
+            None => None,
+        };
+        let offset = self.offset;
+        Ok(Located { offset, pointer })
+    }
+}
+
+/// A document's own value.
+pub(crate) fn located_document(alloc: Global, bytes: &[u8]) -> Result<Located, AllocError> {
+    Ok(Located {
+        offset: document_offset(bytes),
+        pointer: Some(String::from_str(alloc, ROOT)?),
+    })
+}
+
+/// Whether this is a member's name, which may be written with escapes. It is written between two offsets, with what may stand
+/// behind it.
+fn is_name_between(
+    alloc: Global,
+    bytes: &[u8],
+    begin: usize,
+    end: usize,
+    name: &str,
+) -> Result<bool, AllocError> {
+    let written = bytes.get(begin..end).unwrap_or(&[]);
+    if !written.iter().any(|byte| *byte == b'\\') {
+        return Ok(is_name_at(bytes, begin, name));
+    }
+    let quote = written.iter().rposition(|byte| *byte == b'"').unwrap_or(0);
+    let string = written.get(..quote.saturating_add(1)).unwrap_or(written);
+    match Value::from_slice(alloc, string) {
+        Ok(value) => Ok(value.as_str() == Some(name)),
+        Err(error) => match error.classify() {
+            Category::Memory => Err(AllocError),
+            _ => Ok(false),
+        },
+    }
+}
+
+/// Whether the value at an offset is that of the last member of a name, however the name is written.
+fn is_last_member(
+    alloc: Global,
+    bytes: &[u8],
+    object: usize,
+    name: &str,
+    value: usize,
+) -> Result<bool, AllocError> {
+    let mut last = None;
+    let mut before = object;
+    for (index, begin) in begins_in(alloc, bytes, object)?.iter().enumerate() {
+        if index % 2 == 1 && is_name_between(alloc, bytes, before, *begin, name)? {
+            last = Some(*begin);
+        }
+        before = *begin;
+    }
+    Ok(last == Some(value))
+}
+
+/// The pointer to a member of an object, whose value begins at an offset. None where the object has none, and where the member
+/// is written once more, with escapes, so that another value counts.
+fn pointer_of_member(
+    alloc: Global,
+    bytes: &[u8],
+    object: &Located,
+    name: &str,
+    value: usize,
+) -> Result<Option<String>, AllocError> {
+    let Some(pointer) = &object.pointer else {
+        return Ok(None);
+    };
+    if !is_last_member(alloc, bytes, object.offset, name, value)? {
+        return Ok(None);
+    }
+    member_pointer(alloc, pointer.as_str(), name)
+}
+
+/// The member of an object, where it is found.
+pub(crate) fn located_member(
+    alloc: Global,
+    bytes: &[u8],
+    object: &Located,
+    name: &str,
+) -> Result<Option<Located>, AllocError> {
+    match member_offset(alloc, bytes, object.offset, name)? {
+        Some(offset) => Ok(Some(Located {
+            offset,
+            pointer: pointer_of_member(alloc, bytes, object, name, offset)?,
+        })),
+        None => Ok(None),
+    }
+}
+
+/// An element that begins at an offset, of a list.
+pub(crate) fn located_element(
+    alloc: Global,
+    list: &Located,
+    index: usize,
+    offset: usize,
+) -> Result<Located, AllocError> {
+    let pointer = match &list.pointer {
+        Some(pointer) => Some(element_pointer(alloc, pointer.as_str(), index)?),
+        None => None,
+    };
+    Ok(Located { offset, pointer })
 }

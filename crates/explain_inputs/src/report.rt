@@ -1,10 +1,11 @@
-//! The faults of a document, written line by line.
+//! The faults of a document, one by one.
 
-use crate::places::{element_offsets, member_offset};
-use explain_notes::{Input, place_of, quote};
+use crate::places::{Located, element_offsets, located_element, located_member};
+use explain_faults::{Fault, Faults};
+use explain_notes::{Input, quote};
 use std::alloc::{AllocError, Global};
 
-/// The most faults that are written.
+/// The most faults that are told.
 const MAX_FAULTS: usize = 100;
 
 /// What of an object something is said of.
@@ -41,54 +42,64 @@ impl<'v> Subject<'v> {
         Subject { spot, ..self }
     }
 
-    /// Where it stands that something is said of, in bytes from 0; where the object does, if it isn't found.
-    fn place(&self, alloc: Global, bytes: &[u8]) -> Result<usize, AllocError> {
-        let place = match self.spot {
+    /// What something is said of; the object, if it isn't found.
+    fn located(&self, alloc: Global, bytes: &[u8]) -> Result<Located, AllocError> {
+        let index = self.index;
+        let object = Located {
+            offset: self.offset,
+            pointer: Some(format!(in alloc; "/objects/{index}")?),
+        };
+        let found = match self.spot {
             Spot::Whole => None,
-            Spot::Member(name) => member_offset(alloc, bytes, self.offset, name)?,
-            Spot::Feature(name) => feature_offset(alloc, bytes, self.offset, name)?,
-            Spot::Value(name, index) => match feature_offset(alloc, bytes, self.offset, name)? {
-                Some(value) => Some(value_offset(alloc, bytes, value, index)?),
+            Spot::Member(name) => located_member(alloc, bytes, &object, name)?,
+            Spot::Feature(name) => located_feature(alloc, bytes, &object, name)?,
+            Spot::Value(name, index) => match located_feature(alloc, bytes, &object, name)? {
+                Some(value) => Some(located_value(alloc, bytes, value, index)?),
                 None => None,
             },
         };
-        Ok(place.unwrap_or(self.offset))
+        match found {
+            Some(found) => Ok(found),
+            None => Ok(object),
+        }
     }
 }
 
-/// Where the member of a feature begins, of an object that begins at an offset.
-fn feature_offset(
+/// The member of a feature, of an object.
+fn located_feature(
     alloc: Global,
     bytes: &[u8],
-    object: usize,
+    object: &Located,
     name: &str,
-) -> Result<Option<usize>, AllocError> {
-    match member_offset(alloc, bytes, object, "features")? {
-        Some(features) => member_offset(alloc, bytes, features, name),
+) -> Result<Option<Located>, AllocError> {
+    match located_member(alloc, bytes, object, "features")? {
+        Some(features) => located_member(alloc, bytes, &features, name),
         None => Ok(None),
     }
 }
 
-/// Where a value of a feature begins, whose member begins at an offset: an element, if that is a list.
-fn value_offset(
+/// A value of a feature with this member: an element, if that is a list.
+fn located_value(
     alloc: Global,
     bytes: &[u8],
-    member: usize,
+    member: Located,
     index: usize,
-) -> Result<usize, AllocError> {
-    if bytes.get(member) != Some(&b'[') {
+) -> Result<Located, AllocError> {
+    if bytes.get(member.offset) != Some(&b'[') {
         return Ok(member);
     }
-    let elements = element_offsets(alloc, bytes, member)?;
-    Ok(elements.get(index).copied().unwrap_or(member))
+    let offsets = element_offsets(alloc, bytes, member.offset)?;
+    match offsets.get(index) {
+        Some(offset) => located_element(alloc, &member, index, *offset),
+        None => Ok(member),
+    }
 }
 
-/// What is written of a document so far.
+/// What is said of a document so far.
 #[derive(Drop)]
 pub(crate) struct Report<'a> {
     input: Input<'a>,
-    lines: String,
-    faults: usize,
+    faults: Vec<Fault>,
 }
 
 impl<'a> Report<'a> {
@@ -96,14 +107,13 @@ impl<'a> Report<'a> {
     pub(crate) fn new(alloc: Global, input: Input<'a>) -> Report<'a> {
         Report {
             input,
-            lines: String::new(alloc),
-            faults: 0,
+            faults: Vec::new(alloc),
         }
     }
 
-    /// Whether more faults than these aren't written.
+    /// Whether no more faults than these are told.
     pub(crate) fn is_full(&self) -> bool {
-        self.faults >= MAX_FAULTS
+        self.faults.len() >= MAX_FAULTS
     }
 
     /// The bytes of the document.
@@ -111,24 +121,22 @@ impl<'a> Report<'a> {
         self.input.bytes
     }
 
-    /// Says something of what begins at an offset, with the numbers of the fault as they are printed.
+    /// Says something of a value, with the numbers of the fault as they are printed.
     pub(crate) fn tell(
         &mut self,
-        offset: usize,
+        alloc: Global,
+        at: Located,
         message: &str,
         fault: &str,
     ) -> Result<(), AllocError> {
         if self.is_full() {
             return Ok(());
         }
-        self.faults = self.faults.saturating_add(1);
-        let path = self.input.path;
-        let place = place_of(self.input.bytes, offset);
-        let (line, column) = (place.line, place.column);
-        writeln!(
-            &mut self.lines,
-            "{path}:{line}:{column}: {message} ({fault})"
-        )
+        let Located { offset, pointer } = at;
+        let text = format!(in alloc; "{message} ({fault})")?;
+        let fault = Fault::at(alloc, self.input, offset, pointer, text)?;
+        self.faults.push(fault)?;
+        Ok(())
     }
 
     /// Says something of an object, with the numbers of the fault as they are printed.
@@ -145,8 +153,8 @@ impl<'a> Report<'a> {
         let (index, id) = (subject.index, quote(alloc, subject.id)?);
         let class = quote(alloc, subject.class)?;
         let message = format!(in alloc; "object {index} (`{id}`, {class}): {message}")?;
-        let offset = subject.place(alloc, self.bytes())?;
-        self.tell(offset, message.as_str(), fault)
+        let at = subject.located(alloc, self.bytes())?;
+        self.tell(alloc, at, message.as_str(), fault)
     }
 
     /// Says what the population refuses of an object, by the number of its fault.
@@ -161,15 +169,23 @@ impl<'a> Report<'a> {
         self.say(alloc, subject, fault.as_str(), message)
     }
 
-    /// Writes the faults, and how many they are; where there are none, the words of the fault that is known.
-    pub(crate) fn write(&self, out: &mut String, known: &str) -> Result<(), AllocError> {
-        out.push_str(self.lines.as_str())?;
-        let (path, faults) = (self.input.path, self.faults);
-        match faults {
-            0 => writeln!(out, "{path}: {known}"),
-            1 => writeln!(out, "{path}: 1 fault"),
-            MAX_FAULTS => writeln!(out, "{path}: 100 faults; there may be more"),
-            _ => writeln!(out, "{path}: {faults} faults"),
+    /// Adds the faults, and writes how many they are; where there are none, the fault that is known.
+    pub(crate) fn end(
+        self,
+        alloc: Global,
+        out: &mut Faults,
+        known: &str,
+    ) -> Result<(), AllocError> {
+        let Report { input, faults } = self;
+        let (path, count) = (input.path, faults.len());
+        for fault in faults {
+            out.add(fault)?;
+        }
+        match count {
+            0 => out.add(Fault::of_whole(alloc, path, String::from_str(alloc, known)?)?),
+            1 => writeln!(&mut out.words, "{path}: 1 fault"),
+            MAX_FAULTS => writeln!(&mut out.words, "{path}: 100 faults; there may be more"),
+            _ => writeln!(&mut out.words, "{path}: {count} faults"),
         }
     }
 }

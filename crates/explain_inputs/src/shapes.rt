@@ -4,8 +4,9 @@ use crate::drafts::items;
 use crate::members::{
     List, associations, attributes, classes, enumerations, member_of, objects, words,
 };
-use crate::places::{document_offset, element_offsets, member_offset};
+use crate::places::{Located, element_offsets, located_document, located_element, located_member};
 use crate::report::Report;
+use explain_faults::Faults;
 use explain_notes::{Input, quote};
 use imkl_delivery::members::DELIVERY;
 use imkl_model::members::{CLASS_RENAME, END, FEATURE_RENAME, MODEL, Member, RENAMES};
@@ -19,8 +20,8 @@ const MAX_OTHERS: usize = 3;
 #[derive(Clone, Copy, Drop)]
 struct Looked<'v> {
     value: &'v Value,
-    /// Where it begins in the document, in bytes from 0.
-    offset: usize,
+    /// Where it is in the document.
+    at: &'v Located,
     /// What it is called.
     title: &'v str,
 }
@@ -34,15 +35,33 @@ struct Look<'a> {
 }
 
 impl Look<'_> {
-    /// Says something of what begins at an offset.
-    fn say(&mut self, offset: usize, message: &str) -> Result<(), AllocError> {
-        self.report.tell(offset, message, self.fault)
+    /// Says something of a value.
+    fn say(&mut self, alloc: Global, at: Located, message: &str) -> Result<(), AllocError> {
+        self.report.tell(alloc, at, message, self.fault)
     }
 
-    /// Where a member of an object begins; where the object does, if the member isn't found.
-    fn place(&self, alloc: Global, object: Looked<'_>, member: &str) -> Result<usize, AllocError> {
-        let place = member_offset(alloc, self.report.bytes(), object.offset, member)?;
-        Ok(place.unwrap_or(object.offset))
+    /// Says something of a value that is looked at.
+    fn say_of(
+        &mut self,
+        alloc: Global,
+        looked: Looked<'_>,
+        message: &str,
+    ) -> Result<(), AllocError> {
+        let at = looked.at.copied()?;
+        self.say(alloc, at, message)
+    }
+
+    /// A member of an object; the object, if the member isn't found.
+    fn place(
+        &self,
+        alloc: Global,
+        object: Looked<'_>,
+        member: &str,
+    ) -> Result<Located, AllocError> {
+        match located_member(alloc, self.report.bytes(), object.at, member)? {
+            Some(found) => Ok(found),
+            None => object.at.copied(),
+        }
     }
 
     /// Looks at a value that should be an object of these members.
@@ -66,7 +85,7 @@ impl Look<'_> {
         let title = looked.title;
         let Some(map) = looked.value.as_object() else {
             let message = format!(in alloc; "{title} is no JSON object")?;
-            return self.say(looked.offset, message.as_str());
+            return self.say_of(alloc, looked, message.as_str());
         };
         for member in members {
             let name = member.0;
@@ -74,7 +93,7 @@ impl Look<'_> {
                 Some(value) => self.member(alloc, looked, member, value)?,
                 None => {
                     let message = format!(in alloc; "{title} has no member `{name}`")?;
-                    self.say(looked.offset, message.as_str())?;
+                    self.say_of(alloc, looked, message.as_str())?;
                 }
             }
         }
@@ -120,16 +139,16 @@ impl Look<'_> {
         }
         let (title, wanted) = (looked.title, words(is));
         let message = format!(in alloc; "the member `{name}` of {title} is not {wanted}")?;
-        let offset = self.place(alloc, looked, name)?;
-        self.say(offset, message.as_str())
+        let at = self.place(alloc, looked, name)?;
+        self.say(alloc, at, message.as_str())
     }
 
     /// Says that an object has a member that can't be there.
     fn other(&mut self, alloc: Global, looked: Looked<'_>, name: &str) -> Result<(), AllocError> {
         let (title, shown) = (looked.title, quote(alloc, name)?);
         let message = format!(in alloc; "{title} has a member `{shown}`, which it can't have")?;
-        let offset = self.place(alloc, looked, name)?;
-        self.say(offset, message.as_str())
+        let at = self.place(alloc, looked, name)?;
+        self.say(alloc, at, message.as_str())
     }
 
     /// The values of a member of an object that is a list, each with where it begins.
@@ -138,31 +157,30 @@ impl Look<'_> {
         alloc: Global,
         object: Looked<'v>,
         member: &str,
-    ) -> Result<Vec<(usize, &'v Value)>, AllocError> {
-        let bytes = self.report.bytes();
+    ) -> Result<Vec<(Located, &'v Value)>, AllocError> {
         let list = self.place(alloc, object, member)?;
-        let offsets = element_offsets(alloc, bytes, list)?;
+        let offsets = element_offsets(alloc, self.report.bytes(), list.offset)?;
         let mut found = Vec::new(alloc);
         for (index, value) in items(object.value, member).iter().enumerate() {
-            found.push((offsets.get(index).copied().unwrap_or(list), value))?;
+            let at = match offsets.get(index) {
+                Some(offset) => located_element(alloc, &list, index, *offset)?,
+                None => list.copied()?,
+            };
+            found.push((at, value))?;
         }
         Ok(found)
     }
 
     /// Looks at the values of a member of an object that is a list; each should be an object of these members.
     fn list(&mut self, alloc: Global, object: Looked<'_>, list: List) -> Result<(), AllocError> {
-        for (index, (offset, value)) in self
-            .located(alloc, object, list.member)?
-            .iter()
-            .enumerate()
-        {
+        for (index, (at, value)) in self.located(alloc, object, list.member)?.iter().enumerate() {
             if self.report.is_full() {
                 return Ok(());
             }
             let title = title_of(alloc, list, index, value)?;
             let looked = Looked {
                 value,
-                offset: *offset,
+                at,
                 title: title.as_str(),
             };
             self.record(alloc, looked, list.members)?;
@@ -191,9 +209,10 @@ impl Look<'_> {
             }
             None => String::from_str(alloc, member)?,
         };
+        let at = self.place(alloc, association, member)?;
         let looked = Looked {
             value,
-            offset: self.place(alloc, association, member)?,
+            at: &at,
             title: title.as_str(),
         };
         self.record(alloc, looked, &END)
@@ -201,18 +220,18 @@ impl Look<'_> {
 
     /// Looks at the attributes of classes, and at the ends of associations.
     fn inside(&mut self, alloc: Global, document: Looked<'_>) -> Result<(), AllocError> {
-        for (offset, value) in self.located(alloc, document, "classes")? {
+        for (at, value) in &self.located(alloc, document, "classes")? {
             let class = Looked {
                 value,
-                offset,
+                at,
                 title: "",
             };
             self.list(alloc, class, attributes())?;
         }
-        for (offset, value) in self.located(alloc, document, "associations")? {
+        for (at, value) in &self.located(alloc, document, "associations")? {
             let association = Looked {
                 value,
-                offset,
+                at,
                 title: "",
             };
             self.end(alloc, association, "end")?;
@@ -224,11 +243,11 @@ impl Look<'_> {
     /// Looks at the entries of `renames`: each is of a feature where it has a member `class`, else of a class.
     fn renames(&mut self, alloc: Global, document: Looked<'_>) -> Result<(), AllocError> {
         let member = RENAMES.0;
-        for (index, (offset, value)) in self.located(alloc, document, member)?.iter().enumerate() {
+        for (index, (at, value)) in self.located(alloc, document, member)?.iter().enumerate() {
             let title = format!(in alloc; "entry {index} of `{member}`")?;
             let looked = Looked {
                 value,
-                offset: *offset,
+                at,
                 title: title.as_str(),
             };
             if value.get("class").is_some() {
@@ -272,10 +291,10 @@ fn title_of(alloc: Global, list: List, index: usize, value: &Value) -> Result<St
 /// What is said where the look finds nothing.
 const OTHERWISE: &str = "it has not the shape that is wanted";
 
-/// Writes all that is wrong with the shape of a delivery, at most 100 faults.
+/// Says all that is wrong with the shape of a delivery, at most 100 faults.
 pub(crate) fn delivery_shape(
     alloc: Global,
-    out: &mut String,
+    out: &mut Faults,
     input: Input<'_>,
     document: &Value,
 ) -> Result<(), AllocError> {
@@ -283,19 +302,20 @@ pub(crate) fn delivery_shape(
         report: Report::new(alloc, input),
         fault: "delivery 2",
     };
+    let at = located_document(alloc, input.bytes)?;
     let looked = Looked {
         value: document,
-        offset: document_offset(input.bytes),
+        at: &at,
         title: "the delivery",
     };
     look.delivery(alloc, looked)?;
-    look.report.write(out, OTHERWISE)
+    look.report.end(alloc, out, OTHERWISE)
 }
 
-/// Writes all that is wrong with the shape of a class model, at most 100 faults.
+/// Says all that is wrong with the shape of a class model, at most 100 faults.
 pub(crate) fn model_shape(
     alloc: Global,
-    out: &mut String,
+    out: &mut Faults,
     input: Input<'_>,
     document: &Value,
 ) -> Result<(), AllocError> {
@@ -303,11 +323,12 @@ pub(crate) fn model_shape(
         report: Report::new(alloc, input),
         fault: "model 2",
     };
+    let at = located_document(alloc, input.bytes)?;
     let looked = Looked {
         value: document,
-        offset: document_offset(input.bytes),
+        at: &at,
         title: "the class model",
     };
     look.model(alloc, looked)?;
-    look.report.write(out, OTHERWISE)
+    look.report.end(alloc, out, OTHERWISE)
 }

@@ -4,7 +4,7 @@ ghost use Rattle.std.specs.Prelude.{◌≡◌, take};
 ghost use Rattle.explain_notes.specs.Places.{begins_character, text_line, text_column};
 
 /// A line, and a column in characters; both from 1.
-#[derive(Clone, Copy, Debug, PartialEq, Eq)]
+#[derive(Clone, Copy)]
 pub struct Place {
     /// The line.
     pub line: usize,

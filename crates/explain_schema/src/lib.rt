@@ -7,4 +7,4 @@ mod objects;
 mod superclasses;
 mod text;
 
-pub use text::schema_of;
+pub use text::{schema_of, visible_json};

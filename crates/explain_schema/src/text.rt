@@ -92,7 +92,7 @@ fn delivery_schema(alloc: Global, model: &ClassModel) -> Result<Value, AllocErro
 }
 
 /// A JSON text of which nothing steers a terminal: in its strings characters that would are escapes.
-fn shown(alloc: Global, text: &str) -> Result<String, AllocError> {
+pub fn visible_json(alloc: Global, text: &str) -> Result<String, AllocError> {
     let mut out = String::new(alloc);
     for character in text.chars() {
         if steers(character) && character != '\n' {
@@ -110,7 +110,7 @@ fn shown(alloc: Global, text: &str) -> Result<String, AllocError> {
 /// `docs/use/schema.md` has what a schema can't say.
 pub fn schema_of(alloc: Global, model: &ClassModel) -> Result<String, AllocError> {
     let schema = delivery_schema(alloc, model)?;
-    let mut text = shown(alloc, schema.to_string_pretty(alloc)?.as_str())?;
+    let mut text = visible_json(alloc, schema.to_string_pretty(alloc)?.as_str())?;
     text.push_str("\n")?;
     Ok(text)
 }

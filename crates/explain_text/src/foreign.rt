@@ -16,7 +16,7 @@ static ON_COLLECTIONS: [(&str, &str); 31] = [
     ("at", NO_PLACES),
     (
         "closure",
-        "write each step out: `x.up`, `x.up.up`, as many as there may be",
+        "nest as many steps as there may be, as `x.up->forAll(y | y <> x and y.up->forAll(z | z <> x))`",
     ),
     (
         "collectNested",
@@ -292,7 +292,7 @@ const ASKED_FIRST: &str =
     "write `.`; where null must be passed over, ask first: `x.oclIsUndefined() or x.f > 0`";
 
 const NO_LITERALS: &str =
-    "no collections are written out; for `Set{1, 2}->includes(x)` write `x = 1 or x = 2`";
+    "no collections are written out: for `Set{1, 2}->includes(x)` write `x = 1 or x = 2`, for `1..9` write `1 <= x and x <= 9`, for `c = Set{}` write `c->isEmpty()`";
 
 const STRAIGHT_QUOTES: &str = "a string stands in straight single quotes, as 'water'";
 

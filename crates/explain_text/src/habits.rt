@@ -32,7 +32,7 @@ static HABITS: [Habit; 13] = [
         first: "inv",
         second: "x",
         third: "(",
-        help: "a rule has a name and no message; a comment begins with `--`",
+        help: "a rule's message is the comment right above its `inv`, as `-- too shallow`",
     },
     Habit {
         first: "let",

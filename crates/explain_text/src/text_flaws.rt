@@ -3,6 +3,7 @@
 use crate::foreign::instead_of_character;
 use crate::habits::{Call, call_with_variable, help_at, instead_of_variable, nearest_iteration};
 use crate::wanted::write_wanted;
+use explain_faults::{Fault, Faults};
 use explain_notes::{Input, Note, first_character, quote, visible_text, write_marked};
 use ocl_tokens::{TextFault, TextFlaw, Token, TokenKind, tokens};
 use std::alloc::{AllocError, Global};
@@ -280,7 +281,7 @@ fn index_at(tokens: &[Token<'_>], offset: usize) -> usize {
 /// A rule whose name an earlier one has: both are shown.
 fn write_duplicate(
     alloc: Global,
-    out: &mut String,
+    out: &mut Faults,
     input: Input<'_>,
     tokens: &[Token<'_>],
     offset: usize,
@@ -296,9 +297,10 @@ fn write_duplicate(
         label: "this is the second",
         help: "",
     };
-    note.write(alloc, out)?;
+    out.add_note(alloc, &note)?;
+    let words = &mut out.words;
     match first_of_name(alloc, tokens, name.as_str())? {
-        Some(first) => write_marked(alloc, out, input.bytes, first, 3, "this is the first"),
+        Some(first) => write_marked(alloc, words, input.bytes, first, 3, "this is the first"),
         None => Ok(()),
     }
 }
@@ -350,10 +352,10 @@ fn say_of_bytes(
     }
 }
 
-/// Writes the note on a flaw.
+/// Adds the note on a flaw.
 fn write_saying(
     alloc: Global,
-    out: &mut String,
+    out: &mut Faults,
     input: Input<'_>,
     flaw: TextFlaw,
     offset: usize,
@@ -370,13 +372,13 @@ fn write_saying(
         label: saying.label.as_str(),
         help: saying.help,
     };
-    note.write(alloc, out)
+    out.add_note(alloc, &note)
 }
 
-/// Writes why a text of these tokens is refused.
+/// Says why a text of these tokens is refused.
 fn explain_tokens(
     alloc: Global,
-    out: &mut String,
+    out: &mut Faults,
     input: Input<'_>,
     text: &str,
     tokens: &[Token<'_>],
@@ -391,10 +393,10 @@ fn explain_tokens(
     write_saying(alloc, out, input, flaw, offset, &saying)
 }
 
-/// Writes why bytes are refused that leave no tokens, or are no text.
+/// Says why bytes are refused that leave no tokens, or are no text.
 fn explain_bytes(
     alloc: Global,
-    out: &mut String,
+    out: &mut Faults,
     input: Input<'_>,
     is_text: bool,
     flaw: TextFlaw,
@@ -424,29 +426,32 @@ pub fn length_of_token(alloc: Global, bytes: &[u8], offset: usize) -> Result<usi
     }
 }
 
-/// Writes that a code file is no rule text.
-fn explain_code_file(out: &mut String, path: &str, flaw: TextFlaw) -> Result<(), AllocError> {
+/// Says that a code file is no rule text.
+fn explain_code_file(
+    alloc: Global,
+    out: &mut Faults,
+    path: &str,
+    flaw: TextFlaw,
+) -> Result<(), AllocError> {
     let number = flaw.number();
+    let text = format!(in alloc; "this is a code file, and no rule text (text {number})")?;
+    out.add(Fault::of_whole(alloc, path, text)?)?;
     writeln!(
-        out,
-        "{path}: this is a code file, and no rule text (text {number})"
-    )?;
-    writeln!(
-        out,
-        "  it is judged without `--text`, and `ocl_explain list` shows what is in it; `why` takes rule texts alone"
+        &mut out.words,
+        "  it is judged without `--text`; `ocl_explain show` prints its rules as OCL"
     )
 }
 
-/// Writes why a rule text is refused that has this flaw at an offset.
+/// Says why a rule text is refused that has this flaw at an offset.
 pub fn explain_text_flaw(
     alloc: Global,
-    out: &mut String,
+    out: &mut Faults,
     input: Input<'_>,
     flaw: TextFlaw,
     offset: usize,
 ) -> Result<(), AllocError> {
     if input.bytes.starts_with(b"OCLB\x00") {
-        return explain_code_file(out, input.path, flaw);
+        return explain_code_file(alloc, out, input.path, flaw);
     }
     let Ok(text) = str::from_utf8(input.bytes) else {
         return explain_bytes(alloc, out, input, false, flaw, offset);

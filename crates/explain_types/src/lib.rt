@@ -17,4 +17,5 @@ mod words;
 mod writing;
 
 pub use type_flaws::explain_type_flaw;
+pub use type_names::{TypeName, type_name};
 pub use warnings::warn_of_rule;

@@ -4,6 +4,7 @@ use crate::found::Stop;
 use crate::reading::Reading;
 use crate::words::{unknown_class, write_finding};
 use crate::writing::Words;
+use explain_faults::Faults;
 use explain_notes::{Input, Note};
 use explain_text::length_of_token;
 use imkl_model::ClassModel;
@@ -68,10 +69,10 @@ fn words_of(
     Ok(words)
 }
 
-/// Writes the note on a fault.
-fn write_note(
+/// Adds the note on a fault.
+fn add_note(
     alloc: Global,
-    out: &mut String,
+    out: &mut Faults,
     input: Input<'_>,
     words: &Words,
     flaw: TypeFlaw,
@@ -88,13 +89,13 @@ fn write_note(
         label: words.label.as_str(),
         help: words.help.as_str(),
     };
-    note.write(alloc, out)
+    out.add_note(alloc, &note)
 }
 
-/// Writes why the rules of a text are refused of which this one has this flaw at an offset.
+/// Says why the rules of a text are refused of which this one has this flaw at an offset.
 pub fn explain_type_flaw(
     alloc: Global,
-    out: &mut String,
+    out: &mut Faults,
     input: Input<'_>,
     model: &ClassModel,
     rules: &[SurfaceRule],
@@ -103,5 +104,5 @@ pub fn explain_type_flaw(
     offset: usize,
 ) -> Result<(), AllocError> {
     let words = words_of(alloc, model, rules.get(rule), flaw, offset)?;
-    write_note(alloc, out, input, &words, flaw, offset)
+    add_note(alloc, out, input, &words, flaw, offset)
 }

@@ -7,7 +7,7 @@ use std::fmt;
 
 /// The name of a type, as `Bag(Integer)`.
 #[derive(Clone, Copy)]
-pub(crate) struct TypeName<'m> {
+pub struct TypeName<'m> {
     model: &'m ClassModel,
     kind: Kind,
 }
@@ -76,7 +76,7 @@ impl fmt::Display for WithArticle<'_> {
 }
 
 /// The name of a type.
-pub(crate) fn type_name<'m>(model: &'m ClassModel, kind: &Kind) -> TypeName<'m> {
+pub fn type_name<'m>(model: &'m ClassModel, kind: &Kind) -> TypeName<'m> {
     TypeName { model, kind: *kind }
 }
 

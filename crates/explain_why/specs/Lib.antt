@@ -5,6 +5,8 @@ pub mod Differences
 pub mod Reasons
 pub mod Turns
 pub mod Explanation
+pub mod RuleView
+pub mod Valued
 pub mod Laws
 -- Bookkeeping: what only proofs and private contracts use.
 pub mod TextWalk

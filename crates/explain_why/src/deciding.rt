@@ -16,7 +16,7 @@ use std::alloc::Global;
 const MAX_BESIDE: usize = 3;
 
 /// Bodies of an iteration.
-#[derive(Clone, Copy, Debug)]
+#[derive(Clone, Copy)]
 pub(crate) enum Deciding<'b, 'a> {
     /// Those that are true.
     True,
@@ -73,7 +73,7 @@ impl Deciding<'_, '_> {
 }
 
 /// Elements of which some are shown: those whose bodies are so, and at most so many.
-#[derive(Clone, Copy, Debug)]
+#[derive(Clone, Copy)]
 pub(crate) struct Batch<'b, 'a> {
     /// Which they are.
     pub(crate) which: Deciding<'b, 'a>,

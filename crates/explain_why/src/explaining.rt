@@ -13,6 +13,7 @@ ghost use Rattle.ocl_semantics.specs.Evaluated.{bindings, on_null, IsLinkResolve
 ghost use Rattle.explain_why.specs.Values.{value_text};
 ghost use Rattle.explain_why.specs.Explanation.{lines_if, part_line, named_value, binding_line, bindings_line, batch_of, batch_lines, iteration_lines, accumulation_lines, valued_part, explained, all_explained, verdict_word, verdict_line, explanation};
 ghost use Rattle.explain_why.specs.Turns.{fold_turn, IsTurnThere, AreTurnsThere};
+ghost use Rattle.explain_why.specs.RuleView.{explained_rule};
 ghost use Rattle.explain_why.specs.PartWalk.{node_reason, node_line, is_source_shown, below_lines, element_lines, step_lines, link_lines, links_lines, let_value_lines, lets_lines};
 
 use crate::deciding::{Batch, batch_beside, batch_that_decides, deciding_elements};
@@ -22,6 +23,7 @@ use crate::reasons::{choice_reason, put_feature_reason, put_operation_reason};
 use crate::texts::{let_text, link_text, next, put_variable, spine_text, text_of};
 use crate::turns::{Turn, told_turns, turns_of};
 use crate::values::put_value;
+use imkl_model::ClassNo;
 use imkl_population::{ObjectNo, Population};
 use ocl_base::OutOfMemory;
 use ocl_core::{Core, CoreLink, CoreRule, Iteration};
@@ -332,7 +334,7 @@ fn value_before<'a>(
 }
 
 /// What is left to put below the nodes of links.
-#[derive(Clone, Copy, Debug)]
+#[derive(Clone, Copy)]
 struct Below {
     /// The level of what is left.
     level: usize,
@@ -807,22 +809,33 @@ fn verdict_word(value: &Value<'_>) -> &'static str
     }
 }
 
+/// A rule whose verdict is explained.
+#[derive(Clone, Copy)]
+pub struct ExplainedRule<'a> {
+    /// Its name.
+    pub name: &'a str,
+    /// Its context class.
+    pub context: ClassNo,
+    /// Its expression.
+    pub tree: &'a Core,
+}
+
 /// Puts the verdict of a rule for an object, by the value of its expression.
 fn put_verdict(
     out: &mut String,
     population: &Population<'_>,
-    rule: &CoreRule,
+    rule: &ExplainedRule<'_>,
     object: ObjectNo,
     value: &Value<'_>,
 ) -> Result<(), OutOfMemory>
     requires object { object < length population.now.content.objects }
-    requires value { meant value.now ≡ meaning population.now.content (core_view rule.now.tree)
+    requires value { meant value.now ≡ meaning population.now.content (core_view rule.now.tree.now)
         (object_value object ∷ []) }
     ensures { OnOk result (string_bytes out.new ≡ string_bytes out.old ++
-        verdict_line population.now.content (checked_rule_of rule.now) object) }
+        verdict_line population.now.content (explained_rule rule.now) object) }
 {
     put(out, "rule ")?;
-    put(out, rule.name.as_str())?;
+    put(out, rule.name)?;
     put(out, " ")?;
     put(out, verdict_word(value))?;
     put(out, " for ")?;
@@ -831,6 +844,27 @@ fn put_verdict(
 }
 
 /// Why a rule has its verdict for an object: the verdict, and below it the parts of the rule's expression with their values.
+pub fn explain_rule<'a>(
+    alloc: Global,
+    population: &'a Population<'_>,
+    rule: &ExplainedRule<'a>,
+    object: ObjectNo,
+) -> Result<String, OutOfMemory>
+    requires resolved { IsResolved population.now.content.model (core_view rule.now.tree.now) }
+    requires object { object < length population.now.content.objects }
+    ensures { IfOk result (λ s. string_bytes s ≡ explanation population.entry.now.content
+        (explained_rule rule.now) object) }
+{
+    let mut out = String::new(alloc);
+    let mut variables = Variables::new(alloc);
+    variables.bind(Value::Element(Element::Object(object)))?;
+    let value = evaluate(alloc, population, rule.tree, &mut variables)?;
+    put_verdict(&mut out, population, rule, object, &value)?;
+    explain(alloc, &mut out, population, 1, rule.tree, &mut variables)?;
+    Ok(out)
+}
+
+/// Why a rule of a text has its verdict for an object, as `explain_rule` writes it.
 pub fn explain_verdict<'a>(
     alloc: Global,
     population: &'a Population<'_>,
@@ -842,11 +876,10 @@ pub fn explain_verdict<'a>(
     ensures { IfOk result (λ s. string_bytes s ≡ explanation population.entry.now.content
         (checked_rule_of rule.entry.now) object) }
 {
-    let mut out = String::new(alloc);
-    let mut variables = Variables::new(alloc);
-    variables.bind(Value::Element(Element::Object(object)))?;
-    let value = evaluate(alloc, population, &rule.tree, &mut variables)?;
-    put_verdict(&mut out, population, rule, object, &value)?;
-    explain(alloc, &mut out, population, 1, &rule.tree, &mut variables)?;
-    Ok(out)
+    let explained = ExplainedRule {
+        name: rule.name.as_str(),
+        context: rule.context,
+        tree: &rule.tree,
+    };
+    explain_rule(alloc, population, &explained, object)
 }

@@ -5,13 +5,18 @@
 mod deciding;
 mod differences;
 mod explaining;
+mod expressions;
 pub mod laws;
 mod operands;
 mod pieces;
 mod reasons;
 mod texts;
 mod turns;
+mod valued;
 mod values;
 mod words;
 
-pub use explaining::explain_verdict;
+pub use explaining::{ExplainedRule, explain_rule, explain_verdict};
+pub use expressions::expression_text;
+pub use valued::value_of;
+pub use words::{Form, iteration_word, kind_name, operator_form, operator_word};

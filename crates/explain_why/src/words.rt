@@ -8,7 +8,7 @@ use ocl_base::CollectionKind;
 use ocl_core::{ClassOperator, ElementOperator, Iteration, Operator, PlainOperator};
 
 /// The name of a kind of collection.
-pub(crate) fn kind_name(kind: CollectionKind) -> &'static str
+pub fn kind_name(kind: CollectionKind) -> &'static str
     ensures { result.now ≡ value.kind_name kind }
 {
     match kind {
@@ -20,8 +20,8 @@ pub(crate) fn kind_name(kind: CollectionKind) -> &'static str
 }
 
 /// How an operator is written.
-#[derive(Clone, Copy, Debug)]
-pub(crate) enum Form {
+#[derive(Clone, Copy)]
+pub enum Form {
     /// Between two operands.
     Between,
     /// Before an operand.
@@ -32,7 +32,7 @@ pub(crate) enum Form {
 
 impl Form {
     /// Whether what is written so stands in parentheses where it is an operand.
-    pub(crate) fn is_open(self) -> bool
+    pub fn is_open(self) -> bool
         ensures { result ≡ is_form_open (form_of self) }
     {
         match self {
@@ -115,7 +115,7 @@ fn element_word(operator: ElementOperator) -> &'static str
 }
 
 /// How an operator is written.
-pub(crate) fn operator_form(operator: Operator) -> Form
+pub fn operator_form(operator: Operator) -> Form
     ensures { form_of result ≡ operator_form operator }
 {
     match operator {
@@ -126,7 +126,7 @@ pub(crate) fn operator_form(operator: Operator) -> Form
 }
 
 /// The word of an operator.
-pub(crate) fn operator_word(operator: Operator) -> &'static str
+pub fn operator_word(operator: Operator) -> &'static str
     ensures { result.now ≡ operator_word operator }
 {
     match operator {
@@ -138,7 +138,7 @@ pub(crate) fn operator_word(operator: Operator) -> &'static str
 }
 
 /// The word of an iteration, up to its variable.
-pub(crate) fn iteration_word(iteration: Iteration) -> &'static str
+pub fn iteration_word(iteration: Iteration) -> &'static str
     ensures { result.now ≡ iteration_word iteration }
 {
     match iteration {

@@ -6,7 +6,7 @@ use std::alloc::{AllocError, AllocFailed};
 use token_tree::NoSingle;
 
 /// Why a delivery isn't loaded straight from its tokens.
-#[derive(Clone, Copy, Debug, PartialEq, Eq)]
+#[derive(Clone, Copy)]
 pub(crate) enum Detour {
     /// It has a fault, or is written in a way that only the tree of the whole text is read for.
     ByTree,

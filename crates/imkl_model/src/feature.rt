@@ -7,7 +7,7 @@ use crate::numbers::{ClassNo, EnumNo, FeatureNo};
 use ocl_base::{CollectionKind, Text};
 
 /// What one element of a feature's value is.
-#[derive(Clone, Copy, PartialEq, Eq, Debug)]
+#[derive(Clone, Copy, PartialEq, Eq)]
 pub enum ElementType {
     /// A truth value.
     Boolean,
@@ -22,7 +22,7 @@ pub enum ElementType {
 }
 
 /// Whether a feature is an attribute, or which end of an association it is.
-#[derive(Clone, Copy, PartialEq, Eq, Debug)]
+#[derive(Clone, Copy, PartialEq, Eq)]
 pub enum Role {
     /// An attribute.
     Attribute,
@@ -55,7 +55,7 @@ impl Role {
 }
 
 /// A feature of a class model.
-#[derive(Debug, Drop)]
+#[derive(Drop)]
 pub struct FeatureInfo {
     /// The feature's name.
     pub name: Text,

@@ -5,7 +5,7 @@ ghost use Rattle.std.specs.Prelude.{◌≡◌};
 use std::marker::Model;
 
 /// The index of a class among a model's classes.
-#[derive(Clone, Copy, PartialEq, Eq, PartialOrd, Ord, Debug)]
+#[derive(Clone, Copy, PartialEq, Eq, PartialOrd, Ord)]
 pub struct ClassNo {
     index: usize,
 }
@@ -37,7 +37,7 @@ impl ClassNo {
 }
 
 /// The index of an enumeration among a model's enumerations.
-#[derive(Clone, Copy, PartialEq, Eq, PartialOrd, Ord, Debug)]
+#[derive(Clone, Copy, PartialEq, Eq, PartialOrd, Ord)]
 pub struct EnumNo {
     index: usize,
 }
@@ -69,7 +69,7 @@ impl EnumNo {
 }
 
 /// The index of a literal among those of its enumeration.
-#[derive(Clone, Copy, PartialEq, Eq, PartialOrd, Ord, Debug)]
+#[derive(Clone, Copy, PartialEq, Eq, PartialOrd, Ord)]
 pub struct LiteralNo {
     index: usize,
 }

@@ -5,7 +5,7 @@ use crate::items::Items;
 use ocl_base::Text;
 
 /// An attribute, with the name of its type.
-#[derive(Debug, Drop)]
+#[derive(Drop)]
 pub struct WrittenAttribute {
     pub name: Text,
     /// The name of its type: a predefined one, or an enumeration's.
@@ -21,7 +21,7 @@ pub struct WrittenAttribute {
 }
 
 /// A class, with the names of its direct superclasses.
-#[derive(Debug, Drop)]
+#[derive(Drop)]
 pub struct WrittenClass {
     pub name: Text,
     /// Whether no object is directly of it.
@@ -33,7 +33,7 @@ pub struct WrittenClass {
 }
 
 /// An enumeration.
-#[derive(Debug, Drop)]
+#[derive(Drop)]
 pub struct WrittenEnumeration {
     pub name: Text,
     /// The names of its literals.
@@ -41,7 +41,7 @@ pub struct WrittenEnumeration {
 }
 
 /// One end of an association.
-#[derive(Debug, Drop)]
+#[derive(Drop)]
 pub struct WrittenEnd {
     pub name: Text,
     /// The least number of objects that it holds.
@@ -53,7 +53,7 @@ pub struct WrittenEnd {
 }
 
 /// An association from a class to a class: the class `from` owns `end`, the class `to` owns `opposite`.
-#[derive(Debug, Drop)]
+#[derive(Drop)]
 pub struct WrittenAssociation {
     pub name: Text,
     /// The name of the class that owns `end`.
@@ -67,7 +67,7 @@ pub struct WrittenAssociation {
 }
 
 /// An old name of a class.
-#[derive(Debug, Drop)]
+#[derive(Drop)]
 pub struct WrittenClassRename {
     /// The name that the class had.
     pub old: Text,
@@ -76,7 +76,7 @@ pub struct WrittenClassRename {
 }
 
 /// An old name of a feature.
-#[derive(Debug, Drop)]
+#[derive(Drop)]
 pub struct WrittenFeatureRename {
     /// The name of the class that owns the feature.
     pub class: Text,
@@ -87,7 +87,7 @@ pub struct WrittenFeatureRename {
 }
 
 /// An old name.
-#[derive(Debug, Drop)]
+#[derive(Drop)]
 pub enum WrittenRename {
     /// Of a class.
     Class(WrittenClassRename),
@@ -96,7 +96,7 @@ pub enum WrittenRename {
 }
 
 /// A class model.
-#[derive(Debug, Drop)]
+#[derive(Drop)]
 pub struct Written {
     /// The class model's own name.
     pub name: Text,
@@ -110,7 +110,7 @@ pub struct Written {
 }
 
 /// A feature with names for its owner and its type: an attribute, or an end of an association.
-#[derive(Debug, Drop)]
+#[derive(Drop)]
 pub struct WrittenFeature {
     /// The name of the class that owns it.
     pub owner: Text,

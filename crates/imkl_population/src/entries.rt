@@ -9,7 +9,7 @@ ghost use Rattle.imkl_population.specs.Store.{objects_in, put_entry};
 use std::alloc::AllocError;
 
 /// The values of one object: those from `start` to before `end` in the list of values.
-#[derive(Clone, Copy, Debug)]
+#[derive(Clone, Copy)]
 pub struct Entry {
     /// The object's number, from 0.
     pub object: usize,

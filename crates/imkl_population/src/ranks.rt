@@ -4,7 +4,7 @@ use crate::entries::Entry;
 use std::alloc::{AllocError, Global};
 
 /// How many entries come before those of 64 objects in a row, and a bit for each of these that has one.
-#[derive(Clone, Copy, Debug)]
+#[derive(Clone, Copy)]
 struct Block {
     before: usize,
     bits: u64,
@@ -21,7 +21,7 @@ impl Block {
 
 /// The ranks of a column's objects, counted once the column is complete. Contracts promise nothing of a rank: it is a
 /// guess, and who asks for it looks at what stands there.
-#[derive(Debug, Drop)]
+#[derive(Drop)]
 pub(crate) struct Ranks {
     first: usize,
     blocks: Vec<Block>,

@@ -9,7 +9,7 @@ use std::alloc::{AllocError, Global};
 use std::marker::Model;
 
 /// A text value. Contracts see its characters (Unicode scalar values), which are counted once.
-#[derive(Debug, Drop)]
+#[derive(Drop)]
 pub struct ScalarText {
     text: String,
     characters: usize,
@@ -51,7 +51,7 @@ impl ScalarText {
 }
 
 /// A value of an attribute, or a target of an association end.
-#[derive(Debug, Drop)]
+#[derive(Drop)]
 pub enum Scalar {
     /// A truth value.
     Bool(bool),

@@ -16,7 +16,7 @@ use std::alloc::{AllocError, Global};
 use std::marker::Model;
 
 /// A range of a list, from `start` to before `end`: an object's values, or a class's objects.
-#[derive(Clone, Copy, Debug)]
+#[derive(Clone, Copy)]
 pub struct Segment {
     /// The place of the first element, from 0.
     pub start: usize,

@@ -6,7 +6,7 @@ use ocl_kinds::{Kind, ScalarKind};
 use ocl_text::{Name, WholeNumber};
 
 /// A value that stands in the text.
-#[derive(Debug, Drop)]
+#[derive(Drop)]
 pub enum ConstantValue {
     /// A truth value.
     Boolean(bool),
@@ -23,7 +23,7 @@ pub enum ConstantValue {
 }
 
 /// An iteration over the elements of a collection.
-#[derive(Clone, Copy, Debug)]
+#[derive(Clone, Copy)]
 pub enum Iteration {
     /// Whether the body is true of each element.
     ForAll,
@@ -45,7 +45,7 @@ pub enum Iteration {
 
 /// What goes on after a first operand.
 #[cycle(core)]
-#[derive(Debug, Drop)]
+#[derive(Drop)]
 pub enum CoreLink {
     /// A feature of the object on the left.
     Feature {
@@ -90,7 +90,7 @@ pub enum CoreLink {
 /// What is applied to a first operand stands in one list after it, the one applied last at its end: so a tree's depth in
 /// memory is bounded as that of the text's tree is.
 #[cycle(core)]
-#[derive(Debug, Drop)]
+#[derive(Drop)]
 pub enum Core {
     /// A value.
     Constant {
@@ -135,7 +135,7 @@ pub enum Core {
 }
 
 /// A rule whose types are checked.
-#[derive(Debug, Drop)]
+#[derive(Drop)]
 pub struct CoreRule {
     /// Its name.
     pub name: Name,

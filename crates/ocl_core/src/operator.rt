@@ -9,7 +9,7 @@ use imkl_model::ClassNo;
 use ocl_kinds::{Kind, ScalarKind};
 
 /// An operator whose name alone says what it does.
-#[derive(Clone, Copy, Debug)]
+#[derive(Clone, Copy)]
 pub enum PlainOperator {
     /// The sum of two whole numbers.
     Add,
@@ -66,7 +66,7 @@ pub enum PlainOperator {
 }
 
 /// An operator that asks for the class of an object.
-#[derive(Clone, Copy, Debug)]
+#[derive(Clone, Copy)]
 pub enum ClassOperator {
     /// Whether it is an object of the class or of one that conforms to it.
     IsKindOf,
@@ -77,7 +77,7 @@ pub enum ClassOperator {
 }
 
 /// An operator that compares the elements of collections.
-#[derive(Clone, Copy, Debug)]
+#[derive(Clone, Copy)]
 pub enum ElementOperator {
     /// Whether a value is an element.
     Includes,
@@ -92,7 +92,7 @@ pub enum ElementOperator {
 }
 
 /// The operator of an operation.
-#[derive(Clone, Copy, Debug)]
+#[derive(Clone, Copy)]
 pub enum Operator {
     /// One that its name alone describes.
     Plain(PlainOperator),
@@ -105,7 +105,7 @@ pub enum Operator {
 }
 
 /// A type that every class model has.
-#[derive(Clone, Copy, Debug)]
+#[derive(Clone, Copy)]
 pub enum BasicType {
     /// Truth values.
     Boolean,

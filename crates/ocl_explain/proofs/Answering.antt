@@ -21,11 +21,11 @@ use Rattle.ocl_check.proofs.ForAbove.{text_is_answered}
 use Rattle.ocl_explain.specs.declared.weaving.Shown.{Shown}
 use Rattle.ocl_explain.specs.Judged.{AreJudged, IsRefusedBy}
 use Rattle.ocl_explain.specs.WhyAnswers.{why_text, why_answer, shown_answer, WhyAnswers}
-use Rattle.ocl_explain.specs.ExplainedReport.{explained_answer, ExplainedAnswers}
+use Rattle.ocl_explain.specs.ExplainedReport.{rules_explainer, explained_answer, ExplainedAnswers}
 use Rattle.ocl_explain.specs.Explained.{why_of, explained_within}
 
 module _ (budget : ℕ) (model delivery rules : List ℕ) (t : TextReading) (reads : ReadsAs rules t) where
-  abbrev asked : Result PopulationAndRules Refusal
+  abbrev pub asked : Result PopulationAndRules Refusal
   asked = text_with t (inputs_in model delivery)
 
   -- the answer of `judge` to the same
@@ -47,7 +47,7 @@ module _ (budget : ℕ) (model delivery rules : List ℕ) (t : TextReading) (rea
         subst (λ (x : Population × CompiledRules). (inputs_in model delivery ≡ Ok x.0) × (compiled_rules x.0.model t ≡ Ok x.1)) same both
 
     -- so they are judged, where each rule is within the budget
-    are_judged : (x : Unit {0}) → admission c.unit (sizes_of p) budget ≡ Ok x → AreJudged budget model delivery rules p c.rules
+    pub are_judged : (x : Unit {0}) → admission c.unit (sizes_of p) budget ≡ Ok x → AreJudged budget model delivery rules p c.rules
     are_judged x within =
         let h = inputs_are in
         let read = both_steps (model_in model) (population_in delivery) p h.0 in
@@ -92,7 +92,7 @@ module _ (model delivery rules : List ℕ) (t : TextReading) (reads : ReadsAs ru
   -- `judge --why`, and `why` of a rule
   module _ (budget : ℕ) (shown : Shown) (rule : Option (List ℕ)) where
     abbrev explained_by : Population → CompiledRules → Result (Unit {0}) ℕ → Answer
-    explained_by p c o = explained_answer p c.rules shown rule (within_answer p c.rules o)
+    explained_by p c o = explained_answer (rules_explainer p c.rules) shown rule (within_answer p c.rules o)
 
     pub explained_answers : ExplainedAnswers budget shown rule model delivery rules (given_answer (explained_within budget shown rule) (asked budget model delivery rules t reads))
     explained_answers =

@@ -15,17 +15,18 @@ use Rattle.ocl_pipeline.specs.Asked.{PopulationAndUnit, PopulationAndRules, with
 use Rattle.ocl_pipeline.proofs.ForAbove.{not_refused}
 use Rattle.ocl_check.specs.Reply.{Answer, refused}
 use Rattle.ocl_check.specs.Given.{given_answer}
+use Rattle.explain_faults.specs.declared.fault.Fault.{Fault}
 use Rattle.report_forms.specs.declared.beside.RuleMessage.{RuleMessage}
 use Rattle.report_forms.specs.declared.form.Form.{Form}
 use Rattle.ocl_explain.specs.FormedReport.{formed_in, formed_refusal, formed_given, IsFormDue, AreInputsOf, IsFormOf}
 
 -- where this is why the pipeline stopped, the form of its line is due
-pub form_due : {A : Type 0} (form : Form) (path delivery : List ℕ) (messages : List RuleMessage) (why : Stopped) (given : Result A Refusal) (of : A → Population) (f : A → Answer)
-    → Fails stopped why given → IsFormDue form path why (formed_given form path delivery messages of f given)
-form_due form path delivery messages (Refused r) given of f h = sym (ap (formed_given form path delivery messages of f) h)
-form_due form path delivery messages OutOfMemory given of f h = tt
+pub form_due : {A : Type 0} (form : Form) (path delivery : List ℕ) (messages : List RuleMessage) (faults : List Fault) (why : Stopped) (given : Result A Refusal) (of : A → Population) (f : A → Answer)
+    → Fails stopped why given → IsFormDue form path faults why (formed_given form path delivery messages faults of f given)
+form_due form path delivery messages faults (Refused r) given of f h = sym (ap (formed_given form path delivery messages faults of f) h)
+form_due form path delivery messages faults OutOfMemory given of f h = tt
 
-module _ (form : Form) (path : List ℕ) (messages : List RuleMessage) (model delivery : List ℕ) where
+module _ (form : Form) (path : List ℕ) (messages : List RuleMessage) (faults : List Fault) (model delivery : List ℕ) where
   -- the inputs describe the population
   are_inputs : (p : Population) → inputs_in model delivery ≡ Ok p → AreInputsOf model delivery p
   are_inputs p is =
@@ -34,12 +35,12 @@ module _ (form : Form) (path : List ℕ) (messages : List RuleMessage) (model de
 
   module _ {A : Type 0} (of : A → Population) (f : A → Answer) (asked : Result A Refusal)
       (described : (x : A) → asked ≡ Ok x → inputs_in model delivery ≡ Ok (of x)) where
-    by_given : (g : Result A Refusal) → asked ≡ g → IsFormOf form path messages model delivery (given_answer f g) (formed_given form path delivery messages of f g)
+    by_given : (g : Result A Refusal) → asked ≡ g → IsFormOf form path messages faults model delivery (given_answer f g) (formed_given form path delivery messages faults of f g)
     by_given (Ok x) is = inr (of x, are_inputs (of x) (described x is), refl)
     by_given (Err r) is = inl (refl, refl)
 
-    is_form : (a : Answer) → given_answer f asked ≡ a → IsFormOf form path messages model delivery a (formed_given form path delivery messages of f asked)
-    is_form a same = subst (λ (x : Answer). IsFormOf form path messages model delivery x (formed_given form path delivery messages of f asked)) same (by_given asked refl)
+    is_form : (a : Answer) → given_answer f asked ≡ a → IsFormOf form path messages faults model delivery a (formed_given form path delivery messages faults of f asked)
+    is_form a same = subst (λ (x : Answer). IsFormOf form path messages faults model delivery x (formed_given form path delivery messages faults of f asked)) same (by_given asked refl)
 
   -- of a code file
   code_described : (code : List ℕ) (x : PopulationAndUnit) → (inputs_in model delivery >>= with_code code) ≡ Ok x → inputs_in model delivery ≡ Ok x.0
@@ -50,7 +51,7 @@ module _ (form : Form) (path : List ℕ) (messages : List RuleMessage) (model de
       subst (λ (y : PopulationAndUnit). inputs_in model delivery ≡ Ok y.0) same a.1
 
   pub code_form : (f : PopulationAndUnit → Answer) (code : List ℕ) (a : Answer) → given_answer f (inputs_in model delivery >>= with_code code) ≡ a
-      → IsFormOf form path messages model delivery a (formed_given form path delivery messages (λ x. x.0) f (inputs_in model delivery >>= with_code code))
+      → IsFormOf form path messages faults model delivery a (formed_given form path delivery messages faults (λ x. x.0) f (inputs_in model delivery >>= with_code code))
   code_form f code a same = is_form (λ x. x.0) f (inputs_in model delivery >>= with_code code) (code_described code) a same
 
   -- of a text
@@ -62,5 +63,5 @@ module _ (form : Form) (path : List ℕ) (messages : List RuleMessage) (model de
       subst (λ (y : PopulationAndRules). inputs_in model delivery ≡ Ok y.0) same a.1
 
   pub text_form : (f : PopulationAndRules → Answer) (t : TextReading) (a : Answer) → given_answer f (inputs_in model delivery >>= with_text t) ≡ a
-      → IsFormOf form path messages model delivery a (formed_given form path delivery messages (λ x. x.0) f (inputs_in model delivery >>= with_text t))
+      → IsFormOf form path messages faults model delivery a (formed_given form path delivery messages faults (λ x. x.0) f (inputs_in model delivery >>= with_text t))
   text_form f t a same = is_form (λ x. x.0) f (inputs_in model delivery >>= with_text t) (text_described t) a same

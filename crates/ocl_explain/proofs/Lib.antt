@@ -1,3 +1,4 @@
 pub mod Named
 pub mod Answering
 pub mod FormAnswers
+pub mod Confirmed

@@ -4,6 +4,7 @@
 use Rattle.std.specs.Prelude.{◌≡◌, ◌==◌, ◌-◌, ◌⊎◌, ◌&&◌, ℕ, zero, suc, Bool, true, not, List, [], ◌∷◌, ◌++◌, Option, Some, None, is_some, length, bytes_eq, codes, if◌then◌else◌}
 use Rattle.imkl_population.specs.Population.{Population}
 use Rattle.ocl_core.specs.Core.{CheckedRule}
+use Rattle.rule_code.specs.Content.{Content}
 use Rattle.ocl_check.specs.Reply.{Answer}
 use Rattle.ocl_check.specs.JudgeText.{meant_answer}
 use Rattle.report_forms.specs.ReportRows.{lines_in, words_in, word_at, ended_line}
@@ -11,6 +12,7 @@ use Rattle.explain_notes.specs.Lines.{cut_text}
 use Rattle.ocl_explain.specs.declared.weaving.Shown.{Shown}
 use Rattle.ocl_explain.specs.Judged.{AreJudged, IsRefusedBy}
 use Rattle.ocl_explain.specs.WhyAnswers.{rule_named, why_text}
+use Rattle.ocl_explain.specs.CodeWhy.{rule_number, code_why_text}
 
 -- ---- lines
 
@@ -36,11 +38,16 @@ abbrev pub is_line_wanted : Option (List ℕ) → List (List ℕ) → Bool
 is_line_wanted None words = true
 is_line_wanted (Some name) words = not (bytes_eq (word_at words 0) (codes "total")) && bytes_eq (word_at words 1) name
 
-module _ (p : Population) (rs : List CheckedRule) (shown : Shown) where
+-- what explains findings: which rules there are, by their names, and why one has its verdict for an object, by its id
+pub record Explainer : Type 0 where
+  pub has_rule : List ℕ → Bool
+  pub why : List ℕ → List ℕ → Option (List ℕ)
+
+module _ (e : Explainer) (shown : Shown) where
   -- below the line of a finding, if it may be explained
   abbrev pub below_finding : ℕ → List (List ℕ) → List ℕ
   below_finding zero words = []
-  below_finding (suc left) words = parts_shown shown.lines (why_text p rs (word_at words 1) (word_at words 2))
+  below_finding (suc left) words = parts_shown shown.lines (e.why (word_at words 1) (word_at words 2))
 
   abbrev pub explained_line : Option (List ℕ) → ℕ → List ℕ → List ℕ
   explained_line rule left line =
@@ -57,11 +64,21 @@ module _ (p : Population) (rs : List CheckedRule) (shown : Shown) where
   -- such rule
   abbrev pub reported : Option (List ℕ) → Answer → Answer
   reported None a = (explained_report None a.0, a.1)
-  reported (Some name) a = if is_some (rule_named rs name) then (explained_report (Some name) a.0, 0) else ([], 2)
+  reported (Some name) a = if e.has_rule name then (explained_report (Some name) a.0, 0) else ([], 2)
 
   -- a refusal, whose status is 2, stays as it is
   abbrev pub explained_answer : Option (List ℕ) → Answer → Answer
   explained_answer rule a = if a.1 == 2 then a else reported rule a
+
+-- ---- rules
+
+-- typed rules of a text
+abbrev pub rules_explainer : Population → List CheckedRule → Explainer
+rules_explainer p rs = record { has_rule = λ name. is_some (rule_named rs name); why = why_text p rs }
+
+-- the rules of a code file
+abbrev pub code_explainer : Population → Content → Explainer
+code_explainer p u = record { has_rule = λ name. is_some (rule_number u name); why = code_why_text p u }
 
 -- ---- inputs
 
@@ -69,5 +86,5 @@ module _ (p : Population) (rs : List CheckedRule) (shown : Shown) where
 -- which `judge` refuses an input
 abbrev pub ExplainedAnswers : ℕ → Shown → Option (List ℕ) → List ℕ → List ℕ → List ℕ → Answer → Type 0
 ExplainedAnswers budget shown rule model delivery rules answer =
-    ((p : Population) × (rs : List CheckedRule) × AreJudged budget model delivery rules p rs × (answer ≡ explained_answer p rs shown rule (meant_answer p rs)))
+    ((p : Population) × (rs : List CheckedRule) × AreJudged budget model delivery rules p rs × (answer ≡ explained_answer (rules_explainer p rs) shown rule (meant_answer p rs)))
     ⊎ IsRefusedBy budget model delivery rules answer

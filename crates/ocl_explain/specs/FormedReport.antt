@@ -9,6 +9,7 @@ use Rattle.ocl_pipeline.specs.Inputs.{model_of, population_of}
 use Rattle.ocl_check.specs.declared.commands.judge.JudgeOptions.{JudgeOptions}
 use Rattle.ocl_check.specs.Reply.{Answer, refused}
 use Rattle.ocl_check.specs.JudgeText.{JudgeAnswers}
+use Rattle.explain_faults.specs.declared.fault.Fault.{Fault}
 use Rattle.report_forms.specs.declared.beside.RuleMessage.{RuleMessage}
 use Rattle.report_forms.specs.declared.form.Form.{Form}
 use Rattle.report_forms.specs.Places.{entry_places}
@@ -20,35 +21,36 @@ use Rattle.report_forms.specs.Forms.{form_of_answer, form_of_refusal}
 abbrev pub context_in : List ℕ → List ℕ → List RuleMessage → Population → Context
 context_in path delivery messages p = record { path = path; population = p; places = entry_places delivery; messages = messages }
 
--- the form of the line of a refusal
-abbrev pub formed_refusal : Form → List ℕ → Answer → Answer
-formed_refusal form path a = (form_of_refusal form path a.0, a.1)
+-- the form of the line of a refusal, with some faults of what is refused
+abbrev pub formed_refusal : Form → List ℕ → List Fault → Answer → Answer
+formed_refusal form path faults a = (form_of_refusal form path faults a.0, a.1)
 
 -- that of any answer
-abbrev pub formed_in : Form → List ℕ → List ℕ → List RuleMessage → Population → Answer → Answer
-formed_in form path delivery messages p a = form_of_answer form (context_in path delivery messages p) a
+abbrev pub formed_in : Form → List ℕ → List ℕ → List RuleMessage → List Fault → Population → Answer → Answer
+formed_in form path delivery messages faults p a = form_of_answer form (context_in path delivery messages p) faults a
 
 -- that of what is answered of what the pipeline gives
-abbrev pub formed_given : {A : Type 0} → Form → List ℕ → List ℕ → List RuleMessage → (A → Population) → (A → Answer) → Result A Refusal → Answer
-formed_given form path delivery messages of f (Ok x) = formed_in form path delivery messages (of x) (f x)
-formed_given form path delivery messages of f (Err r) = formed_refusal form path (refused r)
+abbrev pub formed_given : {A : Type 0} → Form → List ℕ → List ℕ → List RuleMessage → List Fault → (A → Population) → (A → Answer) → Result A Refusal → Answer
+formed_given form path delivery messages faults of f (Ok x) = formed_in form path delivery messages faults (of x) (f x)
+formed_given form path delivery messages faults of f (Err r) = formed_refusal form path faults (refused r)
 
 -- it is due where this is why there is no other answer
-abbrev pub IsFormDue : Form → List ℕ → Stopped → Answer → Type 0
-IsFormDue form path (Refused r) formed = formed_refusal form path (refused r) ≡ formed
-IsFormDue form path OutOfMemory formed = ⊤
+abbrev pub IsFormDue : Form → List ℕ → List Fault → Stopped → Answer → Type 0
+IsFormDue form path faults (Refused r) formed = formed_refusal form path faults (refused r) ≡ formed
+IsFormDue form path faults OutOfMemory formed = ⊤
 
 -- the bytes of a class model and a delivery describe a population
 abbrev pub AreInputsOf : List ℕ → List ℕ → Population → Type 0
 AreInputsOf model delivery p = (m : Model) × (model_of model ≡ Ok m) × (population_of m delivery ≡ Ok p)
 
 -- the form of an answer: of a refusal, or of a report on the population
-abbrev pub IsFormOf : Form → List ℕ → List RuleMessage → List ℕ → List ℕ → Answer → Answer → Type 0
-IsFormOf form path messages model delivery a formed =
-    ((a.1 ≡ 2) × (formed ≡ formed_refusal form path a))
-    ⊎ ((p : Population) × AreInputsOf model delivery p × (formed ≡ formed_in form path delivery messages p a))
+abbrev pub IsFormOf : Form → List ℕ → List RuleMessage → List Fault → List ℕ → List ℕ → Answer → Answer → Type 0
+IsFormOf form path messages faults model delivery a formed =
+    ((a.1 ≡ 2) × (formed ≡ formed_refusal form path faults a))
+    ⊎ ((p : Population) × AreInputsOf model delivery p × (formed ≡ formed_in form path delivery messages faults p a))
 
--- what may be printed of the bytes of the three inputs, with some messages of rules
+-- what may be printed of the bytes of the three inputs, with some messages of rules, and with some faults where one is refused
 abbrev pub FormAnswers : Form → List ℕ → JudgeOptions → List ℕ → List ℕ → List ℕ → Answer → Type 0
 FormAnswers form path options model delivery rules formed =
-    (messages : List RuleMessage) × (a : Answer) × JudgeAnswers options model delivery rules a × IsFormOf form path messages model delivery a formed
+    (messages : List RuleMessage) × (faults : List Fault) × (a : Answer) × JudgeAnswers options model delivery rules a
+    × IsFormOf form path messages faults model delivery a formed

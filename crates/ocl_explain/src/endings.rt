@@ -1,6 +1,7 @@
 //! How the commands end that `ocl_check` doesn't have.
 
 use crate::explaining::{Ending, Words};
+use explain_faults::Faults;
 use explain_inputs::explain_model;
 use explain_notes::Input;
 use ocl_check::{CommandFault, Outcome};
@@ -36,9 +37,9 @@ pub(crate) fn refused(alloc: Global, words: Words) -> Ending {
 
 /// Why a class model is refused.
 pub(crate) fn model_refusal(alloc: Global, model: Input<'_>, refusal: &Refusal) -> Words {
-    let mut out = String::new(alloc);
+    let mut out = Faults::new(alloc);
     if let Refusal::Model(fault) = refusal {
         explain_model(alloc, &mut out, model, *fault)?;
     }
-    Ok(out)
+    Ok(out.into_words())
 }

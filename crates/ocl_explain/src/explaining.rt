@@ -5,6 +5,7 @@ ghost use Rattle.std.specs.Prelude.{◌≡◌};
 use crate::given::Given;
 use crate::refusals::explain_refusal;
 use crate::warnings::{warn_of_runs, warn_of_text};
+use explain_faults::{Fault, Faults};
 use imkl_model::ClassModel;
 use imkl_population::Population;
 use ocl_check::{Outcome, Watch};
@@ -36,6 +37,7 @@ pub(crate) struct Explaining<'a, L> {
     given: Given<'a>,
     listener: &'a L,
     words: Cell<Option<Words>>,
+    faults: Cell<Option<Result<Vec<Fault>, AllocError>>>,
 }
 
 impl<'a, L: Listener> Explaining<'a, L> {
@@ -45,6 +47,7 @@ impl<'a, L: Listener> Explaining<'a, L> {
             given,
             listener,
             words: Cell::new(None),
+            faults: Cell::new(None),
         }
     }
 
@@ -58,6 +61,34 @@ impl<'a, L: Listener> Explaining<'a, L> {
         self.words.set(Some(words));
     }
 
+    /// Keeps why an input is refused.
+    fn keep_faults(&self, faults: Result<Faults, AllocError>) {
+        match faults {
+            Ok(
+                Faults {
+                    words,
+                    list,
+                    skipped: _,
+                },
+            ) => {
+                self.keep(Ok(words));
+                self.faults.set(Some(Ok(list)));
+            }
+            Err(AllocError) => {
+                self.keep(Err(AllocError));
+                self.faults.set(Some(Err(AllocError)));
+            }
+        }
+    }
+
+    /// Takes the faults of the input that is refused; none, where none is. An error, where memory ran out before all were found.
+    pub(crate) fn take_faults(&self, alloc: Global) -> Result<Vec<Fault>, AllocError> {
+        match self.faults.replace(None) {
+            Some(faults) => faults,
+            None => Ok(Vec::new(alloc)),
+        }
+    }
+
     /// The ending of the command, with what was kept.
     pub(crate) fn ending(self, alloc: Global, outcome: Outcome) -> Ending
         ensures { result.outcome ≡ outcome }
@@ -66,6 +97,7 @@ impl<'a, L: Listener> Explaining<'a, L> {
             given: _,
             listener: _,
             words,
+            faults: _,
         } = self;
         let words = match words.into_inner() {
             Some(words) => words,
@@ -76,8 +108,13 @@ impl<'a, L: Listener> Explaining<'a, L> {
 }
 
 /// Why an input is refused.
-fn refusal_words(alloc: Global, given: Given<'_>, place: Place<'_>, refusal: &Refusal) -> Words {
-    let mut out = String::new(alloc);
+fn faults_of(
+    alloc: Global,
+    given: Given<'_>,
+    place: Place<'_>,
+    refusal: &Refusal,
+) -> Result<Faults, AllocError> {
+    let mut out = Faults::new(alloc);
     explain_refusal(alloc, &mut out, given, place, refusal)?;
     Ok(out)
 }
@@ -94,7 +131,7 @@ impl<L: Listener> Watch for Explaining<'_, L> {
 
     fn stop(&self, alloc: Global, place: Place<'_>, why: &Stopped) {
         if let Stopped::Refused(refusal) = why {
-            self.keep(refusal_words(alloc, self.given, place, refusal));
+            self.keep_faults(faults_of(alloc, self.given, place, refusal));
         }
     }
 }

@@ -1,5 +1,8 @@
-//! The faults of a rule text, more than the first: of types one in each rule, of the grammar one after each `context`.
+//! The faults of a rule text, more than the first: each character that begins no token, else of the grammar and of types one in
+//! each rule.
 
+use crate::characters::explain_characters;
+use explain_faults::Faults;
 use explain_notes::Input;
 use explain_text::explain_text_flaw;
 use explain_types::explain_type_flaw;
@@ -10,7 +13,10 @@ use ocl_types::{RulesFault, check_rules};
 use std::alloc::{AllocError, Global};
 
 /// The most faults of a text that are written.
-const MAX_FAULTS: usize = 20;
+pub(crate) const MAX_FAULTS: usize = 20;
+
+/// The most bytes from a `context` to its first rule with which its rules are read one by one.
+const MAX_CONTEXT: usize = 1000;
 
 /// What is looked for in a text, and how many faults were written already.
 #[derive(Drop)]
@@ -49,7 +55,7 @@ impl Search<'_> {
     fn explain_rules(
         &mut self,
         alloc: Global,
-        out: &mut String,
+        out: &mut Faults,
         rules: &[SurfaceRule],
     ) -> Result<(), AllocError> {
         for index in 0..rules.len() {
@@ -72,30 +78,119 @@ impl Search<'_> {
     }
 
     /// Writes the first fault of a part of the text, with nothing but white space before it, or else those of the types of
-    /// its rules.
+    /// its rules. Gives the offset of a fault of the grammar.
     fn explain_part(
         &mut self,
         alloc: Global,
-        out: &mut String,
+        out: &mut Faults,
         part: &str,
-    ) -> Result<(), AllocError> {
+    ) -> Result<Option<usize>, AllocError> {
         match parse_rules(alloc, part) {
-            Ok(rules) => self.explain_rules(alloc, out, &rules),
+            Ok(rules) => {
+                self.explain_rules(alloc, out, &rules)?;
+                Ok(None)
+            }
             // (of the whole text it was said)
             Err(
                 TextFault::At {
                     flaw: TextFlaw::DuplicateRule,
                     ..
                 },
-            ) => Ok(()),
+            ) => Ok(None),
             Err(TextFault::At { flaw, offset }) => {
                 if self.says_one_more() {
                     explain_text_flaw(alloc, out, self.input, flaw, offset)?;
                 }
-                Ok(())
+                Ok(Some(offset))
             }
             Err(TextFault::OutOfMemory) => Err(AllocError),
         }
+    }
+
+    /// Whether a text has a fault of the grammar up to an offset.
+    fn breaks_off(&self, alloc: Global, text: &str, offset: usize) -> Result<bool, AllocError> {
+        match parse_rules(alloc, text) {
+            Ok(_) => Ok(false),
+            Err(TextFault::At { offset: found, .. }) => Ok(found <= offset),
+            Err(TextFault::OutOfMemory) => Err(AllocError),
+        }
+    }
+
+    /// Writes the faults of a rule of a context, read by itself behind what stands before the first rule there. A fault of what
+    /// stands there was written.
+    fn explain_rule(
+        &mut self,
+        alloc: Global,
+        out: &mut Faults,
+        text: &str,
+        context: Range,
+        rule: Range,
+    ) -> Result<(), AllocError> {
+        let before = context.of(text);
+        let mut alone = String::from_str(alloc, before)?;
+        alone.push_str(rule.of(text))?;
+        if self.is_full()
+            || self.is_right(alloc, alone.as_str())?
+            || self.breaks_off(alloc, alone.as_str(), before.len())?
+        {
+            return Ok(());
+        }
+        let mut placed = part_alone(alloc, text, context.start, context.end)?;
+        let between = Range {
+            start: context.end,
+            end: rule.start,
+        };
+        put_blank(&mut placed, between.of(text))?;
+        placed.push_str(rule.of(text))?;
+        self.explain_part(alloc, out, placed.as_str())?;
+        Ok(())
+    }
+
+    /// Writes the faults of the rules of a part of the text, from a place of it on.
+    fn explain_rules_from(
+        &mut self,
+        alloc: Global,
+        out: &mut Faults,
+        text: &str,
+        part: Range,
+        rules: &[usize],
+        from: usize,
+    ) -> Result<(), AllocError> {
+        let Some(first) = rules.first() else {
+            return Ok(());
+        };
+        let context = Range {
+            start: part.start,
+            end: *first,
+        };
+        if context.of(text).len() > MAX_CONTEXT {
+            return Ok(());
+        }
+        for (index, start) in rules.iter().enumerate() {
+            if *start >= from {
+                let end = match rules.get(index.saturating_add(1)) {
+                    Some(next) => *next,
+                    None => part.end,
+                };
+                let rule = Range { start: *start, end };
+                self.explain_rule(alloc, out, text, context, rule)?;
+            }
+        }
+        Ok(())
+    }
+}
+
+/// A part of a text: where it begins and ends.
+#[derive(Clone, Copy)]
+struct Range {
+    start: usize,
+    end: usize,
+}
+
+impl Range {
+    /// The part.
+    fn of(self, text: &str) -> &str {
+        part_of(text, self.start, self.end)
     }
 }
 
@@ -107,14 +202,32 @@ fn part_of(text: &str, start: usize, end: usize) -> &str {
     }
 }
 
+/// Puts white space in place of a text, with its ends of lines.
+fn put_blank(out: &mut String, text: &str) -> Result<(), AllocError> {
+    for byte in text.as_bytes() {
+        out.push(if *byte == b'\n' { '\n' } else { ' ' })?;
+    }
+    Ok(())
+}
+
 /// A part of a text, with white space in place of what is before it, so that its faults are found at their places.
 fn part_alone(alloc: Global, text: &str, start: usize, end: usize) -> Result<String, AllocError> {
     let mut part = String::new(alloc);
-    for byte in text.as_bytes().iter().take(start) {
-        part.push(if *byte == b'\n' { '\n' } else { ' ' })?;
-    }
+    put_blank(&mut part, part_of(text, 0, start))?;
     part.push_str(part_of(text, start, end))?;
     Ok(part)
+}
+
+/// Where the rules of a part of a text begin: at each `inv`.
+fn rules_of(alloc: Global, tokens: &[Token<'_>], part: Range) -> Result<Vec<usize>, AllocError> {
+    let mut starts = Vec::new(alloc);
+    for token in tokens {
+        let start = token.span.start;
+        if matches!(token.kind, TokenKind::Inv) && part.start <= start && start < part.end {
+            starts.push(start)?;
+        }
+    }
+    Ok(starts)
 }
 
 /// Where the parts of a text begin: at its start, and at each `context`.
@@ -131,7 +244,7 @@ fn starts_of(alloc: Global, tokens: &[Token<'_>]) -> Result<Vec<usize>, AllocErr
 /// Writes the faults of the parts of a text.
 fn explain_parts(
     alloc: Global,
-    out: &mut String,
+    out: &mut Faults,
     search: &mut Search<'_>,
     text: &str,
     tokens: &[Token<'_>],
@@ -148,7 +261,11 @@ fn explain_parts(
         // (what is before a part is put before it only where it has a fault, so all parts are read in linear time)
         if !search.is_right(alloc, part_of(text, *start, end))? {
             let part = part_alone(alloc, text, *start, end)?;
-            search.explain_part(alloc, out, part.as_str())?;
+            if let Some(from) = search.explain_part(alloc, out, part.as_str())? {
+                let range = Range { start: *start, end };
+                let rules = rules_of(alloc, tokens, range)?;
+                search.explain_rules_from(alloc, out, text, range, &rules, from)?;
+            }
         }
     }
     Ok(())
@@ -157,7 +274,7 @@ fn explain_parts(
 /// Writes the faults of a rule text that isn't read, of which this is the first.
 pub(crate) fn explain_unread(
     alloc: Global,
-    out: &mut String,
+    out: &mut Faults,
     input: Input<'_>,
     model: &ClassModel,
     text: &str,
@@ -166,20 +283,22 @@ pub(crate) fn explain_unread(
 ) -> Result<(), AllocError> {
     let tokens = match tokens(alloc, text) {
         Ok(tokens) => tokens,
-        Err(TextFault::At { .. }) => return explain_text_flaw(alloc, out, input, flaw, offset),
+        Err(TextFault::At { .. }) => {
+            return explain_characters(alloc, out, input, text, flaw, offset);
+        }
         Err(TextFault::OutOfMemory) => return Err(AllocError),
     };
     if let TextFlaw::DuplicateRule = flaw {
         explain_text_flaw(alloc, out, input, flaw, offset)?;
     }
-    let before = out.len();
+    let before = out.list.len();
     let mut search = Search {
         input,
         model,
         said: 0,
     };
     explain_parts(alloc, out, &mut search, text, &tokens)?;
-    if out.len() == before && !matches!(flaw, TextFlaw::DuplicateRule) {
+    if out.list.len() == before && !matches!(flaw, TextFlaw::DuplicateRule) {
         explain_text_flaw(alloc, out, input, flaw, offset)?;
     }
     Ok(())
@@ -188,7 +307,7 @@ pub(crate) fn explain_unread(
 /// Writes the faults of the types of rules.
 pub(crate) fn explain_untyped(
     alloc: Global,
-    out: &mut String,
+    out: &mut Faults,
     input: Input<'_>,
     model: &ClassModel,
     rules: &[SurfaceRule],

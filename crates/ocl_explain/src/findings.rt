@@ -1,22 +1,18 @@
 //! The report of `judge` with the explanation of each finding below its line, or what it has of one rule.
 
-ghost use Rattle.std.specs.Prelude.{◌≡◌, ℕ, [], Some, None, is_some, map, option_map, false, true};
-ghost use Rattle.std.specs.List.{AllByRecursion};
-ghost use Rattle.ocl_core.specs.CoreView.{checked_rule_of};
-ghost use Rattle.ocl_core.specs.Typing.{IsTypedRule};
+ghost use Rattle.std.specs.Prelude.{◌≡◌, ℕ, [], Some, None, option_map, false, true};
 ghost use Rattle.ocl_check.specs.declared.commands.judge.TheConstants.{MAX_BUDGET};
 ghost use Rattle.ocl_check.specs.Answers.{IsAnswered, IsAnsweredBy, IsFlushedBy, KeepsSink, fails_read, fails_write};
 ghost use Rattle.ocl_check.specs.Ending.{IsEnding};
 ghost use Rattle.ocl_check.specs.Given.{given_answer};
 ghost use Rattle.ocl_check.specs.Reply.{Answer};
-ghost use Rattle.ocl_explain.specs.Explained.{explained_within};
+ghost use Rattle.ocl_explain.specs.Explained.{explained_within, code_explained_within, code_explained_answer};
 ghost use Rattle.ocl_explain.specs.ExplainedReport.{explained_report, reported, explained_answer, ExplainedAnswers};
-ghost use Rattle.ocl_explain.specs.WhyAnswers.{rule_named};
 
+use crate::explainer::{CodeRules, Explainer, TextRules};
 use crate::explaining::{Ending, Explaining, Listener, Nobody};
 use crate::given::{Given, options_of};
-use crate::unknown::unknown_rule;
-use crate::weaving::{Shown, explained_report};
+use crate::weaving::{Shown, Wanted, explained_report};
 use crate::writing::write_answer;
 use explain_notes::Input;
 use imkl_population::Population;
@@ -25,7 +21,7 @@ use ocl_check::{
     CommandFault, JudgeOptions, MAX_BUDGET, Outcome, Report, RulesForm, Sink, Telling, stop,
 };
 use ocl_core::CoreRule;
-use ocl_pipeline::{OfText, Place, Stopped, TextAsker, ask_inputs};
+use ocl_pipeline::{CodeAsker, OfCode, OfText, Place, Stopped, TextAsker, ask_inputs};
 use rule_verify::Accepted;
 use std::alloc::Global;
 
@@ -36,7 +32,7 @@ pub struct RuleAsked<'a> {
     pub model: Input<'a>,
     /// The delivery.
     pub delivery: Input<'a>,
-    /// The rule text.
+    /// The rule text, or the code file.
     pub rules: Input<'a>,
     /// The name of the rule.
     pub rule: &'a str,
@@ -53,40 +49,26 @@ struct ExplainedReport<'a, L> {
     watch: &'a Explaining<'a, L>,
 }
 
-/// Whether a rule has a name.
-fn is_rule(rules: &[CoreRule], name: &[u8]) -> bool
-    ensures { result ≡ is_some (rule_named (map checked_rule_of rules.now) name.now) }
-{
-    'rules: for rule in rules {
-        if rule.name.as_str().as_bytes() == name {
-            return true;
-        }
-    }
-    false
-}
-
 /// Writes a report with explanations, of which only the lines of one rule are wanted if its name is given.
-fn write_explained<S: Sink>(
+fn write_explained<E: Explainer, S: Sink>(
     alloc: Global,
+    explainer: &E,
     population: &Population<'_>,
-    rules: &[CoreRule],
-    shown: Shown,
-    rule: Option<&[u8]>,
+    wanted: Wanted<'_>,
     text: &[u8],
     status: u8,
     sink: &mut S,
 ) -> Outcome
-    requires typed { AllByRecursion (IsTypedRule population.now.content.model)
-        (map checked_rule_of rules.now) }
+    requires can { E.can_explain explainer.now population.now.content }
     requires well { S.has_failed sink.old ≡ false }
     ensures { IsEnding S.contents S.has_failed S.flushes S.has_pending true (
       explained_report
-          population.now.content (map checked_rule_of rules.now) shown
-          (option_map (λ r. r.now) rule.entry) text.now,
+          (E.explains explainer.now population.now.content) wanted.entry.shown
+          (option_map (λ r. r.now) wanted.entry.rule) text.now,
       status,
     ) sink.old result sink.new }
 {
-    match explained_report(alloc, population, rules, shown, rule, text) {
+    match explained_report(alloc, explainer, population, wanted, text) {
         Ok(explained) => write_answer(sink, &explained, status),
         Err(OutOfMemory) => Outcome::Failed(CommandFault::OutOfMemory),
     }
@@ -94,80 +76,84 @@ fn write_explained<S: Sink>(
 
 impl<L: Listener> ExplainedReport<'_, L> {
     /// Writes what a report has of the rule of a name; nothing, where there is no such rule.
-    fn write_named<S: Sink>(
+    fn write_named<E: Explainer, S: Sink>(
         &self,
         alloc: Global,
+        explainer: &E,
         population: &Population<'_>,
-        rules: &[CoreRule],
         name: &str,
         text: &[u8],
         sink: &mut S,
     ) -> Outcome
-        requires typed { AllByRecursion (IsTypedRule population.now.content.model)
-            (map checked_rule_of rules.now) }
+        requires can { E.can_explain explainer.now population.now.content }
         requires well { S.has_failed sink.old ≡ false }
         ensures { (status : ℕ) → IsEnding S.contents S.has_failed S.flushes S.has_pending true
-            (reported population.now.content (map checked_rule_of rules.now) self.now.shown
+            (reported (E.explains explainer.now population.now.content) self.now.shown
             (Some name.now) (text.now, status)) sink.old result sink.new }
     {
-        if !is_rule(rules, name.as_bytes()) {
+        if !explainer.has_rule(name.as_bytes()) {
             let path = self.watch.given().rules.path;
-            self.watch.keep(unknown_rule(alloc, path, name, rules));
+            self.watch.keep(explainer.unknown(alloc, path, name));
             return write_answer(sink, &[], 2);
         }
-        let rule = Some(name.as_bytes());
-        write_explained(alloc, population, rules, self.shown, rule, text, 0, sink)
+        let wanted = Wanted {
+            shown: self.shown,
+            rule: Some(name.as_bytes()),
+        };
+        write_explained(alloc, explainer, population, wanted, text, 0, sink)
     }
 
     /// Writes an answer of `judge` that has this status: a report with explanations, or of a refusal its line.
-    fn write_answered<S: Sink>(
+    fn write_answered<E: Explainer, S: Sink>(
         &self,
         alloc: Global,
+        explainer: &E,
         population: &Population<'_>,
-        rules: &[CoreRule],
         text: &[u8],
         status: u8,
         sink: &mut S,
     ) -> Outcome
-        requires typed { AllByRecursion (IsTypedRule population.now.content.model)
-            (map checked_rule_of rules.now) }
+        requires can { E.can_explain explainer.now population.now.content }
         requires well { S.has_failed sink.old ≡ false }
         ensures { IsEnding S.contents S.has_failed S.flushes S.has_pending true (explained_answer
-            population.now.content (map checked_rule_of rules.now) self.now.shown
+            (E.explains explainer.now population.now.content) self.now.shown
             (option_map (λ r. r.now) self.now.rule) (text.now, status)) sink.old result sink.new }
     {
         if status == 2 {
             return write_answer(sink, text, status);
         }
         match self.rule {
-            Some(name) => self.write_named(alloc, population, rules, name, text, sink),
-            None => write_explained(
-                alloc, population, rules, self.shown, None, text, status, sink,
-            ),
+            Some(name) => self.write_named(alloc, explainer, population, name, text, sink),
+            None => {
+                let wanted = Wanted {
+                    shown: self.shown,
+                    rule: None,
+                };
+                write_explained(alloc, explainer, population, wanted, text, status, sink)
+            }
         }
     }
 
     /// Writes what `judge` answered, of which it wrote these bytes into memory.
-    fn write_judged<S: Sink>(
+    fn write_judged<E: Explainer, S: Sink>(
         &self,
         alloc: Global,
+        explainer: &E,
         population: &Population<'_>,
-        rules: &[CoreRule],
         text: &[u8],
         judged: Outcome,
         sink: &mut S,
     ) -> Outcome
-        requires typed { AllByRecursion (IsTypedRule population.now.content.model)
-            (map checked_rule_of rules.now) }
+        requires can { E.can_explain explainer.now population.now.content }
         requires well { S.has_failed sink.old ≡ false }
         ensures { (said : Answer) → IsAnswered said (Some []) (Some text.now) judged →
             IsEnding S.contents S.has_failed S.flushes S.has_pending true (explained_answer
-            population.now.content (map checked_rule_of rules.now) self.now.shown
+            (E.explains explainer.now population.now.content) self.now.shown
             (option_map (λ r. r.now) self.now.rule) said) sink.old result sink.new }
     {
         match judged {
             Outcome::Status(status) => {
-                self.write_answered(alloc, population, rules, text, status, sink)
+                self.write_answered(alloc, explainer, population, text, status, sink)
             }
             // Memory takes all bytes that there is room for.
             Outcome::Failed(_) => Outcome::Failed(CommandFault::OutOfMemory),
@@ -197,9 +183,40 @@ impl<S: Sink, L: Listener> TextAsker<S> for ExplainedReport<'_, L> {
             watch: self.watch,
         };
         let mut memory = Telling::new(Vec::new(alloc));
-        let judged = report.ask(alloc, population, rules, accepted, &mut memory);
+        let judged = TextAsker::ask(&report, alloc, population, rules, accepted, &mut memory);
         let text = memory.into_inner();
-        self.write_judged(alloc, population, rules, &text, judged, sink)
+        let explainer = TextRules { rules };
+        self.write_judged(alloc, &explainer, population, &text, judged, sink)
+    }
+
+    fn stop(&self, alloc: Global, place: Place<'_>, why: Stopped, sink: &mut S) -> Outcome {
+        stop(alloc, self.watch, place, why, sink)
+    }
+}
+
+impl<S: Sink, L: Listener> CodeAsker<S> for ExplainedReport<'_, L> {
+    type Output = Outcome;
+
+    ghost can_ask = { λ s. S.has_failed s ≡ false };
+
+    ghost answers = { λ e given old o new. IsEnding S.contents S.has_failed S.flushes S.has_pending
+        true (given_answer (code_explained_within e.budget e.shown
+        (option_map (λ r. r.now) e.rule)) given) old o new };
+
+    fn ask(
+        &self,
+        alloc: Global,
+        population: &Population<'_>,
+        accepted: &Accepted<'_>,
+        sink: &mut S,
+    ) -> Outcome {
+        let (budget, watch) = (self.budget, self.watch);
+        let report = Report { budget, watch };
+        let mut memory = Telling::new(Vec::new(alloc));
+        let judged = CodeAsker::ask(&report, alloc, population, accepted, &mut memory);
+        let text = memory.into_inner();
+        let explainer = CodeRules { accepted };
+        self.write_judged(alloc, &explainer, population, &text, judged, sink)
     }
 
     fn stop(&self, alloc: Global, place: Place<'_>, why: Stopped, sink: &mut S) -> Outcome {
@@ -289,6 +306,87 @@ pub fn answer_why_rule<S: Sink>(alloc: Global, asked: RuleAsked<'_>, sink: &mut 
             watch: &watch,
         },
         text: asked.rules.bytes,
+    };
+    let outcome = ask_inputs(alloc, &asker, asked.model.bytes, asked.delivery.bytes, sink);
+    watch.ending(alloc, outcome)
+}
+
+/// What is read for a report by a code file.
+fn code_given<'a>(
+    model: Input<'a>,
+    delivery: Input<'a>,
+    code: Input<'a>,
+    budget: u64,
+) -> Given<'a> {
+    Given {
+        model,
+        delivery: Some(delivery),
+        rules: code,
+        script: None,
+        options: JudgeOptions {
+            form: RulesForm::Code,
+            budget,
+        },
+    }
+}
+
+/// Judges a delivery by a code file, within a budget, and writes the report with explanations as `answer_judge_why` does of a
+/// text: each expression is the core tree of a rule's code, whose meaning is the verdict of the report. A rule of more than
+/// `MAX_INSTRUCTIONS` instructions isn't explained. It is refused where `judge` refuses, and fails as `answer_judge_why` does.
+pub fn answer_judge_why_code<'i, S: Sink, L: Listener>(
+    alloc: Global,
+    listener: &'i L,
+    budget: u64,
+    shown: Shown,
+    model: Input<'i>,
+    delivery: Input<'i>,
+    code: Input<'i>,
+    sink: &mut S,
+) -> Ending
+    requires { S.has_failed sink.old ≡ false }
+    ensures answered { IsAnswered (code_explained_answer budget shown None
+        model.entry.bytes.now delivery.entry.bytes.now code.entry.bytes.now)
+        (S.contents sink.old) (S.contents sink.new) result.outcome }
+    ensures sink { S.has_failed sink.new ≡ fails_write result.outcome }
+    ensures flushed { IsFlushedBy S.flushes S.has_pending result.outcome sink.old sink.new }
+    ensures kept { KeepsSink result.outcome sink.old sink.new }
+    ensures read { fails_read result.outcome ≡ false }
+{
+    let watch = Explaining::new(code_given(model, delivery, code, budget), listener);
+    let asker = OfCode {
+        asker: &ExplainedReport {
+            budget,
+            shown,
+            rule: None,
+            watch: &watch,
+        },
+        code: code.bytes,
+    };
+    let outcome = ask_inputs(alloc, &asker, model.bytes, delivery.bytes, sink);
+    watch.ending(alloc, outcome)
+}
+
+/// Explains why a rule of a code file doesn't hold for the objects that it judges, as `answer_why_rule` does of a text.
+pub fn answer_why_code_rule<S: Sink>(alloc: Global, asked: RuleAsked<'_>, sink: &mut S) -> Ending
+    requires { S.has_failed sink.old ≡ false }
+    ensures answered { IsAnswered (code_explained_answer MAX_BUDGET asked.entry.shown
+        (Some asked.entry.rule.now) asked.entry.model.bytes.now asked.entry.delivery.bytes.now
+        asked.entry.rules.bytes.now) (S.contents sink.old) (S.contents sink.new) result.outcome }
+    ensures sink { S.has_failed sink.new ≡ fails_write result.outcome }
+    ensures flushed { IsFlushedBy S.flushes S.has_pending result.outcome sink.old sink.new }
+    ensures kept { KeepsSink result.outcome sink.old sink.new }
+    ensures read { fails_read result.outcome ≡ false }
+{
+    let given = code_given(asked.model, asked.delivery, asked.rules, MAX_BUDGET);
+    let watch = Explaining::new(given, &Nobody);
+    let asker = OfCode {
+        asker: &ExplainedReport {
+            budget: MAX_BUDGET,
+            shown: asked.shown,
+            rule: Some(asked.rule),
+            watch: &watch,
+        },
+        code: asked.rules.bytes,
     };
     let outcome = ask_inputs(alloc, &asker, asked.model.bytes, asked.delivery.bytes, sink);
     watch.ending(alloc, outcome)

@@ -6,6 +6,7 @@ ghost use Rattle.ocl_check.specs.Ending.{IsEnding};
 ghost use Rattle.ocl_check.specs.Given.{pair_answer, meant_within};
 ghost use Rattle.ocl_check.specs.Judge.{budget_answer};
 ghost use Rattle.ocl_check.specs.Reply.{Answer, refused};
+ghost use Rattle.explain_faults.specs.declared.fault.Fault.{Fault};
 ghost use Rattle.report_forms.specs.declared.beside.RuleMessage.{RuleMessage};
 ghost use Rattle.report_forms.specs.Forms.{form_of_report};
 ghost use Rattle.ocl_explain.specs.FormedReport.{context_in, formed_in, formed_refusal, formed_given, IsFormDue, FormAnswers};
@@ -13,6 +14,7 @@ ghost use Rattle.ocl_explain.specs.FormedReport.{context_in, formed_in, formed_r
 use crate::explaining::{Ending, Explaining, Listener};
 use crate::given::Given;
 use crate::writing::write_answer;
+use explain_faults::Fault;
 use explain_notes::Input;
 use imkl_population::Population;
 use ocl_check::{CommandFault, JudgeOptions, Outcome, Report, RulesForm, Sink, Telling, stop};
@@ -71,13 +73,20 @@ fn write_made<S: Sink>(sink: &mut S, made: Result<Vec<u8>, AllocError>, status: 
 
 impl<L: Listener> FormedReport<'_, L> {
     /// Writes the line of a refusal, with this status, in the form.
-    fn write_line<S: Sink>(&self, alloc: Global, text: &[u8], status: u8, sink: &mut S) -> Outcome
+    fn write_line<S: Sink>(
+        &self,
+        alloc: Global,
+        faults: &[Fault],
+        text: &[u8],
+        status: u8,
+        sink: &mut S,
+    ) -> Outcome
         requires { S.has_failed sink.old ≡ false }
         ensures { IsEnding S.contents S.has_failed S.flushes S.has_pending true (formed_refusal
-            self.now.form self.now.delivery.path.now (text.now, status))
+            self.now.form self.now.delivery.path.now faults.now (text.now, status))
             sink.old result sink.new }
     {
-        let made = form_of_refusal(alloc, self.form, self.delivery.path, text);
+        let made = form_of_refusal(alloc, self.form, self.delivery.path, faults, text);
         write_made(sink, made, status)
     }
 
@@ -85,6 +94,7 @@ impl<L: Listener> FormedReport<'_, L> {
     fn write_refusal<S: Sink>(
         &self,
         alloc: Global,
+        faults: &[Fault],
         text: &[u8],
         stopped: Outcome,
         sink: &mut S,
@@ -92,10 +102,11 @@ impl<L: Listener> FormedReport<'_, L> {
         requires { S.has_failed sink.old ≡ false }
         ensures { (said : Answer) → IsAnswered said (Some []) (Some text.now) stopped →
             IsEnding S.contents S.has_failed S.flushes S.has_pending true (formed_refusal
-            self.now.form self.now.delivery.path.now said) sink.old result sink.new }
+            self.now.form self.now.delivery.path.now faults.now said)
+            sink.old result sink.new }
     {
         match stopped {
-            Outcome::Status(status) => self.write_line(alloc, text, status, sink),
+            Outcome::Status(status) => self.write_line(alloc, faults, text, status, sink),
             // Memory takes all bytes that there is room for.
             Outcome::Failed(_) => Outcome::Failed(CommandFault::OutOfMemory),
         }
@@ -129,17 +140,18 @@ impl<L: Listener> FormedReport<'_, L> {
         alloc: Global,
         population: &Population<'_>,
         messages: &[RuleMessage],
+        faults: &[Fault],
         text: &[u8],
         status: u8,
         sink: &mut S,
     ) -> Outcome
         requires { S.has_failed sink.old ≡ false }
         ensures { IsEnding S.contents S.has_failed S.flushes S.has_pending true (formed_in
-            self.now.form self.now.delivery.path.now self.now.delivery.bytes.now
-            messages.now population.now.content (text.now, status)) sink.old result sink.new }
+            self.now.form self.now.delivery.path.now self.now.delivery.bytes.now messages.now
+            faults.now population.now.content (text.now, status)) sink.old result sink.new }
     {
         if status == 2 {
-            return self.write_line(alloc, text, status, sink);
+            return self.write_line(alloc, faults, text, status, sink);
         }
         self.write_report(alloc, population, messages, text, status, sink)
     }
@@ -150,6 +162,7 @@ impl<L: Listener> FormedReport<'_, L> {
         alloc: Global,
         population: &Population<'_>,
         messages: &[RuleMessage],
+        faults: &[Fault],
         text: &[u8],
         judged: Outcome,
         sink: &mut S,
@@ -157,12 +170,12 @@ impl<L: Listener> FormedReport<'_, L> {
         requires { S.has_failed sink.old ≡ false }
         ensures { (said : Answer) → IsAnswered said (Some []) (Some text.now) judged →
             IsEnding S.contents S.has_failed S.flushes S.has_pending true (formed_in
-            self.now.form self.now.delivery.path.now self.now.delivery.bytes.now
-            messages.now population.now.content said) sink.old result sink.new }
+            self.now.form self.now.delivery.path.now self.now.delivery.bytes.now messages.now
+            faults.now population.now.content said) sink.old result sink.new }
     {
         match judged {
             Outcome::Status(status) => {
-                self.write_answered(alloc, population, messages, text, status, sink)
+                self.write_answered(alloc, population, messages, faults, text, status, sink)
             }
             // Memory takes all bytes that there is room for.
             Outcome::Failed(_) => Outcome::Failed(CommandFault::OutOfMemory),
@@ -174,6 +187,7 @@ impl<L: Listener> FormedReport<'_, L> {
         &self,
         alloc: Global,
         population: &Population<'_>,
+        faults: &[Fault],
         text: &[u8],
         judged: Outcome,
         sink: &mut S,
@@ -182,11 +196,13 @@ impl<L: Listener> FormedReport<'_, L> {
         ensures { (said : Answer) → IsAnswered said (Some []) (Some text.now) judged →
             (messages : List RuleMessage) × IsEnding S.contents S.has_failed S.flushes
             S.has_pending true (formed_in self.now.form self.now.delivery.path.now
-            self.now.delivery.bytes.now messages population.now.content said)
+            self.now.delivery.bytes.now messages faults.now population.now.content said)
             sink.old result sink.new }
     {
         match rule_messages(alloc, self.rules) {
-            Ok(messages) => self.write_judged(alloc, population, &messages, text, judged, sink),
+            Ok(messages) => {
+                self.write_judged(alloc, population, &messages, faults, text, judged, sink)
+            }
             Err(_error) => Outcome::Failed(CommandFault::OutOfMemory),
         }
     }
@@ -200,8 +216,9 @@ impl<L: Listener> FormedReport<'_, L> {
         sink: &mut S,
     ) -> Outcome
         requires { S.has_failed sink.old ≡ false }
-        ensures { IsEnding S.contents S.has_failed S.flushes S.has_pending true (formed_refusal
-            self.now.form self.now.delivery.path.now (refused refusal)) sink.old result sink.new }
+        ensures { (faults : List Fault) × IsEnding S.contents S.has_failed S.flushes S.has_pending
+            true (formed_refusal self.now.form self.now.delivery.path.now faults (refused refusal))
+            sink.old result sink.new }
     {
         let mut memory = Telling::new(Vec::new(alloc));
         let stopped = stop(
@@ -212,7 +229,10 @@ impl<L: Listener> FormedReport<'_, L> {
             &mut memory,
         );
         let text = memory.into_inner();
-        self.write_refusal(alloc, &text, stopped, sink)
+        match self.watch.take_faults(alloc) {
+            Ok(faults) => self.write_refusal(alloc, &faults, &text, stopped, sink),
+            Err(_error) => Outcome::Failed(CommandFault::OutOfMemory),
+        }
     }
 
     /// Ends where an input is refused, or memory ran out.
@@ -224,9 +244,10 @@ impl<L: Listener> FormedReport<'_, L> {
         sink: &mut S,
     ) -> Outcome
         requires { S.has_failed sink.old ≡ false }
-        ensures { (a : Answer) → IsFormDue self.now.form self.now.delivery.path.now why a →
+        ensures { (faults : List Fault) × ((a : Answer) →
+            IsFormDue self.now.form self.now.delivery.path.now faults why a →
             IsEnding S.contents S.has_failed S.flushes S.has_pending true a
-            sink.old result sink.new }
+            sink.old result sink.new) }
     {
         match why {
             Stopped::Refused(refusal) => self.end_refused(alloc, place, refusal, sink),
@@ -240,9 +261,10 @@ impl<S: Sink, L: Listener> CodeAsker<S> for FormedReport<'_, L> {
 
     ghost can_ask = { λ s. S.has_failed s ≡ false };
 
-    ghost answers = { λ f given old o new. IsEnding S.contents S.has_failed S.flushes S.has_pending
-        true (formed_given f.form f.delivery.path.now f.delivery.bytes.now [] (λ x. x.0)
-        (pair_answer (budget_answer f.budget)) given) old o new };
+    ghost answers = { λ f given old o new. (faults : List Fault) × IsEnding S.contents S.has_failed
+        S.flushes S.has_pending true (formed_given f.form f.delivery.path.now
+        f.delivery.bytes.now [] faults (λ x. x.0) (pair_answer (budget_answer f.budget))
+        given) old o new };
 
     fn ask(
         &self,
@@ -258,7 +280,10 @@ impl<S: Sink, L: Listener> CodeAsker<S> for FormedReport<'_, L> {
         let mut memory = Telling::new(Vec::new(alloc));
         let judged = CodeAsker::ask(&report, alloc, population, accepted, &mut memory);
         let text = memory.into_inner();
-        self.write_judged(alloc, population, &[], &text, judged, sink)
+        match self.watch.take_faults(alloc) {
+            Ok(faults) => self.write_judged(alloc, population, &[], &faults, &text, judged, sink),
+            Err(_error) => Outcome::Failed(CommandFault::OutOfMemory),
+        }
     }
 
     fn stop(&self, alloc: Global, place: Place<'_>, why: Stopped, sink: &mut S) -> Outcome {
@@ -271,9 +296,10 @@ impl<S: Sink, L: Listener> TextAsker<S> for FormedReport<'_, L> {
 
     ghost can_ask = { λ s. S.has_failed s ≡ false };
 
-    ghost answers = { λ f given old o new. (messages : List RuleMessage) × IsEnding S.contents
-        S.has_failed S.flushes S.has_pending true (formed_given f.form f.delivery.path.now
-        f.delivery.bytes.now messages (λ x. x.0) (meant_within f.budget) given) old o new };
+    ghost answers = { λ f given old o new. (messages : List RuleMessage) × (faults : List Fault) ×
+        IsEnding S.contents S.has_failed S.flushes S.has_pending true (formed_given f.form
+        f.delivery.path.now f.delivery.bytes.now messages faults (λ x. x.0)
+        (meant_within f.budget) given) old o new };
 
     fn ask(
         &self,
@@ -290,7 +316,12 @@ impl<S: Sink, L: Listener> TextAsker<S> for FormedReport<'_, L> {
         let mut memory = Telling::new(Vec::new(alloc));
         let judged = TextAsker::ask(&report, alloc, population, rules, accepted, &mut memory);
         let text = memory.into_inner();
-        self.write_with_messages(alloc, population, &text, judged, sink)
+        match self.watch.take_faults(alloc) {
+            Ok(faults) => {
+                self.write_with_messages(alloc, population, &faults, &text, judged, sink)
+            }
+            Err(_error) => Outcome::Failed(CommandFault::OutOfMemory),
+        }
     }
 
     fn stop(&self, alloc: Global, place: Place<'_>, why: Stopped, sink: &mut S) -> Outcome {
@@ -313,8 +344,8 @@ pub struct FormAsked<'a> {
     pub form: Form,
 }
 
-/// Judges a delivery by rules as `run_judge` does, and writes the report, or what is refused, in a form, with the same status.
-/// Each finding has the place of its object's entry in the delivery, the object's class, and of rules that come as text the
+/// Judges a delivery by rules as `run_judge` does, and writes the report, or what is refused and its faults, in a form, with the
+/// same status. Each finding has the place of its object's entry in the delivery, the object's class, and of rules that come as text the
 /// rule's message. The listener hears what it hears of `answer_judge`.
 ///
 /// The answer is put together whole before its first byte is written. `Failed(OutOfMemory)`: memory ran out; nothing was

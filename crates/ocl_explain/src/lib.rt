@@ -3,9 +3,16 @@
 #![tactic(auto)]
 
 mod answers;
+mod characters;
+mod code_whys;
+mod console;
 mod costs;
 mod differences;
 mod endings;
+mod eval_words;
+mod evals;
+mod exampling;
+mod explainer;
 mod explaining;
 mod faults;
 mod findings;
@@ -13,9 +20,11 @@ mod formed;
 mod given;
 mod last_error;
 mod listing;
+mod probing;
 mod refusals;
 mod schema;
 mod selecting;
+mod showing;
 mod testing;
 mod texts;
 mod unknown;
@@ -26,14 +35,22 @@ mod whys;
 mod writing;
 
 pub use answers::{answer_bound, answer_compile, answer_desk, answer_judge, answer_verify};
+pub use code_whys::{answer_why_code, is_code_file};
+pub use console::{ConsoleAsked, EXPRESSION, Terminal, run_console, value_line};
 pub use differences::put_differences;
+pub use eval_words::Unvalued;
+pub use evals::{EvalAsked, Valued, evaluate_expression};
+pub use exampling::{Example, ExampleAsked, find_example, rule_names};
 pub use explaining::{Ending, Listener, Words};
-pub use findings::{RuleAsked, answer_judge_why, answer_why_rule};
+pub use findings::{
+    RuleAsked, answer_judge_why, answer_judge_why_code, answer_why_code_rule, answer_why_rule,
+};
 pub use formed::{FormAsked, answer_judge_form};
 pub use last_error::WithLastError;
 pub use listing::list_code;
 pub use schema::print_schema;
 pub use selecting::{Selected, select_rules};
+pub use showing::show_code;
 pub use testing::{Tested, test_rules};
 pub use weaving::Shown;
 pub use whys::{WhyAsked, answer_why};

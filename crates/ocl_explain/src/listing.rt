@@ -5,15 +5,28 @@ ghost use Rattle.std.specs.Prelude.{◌≡◌, false, OnOk};
 use crate::endings::{ended, failed, model_refusal, refused};
 use crate::explaining::{Ending, Words};
 use crate::refusals::explain_rejected;
+use code_as_ocl::put_rule;
 use explain_code::{explain_code_flaw, list_counts, list_rule};
+use explain_faults::Faults;
 use explain_notes::Input;
 use imkl_model::ClassModel;
+use ocl_base::OutOfMemory;
 use ocl_check::{CommandFault, Sink};
-use ocl_pipeline::{Rejected, Stopped, accept, read_model};
+use ocl_pipeline::{Rejected, Stopped, accept_code, read_model};
 use rule_code::{CodeFault, CodeFlaw, Unit, read_unit};
 use rule_report::write_and_flush;
-use rule_verify::{Resolved, resolve};
+use rule_verify::{Accepted, Resolved, resolve};
 use std::alloc::Global;
+
+/// A unit that is listed, with what there is of it in a class model.
+#[derive(Clone, Copy)]
+struct Listed<'l> {
+    unit: &'l Unit,
+    /// With its symbols looked up.
+    resolved: Option<&'l Resolved<'l>>,
+    /// Accepted.
+    accepted: Option<&'l Accepted<'l>>,
+}
 
 /// Writes a part of a listing.
 fn write_part<S: Sink>(sink: &mut S, part: &str) -> Result<(), CommandFault>
@@ -26,20 +39,37 @@ fn write_part<S: Sink>(sink: &mut S, part: &str) -> Result<(), CommandFault>
     }
 }
 
+/// A rule as OCL, if its code is accepted; else nothing.
+fn rule_as_ocl(
+    alloc: Global,
+    accepted: Option<&Accepted<'_>>,
+    rule: usize,
+) -> Result<String, CommandFault> {
+    let mut text = String::new(alloc);
+    match accepted {
+        Some(accepted) if rule < accepted.rules() => {
+            match put_rule(alloc, &mut text, accepted, rule) {
+                Ok(()) => Ok(text),
+                Err(OutOfMemory) => Err(CommandFault::OutOfMemory),
+            }
+        }
+        _ => Ok(text),
+    }
+}
+
 /// Writes a rule of a unit that begins at an offset; returns where it ends.
 fn write_rule<S: Sink>(
     alloc: Global,
     sink: &mut S,
-    unit: &Unit,
-    resolved: Option<&Resolved<'_>>,
+    listed: Listed<'_>,
     rule: usize,
     begin: usize,
 ) -> Result<usize, CommandFault>
     requires { S.has_failed sink.old ≡ false }
     ensures { OnOk result (S.has_failed sink.new ≡ false) }
 {
-    let mut part = String::new(alloc);
-    let Ok(end) = list_rule(alloc, &mut part, unit, resolved, rule, begin) else {
+    let mut part = rule_as_ocl(alloc, listed.accepted, rule)?;
+    let Ok(end) = list_rule(alloc, &mut part, listed.unit, listed.resolved, rule, begin) else {
         return Err(CommandFault::OutOfMemory);
     };
     write_part(sink, part.as_str())?;
@@ -47,38 +77,66 @@ fn write_rule<S: Sink>(
 }
 
 /// Writes a unit in words, each rule as soon as it is put together.
-fn write_unit<S: Sink>(
-    alloc: Global,
-    sink: &mut S,
-    unit: &Unit,
-    resolved: Option<&Resolved<'_>>,
-) -> Result<(), CommandFault>
+fn write_unit<S: Sink>(alloc: Global, sink: &mut S, listed: Listed<'_>) -> Result<(), CommandFault>
     requires { S.has_failed sink.old ≡ false }
 {
     let mut counts = String::new(alloc);
-    let Ok(first) = list_counts(&mut counts, unit) else {
+    let Ok(first) = list_counts(&mut counts, listed.unit) else {
         return Err(CommandFault::OutOfMemory);
     };
     write_part(sink, counts.as_str())?;
     let mut offset = first;
-    for rule in 0..unit.rules.len() {
-        offset = write_rule(alloc, sink, unit, resolved, rule, offset)?;
+    for rule in 0..listed.unit.rules.len() {
+        offset = write_rule(alloc, sink, listed, rule, offset)?;
     }
     Ok(())
 }
 
 /// Why a unit is rejected.
 fn rejection(alloc: Global, code: Input<'_>, model: &ClassModel, rejected: Rejected) -> Words {
-    let mut out = String::new(alloc);
+    let mut out = Faults::new(alloc);
     explain_rejected(alloc, &mut out, code, model, rejected)?;
-    Ok(out)
+    Ok(out.into_words())
 }
 
-/// Verifies a unit, and says why it isn't accepted for a class model, if it isn't.
-fn verify_listed(alloc: Global, code: Input<'_>, model: &ClassModel, unit: Unit) -> Ending {
-    match accept(alloc, model, unit) {
-        Ok(_accepted) => ended(alloc),
-        Err(rejected) => refused(alloc, rejection(alloc, code, model, rejected)),
+/// Lists a unit that is accepted, each rule as OCL above its instructions.
+fn list_accepted<S: Sink>(
+    alloc: Global,
+    sink: &mut S,
+    resolved: &Resolved<'_>,
+    accepted: &Accepted<'_>,
+) -> Ending
+    requires { S.has_failed sink.old ≡ false }
+{
+    let listed = Listed {
+        unit: resolved.unit(),
+        resolved: Some(resolved),
+        accepted: Some(accepted),
+    };
+    match write_unit(alloc, sink, listed) {
+        Ok(()) => ended(alloc),
+        Err(fault) => failed(alloc, fault),
+    }
+}
+
+/// Lists a unit that isn't accepted, and says why.
+fn list_rejected<S: Sink>(
+    alloc: Global,
+    sink: &mut S,
+    code: Input<'_>,
+    resolved: &Resolved<'_>,
+    rejected: Rejected,
+) -> Ending
+    requires { S.has_failed sink.old ≡ false }
+{
+    let listed = Listed {
+        unit: resolved.unit(),
+        resolved: Some(resolved),
+        accepted: None,
+    };
+    match write_unit(alloc, sink, listed) {
+        Ok(()) => refused(alloc, rejection(alloc, code, resolved.model(), rejected)),
+        Err(fault) => failed(alloc, fault),
     }
 }
 
@@ -91,11 +149,10 @@ fn list_resolved<S: Sink>(
 ) -> Ending
     requires { S.has_failed sink.old ≡ false }
 {
-    if let Err(fault) = write_unit(alloc, sink, resolved.unit(), Some(&resolved)) {
-        return failed(alloc, fault);
+    match accept_code(alloc, resolved.model(), code.bytes) {
+        Ok(accepted) => list_accepted(alloc, sink, &resolved, &accepted),
+        Err(rejected) => list_rejected(alloc, sink, code, &resolved, rejected),
     }
-    let model = resolved.model();
-    verify_listed(alloc, code, model, resolved.into_unit())
 }
 
 /// Lists a unit, and says why it isn't accepted for a class model, if there is one and it isn't.
@@ -109,7 +166,12 @@ fn list_unit<S: Sink>(
     requires { S.has_failed sink.old ≡ false }
 {
     let Some(model) = model else {
-        return match write_unit(alloc, sink, &unit, None) {
+        let listed = Listed {
+            unit: &unit,
+            resolved: None,
+            accepted: None,
+        };
+        return match write_unit(alloc, sink, listed) {
             Ok(()) => ended(alloc),
             Err(fault) => failed(alloc, fault),
         };

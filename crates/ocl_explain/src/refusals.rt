@@ -1,17 +1,18 @@
-//! Why an input is refused, in words, by the refusal and what had been read by then. After a refused delivery the rules are
+//! Why an input is refused, by the refusal and what had been read by then. After a refused delivery the rules are
 //! looked at too.
 
 use crate::costs::explain_cost;
 use crate::given::Given;
 use crate::texts::explain_text;
 use explain_code::{Refused, explain_code_flaw, explain_verify_flaw};
+use explain_faults::Faults;
 use explain_inputs::{explain_delivery, explain_model};
-use explain_notes::{Input, write_marked};
+use explain_notes::{Input, Note};
 use imkl_delivery::DeliveryFault;
 use imkl_model::ClassModel;
 use ocl_check::RulesForm;
 use ocl_pipeline::{Place, Refusal, Rejected, Stopped, accept_code, compile_text};
-use rule_code::Unit;
+use rule_code::{CodeFlaw, Unit};
 use std::alloc::{AllocError, Global};
 
 /// Where a line of a text begins, in bytes from 0.
@@ -31,30 +32,46 @@ fn offset_of_line(bytes: &[u8], line: usize) -> usize {
 /// Writes which line of a script is no call.
 fn explain_script(
     alloc: Global,
-    out: &mut String,
+    out: &mut Faults,
     input: Input<'_>,
     line: usize,
 ) -> Result<(), AllocError> {
-    let (path, bytes) = (input.path, input.bytes);
-    let offset = offset_of_line(bytes, line);
-    writeln!(out, "{path}:{line}:1: this line is no call (script {line})")?;
-    write_marked(alloc, out, bytes, offset, 1, "")?;
-    writeln!(
-        out,
-        "  the calls are `enter`, `grant K N`, `lines K` and `withdraw K`, with single spaces and decimal digits"
-    )
+    let fault = format!(in alloc; "script {line}")?;
+    let note = Note {
+        input,
+        offset: offset_of_line(input.bytes, line),
+        length: 1,
+        message: "this line is no call",
+        fault: fault.as_str(),
+        label: "",
+        help: "the calls are `enter`, `grant K N`, `lines K` and `withdraw K`, with single spaces and decimal digits",
+    };
+    out.add_note(alloc, &note)
+}
+
+/// Writes why bytes are no code file.
+fn explain_code(
+    alloc: Global,
+    out: &mut Faults,
+    input: Input<'_>,
+    flaw: CodeFlaw,
+    offset: usize,
+) -> Result<(), AllocError> {
+    let mut words = String::new(alloc);
+    explain_code_flaw(alloc, &mut words, input, flaw, offset)?;
+    out.add_written(alloc, input.path, words.as_str())
 }
 
 /// Writes why the rules are refused: a text, or the bytes of a code file.
 fn explain_rules(
     alloc: Global,
-    out: &mut String,
+    out: &mut Faults,
     input: Input<'_>,
     model: &ClassModel,
     refusal: &Refusal,
 ) -> Result<(), AllocError> {
     match refusal {
-        Refusal::Code { flaw, offset } => explain_code_flaw(alloc, out, input, *flaw, *offset),
+        Refusal::Code { flaw, offset } => explain_code(alloc, out, input, *flaw, *offset),
         _ => explain_text(alloc, out, input, model, refusal),
     }
 }
@@ -62,7 +79,7 @@ fn explain_rules(
 /// Writes why the code of a unit isn't accepted.
 fn explain_unit(
     alloc: Global,
-    out: &mut String,
+    out: &mut Faults,
     input: Input<'_>,
     model: &ClassModel,
     unit: Unit,
@@ -75,7 +92,9 @@ fn explain_unit(
                 rule: *rule,
                 at: *at,
             };
-            explain_verify_flaw(alloc, out, input, model, unit, refused)
+            let mut words = String::new(alloc);
+            explain_verify_flaw(alloc, &mut words, input, model, unit, refused)?;
+            out.add_written(alloc, input.path, words.as_str())
         }
         _ => Ok(()),
     }
@@ -84,7 +103,7 @@ fn explain_unit(
 /// Writes why a rule text is refused, if it is.
 fn look_at_text(
     alloc: Global,
-    out: &mut String,
+    out: &mut Faults,
     input: Input<'_>,
     model: &ClassModel,
 ) -> Result<(), AllocError> {
@@ -100,7 +119,7 @@ fn look_at_text(
 /// Writes why a code file, or its unit, is rejected.
 pub(crate) fn explain_rejected(
     alloc: Global,
-    out: &mut String,
+    out: &mut Faults,
     input: Input<'_>,
     model: &ClassModel,
     rejected: Rejected,
@@ -118,7 +137,7 @@ pub(crate) fn explain_rejected(
 /// Writes why a code file is refused, if it is.
 fn look_at_code(
     alloc: Global,
-    out: &mut String,
+    out: &mut Faults,
     input: Input<'_>,
     model: &ClassModel,
 ) -> Result<(), AllocError> {
@@ -131,7 +150,7 @@ fn look_at_code(
 /// Writes why a delivery is refused, and then why the rules are, if they are.
 fn explain_delivery_and_rules(
     alloc: Global,
-    out: &mut String,
+    out: &mut Faults,
     given: Given<'_>,
     model: &ClassModel,
     fault: &DeliveryFault,
@@ -148,7 +167,7 @@ fn explain_delivery_and_rules(
 /// Writes why an input is refused, by where the pipeline stopped.
 pub(crate) fn explain_refusal(
     alloc: Global,
-    out: &mut String,
+    out: &mut Faults,
     given: Given<'_>,
     place: Place<'_>,
     refusal: &Refusal,

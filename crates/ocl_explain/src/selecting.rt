@@ -66,12 +66,30 @@ fn stays(parts: &[Part<'_>], index: usize, names: &str) -> bool {
     false
 }
 
-/// Puts spaces in place of a part, but for its ends of lines.
-fn blank(text: &mut Vec<u8>, part: Part<'_>) {
+/// What a text has from an offset on up to the end of that line.
+fn rest_of_line(text: &str, offset: usize) -> &str {
+    let rest = text.as_bytes().get(offset..).unwrap_or(&[]);
+    let length = rest.iter().position(|byte| *byte == b'\n');
+    let line = rest.get(..length.unwrap_or(rest.len())).unwrap_or(rest);
+    str::from_utf8(line).unwrap_or("")
+}
+
+/// Where a part ends whose last token ends at an offset: behind the comment that follows on that line, if there is nothing else.
+fn end_of(text: &str, end: usize) -> usize {
+    let rest = rest_of_line(text, end);
+    if rest.trim().starts_with("--") {
+        return end.saturating_add(rest.len());
+    }
+    end
+}
+
+/// Puts spaces in place of a part of the whole text, and of the comment behind it on its last line, but for ends of lines. So that
+/// comment isn't taken for the message of the next rule.
+fn blank(text: &mut Vec<u8>, whole: &str, part: Part<'_>) {
     let (Some(first), Some(last)) = (part.tokens.first(), part.tokens.last()) else {
         return;
     };
-    for index in first.span.start..last.span.end {
+    for index in first.span.start..end_of(whole, last.span.end) {
         if let Some(byte) = text.get_mut(index)
             && *byte != b'\n'
         {
@@ -122,10 +140,11 @@ pub enum Selected {
 }
 
 /// Leaves the rules of some names in a text, which are separated by commas. A text that has no tokens stays as it is, and so
-/// does each comment between rules.
+/// does each comment that stands on lines of its own.
 pub fn select_rules(alloc: Global, rules: Input<'_>, names: &str) -> Result<Selected, AllocError> {
     let mut text = Vec::from_slice(alloc, rules.bytes)?;
-    let tokens = match tokens(alloc, str::from_utf8(rules.bytes).unwrap_or("")) {
+    let whole = str::from_utf8(rules.bytes).unwrap_or("");
+    let tokens = match tokens(alloc, whole) {
         Ok(tokens) => tokens,
         Err(TextFault::At { .. }) => return Ok(Selected::Text(text)),
         Err(TextFault::OutOfMemory) => return Err(AllocError),
@@ -136,7 +155,7 @@ pub fn select_rules(alloc: Global, rules: Input<'_>, names: &str) -> Result<Sele
     }
     for (index, part) in parts.iter().enumerate() {
         if !stays(&parts, index, names) {
-            blank(&mut text, *part);
+            blank(&mut text, whole, *part);
         }
     }
     Ok(Selected::Text(text))

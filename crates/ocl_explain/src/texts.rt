@@ -1,6 +1,7 @@
 //! Why a rule text is refused: as a text, for the types of its rules, or for a limit of code.
 
 use crate::faults::{explain_unread, explain_untyped};
+use explain_faults::Faults;
 use explain_notes::{Input, Note};
 use explain_text::explain_text_flaw;
 use imkl_model::ClassModel;
@@ -28,10 +29,10 @@ fn limit_words(limit: Limit) -> (&'static str, &'static str) {
     }
 }
 
-/// Writes a note at the word `inv` of a rule.
-fn write_at_rule<'n>(
+/// Adds a note at the word `inv` of a rule.
+fn add_at_rule<'n>(
     alloc: Global,
-    out: &mut String,
+    out: &mut Faults,
     input: Input<'n>,
     rule: Option<&SurfaceRule>,
     message: &'n str,
@@ -51,12 +52,12 @@ fn write_at_rule<'n>(
         label: "",
         help,
     };
-    note.write(alloc, out)
+    out.add_note(alloc, &note)
 }
 
 fn explain_limit(
     alloc: Global,
-    out: &mut String,
+    out: &mut Faults,
     input: Input<'_>,
     rules: &[SurfaceRule],
     limit: Limit,
@@ -65,7 +66,7 @@ fn explain_limit(
     let (message, help) = limit_words(limit);
     let number = limit.number();
     let fault = format!(in alloc; "compile {number}")?;
-    write_at_rule(
+    add_at_rule(
         alloc,
         out,
         input,
@@ -76,10 +77,10 @@ fn explain_limit(
     )
 }
 
-/// Writes why a text isn't read that has this flaw first.
+/// Says why a text isn't read that has this flaw first.
 fn explain_flaw(
     alloc: Global,
-    out: &mut String,
+    out: &mut Faults,
     input: Input<'_>,
     model: &ClassModel,
     flaw: TextFlaw,
@@ -100,10 +101,10 @@ pub(crate) fn rules_of(alloc: Global, input: Input<'_>) -> Result<Vec<SurfaceRul
     }
 }
 
-/// Writes why a rule text is refused.
+/// Says why a rule text is refused.
 pub(crate) fn explain_text(
     alloc: Global,
-    out: &mut String,
+    out: &mut Faults,
     input: Input<'_>,
     model: &ClassModel,
     refusal: &Refusal,

@@ -1,12 +1,12 @@
 //! The explanation of the verdict of a rule for an object, by the rule's name and the object's id.
 
-ghost use Rattle.std.specs.Prelude.{◌≡◌, ◌<◌, length, map, IfOk};
+ghost use Rattle.std.specs.Prelude.{◌≡◌, ◌<◌, length, map, is_some, IfOk};
 ghost use Rattle.std.specs.List.{AllByRecursion};
 ghost use Rattle.imkl_population.specs.Population.{object_number};
 ghost use Rattle.ocl_core.specs.CoreView.{checked_rule_of};
 ghost use Rattle.ocl_core.specs.Typing.{IsTypedRule};
 ghost use Rattle.ocl_explain.specs.Explained.{found_text};
-ghost use Rattle.ocl_explain.specs.WhyAnswers.{judged_text, text_for_object, why_text};
+ghost use Rattle.ocl_explain.specs.WhyAnswers.{judged_text, text_for_object, rule_named, why_text};
 
 use explain_why::explain_verdict;
 use imkl_population::{ObjectNo, Population};
@@ -99,4 +99,16 @@ pub(crate) fn find_verdict<'m>(
         }
     }
     Ok(Found::NoRule)
+}
+
+/// Whether a rule has a name.
+pub(crate) fn is_rule(rules: &[CoreRule], name: &[u8]) -> bool
+    ensures { result ≡ is_some (rule_named (map checked_rule_of rules.now) name.now) }
+{
+    'rules: for rule in rules {
+        if rule.name.as_str().as_bytes() == name {
+            return true;
+        }
+    }
+    false
 }

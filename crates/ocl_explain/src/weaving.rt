@@ -1,24 +1,19 @@
 //! A report with the explanation of each finding below its line.
 
 ghost use Rattle.std.specs.Prelude.{◌≡◌, ◌++◌, map, option_map, IfOk, OnOk, Some, string_bytes};
-ghost use Rattle.std.specs.List.{AllByRecursion};
-ghost use Rattle.ocl_core.specs.CoreView.{checked_rule_of};
-ghost use Rattle.ocl_core.specs.Typing.{IsTypedRule};
 ghost use Rattle.report_forms.specs.ReportRows.{words_in, word_at};
-ghost use Rattle.ocl_explain.specs.Explained.{found_text};
-ghost use Rattle.ocl_explain.specs.WhyAnswers.{why_text};
+ghost use Rattle.ocl_explain.specs.FindingView.{finding_text};
 ghost use Rattle.ocl_explain.specs.ExplainedReport.{after_line, parts_shown, left_after, is_line_wanted, explained_line, explained_report};
 
-use crate::verdicts::{Found, find_verdict};
+use crate::explainer::{Explainer, Finding};
 use explain_notes::cut_text;
 use imkl_population::Population;
 use ocl_base::OutOfMemory;
-use ocl_core::CoreRule;
 use report_forms::{lines_in, put_ended, word_at, words_in};
 use std::alloc::Global;
 
 /// How much is shown of the explanations of a report.
-#[derive(Clone, Copy, Debug, PartialEq, Eq)]
+#[derive(Clone, Copy)]
 pub struct Shown {
     /// The greatest number of findings of a rule that are explained.
     pub findings: usize,
@@ -26,13 +21,13 @@ pub struct Shown {
     pub lines: usize,
 }
 
-/// A population, and typed rules by which it is judged.
+/// What is wanted of a report with explanations.
 #[derive(Clone, Copy)]
-struct Judged<'j, 'm> {
-    population: &'j Population<'m>,
-    rules: &'j [CoreRule],
+pub(crate) struct Wanted<'w> {
+    /// How much is shown.
+    pub(crate) shown: Shown,
     /// The name of the rule whose lines are wanted, if only those are.
-    rule: Option<&'j [u8]>,
+    pub(crate) rule: Option<&'w [u8]>,
 }
 
 /// Where a report is gone over.
@@ -71,29 +66,23 @@ fn put_parts(
     Ok(())
 }
 
-/// Puts the explanation of the verdict of a rule for an object, of which these are the name and the id; returns where the next
-/// object is looked for.
-fn put_explanation(
+/// Puts the explanation of a finding, if there is one; returns where the next object is looked for.
+fn put_finding(
     alloc: Global,
     out: &mut Vec<u8>,
-    judged: Judged<'_, '_>,
+    finding: Option<Finding>,
     lines: usize,
     first: usize,
-    name: &[u8],
-    id: &[u8],
 ) -> Result<usize, OutOfMemory>
-    requires { AllByRecursion (IsTypedRule judged.population.now.content.model)
-        (map checked_rule_of judged.rules.now) }
-    ensures { OnOk result (out.new.items ≡ out.old.items ++ parts_shown lines (why_text
-        judged.entry.population.now.content (map checked_rule_of judged.entry.rules.now)
-        name.now id.now)) }
+    ensures { OnOk result (out.new.items ≡ out.old.items ++
+        parts_shown lines (option_map finding_text finding)) }
 {
-    match find_verdict(alloc, judged.population, judged.rules, name, first, id)? {
-        Found::Explained { text, object } => {
+    match finding {
+        Some(Finding { text, object }) => {
             put_parts(alloc, out, &text, lines)?;
             Ok(object.index())
         }
-        Found::NoRule | Found::NoObject | Found::NotJudged { .. } => Ok(first),
+        None => Ok(first),
     }
 }
 
@@ -109,30 +98,30 @@ fn is_line_wanted(rule: Option<&[u8]>, words: &[&[u8]]) -> bool
 }
 
 /// Puts a line of a report, and below that of a finding its explanation, if it may be explained; returns how it goes on.
-fn put_line(
+fn put_line<E: Explainer>(
     alloc: Global,
     out: &mut Vec<u8>,
-    judged: Judged<'_, '_>,
-    shown: Shown,
+    explainer: &E,
+    population: &Population<'_>,
+    wanted: Wanted<'_>,
     progress: Progress,
     line: &[u8],
 ) -> Result<Progress, OutOfMemory>
-    requires { AllByRecursion (IsTypedRule judged.population.now.content.model)
-        (map checked_rule_of judged.rules.now) }
+    requires { E.can_explain explainer.now population.now.content }
     ensures left { IfOk result (λ g. g.left ≡
-        left_after shown.findings progress.left line.now) }
+        left_after wanted.entry.shown.findings progress.left line.now) }
     ensures text { OnOk result (out.new.items ≡ out.old.items ++ explained_line
-        judged.entry.population.now.content (map checked_rule_of judged.entry.rules.now)
-        shown (option_map (λ r. r.now) judged.entry.rule) progress.left line.now) }
+        (E.explains explainer.now population.now.content) wanted.entry.shown
+        (option_map (λ r. r.now) wanted.entry.rule) progress.left line.now) }
 {
     let words = words_in(alloc, line)?;
-    let is_wanted = is_line_wanted(judged.rule, &words);
+    let is_wanted = is_line_wanted(wanted.rule, &words);
     if is_wanted {
         put_ended(out, line)?;
     }
     if words.len() != 3 {
         return Ok(Progress {
-            left: shown.findings,
+            left: wanted.shown.findings,
             first: 0,
         });
     }
@@ -142,15 +131,8 @@ fn put_line(
             first: progress.first,
         });
     }
-    let first = put_explanation(
-        alloc,
-        out,
-        judged,
-        shown.lines,
-        progress.first,
-        words[1],
-        words[2],
-    )?;
+    let finding = explainer.explain(alloc, population, words[1], progress.first, words[2])?;
+    let first = put_finding(alloc, out, finding, wanted.shown.lines, progress.first)?;
     Ok(Progress {
         left: progress.left - 1,
         first,
@@ -158,32 +140,28 @@ fn put_line(
 }
 
 /// A report with the explanation of each finding below its line, or what it has of the rule of a name.
-pub(crate) fn explained_report(
+pub(crate) fn explained_report<E: Explainer>(
     alloc: Global,
+    explainer: &E,
     population: &Population<'_>,
-    rules: &[CoreRule],
-    shown: Shown,
-    rule: Option<&[u8]>,
+    wanted: Wanted<'_>,
     text: &[u8],
 ) -> Result<Vec<u8>, OutOfMemory>
-    requires { AllByRecursion (IsTypedRule population.now.content.model)
-        (map checked_rule_of rules.now) }
-    ensures { IfOk result (λ v. v.items ≡ explained_report population.now.content
-        (map checked_rule_of rules.now) shown (option_map (λ r. r.now) rule.entry) text.now) }
+    requires { E.can_explain explainer.now population.now.content }
+    ensures { IfOk result (λ v. v.items ≡ explained_report
+        (E.explains explainer.now population.now.content) wanted.entry.shown
+        (option_map (λ r. r.now) wanted.entry.rule) text.now) }
 {
     let lines = lines_in(alloc, text)?;
-    let judged = Judged {
-        population,
-        rules,
-        rule,
-    };
     let mut progress = Progress {
-        left: shown.findings,
+        left: wanted.shown.findings,
         first: 0,
     };
     let mut out = Vec::new(alloc);
     'lines: for line in &lines {
-        progress = put_line(alloc, &mut out, judged, shown, progress, line)?;
+        progress = put_line(
+            alloc, &mut out, explainer, population, wanted, progress, line,
+        )?;
     }
     Ok(out)
 }

@@ -52,7 +52,12 @@ struct Explanation<'a> {
 }
 
 /// Writes so many lines of an explanation.
-fn write_explanation<S: Sink>(alloc: Global, text: &String, lines: usize, sink: &mut S) -> Outcome
+pub(crate) fn write_explanation<S: Sink>(
+    alloc: Global,
+    text: &String,
+    lines: usize,
+    sink: &mut S,
+) -> Outcome
     requires { S.has_failed sink.old ≡ false }
     ensures { IsEnding S.contents S.has_failed S.flushes S.has_pending false
         (shown_answer lines (why_answer (Some (string_bytes text.now)))) sink.old result sink.new }
@@ -64,7 +69,11 @@ fn write_explanation<S: Sink>(alloc: Global, text: &String, lines: usize, sink: 
 }
 
 /// Writes nothing, and keeps the words that say why.
-fn write_unknown<S: Sink>(watch: &Explaining<'_, Nobody>, words: Words, sink: &mut S) -> Outcome
+pub(crate) fn write_unknown<S: Sink>(
+    watch: &Explaining<'_, Nobody>,
+    words: Words,
+    sink: &mut S,
+) -> Outcome
     requires { S.has_failed sink.old ≡ false }
     ensures { IsEnding S.contents S.has_failed S.flushes S.has_pending false (why_answer None)
         sink.old result sink.new }

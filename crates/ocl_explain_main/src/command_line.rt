@@ -1,5 +1,12 @@
 //! The command line.
 
+use crate::eval_words::{EvalWords, eval, eval_words};
+use crate::examples_words::{ExampleWords, example_words, examples};
+use crate::show_words::{ShowWords, show, show_words};
+use crate::summary_words::{SummaryWords, summary, summary_words};
+use crate::text_words::{
+    TextsAsked, compile_also, compile_search, judge_also, judge_search, put_also, searches,
+};
 use clap::{Arg, ArgAction, ArgMatches, Command, Error, value_parser};
 use ocl_explain::Shown;
 use ocl_programs::{
@@ -48,8 +55,9 @@ no delivery. 3: memory, a read or a write failed.";
 const WHY: &str = "\
 Prints the verdict of a rule for an object, and below it each part of the rule's expression with its
 value: of a part that is null or invalid why it is, of an iteration the elements that decide it. RULES
-is a rule text, RULE the name of one of its rules and ID the id of an object of its context class.
-Without ID it prints what judge prints of the rule, and explains each object for which it doesn't hold.
+is a rule text or a code file, RULE the name of one of its rules and ID the id of an object of its
+context class. The expression of a code file's rule is the one that show prints. Without ID it prints what
+judge prints of the rule, and explains each object for which it doesn't hold.
 Of a long explanation the first lines are printed, and how many more there are. For instance
   ocl_explain why examples/catalogue.json examples/network.json examples/network.rules deepEnough E3
 
@@ -90,14 +98,31 @@ pub struct Printing<'a> {
 pub enum Asked<'a> {
     /// To answer a command of `ocl_check`, and to explain the answer; how a report is printed.
     Answer(Request<'a>, Printing<'a>),
+    /// To evaluate expressions.
+    Eval(EvalWords<'a>),
+    /// To search for deliveries that show what rules mean.
+    Examples(ExampleWords<'a>),
     /// To list a code file.
     List(ListFiles<'a>),
     /// To print the JSON Schema of the deliveries of a class model, by its path.
     Schema(&'a str),
+    /// To show the rules of a code file as OCL.
+    Show(ShowWords<'a>),
+    /// To sum up a folder of reports.
+    Summary(SummaryWords<'a>),
     /// To test rules by the deliveries of a folder.
     Test(TestWords<'a>),
     /// To explain a verdict.
     Why(WhyWords<'a>),
+}
+
+/// A command line that was read.
+#[derive(Drop)]
+pub struct CommandLine<'a> {
+    /// What is asked.
+    pub asked: Asked<'a>,
+    /// What is asked of rule texts, where `judge` or `compile` is.
+    pub texts: TextsAsked<'a>,
 }
 
 /// The files that `list` names.
@@ -187,8 +212,7 @@ fn explained<'a>(alloc: Global) -> Result<Arg<'a>, AllocError> {
     Arg::new(alloc, "why")
         .long("why")
         .action(ArgAction::SetTrue)
-        .help("Prints below each finding the parts of the rule with their values; with --text")
-        .requires_arg("text")?
+        .help("Prints below each finding the parts of the rule with their values")
         .conflicts_with("json")?
         .conflicts_with("format")
 }
@@ -290,7 +314,7 @@ fn why<'a>(alloc: Global) -> Result<Command<'a>, AllocError> {
         .arg(
             Arg::new(alloc, "RULES")
                 .required(true)
-                .help("The rule text"),
+                .help("The rule text, or a code file"),
         )?
         .arg(
             Arg::new(alloc, "RULE")
@@ -318,14 +342,24 @@ fn command<'a>(alloc: Global) -> Result<Command<'a>, AllocError> {
                 .arg(rules(alloc)?)?
                 .arg(explained(alloc)?)?
                 .arg(findings(alloc)?)?
-                .arg(finding_lines(alloc)?)?,
+                .arg(finding_lines(alloc)?)?
+                .arg(judge_also(alloc)?)?
+                .arg(judge_search(alloc)?)?,
         )?
-        .subcommand(compile(alloc)?)?
+        .subcommand(
+            compile(alloc)?
+                .arg(compile_also(alloc))?
+                .arg(compile_search(alloc))?,
+        )?
         .subcommand(verify(alloc)?)?
         .subcommand(bound(alloc)?)?
         .subcommand(desk(alloc)?)?
+        .subcommand(eval(alloc)?)?
+        .subcommand(examples(alloc)?)?
         .subcommand(list(alloc)?)?
         .subcommand(schema(alloc)?)?
+        .subcommand(show(alloc)?)?
+        .subcommand(summary(alloc)?)?
         .subcommand(test(alloc)?)?
         .subcommand(why(alloc)?)
 }
@@ -395,9 +429,21 @@ fn asked_by<'a>(matches: &ArgMatches<'a>) -> Asked<'a> {
             model: files.get_str("MODEL"),
         });
     }
+    if let Some(eval) = matches.subcommand_matches("eval") {
+        return Asked::Eval(eval_words(eval));
+    }
+    if let Some(examples) = matches.subcommand_matches("examples") {
+        return Asked::Examples(example_words(examples));
+    }
     let schema = matches.subcommand_matches("schema");
     if schema.is_some() {
         return Asked::Schema(word(schema, "MODEL"));
+    }
+    if let Some(show) = matches.subcommand_matches("show") {
+        return Asked::Show(show_words(show));
+    }
+    if let Some(summary) = matches.subcommand_matches("summary") {
+        return Asked::Summary(summary_words(summary));
     }
     if let Some(test) = matches.subcommand_matches("test") {
         return Asked::Test(test_words(test));
@@ -419,8 +465,24 @@ fn asked_by<'a>(matches: &ArgMatches<'a>) -> Asked<'a> {
     Asked::Answer(request_of(matches), printing)
 }
 
+/// What a command line asks of rule texts, beside what is asked of other inputs.
+fn texts_asked<'a>(alloc: Global, matches: &ArgMatches<'a>) -> Result<TextsAsked<'a>, AllocError> {
+    let judge = matches.subcommand_matches("judge");
+    let compile = matches.subcommand_matches("compile");
+    let mut also = Vec::new(alloc);
+    put_also(&mut also, judge)?;
+    put_also(&mut also, compile)?;
+    Ok(TextsAsked {
+        also,
+        searches: searches(judge) || searches(compile),
+    })
+}
+
 /// What the words ask.
-pub(crate) fn read_words<'a>(alloc: Global, words: &'a [String]) -> Result<Asked<'a>, Error> {
+pub(crate) fn read_words<'a>(alloc: Global, words: &'a [String]) -> Result<CommandLine<'a>, Error> {
     let matches = command(alloc)?.try_get_matches_from(words)?;
-    Ok(asked_by(&matches))
+    Ok(CommandLine {
+        asked: asked_by(&matches),
+        texts: texts_asked(alloc, &matches)?,
+    })
 }

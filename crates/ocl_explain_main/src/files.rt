@@ -1,11 +1,11 @@
 //! Inputs that are read whole before any is looked at, outputs, and why one fails.
 
-use explain_notes::Input;
+use explain_notes::{Input, visible_text};
 use ocl_check::{CommandFault, CountedReader, InputFault, MAX_INPUT, read_input};
 use ocl_explain::WithLastError;
 use ocl_programs::STANDARD_INPUT;
 use std::fs;
-use std::io::{Error, ErrorKind, Read};
+use std::io::{self, Error, ErrorKind, Read, Write};
 
 /// An input that was read.
 #[derive(Drop)]
@@ -24,6 +24,14 @@ impl Bytes<'_> {
     }
 }
 
+/// A path as it is shown: a file's name may be a stranger's. Empty where memory runs out.
+fn shown_path(rt: &HostRuntime, path: &str) -> String {
+    match visible_text(rt.alloc(), path.as_bytes()) {
+        Ok(shown) => shown,
+        Err(_) => String::new(rt.alloc()),
+    }
+}
+
 /// Reads a file whole, or standard input. Where it can't be read the reason is reported, in the system's own words.
 pub fn read_file<'a>(rt: &HostRuntime, path: &'a str) -> Result<Bytes<'a>, CommandFault> {
     if path == STANDARD_INPUT {
@@ -32,7 +40,8 @@ pub fn read_file<'a>(rt: &HostRuntime, path: &'a str) -> Result<Bytes<'a>, Comma
     match fs::open(rt, path) {
         Ok(file) => read_whole(rt, path, file),
         Err(error) => {
-            let _ = eprintln!(rt; "{path}: it can't be opened: {error}");
+            let shown = shown_path(rt, path);
+            let _ = eprintln!(rt; "{shown}: it can't be opened: {error}");
             Err(CommandFault::Read)
         }
     }
@@ -49,9 +58,10 @@ fn read_whole<'a, R: Read + Drop>(
         Ok(bytes) => Ok(Bytes { path, bytes }),
         Err(InputFault::OutOfMemory) => Err(CommandFault::OutOfMemory),
         Err(InputFault::Read) => {
+            let shown = shown_path(rt, path);
             let _ = match source.into_inner().error() {
-                Some(error) => eprintln!(rt; "{path}: it can't be read: {error}"),
-                None => eprintln!(rt; "{path}: it has more than {MAX_INPUT} bytes"),
+                Some(error) => eprintln!(rt; "{shown}: it can't be read: {error}"),
+                None => eprintln!(rt; "{shown}: it has more than {MAX_INPUT} bytes"),
             };
             Err(CommandFault::Read)
         }
@@ -64,6 +74,52 @@ pub fn report_write(rt: &HostRuntime, what: &str, error: Option<Error>) {
     if let Some(error) = error
         && error.kind() != ErrorKind::BrokenPipe
     {
-        let _ = eprintln!(rt; "{what}: it can't be written: {error}");
+        let shown = shown_path(rt, what);
+        let _ = eprintln!(rt; "{shown}: it can't be written: {error}");
     }
+}
+
+/// What was made in memory.
+pub fn in_memory<T: Drop, E: Drop>(made: Result<T, E>) -> Result<T, CommandFault> {
+    match made {
+        Ok(made) => Ok(made),
+        Err(_) => Err(CommandFault::OutOfMemory),
+    }
+}
+
+/// Prints a text on standard output.
+pub fn print(rt: &HostRuntime, text: &str) -> Result<(), CommandFault> {
+    print_bytes(rt, text.as_bytes())
+}
+
+/// Prints bytes on standard output.
+pub fn print_bytes(rt: &HostRuntime, bytes: &[u8]) -> Result<(), CommandFault> {
+    match io::writer(rt).write_all(bytes) {
+        Ok(()) => Ok(()),
+        Err(error) => {
+            report_write(rt, "standard output", Some(error));
+            Err(CommandFault::Write)
+        }
+    }
+}
+
+/// Writes a file whole.
+pub fn write_file(rt: &HostRuntime, path: &str, bytes: &[u8]) -> Result<(), CommandFault> {
+    match fs::write(rt, path, bytes) {
+        Ok(()) => Ok(()),
+        Err(error) => {
+            report_write(rt, path, Some(error));
+            Err(CommandFault::Write)
+        }
+    }
+}
+
+/// Why a folder couldn't be listed.
+pub fn unlisted(rt: &HostRuntime, folder: &str, error: Error) -> CommandFault {
+    if error.kind() == ErrorKind::OutOfMemory {
+        return CommandFault::OutOfMemory;
+    }
+    let shown = shown_path(rt, folder);
+    let _ = eprintln!(rt; "{shown}: it can't be listed: {error}");
+    CommandFault::Read
 }

@@ -1,16 +1,18 @@
 //! The commands over files: every input is read before the first is looked at.
 
-use crate::command_line::{ListFiles, Printing, ReportForm};
+use crate::command_line::{ListFiles, Printing};
+use crate::compiling::compile;
 use crate::files::{read_file, report_write};
+use crate::judging::judge;
+use crate::placing::{Places, placed};
+use crate::text_words::TextsAsked;
 use explain_notes::Input;
-use ocl_check::{CommandFault, JudgeOptions, Outcome, Telling};
+use ocl_check::{CommandFault, Outcome, Telling};
 use ocl_explain::{
-    Ending, FormAsked, Listener, Selected, WithLastError, Words, answer_bound, answer_compile,
-    answer_desk, answer_judge, answer_judge_form, answer_judge_why, answer_verify, list_code,
-    print_schema, select_rules,
+    Ending, Listener, WithLastError, Words, answer_bound, answer_desk, answer_verify, list_code,
+    print_schema,
 };
-use ocl_programs::{CompileFiles, DeskFiles, LazyOutput, Request, RuleFiles, VerifyFiles};
-use std::alloc::AllocError;
+use ocl_programs::{DeskFiles, Request, RuleFiles, VerifyFiles};
 use std::io;
 
 /// Says on standard error why an input was refused, or what is hardly meant.
@@ -21,15 +23,29 @@ pub fn say(rt: &HostRuntime, words: &Words) {
     };
 }
 
+/// Says words on rule texts, each place in the text that it is in.
+fn say_placed(rt: &HostRuntime, places: Places<'_>, words: &Words) {
+    if places.parts.is_empty() {
+        return say(rt, words);
+    }
+    match words {
+        Ok(text) => say(rt, &placed(rt.alloc(), places, text.as_str())),
+        Err(_) => say(rt, words),
+    }
+}
+
 /// Says at once what is heard.
 #[derive(Clone, Copy)]
-struct StandardError<'a> {
-    rt: &'a HostRuntime,
+pub struct StandardError<'a> {
+    /// The handle of standard error.
+    pub rt: &'a HostRuntime,
+    /// Where the rule texts are, if several were joined.
+    pub places: Places<'a>,
 }
 
 impl Listener for StandardError<'_> {
     fn hear(&self, words: Words) {
-        say(self.rt, &words);
+        say_placed(self.rt, self.places, &words);
     }
 }
 
@@ -41,84 +57,12 @@ pub fn end(rt: &HostRuntime, ending: Ending) -> Outcome {
     ending.outcome
 }
 
-/// How a delivery is judged, and how the report is printed.
-#[derive(Clone, Copy, Drop)]
-struct Judging<'a> {
-    options: JudgeOptions,
-    printing: Printing<'a>,
-}
-
-/// Prints the report, or what is refused.
-fn print_report<'i>(
-    rt: &HostRuntime,
-    judging: Judging<'_>,
-    model: Input<'i>,
-    delivery: Input<'i>,
-    rules: Input<'i>,
-) -> Outcome {
-    let mut sink = Telling::new(WithLastError::new(io::writer(rt)));
-    let (alloc, listener, options) = (rt.alloc(), &StandardError { rt }, judging.options);
-    let ending = match judging.printing.form {
-        ReportForm::Plain => {
-            answer_judge(alloc, listener, options, model, delivery, rules, &mut sink)
-        }
-        ReportForm::Formed(form) => {
-            let asked = FormAsked {
-                model,
-                delivery,
-                rules,
-                options,
-                form,
-            };
-            answer_judge_form(alloc, listener, asked, &mut sink)
-        }
-        ReportForm::Explained(shown) => {
-            let budget = options.budget;
-            answer_judge_why(
-                alloc, listener, budget, shown, model, delivery, rules, &mut sink,
-            )
-        }
-    };
-    report_write(rt, "standard output", sink.into_inner().error());
-    end(rt, ending)
-}
-
-/// Prints the report by some rules of a text, or that there is no rule of a name.
-fn print_selected<'i>(
-    rt: &HostRuntime,
-    judging: Judging<'_>,
-    names: &str,
-    model: Input<'i>,
-    delivery: Input<'i>,
-    rules: Input<'i>,
-) -> Outcome {
-    match select_rules(rt.alloc(), rules, names) {
-        Ok(Selected::Text(text)) => {
-            let path = rules.path;
-            let rules = Input { path, bytes: &text };
-            print_report(rt, judging, model, delivery, rules)
-        }
-        Ok(Selected::Unknown(words)) => {
-            let _ = rt.eprint(words.as_str());
-            Outcome::Status(2)
-        }
-        Err(AllocError) => Outcome::Failed(CommandFault::OutOfMemory),
+/// Says what is said behind an answer by rule texts, if that was written.
+pub fn end_placed(rt: &HostRuntime, places: Places<'_>, ending: Ending) -> Outcome {
+    if let Outcome::Status(_) = ending.outcome {
+        say_placed(rt, places, &ending.words);
     }
-}
-
-fn judge(
-    rt: &HostRuntime,
-    files: RuleFiles<'_>,
-    judging: Judging<'_>,
-) -> Result<Outcome, CommandFault> {
-    let model = read_file(rt, files.model)?;
-    let delivery = read_file(rt, files.delivery)?;
-    let rules = read_file(rt, files.rules)?;
-    let (model, delivery, rules) = (model.input(), delivery.input(), rules.input());
-    Ok(match judging.printing.rules {
-        Some(names) => print_selected(rt, judging, names, model, delivery, rules),
-        None => print_report(rt, judging, model, delivery, rules),
-    })
+    ending.outcome
 }
 
 fn bound_inputs<'i>(
@@ -180,27 +124,17 @@ fn verify(rt: &HostRuntime, files: VerifyFiles<'_>) -> Result<Outcome, CommandFa
     Ok(verify_inputs(rt, model.input(), code.input()))
 }
 
-fn compile_inputs(rt: &HostRuntime, path: &str, model: Input<'_>, rules: Input<'_>) -> Outcome {
-    let mut out = Telling::new(WithLastError::new(LazyOutput::new(rt, path)));
-    let mut sink = Telling::new(WithLastError::new(io::writer(rt)));
-    let ending = answer_compile(rt.alloc(), model, rules, &mut out, &mut sink);
-    report_write(rt, path, out.into_inner().error());
-    report_write(rt, "standard output", sink.into_inner().error());
-    end(rt, ending)
-}
-
-fn compile(rt: &HostRuntime, files: CompileFiles<'_>) -> Result<Outcome, CommandFault> {
-    let model = read_file(rt, files.model)?;
-    let rules = read_file(rt, files.rules)?;
-    Ok(compile_inputs(rt, files.out, model.input(), rules.input()))
-}
-
 /// Answers a command of `ocl_check` as it does, with a report in the form that is wanted, and explains a refusal on standard
 /// error.
-pub fn answer(rt: &HostRuntime, request: Request<'_>, printing: Printing<'_>) -> Outcome {
+pub fn answer(
+    rt: &HostRuntime,
+    request: Request<'_>,
+    printing: Printing<'_>,
+    texts: &TextsAsked<'_>,
+) -> Outcome {
     let answered = match request {
-        Request::Judge(files, options) => judge(rt, files, Judging { options, printing }),
-        Request::Compile(files) => compile(rt, files),
+        Request::Judge(files, options) => judge(rt, files, options, printing, texts),
+        Request::Compile(files) => compile(rt, files, texts),
         Request::Bound(files) => bound(rt, files),
         Request::Verify(files) => verify(rt, files),
         Request::Desk(files) => desk(rt, files),

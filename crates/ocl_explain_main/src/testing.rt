@@ -1,14 +1,12 @@
 //! Tests of rules: the deliveries of a folder, each with the report that is wanted.
 
 use crate::command_line::TestWords;
-use crate::files::{Bytes, read_file, report_write};
+use crate::files::{Bytes, in_memory, print, read_file, unlisted, write_file};
 use crate::requests::say;
 use explain_notes::{Input, visible_text};
 use ocl_check::{CommandFault, JudgeOptions, MAX_BUDGET, Outcome, RulesForm};
 use ocl_explain::{Tested, put_differences, test_rules};
-use std::alloc::AllocError;
 use std::fs;
-use std::io::{Error, ErrorKind};
 
 /// How a test ended.
 #[derive(Clone, Copy)]
@@ -39,34 +37,6 @@ impl Counts {
     }
 }
 
-/// What was made in memory.
-fn in_memory<T: Drop>(made: Result<T, AllocError>) -> Result<T, CommandFault> {
-    match made {
-        Ok(made) => Ok(made),
-        Err(_) => Err(CommandFault::OutOfMemory),
-    }
-}
-
-/// Prints what is written on standard output.
-fn print(rt: &HostRuntime, text: &str) -> Result<(), CommandFault> {
-    match rt.print(text) {
-        Ok(()) => Ok(()),
-        Err(error) => {
-            report_write(rt, "standard output", Some(error));
-            Err(CommandFault::Write)
-        }
-    }
-}
-
-/// Why a folder couldn't be listed.
-fn unlisted(rt: &HostRuntime, folder: &str, error: Error) -> CommandFault {
-    if error.kind() == ErrorKind::OutOfMemory {
-        return CommandFault::OutOfMemory;
-    }
-    let _ = eprintln!(rt; "{folder}: it can't be listed: {error}");
-    CommandFault::Read
-}
-
 /// The names of a folder's deliveries in order, without `.json`.
 fn delivery_names(rt: &HostRuntime, folder: &str) -> Result<Vec<String>, CommandFault> {
     let entries = match fs::read_dir(rt, folder) {
@@ -95,17 +65,6 @@ fn wanted_report<'a>(rt: &HostRuntime, path: &'a str) -> Result<Option<Bytes<'a>
     match fs::exists(rt, path) {
         Ok(false) => Ok(None),
         Ok(true) | Err(_) => Ok(Some(read_file(rt, path)?)),
-    }
-}
-
-/// Writes the report that is wanted from now on.
-fn write_report(rt: &HostRuntime, path: &str, report: &[u8]) -> Result<(), CommandFault> {
-    match fs::write(rt, path, report) {
-        Ok(()) => Ok(()),
-        Err(error) => {
-            report_write(rt, path, Some(error));
-            Err(CommandFault::Write)
-        }
     }
 }
 
@@ -146,7 +105,7 @@ fn finish(
         return Ok(End::Passed);
     }
     if accepts {
-        write_report(rt, report_path, &tested.report)?;
+        write_file(rt, report_path, &tested.report)?;
         print(
             rt,
             in_memory(format!(in rt.alloc(); "written {name}\n"))?.as_str(),

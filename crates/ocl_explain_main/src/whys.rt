@@ -5,13 +5,20 @@ use crate::files::{read_file, report_write};
 use crate::requests::end;
 use explain_notes::Input;
 use ocl_check::{CommandFault, Outcome, Telling};
-use ocl_explain::{RuleAsked, WhyAsked, WithLastError, answer_why, answer_why_rule};
+use ocl_explain::{
+    RuleAsked, WhyAsked, WithLastError, answer_why, answer_why_code, answer_why_code_rule,
+    answer_why_rule, is_code_file,
+};
 use std::io;
 
 /// Explains a verdict over inputs that were read.
 fn explain_object(rt: &HostRuntime, asked: WhyAsked<'_>) -> Outcome {
     let mut sink = Telling::new(WithLastError::new(io::writer(rt)));
-    let ending = answer_why(rt.alloc(), asked, &mut sink);
+    let ending = if is_code_file(asked.rules.bytes) {
+        answer_why_code(rt.alloc(), asked, &mut sink)
+    } else {
+        answer_why(rt.alloc(), asked, &mut sink)
+    };
     report_write(rt, "standard output", sink.into_inner().error());
     end(rt, ending)
 }
@@ -19,7 +26,11 @@ fn explain_object(rt: &HostRuntime, asked: WhyAsked<'_>) -> Outcome {
 /// Explains the findings of a rule over inputs that were read.
 fn explain_rule(rt: &HostRuntime, asked: RuleAsked<'_>) -> Outcome {
     let mut sink = Telling::new(WithLastError::new(io::writer(rt)));
-    let ending = answer_why_rule(rt.alloc(), asked, &mut sink);
+    let ending = if is_code_file(asked.rules.bytes) {
+        answer_why_code_rule(rt.alloc(), asked, &mut sink)
+    } else {
+        answer_why_rule(rt.alloc(), asked, &mut sink)
+    };
     report_write(rt, "standard output", sink.into_inner().error());
     end(rt, ending)
 }

@@ -7,7 +7,7 @@ ghost use Rattle.ocl_kinds.specs.Kinds.{IsScalarKindOf, IsKindOf, element_kind, 
 use imkl_model::{ClassNo, CollectionKind, ElementType, EnumNo, FeatureInfo};
 
 /// The kind of a single value.
-#[derive(Clone, Copy, Debug, PartialEq, Eq)]
+#[derive(Clone, Copy, PartialEq, Eq)]
 pub enum ScalarKind {
     /// Null or invalid alone.
     Void,
@@ -26,7 +26,7 @@ pub enum ScalarKind {
 }
 
 /// The kind of a value.
-#[derive(Clone, Copy, Debug, PartialEq, Eq)]
+#[derive(Clone, Copy, PartialEq, Eq)]
 pub enum Kind {
     /// A single value.
     Scalar(ScalarKind),

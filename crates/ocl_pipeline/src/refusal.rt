@@ -13,7 +13,7 @@ use rule_verify::VerifyFlaw;
 use std::alloc::{AllocError, Global};
 
 /// The first reason to refuse an input.
-#[derive(Clone, Copy, Debug)]
+#[derive(Clone, Copy)]
 pub enum Refusal {
     /// The class model is at fault.
     Model(ModelFault),

@@ -14,7 +14,7 @@ use rule_cost::CostFault;
 use rule_verify::VerifyFault;
 
 /// Why there is no answer.
-#[derive(Clone, Copy, Debug)]
+#[derive(Clone, Copy)]
 pub enum Stopped {
     /// An input is refused.
     Refused(Refusal),

@@ -89,7 +89,7 @@ impl Write for Taken {
 }
 
 /// Which input of a command fails, by its number from 0, and at which of its reads.
-#[derive(Clone, Copy, Debug)]
+#[derive(Clone, Copy)]
 struct Failing {
     input: usize,
     at: u32,

@@ -16,7 +16,7 @@ use ocl_tokens::{Token, TokenKind};
 use std::alloc::{AllocError, AllocFailed, Global};
 
 /// A place among tokens.
-#[derive(Debug, Drop)]
+#[derive(Drop)]
 pub(crate) struct Cursor<'t> {
     pub(crate) tokens: &'t [Token<'t>],
     /// The next token.
@@ -26,7 +26,7 @@ pub(crate) struct Cursor<'t> {
 }
 
 /// Why nothing was read, with the index of the refused token, or the count of tokens.
-#[derive(Debug, Drop)]
+#[derive(Drop)]
 pub(crate) enum ParseFault {
     Syntax(usize),
     TooDeep(usize),
@@ -50,7 +50,7 @@ impl<T: Drop> From<AllocFailed<T>> for ParseFault {
 }
 
 /// A token that is asked for by its kind.
-#[derive(Clone, Copy, Debug)]
+#[derive(Clone, Copy)]
 pub(crate) enum Mark {
     Identifier,
     Open,
@@ -70,7 +70,7 @@ pub(crate) enum Mark {
 }
 
 /// What may begin at a token.
-#[derive(Clone, Copy, Debug)]
+#[derive(Clone, Copy)]
 pub(crate) enum Start {
     Operand,
     Expression,
@@ -80,14 +80,14 @@ pub(crate) enum Start {
 }
 
 /// How many variables an iteration may name.
-#[derive(Clone, Copy, Debug)]
+#[derive(Clone, Copy)]
 pub(crate) enum VariableLimit {
     OneVariable,
     TwoVariables,
 }
 
 /// A name, and where it stands in the text.
-#[derive(Debug, Drop)]
+#[derive(Drop)]
 pub(crate) struct PlacedName {
     pub(crate) name: Name,
     /// The name, in bytes from 0.
@@ -95,7 +95,7 @@ pub(crate) struct PlacedName {
 }
 
 /// A binary operator of a text.
-#[derive(Clone, Copy, Debug)]
+#[derive(Clone, Copy)]
 pub(crate) struct PlacedOperator {
     pub(crate) operator: BinaryOperator,
     /// How many levels are tighter than its own.

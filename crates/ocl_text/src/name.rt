@@ -10,7 +10,7 @@ use std::marker::Model;
 use std::rc::RcStr;
 
 /// A name: an identifier that isn't reserved. A name may be as long as its text, so its copies share what it holds.
-#[derive(Debug, Drop)]
+#[derive(Drop)]
 pub struct Name {
     text: RcStr,
 }
@@ -57,7 +57,7 @@ impl Name {
 }
 
 /// The name of an operation: a name, `div` or `mod`.
-#[derive(Debug, Drop)]
+#[derive(Drop)]
 pub struct OperationName {
     text: String,
 }
@@ -94,7 +94,7 @@ impl OperationName {
 }
 
 /// A whole number of at most `MAX_NUMBER`.
-#[derive(Debug, Drop)]
+#[derive(Drop)]
 pub struct WholeNumber {
     value: u64,
 }

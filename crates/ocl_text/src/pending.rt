@@ -16,7 +16,7 @@ use crate::tree::Expression;
 use std::alloc::{AllocError, Global};
 
 /// An operator that waits for its right operand.
-#[derive(Debug, Drop)]
+#[derive(Drop)]
 pub(crate) struct Pending {
     /// What stands left of the operator.
     pub(crate) left: Expression,
@@ -26,7 +26,7 @@ pub(crate) struct Pending {
 }
 
 /// What stands left of an operator, and those that still wait.
-#[derive(Debug, Drop)]
+#[derive(Drop)]
 struct Reduced {
     left: Expression,
     /// How many operators the chain may still have, the next one included.

@@ -7,7 +7,7 @@ ghost use Rattle.ocl_text.specs.View as spec;
 use crate::name::{Name, OperationName, WholeNumber};
 
 /// An operator between two operands.
-#[derive(Clone, Copy, Debug)]
+#[derive(Clone, Copy)]
 pub enum BinaryOperator {
     /// `*`
     Multiply,
@@ -42,7 +42,7 @@ pub enum BinaryOperator {
 }
 
 /// An operator before its operand.
-#[derive(Clone, Copy, Debug)]
+#[derive(Clone, Copy)]
 pub enum PrefixOperator {
     /// `-`
     Negate,
@@ -51,7 +51,7 @@ pub enum PrefixOperator {
 }
 
 /// An iteration, by the name after its arrow.
-#[derive(Clone, Copy, Debug)]
+#[derive(Clone, Copy)]
 pub enum IteratorKind {
     /// `forAll`, which may have two variables.
     ForAll,
@@ -70,7 +70,7 @@ pub enum IteratorKind {
 }
 
 /// A reserved word that stands for a value.
-#[derive(Clone, Copy, Debug)]
+#[derive(Clone, Copy)]
 pub enum Keyword {
     /// `true`
     True,
@@ -85,7 +85,7 @@ pub enum Keyword {
 }
 
 /// How a call is joined to its source.
-#[derive(Clone, Copy, Debug)]
+#[derive(Clone, Copy)]
 pub enum Navigation {
     /// `.`
     Dot,
@@ -94,7 +94,7 @@ pub enum Navigation {
 }
 
 /// A type as it is written.
-#[derive(Debug, Drop)]
+#[derive(Drop)]
 pub enum DeclaredType {
     /// A name alone, as `Integer`.
     Named {
@@ -127,7 +127,7 @@ impl DeclaredType {
 }
 
 /// A variable of an iteration.
-#[derive(Debug, Drop)]
+#[derive(Drop)]
 pub struct Variable {
     /// Its name.
     pub name: Name,
@@ -136,7 +136,7 @@ pub struct Variable {
 }
 
 /// The variables of an iteration.
-#[derive(Debug, Drop)]
+#[derive(Drop)]
 pub enum Variables {
     /// None is named.
     Unnamed,
@@ -148,7 +148,7 @@ pub enum Variables {
 
 /// A variable of a `let`, or the accumulator of an `iterate`, with its value.
 #[cycle(tree)]
-#[derive(Debug, Drop)]
+#[derive(Drop)]
 pub struct Binding {
     /// Its name.
     pub name: Name,
@@ -162,7 +162,7 @@ pub struct Binding {
 
 /// What goes on after an operand: an operator with its right operand, or a step by a dot or an arrow.
 #[cycle(tree)]
-#[derive(Debug, Drop)]
+#[derive(Drop)]
 pub enum Link {
     /// An operator between what stands left of it and its right operand.
     Binary {
@@ -235,7 +235,7 @@ impl Link {
 /// Operators and steps stand in one list after their first operand, the one applied last at its end, since there may be
 /// hundreds of thousands of them one inside the other: so nothing that goes over a tree needs a deep stack.
 #[cycle(tree)]
-#[derive(Debug, Drop)]
+#[derive(Drop)]
 pub enum Expression {
     /// A whole number.
     Number {
@@ -339,7 +339,7 @@ impl Expression {
 }
 
 /// A rule: an invariant of a rule text. Offsets are bytes from 0.
-#[derive(Debug, Drop)]
+#[derive(Drop)]
 pub struct SurfaceRule {
     /// The name that stands after `inv`; where none does, `inv` and the number of the invariant among all of the text,
     /// from 1.

@@ -12,7 +12,7 @@ use crate::token::{MAX_NUMBER, TokenKind};
 use crate::words::{mark_of_one, mark_of_two, word_kind};
 
 /// What a text begins with, and how many bytes it has; of a flaw, how far from the beginning it lies.
-#[derive(Clone, Copy, Debug)]
+#[derive(Clone, Copy)]
 pub(crate) enum Lexeme {
     End,
     Blank(usize),

@@ -7,7 +7,7 @@ ghost use Rattle.ocl_tokens.specs.Written.{is_written};
 pub const MAX_NUMBER: u64 = 0x7fff_ffff_ffff_ffff;
 
 /// What a token is.
-#[derive(Clone, Copy, Debug)]
+#[derive(Clone, Copy)]
 pub enum TokenKind {
     /// An ASCII letter or `_`, then ASCII letters, digits or `_`, and no reserved word.
     Identifier,
@@ -94,7 +94,7 @@ pub enum TokenKind {
 }
 
 /// A part of the text, in bytes from 0.
-#[derive(Clone, Copy, Debug)]
+#[derive(Clone, Copy)]
 pub struct Span {
     /// The first byte.
     pub start: usize,
@@ -103,7 +103,7 @@ pub struct Span {
 }
 
 /// A token. An identifier is no reserved word, and a number is at most `MAX_NUMBER`.
-#[derive(Clone, Copy, Debug)]
+#[derive(Clone, Copy)]
 pub struct Token<'a> {
     /// What it is.
     pub kind: TokenKind,

@@ -26,14 +26,14 @@ use ocl_text::{DeclaredType, Name};
 use std::alloc::Global;
 
 /// An accumulator's kind and its start value.
-#[derive(Debug, Drop)]
+#[derive(Drop)]
 pub(crate) struct Start {
     pub(crate) kind: ScalarKind,
     pub(crate) core: Core,
 }
 
 /// What a fold has before its body: its source, what each of its elements is taken as, and the start value.
-#[derive(Debug, Drop)]
+#[derive(Drop)]
 pub(crate) struct Begun {
     pub(crate) source: Gathered,
     pub(crate) element: Kind,

@@ -102,7 +102,7 @@ pub(crate) fn bound_value(
 }
 
 /// What an arrow is applied to: a collection, with the kinds of it and of its elements.
-#[derive(Debug, Drop)]
+#[derive(Drop)]
 pub(crate) struct Gathered {
     pub(crate) core: Core,
     pub(crate) collection: CollectionKind,

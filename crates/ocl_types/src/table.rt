@@ -12,7 +12,7 @@ use ocl_kinds::{Kind, ScalarKind, fits, scalar_fits};
 use ocl_text::{BinaryOperator, IteratorKind};
 
 /// What an operation asks of its source.
-#[derive(Clone, Copy, Debug)]
+#[derive(Clone, Copy)]
 pub enum Source {
     /// A value of this type.
     OfType(BasicType),
@@ -25,7 +25,7 @@ pub enum Source {
 }
 
 /// What an operator between two operands asks of them.
-#[derive(Clone, Copy, Debug)]
+#[derive(Clone, Copy)]
 pub(crate) enum Binary {
     /// Whole numbers; it gives a value of this type.
     Numbers(PlainOperator, BasicType),
@@ -39,7 +39,7 @@ pub(crate) enum Binary {
 }
 
 /// What an iteration asks of its body, and what it gives.
-#[derive(Clone, Copy, Debug)]
+#[derive(Clone, Copy)]
 pub(crate) enum Turn {
     /// It asks for truth values, and gives one.
     Asks(Iteration),

@@ -11,7 +11,7 @@ use ocl_base::{CollectionKind, OutOfMemory, push};
 use std::alloc::Global;
 
 /// A single value or null, as collections have them. A text is borrowed from the unit or the population.
-#[derive(Debug, Drop)]
+#[derive(Drop)]
 pub enum Element<'a> {
     /// Null.
     Null,
@@ -28,7 +28,7 @@ pub enum Element<'a> {
 }
 
 /// A value.
-#[derive(Debug, Drop)]
+#[derive(Drop)]
 pub enum Value<'a> {
     /// Invalid.
     Invalid,

@@ -5,6 +5,9 @@ use Rattle.report_forms.specs.declared.html.TheConstants.{BEGIN, HEADING, RULES,
 use Rattle.report_forms.specs.ReportRows.{word_at}
 use Rattle.report_forms.specs.Findings.{Context, Finding, message_in}
 use Rattle.report_forms.specs.Escapes.{xml_text}
+use Rattle.explain_faults.specs.declared.fault.Fault.{Fault}
+use Rattle.report_forms.specs.declared.faults.FaultPart.TheVariants as part
+use Rattle.report_forms.specs.FaultForms.{faults_by}
 
 -- the path of the delivery is the title, and stands in the heading
 abbrev pub html_begin : List ℕ → List ℕ
@@ -63,6 +66,7 @@ html_finding f = html_verdict f.verdict ++ (html_names_of f ++ (html_place f ++ 
 abbrev pub html_page : List ℕ → List ℕ → List ℕ → List ℕ
 html_page path rules findings = html_begin path ++ (rules ++ (FINDINGS.now ++ (findings ++ END.now)))
 
--- a refusal stands in the place of the rules
-abbrev pub html_refusal : List ℕ → List ℕ → List ℕ
-html_refusal path line = html_begin path ++ (codes "<tr class=\"total\"><td>" ++ (line ++ (codes "\n" ++ (FINDINGS.now ++ END.now))))
+-- a refusal stands in the place of the rules, and its faults in that of the findings
+abbrev pub html_refusal : List ℕ → List Fault → List ℕ → List ℕ
+html_refusal path faults line =
+    html_begin path ++ (codes "<tr class=\"total\"><td>" ++ (line ++ (codes "\n" ++ (FINDINGS.now ++ (faults_by part.Html faults ++ END.now)))))

@@ -3,6 +3,7 @@ pub mod ReportRows
 pub mod Places
 pub mod Findings
 pub mod Escapes
+pub mod FaultForms
 pub mod JsonForm
 pub mod GithubForm
 pub mod JunitForm

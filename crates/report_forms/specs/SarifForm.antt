@@ -6,6 +6,9 @@ use Rattle.report_forms.specs.ReportRows.{word_at}
 use Rattle.report_forms.specs.Findings.{Context, Finding, message_in, described}
 use Rattle.report_forms.specs.Escapes.{json_text, uri_text}
 use Rattle.report_forms.specs.GithubForm.{annotation_level}
+use Rattle.explain_faults.specs.declared.fault.Fault.{Fault}
+use Rattle.report_forms.specs.declared.faults.FaultPart.TheVariants as part
+use Rattle.report_forms.specs.FaultForms.{faults_by}
 
 -- columns count characters
 abbrev pub sarif_begin : List ℕ
@@ -42,8 +45,9 @@ sarif_rule_of c words = if length words == 10 then sarif_rule c (word_at words 1
 abbrev pub sarif_run : List ℕ → List ℕ → List ℕ
 sarif_run rules results = sarif_begin ++ (drop 1 rules ++ (codes "]}},\"results\":[" ++ (drop 1 results ++ codes "]}]}\n")))
 
--- a refusal is a run that didn't succeed
-abbrev pub sarif_refusal : List ℕ → List ℕ
-sarif_refusal line =
-    sarif_begin ++ (codes "]}},\"results\":[],\"invocations\":[{\"executionSuccessful\":false,\"toolExecutionNotifications\":[{\"level\":\"error\",\"message\":{\"text\":\""
-    ++ (line ++ codes "\"}}]}]}]}\n"))
+-- a refusal is a run that didn't succeed, with a result for each of its faults
+abbrev pub sarif_refusal : List Fault → List ℕ → List ℕ
+sarif_refusal faults line =
+    sarif_begin ++ (codes "]}},\"results\":[" ++ (drop 1 (faults_by part.Sarif faults)
+    ++ (codes "],\"invocations\":[{\"executionSuccessful\":false,\"toolExecutionNotifications\":[{\"level\":\"error\",\"message\":{\"text\":\""
+    ++ (line ++ codes "\"}}]}]}]}\n"))))

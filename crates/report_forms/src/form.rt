@@ -13,10 +13,11 @@ use crate::junit::{junit_refusal, junit_report};
 use crate::lines::{Part, lines_by};
 use crate::rows::{lines_in, word_at};
 use crate::sarif::{sarif_refusal, sarif_run};
+use explain_faults::Fault;
 use std::alloc::{AllocError, Global};
 
 /// A form of a report.
-#[derive(Clone, Copy, Debug, PartialEq, Eq)]
+#[derive(Clone, Copy)]
 pub enum Form {
     /// A line for each finding, as compilers write them.
     Text,
@@ -81,29 +82,37 @@ fn text_refusal(alloc: Global, line: &[u8]) -> Result<Vec<u8>, AllocError>
     Ok(out)
 }
 
-/// The line of a refusal in a form.
-fn form_of_line(alloc: Global, form: Form, path: &str, line: &[u8]) -> Result<Vec<u8>, AllocError>
-    ensures { IfOk result (λ v. v.items ≡ form_of_line form path.now line.now) }
+/// The line of a refusal in a form, with its faults where the form lists them.
+fn form_of_line(
+    alloc: Global,
+    form: Form,
+    path: &str,
+    faults: &[Fault],
+    line: &[u8],
+) -> Result<Vec<u8>, AllocError>
+    ensures { IfOk result (λ v. v.items ≡ form_of_line form path.now faults.now line.now) }
 {
     match form {
         Form::Text => text_refusal(alloc, line),
-        Form::Json => json_refusal(alloc, line),
-        Form::Github => github_refusal(alloc, line),
+        Form::Json => json_refusal(alloc, faults, line),
+        Form::Github => github_refusal(alloc, faults, line),
         Form::Junit => junit_refusal(alloc, path, line),
-        Form::Sarif => sarif_refusal(alloc, line),
-        Form::Html => html_refusal(alloc, path, line),
+        Form::Sarif => sarif_refusal(alloc, faults, line),
+        Form::Html => html_refusal(alloc, path, faults, line),
     }
 }
 
-/// What is printed of a refusal, in a form: of its first line, which is the only one. Where memory runs out there is none.
+/// What is printed of a refusal, in a form: of its first line, which is the only one, and of the faults. Where memory runs out
+/// there is none.
 pub fn form_of_refusal(
     alloc: Global,
     form: Form,
     path: &str,
+    faults: &[Fault],
     text: &[u8],
 ) -> Result<Vec<u8>, AllocError>
-    ensures { IfOk result (λ v. v.items ≡ form_of_refusal form path.now text.now) }
+    ensures { IfOk result (λ v. v.items ≡ form_of_refusal form path.now faults.now text.now) }
 {
     let lines = lines_in(alloc, text)?;
-    form_of_line(alloc, form, path, word_at(&lines, 0))
+    form_of_line(alloc, form, path, faults, word_at(&lines, 0))
 }

@@ -5,8 +5,10 @@ ghost use Rattle.report_forms.specs.Findings.{finding_view};
 ghost use Rattle.report_forms.specs.GithubForm.{annotation_level, github_properties, github_finding, github_refusal};
 
 use crate::escapes::{put_message, put_property};
+use crate::faults::{FaultPart, faults_by};
 use crate::finding::Finding;
 use crate::pieces::{put, put_number};
+use explain_faults::Fault;
 use std::alloc::{AllocError, Global};
 
 /// How bad a verdict is.
@@ -61,13 +63,19 @@ pub(crate) fn put_annotation(
     Ok(())
 }
 
-/// The line of a refusal as an annotation.
-pub(crate) fn github_refusal(alloc: Global, line: &[u8]) -> Result<Vec<u8>, AllocError>
-    ensures { IfOk result (λ v. v.items ≡ github_refusal line.now) }
+/// The line of a refusal and its faults as annotations.
+pub(crate) fn github_refusal(
+    alloc: Global,
+    faults: &[Fault],
+    line: &[u8],
+) -> Result<Vec<u8>, AllocError>
+    ensures { IfOk result (λ v. v.items ≡ github_refusal faults.now line.now) }
 {
+    let faults = faults_by(alloc, FaultPart::Github, faults)?;
     let mut out = Vec::new(alloc);
     put(&mut out, "::error title=refused::")?;
     out.extend_from_slice(line)?;
     put(&mut out, "\n")?;
+    out.extend_from_slice(&faults)?;
     Ok(out)
 }

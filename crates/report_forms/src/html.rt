@@ -22,9 +22,11 @@ ghost use Rattle.report_forms.specs.HtmlForm.{
 
 use crate::beside::Beside;
 use crate::escapes::put_xml;
+use crate::faults::{FaultPart, faults_by};
 use crate::finding::{Finding, message_of};
 use crate::pieces::{put, put_number};
 use crate::rows::{Counts, word_at};
+use explain_faults::Fault;
 use std::alloc::{AllocError, Global};
 
 /// What stands before the title.
@@ -50,8 +52,12 @@ th { position: sticky; top: 0; background: Canvas }
 td.fails { color: #d03b3b; font-weight: 600 }
 td.undecided { color: #b07d00; font-weight: 600 }
 .total td { font-weight: 600 }
-input, select { font: inherit; margin-right: .6em }
+.script #findings tbody tr { display: none }
+.script #findings tbody tr.shown { display: table-row }
+@media print { .script #findings tbody tr.fits { display: table-row } }
+input, select, button { font: inherit; margin-right: .6em }
 </style>
+<script>document.documentElement.className = 'script'</script>
 <title>";
 
 /// What stands between the title and the path.
@@ -69,30 +75,46 @@ const FINDINGS: &str = "</tbody></table>
 <table id=\"findings\"><thead><tr><th>Verdict<th>Rule<th>Object<th>Class<th>Place<th>Message</tr></thead><tbody>
 ";
 
-/// What stands behind the findings.
+/// What stands behind the findings. Of those that fit the filters the script shows the first 500, and more when asked.
 const END: &str = "</tbody></table>
+<p><button id=\"more\" type=\"button\" hidden></button></p>
 <script>
-const rows = [...document.querySelectorAll('#findings tbody tr')]
-const text = document.getElementById('text'), count = document.getElementById('count')
+const rows = [...document.querySelectorAll('#findings tbody tr')].map(row => {
+  const cells = [...row.cells].map(cell => cell.textContent)
+  return { row, cells, words: cells.join(' ').toLowerCase() }
+})
+const [text, count, more] = ['text', 'count', 'more'].map(id => document.getElementById(id))
 const filters = [['verdict', 0], ['rule', 1], ['class', 3]].map(([id, cell]) => [document.getElementById(id), cell])
 for (const [filter, cell] of filters)
-  for (const value of new Set(rows.map(row => row.cells[cell].textContent))) filter.add(new Option(value, value))
+  for (const value of new Set(rows.map(({ cells }) => cells[cell]))) if (value) filter.add(new Option(value, value))
+const step = 500
+let most = step
 function show() {
-  let shown = 0
+  let fitting = 0
   const wanted = text.value.toLowerCase()
-  for (const row of rows) {
-    const fits = filters.every(([filter, cell]) => !filter.value || row.cells[cell].textContent === filter.value)
-    row.hidden = !(fits && row.textContent.toLowerCase().includes(wanted))
-    if (!row.hidden) shown += 1
+  for (const { row, cells, words } of rows) {
+    const fits = filters.every(([filter, cell]) => !filter.value || cells[cell] === filter.value) && words.includes(wanted)
+    if (fits) fitting += 1
+    row.className = fits ? (fitting > most ? 'fits' : 'fits shown') : ''
   }
-  count.textContent = `${shown} of ${rows.length} findings`
+  count.textContent = `${fitting} of ${rows.length} findings`
+  more.hidden = fitting <= most
+  more.textContent = `Show ${Math.min(step, fitting - most)} more`
 }
-text.oninput = show
-for (const [filter] of filters) filter.onchange = show
+function begin() {
+  most = step
+  show()
+}
+more.onclick = () => {
+  most += step
+  show()
+}
+text.oninput = begin
+for (const [filter] of filters) filter.onchange = begin
 for (const row of document.querySelectorAll('#rules tbody tr'))
   row.onclick = () => {
     filters[1][0].value = row.className ? '' : row.cells[0].textContent
-    show()
+    begin()
   }
 show()
 </script>
@@ -298,16 +320,23 @@ pub(crate) fn html_page(
     Ok(out)
 }
 
-/// The page of a refusal, whose line stands in the place of the rules.
-pub(crate) fn html_refusal(alloc: Global, path: &str, line: &[u8]) -> Result<Vec<u8>, AllocError>
-    ensures { IfOk result (λ v. v.items ≡ html_refusal path.now line.now) }
+/// The page of a refusal, whose line stands in the place of the rules, and its faults in that of the findings.
+pub(crate) fn html_refusal(
+    alloc: Global,
+    path: &str,
+    faults: &[Fault],
+    line: &[u8],
+) -> Result<Vec<u8>, AllocError>
+    ensures { IfOk result (λ v. v.items ≡ html_refusal path.now faults.now line.now) }
 {
+    let faults = faults_by(alloc, FaultPart::Html, faults)?;
     let mut out = Vec::new(alloc);
     put_begin(&mut out, path)?;
     put(&mut out, "<tr class=\"total\"><td>")?;
     out.extend_from_slice(line)?;
     put(&mut out, "\n")?;
     put(&mut out, FINDINGS)?;
+    out.extend_from_slice(&faults)?;
     put(&mut out, END)?;
     Ok(out)
 }

@@ -5,9 +5,11 @@ ghost use Rattle.report_forms.specs.Findings.{finding_view};
 ghost use Rattle.report_forms.specs.JsonForm.{json_of_entry, json_of_finding, json_of_counts, json_of_rule, json_of_total, json_of_words, json_refusal};
 
 use crate::escapes::put_json;
+use crate::faults::{FaultPart, faults_by};
 use crate::finding::Finding;
-use crate::pieces::{put, put_number};
+use crate::pieces::{put, put_number, without_first};
 use crate::rows::Counts;
+use explain_faults::Fault;
 use std::alloc::{AllocError, Global};
 
 /// Puts the class of a finding's object, and where its entry begins.
@@ -125,13 +127,20 @@ fn without_refused(line: &[u8]) -> &[u8]
     &line[8..]
 }
 
-/// The line of a refusal as JSON.
-pub(crate) fn json_refusal(alloc: Global, line: &[u8]) -> Result<Vec<u8>, AllocError>
-    ensures { IfOk result (λ v. v.items ≡ json_refusal line.now) }
+/// The line of a refusal and its faults as JSON.
+pub(crate) fn json_refusal(
+    alloc: Global,
+    faults: &[Fault],
+    line: &[u8],
+) -> Result<Vec<u8>, AllocError>
+    ensures { IfOk result (λ v. v.items ≡ json_refusal faults.now line.now) }
 {
+    let faults = faults_by(alloc, FaultPart::Json, faults)?;
     let mut out = Vec::new(alloc);
     put(&mut out, "{\"refused\":\"")?;
     out.extend_from_slice(without_refused(line))?;
-    put(&mut out, "\"}\n")?;
+    put(&mut out, "\",\"faults\":[")?;
+    out.extend_from_slice(without_first(&faults))?;
+    put(&mut out, "]}\n")?;
     Ok(out)
 }

@@ -4,6 +4,7 @@
 
 mod beside;
 mod escapes;
+mod faults;
 mod finding;
 mod form;
 mod github;

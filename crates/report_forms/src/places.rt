@@ -7,7 +7,7 @@ ghost use Rattle.report_forms.specs.Places.{scan_start, place_after, depth_after
 use std::alloc::{AllocError, Global};
 
 /// Where the entry of an object begins.
-#[derive(Clone, Copy, Debug, PartialEq, Eq)]
+#[derive(Clone, Copy)]
 pub struct EntryPlace {
     /// In bytes, from 0.
     pub offset: usize,

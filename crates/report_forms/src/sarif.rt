@@ -1,6 +1,6 @@
 //! SARIF 2.1.0.
 
-ghost use Rattle.std.specs.Prelude.{◌≡◌, ◌++◌, IfOk, OnOk, drop, map};
+ghost use Rattle.std.specs.Prelude.{◌≡◌, ◌++◌, IfOk, OnOk, map};
 ghost use Rattle.report_forms.specs.Findings.{context_of, finding_view};
 ghost use Rattle.report_forms.specs.SarifForm.{
   sarif_begin,
@@ -16,9 +16,11 @@ ghost use Rattle.report_forms.specs.SarifForm.{
 
 use crate::beside::Beside;
 use crate::escapes::{put_json, put_uri};
+use crate::faults::{FaultPart, faults_by};
 use crate::finding::{Finding, message_of};
 use crate::github::annotation_level;
-use crate::pieces::{put, put_number};
+use crate::pieces::{put, put_number, without_first};
+use explain_faults::Fault;
 use std::alloc::{AllocError, Global};
 
 /// Puts what stands before the rules.
@@ -124,16 +126,6 @@ pub(crate) fn put_rule_of(
     Ok(())
 }
 
-/// What stands behind the first byte.
-fn without_first(text: &[u8]) -> &[u8]
-    ensures { result.now ≡ drop 1 text.now }
-{
-    match text {
-        [_, rest @ ..] => rest,
-        [] => &[],
-    }
-}
-
 /// The run of rules and results, each behind a comma. Where memory runs out there is none.
 pub(crate) fn sarif_run(alloc: Global, rules: &[u8], results: &[u8]) -> Result<Vec<u8>, AllocError>
     ensures { IfOk result (λ v. v.items ≡ sarif_run rules.now results.now) }
@@ -147,15 +139,22 @@ pub(crate) fn sarif_run(alloc: Global, rules: &[u8], results: &[u8]) -> Result<V
     Ok(out)
 }
 
-/// The line of a refusal as a run that didn't succeed.
-pub(crate) fn sarif_refusal(alloc: Global, line: &[u8]) -> Result<Vec<u8>, AllocError>
-    ensures { IfOk result (λ v. v.items ≡ sarif_refusal line.now) }
+/// The line of a refusal as a run that didn't succeed, with its faults as results.
+pub(crate) fn sarif_refusal(
+    alloc: Global,
+    faults: &[Fault],
+    line: &[u8],
+) -> Result<Vec<u8>, AllocError>
+    ensures { IfOk result (λ v. v.items ≡ sarif_refusal faults.now line.now) }
 {
+    let faults = faults_by(alloc, FaultPart::Sarif, faults)?;
     let mut out = Vec::new(alloc);
     put_begin(&mut out)?;
+    put(&mut out, "]}},\"results\":[")?;
+    out.extend_from_slice(without_first(&faults))?;
     put(
         &mut out,
-        "]}},\"results\":[],\"invocations\":[{\"executionSuccessful\":false,\"toolExecutionNotifications\":[{\"level\":\"error\",\"message\":{\"text\":\"",
+        "],\"invocations\":[{\"executionSuccessful\":false,\"toolExecutionNotifications\":[{\"level\":\"error\",\"message\":{\"text\":\"",
     )?;
     out.extend_from_slice(line)?;
     put(&mut out, "\"}}]}]}]}\n")?;

@@ -77,7 +77,7 @@ impl CodeFault {
 }
 
 /// What is wrong with a field, or that memory ran out. Its place is how many bytes are left where it begins.
-#[derive(Debug, Drop)]
+#[derive(Drop)]
 pub(crate) enum FieldFault {
     At { flaw: CodeFlaw, left: usize },
     OutOfMemory,

@@ -8,7 +8,7 @@ ghost use Rattle.rule_code.specs.FieldSorts.{after_field, symbol_width};
 use crate::symbol::SymbolTag;
 
 /// What a field is.
-#[derive(Clone, Copy, Debug, PartialEq, Eq)]
+#[derive(Clone, Copy)]
 pub enum FieldSort {
     /// An Integer.
     Integer,

@@ -4,7 +4,7 @@ use crate::symbol::SymbolNumber;
 use ocl_base::CollectionKind;
 
 /// The kind of a single value.
-#[derive(Clone, Copy, Debug, PartialEq, Eq)]
+#[derive(Clone, Copy)]
 pub enum WrittenScalar {
     /// Null or invalid alone.
     Void,
@@ -23,7 +23,7 @@ pub enum WrittenScalar {
 }
 
 /// The kind of a value.
-#[derive(Clone, Copy, Debug, PartialEq, Eq)]
+#[derive(Clone, Copy)]
 pub enum WrittenKind {
     /// A single value.
     Scalar(WrittenScalar),

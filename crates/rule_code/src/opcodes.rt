@@ -16,7 +16,7 @@ use crate::kind::{WrittenKind, WrittenScalar};
 use crate::symbol::SymbolTag;
 
 /// The row of an opcode.
-#[derive(Clone, Copy, Debug)]
+#[derive(Clone, Copy)]
 pub struct OpcodeRow {
     /// The name of the instruction, as `docs/formats/code-file.md` has it.
     pub name: &'static str,

@@ -3,15 +3,15 @@
 ghost use Rattle.std.specs.Prelude.{◌≡◌};
 
 /// A text of a unit, by its place in `Unit::texts`, from 0.
-#[derive(Clone, Copy, Debug, PartialEq, Eq)]
+#[derive(Clone, Copy)]
 pub struct TextNumber(pub u16);
 
 /// A symbol of a unit, by its place in `Unit::symbols`, from 0.
-#[derive(Clone, Copy, Debug, PartialEq, Eq)]
+#[derive(Clone, Copy)]
 pub struct SymbolNumber(pub u16);
 
 /// What sort of thing a symbol names.
-#[derive(Clone, Copy, Debug, PartialEq, Eq)]
+#[derive(Clone, Copy)]
 pub enum SymbolTag {
     /// A class.
     Class = 1,
@@ -24,7 +24,7 @@ pub enum SymbolTag {
 }
 
 /// What a symbol names, by the texts of the names.
-#[derive(Clone, Copy, Debug, PartialEq, Eq)]
+#[derive(Clone, Copy)]
 pub enum Symbol {
     /// A class.
     Class(TextNumber),

@@ -1,7 +1,7 @@
 //! The versions of the code file.
 
 /// A version of the format. Every file has its number.
-#[derive(Clone, Copy, Debug, PartialEq, Eq)]
+#[derive(Clone, Copy)]
 pub enum Version {
     /// The first.
     One = 1,

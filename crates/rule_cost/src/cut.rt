@@ -9,7 +9,7 @@ use std::marker::Model;
 pub const STEP_LIMIT: u64 = 9_223_372_036_854_775_808;
 
 /// An upper limit on what a rule's run is charged for an object.
-#[derive(Clone, Copy, Debug, PartialEq, Eq)]
+#[derive(Clone, Copy)]
 pub enum Bound {
     /// At most this number of charges, which is below 2^63.
     Steps(u64),

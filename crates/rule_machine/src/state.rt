@@ -18,7 +18,7 @@ use rule_verify::Depths;
 use std::alloc::Global;
 
 /// What a run was started for.
-#[derive(Clone, Copy, Debug, PartialEq, Eq)]
+#[derive(Clone, Copy)]
 pub(crate) struct Started {
     pub(crate) rule: usize,
     pub(crate) object: ObjectNo,

@@ -11,7 +11,7 @@ const PIECE_BYTES: usize = 8_192;
 
 /// A write that returned an error or took nothing, or a flush that returned an error. Neither is tried again, even if it
 /// was interrupted, and after it the sink is neither written to nor flushed.
-#[derive(Clone, Copy, Debug, PartialEq, Eq)]
+#[derive(Clone, Copy)]
 pub struct WriteFailed;
 
 /// Writes all the bytes, without a flush; where that fails, the sink took a prefix of them and has failed.

@@ -84,7 +84,7 @@ pub(crate) enum Order {
 }
 
 /// How an element is looked for in a collection.
-#[derive(Clone, Copy, PartialEq, Eq)]
+#[derive(Clone, Copy)]
 pub(crate) enum Search {
     /// Among all elements, whatever their order.
     Linear,

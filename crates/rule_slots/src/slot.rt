@@ -4,7 +4,7 @@ ghost use Rattle.std.specs.Prelude.{◌≡◌};
 ghost use Rattle.rule_slots.specs.Slots.{slot, home_named, plain_mark, null_mark, invalid_mark, invalid_slot, null_slot, number_slot, truth_slot, index_slot, text_slot, part_slot};
 
 /// Whether a slot is defined.
-#[derive(Clone, Copy, Debug, PartialEq, Eq)]
+#[derive(Clone, Copy)]
 pub enum Mark {
     /// It has a value.
     Plain,
@@ -15,7 +15,7 @@ pub enum Mark {
 }
 
 /// The list that a collection is a part of.
-#[derive(Clone, Copy, Debug, PartialEq, Eq)]
+#[derive(Clone, Copy)]
 pub enum Home {
     /// The values of the population.
     Scalars,
@@ -30,7 +30,7 @@ pub enum Home {
 /// A text has the list where it lies (0 the population's values, 1 the unit's texts), its index there, and the range
 /// of its bytes. A collection has the list that it is a part of (0 the population's values, 1 its instances, 2 the
 /// pool), and its range there.
-#[derive(Clone, Copy, Debug)]
+#[derive(Clone, Copy)]
 pub struct Slot {
     /// Whether it is defined.
     pub mark: Mark,

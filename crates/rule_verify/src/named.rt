@@ -3,7 +3,7 @@
 use imkl_model::{ClassNo, EnumNo, FeatureNo, LiteralNo};
 
 /// A part of a class model that a symbol names.
-#[derive(Clone, Copy, Debug, PartialEq, Eq)]
+#[derive(Clone, Copy)]
 pub enum Named {
     /// A class.
     Class(ClassNo),

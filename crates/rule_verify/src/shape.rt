@@ -1,7 +1,7 @@
 //! How many bodies instructions have.
 
 /// How many bodies an instruction has, with the number of instructions of each.
-#[derive(Clone, Copy, Debug, PartialEq, Eq)]
+#[derive(Clone, Copy)]
 pub enum Shape {
     /// None.
     Single,

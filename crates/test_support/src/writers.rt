@@ -7,7 +7,7 @@ use std::io;
 use std::io::{Error, ErrorKind, Write};
 
 /// What a writer does when it is full.
-#[derive(Clone, Copy, Debug, PartialEq, Eq)]
+#[derive(Clone, Copy)]
 pub enum WhenFull {
     /// It fails.
     Fails,

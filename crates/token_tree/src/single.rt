@@ -13,7 +13,7 @@ use serde_json::Number;
 use std::alloc::{AllocError, AllocFailed, Global};
 
 /// Why no single values are read.
-#[derive(Clone, Copy, Debug, PartialEq, Eq)]
+#[derive(Clone, Copy)]
 pub enum NoSingle {
     /// What comes next is something else, or a number that is no whole one of 64 bits.
     Unfit,

@@ -10,7 +10,7 @@ function __ocl_explain_at
     for word in $words
         if test $is_value = 1
             set is_value 0
-        else if contains -- $word --budget --format --lines --max --rule
+        else if contains -- $word --also --budget --csv --format --lines --max --objects --rule --seed --tries --verdict
             set is_value 1
         else if not string match -qr -- '^-.' $word
             set place (math $place + 1)
@@ -29,14 +29,18 @@ complete -c ocl_explain -n '__fish_seen_subcommand_from judge' -l budget -x -d '
 complete -c ocl_explain -n '__fish_seen_subcommand_from judge' -l format -x -a 'text json github junit sarif html' -d 'Prints each finding with its place, class and message'
 complete -c ocl_explain -n '__fish_seen_subcommand_from judge' -l json -d 'The same as --format json: an object in each line'
 complete -c ocl_explain -n '__fish_seen_subcommand_from judge' -l rule -x -d 'With --text: judges by the rules of these names, which commas separate'
-complete -c ocl_explain -n '__fish_seen_subcommand_from judge' -l why -d 'Prints below each finding the parts of the rule with their values; with --text'
+complete -c ocl_explain -n '__fish_seen_subcommand_from judge' -l why -d 'Prints below each finding the parts of the rule with their values'
 complete -c ocl_explain -n '__fish_seen_subcommand_from judge' -l max -x -d 'With --why: explains at most N findings of each rule (all)'
 complete -c ocl_explain -n '__fish_seen_subcommand_from judge' -l lines -x -d 'With --why: prints at most N lines of each explanation (20)'
+complete -c ocl_explain -n '__fish_seen_subcommand_from judge' -l also -r -F -d 'With --text: one more rule text, judged with the others as one; may be repeated'
+complete -c ocl_explain -n '__fish_seen_subcommand_from judge' -l search -d 'With --text: warns of each rule that no delivery was found to break'
 complete -c ocl_explain -n '__ocl_explain_at judge 0' -k -a '(__fish_complete_suffix .json)'
 complete -c ocl_explain -n '__ocl_explain_at judge 1' -k -a '(__fish_complete_suffix .json)'
 complete -c ocl_explain -n '__ocl_explain_at judge 2' -F
 
 complete -c ocl_explain -n __fish_use_subcommand -a compile -d 'Compiles a rule text to a code file'
+complete -c ocl_explain -n '__fish_seen_subcommand_from compile' -l also -r -F -d 'One more rule text, compiled with the others as one; may be repeated'
+complete -c ocl_explain -n '__fish_seen_subcommand_from compile' -l search -d 'Warns of each rule that no delivery was found to break'
 complete -c ocl_explain -n '__ocl_explain_at compile 0' -k -a '(__fish_complete_suffix .json)'
 complete -c ocl_explain -n '__ocl_explain_at compile 1' -F
 complete -c ocl_explain -n '__ocl_explain_at compile 2' -F
@@ -56,12 +60,35 @@ complete -c ocl_explain -n '__ocl_explain_at desk 1' -k -a '(__fish_complete_suf
 complete -c ocl_explain -n '__ocl_explain_at desk 2' -F
 complete -c ocl_explain -n '__ocl_explain_at desk 3' -F
 
+complete -c ocl_explain -n __fish_use_subcommand -a eval -d 'Evaluates an expression in a delivery'
+complete -c ocl_explain -n '__ocl_explain_at eval 0' -k -a '(__fish_complete_suffix .json)'
+complete -c ocl_explain -n '__ocl_explain_at eval 1' -k -a '(__fish_complete_suffix .json)'
+
+complete -c ocl_explain -n __fish_use_subcommand -a examples -d 'Searches for small deliveries that show what each rule means'
+complete -c ocl_explain -n '__fish_seen_subcommand_from examples' -l rule -x -d 'Only for the rules of these names, which commas separate'
+complete -c ocl_explain -n '__fish_seen_subcommand_from examples' -l verdict -x -a 'holds fails undecided' -d 'Only deliveries that show this verdict'
+complete -c ocl_explain -n '__fish_seen_subcommand_from examples' -l others-hold -d 'Only deliveries in which all other rules hold'
+complete -c ocl_explain -n '__fish_seen_subcommand_from examples' -l seed -x -d 'Another seed finds other deliveries (1)'
+complete -c ocl_explain -n '__fish_seen_subcommand_from examples' -l tries -x -d 'Tries at most N deliveries for a verdict (6000)'
+complete -c ocl_explain -n '__fish_seen_subcommand_from examples' -l objects -x -d 'Of at most N objects, up to 100 (6)'
+complete -c ocl_explain -n '__ocl_explain_at examples 0' -k -a '(__fish_complete_suffix .json)'
+complete -c ocl_explain -n '__ocl_explain_at examples 1' -F
+complete -c ocl_explain -n '__ocl_explain_at examples 2' -F
+
 complete -c ocl_explain -n __fish_use_subcommand -a list -d 'Lists a code file in words'
 complete -c ocl_explain -n '__ocl_explain_at list 0' -F
 complete -c ocl_explain -n '__ocl_explain_at list 1' -k -a '(__fish_complete_suffix .json)'
 
 complete -c ocl_explain -n __fish_use_subcommand -a schema -d 'Prints the JSON Schema of deliveries'
 complete -c ocl_explain -n '__ocl_explain_at schema 0' -k -a '(__fish_complete_suffix .json)'
+
+complete -c ocl_explain -n __fish_use_subcommand -a show -d 'Shows the rules of a code file as OCL'
+complete -c ocl_explain -n '__ocl_explain_at show 0' -F
+complete -c ocl_explain -n '__ocl_explain_at show 1' -k -a '(__fish_complete_suffix .json)'
+
+complete -c ocl_explain -n __fish_use_subcommand -a summary -d 'Sums up a folder of reports'
+complete -c ocl_explain -n '__fish_seen_subcommand_from summary' -l csv -x -a 'deliveries rules' -d 'Prints a table for spreadsheets, in place of words'
+complete -c ocl_explain -n '__ocl_explain_at summary 0' -F
 
 complete -c ocl_explain -n __fish_use_subcommand -a test -d 'Tests rules by the deliveries of a folder and their reports'
 complete -c ocl_explain -n '__fish_seen_subcommand_from test' -l accept -d 'Writes each report that isn\'t as wanted'

@@ -140,7 +140,7 @@ impl<S: Sink, V: Watch> TextAsker<S> for Report<'_, V> {
 }
 
 /// The form of the rules that `judge` is given.
-#[derive(Clone, Copy, Debug, PartialEq, Eq)]
+#[derive(Clone, Copy)]
 pub enum RulesForm {
     /// A code file.
     Code,
@@ -149,7 +149,7 @@ pub enum RulesForm {
 }
 
 /// How a delivery is judged.
-#[derive(Clone, Copy, Debug, PartialEq, Eq)]
+#[derive(Clone, Copy)]
 pub struct JudgeOptions {
     /// In what form the rules come.
     pub form: RulesForm,

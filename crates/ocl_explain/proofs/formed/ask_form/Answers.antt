@@ -14,10 +14,11 @@ returns-in-Code g c =
     let code = asked.rules.bytes.now in
     let budget = asked.options.budget in
     let answer = judge_answer budget model delivery code in
+    let h = c.ask_inputs.ensures in
     let same = code_is_answered (budget_answer budget) model delivery code in (
       _,
-      ([], answer, judged_code asked.options.form budget model delivery code c.in-Code.is, code_form asked.form asked.delivery.path.now [] model delivery (pair_answer (budget_answer budget)) code answer same),
-      c.ask_inputs.ensures,
+      ([], h.0, answer, judged_code asked.options.form budget model delivery code c.in-Code.is, code_form asked.form asked.delivery.path.now [] h.0 model delivery (pair_answer (budget_answer budget)) code answer same),
+      h.1,
     )
 
 pub returns-in-Text : goal.returns-in-Text
@@ -30,6 +31,6 @@ returns-in-Text g c =
     let answer = judge_text_answer budget model delivery h.0 in
     let same = text_is_answered budget h.0 model delivery in (
       _,
-      (h.2.0, answer, judged_text asked.options.form budget model delivery asked.rules.bytes.now h.0 c.in-Text.is h.1, text_form asked.form asked.delivery.path.now h.2.0 model delivery (meant_within budget) h.0 answer same),
-      h.2.1,
+      (h.2.0, h.2.1, answer, judged_text asked.options.form budget model delivery asked.rules.bytes.now h.0 c.in-Text.is h.1, text_form asked.form asked.delivery.path.now h.2.0 h.2.1 model delivery (meant_within budget) h.0 answer same),
+      h.2.2,
     )

@@ -9,5 +9,8 @@ pub returns : goal.returns
 returns g c = λ given fails.
     let f = c.args.self.now in
     let answer = pair_answer (budget_answer f.budget) in
-    c.end_stopped.ensures (formed_given f.form f.delivery.path.now f.delivery.bytes.now [] (λ x. x.0) answer given)
-    (form_due f.form f.delivery.path.now f.delivery.bytes.now [] c.args.why given (λ x. x.0) answer fails)
+    let h = c.end_stopped.ensures in (
+      h.0,
+      h.1 (formed_given f.form f.delivery.path.now f.delivery.bytes.now [] h.0 (λ x. x.0) answer given)
+          (form_due f.form f.delivery.path.now f.delivery.bytes.now [] h.0 c.args.why given (λ x. x.0) answer fails),
+    )

@@ -7,8 +7,10 @@ use Rattle.ocl_explain.proofs.formed.FormedReportTextAsker.stop.Goals as goal
 pub returns : goal.returns
 returns g c = λ given fails.
     let f = c.args.self.now in
-    let answer = meant_within f.budget in (
+    let answer = meant_within f.budget in
+    let h = c.end_stopped.ensures in (
       [],
-      c.end_stopped.ensures (formed_given f.form f.delivery.path.now f.delivery.bytes.now [] (λ x. x.0) answer given)
-          (form_due f.form f.delivery.path.now f.delivery.bytes.now [] c.args.why given (λ x. x.0) answer fails),
+      h.0,
+      h.1 (formed_given f.form f.delivery.path.now f.delivery.bytes.now [] h.0 (λ x. x.0) answer given)
+          (form_due f.form f.delivery.path.now f.delivery.bytes.now [] h.0 c.args.why given (λ x. x.0) answer fails),
     )

@@ -1,0 +1,2 @@
+-- Bookkeeping: what only proofs use.
+mod TypedNodes
