@@ -18,5 +18,8 @@ mod words;
 
 pub use explaining::{ExplainedRule, explain_rule, explain_verdict};
 pub use expressions::expression_text;
+pub use pieces::put;
+pub use texts::{class_asked, next, put_variable, put_wrapped};
 pub use valued::value_of;
+pub use values::put_character;
 pub use words::{Form, iteration_word, kind_name, operator_form, operator_word};

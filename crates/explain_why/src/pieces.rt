@@ -8,7 +8,7 @@ use ocl_base::OutOfMemory;
 use std::alloc::Global;
 
 /// Puts a text at the end.
-pub(crate) fn put(out: &mut String, text: &str) -> Result<(), OutOfMemory>
+pub fn put(out: &mut String, text: &str) -> Result<(), OutOfMemory>
     ensures { OnOk result (string_bytes out.new ≡ string_bytes out.old ++ text.now) }
 {
     out.push_str(text)?;

@@ -19,7 +19,7 @@ use ocl_core::{ConstantValue, Core, CoreLink, Operator};
 use std::alloc::Global;
 
 /// The number after a number. No memory holds so many variables or levels that there is none.
-pub(crate) fn next(number: usize) -> Result<usize, OutOfMemory>
+pub fn next(number: usize) -> Result<usize, OutOfMemory>
     ensures { IfOk result (λ n. n ≡ suc number) }
 {
     match number.checked_add(1) {
@@ -36,11 +36,7 @@ pub(crate) struct Text {
 }
 
 /// Puts the name of a variable.
-pub(crate) fn put_variable(
-    alloc: Global,
-    out: &mut String,
-    number: usize,
-) -> Result<(), OutOfMemory>
+pub fn put_variable(alloc: Global, out: &mut String, number: usize) -> Result<(), OutOfMemory>
     ensures { OnOk result (string_bytes out.new ≡ string_bytes out.old ++ variable_name number) }
 {
     if number == 0 {
@@ -75,7 +71,7 @@ fn put_constant(
 }
 
 /// Puts a text, in parentheses where it has to stand in them.
-fn put_wrapped(out: &mut String, wraps: bool, text: &str) -> Result<(), OutOfMemory>
+pub fn put_wrapped(out: &mut String, wraps: bool, text: &str) -> Result<(), OutOfMemory>
     ensures { OnOk result (string_bytes out.new ≡ string_bytes out.old ++ wrapped wraps text.now) }
 {
     if !wraps {
@@ -87,7 +83,7 @@ fn put_wrapped(out: &mut String, wraps: bool, text: &str) -> Result<(), OutOfMem
 }
 
 /// The class that an operator asks for, or nothing.
-fn class_asked<'m>(model: &'m ClassModel, operator: &Operator) -> &'m str
+pub fn class_asked<'m>(model: &'m ClassModel, operator: &Operator) -> &'m str
     requires { IsOperatorOf model.now operator.now }
     ensures { result.now ≡ class_asked model.now operator.now }
 {

@@ -41,7 +41,7 @@ pub(crate) fn put_literal(
 }
 
 /// Puts a character of a text within quotes.
-fn put_character(out: &mut String, character: char) -> Result<(), OutOfMemory>
+pub fn put_character(out: &mut String, character: char) -> Result<(), OutOfMemory>
     ensures { OnOk result (string_bytes out.new ≡ string_bytes out.old ++
         quoted_character character) }
 {
