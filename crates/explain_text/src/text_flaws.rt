@@ -442,6 +442,11 @@ fn explain_code_file(
     )
 }
 
+/// Whether bytes are those of a code file, by how they begin. No rule text begins so.
+pub fn is_code_file(bytes: &[u8]) -> bool {
+    bytes.starts_with(b"OCLB\x00")
+}
+
 /// Says why a rule text is refused that has this flaw at an offset.
 pub fn explain_text_flaw(
     alloc: Global,
@@ -450,7 +455,7 @@ pub fn explain_text_flaw(
     flaw: TextFlaw,
     offset: usize,
 ) -> Result<(), AllocError> {
-    if input.bytes.starts_with(b"OCLB\x00") {
+    if is_code_file(input.bytes) {
         return explain_code_file(alloc, out, input.path, flaw);
     }
     let Ok(text) = str::from_utf8(input.bytes) else {
