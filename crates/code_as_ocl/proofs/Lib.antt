@@ -1,2 +1,4 @@
 -- Bookkeeping: what only proofs use.
 mod TypedNodes
+mod PutCharacters
+mod WantedNodes

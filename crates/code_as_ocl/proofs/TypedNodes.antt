@@ -1,5 +1,5 @@
 -- Texts of nodes as they lie in memory, by those of their parts.
-use Rattle.std.proofs.Common.{◌≡◌, ℕ, List, [], ◌∷◌, ◌++◌, length, map, refl, sym, ap, ◌∙◌, rules, append_assoc, Box, Vec, Global}
+use Rattle.std.proofs.Common.{◌≡◌, ℕ, List, [], ◌∷◌, length, map, refl, sym, ap, ◌∙◌, rules, append_assoc, Box, Vec, Global}
 use Rattle.imkl_model.specs.ClassModel.{Model}
 use Rattle.ocl_kinds.specs.declared.kind.Kind.{Kind}
 use Rattle.ocl_core.specs.declared.core_tree.Core.{Core, the_lemmas}
@@ -8,7 +8,8 @@ use Rattle.ocl_core.specs.declared.core_tree.CoreLink.{CoreLink, Feature, Operat
 use Rattle.ocl_core.specs.Core.{CoreTree, lets_of}
 use Rattle.ocl_core.specs.CoreView.{core_view, core_link_of, core_spine}
 use Rattle.ocl_core.proofs.ForAbove.{core_view-Spine, core_view-Let}
-use Rattle.code_as_ocl.specs.TypedTexts.{printed, typed_let_front, let_printed, printed_of, link_printed, links_printed, lets_printed, lets_kinds, closed_by}
+use Rattle.code_as_ocl.specs.WantedKinds.{let_kind}
+use Rattle.code_as_ocl.specs.TypedTexts.{printed, typed_let_front, let_printed, printed_of, with_value, link_printed, links_printed, lets_printed, lets_kinds, closed_by}
 
 -- ---- links
 
@@ -29,15 +30,17 @@ module _ (m : Model) (g : List Kind) where
 -- ---- values with the body that sees them
 
 lets_are : (m : Model) (vs : List CoreTree) (body : CoreTree) (g : List Kind)
-    → closed_by vs (lets_printed m vs g) (printed_of m body (lets_kinds m vs g)) ≡ printed_of m (lets_of vs body) g
+    → closed_by vs (lets_printed m vs body g) (printed_of m body (lets_kinds m vs body g)) ≡ printed_of m (lets_of vs body) g
 lets_are m [] body g = refl
 lets_are m (w ∷ []) body g = search rules
 lets_are m (w ∷ (x ∷ ws)) body g =
-    let seen = g ++ (printed_of m w g).kind ∷ [] in
-    let front = typed_let_front m (length g) (printed_of m w g) in
-    let inner = printed_of m body (lets_kinds m (x ∷ ws) seen) in
-    ap (λ (text : List ℕ). printed text 0 inner.kind) (append_assoc front (lets_printed m (x ∷ ws) seen) inner.text)
-    ∙ ap (let_printed m (length g) (printed_of m w g)) (lets_are m (x ∷ ws) body seen)
+    let later = lets_of (x ∷ ws) body in
+    let kind = let_kind m (length g) (printed_of m w g).kind later in
+    let seen = with_value m g (printed_of m w g).kind later in
+    let front = typed_let_front m (length g) kind (printed_of m w g) in
+    let inner = printed_of m body (lets_kinds m (x ∷ ws) body seen) in
+    ap (λ (text : List ℕ). printed text 0 inner.kind) (append_assoc front (lets_printed m (x ∷ ws) body seen) inner.text)
+    ∙ ap (let_printed m (length g) kind (printed_of m w g)) (lets_are m (x ∷ ws) body seen)
 
 -- ---- nodes in memory
 
@@ -51,7 +54,8 @@ module _ (core : Core) (first : Box Core Global) (links : Vec CoreLink Global) (
 module _ (core : Core) (values : Vec Core Global) (body : Box Core Global) (is : core ≡ v.Let values body) where
   -- values as variables, and the body that sees them
   pub let_is : (m : Model) (g : List Kind)
-      → closed_by (map core_view values.items) (lets_printed m (map core_view values.items) g) (printed_of m (core_view body.value) (lets_kinds m (map core_view values.items) g))
+      → closed_by (map core_view values.items) (lets_printed m (map core_view values.items) (core_view body.value) g)
+      (printed_of m (core_view body.value) (lets_kinds m (map core_view values.items) (core_view body.value) g))
       ≡ printed_of m (core_view core) g
   let_is m g =
       lets_are m (map core_view values.items) (core_view body.value) g

@@ -1,5 +1,5 @@
--- The rules of a unit as OCL: of each its context class, its name, and the core tree of its code, whose meaning is the rule's.
-use Rattle.std.specs.Prelude.{ℕ, zero, suc, Bool, List, [], ◌∷◌, ◌++◌, Option, Some, None, length, codes, nat_lt, unwrap_or, if◌then◌else◌}
+-- A rule of a unit as OCL: its context class, its name, and the core tree of its code, whose meaning is the rule's.
+use Rattle.std.specs.Prelude.{ℕ, Bool, List, [], ◌∷◌, ◌++◌, Option, Some, None, length, codes, nat_lt, unwrap_or, if◌then◌else◌}
 use Rattle.imkl_model.specs.ClassModel.{Model, class_at}
 use Rattle.ocl_kinds.specs.declared.kind.ScalarKind.TheVariants as element
 use Rattle.ocl_kinds.specs.declared.kind.Kind.TheVariants.{Scalar}
@@ -30,14 +30,22 @@ module _ (m : Model) (u : Content) where
   expression_shown n =
       if is_too_long (unit_rule u n) then codes "-- not shown: it has more than 1000 instructions" else tree_shown m (context_shown n) (core_of_rule m u n)
 
+  -- its context class and its name
+  abbrev pub head_shown : ℕ → List ℕ
+  head_shown n =
+      codes "context " ++ (context_name n ++ (codes "\n  inv " ++ (text_at u.texts (unit_rule u n).name ++ codes ":\n")))
+
+  -- its expression in one line
+  abbrev pub line_shown : ℕ → List ℕ
+  line_shown n = codes "    " ++ (expression_shown n ++ codes "\n")
+
   abbrev pub rule_shown : ℕ → List ℕ
-  rule_shown n =
-      codes "context " ++ (context_name n ++ (codes "\n  inv " ++ (text_at u.texts (unit_rule u n).name ++ (codes ":\n    " ++ (expression_shown n ++ codes "\n")))))
+  rule_shown n = head_shown n ++ line_shown n
 
-  -- the rules before one of this index
-  abbrev pub rules_before : ℕ → List ℕ
-  rules_before zero = []
-  rules_before (suc n) = rules_before n ++ rule_shown n
+-- a mark, with the reason
+abbrev pub mark_shown : List ℕ → List ℕ
+mark_shown why = codes "    -- can't be written as OCL: " ++ (why ++ codes "\n")
 
-  abbrev pub shown_rules : List ℕ
-  shown_rules = rules_before (length u.rules)
+-- a rule with a mark
+abbrev pub rule_marked : Model → Content → List ℕ → ℕ → List ℕ
+rule_marked m u why n = head_shown m u n ++ (mark_shown why ++ line_shown m u n)

@@ -1,6 +1,8 @@
 -- Core trees as OCL of the profile: variables have types, and parentheses stand where the grammar wants them. A text has with
 -- it how tightly it binds and its kind, by which what stands around it is printed.
-use Rattle.std.specs.Prelude.{ℕ, zero, suc, nat_lt, ◌&&◌, Bool, true, false, List, [], ◌∷◌, ◌++◌, length, codes, slice_index_or}
+use Rattle.std.specs.Prelude.{ℕ, suc, nat_lt, List, [], ◌∷◌, ◌++◌, length, codes, slice_index_or}
+use Rattle.std.specs.List.{flat_map}
+use Rattle.std.specs.Str.{chars}
 use Rattle.ocl_base.specs.declared.collection_kind.CollectionKind.{CollectionKind}
 use Rattle.ocl_base.specs.declared.collection_kind.CollectionKind.TheVariants as collection
 use Rattle.imkl_model.specs.ClassModel.{Model, class_at, enumeration_at, feature_at}
@@ -17,12 +19,13 @@ use Rattle.ocl_core.specs.declared.core_tree.CoreLink.{CoreLink}
 use Rattle.ocl_core.specs.declared.core_tree.Iteration.{Iteration}
 use Rattle.ocl_core.specs.declared.core_tree.Iteration.TheVariants as iteration
 use Rattle.ocl_core.specs.Core as tree
-use Rattle.ocl_core.specs.Core.{CoreTree, CoreTrees}
+use Rattle.ocl_core.specs.Core.{Constant, CoreTree, CoreTrees, lets_of}
 use Rattle.ocl_core.specs.OperatorKinds.{basic, truth_kind, class_result, element_result}
 use Rattle.ocl_core.specs.Typing.{constant_kind, plain_result}
 use Rattle.ocl_semantics.specs.Evaluated.{on_null}
-use Rattle.explain_why.specs.Values.{kind_name, before_element}
+use Rattle.explain_why.specs.Values.{quoted_character, kind_name, before_element}
 use Rattle.explain_why.specs.Texts.{Form, Between, Before, After, variable_name, constant_text, instances_text, feature_text, operation_text, iterate_text, choice_text, operator_form, operator_word, class_asked, wrapped}
+use Rattle.code_as_ocl.specs.WantedKinds.{let_kind}
 
 pub record Printed : Type 0 where
   pub text : List ℕ
@@ -124,7 +127,22 @@ with_element g source = g ++ Scalar (elements_kind source) ∷ []
 abbrev pub with_accumulator : List Kind → Kind → ScalarKind → List Kind
 with_accumulator g source k = with_element g source ++ Scalar k ∷ []
 
+-- the variables of a body behind a value of this kind
+abbrev pub with_value : Model → List Kind → Kind → CoreTree → List Kind
+with_value m g value body = g ++ let_kind m (length g) value body ∷ []
+
 -- ---- nodes, by their parts
+
+-- a text with all its characters
+abbrev pub whole_text : List ℕ → List ℕ
+whole_text t = 39 ∷ (flat_map quoted_character t ++ 39 ∷ [])
+
+abbrev pub whole_constant : Model → Constant → List ℕ
+whole_constant m (tree.Text t) = whole_text (chars t)
+whole_constant m c = constant_text m c
+
+abbrev pub constant_printed : Model → Constant → Printed
+constant_printed m c = printed (whole_constant m c) 10 (constant_kind c)
 
 abbrev pub feature_printed : Model → ℕ → Printed → Printed
 feature_printed m f first = printed (feature_text m f (at_least 10 first)) 10 (feature_kind (feature_at m f))
@@ -151,13 +169,13 @@ abbrev pub fold_printed : Model → ScalarKind → ℕ → Printed → Printed �
 fold_printed m k n source start body =
     printed (at_least 10 source ++ (typed_fold_front n (scalar_name m k) ++ (at_least 1 start ++ (codes " | " ++ (body.text ++ 41 ∷ []))))) 10 (Scalar k)
 
--- what stands before the body of a `let`
-abbrev pub typed_let_front : Model → ℕ → Printed → List ℕ
-typed_let_front m n value =
-    codes "let " ++ (variable_name n ++ (codes " : " ++ (type_text m value.kind ++ (codes " = " ++ (at_least 1 value ++ codes " in ")))))
+-- what stands before the body of a `let` whose variable is of this kind
+abbrev pub typed_let_front : Model → ℕ → Kind → Printed → List ℕ
+typed_let_front m n k value =
+    codes "let " ++ (variable_name n ++ (codes " : " ++ (type_text m k ++ (codes " = " ++ (at_least 1 value ++ codes " in ")))))
 
-abbrev pub let_printed : Model → ℕ → Printed → Printed → Printed
-let_printed m n value body = printed (typed_let_front m n value ++ body.text) 0 body.kind
+abbrev pub let_printed : Model → ℕ → Kind → Printed → Printed → Printed
+let_printed m n k value body = printed (typed_let_front m n k value ++ body.text) 0 body.kind
 
 abbrev pub if_printed : Kind → Printed → Printed → Printed → Printed
 if_printed k condition first second = printed (choice_text (at_least 1 condition) first.text second.text) 10 k
@@ -168,7 +186,7 @@ module _ (m : Model) where
   -- by the kinds of the variables that are seen
   abbrev mutual
     pub printed_of : CoreTree → List Kind → Printed
-    printed_of (tree.Value c) g = printed (constant_text m c) 10 (constant_kind c)
+    printed_of (tree.Value c) g = constant_printed m c
     printed_of (tree.Variable v) g = printed (variable_name v) 10 (variable_kind g v)
     printed_of (tree.AllInstances c) g = printed (instances_text m c) 10 (Collection collection.Set (element.Class c))
     printed_of (tree.Feature source f) g = feature_printed m f (printed_of source g)
@@ -180,7 +198,7 @@ module _ (m : Model) where
     printed_of (tree.Fold k source start body) g =
         fold_printed m k (length g) (printed_of source g) (printed_of start g) (printed_of body (with_accumulator g (printed_of source g).kind k))
     printed_of (tree.Let value body) g =
-        let_printed m (length g) (printed_of value g) (printed_of body (g ++ (printed_of value g).kind ∷ []))
+        let_printed m (length g) (let_kind m (length g) (printed_of value g).kind body) (printed_of value g) (printed_of body (with_value m g (printed_of value g).kind body))
     printed_of (tree.If k condition first second) g = if_printed k (printed_of condition g) (printed_of first g) (printed_of second g)
 
     -- the operands after the first, from the one of this number on
@@ -212,14 +230,16 @@ module _ (m : Model) where
   -- ---- values as variables
 
   -- what stands before the body of values
-  abbrev pub lets_printed : List CoreTree → List Kind → List ℕ
-  lets_printed [] g = []
-  lets_printed (v ∷ vs) g = typed_let_front m (length g) (printed_of v g) ++ lets_printed vs (g ++ (printed_of v g).kind ∷ [])
+  abbrev pub lets_printed : List CoreTree → CoreTree → List Kind → List ℕ
+  lets_printed [] body g = []
+  lets_printed (v ∷ vs) body g =
+      typed_let_front m (length g) (let_kind m (length g) (printed_of v g).kind (lets_of vs body)) (printed_of v g)
+      ++ lets_printed vs body (with_value m g (printed_of v g).kind (lets_of vs body))
 
   -- the variables that it sees
-  abbrev pub lets_kinds : List CoreTree → List Kind → List Kind
-  lets_kinds [] g = g
-  lets_kinds (v ∷ vs) g = lets_kinds vs (g ++ (printed_of v g).kind ∷ [])
+  abbrev pub lets_kinds : List CoreTree → CoreTree → List Kind → List Kind
+  lets_kinds [] body g = g
+  lets_kinds (v ∷ vs) body g = lets_kinds vs body (with_value m g (printed_of v g).kind (lets_of vs body))
 
 -- values and their body
 abbrev pub closed_by : List CoreTree → List ℕ → Printed → Printed

@@ -7,8 +7,7 @@ ghost use Rattle.ocl_core.specs.OperatorKinds.{class_result, element_result};
 ghost use Rattle.ocl_core.specs.Typing.{constant_kind, plain_result};
 ghost use Rattle.code_as_ocl.specs.TypedTexts.{scalar_name, type_text, collection_seen, operator_kind, iteration_kind, variable_kind, with_element, with_accumulator};
 
-use crate::pieces::put;
-use explain_why::kind_name;
+use explain_why::{kind_name, put};
 use imkl_model::{ClassModel, ClassNo, CollectionKind};
 use ocl_base::OutOfMemory;
 use ocl_core::{

@@ -1,10 +1,16 @@
 //! The rules of a code file as OCL: of each its context class, its name, and the core tree of its code as a text. A rule's
-//! verdict is that of the meaning of this tree.
+//! verdict is that of the meaning of this tree. A text without a mark is compiled to the rule again.
 #![tactic(auto)]
 
 mod kinds;
-mod pieces;
+mod levels;
+mod lines;
+mod marks;
+mod quoted;
 mod rules;
 mod typed;
+mod types;
+mod wanted;
 
-pub use rules::{MAX_INSTRUCTIONS, put_rule, put_rules};
+pub use marks::{put_rule, put_rules};
+pub use rules::MAX_INSTRUCTIONS;

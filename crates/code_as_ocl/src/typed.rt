@@ -3,10 +3,11 @@
 ghost use Rattle.std.specs.Prelude.{◌≡◌, ◌++◌, ◌<◌, length, map, IfOk, OnOk, string_bytes};
 ghost use Rattle.std.specs.List.{AllByRecursion};
 ghost use Rattle.ocl_core.specs.Core.{cores_of};
-ghost use Rattle.ocl_core.specs.CoreView.{core_view};
+ghost use Rattle.ocl_core.specs.Core as tree;
+ghost use Rattle.ocl_core.specs.CoreView.{core_view, constant_of};
 ghost use Rattle.ocl_semantics.specs.Resolved.{IsOperatorOf, IsResolved, AreResolved};
 ghost use Rattle.ocl_semantics.specs.Evaluated.{IsLinkResolved, AreLinksResolved, on_null};
-ghost use Rattle.explain_why.specs.Texts.{class_asked, text_of};
+ghost use Rattle.explain_why.specs.Texts.{text_of};
 ghost use Rattle.code_as_ocl.specs.TypedTexts as typed;
 ghost use Rattle.code_as_ocl.specs.PrintedView.{printed_view};
 
@@ -14,13 +15,16 @@ use crate::kinds::{
     constant_kind, iteration_kind, operator_kind, put_type, scalar_name, variable_kind,
     with_accumulator, with_element,
 };
-use crate::pieces::{
-    first_level, next, operator_level, others_level, put, put_variable, put_wrapped,
+use crate::levels::{first_level, operator_level, others_level};
+use crate::quoted::whole_text;
+use crate::wanted::let_kind;
+use explain_why::{
+    Form, class_asked, expression_text, iteration_word, next, operator_form, operator_word, put,
+    put_variable, put_wrapped,
 };
-use explain_why::{Form, expression_text, iteration_word, operator_form, operator_word};
 use imkl_model::{ClassModel, CollectionKind, FeatureNo};
 use ocl_base::OutOfMemory;
-use ocl_core::{Core, CoreLink, Iteration, Operator};
+use ocl_core::{ConstantValue, Core, CoreLink, Iteration, Operator};
 use ocl_kinds::{Kind, ScalarKind, feature_kind};
 use std::alloc::Global;
 
@@ -39,17 +43,6 @@ impl TypedText {
             string_bytes out.old ++ typed.at_least level (printed_view self.now)) }
     {
         put_wrapped(out, self.level < level, &self.text)
-    }
-}
-
-/// The class that an operator asks for, or nothing.
-fn class_asked<'m>(model: &'m ClassModel, operator: &Operator) -> &'m str
-    requires { IsOperatorOf model.now operator.now }
-    ensures { result.now ≡ class_asked model.now operator.now }
-{
-    match operator {
-        Operator::OfClass(_, class) => model.class_name(*class),
-        _ => "",
     }
 }
 
@@ -152,21 +145,22 @@ fn fold_printed(
     })
 }
 
-/// Puts what stands before the body of a `let`.
+/// Puts what stands before the body of a `let` whose variable is of this kind.
 fn put_let_front(
     alloc: Global,
     out: &mut String,
     model: &ClassModel,
     variables: usize,
+    kind: Kind,
     value: &TypedText,
 ) -> Result<(), OutOfMemory>
     ensures { OnOk result (string_bytes out.new ≡ string_bytes out.old ++
-        typed.typed_let_front model.now variables (printed_view value.now)) }
+        typed.typed_let_front model.now variables kind (printed_view value.now)) }
 {
     put(out, "let ")?;
     put_variable(alloc, out, variables)?;
     put(out, " : ")?;
-    put_type(out, model, value.kind)?;
+    put_type(out, model, kind)?;
     put(out, " = ")?;
     value.put_at_least(out, 1)?;
     put(out, " in ")
@@ -260,6 +254,33 @@ fn leaf_printed(
     })
 }
 
+/// A constant, which is a tree; a text whole.
+fn constant_printed(
+    alloc: Global,
+    model: &ClassModel,
+    core: &Core,
+    value: &ConstantValue,
+    kinds: &[Kind],
+) -> Result<TypedText, OutOfMemory>
+    requires resolved { IsResolved model.now (core_view core.now) }
+    requires value { core_view core.now ≡ tree.Value (constant_of value.now) }
+    ensures { IfOk result (λ t. printed_view t ≡
+        typed.constant_printed model.now (constant_of value.now)) }
+{
+    match value {
+        ConstantValue::Text(text) => Ok(TypedText {
+            text: whole_text(alloc, text)?,
+            level: 10,
+            kind: constant_kind(value),
+        }),
+        ConstantValue::Boolean(_)
+        | ConstantValue::Integer(_)
+        | ConstantValue::Literal(_, _)
+        | ConstantValue::Null
+        | ConstantValue::Invalid => leaf_printed(alloc, model, core, kinds, constant_kind(value)),
+    }
+}
+
 /// What stands before the body of values, and the kinds of the variables that it sees.
 #[derive(Drop)]
 struct Front {
@@ -300,7 +321,7 @@ pub(crate) fn printed_of(
         typed.printed_of model.now (core_view core.now) kinds.now) }
 {
     match core {
-        Core::Constant { value } => leaf_printed(alloc, model, core, kinds, constant_kind(value)),
+        Core::Constant { value } => constant_printed(alloc, model, core, value, kinds),
         Core::Variable { number } => {
             leaf_printed(alloc, model, core, kinds, variable_kind(kinds, *number))
         }
@@ -313,7 +334,7 @@ pub(crate) fn printed_of(
             links_printed(alloc, model, links, kinds, text)
         }
         Core::Let { values, body } => {
-            let front = front_of(alloc, model, values, kinds)?;
+            let front = front_of(alloc, model, values, body, kinds)?;
             let inner = printed_of(alloc, model, body, &front.kinds)?;
             closed_by(values, front.text, inner)
         }
@@ -331,28 +352,31 @@ pub(crate) fn printed_of(
     }
 }
 
-/// What stands before the body of values.
+/// What stands before the body of values. The body, which isn't printed here, says what is wanted of variables that are null.
 #[cycle(typed)]
 fn front_of(
     alloc: Global,
     model: &ClassModel,
     values: &[Core],
+    body: &Core,
     kinds: &[Kind],
 ) -> Result<Front, OutOfMemory>
     requires { AllByRecursion (IsResolved model.now) (map core_view values.now) }
     ensures text { IfOk result (λ f. string_bytes f.text ≡
-        typed.lets_printed model.now (map core_view values.now) kinds.now) }
+        typed.lets_printed model.now (map core_view values.now) (core_view body.now) kinds.now) }
     ensures kinds { IfOk result (λ f. f.kinds.items ≡
-        typed.lets_kinds model.now (map core_view values.now) kinds.now) }
+        typed.lets_kinds model.now (map core_view values.now) (core_view body.now) kinds.now) }
 {
     let mut front = Front {
         text: String::new(alloc),
         kinds: Vec::from_slice(alloc, kinds)?,
     };
-    'values: for value in values {
-        let printed = printed_of(alloc, model, value, &front.kinds)?;
-        put_let_front(alloc, &mut front.text, model, front.kinds.len(), &printed)?;
-        front.kinds.push(printed.kind)?;
+    'values: for index in 0..values.len() {
+        let printed = printed_of(alloc, model, &values[index], &front.kinds)?;
+        let variable = front.kinds.len();
+        let kind = let_kind(model, variable, printed.kind, &values[index + 1..], body);
+        put_let_front(alloc, &mut front.text, model, variable, kind, &printed)?;
+        front.kinds.push(kind)?;
     }
     Ok(front)
 }

@@ -1,4 +1,5 @@
 pub mod Named
+mod ShownRules
 pub mod Answering
 pub mod FormAnswers
 pub mod Confirmed

@@ -1,10 +1,9 @@
 //! The characters of a rule text that begin no token, more than the first.
 
-use crate::code_whys::is_code_file;
 use crate::faults::MAX_FAULTS;
 use explain_faults::Faults;
 use explain_notes::Input;
-use explain_text::explain_text_flaw;
+use explain_text::{explain_text_flaw, is_code_file};
 use ocl_tokens::{TextFault, TextFlaw, tokens};
 use std::alloc::{AllocError, Global};
 

@@ -35,11 +35,6 @@ use rule_trees::laws::trees_are_resolved;
 use rule_verify::Accepted;
 use std::alloc::Global;
 
-/// Whether bytes are those of a code file, by how they begin. No rule text begins so.
-pub fn is_code_file(bytes: &[u8]) -> bool {
-    bytes.starts_with(b"OCLB\x00")
-}
-
 /// What there is of a rule's name and an object's id.
 #[derive(Drop)]
 pub(crate) enum CodeFound<'m> {

@@ -35,7 +35,7 @@ mod whys;
 mod writing;
 
 pub use answers::{answer_bound, answer_compile, answer_desk, answer_judge, answer_verify};
-pub use code_whys::{answer_why_code, is_code_file};
+pub use code_whys::answer_why_code;
 pub use console::{ConsoleAsked, EXPRESSION, Terminal, run_console, value_line};
 pub use differences::put_differences;
 pub use eval_words::Unvalued;

@@ -1,55 +1,22 @@
 //! The rules of a code file as OCL.
 
 ghost use Rattle.std.specs.Prelude.{◌≡◌, true, false};
-ghost use Rattle.ocl_check.specs.Answers.{IsAnswered, IsFlushedBy, KeepsSink, fails_read, fails_write};
+ghost use Rattle.ocl_check.specs.Answers.{IsAnswered, IsAnsweredBy, IsFlushedBy, KeepsSink, fails_read, fails_write};
 ghost use Rattle.ocl_check.specs.Ending.{IsEnding};
-ghost use Rattle.ocl_explain.specs.ShownCode.{shown_unit, shown_code, show_answer};
+ghost use Rattle.ocl_check.specs.Reply.{Answer};
+ghost use Rattle.ocl_explain.specs.ShownCode.{IsShownUnit, IsShownCode, ShowAnswers};
 
-use crate::answers::answer_compile;
-use crate::explaining::{Ending, Explaining, Nobody, Words};
+use crate::explaining::{Ending, Explaining, Nobody};
 use crate::given::{Given, options_of};
 use crate::writing::write_answer;
 use code_as_ocl::put_rules;
 use explain_notes::Input;
 use imkl_model::ClassModel;
 use ocl_base::OutOfMemory;
-use ocl_check::{CommandFault, Outcome, RulesForm, Sink, Telling, stop};
-use ocl_pipeline::{Place, accept_code, read_model};
+use ocl_check::{Outcome, RulesForm, Sink, stop};
+use ocl_pipeline::{Place, Stopped, accept_code, read_model};
 use rule_verify::Accepted;
-use std::alloc::{AllocError, Global};
-
-/// Whether a text is compiled to the very bytes of a code file.
-fn is_compiled_to(
-    alloc: Global,
-    model: Input<'_>,
-    text: Input<'_>,
-    code: &[u8],
-) -> Result<bool, AllocError> {
-    let mut bytes = Telling::new(Vec::new(alloc));
-    let mut said = Telling::new(Vec::new(alloc));
-    match answer_compile(alloc, model, text, &mut bytes, &mut said).outcome {
-        Outcome::Status(0) => Ok(bytes.into_inner().as_slice() == code),
-        Outcome::Status(_) => Ok(false),
-        // Memory takes all bytes that there is room for.
-        Outcome::Failed(_) => Err(AllocError),
-    }
-}
-
-/// What is said where a text isn't compiled to the code file that it shows; else nothing.
-fn compiled_otherwise(alloc: Global, given: Given<'_>, text: &String) -> Words {
-    let code = given.rules;
-    let shown = Input {
-        path: code.path,
-        bytes: text.as_bytes(),
-    };
-    if is_compiled_to(alloc, given.model, shown, code.bytes)? {
-        return Ok(String::new(alloc));
-    }
-    let path = code.path;
-    format!(in alloc;
-        "{path}: the text shown has the meaning of the code, and is compiled to other code, or not at all\n"
-    )
-}
+use std::alloc::Global;
 
 /// Writes the rules of accepted code.
 fn show_accepted<S: Sink>(
@@ -59,16 +26,16 @@ fn show_accepted<S: Sink>(
     sink: &mut S,
 ) -> Outcome
     requires { S.has_failed sink.old ≡ false }
-    ensures { IsEnding S.contents S.has_failed S.flushes S.has_pending true
-        (shown_unit accepted.now.model accepted.now.unit) sink.old result sink.new }
+    ensures { (a : Answer) × IsShownUnit accepted.now.model accepted.now.unit a
+        × IsEnding S.contents S.has_failed S.flushes S.has_pending true a sink.old result sink.new }
 {
     let mut text = String::new(alloc);
     match put_rules(alloc, &mut text, accepted) {
-        Ok(()) => {
-            watch.keep(compiled_otherwise(alloc, watch.given(), &text));
-            write_answer(sink, text.as_bytes(), 0)
+        Ok(()) => write_answer(sink, text.as_bytes(), 0),
+        Err(OutOfMemory) => {
+            let place = Place::Rules(accepted.model());
+            stop(alloc, watch, place, Stopped::OutOfMemory, sink)
         }
-        Err(OutOfMemory) => Outcome::Failed(CommandFault::OutOfMemory),
     }
 }
 
@@ -81,8 +48,8 @@ fn show_file<S: Sink>(
     sink: &mut S,
 ) -> Outcome
     requires { S.has_failed sink.old ≡ false }
-    ensures { IsEnding S.contents S.has_failed S.flushes S.has_pending true
-        (shown_code code.now model.now) sink.old result sink.new }
+    ensures { (a : Answer) × IsShownCode code.now model.now a
+        × IsEnding S.contents S.has_failed S.flushes S.has_pending true a sink.old result sink.new }
 {
     match accept_code(alloc, model, code) {
         Ok(accepted) => show_accepted(alloc, watch, &accepted, sink),
@@ -102,8 +69,8 @@ fn show_inputs<S: Sink>(
     sink: &mut S,
 ) -> Outcome
     requires { S.has_failed sink.old ≡ false }
-    ensures { IsEnding S.contents S.has_failed S.flushes S.has_pending true
-        (show_answer model.now code.now) sink.old result sink.new }
+    ensures { (a : Answer) × ShowAnswers model.now code.now a
+        × IsEnding S.contents S.has_failed S.flushes S.has_pending true a sink.old result sink.new }
 {
     match read_model(alloc, model) {
         Ok(model) => show_file(alloc, watch, &model, code, sink),
@@ -112,8 +79,8 @@ fn show_inputs<S: Sink>(
 }
 
 /// Shows the rules of a code file as OCL: of each its context class, its name, and an expression whose meaning is the rule's
-/// verdict (`verdicts_are_of_trees` of `rule_trees`). Where `verify` refuses an input it is refused likewise, with status 2.
-/// Where the text isn't compiled to the very code file, that is said behind the answer.
+/// verdict (`verdicts_are_of_trees` of `rule_trees`). A rule without a mark is compiled again to one of the same name, context
+/// class and core tree. Where `verify` refuses an input it is refused likewise, with status 2.
 ///
 /// The answer is put together whole before its first byte is written. `Failed(OutOfMemory)`: memory ran out; nothing was
 /// written. `Failed(Write)`: the sink has failed, after a prefix of the answer.
@@ -124,7 +91,7 @@ pub fn show_code<'i, S: Sink>(
     sink: &mut S,
 ) -> Ending
     requires { S.has_failed sink.old ≡ false }
-    ensures answered { IsAnswered (show_answer model.entry.bytes.now code.entry.bytes.now)
+    ensures answered { IsAnsweredBy (ShowAnswers model.entry.bytes.now code.entry.bytes.now)
         (S.contents sink.old) (S.contents sink.new) result.outcome }
     ensures sink { S.has_failed sink.new ≡ fails_write result.outcome }
     ensures flushed { IsFlushedBy S.flushes S.has_pending result.outcome sink.old sink.new }

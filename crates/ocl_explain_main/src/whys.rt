@@ -4,10 +4,11 @@ use crate::command_line::WhyWords;
 use crate::files::{read_file, report_write};
 use crate::requests::end;
 use explain_notes::Input;
+use explain_text::is_code_file;
 use ocl_check::{CommandFault, Outcome, Telling};
 use ocl_explain::{
     RuleAsked, WhyAsked, WithLastError, answer_why, answer_why_code, answer_why_code_rule,
-    answer_why_rule, is_code_file,
+    answer_why_rule,
 };
 use std::io;
 

@@ -26,7 +26,7 @@ printed_of-front_of-requires t c =
 pub printed_of-printed_of-requires-in-Let : goal.printed_of-printed_of-requires-in-Let
 printed_of-printed_of-requires-in-Let t c =
     let p = let_names c.args.core.now c.in-Let.values c.in-Let.body c.in-Let.is c.args.model.now c.requires in
-    (search (rules, the_lemmas), (rw c.deref-in-Let-2.ensures p.1))
+    (search (rules, the_lemmas), (rw c.deref-in-Let-3.ensures p.1))
 
 pub printed_of-returns-in_ok-text-in-Spine : goal.printed_of-returns-in_ok-text-in-Spine
 printed_of-returns-in_ok-text-in-Spine t c =
@@ -43,13 +43,15 @@ printed_of-returns-in_ok-inner-in-Let t c =
     let g = c.args.kinds.now in
     let values = map core_view c.in-Let.values.items in
     let body = core_view c.in-Let.body.value in
-    let text = rw c.deref-in-Let.ensures.value at c.in_ok-front-in-Let.ensures.text in
-    let kinds = rw c.deref-in-Let.ensures.value at c.in_ok-front-in-Let.ensures.kinds in
-    let of-body = rw c.deref-in-Let-2.ensures at c.in_ok-inner-in-Let.ensures in
-    let inner = (rw c.deref-in-Let-3.ensures.value at of-body) ∙ ap (printed_of m body) kinds in
-    let closed = rw c.deref-in-Let-4.ensures.value at c.closed_by.ensures in
+    let text-of-values = rw c.deref-in-Let.ensures.value at c.in_ok-front-in-Let.ensures.text in
+    let text = rw c.deref-in-Let-2.ensures at text-of-values in
+    let kinds-of-values = rw c.deref-in-Let.ensures.value at c.in_ok-front-in-Let.ensures.kinds in
+    let kinds = rw c.deref-in-Let-2.ensures at kinds-of-values in
+    let of-body = rw c.deref-in-Let-3.ensures at c.in_ok-inner-in-Let.ensures in
+    let inner = (rw c.deref-in-Let-4.ensures.value at of-body) ∙ ap (printed_of m body) kinds in
+    let closed = rw c.deref-in-Let-5.ensures.value at c.closed_by.ensures in
     let whole =
     ap (λ (x : List ℕ). closed_by values x (printed_view c.in_ok-inner-in-Let.inner)) text
-    ∙ (ap (λ (w : Printed). closed_by values (lets_printed m values g) w) inner
+    ∙ (ap (λ (w : Printed). closed_by values (lets_printed m values body g) w) inner
     ∙ let_is c.args.core.now c.in-Let.values c.in-Let.body c.in-Let.is m g) in
     IfOk-weaker c.closed_by.result _ _ (λ x h. h ∙ whole) closed

@@ -11,10 +11,11 @@ use Rattle.code_as_ocl.proofs.typed.+typed.Given as goal
 -- what was put, the variables, and the values that are left
 abbrev pub invariant-front_of-values : goal.invariant-front_of-values
 invariant-front_of-values l =
-    (string_bytes l.front.text ++ lets_printed l.model (map core_view (drop l.value-index l.values)) l.front.kinds.items
-    ≡ lets_printed l.model (map core_view l.values) l.kinds)
-    × ((lets_kinds l.model (map core_view (drop l.value-index l.values)) l.front.kinds.items ≡ lets_kinds l.model (map core_view l.values) l.kinds)
-    × AllByRecursion (IsResolved l.model) (map core_view (drop l.value-index l.values)))
+    (string_bytes l.front.text ++ lets_printed l.model (map core_view (drop l.index l.values)) (core_view l.body) l.front.kinds.items
+    ≡ lets_printed l.model (map core_view l.values) (core_view l.body) l.kinds)
+    × ((lets_kinds l.model (map core_view (drop l.index l.values)) (core_view l.body) l.front.kinds.items
+    ≡ lets_kinds l.model (map core_view l.values) (core_view l.body) l.kinds)
+    × AllByRecursion (IsResolved l.model) (map core_view (drop l.index l.values)))
 
 -- the text so far, and the links that are left
 abbrev pub invariant-links_printed-links : goal.invariant-links_printed-links

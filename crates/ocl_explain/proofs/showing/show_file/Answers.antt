@@ -5,13 +5,14 @@ use Rattle.ocl_pipeline.specs.Steps.{unit_in}
 use Rattle.ocl_pipeline.specs.Stops.{stopped}
 use Rattle.ocl_check.specs.Given.{given_answer}
 use Rattle.ocl_check.proofs.ForAbove.{due}
-use Rattle.ocl_explain.specs.ShownCode.{shown_unit}
+use Rattle.ocl_explain.proofs.ShownRules.{marked_unit, code_marked}
 use Rattle.ocl_explain.proofs.showing.show_file.Goals as goal
 
 pub returns-in-Err : goal.returns-in-Err
 returns-in-Err g c =
-    let f = shown_unit c.args.model.now in
-    let given = unit_in c.args.model.now c.args.code.now in
+    let m = c.args.model.now in
+    let given = unit_in m c.args.code.now in
+    let a = given_answer (marked_unit m) given in
     let why = c.into_parts-place.result.1 in
     let fails = subst (λ (w : Stopped). Fails stopped w given) (sym c.into_parts-place.ensures) c.in-Err.ensures.refused in
-    c.stop.ensures true (given_answer f given) (due why given f fails)
+    (a, code_marked c.args.code.now m, c.stop.ensures true a (due why given (marked_unit m) fails))

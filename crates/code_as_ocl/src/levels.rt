@@ -1,59 +1,11 @@
-//! Pieces of text, one after another.
+//! How tightly operators bind.
 
-ghost use Rattle.std.specs.Prelude.{◌≡◌, ◌≤◌, ◌++◌, IfOk, OnOk, suc, string_bytes};
-ghost use Rattle.explain_why.specs.Texts.{form_of, variable_name, wrapped};
+ghost use Rattle.std.specs.Prelude.{◌≡◌, ◌≤◌};
+ghost use Rattle.explain_why.specs.Texts.{form_of};
 ghost use Rattle.code_as_ocl.specs.TypedTexts.{plain_level, operator_level, first_level, others_level};
 
 use explain_why::Form;
-use ocl_base::OutOfMemory;
 use ocl_core::{Operator, PlainOperator};
-use std::alloc::Global;
-
-/// Puts a text at the end.
-pub(crate) fn put(out: &mut String, text: &str) -> Result<(), OutOfMemory>
-    ensures { OnOk result (string_bytes out.new ≡ string_bytes out.old ++ text.now) }
-{
-    out.push_str(text)?;
-    Ok(())
-}
-
-/// Puts a text, in parentheses where it has to stand in them.
-pub(crate) fn put_wrapped(out: &mut String, wraps: bool, text: &str) -> Result<(), OutOfMemory>
-    ensures { OnOk result (string_bytes out.new ≡ string_bytes out.old ++ wrapped wraps text.now) }
-{
-    if !wraps {
-        return put(out, text);
-    }
-    put(out, "(")?;
-    put(out, text)?;
-    put(out, ")")
-}
-
-/// Puts the name of a variable.
-pub(crate) fn put_variable(
-    alloc: Global,
-    out: &mut String,
-    number: usize,
-) -> Result<(), OutOfMemory>
-    ensures { OnOk result (string_bytes out.new ≡ string_bytes out.old ++ variable_name number) }
-{
-    if number == 0 {
-        return put(out, "self");
-    }
-    let digits = format!(in alloc; "{number}")?;
-    put(out, "x")?;
-    put(out, &digits)
-}
-
-/// The number after a number. No memory holds so many variables that there is none.
-pub(crate) fn next(number: usize) -> Result<usize, OutOfMemory>
-    ensures { IfOk result (λ n. n ≡ suc number) }
-{
-    match number.checked_add(1) {
-        Some(next) => Ok(next),
-        None => Err(OutOfMemory),
-    }
-}
 
 /// How tightly an operator binds that its name alone describes.
 fn plain_level(operator: PlainOperator) -> u8
