@@ -151,6 +151,9 @@ fn list_resolved<S: Sink>(
 {
     match accept_code(alloc, resolved.model(), code.bytes) {
         Ok(accepted) => list_accepted(alloc, sink, &resolved, &accepted),
+        Err(rejected) if matches!(rejected.why, Stopped::OutOfMemory) => {
+            failed(alloc, CommandFault::OutOfMemory)
+        }
         Err(rejected) => list_rejected(alloc, sink, code, &resolved, rejected),
     }
 }
