@@ -1,5 +1,5 @@
 -- What `judge` prints in a form is its answer in the form, of a population that its inputs describe or of a refusal.
-use Rattle.std.proofs.Common.{◌≡◌, inl, inr, ◌∙◌, ℕ, List, Result, Ok, Err, refl, sym, ap, subst}
+use Rattle.std.proofs.Common.{◌≡◌, inl, inr, ◌∙◌, ℕ, List, None, Result, Ok, Err, refl, sym, ap, subst}
 use Rattle.ocl_base.specs.Steps.{◌>>=◌, Fails}
 use Rattle.ocl_base.proofs.ForAbove.{both_steps, ok_is}
 use Rattle.imkl_population.specs.Population.{Population}
@@ -10,15 +10,24 @@ use Rattle.ocl_pipeline.specs.declared.stopped.Stopped.TheVariants.{Refused, Out
 use Rattle.ocl_pipeline.specs.Stops.{stopped}
 use Rattle.ocl_pipeline.specs.Inputs.{model_of, population_of}
 use Rattle.ocl_pipeline.specs.Steps.{model_in, population_in, inputs_in, unit_in, text_in}
-use Rattle.ocl_pipeline.specs.TextReading.{TextReading}
+use Rattle.ocl_pipeline.specs.TextReading.{TextReading, ReadsAs}
 use Rattle.ocl_pipeline.specs.Asked.{PopulationAndUnit, PopulationAndRules, with_unit, with_rules, with_code, with_text}
 use Rattle.ocl_pipeline.proofs.ForAbove.{not_refused}
+use Rattle.ocl_check.specs.declared.commands.judge.JudgeOptions.{JudgeOptions}
+use Rattle.ocl_check.specs.declared.commands.judge.RulesForm.{RulesForm}
+use Rattle.ocl_check.specs.declared.commands.judge.RulesForm.TheVariants.{Code, Text}
 use Rattle.ocl_check.specs.Reply.{Answer, refused}
 use Rattle.ocl_check.specs.Given.{given_answer}
+use Rattle.ocl_check.specs.Judge.{budget_answer}
+use Rattle.ocl_check.specs.JudgeText.{JudgeAnswers}
+use Rattle.ocl_check.proofs.ForAbove.{code_is_answered, text_is_answered, judged_code, judged_text}
 use Rattle.explain_faults.specs.declared.fault.Fault.{Fault}
 use Rattle.report_forms.specs.declared.beside.RuleMessage.{RuleMessage}
 use Rattle.report_forms.specs.declared.form.Form.{Form}
-use Rattle.ocl_explain.specs.FormedReport.{formed_in, formed_refusal, formed_given, IsFormDue, AreInputsOf, IsFormOf}
+use Rattle.ocl_explain.specs.declared.weaving.Detail.{Detail}
+use Rattle.ocl_explain.specs.declared.weaving.Detail.TheVariants as detail
+use Rattle.ocl_explain.specs.FormedReport.{detailed_within, code_detailed_within, WhyAnswersOf, DetailedAnswers, formed_in, formed_refusal, formed_given, IsFormDue, AreInputsOf, IsFormOf}
+use Rattle.ocl_explain.proofs.Answering.{explained_answers}
 
 -- where this is why the pipeline stopped, the form of its line is due
 pub form_due : {A : Type 0} (form : Form) (path delivery : List ℕ) (messages : List RuleMessage) (faults : List Fault) (why : Stopped) (given : Result A Refusal) (of : A → Population) (f : A → Answer)
@@ -65,3 +74,20 @@ module _ (form : Form) (path : List ℕ) (messages : List RuleMessage) (faults :
   pub text_form : (f : PopulationAndRules → Answer) (t : TextReading) (a : Answer) → given_answer f (inputs_in model delivery >>= with_text t) ≡ a
       → IsFormOf form path messages faults model delivery a (formed_given form path delivery messages faults (λ x. x.0) f (inputs_in model delivery >>= with_text t))
   text_form f t a same = is_form (λ x. x.0) f (inputs_in model delivery >>= with_text t) (text_described t) a same
+
+-- ---- with explanations, if these are wanted
+
+module _ (options : JudgeOptions) (model delivery rules : List ℕ) where
+  pub code_detailed : (d : Detail) → options.form ≡ Code → DetailedAnswers d options model delivery rules (given_answer (code_detailed_within options.budget d) (inputs_in model delivery >>= with_code rules))
+  code_detailed detail.Verdict is =
+      subst (JudgeAnswers options model delivery rules) (sym (code_is_answered (budget_answer options.budget) model delivery rules)) (judged_code options.form options.budget model delivery rules is)
+  code_detailed (detail.Why shown) is =
+      let told = given_answer (code_detailed_within options.budget (detail.Why shown)) (inputs_in model delivery >>= with_code rules) in
+      subst (λ (f : RulesForm). WhyAnswersOf f options.budget shown model delivery rules told) (sym is) refl
+
+  pub text_detailed : (d : Detail) (t : TextReading) → options.form ≡ Text → ReadsAs rules t → DetailedAnswers d options model delivery rules (given_answer (detailed_within options.budget d) (inputs_in model delivery >>= with_text t))
+  text_detailed detail.Verdict t is reads =
+      subst (JudgeAnswers options model delivery rules) (sym (text_is_answered options.budget t model delivery)) (judged_text options.form options.budget model delivery rules t is reads)
+  text_detailed (detail.Why shown) t is reads =
+      let told = given_answer (detailed_within options.budget (detail.Why shown)) (inputs_in model delivery >>= with_text t) in
+      subst (λ (f : RulesForm). WhyAnswersOf f options.budget shown model delivery rules told) (sym is) (explained_answers model delivery rules t reads options.budget shown None)

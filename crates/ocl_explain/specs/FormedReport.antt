@@ -1,13 +1,19 @@
--- What `judge` prints in a form: its answer as the form has it, with the places, classes and messages of the findings.
-use Rattle.std.specs.Prelude.{◌≡◌, ◌⊎◌, ℕ, List, Result, Ok, Err, ⊤}
+-- What `judge` prints in a form: its answer as the form has it, with the places, classes and messages of the findings, and with
+-- explanations where these are wanted.
+use Rattle.std.specs.Prelude.{◌≡◌, ◌⊎◌, ℕ, List, None, Result, Ok, Err, ⊤}
 use Rattle.imkl_model.specs.ClassModel.{Model}
 use Rattle.imkl_population.specs.Population.{Population}
 use Rattle.ocl_pipeline.specs.declared.refusal.Refusal.{Refusal}
 use Rattle.ocl_pipeline.specs.declared.stopped.Stopped.{Stopped}
 use Rattle.ocl_pipeline.specs.declared.stopped.Stopped.TheVariants.{Refused, OutOfMemory}
 use Rattle.ocl_pipeline.specs.Inputs.{model_of, population_of}
+use Rattle.ocl_pipeline.specs.Asked.{PopulationAndRules, PopulationAndUnit}
 use Rattle.ocl_check.specs.declared.commands.judge.JudgeOptions.{JudgeOptions}
+use Rattle.ocl_check.specs.declared.commands.judge.RulesForm.{RulesForm}
+use Rattle.ocl_check.specs.declared.commands.judge.RulesForm.TheVariants.{Code, Text}
 use Rattle.ocl_check.specs.Reply.{Answer, refused}
+use Rattle.ocl_check.specs.Given.{pair_answer, meant_within}
+use Rattle.ocl_check.specs.Judge.{budget_answer}
 use Rattle.ocl_check.specs.JudgeText.{JudgeAnswers}
 use Rattle.explain_faults.specs.declared.fault.Fault.{Fault}
 use Rattle.report_forms.specs.declared.beside.RuleMessage.{RuleMessage}
@@ -15,6 +21,35 @@ use Rattle.report_forms.specs.declared.form.Form.{Form}
 use Rattle.report_forms.specs.Places.{entry_places}
 use Rattle.report_forms.specs.Findings.{Context}
 use Rattle.report_forms.specs.Forms.{form_of_answer, form_of_refusal}
+use Rattle.ocl_explain.specs.declared.weaving.Shown.{Shown}
+use Rattle.ocl_explain.specs.declared.weaving.Detail.{Detail}
+use Rattle.ocl_explain.specs.declared.weaving.Detail.TheVariants as detail
+use Rattle.ocl_explain.specs.Explained.{explained_within, code_explained_within, code_explained_answer}
+use Rattle.ocl_explain.specs.ExplainedReport.{ExplainedAnswers}
+
+-- ---- what is told of findings
+
+-- the report that rules mean of a population, with explanations if these are wanted
+abbrev pub detailed_within : ℕ → Detail → PopulationAndRules → Answer
+detailed_within budget detail.Verdict asked = meant_within budget asked
+detailed_within budget (detail.Why shown) asked = explained_within budget shown None asked
+
+-- that of a unit
+abbrev pub code_detailed_within : ℕ → Detail → PopulationAndUnit → Answer
+code_detailed_within budget detail.Verdict asked = pair_answer (budget_answer budget) asked
+code_detailed_within budget (detail.Why shown) asked = code_explained_within budget shown None asked
+
+-- what may be answered with explanations, by the form of the rules
+abbrev pub WhyAnswersOf : RulesForm → ℕ → Shown → List ℕ → List ℕ → List ℕ → Answer → Type 0
+WhyAnswersOf Code budget shown model delivery rules a = a ≡ code_explained_answer budget shown None model delivery rules
+WhyAnswersOf Text budget shown model delivery rules a = ExplainedAnswers budget shown None model delivery rules a
+
+-- what may be answered of the bytes of the three inputs
+abbrev pub DetailedAnswers : Detail → JudgeOptions → List ℕ → List ℕ → List ℕ → Answer → Type 0
+DetailedAnswers detail.Verdict options model delivery rules a = JudgeAnswers options model delivery rules a
+DetailedAnswers (detail.Why shown) options model delivery rules a = WhyAnswersOf options.form options.budget shown model delivery rules a
+
+-- ---- forms
 
 -- what is known beside the report on the population that a delivery describes: the delivery's path and its bytes, and the
 -- messages of the rules
@@ -50,7 +85,7 @@ IsFormOf form path messages faults model delivery a formed =
     ⊎ ((p : Population) × AreInputsOf model delivery p × (formed ≡ formed_in form path delivery messages faults p a))
 
 -- what may be printed of the bytes of the three inputs, with some messages of rules, and with some faults where one is refused
-abbrev pub FormAnswers : Form → List ℕ → JudgeOptions → List ℕ → List ℕ → List ℕ → Answer → Type 0
-FormAnswers form path options model delivery rules formed =
-    (messages : List RuleMessage) × (faults : List Fault) × (a : Answer) × JudgeAnswers options model delivery rules a
+abbrev pub FormAnswers : Form → Detail → List ℕ → JudgeOptions → List ℕ → List ℕ → List ℕ → Answer → Type 0
+FormAnswers form detail path options model delivery rules formed =
+    (messages : List RuleMessage) × (faults : List Fault) × (a : Answer) × DetailedAnswers detail options model delivery rules a
     × IsFormOf form path messages faults model delivery a formed

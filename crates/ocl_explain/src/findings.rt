@@ -42,11 +42,11 @@ pub struct RuleAsked<'a> {
 
 /// Asks for the report with explanations, or for what it has of the rule of a name.
 #[derive(Clone, Copy)]
-struct ExplainedReport<'a, L> {
-    budget: u64,
-    shown: Shown,
-    rule: Option<&'a str>,
-    watch: &'a Explaining<'a, L>,
+pub(crate) struct ExplainedReport<'a, L> {
+    pub(crate) budget: u64,
+    pub(crate) shown: Shown,
+    pub(crate) rule: Option<&'a str>,
+    pub(crate) watch: &'a Explaining<'a, L>,
 }
 
 /// Writes a report with explanations, of which only the lines of one rule are wanted if its name is given.

@@ -3,21 +3,21 @@
 ghost use Rattle.std.specs.Prelude.{◌≡◌, ℕ, List, [], Some, true, false, IfOk};
 ghost use Rattle.ocl_check.specs.Answers.{IsAnswered, IsAnsweredBy, IsFlushedBy, KeepsSink, fails_read, fails_write};
 ghost use Rattle.ocl_check.specs.Ending.{IsEnding};
-ghost use Rattle.ocl_check.specs.Given.{pair_answer, meant_within};
-ghost use Rattle.ocl_check.specs.Judge.{budget_answer};
 ghost use Rattle.ocl_check.specs.Reply.{Answer, refused};
 ghost use Rattle.explain_faults.specs.declared.fault.Fault.{Fault};
 ghost use Rattle.report_forms.specs.declared.beside.RuleMessage.{RuleMessage};
 ghost use Rattle.report_forms.specs.Forms.{form_of_report};
-ghost use Rattle.ocl_explain.specs.FormedReport.{context_in, formed_in, formed_refusal, formed_given, IsFormDue, FormAnswers};
+ghost use Rattle.ocl_explain.specs.FormedReport.{context_in, detailed_within, code_detailed_within, formed_in, formed_refusal, formed_given, IsFormDue, FormAnswers};
 
+use crate::detailed::{Answered, DetailedReport};
 use crate::explaining::{Ending, Explaining, Listener};
 use crate::given::Given;
+use crate::weaving::Detail;
 use crate::writing::write_answer;
 use explain_faults::Fault;
 use explain_notes::Input;
 use imkl_population::Population;
-use ocl_check::{CommandFault, JudgeOptions, Outcome, Report, RulesForm, Sink, Telling, stop};
+use ocl_check::{CommandFault, JudgeOptions, Outcome, RulesForm, Sink, Telling, stop};
 use ocl_core::CoreRule;
 use ocl_pipeline::{CodeAsker, OfCode, OfText, Place, Refusal, Stopped, TextAsker, ask_inputs};
 use report_forms::{
@@ -29,11 +29,10 @@ use std::alloc::{AllocError, Global};
 /// Asks for the report in a form.
 #[derive(Clone, Copy)]
 struct FormedReport<'a, L> {
-    budget: u64,
+    report: DetailedReport<'a, L>,
     form: Form,
     delivery: Input<'a>,
     rules: &'a [u8],
-    watch: &'a Explaining<'a, L>,
 }
 
 /// A report on the population of a delivery, in a form.
@@ -223,13 +222,13 @@ impl<L: Listener> FormedReport<'_, L> {
         let mut memory = Telling::new(Vec::new(alloc));
         let stopped = stop(
             alloc,
-            self.watch,
+            self.report.watch,
             place,
             Stopped::Refused(refusal),
             &mut memory,
         );
         let text = memory.into_inner();
-        match self.watch.take_faults(alloc) {
+        match self.report.watch.take_faults(alloc) {
             Ok(faults) => self.write_refusal(alloc, &faults, &text, stopped, sink),
             Err(_error) => Outcome::Failed(CommandFault::OutOfMemory),
         }
@@ -263,7 +262,7 @@ impl<S: Sink, L: Listener> CodeAsker<S> for FormedReport<'_, L> {
 
     ghost answers = { λ f given old o new. (faults : List Fault) × IsEnding S.contents S.has_failed
         S.flushes S.has_pending true (formed_given f.form f.delivery.path.now
-        f.delivery.bytes.now [] faults (λ x. x.0) (pair_answer (budget_answer f.budget))
+        f.delivery.bytes.now [] faults (λ x. x.0) (code_detailed_within f.report.budget f.report.detail)
         given) old o new };
 
     fn ask(
@@ -273,15 +272,9 @@ impl<S: Sink, L: Listener> CodeAsker<S> for FormedReport<'_, L> {
         accepted: &Accepted<'_>,
         sink: &mut S,
     ) -> Outcome {
-        let report = Report {
-            budget: self.budget,
-            watch: self.watch,
-        };
-        let mut memory = Telling::new(Vec::new(alloc));
-        let judged = CodeAsker::ask(&report, alloc, population, accepted, &mut memory);
-        let text = memory.into_inner();
-        match self.watch.take_faults(alloc) {
-            Ok(faults) => self.write_judged(alloc, population, &[], &faults, &text, judged, sink),
+        let Answered { text, outcome } = self.report.of_code(alloc, population, accepted);
+        match self.report.watch.take_faults(alloc) {
+            Ok(faults) => self.write_judged(alloc, population, &[], &faults, &text, outcome, sink),
             Err(_error) => Outcome::Failed(CommandFault::OutOfMemory),
         }
     }
@@ -299,7 +292,7 @@ impl<S: Sink, L: Listener> TextAsker<S> for FormedReport<'_, L> {
     ghost answers = { λ f given old o new. (messages : List RuleMessage) × (faults : List Fault) ×
         IsEnding S.contents S.has_failed S.flushes S.has_pending true (formed_given f.form
         f.delivery.path.now f.delivery.bytes.now messages faults (λ x. x.0)
-        (meant_within f.budget) given) old o new };
+        (detailed_within f.report.budget f.report.detail) given) old o new };
 
     fn ask(
         &self,
@@ -309,16 +302,10 @@ impl<S: Sink, L: Listener> TextAsker<S> for FormedReport<'_, L> {
         accepted: &Accepted<'_>,
         sink: &mut S,
     ) -> Outcome {
-        let report = Report {
-            budget: self.budget,
-            watch: self.watch,
-        };
-        let mut memory = Telling::new(Vec::new(alloc));
-        let judged = TextAsker::ask(&report, alloc, population, rules, accepted, &mut memory);
-        let text = memory.into_inner();
-        match self.watch.take_faults(alloc) {
+        let Answered { text, outcome } = self.report.of_rules(alloc, population, rules, accepted);
+        match self.report.watch.take_faults(alloc) {
             Ok(faults) => {
-                self.write_with_messages(alloc, population, &faults, &text, judged, sink)
+                self.write_with_messages(alloc, population, &faults, &text, outcome, sink)
             }
             Err(_error) => Outcome::Failed(CommandFault::OutOfMemory),
         }
@@ -342,11 +329,14 @@ pub struct FormAsked<'a> {
     pub options: JudgeOptions,
     /// The form of the report.
     pub form: Form,
+    /// How much is printed of a finding.
+    pub detail: Detail,
 }
 
 /// Judges a delivery by rules as `run_judge` does, and writes the report, or what is refused and its faults, in a form, with the
 /// same status. Each finding has the place of its object's entry in the delivery, the object's class, and of rules that come as text the
-/// rule's message. The listener hears what it hears of `answer_judge`.
+/// rule's message. Where explanations are wanted each finding has its own, as `answer_judge_why` writes it; annotations and SARIF have
+/// none. The listener hears what it hears of `answer_judge`.
 ///
 /// The answer is put together whole before its first byte is written. `Failed(OutOfMemory)`: memory ran out; nothing was
 /// written. `Failed(Write)`: the sink has failed, after a prefix of the answer.
@@ -357,7 +347,7 @@ pub fn answer_judge_form<'a, S: Sink, L: Listener>(
     sink: &mut S,
 ) -> Ending
     requires { S.has_failed sink.old ≡ false }
-    ensures answered { IsAnsweredBy (FormAnswers asked.entry.form asked.entry.delivery.path.now
+    ensures answered { IsAnsweredBy (FormAnswers asked.entry.form asked.entry.detail asked.entry.delivery.path.now
         asked.entry.options asked.entry.model.bytes.now asked.entry.delivery.bytes.now
         asked.entry.rules.bytes.now) (S.contents sink.old) (S.contents sink.new) result.outcome }
     ensures sink { S.has_failed sink.new ≡ fails_write result.outcome }
@@ -385,18 +375,21 @@ fn ask_form<S: Sink, L: Listener>(
     sink: &mut S,
 ) -> Outcome
     requires { S.has_failed sink.old ≡ false }
-    ensures { (a : Answer) × FormAnswers asked.entry.form asked.entry.delivery.path.now
+    ensures { (a : Answer) × FormAnswers asked.entry.form asked.entry.detail asked.entry.delivery.path.now
         asked.entry.options asked.entry.model.bytes.now asked.entry.delivery.bytes.now
         asked.entry.rules.bytes.now a × IsEnding S.contents S.has_failed S.flushes S.has_pending
         true a sink.old result sink.new }
 {
     let (model, delivery, rules) = (asked.model.bytes, asked.delivery, asked.rules.bytes);
     let asker = &FormedReport {
-        budget: asked.options.budget,
+        report: DetailedReport {
+            budget: asked.options.budget,
+            detail: asked.detail,
+            watch,
+        },
         form: asked.form,
         delivery,
         rules,
-        watch,
     };
     match asked.options.form {
         RulesForm::Code => {

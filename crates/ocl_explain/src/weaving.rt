@@ -21,6 +21,15 @@ pub struct Shown {
     pub lines: usize,
 }
 
+/// How much is printed of a finding.
+#[derive(Clone, Copy)]
+pub enum Detail {
+    /// Its verdict.
+    Verdict,
+    /// Its verdict, and below that why: the parts of the rule's expression with their values.
+    Why(Shown),
+}
+
 /// What is wanted of a report with explanations.
 #[derive(Clone, Copy)]
 pub(crate) struct Wanted<'w> {

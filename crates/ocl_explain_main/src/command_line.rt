@@ -8,7 +8,7 @@ use crate::text_words::{
     TextsAsked, compile_also, compile_search, judge_also, judge_search, put_also, searches,
 };
 use clap::{Arg, ArgAction, ArgMatches, Command, Error, value_parser};
-use ocl_explain::Shown;
+use ocl_explain::{Detail, Shown};
 use ocl_programs::{
     Request, RuleFiles, VERSION, bound, compile, desk, judge, request_of, verify, word,
 };
@@ -78,8 +78,8 @@ const DEFAULT_FINDINGS: u64 = 20;
 pub enum ReportForm {
     /// As `ocl_check` prints it.
     Plain,
-    /// In another form, each finding with its place, class and message.
-    Formed(Form),
+    /// In another form, each finding with its place, class and message, and with its explanation if that is wanted.
+    Formed(Form, Detail),
     /// With the explanation of each finding below its line.
     Explained(Shown),
 }
@@ -208,13 +208,11 @@ fn rules<'a>(alloc: Global) -> Result<Arg<'a>, AllocError> {
 }
 
 /// The option of `judge` that explains its findings.
-fn explained<'a>(alloc: Global) -> Result<Arg<'a>, AllocError> {
+fn explained<'a>(alloc: Global) -> Arg<'a> {
     Arg::new(alloc, "why")
         .long("why")
         .action(ArgAction::SetTrue)
         .help("Prints below each finding the parts of the rule with their values")
-        .conflicts_with("json")?
-        .conflicts_with("format")
 }
 
 /// The option of `judge --why` that limits how many findings are explained.
@@ -340,7 +338,7 @@ fn command<'a>(alloc: Global) -> Result<Command<'a>, AllocError> {
                 .arg(format(alloc))?
                 .arg(json(alloc)?)?
                 .arg(rules(alloc)?)?
-                .arg(explained(alloc)?)?
+                .arg(explained(alloc))?
                 .arg(findings(alloc)?)?
                 .arg(finding_lines(alloc)?)?
                 .arg(judge_also(alloc)?)?
@@ -401,23 +399,32 @@ fn form_named(name: &str) -> Form {
     }
 }
 
-/// In which form the report of `judge` is printed.
-fn report_form(judge: &ArgMatches<'_>) -> ReportForm {
-    if judge.get_flag("json") {
-        return ReportForm::Formed(Form::Json);
-    }
-    if let Some(name) = judge.get_str("format") {
-        return ReportForm::Formed(form_named(name));
-    }
+/// How much `judge` prints of a finding.
+fn detail(judge: &ArgMatches<'_>) -> Detail {
     if !judge.get_flag("why") {
-        return ReportForm::Plain;
+        return Detail::Verdict;
     }
-    ReportForm::Explained(Shown {
+    Detail::Why(Shown {
         findings: judge.get_one::<u64>("max").unwrap_or(u64::MAX) as usize,
         lines: judge
             .get_one::<u64>("lines")
             .unwrap_or(DEFAULT_FINDING_LINES) as usize,
     })
+}
+
+/// In which form the report of `judge` is printed.
+fn report_form(judge: &ArgMatches<'_>) -> ReportForm {
+    let detail = detail(judge);
+    if judge.get_flag("json") {
+        return ReportForm::Formed(Form::Json, detail);
+    }
+    if let Some(name) = judge.get_str("format") {
+        return ReportForm::Formed(form_named(name), detail);
+    }
+    match detail {
+        Detail::Verdict => ReportForm::Plain,
+        Detail::Why(shown) => ReportForm::Explained(shown),
+    }
 }
 
 /// What the matches of a command line ask.

@@ -10,10 +10,11 @@ use crate::text_words::TextsAsked;
 use explain_notes::Input;
 use ocl_check::{CommandFault, JudgeOptions, Outcome, RulesForm, Telling};
 use ocl_explain::{
-    FormAsked, Selected, WithLastError, answer_judge, answer_judge_form, answer_judge_why,
+    Detail, FormAsked, Selected, WithLastError, answer_judge, answer_judge_form, answer_judge_why,
     answer_judge_why_code, select_rules,
 };
 use ocl_programs::RuleFiles;
+use report_forms::Form;
 use std::io;
 
 /// How a delivery is judged, and how the report is printed.
@@ -42,13 +43,14 @@ fn print_report<'i>(
         ReportForm::Plain => {
             answer_judge(alloc, listener, options, model, delivery, rules, &mut sink)
         }
-        ReportForm::Formed(form) => {
+        ReportForm::Formed(form, detail) => {
             let asked = FormAsked {
                 model,
                 delivery,
                 rules,
                 options,
                 form,
+                detail,
             };
             answer_judge_form(alloc, listener, asked, &mut sink)
         }
@@ -159,6 +161,14 @@ fn judge_files<'i>(
     judge_inputs(rt, judging, model, delivery, texts.input())
 }
 
+/// Whether explanations are wanted in a form that has none.
+fn lacks_explanations(form: ReportForm) -> bool {
+    matches!(
+        form,
+        ReportForm::Formed(Form::Github | Form::Sarif, Detail::Why(_))
+    )
+}
+
 /// Judges a delivery by rules, and prints the report as it is wanted.
 pub fn judge(
     rt: &HostRuntime,
@@ -167,6 +177,10 @@ pub fn judge(
     printing: Printing<'_>,
     texts: &TextsAsked<'_>,
 ) -> Result<Outcome, CommandFault> {
+    if lacks_explanations(printing.form) {
+        let _ = rt.eprint("error: the forms github and sarif have no explanations (--why)\n");
+        return Ok(Outcome::Status(2));
+    }
     let judging = Judging {
         options,
         printing,

@@ -3,6 +3,7 @@ use Rattle.std.specs.Prelude.{ℕ, List, [], ◌∷◌, ◌++◌, ◌==◌, Bool
 use Rattle.report_forms.specs.ReportRows.{lines_in, words_in, word_at}
 use Rattle.report_forms.specs.Findings.{Context, Finding, finding_of, placed}
 use Rattle.report_forms.specs.Escapes.{xml_text}
+use Rattle.report_forms.specs.ExplanationLines.{is_explanation, junit_explanation}
 
 -- the suite has the delivery's path as its name
 abbrev pub junit_begin : List ℕ → List ℕ
@@ -32,11 +33,14 @@ junit_words c is_open words =
     else (if length words == 10 then junit_rule is_open (word_at words 1) else [])
 
 abbrev pub junit_line : Context → Bool → List ℕ → List ℕ
-junit_line c is_open line = junit_words c is_open (words_in line)
+junit_line c is_open line = if is_explanation line then junit_explanation line else junit_words c is_open (words_in line)
 
--- whether a case has begun and not ended
+-- whether a case has begun and not ended, after a line of the report
+abbrev pub is_open_after_words : Bool → List (List ℕ) → Bool
+is_open_after_words is_open words = if length words == 3 then true else (if length words == 10 then false else is_open)
+
 abbrev pub is_open_after : Bool → List ℕ → Bool
-is_open_after is_open line = if length (words_in line) == 3 then true else (if length (words_in line) == 10 then false else is_open)
+is_open_after is_open line = if is_explanation line then is_open else is_open_after_words is_open (words_in line)
 
 abbrev pub junit_lines : Context → Bool → List (List ℕ) → List ℕ
 junit_lines c is_open [] = []

@@ -9,6 +9,7 @@ pub mod GithubForm
 pub mod JunitForm
 pub mod SarifForm
 pub mod HtmlForm
+pub mod ExplanationLines
 pub mod Lines
 pub mod Forms
 pub mod ReportLines

@@ -2,10 +2,12 @@
 
 ghost use Rattle.std.specs.Prelude.{◌≡◌, ◌++◌, false, IfOk, OnOk, map};
 ghost use Rattle.report_forms.specs.Findings.{context_of, finding_view};
-ghost use Rattle.report_forms.specs.JunitForm.{junit_begin, junit_end, junit_case, junit_failure, junit_finding, junit_rule, junit_line, is_open_after, junit_lines, junit_report, junit_refusal};
+ghost use Rattle.report_forms.specs.ReportRows.{words_in};
+ghost use Rattle.report_forms.specs.JunitForm.{junit_begin, junit_end, junit_case, junit_failure, junit_finding, junit_rule, junit_words, junit_line, is_open_after_words, is_open_after, junit_lines, junit_report, junit_refusal};
 
 use crate::beside::Beside;
 use crate::escapes::put_xml;
+use crate::explanations::{is_explanation, put_junit_explanation};
 use crate::finding::{Finding, finding_of, next_first, object_in};
 use crate::pieces::put;
 use crate::rows::{lines_in, word_at, words_in};
@@ -92,16 +94,17 @@ struct Progress {
 }
 
 /// Puts what a line of the report gives; returns how it goes on.
-fn put_line(
+fn put_report_line(
     alloc: Global,
     out: &mut Vec<u8>,
     beside: Beside<'_, '_>,
     progress: Progress,
     line: &[u8],
 ) -> Result<Progress, AllocError>
-    ensures open { IfOk result (λ g. g.is_open ≡ is_open_after progress.is_open line.now) }
-    ensures text { OnOk result (out.new.items ≡
-        out.old.items ++ junit_line (context_of beside.entry) progress.is_open line.now) }
+    ensures open { IfOk result (λ g. g.is_open ≡
+        is_open_after_words progress.is_open (words_in line.now)) }
+    ensures text { OnOk result (out.new.items ≡ out.old.items ++
+        junit_words (context_of beside.entry) progress.is_open (words_in line.now)) }
 {
     let words = words_in(alloc, line)?;
     let Progress { is_open, first } = progress;
@@ -122,6 +125,25 @@ fn put_line(
         });
     }
     Ok(progress)
+}
+
+/// Puts what a line of the report or of an explanation gives; returns how it goes on.
+fn put_line(
+    alloc: Global,
+    out: &mut Vec<u8>,
+    beside: Beside<'_, '_>,
+    progress: Progress,
+    line: &[u8],
+) -> Result<Progress, AllocError>
+    ensures open { IfOk result (λ g. g.is_open ≡ is_open_after progress.is_open line.now) }
+    ensures text { OnOk result (out.new.items ≡
+        out.old.items ++ junit_line (context_of beside.entry) progress.is_open line.now) }
+{
+    if is_explanation(line) {
+        put_junit_explanation(out, line)?;
+        return Ok(progress);
+    }
+    put_report_line(alloc, out, beside, progress, line)
 }
 
 /// Puts the test cases.

@@ -4,6 +4,7 @@
 
 mod beside;
 mod escapes;
+mod explanations;
 mod faults;
 mod finding;
 mod form;

@@ -1,11 +1,12 @@
-//! What each line of a report gives by itself.
+//! What each line of a report, and of the explanations in it, gives by itself.
 
 ghost use Rattle.std.specs.Prelude.{◌≡◌, ◌++◌, IfOk, OnOk, map};
 ghost use Rattle.report_forms.specs.Findings.{context_of, finding_view};
 ghost use Rattle.report_forms.specs.ReportRows.{words_in};
-ghost use Rattle.report_forms.specs.Lines.{finding_by, other_by, line_by, lines_by};
+ghost use Rattle.report_forms.specs.Lines.{finding_by, other_by, report_line_by, line_by, lines_by};
 
 use crate::beside::Beside;
+use crate::explanations::{is_explanation, put_explanation};
 use crate::finding::{Finding, finding_of, next_first, object_in};
 use crate::github::put_annotation;
 use crate::html::{put_html_finding, put_html_words};
@@ -75,8 +76,8 @@ fn put_other(
     }
 }
 
-/// Puts what a line gives; returns where the next object is looked for.
-fn put_line(
+/// Puts what a line of the report gives; returns where the next object is looked for.
+fn put_report_line(
     alloc: Global,
     out: &mut Vec<u8>,
     part: Part,
@@ -85,7 +86,7 @@ fn put_line(
     line: &[u8],
 ) -> Result<usize, AllocError>
     ensures { OnOk result (out.new.items ≡
-        out.old.items ++ line_by part (context_of beside.entry) line.now) }
+        out.old.items ++ report_line_by part (context_of beside.entry) line.now) }
 {
     let words = words_in(alloc, line)?;
     if words.len() != 3 {
@@ -98,7 +99,26 @@ fn put_line(
     Ok(next_first(first, object))
 }
 
-/// What the lines of a report give. Where memory runs out there is nothing.
+/// Puts what a line of the report or of an explanation gives; returns where the next object is looked for.
+fn put_line(
+    alloc: Global,
+    out: &mut Vec<u8>,
+    part: Part,
+    beside: Beside<'_, '_>,
+    first: usize,
+    line: &[u8],
+) -> Result<usize, AllocError>
+    ensures { OnOk result (out.new.items ≡
+        out.old.items ++ line_by part (context_of beside.entry) line.now) }
+{
+    if is_explanation(line) {
+        put_explanation(out, part, line)?;
+        return Ok(first);
+    }
+    put_report_line(alloc, out, part, beside, first, line)
+}
+
+/// What the lines of a report and of the explanations in it give. Where memory runs out there is nothing.
 pub(crate) fn lines_by(
     alloc: Global,
     part: Part,

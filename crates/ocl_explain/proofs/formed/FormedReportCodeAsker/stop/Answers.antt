@@ -1,14 +1,12 @@
 use Rattle.std.proofs.Common.{[]}
-use Rattle.ocl_check.specs.Given.{pair_answer}
-use Rattle.ocl_check.specs.Judge.{budget_answer}
-use Rattle.ocl_explain.specs.FormedReport.{formed_given}
+use Rattle.ocl_explain.specs.FormedReport.{code_detailed_within, formed_given}
 use Rattle.ocl_explain.proofs.FormAnswers.{form_due}
 use Rattle.ocl_explain.proofs.formed.FormedReportCodeAsker.stop.Goals as goal
 
 pub returns : goal.returns
 returns g c = λ given fails.
     let f = c.args.self.now in
-    let answer = pair_answer (budget_answer f.budget) in
+    let answer = code_detailed_within f.report.budget f.report.detail in
     let h = c.end_stopped.ensures in (
       h.0,
       h.1 (formed_given f.form f.delivery.path.now f.delivery.bytes.now [] h.0 (λ x. x.0) answer given)

@@ -1,13 +1,12 @@
 use Rattle.std.proofs.Common.{[]}
-use Rattle.ocl_check.specs.Given.{meant_within}
-use Rattle.ocl_explain.specs.FormedReport.{formed_given}
+use Rattle.ocl_explain.specs.FormedReport.{detailed_within, formed_given}
 use Rattle.ocl_explain.proofs.FormAnswers.{form_due}
 use Rattle.ocl_explain.proofs.formed.FormedReportTextAsker.stop.Goals as goal
 
 pub returns : goal.returns
 returns g c = λ given fails.
     let f = c.args.self.now in
-    let answer = meant_within f.budget in
+    let answer = detailed_within f.report.budget f.report.detail in
     let h = c.end_stopped.ensures in (
       [],
       h.0,
