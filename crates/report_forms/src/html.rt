@@ -56,10 +56,8 @@ td.undecided { color: #b07d00; font-weight: 600 }
 .script #findings tbody tr.shown { display: table-row }
 #findings code { display: block; white-space: pre-wrap; font-size: .9em }
 .script #findings tr:not([open]) code { display: none }
-.script #findings td.explained { cursor: pointer }
-.script #findings td.explained::after { content: ' why'; color: LinkText }
-.script #findings tr[open] td.explained::after { content: 'hide' }
-@media print { .script #findings code { display: block !important } }
+#findings button { border: 0; padding: 0; margin: 0; background: none; color: LinkText; cursor: pointer }
+@media print { .script #findings code { display: block !important } #findings button { display: none } }
 @media print { .script #findings tbody tr.fits { display: table-row } }
 input, select, button { font: inherit; margin-right: .6em }
 </style>
@@ -90,12 +88,14 @@ const rows = [...document.querySelectorAll('#findings tbody tr')].map(row => {
   return { row, cells, words: cells.join(' ').toLowerCase() }
 })
 const [text, count, more] = ['text', 'count', 'more'].map(id => document.getElementById(id))
-for (const { row } of rows)
-  if (row.querySelector('code')) {
-    const cell = row.cells[5]
-    cell.className = 'explained'
-    cell.onclick = () => row.toggleAttribute('open')
-  }
+for (const { row } of rows) {
+  const why = row.querySelector('code')
+  if (!why) continue
+  const button = document.createElement('button')
+  button.textContent = 'why'
+  button.onclick = () => button.textContent = row.toggleAttribute('open') ? 'hide' : 'why'
+  why.before(button)
+}
 const filters = [['verdict', 0], ['rule', 1], ['class', 3]].map(([id, cell]) => [document.getElementById(id), cell])
 for (const [filter, cell] of filters)
   for (const value of new Set(rows.map(({ cells }) => cells[cell]))) if (value) filter.add(new Option(value, value))
