@@ -3,7 +3,9 @@
 A proved library is a folder NAME.rlib. Those that `rt ci` leaves in crates/NAME/out are noted by .ci/run with a sum of the
 text that they were proved from, and taken while that is the text; so nothing that changed since is taken for proved.
 
-  prover.py -- COMMAND ..    runs a command that proves all, and where it passes notes what it has left"""
+  prover.py -- COMMAND ..    runs a command that proves all, and where it passes notes what it has left. `rt ci` then has a crate
+                             on each processor: by itself it leaves processors idle, since it takes a crate to need two to
+                             four times the memory that it does"""
 import ctypes
 import functools
 import hashlib
@@ -142,7 +144,7 @@ def cores():
 
 if __name__ == "__main__":
     before = note_gate()
-    status = subprocess.run(sys.argv[2:]).returncode
+    status = subprocess.run(sys.argv[2:], env={"RT_JOBS": str(cores()), **os.environ}).returncode
     if status == 0:
         note_gate(before)
     sys.exit(status if status >= 0 else 128 - status)
