@@ -1,15 +1,18 @@
-"""Checks of the pages by reading them: links, the README's length, the cells of tables, blocks, the names in the table of
-promises and its page's excerpts, and that rows try what a page's tables claim."""
+"""Checks of the pages by reading them: links, lengths of pages, the cells of tables, blocks, the names in the table of
+promises and its page's excerpts, the table of the gate, and that rows try what a page's tables claim."""
 import re
 
 from generated import ROOT, slug
 
-MOST_LINES = 180
+# the most lines of pages that have to be short
+MOST_LINES = {"README.md": 180, "docs/proofs/promises.md": 150}
 MOST_WORDS = 30
 LANGUAGES = {"console", "dockerfile", "sh", "json", "ocl", "text", "ebnf", "python", "toml"}
 # what names pages, besides the pages themselves
 SOURCES = ["ocl_check", ".ci/*", ".ci/forms/*.py", "bench/*", "examples/*.sh", "tests/*.rows"]
 PROMISES = ROOT / "docs" / "proofs" / "promises.md"
+ARCHITECTURE = ROOT / "docs" / "architecture.md"
+GATE = ROOT / ".ci" / "run"
 # a page whose tables are tried by rows: each piece of code in them stands in a row
 TRIED = {ROOT / "docs" / "use" / "from-omg-ocl.md": ROOT / "tests" / "from-omg-ocl.rows"}
 
@@ -156,6 +159,19 @@ def excerpt_faults(text):
             yield number, "a block that is no excerpt of the definitions linked above it"
 
 
+def gate_faults(text):
+    """Scripts of the gate that the table of the gate hasn't, and those of the table that the gate doesn't run."""
+    chain = next(it for it in GATE.read_text(encoding="utf-8").splitlines() if " && " in it and "rt ci" in it)
+    run = {re.sub(r" \d+$", "", it.strip().removeprefix("python3 .ci/prover.py -- ")) for it in chain.split("&&") if it.strip()}
+    section = text.split("\n## The gate\n")[1].split("\n## ")[0]
+    listed = set(re.findall(r"(?m)^\| `([^`]+)` \|", section))
+    number = text[: text.index("\n## The gate\n")].count("\n") + 2
+    for name in sorted(run - listed):
+        yield number, f"`{name}`, which .ci/run calls, isn't in the table of the gate"
+    for name in sorted(listed - run):
+        yield number, f"`{name}` is in the table of the gate, and .ci/run doesn't call it"
+
+
 def page_faults(path):
     text = path.read_text(encoding="utf-8")
     yield from link_faults(path, text)
@@ -165,11 +181,14 @@ def page_faults(path):
     yield from block_faults(text)
     if path in TRIED:
         yield from untried_faults(text, TRIED[path])
+    if path == ARCHITECTURE:
+        yield from gate_faults(text)
     if path == PROMISES:
         yield from promise_faults(text)
         yield from excerpt_faults(text)
-    if path == ROOT / "README.md" and len(text.splitlines()) > MOST_LINES:
-        yield len(text.splitlines()), f"{len(text.splitlines())} lines; {MOST_LINES} at most"
+    count, most = len(text.splitlines()), MOST_LINES.get(str(path.relative_to(ROOT)))
+    if most and count > most:
+        yield count, f"{count} lines; {most} at most"
 
 
 def source_faults():
