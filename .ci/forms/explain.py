@@ -64,6 +64,15 @@ def hint_of(begin):
     return form
 
 
+def places(room, shows, file, wanted):
+    """Where a text of tests/habits is refused, and for what: the line, the column and the fault of each note, `-` for none."""
+    text = (answers.ROOT / "tests/habits" / file).read_bytes()
+    words = ["compile", inputs.put(room, "model.json", "catalogue.json"), case.write(room, "rules.ocl", text), "out.code"]
+    noted = lambda answer: re.findall(r"^rules\.ocl:(\d+:\d+): .*\((\w+ \d+)\)$", answer.err.decode(), flags=re.MULTILINE)
+    found = lambda answer: (answer.status, ", ".join(map(" ".join, noted(answer))) or "-")
+    return case.Case(["ocl_explain", *words], (0 if wanted == "-" else 2, wanted), found)
+
+
 def rule(room, shows, context, code):
     """Why `verify` doesn't accept the code of a rule r."""
     inputs.put(room, "model.json", "catalogue.json")
@@ -230,6 +239,7 @@ def same(form):
 FORMS = {
     "hint": hint_of("context Mantelbuis inv a: "),
     "hint of a text": hint_of(""),
+    "faults of a text": places,
     "explained hint": of_judge("hints.said", "--text", rules=None),
     "explained text": of_judge("texts.said", "--text", rules=None),
     "explained text and delivery": of_judge("texts.said", "--text", delivery=None, rules=None),

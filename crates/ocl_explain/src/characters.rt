@@ -1,6 +1,8 @@
-//! The characters of a rule text that begin no token, more than the first.
+//! The faults of the characters of a rule text, more than the first: those that begin no token, escapes that are none, numbers that
+//! are too large, and what never ends.
 
 use crate::faults::MAX_FAULTS;
+use crate::ranges::{part_of, put_blank};
 use explain_faults::Faults;
 use explain_notes::Input;
 use explain_text::{explain_text_flaw, is_code_file};
@@ -41,7 +43,81 @@ fn without_character(alloc: Global, text: &str, offset: usize) -> Result<String,
     Ok(blanked)
 }
 
-/// Writes the fault of a text whose tokens aren't read, which is the first, and of the other characters that begin no token.
+/// Whether a comment of other languages begins at an offset.
+fn begins_comment(text: &str, offset: usize) -> bool {
+    let rest = text.as_bytes().get(offset..).unwrap_or(&[]);
+    rest.starts_with(b"//")
+}
+
+/// Where the digits end that begin at an offset.
+fn end_of_digits(text: &str, offset: usize) -> usize {
+    let mut end = offset;
+    for byte in text.as_bytes().get(offset..).unwrap_or(&[]) {
+        if !byte.is_ascii_digit() {
+            return end;
+        }
+        end = end.saturating_add(1);
+    }
+    end
+}
+
+/// Where the line of an offset ends.
+fn end_of_line(text: &str, offset: usize) -> usize {
+    let mut end = offset;
+    for byte in text.as_bytes().get(offset..).unwrap_or(&[]) {
+        if *byte == b'\n' {
+            return end;
+        }
+        end = end.saturating_add(1);
+    }
+    end
+}
+
+/// Where a fault ends that begins at an offset. What never ends, ends with the text.
+fn end_of_fault(text: &str, flaw: TextFlaw, offset: usize) -> usize {
+    match flaw {
+        TextFlaw::BadCharacter => end_of_line(text, offset),
+        TextFlaw::BadEscape => offset.saturating_add(1),
+        TextFlaw::NumberTooLarge => end_of_digits(text, offset),
+        _ => text.len(),
+    }
+}
+
+/// A text with spaces in place of a fault.
+fn without_fault(
+    alloc: Global,
+    text: &str,
+    flaw: TextFlaw,
+    offset: usize,
+) -> Result<String, AllocError> {
+    if matches!(flaw, TextFlaw::BadCharacter) && !begins_comment(text, offset) {
+        return without_character(alloc, text, offset);
+    }
+    let end = end_of_fault(text, flaw, offset);
+    let mut blanked = String::from_str(alloc, part_of(text, 0, offset))?;
+    put_blank(&mut blanked, part_of(text, offset, end).as_bytes())?;
+    blanked.push_str(part_of(text, end, text.len()))?;
+    Ok(blanked)
+}
+
+/// A text without faults of its characters, as spaces stand in their places. Comments of other languages aren't among the places.
+#[derive(Drop)]
+pub(crate) struct Cleared {
+    pub(crate) text: String,
+    pub(crate) places: Vec<usize>,
+}
+
+/// The first fault of a text's characters, and its offset; none where its tokens are read.
+fn fault_of(alloc: Global, text: &str) -> Result<Option<(TextFlaw, usize)>, AllocError> {
+    match tokens(alloc, text) {
+        Ok(_) => Ok(None),
+        Err(TextFault::At { flaw, offset }) => Ok(Some((flaw, offset))),
+        Err(TextFault::OutOfMemory) => Err(AllocError),
+    }
+}
+
+/// Writes the fault of a text whose tokens aren't read, which is the first, and the others of its characters. Returns the text
+/// without them, unless there are more than are written.
 pub(crate) fn explain_characters(
     alloc: Global,
     out: &mut Faults,
@@ -49,28 +125,24 @@ pub(crate) fn explain_characters(
     text: &str,
     flaw: TextFlaw,
     offset: usize,
-) -> Result<(), AllocError> {
+) -> Result<Option<Cleared>, AllocError> {
     let mut left = String::from_str(alloc, text)?;
+    let mut places = Vec::new(alloc);
     let (mut flaw, mut offset) = (flaw, offset);
     for _ in 0..MAX_FAULTS {
         explain_text_flaw(alloc, out, input, flaw, offset)?;
-        if !matches!(flaw, TextFlaw::BadCharacter) || is_code_file(input.bytes) {
-            return Ok(());
+        if is_code_file(input.bytes) {
+            return Ok(None);
         }
-        left = without_character(alloc, left.as_str(), offset)?;
-        match tokens(alloc, left.as_str()) {
-            Ok(_) => return Ok(()),
-            Err(
-                TextFault::At {
-                    flaw: next,
-                    offset: at,
-                },
-            ) => {
-                flaw = next;
-                offset = at;
-            }
-            Err(TextFault::OutOfMemory) => return Err(AllocError),
+        if !begins_comment(left.as_str(), offset) {
+            places.push(offset)?;
         }
+        left = without_fault(alloc, left.as_str(), flaw, offset)?;
+        let Some((next, at)) = fault_of(alloc, left.as_str())? else {
+            return Ok(Some(Cleared { text: left, places }));
+        };
+        flaw = next;
+        offset = at;
     }
-    Ok(())
+    Ok(None)
 }

@@ -1,14 +1,16 @@
-//! The faults of a rule text, more than the first: each character that begins no token, else of the grammar and of types one in
-//! each rule.
+//! The faults of a rule text, more than the first: those of its characters, and of each rule without one of these the first one of
+//! its grammar, or else of its types.
 
 use crate::characters::explain_characters;
+use crate::ranges::{Range, line_of, part_alone, put_blank, range_at, rules_of, starts_of};
+use crate::spared::other_rules;
 use explain_faults::Faults;
 use explain_notes::Input;
 use explain_text::explain_text_flaw;
 use explain_types::explain_type_flaw;
 use imkl_model::ClassModel;
 use ocl_text::{SurfaceRule, parse_rules};
-use ocl_tokens::{TextFault, TextFlaw, Token, TokenKind, tokens};
+use ocl_tokens::{TextFault, TextFlaw, Token, tokens};
 use ocl_types::{RulesFault, check_rules};
 use std::alloc::{AllocError, Global};
 
@@ -18,12 +20,14 @@ pub(crate) const MAX_FAULTS: usize = 20;
 /// The most bytes from a `context` to its first rule with which its rules are read one by one.
 const MAX_CONTEXT: usize = 1000;
 
-/// What is looked for in a text, and how many faults were written already.
+/// What is looked for in a text, the text as it was written, how many faults were written already, and where the last one is.
 #[derive(Drop)]
 struct Search<'s> {
     input: Input<'s>,
+    written: &'s [u8],
     model: &'s ClassModel,
     said: usize,
+    last: Option<usize>,
 }
 
 impl Search<'_> {
@@ -32,8 +36,14 @@ impl Search<'_> {
         self.said >= MAX_FAULTS
     }
 
-    /// Whether one more fault is written.
-    fn says_one_more(&mut self) -> bool {
+    /// Whether one more fault is written: at another offset than the last one, as that of a context is of each of its rules, and
+    /// where the line is shown as it was written.
+    fn says_one_more(&mut self, offset: usize) -> bool {
+        let is_written = line_of(self.input.bytes, offset) == line_of(self.written, offset);
+        if self.last == Some(offset) || !is_written {
+            return false;
+        }
+        self.last = Some(offset);
         self.said = self.said.saturating_add(1);
         self.said <= MAX_FAULTS
     }
@@ -66,7 +76,7 @@ impl Search<'_> {
             match check_rules(alloc, self.model, one) {
                 Ok(_) => (),
                 Err(RulesFault::At { flaw, offset, .. }) => {
-                    if self.says_one_more() {
+                    if self.says_one_more(offset) {
                         let (input, model) = (self.input, self.model);
                         explain_type_flaw(alloc, out, input, model, rules, flaw, index, offset)?;
                     }
@@ -78,30 +88,27 @@ impl Search<'_> {
     }
 
     /// Writes the first fault of a part of the text, with nothing but white space before it, or else those of the types of
-    /// its rules. Gives the offset of a fault of the grammar.
+    /// its rules.
     fn explain_part(
         &mut self,
         alloc: Global,
         out: &mut Faults,
         part: &str,
-    ) -> Result<Option<usize>, AllocError> {
+    ) -> Result<(), AllocError> {
         match parse_rules(alloc, part) {
-            Ok(rules) => {
-                self.explain_rules(alloc, out, &rules)?;
-                Ok(None)
-            }
+            Ok(rules) => self.explain_rules(alloc, out, &rules),
             // (of the whole text it was said)
             Err(
                 TextFault::At {
                     flaw: TextFlaw::DuplicateRule,
                     ..
                 },
-            ) => Ok(None),
+            ) => Ok(()),
             Err(TextFault::At { flaw, offset }) => {
-                if self.says_one_more() {
+                if self.says_one_more(offset) {
                     explain_text_flaw(alloc, out, self.input, flaw, offset)?;
                 }
-                Ok(Some(offset))
+                Ok(())
             }
             Err(TextFault::OutOfMemory) => Err(AllocError),
         }
@@ -140,21 +147,21 @@ impl Search<'_> {
             start: context.end,
             end: rule.start,
         };
-        put_blank(&mut placed, between.of(text))?;
+        put_blank(&mut placed, between.of(text).as_bytes())?;
         placed.push_str(rule.of(text))?;
         self.explain_part(alloc, out, placed.as_str())?;
         Ok(())
     }
 
-    /// Writes the faults of the rules of a part of the text, from a place of it on.
-    fn explain_rules_from(
+    /// Writes the faults of those rules of a part of the text that are inside a range.
+    fn explain_rules_in(
         &mut self,
         alloc: Global,
         out: &mut Faults,
         text: &str,
         part: Range,
         rules: &[usize],
-        from: usize,
+        inside: Range,
     ) -> Result<(), AllocError> {
         let Some(first) = rules.first() else {
             return Ok(());
@@ -166,79 +173,57 @@ impl Search<'_> {
         if context.of(text).len() > MAX_CONTEXT {
             return Ok(());
         }
-        for (index, start) in rules.iter().enumerate() {
-            if *start >= from {
-                let end = match rules.get(index.saturating_add(1)) {
-                    Some(next) => *next,
-                    None => part.end,
-                };
-                let rule = Range { start: *start, end };
+        for index in 0..rules.len() {
+            let rule = range_at(rules, index, part.end);
+            if inside.start <= rule.start && rule.end <= inside.end {
                 self.explain_rule(alloc, out, text, context, rule)?;
             }
         }
         Ok(())
     }
-}
 
-/// A part of a text: where it begins and ends.
-#[derive(Clone, Copy)]
-struct Range {
-    start: usize,
-    end: usize,
-}
-
-impl Range {
-    /// The part.
-    fn of(self, text: &str) -> &str {
-        part_of(text, self.start, self.end)
+    /// Writes the faults of a part of the text that isn't right: of each rule the first one.
+    fn explain_wrong(
+        &mut self,
+        alloc: Global,
+        out: &mut Faults,
+        text: &str,
+        tokens: &[Token<'_>],
+        part: Range,
+    ) -> Result<(), AllocError> {
+        let alone = part_alone(alloc, text, part.start, part.end)?;
+        let Some(broken) = broken_at(alloc, alone.as_str())? else {
+            return self.explain_part(alloc, out, alone.as_str());
+        };
+        let rules = rules_of(alloc, tokens, part)?;
+        // (a rule that breaks off ends where the token is that can't stand there)
+        let before = Range {
+            start: part.start,
+            end: broken.saturating_sub(1),
+        };
+        let behind = Range {
+            start: broken,
+            end: part.end,
+        };
+        self.explain_rules_in(alloc, out, text, part, &rules, before)?;
+        self.explain_part(alloc, out, alone.as_str())?;
+        self.explain_rules_in(alloc, out, text, part, &rules, behind)
     }
 }
 
-/// A part of a text.
-fn part_of(text: &str, start: usize, end: usize) -> &str {
-    match text.as_bytes().get(start..end) {
-        Some(own) => str::from_utf8(own).unwrap_or(""),
-        None => "",
+/// Where the grammar of a text is broken; 0 where two of its rules have one name.
+fn broken_at(alloc: Global, text: &str) -> Result<Option<usize>, AllocError> {
+    match parse_rules(alloc, text) {
+        Ok(_) => Ok(None),
+        Err(
+            TextFault::At {
+                flaw: TextFlaw::DuplicateRule,
+                ..
+            },
+        ) => Ok(Some(0)),
+        Err(TextFault::At { offset, .. }) => Ok(Some(offset)),
+        Err(TextFault::OutOfMemory) => Err(AllocError),
     }
-}
-
-/// Puts white space in place of a text, with its ends of lines.
-fn put_blank(out: &mut String, text: &str) -> Result<(), AllocError> {
-    for byte in text.as_bytes() {
-        out.push(if *byte == b'\n' { '\n' } else { ' ' })?;
-    }
-    Ok(())
-}
-
-/// A part of a text, with white space in place of what is before it, so that its faults are found at their places.
-fn part_alone(alloc: Global, text: &str, start: usize, end: usize) -> Result<String, AllocError> {
-    let mut part = String::new(alloc);
-    put_blank(&mut part, part_of(text, 0, start))?;
-    part.push_str(part_of(text, start, end))?;
-    Ok(part)
-}
-
-/// Where the rules of a part of a text begin: at each `inv`.
-fn rules_of(alloc: Global, tokens: &[Token<'_>], part: Range) -> Result<Vec<usize>, AllocError> {
-    let mut starts = Vec::new(alloc);
-    for token in tokens {
-        let start = token.span.start;
-        if matches!(token.kind, TokenKind::Inv) && part.start <= start && start < part.end {
-            starts.push(start)?;
-        }
-    }
-    Ok(starts)
-}
-
-/// Where the parts of a text begin: at its start, and at each `context`.
-fn starts_of(alloc: Global, tokens: &[Token<'_>]) -> Result<Vec<usize>, AllocError> {
-    let mut starts = Vec::from_slice(alloc, &[0])?;
-    for token in tokens {
-        if matches!(token.kind, TokenKind::Context) {
-            starts.push(token.span.start)?;
-        }
-    }
-    Ok(starts)
 }
 
 /// Writes the faults of the parts of a text.
@@ -250,25 +235,71 @@ fn explain_parts(
     tokens: &[Token<'_>],
 ) -> Result<(), AllocError> {
     let starts = starts_of(alloc, tokens)?;
-    for (index, start) in starts.iter().enumerate() {
-        let end = match starts.get(index.saturating_add(1)) {
-            Some(next) => *next,
-            None => text.len(),
-        };
+    for index in 0..starts.len() {
         if search.is_full() {
             return Ok(());
         }
+        let part = range_at(&starts, index, text.len());
         // (what is before a part is put before it only where it has a fault, so all parts are read in linear time)
-        if !search.is_right(alloc, part_of(text, *start, end))? {
-            let part = part_alone(alloc, text, *start, end)?;
-            if let Some(from) = search.explain_part(alloc, out, part.as_str())? {
-                let range = Range { start: *start, end };
-                let rules = rules_of(alloc, tokens, range)?;
-                search.explain_rules_from(alloc, out, text, range, &rules, from)?;
-            }
+        if !search.is_right(alloc, part.of(text))? {
+            search.explain_wrong(alloc, out, text, tokens, part)?;
         }
     }
     Ok(())
+}
+
+/// Writes the faults of the rules that are left of a text, of which so many faults were written.
+fn explain_others<'s>(
+    alloc: Global,
+    out: &mut Faults,
+    left: Input<'s>,
+    written: &'s [u8],
+    model: &'s ClassModel,
+    said: usize,
+) -> Result<(), AllocError> {
+    let Ok(text) = str::from_utf8(left.bytes) else {
+        return Ok(());
+    };
+    let mut search = Search {
+        input: left,
+        written,
+        model,
+        said,
+        last: None,
+    };
+    match tokens(alloc, text) {
+        Ok(tokens) => explain_parts(alloc, out, &mut search, text, &tokens),
+        Err(TextFault::At { .. }) => Ok(()),
+        Err(TextFault::OutOfMemory) => Err(AllocError),
+    }
+}
+
+/// An input of that path.
+fn input_of<'i>(path: &'i str, text: &'i str) -> Input<'i> {
+    Input {
+        path,
+        bytes: text.as_bytes(),
+    }
+}
+
+/// Writes the faults of a text whose tokens aren't read: those of its characters, and those of the rules without them.
+fn explain_uncut(
+    alloc: Global,
+    out: &mut Faults,
+    input: Input<'_>,
+    model: &ClassModel,
+    text: &str,
+    flaw: TextFlaw,
+    offset: usize,
+) -> Result<(), AllocError> {
+    let before = out.list.len();
+    let Some(cleared) = explain_characters(alloc, out, input, text, flaw, offset)? else {
+        return Ok(());
+    };
+    let said = out.list.len().saturating_sub(before);
+    let others = other_rules(alloc, &cleared)?;
+    let left = input_of(input.path, others.as_str());
+    explain_others(alloc, out, left, input.bytes, model, said)
 }
 
 /// Writes the faults of a rule text that isn't read, of which this is the first.
@@ -284,7 +315,7 @@ pub(crate) fn explain_unread(
     let tokens = match tokens(alloc, text) {
         Ok(tokens) => tokens,
         Err(TextFault::At { .. }) => {
-            return explain_characters(alloc, out, input, text, flaw, offset);
+            return explain_uncut(alloc, out, input, model, text, flaw, offset);
         }
         Err(TextFault::OutOfMemory) => return Err(AllocError),
     };
@@ -294,8 +325,10 @@ pub(crate) fn explain_unread(
     let before = out.list.len();
     let mut search = Search {
         input,
+        written: input.bytes,
         model,
         said: 0,
+        last: None,
     };
     explain_parts(alloc, out, &mut search, text, &tokens)?;
     if out.list.len() == before && !matches!(flaw, TextFlaw::DuplicateRule) {
@@ -314,8 +347,10 @@ pub(crate) fn explain_untyped(
 ) -> Result<(), AllocError> {
     let mut search = Search {
         input,
+        written: input.bytes,
         model,
         said: 0,
+        last: None,
     };
     search.explain_rules(alloc, out, rules)
 }
