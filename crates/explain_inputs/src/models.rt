@@ -2,13 +2,22 @@
 
 use crate::json_notes::explain_json;
 use crate::model_faults::look_for_fault;
+use crate::places::located_part;
 use crate::shapes::model_shape;
-use crate::stop::Stop;
+use crate::stop::{Flaw, Stop};
 use explain_faults::{Fault, Faults};
 use explain_notes::Input;
 use imkl_model::ModelFault;
 use serde_json::Value;
 use std::alloc::{AllocError, Global};
+
+/// What is wrong with a value of a class model, by the number of its fault.
+fn fault_at(alloc: Global, input: Input<'_>, flaw: &Flaw, number: u8) -> Result<Fault, AllocError> {
+    let words = flaw.words.as_str();
+    let text = format!(in alloc; "{words} (model {number})")?;
+    let at = located_part(alloc, input.bytes, &flaw.steps)?;
+    Fault::at(alloc, input, at.offset, at.pointer, text)
+}
 
 /// Says what is wrong with a class model that has the shape of one.
 fn explain_content(
@@ -19,12 +28,15 @@ fn explain_content(
     fault: ModelFault,
 ) -> Result<(), AllocError> {
     let number = fault.number();
-    let text = match look_for_fault(alloc, document, fault) {
-        Err(Stop::Flaw(words)) => format!(in alloc; "{words} (model {number})")?,
+    let fault = match look_for_fault(alloc, document, fault) {
+        Err(Stop::Flaw(flaw)) => fault_at(alloc, input, &flaw, number)?,
         Err(Stop::OutOfMemory) => return Err(AllocError),
-        Ok(()) => format!(in alloc; "{fault} (model {number})")?,
+        Ok(()) => {
+            let text = format!(in alloc; "{fault} (model {number})")?;
+            Fault::of_whole(alloc, input.path, text)?
+        }
     };
-    out.add(Fault::of_whole(alloc, input.path, text)?)
+    out.add(fault)
 }
 
 /// Says why a class model is refused that has this fault.

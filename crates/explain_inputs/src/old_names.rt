@@ -1,7 +1,8 @@
 //! The faults that entries of `renames` cause in a class model that has the shape of one.
 
 use crate::drafts::{Draft, DraftClass, items, text};
-use crate::model_faults::{above_of, is_predefined, look_among};
+use crate::model_faults::{above_of, absent_words, is_among, is_predefined};
+use crate::places::Step;
 use crate::stop::Stop;
 use explain_notes::quote;
 use serde_json::Value;
@@ -16,6 +17,17 @@ fn entries(document: &Value) -> &[Value] {
 /// Whether an entry is of a feature; else it is of a class.
 fn is_of_feature(entry: &Value) -> bool {
     entry.get("class").is_some()
+}
+
+/// Something is wrong with a member of an entry, in words.
+fn stop_at(
+    alloc: Global,
+    index: usize,
+    member: &'static str,
+    words: String,
+) -> Result<Stop, AllocError> {
+    let (list, entry) = (Step::Member("renames"), Step::Element(index));
+    Stop::at(alloc, &[list, entry, Step::Member(member)], words)
 }
 
 /// Looks for an old name of a class that is taken: by one of these classes and enumerations, by a type of OCL, or by another
@@ -37,9 +49,8 @@ pub(crate) fn look_for_taken(alloc: Global, document: &Value, types: &[&str]) ->
         };
         if let Some(by) = by {
             let old = quote(alloc, old)?;
-            return Err(Stop::Flaw(format!(in alloc;
-                "entry {index} of `renames`: the old name `{old}` {by}"
-            )?));
+            let words = format!(in alloc; "entry {index} of `renames`: the old name `{old}` {by}")?;
+            return Err(stop_at(alloc, index, "old", words)?);
         }
     }
     Ok(())
@@ -60,44 +71,55 @@ fn names_owned<'v>(
     Ok(names)
 }
 
-/// Looks for a class among those that are there.
-fn look_for_class<'n>(
+/// Looks for the class that a member of an entry names, among those that are there.
+fn look_for_class(
     alloc: Global,
     index: usize,
-    class: &'n str,
-    classes: &[&'n str],
+    member: &'static str,
+    class: &str,
+    classes: &[&str],
 ) -> Result<(), Stop> {
-    let what = format!(in alloc; "entry {index} of `renames`: the class")?;
-    look_among(alloc, class, classes, what.as_str())
+    if is_among(class, classes) {
+        return Ok(());
+    }
+    let shown = quote(alloc, class)?;
+    let title = format!(in alloc; "entry {index} of `renames`: the class `{shown}`")?;
+    let words = absent_words(alloc, title.as_str(), class, classes)?;
+    Err(stop_at(alloc, index, member, words)?)
 }
 
 /// Looks for a feature among those that a class itself owns.
-fn look_for_own<'n>(
+fn look_for_own(
     alloc: Global,
     index: usize,
     class: &str,
-    feature: &'n str,
-    draft: &Draft<'n>,
+    feature: &str,
+    draft: &Draft<'_>,
 ) -> Result<(), Stop> {
-    let what = format!(in alloc; "entry {index} of `renames`: {class}'s own feature")?;
     let names = names_owned(alloc, draft, class)?;
-    look_among(alloc, feature, &names, what.as_str())
+    if is_among(feature, &names) {
+        return Ok(());
+    }
+    let shown = quote(alloc, feature)?;
+    let title = format!(in alloc; "entry {index} of `renames`: {class}'s own feature `{shown}`")?;
+    let words = absent_words(alloc, title.as_str(), feature, &names)?;
+    Err(stop_at(alloc, index, "new", words)?)
 }
 
 /// Looks for the first name of an entry that names nothing: a class, or a feature that the class itself owns.
-pub(crate) fn look_for_absent<'n>(
+pub(crate) fn look_for_absent(
     alloc: Global,
-    document: &'n Value,
-    draft: &Draft<'n>,
-    classes: &[&'n str],
+    document: &Value,
+    draft: &Draft<'_>,
+    classes: &[&str],
 ) -> Result<(), Stop> {
     for (index, entry) in entries(document).iter().enumerate() {
         let (class, new) = (text(entry, "class"), text(entry, "new"));
         if is_of_feature(entry) {
-            look_for_class(alloc, index, class, classes)?;
+            look_for_class(alloc, index, "class", class, classes)?;
             look_for_own(alloc, index, class, new, draft)?;
         } else {
-            look_for_class(alloc, index, new, classes)?;
+            look_for_class(alloc, index, "new", new, classes)?;
         }
     }
     Ok(())
@@ -125,9 +147,10 @@ fn look_at_class(
         }
         if let Some(by) = taken.insert(old, "the old name of an entry before it")? {
             let name = class.name;
-            return Err(Stop::Flaw(format!(in alloc;
+            let words = format!(in alloc;
                 "entry {index} of `renames`: `{old}` is, for objects of {name}, {by}, too"
-            )?));
+            )?;
+            return Err(stop_at(alloc, index, "old", words)?);
         }
     }
     Ok(())

@@ -214,3 +214,47 @@ pub(crate) fn located_element(
     };
     Ok(Located { offset, pointer })
 }
+
+/// The element of a list at an index, where it is found.
+pub(crate) fn located_at(
+    alloc: Global,
+    bytes: &[u8],
+    list: &Located,
+    index: usize,
+) -> Result<Option<Located>, AllocError> {
+    let offsets = element_offsets(alloc, bytes, list.offset)?;
+    match offsets.get(index) {
+        Some(offset) => Ok(Some(located_element(alloc, list, index, *offset)?)),
+        None => Ok(None),
+    }
+}
+
+/// A step from a value to one in it.
+#[derive(Clone, Copy, Drop)]
+pub(crate) enum Step {
+    /// To a member of an object.
+    Member(&'static str),
+    /// To an element of a list, by its index from 0.
+    Element(usize),
+}
+
+/// The value to which steps lead from a document's own. Where the value of a step isn't found, or is written once more, with
+/// escapes, the one before it.
+pub(crate) fn located_part(
+    alloc: Global,
+    bytes: &[u8],
+    steps: &[Step],
+) -> Result<Located, AllocError> {
+    let mut part = located_document(alloc, bytes)?;
+    for step in steps {
+        let next = match *step {
+            Step::Member(name) => located_member(alloc, bytes, &part, name)?,
+            Step::Element(index) => located_at(alloc, bytes, &part, index)?,
+        };
+        match next {
+            Some(next) if next.pointer.is_some() => part = next,
+            _ => break,
+        }
+    }
+    Ok(part)
+}

@@ -1,6 +1,6 @@
 //! The faults of a document, one by one.
 
-use crate::places::{Located, element_offsets, located_element, located_member};
+use crate::places::{Located, located_at, located_member};
 use explain_faults::{Fault, Faults};
 use explain_notes::{Input, quote};
 use std::alloc::{AllocError, Global};
@@ -88,9 +88,8 @@ fn located_value(
     if bytes.get(member.offset) != Some(&b'[') {
         return Ok(member);
     }
-    let offsets = element_offsets(alloc, bytes, member.offset)?;
-    match offsets.get(index) {
-        Some(offset) => located_element(alloc, &member, index, *offset),
+    match located_at(alloc, bytes, &member, index)? {
+        Some(value) => Ok(value),
         None => Ok(member),
     }
 }

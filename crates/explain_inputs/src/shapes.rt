@@ -171,13 +171,21 @@ impl Look<'_> {
         Ok(found)
     }
 
-    /// Looks at the values of a member of an object that is a list; each should be an object of these members.
-    fn list(&mut self, alloc: Global, object: Looked<'_>, list: List) -> Result<(), AllocError> {
+    /// Looks at the values of a member of an object that is a list; each should be an object of these members. What the list
+    /// is of stands, in words, behind what each is called.
+    fn list(
+        &mut self,
+        alloc: Global,
+        object: Looked<'_>,
+        list: List,
+        of: &str,
+    ) -> Result<(), AllocError> {
         for (index, (at, value)) in self.located(alloc, object, list.member)?.iter().enumerate() {
             if self.report.is_full() {
                 return Ok(());
             }
             let title = title_of(alloc, list, index, value)?;
+            let title = format!(in alloc; "{title}{of}")?;
             let looked = Looked {
                 value,
                 at,
@@ -202,12 +210,13 @@ impl Look<'_> {
         if !value.is_object() {
             return Ok(());
         }
+        let of = association.title;
         let title = match value.get("name").and_then(Value::as_str) {
             Some(name) => {
                 let name = quote(alloc, name)?;
-                format!(in alloc; "{member} (`{name}`)")?
+                format!(in alloc; "{member} (`{name}`) of {of}")?
             }
-            None => String::from_str(alloc, member)?,
+            None => format!(in alloc; "{member} of {of}")?,
         };
         let at = self.place(alloc, association, member)?;
         let looked = Looked {
@@ -220,19 +229,24 @@ impl Look<'_> {
 
     /// Looks at the attributes of classes, and at the ends of associations.
     fn inside(&mut self, alloc: Global, document: Looked<'_>) -> Result<(), AllocError> {
-        for (at, value) in &self.located(alloc, document, "classes")? {
-            let class = Looked {
-                value,
-                at,
-                title: "",
-            };
-            self.list(alloc, class, attributes())?;
+        for (index, (at, value)) in self.located(alloc, document, "classes")?.iter().enumerate() {
+            let title = title_of(alloc, classes(), index, value)?;
+            let title = title.as_str();
+            let of = format!(in alloc; " of {title}")?;
+            self.list(
+                alloc,
+                Looked { value, at, title },
+                attributes(),
+                of.as_str(),
+            )?;
         }
-        for (at, value) in &self.located(alloc, document, "associations")? {
+        let listed = self.located(alloc, document, "associations")?;
+        for (index, (at, value)) in listed.iter().enumerate() {
+            let title = title_of(alloc, associations(), index, value)?;
             let association = Looked {
                 value,
                 at,
-                title: "",
+                title: title.as_str(),
             };
             self.end(alloc, association, "end")?;
             self.end(alloc, association, "opposite")?;
@@ -262,9 +276,9 @@ impl Look<'_> {
     /// Looks at the shape of a class model.
     fn model(&mut self, alloc: Global, document: Looked<'_>) -> Result<(), AllocError> {
         self.object(alloc, document, &MODEL, &[RENAMES])?;
-        self.list(alloc, document, enumerations())?;
-        self.list(alloc, document, classes())?;
-        self.list(alloc, document, associations())?;
+        self.list(alloc, document, enumerations(), "")?;
+        self.list(alloc, document, classes(), "")?;
+        self.list(alloc, document, associations(), "")?;
         self.inside(alloc, document)?;
         self.renames(alloc, document)
     }
@@ -272,7 +286,7 @@ impl Look<'_> {
     /// Looks at the shape of a delivery.
     fn delivery(&mut self, alloc: Global, document: Looked<'_>) -> Result<(), AllocError> {
         self.record(alloc, document, &DELIVERY)?;
-        self.list(alloc, document, objects())
+        self.list(alloc, document, objects(), "")
     }
 }
 
