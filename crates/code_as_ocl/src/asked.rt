@@ -142,9 +142,9 @@ impl<'m> AskedKinds<'m> {
                 then_branch,
                 else_branch,
             } => {
-                let of_second = branch_asked(self.known(), *kind, then_branch);
+                let of_second = branch_asked(self.known(), kind, then_branch);
                 self.look(else_branch, &of_second)?;
-                let of_first = branch_asked(self.known(), *kind, else_branch);
+                let of_first = branch_asked(self.known(), kind, else_branch);
                 self.look(then_branch, &of_first)?;
                 self.look(condition, &[Asked::Fitting(ScalarKind::Boolean)])
             }
@@ -181,7 +181,7 @@ impl<'m> AskedKinds<'m> {
                 };
                 only(self.alloc, Some(Asked::Exactly(kind)))
             }
-            CoreLink::Iterate { iteration, body } => self.look_at_body(*iteration, body, asked),
+            CoreLink::Iterate { iteration, body } => self.look_at_body(iteration, body, asked),
             CoreLink::Fold { kind, start, body } => {
                 self.open(None)?;
                 self.open(Some(Kind::Scalar(*kind)))?;
@@ -226,22 +226,43 @@ impl<'m> AskedKinds<'m> {
     #[cycle(asked)]
     fn look_at_body(
         &mut self,
-        iteration: Iteration,
+        iteration: &Iteration,
         body: &Core,
         asked: Vec<Asked>,
     ) -> Result<Vec<Asked>, OutOfMemory> {
+        let of_body = body_asked(self.alloc, iteration, &asked)?;
         self.open(None)?;
-        match iteration {
-            Iteration::Collect | Iteration::CollectFlat => self.look(body, &asked)?,
-            Iteration::IsUnique(kind) => self.look(body, &[Asked::Compared(kind)])?,
-            _ => self.look(body, &[Asked::Fitting(ScalarKind::Boolean)])?,
-        }
-        let mut of_source = self.bind()?;
-        if let Iteration::Select | Iteration::Reject = iteration {
-            of_source.extend_from_slice(&asked)?;
-        }
-        Ok(of_source)
+        self.look(body, &of_body)?;
+        let of_source = self.bind()?;
+        source_asked(iteration, of_source, &asked)
     }
+}
+
+/// What an iteration asks of its body, if this is asked of itself.
+fn body_asked(
+    alloc: Global,
+    iteration: &Iteration,
+    asked: &[Asked],
+) -> Result<Vec<Asked>, OutOfMemory> {
+    match iteration {
+        Iteration::Collect | Iteration::CollectFlat => Ok(Vec::from_slice(alloc, asked)?),
+        Iteration::IsUnique(kind) => only(alloc, Some(Asked::Compared(*kind))),
+        _ => only(alloc, Some(Asked::Fitting(ScalarKind::Boolean))),
+    }
+}
+
+/// What it asks of its source, by what its variable asks.
+fn source_asked(
+    iteration: &Iteration,
+    of_variable: Vec<Asked>,
+    asked: &[Asked],
+) -> Result<Vec<Asked>, OutOfMemory> {
+    let mut all = of_variable;
+    match iteration {
+        Iteration::Select | Iteration::Reject => all.extend_from_slice(asked)?,
+        _ => {}
+    }
+    Ok(all)
 }
 
 /// What asks no more than this, if anything.
@@ -270,7 +291,7 @@ fn exactly(wanted: Option<ScalarKind>) -> Option<Asked> {
 }
 
 /// The kind that a value has to fit whose variable is asked this.
-fn limit_of(asked: Asked) -> Option<ScalarKind> {
+pub(crate) fn limit_of(asked: Asked) -> Option<ScalarKind> {
     match asked {
         Asked::Exactly(kind) | Asked::Compared(kind) => Some(kind),
         Asked::Fitting(kind) | Asked::Rather(kind) => Some(kind),
@@ -303,16 +324,24 @@ fn apart_from(other: Option<Kind>, unknown: Asked) -> Option<Asked> {
 }
 
 /// What is asked of a branch of a condition of this kind, by the other one.
-fn branch_asked(known: Known<'_>, kind: Kind, other: &Core) -> [Asked; 2] {
-    let element = elements_kind(&kind);
-    let second = if known.is_empty_collection(other) {
-        Asked::Exactly(element)
-    } else if known.kind(other) == Some(kind) {
-        Asked::Fitting(element)
-    } else {
-        Asked::Rather(element)
-    };
-    [Asked::Fitting(element), second]
+fn branch_asked(known: Known<'_>, kind: &Kind, other: &Core) -> [Asked; 2] {
+    match kind {
+        Kind::Scalar(element) | Kind::Collection(_, element) => [
+            Asked::Fitting(*element),
+            beside(known, kind, element, other),
+        ],
+    }
+}
+
+/// What is asked of a branch beside another: to be of the condition's kind, unless that one is.
+fn beside(known: Known<'_>, kind: &Kind, element: &ScalarKind, other: &Core) -> Asked {
+    if known.is_empty_collection(other) {
+        return Asked::Exactly(*element);
+    }
+    match known.kind(other) {
+        Some(found) if found == *kind => Asked::Fitting(*element),
+        _ => Asked::Rather(*element),
+    }
 }
 
 /// What an operation asks of its operands after the first, which may be known to be of this kind.

@@ -58,7 +58,7 @@ enum Next {
 
 /// Words as far as they are taken over.
 #[derive(Drop)]
-struct Paired<'a> {
+struct PairedWords<'a> {
     alloc: Global,
     /// Of each `let`, whether it becomes an iteration with two variables.
     pairs: &'a [bool],
@@ -77,7 +77,7 @@ struct Paired<'a> {
     words: Vec<String>,
 }
 
-impl Paired<'_> {
+impl PairedWords<'_> {
     /// Puts a word without the parentheses that are left out.
     fn put_word(&mut self, out: &mut String, word: &str) -> Result<(), OutOfMemory> {
         for character in word.chars() {
@@ -179,7 +179,7 @@ pub(crate) fn paired(
     pairs: &[bool],
     words: &[String],
 ) -> Result<Vec<String>, OutOfMemory> {
-    let mut taken = Paired {
+    let mut taken = PairedWords {
         alloc,
         pairs,
         seen: 0,

@@ -10,7 +10,7 @@ use std::alloc::Global;
 
 /// Words as far as they are taken over.
 #[derive(Drop)]
-struct Retyped<'a> {
+struct RetypedWords<'a> {
     alloc: Global,
     model: &'a ClassModel,
     /// The types in the order of the text.
@@ -22,7 +22,7 @@ struct Retyped<'a> {
     words: Vec<String>,
 }
 
-impl Retyped<'_> {
+impl RetypedWords<'_> {
     /// The next type.
     fn next(&mut self) -> Option<Kind> {
         let at = self.seen;
@@ -84,7 +84,7 @@ pub(crate) fn retyped(
     types: &[Option<Kind>],
     words: &[String],
 ) -> Result<Vec<String>, OutOfMemory> {
-    let mut taken = Retyped {
+    let mut taken = RetypedWords {
         alloc,
         model,
         types,

@@ -1,7 +1,7 @@
 //! Types of variables by which the text of a rule is compiled to the rule again. Code has the kinds of values and not the types
 //! of variables, which may be wider. A type has to meet what all uses of its variable ask.
 
-use crate::asked::{Asked, AskedKinds};
+use crate::asked::{Asked, AskedKinds, limit_of};
 use crate::kinds::{constant_kind, iteration_kind, operator_kind};
 use crate::known::{Known, known_feature};
 use crate::pairs::is_of_pairs;
@@ -45,18 +45,26 @@ fn is_type(kind: ScalarKind) -> bool {
 /// Whether a variable for values of a kind may have another. Where the search is strict, it is also what it is rather to be.
 fn is_taken(
     model: &ClassModel,
-    given: ScalarKind,
+    given: &ScalarKind,
     asked: &[Asked],
     is_strict: bool,
-    kind: ScalarKind,
+    kind: &ScalarKind,
 ) -> bool {
     for one in asked {
         let is_wanted = is_strict || !matches!(one, Asked::Rather(_));
-        if is_wanted && !is_met(model, *one, kind) {
+        if is_wanted && !is_met(model, *one, *kind) {
             return false;
         }
     }
-    fits(model, given, kind)
+    fits(model, *given, *kind)
+}
+
+/// Adds a kind that a type may have.
+fn push_type(kinds: &mut Vec<ScalarKind>, kind: &ScalarKind) -> Result<(), OutOfMemory> {
+    if is_type(*kind) {
+        kinds.push(*kind)?;
+    }
+    Ok(())
 }
 
 /// The kinds that a type may have by what is asked, those that are asked for first.
@@ -67,10 +75,8 @@ fn candidates(
 ) -> Result<Vec<ScalarKind>, OutOfMemory> {
     let mut kinds = Vec::new(alloc);
     for one in asked {
-        match *one {
-            Asked::Exactly(kind) | Asked::Compared(kind) if is_type(kind) => kinds.push(kind)?,
-            Asked::Fitting(kind) | Asked::Rather(kind) if is_type(kind) => kinds.push(kind)?,
-            _ => {}
+        if let Some(kind) = limit_of(*one) {
+            push_type(&mut kinds, &kind)?;
         }
     }
     for index in 0..model.class_count() {
@@ -90,25 +96,25 @@ fn candidates(
 fn chosen(
     alloc: Global,
     model: &ClassModel,
-    given: ScalarKind,
+    given: &ScalarKind,
     asked: &[Asked],
     may_stay: bool,
 ) -> Result<ScalarKind, OutOfMemory> {
     if may_stay && is_taken(model, given, asked, true, given) {
-        return Ok(given);
+        return Ok(*given);
     }
     let kinds = candidates(alloc, model, asked)?;
     for is_strict in [true, false] {
         if may_stay && is_taken(model, given, asked, is_strict, given) {
-            return Ok(given);
+            return Ok(*given);
         }
         for kind in &kinds {
-            if is_taken(model, given, asked, is_strict, *kind) {
+            if is_taken(model, given, asked, is_strict, kind) {
                 return Ok(*kind);
             }
         }
     }
-    Ok(given)
+    Ok(*given)
 }
 
 /// What is written of a variable.
@@ -208,24 +214,19 @@ impl Types<'_> {
         let place = self.open()?;
         let number = self.pairs.len();
         self.pairs.push(false)?;
-        let given = self.kind_of(value)?;
-        let element = elements_kind(&given);
-        let chosen = self.next(element, is_type(element))?;
-        let is_collection = makes_collection(value);
-        let is_single = is_collection && !self.known().is_empty_collection(value);
-        let is_pair = is_of_pairs && (is_single || element == ScalarKind::Void);
-        let kind = if is_pair || is_collection {
-            given
-        } else {
-            with_elements(given, chosen)
-        };
+        let found = self.kind_of(value)?;
+        let given = &found;
+        let chosen = self.kind_beside(value, given)?;
+        let kind = &chosen;
+        let is_pair = is_of_pairs && self.is_undeclared(value, given);
         if is_pair {
             self.write(place, Written::Nothing);
             self.note_pair(number);
+            self.scope.push(Some(*given))?;
         } else {
-            self.write(place, Written::Type(kind));
+            self.write(place, Written::Type(*kind));
+            self.scope.push(Some(*kind))?;
         }
-        self.scope.push(Some(kind))?;
         Ok(is_pair)
     }
 
@@ -246,12 +247,12 @@ impl Types<'_> {
                 collection,
                 element,
             } => Ok(Kind::Collection(*collection, *element)),
-            CoreLink::Iterate { iteration, body } => self.kind_over(*iteration, body, first),
+            CoreLink::Iterate { iteration, body } => self.kind_over(iteration, body, &first),
             CoreLink::Fold { kind, start, body } => {
                 let place = self.open()?;
                 let _start = self.kind_of(start)?;
                 let outside = self.scope.len();
-                self.bind_element(place, first)?;
+                self.bind_element(place, &first)?;
                 self.scope.push(Some(Kind::Scalar(*kind)))?;
                 let _body = self.kind_of(body)?;
                 self.scope.truncate(outside);
@@ -264,16 +265,34 @@ impl Types<'_> {
     #[cycle(types)]
     fn kind_over(
         &mut self,
-        iteration: Iteration,
+        iteration: &Iteration,
         body: &Core,
-        source: Kind,
+        source: &Kind,
     ) -> Result<Kind, OutOfMemory> {
         let place = self.open()?;
         let outside = self.scope.len();
         self.bind_element(place, source)?;
         let inner = self.kind_of(body)?;
         self.scope.truncate(outside);
-        Ok(iteration_kind(iteration, source, inner))
+        Ok(iteration_kind(*iteration, *source, inner))
+    }
+
+    /// The kind of the next variable, for a value of this kind.
+    fn kind_beside(&mut self, value: &Core, given: &Kind) -> Result<Kind, OutOfMemory> {
+        let element = elements_kind(given);
+        let may_stay = is_type(element);
+        let chosen = self.next(&element, may_stay)?;
+        if makes_collection(value) {
+            return Ok(*given);
+        }
+        Ok(with_elements(given, chosen))
+    }
+
+    /// Whether no type makes a variable of a value of this kind: it is a single value that is made a collection, or has no
+    /// elements but null.
+    fn is_undeclared(&self, value: &Core, given: &Kind) -> bool {
+        let is_empty = self.known().is_empty_collection(value);
+        makes_collection(value) && !is_empty || elements_kind(given) == ScalarKind::Void
     }
 
     /// The place of one more variable.
@@ -298,21 +317,22 @@ impl Types<'_> {
     }
 
     /// The kind of the next variable, for values of this kind.
-    fn next(&mut self, given: ScalarKind, may_stay: bool) -> Result<ScalarKind, OutOfMemory> {
+    fn next(&mut self, given: &ScalarKind, may_stay: bool) -> Result<ScalarKind, OutOfMemory> {
         match self.asked.pop() {
             Some(asked) => chosen(self.alloc, self.model, given, &asked, may_stay),
-            None => Ok(given),
+            None => Ok(*given),
         }
     }
 
     /// Has the elements of a source as one more variable in scope, whose type has this place.
-    fn bind_element(&mut self, place: usize, source: Kind) -> Result<(), OutOfMemory> {
-        let element = elements_kind(&source);
-        let chosen = self.next(element, true)?;
-        if chosen != element {
-            self.write(place, Written::Type(Kind::Scalar(chosen)));
+    fn bind_element(&mut self, place: usize, source: &Kind) -> Result<(), OutOfMemory> {
+        let element = elements_kind(source);
+        let found = self.next(&element, true)?;
+        let chosen = &found;
+        if *chosen != element {
+            self.write(place, Written::Type(Kind::Scalar(*chosen)));
         }
-        self.scope.push(Some(Kind::Scalar(chosen)))?;
+        self.scope.push(Some(Kind::Scalar(*chosen)))?;
         Ok(())
     }
 }
@@ -326,10 +346,10 @@ fn makes_collection(value: &Core) -> bool {
 }
 
 /// A kind with other elements.
-fn with_elements(kind: Kind, element: ScalarKind) -> Kind {
+fn with_elements(kind: &Kind, element: ScalarKind) -> Kind {
     match kind {
         Kind::Scalar(_) => Kind::Scalar(element),
-        Kind::Collection(collection, _) => Kind::Collection(collection, element),
+        Kind::Collection(collection, _) => Kind::Collection(*collection, element),
     }
 }
 
