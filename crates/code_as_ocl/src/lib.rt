@@ -2,11 +2,15 @@
 //! verdict is that of the meaning of this tree. A text without a mark is compiled to the rule again.
 #![tactic(auto)]
 
+mod asked;
 mod kinds;
+mod known;
 mod levels;
 mod lines;
 mod marks;
+mod pairs;
 mod quoted;
+mod retyped;
 mod rules;
 mod typed;
 mod types;

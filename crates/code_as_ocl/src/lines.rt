@@ -16,7 +16,7 @@ const INDENT: usize = 6;
 
 /// Where a text is, as to strings in quotes.
 #[derive(Clone, Copy)]
-enum Quotes {
+pub(crate) enum Quotes {
     Outside,
     Inside,
     /// Behind a backslash.
@@ -25,7 +25,7 @@ enum Quotes {
 
 impl Quotes {
     /// Behind one more character.
-    fn after(self, character: char) -> Quotes {
+    pub(crate) fn after(self, character: char) -> Quotes {
         match (self, character) {
             (Quotes::Outside, '\'') => Quotes::Inside,
             (Quotes::Inside, '\'') => Quotes::Outside,

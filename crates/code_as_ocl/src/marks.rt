@@ -5,8 +5,10 @@ ghost use Rattle.rule_code.specs.View.{content};
 ghost use Rattle.code_as_ocl.specs.SaidRules.{AreRuleTexts, IsRuleText, IsSaid, IsSameRule};
 
 use crate::lines::{in_lines, words_of};
+use crate::pairs::paired;
+use crate::retyped::retyped;
 use crate::rules::{expression_of, is_too_long, put_head, put_marked, put_whole};
-use crate::types::with_types;
+use crate::types::types_of;
 use explain_code::instruction_words;
 use explain_why::put;
 use ocl_base::OutOfMemory;
@@ -134,7 +136,10 @@ fn rule_in_lines(alloc: Global, accepted: &Accepted<'_>, rule: usize) -> Result<
     requires { rule < length accepted.now.unit.rules }
 {
     let expression = expression_of(alloc, accepted, rule)?;
-    let words = with_types(alloc, accepted, rule, words_of(alloc, &expression)?)?;
+    let tree = core_of_rule(alloc, accepted, rule)?;
+    let types = types_of(alloc, accepted.model(), &tree, accepted.context(rule))?;
+    let words = paired(alloc, &types.pairs, &words_of(alloc, &expression)?)?;
+    let words = retyped(alloc, accepted.model(), &types.types, &words)?;
     let lines = in_lines(alloc, &words)?;
     let mut text = String::new(alloc);
     put_head(&mut text, accepted, rule)?;

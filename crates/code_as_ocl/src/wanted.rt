@@ -67,7 +67,7 @@ fn plain_others(operator: PlainOperator) -> Option<ScalarKind>
 }
 
 /// What an operator wants of its first operand.
-fn first_wanted(operator: Operator) -> Option<ScalarKind>
+pub(crate) fn first_wanted(operator: Operator) -> Option<ScalarKind>
     ensures { result ≡ uses.first_wanted operator }
 {
     match operator {
@@ -79,7 +79,7 @@ fn first_wanted(operator: Operator) -> Option<ScalarKind>
 }
 
 /// What it wants of each other.
-fn others_wanted(operator: Operator) -> Option<ScalarKind>
+pub(crate) fn others_wanted(operator: Operator) -> Option<ScalarKind>
     ensures { result ≡ uses.others_wanted operator }
 {
     match operator {
@@ -102,7 +102,7 @@ fn body_wanted(iteration: Iteration) -> Option<ScalarKind>
 }
 
 /// What is wanted of the object whose feature is read: its owner. A number that the class model doesn't have wants nothing.
-fn owner_wanted(model: &ClassModel, feature: FeatureNo) -> Option<ScalarKind>
+pub(crate) fn owner_wanted(model: &ClassModel, feature: FeatureNo) -> Option<ScalarKind>
     ensures { result ≡ uses.owner_wanted model.now feature }
 {
     if feature.index() < model.feature_count() {
