@@ -6,7 +6,7 @@ pub returns-in-Ok : goal.returns-in-Ok
 returns-in-Ok g c = λ t compiled are typed same.
     let report = c.args.self.now.report in
     let told = detailed_within report.budget report.detail (c.args.population.now.content, compiled) in
-    let judged = c.of_rules.ensures t compiled are typed same in
+    let judged = c.of_rules-text.ensures t compiled are typed same in
     let written = c.write_with_messages.ensures told (search rules) in
     (written.0, _, written.1)
 
