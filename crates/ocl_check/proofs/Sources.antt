@@ -54,10 +54,6 @@ each_so : (P Q : Used → Type 0) → ((s : Used) → P s → Q s) → (us : Sou
 each_so P Q so none h = tt
 each_so P Q so (us then s) h = (each_so P Q so us h.0, so s h.1)
 
--- the first source
-pub read_first : (s : Used) (fails : Bool) → IsReadBy s fails → ReadsInOrder (none then s) fails
-read_first s fails h = record { limits = (tt, h.limits); fault = λ f. inr (h.fault f); failed = (tt, h.failed); within = λ f. (tt, h.within f); order = tt }
-
 -- the next one, where the last has ended
 pub read_next : (us : Sources) (last s : Used) (fails : Bool) → ReadsInOrder (us then last) false → IsAtEnd last.left → IsReadBy s fails → ReadsInOrder ((us then last) then s) fails
 read_next us last s fails before end h = record {

@@ -100,17 +100,12 @@ fn rejection(alloc: Global, code: Input<'_>, model: &ClassModel, rejected: Rejec
 }
 
 /// Lists a unit that is accepted, each rule as OCL above its instructions.
-fn list_accepted<S: Sink>(
-    alloc: Global,
-    sink: &mut S,
-    resolved: &Resolved<'_>,
-    accepted: &Accepted<'_>,
-) -> Ending
+fn list_accepted<S: Sink>(alloc: Global, sink: &mut S, accepted: &Accepted<'_>) -> Ending
     requires { S.has_failed sink.old ≡ false }
 {
     let listed = Listed {
-        unit: resolved.unit(),
-        resolved: Some(resolved),
+        unit: accepted.unit(),
+        resolved: Some(accepted.resolved()),
         accepted: Some(accepted),
     };
     match write_unit(alloc, sink, listed) {
@@ -120,68 +115,72 @@ fn list_accepted<S: Sink>(
 }
 
 /// Lists a unit that isn't accepted, and says why.
-fn list_rejected<S: Sink>(
-    alloc: Global,
-    sink: &mut S,
-    code: Input<'_>,
-    resolved: &Resolved<'_>,
-    rejected: Rejected,
-) -> Ending
-    requires { S.has_failed sink.old ≡ false }
-{
-    let listed = Listed {
-        unit: resolved.unit(),
-        resolved: Some(resolved),
-        accepted: None,
-    };
-    match write_unit(alloc, sink, listed) {
-        Ok(()) => refused(alloc, rejection(alloc, code, resolved.model(), rejected)),
-        Err(fault) => failed(alloc, fault),
-    }
-}
-
-/// Lists a unit whose symbols were looked up in a class model, and says why it isn't accepted for it, if it isn't.
 fn list_resolved<S: Sink>(
     alloc: Global,
     sink: &mut S,
     code: Input<'_>,
     resolved: Resolved<'_>,
+    why: Stopped,
 ) -> Ending
     requires { S.has_failed sink.old ≡ false }
 {
-    match accept_code(alloc, resolved.model(), code.bytes) {
-        Ok(accepted) => list_accepted(alloc, sink, &resolved, &accepted),
-        Err(rejected) if matches!(rejected.why, Stopped::OutOfMemory) => {
-            failed(alloc, CommandFault::OutOfMemory)
+    let listed = Listed {
+        unit: resolved.unit(),
+        resolved: Some(&resolved),
+        accepted: None,
+    };
+    match write_unit(alloc, sink, listed) {
+        Ok(()) => {
+            let model = resolved.model();
+            let unit = Some(resolved.into_unit());
+            refused(alloc, rejection(alloc, code, model, Rejected { why, unit }))
         }
-        Err(rejected) => list_rejected(alloc, sink, code, &resolved, rejected),
+        Err(fault) => failed(alloc, fault),
     }
 }
 
-/// Lists a unit, and says why it isn't accepted for a class model, if there is one and it isn't.
-fn list_unit<S: Sink>(
+/// Lists the unit of a code file that isn't accepted, if there is one, and says why it isn't.
+fn list_rejected<S: Sink>(
     alloc: Global,
     sink: &mut S,
     code: Input<'_>,
-    model: Option<&ClassModel>,
-    unit: Unit,
+    model: &ClassModel,
+    rejected: Rejected,
 ) -> Ending
     requires { S.has_failed sink.old ≡ false }
 {
-    let Some(model) = model else {
-        let listed = Listed {
-            unit: &unit,
-            resolved: None,
-            accepted: None,
-        };
-        return match write_unit(alloc, sink, listed) {
-            Ok(()) => ended(alloc),
-            Err(fault) => failed(alloc, fault),
-        };
-    };
-    match resolve(alloc, model, unit) {
-        Ok(resolved) => list_resolved(alloc, sink, code, resolved),
-        Err(_failed) => failed(alloc, CommandFault::OutOfMemory),
+    let Rejected { why, unit } = rejected;
+    match (why, unit) {
+        (Stopped::OutOfMemory, _) => failed(alloc, CommandFault::OutOfMemory),
+        (why, Some(unit)) => match resolve(alloc, model, unit) {
+            Ok(resolved) => list_resolved(alloc, sink, code, resolved, why),
+            Err(_failed) => failed(alloc, CommandFault::OutOfMemory),
+        },
+        (why, None) => {
+            let rejected = Rejected { why, unit: None };
+            refused(alloc, rejection(alloc, code, model, rejected))
+        }
+    }
+}
+
+/// Lists a code file for a class model, and says why it isn't accepted, if it isn't.
+fn list_for<S: Sink>(alloc: Global, sink: &mut S, code: Input<'_>, model: &ClassModel) -> Ending
+    requires { S.has_failed sink.old ≡ false }
+{
+    match accept_code(alloc, model, code.bytes) {
+        Ok(accepted) => list_accepted(alloc, sink, &accepted),
+        Err(rejected) => list_rejected(alloc, sink, code, model, rejected),
+    }
+}
+
+/// Lists a code file with a class model, which is read first.
+fn list_with<S: Sink>(alloc: Global, sink: &mut S, code: Input<'_>, model: Input<'_>) -> Ending
+    requires { S.has_failed sink.old ≡ false }
+{
+    match read_model(alloc, model.bytes) {
+        Ok(read) => list_for(alloc, sink, code, &read),
+        Err(Stopped::Refused(refusal)) => refused(alloc, model_refusal(alloc, model, &refusal)),
+        Err(Stopped::OutOfMemory) => failed(alloc, CommandFault::OutOfMemory),
     }
 }
 
@@ -192,30 +191,29 @@ fn flaw_of(alloc: Global, code: Input<'_>, flaw: CodeFlaw, offset: usize) -> Wor
     Ok(out)
 }
 
-/// Lists a code file, with the kinds on the stack where there is a class model.
-fn list_over<S: Sink>(
-    alloc: Global,
-    sink: &mut S,
-    code: Input<'_>,
-    model: Option<&ClassModel>,
-) -> Ending
+/// Lists a unit by itself.
+fn list_unit<S: Sink>(alloc: Global, sink: &mut S, unit: &Unit) -> Ending
     requires { S.has_failed sink.old ≡ false }
 {
-    match read_unit(alloc, code.bytes) {
-        Ok(unit) => list_unit(alloc, sink, code, model, unit),
-        Err(CodeFault::At { flaw, offset }) => refused(alloc, flaw_of(alloc, code, flaw, offset)),
-        Err(CodeFault::OutOfMemory) => failed(alloc, CommandFault::OutOfMemory),
+    let listed = Listed {
+        unit,
+        resolved: None,
+        accepted: None,
+    };
+    match write_unit(alloc, sink, listed) {
+        Ok(()) => ended(alloc),
+        Err(fault) => failed(alloc, fault),
     }
 }
 
-/// Lists a code file with a class model, which is read first.
-fn list_with<S: Sink>(alloc: Global, sink: &mut S, code: Input<'_>, model: Input<'_>) -> Ending
+/// Lists a code file without a class model.
+fn list_alone<S: Sink>(alloc: Global, sink: &mut S, code: Input<'_>) -> Ending
     requires { S.has_failed sink.old ≡ false }
 {
-    match read_model(alloc, model.bytes) {
-        Ok(read) => list_over(alloc, sink, code, Some(&read)),
-        Err(Stopped::Refused(refusal)) => refused(alloc, model_refusal(alloc, model, &refusal)),
-        Err(Stopped::OutOfMemory) => failed(alloc, CommandFault::OutOfMemory),
+    match read_unit(alloc, code.bytes) {
+        Ok(unit) => list_unit(alloc, sink, &unit),
+        Err(CodeFault::At { flaw, offset }) => refused(alloc, flaw_of(alloc, code, flaw, offset)),
+        Err(CodeFault::OutOfMemory) => failed(alloc, CommandFault::OutOfMemory),
     }
 }
 
@@ -233,6 +231,6 @@ pub fn list_code<S: Sink>(
 {
     match model {
         Some(model) => list_with(alloc, sink, code, model),
-        None => list_over(alloc, sink, code, None),
+        None => list_alone(alloc, sink, code),
     }
 }

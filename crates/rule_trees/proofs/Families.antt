@@ -42,18 +42,3 @@ other_numbers s instrs.Max cs h1 h2 h3 h4 h5 h6 h7 h8 h9 h10 h11 = absurd (h9 re
 other_numbers s instrs.TLen cs h1 h2 h3 h4 h5 h6 h7 h8 h9 h10 h11 = absurd (h10 refl)
 other_numbers s instrs.SubStr cs h1 h2 h3 h4 h5 h6 h7 h8 h9 h10 h11 = absurd (h11 refl)
 other_numbers s i cs h1 h2 h3 h4 h5 h6 h7 h8 h9 h10 h11 = refl
-
--- an instruction that has no single body makes nothing of it
-pub other_blocks : (s : Surroundings) (i : Instr) (b : Option CoreTree) (cs : List CoreTree) → ((n : ℕ) → i ≡ instrs.Let n → ⊥) → ((n : ℕ) → i ≡ instrs.ForAll n → ⊥) → ((n : ℕ) → i ≡ instrs.Exists n → ⊥) → ((n : ℕ) → i ≡ instrs.One n → ⊥) → ((n : ℕ) → i ≡ instrs.Select n → ⊥) → ((n : ℕ) → i ≡ instrs.Reject n → ⊥) → ((n : ℕ) → i ≡ instrs.Collect n → ⊥) → ((n : ℕ) → i ≡ instrs.CollectFlat n → ⊥) → ((k : WrittenScalar) (n : ℕ) → i ≡ instrs.IsUnique k n → ⊥) → ((k : WrittenScalar) (n : ℕ) → i ≡ instrs.Fold k n → ⊥)
-    → block_trees s i b cs ≡ None
-other_blocks s (instrs.Let n) b cs h1 h2 h3 h4 h5 h6 h7 h8 h9 h10 = absurd (h1 n refl)
-other_blocks s (instrs.ForAll n) b cs h1 h2 h3 h4 h5 h6 h7 h8 h9 h10 = absurd (h2 n refl)
-other_blocks s (instrs.Exists n) b cs h1 h2 h3 h4 h5 h6 h7 h8 h9 h10 = absurd (h3 n refl)
-other_blocks s (instrs.One n) b cs h1 h2 h3 h4 h5 h6 h7 h8 h9 h10 = absurd (h4 n refl)
-other_blocks s (instrs.Select n) b cs h1 h2 h3 h4 h5 h6 h7 h8 h9 h10 = absurd (h5 n refl)
-other_blocks s (instrs.Reject n) b cs h1 h2 h3 h4 h5 h6 h7 h8 h9 h10 = absurd (h6 n refl)
-other_blocks s (instrs.Collect n) b cs h1 h2 h3 h4 h5 h6 h7 h8 h9 h10 = absurd (h7 n refl)
-other_blocks s (instrs.CollectFlat n) b cs h1 h2 h3 h4 h5 h6 h7 h8 h9 h10 = absurd (h8 n refl)
-other_blocks s (instrs.IsUnique k n) b cs h1 h2 h3 h4 h5 h6 h7 h8 h9 h10 = absurd (h9 k n refl)
-other_blocks s (instrs.Fold k n) b cs h1 h2 h3 h4 h5 h6 h7 h8 h9 h10 = absurd (h10 k n refl)
-other_blocks s i b cs h1 h2 h3 h4 h5 h6 h7 h8 h9 h10 = refl

@@ -26,11 +26,6 @@ step_there : {A B : Type 0} (f : A → Option B) (o : Option A) → IsSome (opti
 step_there f (Some x) h = refl
 step_there f None h = h
 
--- where code left one tree, it left trees
-pub sole_there : (o : Option (List CoreTree)) → IsSome (sole o) → IsSome o
-sole_there (Some cs) h = refl
-sole_there None h = h
-
 -- a block whose body has no tree makes nothing
 no_body : (s : Surroundings) (i : Instr) (cs : List CoreTree) → block_trees s i None cs ≡ None
 no_body s (instrs.Let n) cs = refl
@@ -139,14 +134,6 @@ pub record Reached (c : RuleCode) (p : Place) (at : ℕ) (left : List Core) : Ty
   pub forward : p.at ≤ at
   pub before : at ≤ p.end
   pub trees : trees_between c p.at p.end [] ≡ trees_between c at p.end (map core_view left)
-
--- what is left of a walk has trees where the whole has one
-pub left_there : (c : RuleCode) (p : Place) (at : ℕ) (trees : List Core) → Reached c p at trees → IsSome (core_between c p.at p.end) → IsSome (trees_between c at p.end (map core_view trees))
-left_there c p at trees r h = subst (λ (o : Option (List CoreTree)). IsSome o) r.trees (sole_there _ h)
-
--- at its end the trees are those of the whole
-pub all_reached : (c : RuleCode) (p : Place) (at : ℕ) (trees : List Core) → Reached c p at trees → p.end ≤ at → core_between c p.at p.end ≡ sole (Some (map core_view trees))
-all_reached c p at trees r past = ap sole (r.trees ∙ ap (λ x. trees_after (surroundings_in c) (code_tree x) (map core_view trees)) (stretch_none c.code.now at p.end past))
 
 -- one instruction more
 pub reached_next : (c : RuleCode) (p : Place) (at next : ℕ) (trees after : List Core) → Reached c p at trees → LeavesTrees c (record { at = at; end = p.end }) (map core_view trees) next (map core_view after) → Reached c p next after

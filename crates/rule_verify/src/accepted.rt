@@ -55,6 +55,13 @@ impl<'m> Accepted<'m> {
         let _resolved = &self.resolved;
     }
 
+    /// The unit with what each of its symbols names.
+    pub fn resolved(&self) -> &Resolved<'m>
+        ensures { result.now ≡ self.now }
+    {
+        &self.resolved
+    }
+
     /// The class model.
     pub fn model(&self) -> &'m ClassModel
         ensures { result.now ≡ self.now.model }

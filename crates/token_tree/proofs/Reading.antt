@@ -54,10 +54,6 @@ object_converted (Some p) = converted_on object p.1 (of_members p.0 no_members)
 
 -- ---- values
 
-pub data_shorter : (depth : ℕ) (ts : List Token) (d : Data) (r : List Token) → data_at depth ts ≡ Some (d, r) → length r < length ts
-unfolding data_at
-data_shorter depth ts d r h = let j = parts of_json (value depth ts) d r h in skip_value-shorter depth ts r (ap (option_map (λ p. p.1)) j.1)
-
 -- passing over a value leaves what reading it leaves
 pub skip_agrees : (depth : ℕ) (ts : List Token) (d : Data) (r s : List Token) → data_at depth ts ≡ Some (d, r) → skip_value depth ts ≡ Some s → r ≡ s
 unfolding data_at
