@@ -17,7 +17,8 @@ USES = {
 }
 CRATES = list(USES)
 COMPLETIONS = ROOT / "examples" / "editors" / "completion"
-CONTRACTS = ROOT / "docs" / "proofs" / "contracts.md"
+# the heading in the README of a crate under which its contracts are
+PROVED = "## What is proved"
 
 
 def slug(heading):
@@ -234,18 +235,26 @@ def with_links(text):
     return re.sub(r"`(docs/[\w./-]+\.md)`", link, text)
 
 
-def readme(crate, sections):
-    """What a crate is, file by file, from the heads of its files."""
+def proved_of(crate):
+    """What is proved of a crate, as it stands in its README: the one part of it that is written by hand."""
+    path = CRATES_FOLDER / crate / "README.md"
+    found = re.search(rf"(?ms)^{PROVED}\n\n(.*?)(?=^## |\Z)", path.read_text(encoding="utf-8")) if path.is_file() else None
+    return found[1].rstrip("\n") if found else ""
+
+
+def readme(crate):
+    """What a crate is, file by file, from the heads of its files; and what is proved of it."""
     folder = CRATES_FOLDER / crate
     sources, definitions = files_of(crate)
     parts = [f"# `{crate}`", wrapped(with_links(crate_head(crate)))]
-    if crate in sections:
-        parts.append(wrapped(f"What is proved: [{sections[crate]}](../../docs/proofs/contracts.md#{slug(sections[crate])})."))
     below = ", ".join(f"[`{it}`](../{it}/README.md)" for it in USES[crate] if it in USES)
     kit = ", ".join(f"`{it}`" for it in USES[crate] if it not in USES)
     if below or kit:
         uses = below + (" and " if below and kit else "") + (f"the kit's {kit}" if kit else "")
         parts.append(wrapped(f"Builds on {uses}."))
+    proved = proved_of(crate)
+    if proved:
+        parts += [PROVED, proved]
     if sources:
         parts += ["## Sources", listed(folder, sources)]
     if definitions:
@@ -253,15 +262,8 @@ def readme(crate, sections):
     return "\n\n".join(parts) + "\n"
 
 
-def sections_of_contracts():
-    """The heading of docs/proofs/contracts.md under which each crate is, by the crates that a heading names."""
-    headings = re.findall(r"(?m)^## (.*)$", CONTRACTS.read_text(encoding="utf-8"))
-    return {crate: it.replace("`", "") for it in headings for crate in re.findall(r"`(\w+)`", it)}
-
-
 def readmes():
-    sections = sections_of_contracts()
-    return {CRATES_FOLDER / it / "README.md": readme(it, sections) for it in CRATES}
+    return {CRATES_FOLDER / it / "README.md": readme(it) for it in CRATES}
 
 
 def sources_of_programs():

@@ -1,8 +1,8 @@
 """Checks of the pages by reading them: links, lengths of pages, the cells of tables, blocks, the names in the table of
-promises and its page's excerpts, the table of the gate, and that rows try what a page's tables claim."""
+promises and its page's excerpts, the page of contracts, the table of the gate, and that rows try what a page's tables claim."""
 import re
 
-from generated import ROOT, slug
+from generated import CRATES, ROOT, proved_of, slug
 
 # the most lines of pages that have to be short
 MOST_LINES = {"README.md": 180, "docs/proofs/promises.md": 150}
@@ -11,6 +11,7 @@ LANGUAGES = {"console", "dockerfile", "sh", "json", "ocl", "text", "ebnf", "pyth
 # what names pages, besides the pages themselves
 SOURCES = ["ocl_check", ".ci/*", ".ci/forms/*.py", "bench/*", "examples/*.sh", "tests/*.rows"]
 PROMISES = ROOT / "docs" / "proofs" / "promises.md"
+CONTRACTS = ROOT / "docs" / "proofs" / "contracts.md"
 ARCHITECTURE = ROOT / "docs" / "architecture.md"
 GATE = ROOT / ".ci" / "run"
 # a page whose tables are tried by rows: each piece of code in them stands in a row
@@ -172,6 +173,16 @@ def gate_faults(text):
         yield number, f"`{name}` is in the table of the gate, and .ci/run doesn't call it"
 
 
+def contract_faults(text):
+    """Crates whose contracts the page doesn't lead to, and crates with none. Crates of tests promise nothing."""
+    for crate in CRATES:
+        is_linked = f"(../../crates/{crate}/README.md#what-is-proved)" in text
+        if proved_of(crate) and not is_linked:
+            yield 1, f"no link to what is proved of `{crate}`"
+        if not proved_of(crate) and not crate.endswith(("_tests", "_support")):
+            yield 1, f"the README of `{crate}` doesn't say what is proved"
+
+
 def page_faults(path):
     text = path.read_text(encoding="utf-8")
     yield from link_faults(path, text)
@@ -183,6 +194,8 @@ def page_faults(path):
         yield from untried_faults(text, TRIED[path])
     if path == ARCHITECTURE:
         yield from gate_faults(text)
+    if path == CONTRACTS:
+        yield from contract_faults(text)
     if path == PROMISES:
         yield from promise_faults(text)
         yield from excerpt_faults(text)
