@@ -6,7 +6,6 @@ pub mod TestedRules
 pub mod FormedReport
 pub mod ShownCode
 pub mod CodeWhy
-pub mod EvalAnswers
 -- Bookkeeping: what only proofs and private contracts use.
 pub mod Explained
 pub mod CodeFound

@@ -10,9 +10,8 @@ ghost use Rattle.ocl_check.specs.JudgeText.{JudgeAnswers};
 ghost use Rattle.ocl_pipeline.specs.TextReading.{TextReading, ReadsAs};
 ghost use Rattle.ocl_check.specs.Verify.{verify_answer};
 
-use crate::explaining::{Ending, Explaining, Listener, Nobody};
-use crate::given::{Given, options_of};
 use explain_notes::Input;
+use explain_refusals::{Ending, Explaining, Given, Listener, Nobody, options_of};
 use ocl_check::{
     JudgeOptions, RulesForm, Sink, bound_inputs, compile_inputs, judge_inputs, reply_inputs,
     verify_inputs,

@@ -14,13 +14,12 @@ ghost use Rattle.ocl_explain.specs.CodeFound.{code_found_text};
 ghost use Rattle.ocl_explain.specs.CodeWhy.{rule_of_tree, rule_number, text_of_rule, code_judged_text, code_object_text, code_why_text, code_why_of, code_why_answer};
 ghost use Rattle.ocl_explain.specs.WhyAnswers.{shown_answer, why_answer};
 
-use crate::explaining::{Ending, Explaining, Nobody, Words};
-use crate::given::{Given, options_of};
 use crate::selecting::no_rule;
 use crate::unknown::{not_judged, unknown_object};
 use crate::whys::{WhyAsked, write_explanation, write_unknown};
 use code_as_ocl::MAX_INSTRUCTIONS;
 use explain_notes::Nearest;
+use explain_refusals::{Ending, Explaining, Given, Nobody, Words, options_of};
 use explain_why::{ExplainedRule, explain_rule};
 use imkl_model::ClassNo;
 use imkl_population::{ObjectNo, Population, Sizes};

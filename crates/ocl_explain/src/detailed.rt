@@ -13,9 +13,9 @@ ghost use Rattle.ocl_check.specs.Judge.{budget_answer};
 ghost use Rattle.ocl_explain.specs.Explained.{explained_within, code_explained_within};
 ghost use Rattle.ocl_explain.specs.FormedReport.{detailed_within, code_detailed_within};
 
-use crate::explaining::{Explaining, Listener};
 use crate::findings::ExplainedReport;
 use crate::weaving::{Detail, Shown};
+use explain_refusals::{Explaining, Listener};
 use imkl_population::Population;
 use ocl_check::{Outcome, Report, Telling};
 use ocl_core::CoreRule;

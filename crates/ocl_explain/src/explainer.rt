@@ -9,9 +9,9 @@ ghost use Rattle.ocl_explain.specs.ExplainedReport.{rules_explainer, code_explai
 ghost use Rattle.ocl_explain.specs.FindingView.{finding_text};
 
 use crate::code_whys::{CodeFound, find_code_verdict, rule_named, unknown_code_rule};
-use crate::explaining::Words;
 use crate::unknown::unknown_rule;
 use crate::verdicts::{Found, find_verdict, is_rule};
+use explain_refusals::Words;
 use imkl_population::{ObjectNo, Population};
 use ocl_base::OutOfMemory;
 use ocl_core::CoreRule;

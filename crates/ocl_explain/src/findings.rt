@@ -10,11 +10,9 @@ ghost use Rattle.ocl_explain.specs.Explained.{explained_within, code_explained_w
 ghost use Rattle.ocl_explain.specs.ExplainedReport.{explained_report, reported, explained_answer, ExplainedAnswers};
 
 use crate::explainer::{CodeRules, Explainer, TextRules};
-use crate::explaining::{Ending, Explaining, Listener, Nobody};
-use crate::given::{Given, options_of};
 use crate::weaving::{Shown, Wanted, explained_report};
-use crate::writing::write_answer;
 use explain_notes::Input;
+use explain_refusals::{Ending, Explaining, Given, Listener, Nobody, options_of, write_answer};
 use imkl_population::Population;
 use ocl_base::OutOfMemory;
 use ocl_check::{

@@ -10,12 +10,10 @@ ghost use Rattle.report_forms.specs.Forms.{form_of_report};
 ghost use Rattle.ocl_explain.specs.FormedReport.{context_in, detailed_within, code_detailed_within, formed_in, formed_refusal, formed_given, IsFormDue, FormAnswers};
 
 use crate::detailed::{Answered, DetailedReport};
-use crate::explaining::{Ending, Explaining, Listener};
-use crate::given::Given;
 use crate::weaving::Detail;
-use crate::writing::write_answer;
 use explain_faults::Fault;
 use explain_notes::Input;
+use explain_refusals::{Ending, Explaining, Given, Listener, write_answer};
 use imkl_population::Population;
 use ocl_check::{CommandFault, JudgeOptions, Outcome, RulesForm, Sink, Telling, stop};
 use ocl_core::CoreRule;

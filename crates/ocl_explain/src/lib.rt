@@ -3,48 +3,28 @@
 #![tactic(auto)]
 
 mod answers;
-mod characters;
 mod code_whys;
-mod console;
-mod costs;
 mod detailed;
 mod differences;
-mod endings;
-mod eval_words;
-mod evals;
 mod exampling;
 mod explainer;
-mod explaining;
-mod faults;
 mod findings;
 mod formed;
-mod given;
 mod last_error;
 mod listing;
-mod probing;
-mod ranges;
-mod refusals;
 mod schema;
 mod selecting;
 mod showing;
-mod spared;
 mod testing;
-mod texts;
 mod unknown;
 mod verdicts;
-mod warnings;
 mod weaving;
 mod whys;
-mod writing;
 
 pub use answers::{answer_bound, answer_compile, answer_desk, answer_judge, answer_verify};
 pub use code_whys::answer_why_code;
-pub use console::{ConsoleAsked, EXPRESSION, Terminal, run_console, value_line};
 pub use differences::put_differences;
-pub use eval_words::Unvalued;
-pub use evals::{EvalAsked, Valued, evaluate_expression};
 pub use exampling::{Example, ExampleAsked, find_example, rule_names};
-pub use explaining::{Ending, Listener, Words};
 pub use findings::{
     RuleAsked, answer_judge_why, answer_judge_why_code, answer_why_code_rule, answer_why_rule,
 };

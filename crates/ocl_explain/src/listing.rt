@@ -2,13 +2,11 @@
 
 ghost use Rattle.std.specs.Prelude.{◌≡◌, false, OnOk};
 
-use crate::endings::{ended, failed, model_refusal, refused};
-use crate::explaining::{Ending, Words};
-use crate::refusals::explain_rejected;
 use code_as_ocl::put_rule;
 use explain_code::{explain_code_flaw, list_counts, list_rule};
 use explain_faults::Faults;
 use explain_notes::Input;
+use explain_refusals::{Ending, Words, ended, explain_rejected, failed, model_refusal, refused};
 use imkl_model::ClassModel;
 use ocl_base::OutOfMemory;
 use ocl_check::{CommandFault, Sink};

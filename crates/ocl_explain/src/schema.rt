@@ -2,10 +2,8 @@
 
 ghost use Rattle.std.specs.Prelude.{◌≡◌, false};
 
-use crate::endings::{failed, model_refusal, refused};
-use crate::explaining::Ending;
-use crate::writing::write_answer;
 use explain_notes::Input;
+use explain_refusals::{Ending, failed, model_refusal, refused, write_answer};
 use explain_schema::schema_of;
 use imkl_model::ClassModel;
 use ocl_check::{CommandFault, Sink};

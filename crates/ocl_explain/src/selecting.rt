@@ -1,7 +1,7 @@
 //! Some rules of a text.
 
-use crate::explaining::Words;
 use explain_notes::{Input, Nearest};
+use explain_refusals::Words;
 use ocl_tokens::{TextFault, Token, TokenKind, tokens};
 use std::alloc::{AllocError, Global};
 

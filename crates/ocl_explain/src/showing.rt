@@ -6,11 +6,9 @@ ghost use Rattle.ocl_check.specs.Ending.{IsEnding};
 ghost use Rattle.ocl_check.specs.Reply.{Answer};
 ghost use Rattle.ocl_explain.specs.ShownCode.{IsShownUnit, IsShownCode, ShowAnswers};
 
-use crate::explaining::{Ending, Explaining, Nobody};
-use crate::given::{Given, options_of};
-use crate::writing::write_answer;
 use code_as_ocl::put_rules;
 use explain_notes::Input;
+use explain_refusals::{Ending, Explaining, Given, Nobody, options_of, write_answer};
 use imkl_model::ClassModel;
 use ocl_base::OutOfMemory;
 use ocl_check::{Outcome, RulesForm, Sink, stop};

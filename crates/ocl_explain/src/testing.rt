@@ -4,8 +4,8 @@ ghost use Rattle.std.specs.Prelude.{◌≡◌, option_map, IfOk};
 ghost use Rattle.ocl_explain.specs.TestedRules.{IsReport, is_as_wanted};
 
 use crate::answers::answer_judge;
-use crate::explaining::{Nobody, Words};
 use explain_notes::Input;
+use explain_refusals::{Nobody, Words};
 use ocl_check::{JudgeOptions, Outcome, Telling};
 use std::alloc::{AllocError, Global};
 

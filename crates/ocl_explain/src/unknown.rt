@@ -1,9 +1,9 @@
 //! Why there is no verdict of the rule and the object that `why` is asked for, in words.
 
-use crate::explaining::Words;
 use crate::selecting::no_rule;
 use crate::whys::WhyAsked;
 use explain_notes::Nearest;
+use explain_refusals::Words;
 use ocl_core::CoreRule;
 use std::alloc::Global;
 

@@ -12,12 +12,10 @@ ghost use Rattle.ocl_check.specs.Given.{given_answer};
 ghost use Rattle.ocl_explain.specs.Explained.{found_text, why_of};
 ghost use Rattle.ocl_explain.specs.WhyAnswers.{shown_answer, why_answer, why_text, WhyAnswers};
 
-use crate::explaining::{Ending, Explaining, Nobody, Words};
-use crate::given::{Given, options_of};
 use crate::unknown::{not_judged, unknown_object, unknown_rule};
 use crate::verdicts::{Found, find_verdict};
-use crate::writing::write_answer;
 use explain_notes::{Input, cut_text};
+use explain_refusals::{Ending, Explaining, Given, Nobody, Words, options_of, write_answer};
 use imkl_population::{Population, Sizes};
 use ocl_base::OutOfMemory;
 use ocl_check::{CommandFault, MAX_BUDGET, Outcome, RulesForm, Sink, stop};

@@ -3,11 +3,11 @@
 use crate::eval_words::EvalWords;
 use crate::files::{in_memory, print, read_file};
 use explain_notes::Input;
-use ocl_check::{CommandFault, Outcome};
-use ocl_explain::{
+use expression_values::{
     ConsoleAsked, EXPRESSION, EvalAsked, Terminal, Unvalued, evaluate_expression, run_console,
     value_line,
 };
+use ocl_check::{CommandFault, Outcome};
 use std::alloc::Global;
 use std::io::{BufRead, ErrorKind, Input as Lines};
 

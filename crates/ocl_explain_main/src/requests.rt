@@ -7,10 +7,10 @@ use crate::judging::judge;
 use crate::placing::{Places, placed};
 use crate::text_words::TextsAsked;
 use explain_notes::Input;
+use explain_refusals::{Ending, Listener, Words};
 use ocl_check::{CommandFault, Outcome, Telling};
 use ocl_explain::{
-    Ending, Listener, WithLastError, Words, answer_bound, answer_desk, answer_verify, list_code,
-    print_schema,
+    WithLastError, answer_bound, answer_desk, answer_verify, list_code, print_schema,
 };
 use ocl_programs::{DeskFiles, Request, RuleFiles, VerifyFiles};
 use std::io;

@@ -7,7 +7,7 @@ ghost use Rattle.ocl_core.specs.CoreView.{checked_rule_of};
 ghost use Rattle.ocl_core.specs.Typing.{IsTypedRule};
 ghost use Rattle.ocl_pipeline.specs.Steps.{inputs_in};
 ghost use Rattle.ocl_pipeline.specs.TextReading.{ReadsAs};
-ghost use Rattle.ocl_explain.specs.EvalAnswers.{frame, probed, IsFoundValue, IsRuleValue, IsTextValue, context_number, IsValued, HasValue};
+ghost use Rattle.expression_values.specs.EvalAnswers.{frame, probed, IsFoundValue, IsRuleValue, IsTextValue, context_number, IsValued, HasValue};
 
 use crate::eval_words::{
     Unvalued, no_class, no_object, no_part, not_alone, refused, unloaded, unread, untyped,

@@ -5,21 +5,21 @@ use ocl_check::{JudgeOptions, MAX_BUDGET, RulesForm};
 
 /// What a command is given, by which its refusals are explained.
 #[derive(Clone, Copy, Drop)]
-pub(crate) struct Given<'a> {
+pub struct Given<'a> {
     /// The class model.
-    pub(crate) model: Input<'a>,
+    pub model: Input<'a>,
     /// The delivery, if it has one.
-    pub(crate) delivery: Option<Input<'a>>,
+    pub delivery: Option<Input<'a>>,
     /// The rules, in the form that the options say.
-    pub(crate) rules: Input<'a>,
+    pub rules: Input<'a>,
     /// The script, if it has one.
-    pub(crate) script: Option<Input<'a>>,
+    pub script: Option<Input<'a>>,
     /// The form of the rules, and the budget within which they are admitted.
-    pub(crate) options: JudgeOptions,
+    pub options: JudgeOptions,
 }
 
 /// Rules as `judge` takes them where nothing else is asked.
-pub(crate) const fn options_of(form: RulesForm) -> JudgeOptions {
+pub const fn options_of(form: RulesForm) -> JudgeOptions {
     JudgeOptions {
         form,
         budget: MAX_BUDGET,

@@ -7,7 +7,7 @@ use ocl_check::{CommandFault, Outcome, Sink};
 use rule_report::write_and_flush;
 
 /// Writes an answer that has this status.
-pub(crate) fn write_answer<S: Sink>(sink: &mut S, text: &[u8], status: u8) -> Outcome
+pub fn write_answer<S: Sink>(sink: &mut S, text: &[u8], status: u8) -> Outcome
     requires { S.has_failed sink.old ≡ false }
     ensures { (is_whole : Bool) → IsEnding S.contents S.has_failed S.flushes S.has_pending
         is_whole (text.now, status) sink.old result sink.new }

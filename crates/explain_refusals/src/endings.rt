@@ -9,7 +9,7 @@ use ocl_pipeline::Refusal;
 use std::alloc::Global;
 
 /// An ending by what failed.
-pub(crate) fn failed(alloc: Global, fault: CommandFault) -> Ending {
+pub fn failed(alloc: Global, fault: CommandFault) -> Ending {
     Ending {
         outcome: Outcome::Failed(fault),
         words: Ok(String::new(alloc)),
@@ -17,7 +17,7 @@ pub(crate) fn failed(alloc: Global, fault: CommandFault) -> Ending {
 }
 
 /// An ending with nothing to say.
-pub(crate) fn ended(alloc: Global) -> Ending {
+pub fn ended(alloc: Global) -> Ending {
     Ending {
         outcome: Outcome::Status(0),
         words: Ok(String::new(alloc)),
@@ -25,7 +25,7 @@ pub(crate) fn ended(alloc: Global) -> Ending {
 }
 
 /// An ending with the words of a refusal.
-pub(crate) fn refused(alloc: Global, words: Words) -> Ending {
+pub fn refused(alloc: Global, words: Words) -> Ending {
     match words {
         Ok(words) => Ending {
             outcome: Outcome::Status(2),
@@ -36,7 +36,7 @@ pub(crate) fn refused(alloc: Global, words: Words) -> Ending {
 }
 
 /// Why a class model is refused.
-pub(crate) fn model_refusal(alloc: Global, model: Input<'_>, refusal: &Refusal) -> Words {
+pub fn model_refusal(alloc: Global, model: Input<'_>, refusal: &Refusal) -> Words {
     let mut out = Faults::new(alloc);
     if let Refusal::Model(fault) = refusal {
         explain_model(alloc, &mut out, model, *fault)?;

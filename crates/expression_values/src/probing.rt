@@ -6,7 +6,7 @@ ghost use Rattle.ocl_text.specs.Tree as surface;
 ghost use Rattle.ocl_text.specs.View.{view, rule_of};
 ghost use Rattle.ocl_core.specs.CoreView.{core_view};
 ghost use Rattle.ocl_semantics.specs.Resolved.{IsResolved};
-ghost use Rattle.ocl_explain.specs.EvalAnswers.{choice_tree, null_test, chosen_part, probe, probed_part};
+ghost use Rattle.expression_values.specs.EvalAnswers.{choice_tree, null_test, chosen_part, probe, probed_part};
 
 use ocl_core::{Core, CoreLink};
 use ocl_kinds::Kind;

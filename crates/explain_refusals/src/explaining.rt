@@ -33,7 +33,7 @@ pub struct Ending {
 }
 
 /// Watches a command, and says what it comes to.
-pub(crate) struct Explaining<'a, L> {
+pub struct Explaining<'a, L> {
     given: Given<'a>,
     listener: &'a L,
     words: Cell<Option<Words>>,
@@ -42,7 +42,7 @@ pub(crate) struct Explaining<'a, L> {
 
 impl<'a, L: Listener> Explaining<'a, L> {
     /// Watches a command that is given this.
-    pub(crate) fn new(given: Given<'a>, listener: &'a L) -> Explaining<'a, L> {
+    pub fn new(given: Given<'a>, listener: &'a L) -> Explaining<'a, L> {
         Explaining {
             given,
             listener,
@@ -52,12 +52,12 @@ impl<'a, L: Listener> Explaining<'a, L> {
     }
 
     /// What the command is given.
-    pub(crate) fn given(&self) -> Given<'a> {
+    pub fn given(&self) -> Given<'a> {
         self.given
     }
 
     /// Keeps what is said behind the answer.
-    pub(crate) fn keep(&self, words: Words) {
+    pub fn keep(&self, words: Words) {
         self.words.set(Some(words));
     }
 
@@ -82,7 +82,7 @@ impl<'a, L: Listener> Explaining<'a, L> {
     }
 
     /// Takes the faults of the input that is refused; none, where none is. An error, where memory ran out before all were found.
-    pub(crate) fn take_faults(&self, alloc: Global) -> Result<Vec<Fault>, AllocError> {
+    pub fn take_faults(&self, alloc: Global) -> Result<Vec<Fault>, AllocError> {
         match self.faults.replace(None) {
             Some(faults) => faults,
             None => Ok(Vec::new(alloc)),
@@ -90,7 +90,7 @@ impl<'a, L: Listener> Explaining<'a, L> {
     }
 
     /// The ending of the command, with what was kept.
-    pub(crate) fn ending(self, alloc: Global, outcome: Outcome) -> Ending
+    pub fn ending(self, alloc: Global, outcome: Outcome) -> Ending
         ensures { result.outcome ≡ outcome }
     {
         let Explaining {
@@ -138,7 +138,7 @@ impl<L: Listener> Watch for Explaining<'_, L> {
 
 /// Hears nothing.
 #[derive(Clone, Copy)]
-pub(crate) struct Nobody;
+pub struct Nobody;
 
 impl Listener for Nobody {
     fn hear(&self, _words: Words) {}

@@ -4,7 +4,7 @@ use Rattle.ocl_core.specs.declared.core_tree.CoreRule.{CoreRule}
 use Rattle.ocl_core.specs.CoreView.{core_view, checked_rule_of}
 use Rattle.ocl_core.specs.Typing.{IsTypedRule}
 use Rattle.ocl_semantics.proofs.ForAbove.{typed_resolved}
-use Rattle.ocl_explain.proofs.evals.value_of_typed.Goals as goal
+use Rattle.expression_values.proofs.evals.value_of_typed.Goals as goal
 
 -- in the tree of a typed rule each name is one of the class model, and so it is in a part of it
 pub value_of-requires-clause-resolved : goal.value_of-requires-clause-resolved

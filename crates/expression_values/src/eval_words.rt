@@ -1,9 +1,9 @@
 //! Why an expression has no value, in words.
 
-use crate::explaining::Words;
 use explain_faults::Faults;
 use explain_inputs::{explain_delivery, explain_model};
 use explain_notes::{Input, Note, quote};
+use explain_refusals::Words;
 use explain_text::explain_text_flaw;
 use explain_types::explain_type_flaw;
 use imkl_model::ClassModel;

@@ -117,7 +117,7 @@ fn look_at_text(
 }
 
 /// Writes why a code file, or its unit, is rejected.
-pub(crate) fn explain_rejected(
+pub fn explain_rejected(
     alloc: Global,
     out: &mut Faults,
     input: Input<'_>,

@@ -1,0 +1,2 @@
+-- Definitions: what contracts mean.
+pub mod EvalAnswers
