@@ -395,8 +395,8 @@ counts_after t n y =
     }
 
 -- an iteration with other counts
-abbrev pub counted : Turn → Counts → Turn
-counted t c = record t { kept = c.kept; trues = c.trues; falses = c.falses; invalids = c.invalids }
+abbrev pub with_counts : Turn → Counts → Turn
+with_counts t c = record t { kept = c.kept; trues = c.trues; falses = c.falses; invalids = c.invalids }
 
 -- at an element
 abbrev pub turn_at : Turn → ℕ → Turn

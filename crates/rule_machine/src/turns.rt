@@ -5,7 +5,7 @@ ghost use Rattle.std.specs.Prelude.{◌≡◌, ℕ, List, ◌∷◌};
 ghost use Rattle.rule_machine.specs.declared.piece.Piece.TheVariants.{Turning};
 ghost use Rattle.rule_machine.specs.declared.piece.Piece.{Piece as Pending};
 ghost use Rattle.rule_machine.specs.declared.piece.Turn.{Turn as ATurn};
-ghost use Rattle.rule_machine.specs.StandFor.{counted, turn_at};
+ghost use Rattle.rule_machine.specs.StandFor.{with_counts, turn_at};
 ghost use Rattle.rule_machine.specs.Shown.{IsTurning};
 
 use crate::piece::{Counts, Piece, Turn};
@@ -31,7 +31,7 @@ pub(crate) fn top_turn(pieces: &ReservedStack<Piece>) -> &Turn
 pub(crate) fn set_counts(pieces: &mut ReservedStack<Piece>, counts: Counts)
     requires { IsTurning pieces.old.0 }
     ensures items { (t : ATurn) (below : List Pending) → pieces.old.0 ≡ Turning t ∷ below →
-        pieces.new.0 ≡ Turning (counted t counts) ∷ below }
+        pieces.new.0 ≡ Turning (with_counts t counts) ∷ below }
     ensures room { pieces.new.1 ≡ pieces.old.1 }
 {
     let at = pieces.items.len() - 1;

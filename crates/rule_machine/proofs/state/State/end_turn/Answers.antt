@@ -5,7 +5,7 @@ use Rattle.rule_values.specs.Operations.{is_true, is_false, is_invalid}
 use Rattle.rule_machine.specs.declared.piece.Piece.TheVariants as piece
 use Rattle.rule_slots.specs.declared.slot.Slot.{Slot}
 use Rattle.rule_slots.specs.Slots.{lists_in, held_slots, invalid_mark, IsInHome}
-use Rattle.rule_machine.specs.StandFor.{IsAt, kept_slots, turn_after, counted}
+use Rattle.rule_machine.specs.StandFor.{IsAt, kept_slots, turn_after, with_counts}
 use Rattle.rule_machine.specs.Shown.{code_in, setting_in, task_lists, ArePiecesIn}
 use Rattle.rule_machine.proofs.Keeps.{count_low}
 use Rattle.rule_machine.proofs.MarkSteps.{Leaving, leaves}
@@ -111,7 +111,7 @@ returns-clause-over c =
     record {
       after = turn_after u more y;
       below = f.0;
-      first = c.set_counts.ensures.items u f.0 f.1 ∙ ap (λ k. piece.Turning (counted u k) ∷ f.0) c.counts_after-counts.ensures;
+      first = c.set_counts.ensures.items u f.0 f.1 ∙ ap (λ k. piece.Turning (with_counts u k) ∷ f.0) c.counts_after-counts.ensures;
       turn = record { iterates = lies.0.iterates; order = lies.0.order; within = lies.0.within; next = lies.0.next; listed = lies.0.listed };
       place = record { order = r.place.order; within = r.place.within; pending = lies.1 };
       made = λ x i n.
