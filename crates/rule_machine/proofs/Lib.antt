@@ -15,6 +15,7 @@ pub mod Theorems
 pub mod Counted
 pub mod Segments
 pub mod Stacks
+pub mod Tops
 pub mod InstrSteps
 pub mod KeptValues
 pub mod MarkSteps

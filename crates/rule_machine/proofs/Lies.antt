@@ -15,7 +15,7 @@ use Rattle.rule_machine.specs.StandFor.{IsAt, opening_turn, opening_mark}
 use Rattle.rule_machine.specs.declared.piece.Turn.{Turn}
 use Rattle.rule_machine.specs.declared.state.State.{State}
 use Rattle.rule_machine.specs.declared.task.Task.{Task}
-use Rattle.rule_machine.specs.Shown.{IsPieceIn, Kept, HasStep, BetweenIn, TurnEnded, WentOn, Stepped}
+use Rattle.rule_machine.specs.Shown.{IsPieceIn, Kept, HasStep, BetweenIn, TurnEnded, WentOn, IsOnTop, TurnOver, GoneOn, Stepped}
 
 -- a place stays where its stacks are equal to others
 pub is_with : (s : Setting) (l : Lists) (code : List Instr) (p : List Slot) (at end : ℕ) (cs cs' : List Pending) (vs vs' os os' : List Slot) (d : Configuration) → cs' ≡ cs → vs' ≡ vs → os' ≡ os → IsAt s l code p at end cs vs os d → IsAt s l code p at end cs' vs' os' d
@@ -43,6 +43,27 @@ turn_made t u last m m' m'' ended went =
 -- it stands between two turns then
 pub is_between : (t : Task) (u : Turn) (last : Slot) (m m' : State) → HasStep t m → TurnEnded t u last m m' → (d : Configuration) × BetweenIn t u last m' d
 is_between t u last m m' goes ended = let over = ended.made goes.0 goes.1 goes.2 in (over.0, over.2)
+
+-- the same of an iteration that stays on top
+pub turn_went : (t : Task) (last : Slot) (m m' m'' : State) → TurnOver t last m m' → GoneOn t last m' m'' → Stepped t m m''
+turn_went t last m m' m'' over gone =
+    record {
+      made = λ c i n. let it = over.made c i n in (it.0, it.1, gone.made over.after over.below it.0 over.first it.2);
+      place = gone.place;
+      kept = kept_joined m m' m'' over.kept gone.kept;
+    }
+
+pub on_top : (t : Task) (last : Slot) (m m' : State) → HasStep t m → TurnOver t last m m' → IsOnTop t last m'
+on_top t last m m' goes over =
+    let it = over.made goes.0 goes.1 goes.2 in
+    record { after = over.after; below = over.below; first = over.first; turn = over.turn; place = over.place; somewhere = (it.0, it.2) }
+
+-- the iteration on top is one, and so is what lies below it
+pub same_turn : (ps : List Pending) (t u : Turn) (cs ds : List Pending) → ps ≡ piece.Turning t ∷ cs → ps ≡ piece.Turning u ∷ ds → t ≡ u
+same_turn ps t u cs ds e f = let both = sym e ∙ f in cc
+
+pub same_below : (ps : List Pending) (t u : Turn) (cs ds : List Pending) → ps ≡ piece.Turning t ∷ cs → ps ≡ piece.Turning u ∷ ds → cs ≡ ds
+same_below ps t u cs ds e f = let both = sym e ∙ f in cc
 
 -- the items that are left when the topmost is taken
 pub tail_taken : {A : Type 0} (r : Option A) (old new : List A) (y : A) (ys : List A) → MatchOption r ((old ≡ []) × (new ≡ [])) (λ x. old ≡ x ∷ new) → old ≡ y ∷ ys → new ≡ ys

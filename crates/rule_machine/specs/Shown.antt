@@ -245,6 +245,39 @@ pub record TurnEnded (t : Task) (after : Turn) (last : Slot) (old new : State) :
   pub place : LiesIn t new
   pub kept : Kept old new
 
+-- an iteration in a turn comes first
+abbrev pub IsTurning : List Pending → Type 0
+IsTurning ps = (t : Turn) × (cs : List Pending) × (ps ≡ piece.Turning t ∷ cs)
+
+-- the iteration comes first, with this piece, and stands between two turns
+abbrev pub BetweenOnTop : Task → Turn → List Pending → Slot → State → Configuration → Type 0
+BetweenOnTop t after below last m d = Between (setting_in t) (task_lists t) (code_in t) m.pool.items after last below m.variables.0 m.operands.0 d
+
+-- an iteration that comes first has ended a turn
+pub record IsOnTop (t : Task) (last : Slot) (m : State) : Type 0 where
+  pub after : Turn
+  pub below : List Pending
+  pub first : m.pieces.0 ≡ piece.Turning after ∷ below
+  pub turn : IsTurnIn (code_in t) after
+  pub place : LiesInAt (code_in t) m.at m.end below
+  pub somewhere : (d : Configuration) × BetweenOnTop t after below last m d
+
+-- the step that ends the turn leads there
+pub record TurnOver (t : Task) (last : Slot) (old new : State) : Type 0 where
+  pub after : Turn
+  pub below : List Pending
+  pub first : new.pieces.0 ≡ piece.Turning after ∷ below
+  pub turn : IsTurnIn (code_in t) after
+  pub place : LiesInAt (code_in t) new.at new.end below
+  pub made : (c : Configuration) → Is t old c → HasNext (step (setting_in t) c) → (d : Configuration) × (step (setting_in t) c ≡ Some d) × BetweenOnTop t after below last new d
+  pub kept : Kept old new
+
+-- and from there it goes on to its next turn, or to its end
+pub record GoneOn (t : Task) (last : Slot) (old new : State) : Type 0 where
+  pub made : (after : Turn) (below : List Pending) (d : Configuration) → old.pieces.0 ≡ piece.Turning after ∷ below → BetweenOnTop t after below last old d → Is t new d
+  pub place : LiesIn t new
+  pub kept : Kept old new
+
 -- ---- starts
 
 -- before the first step of the rule for an object, with nothing of an earlier run in the pool

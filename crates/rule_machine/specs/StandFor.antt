@@ -24,6 +24,7 @@ use Rattle.rule_slots.specs.Slots.{Lists, ElementsAre, PartIs, SlotIs, SlotsAre,
 use Rattle.rule_slots.specs.Operands.{is_number, known_slot}
 use Rattle.rule_slots.specs.Compared.{covers}
 use Rattle.rule_machine.specs.declared.piece.Turn.{Turn}
+use Rattle.rule_machine.specs.declared.piece.Counts.{Counts}
 use Rattle.rule_machine.specs.declared.piece.Piece.{Piece as Pending}
 use Rattle.rule_machine.specs.declared.piece.Piece.TheVariants as piece
 use Rattle.rule_machine.specs.Counts.{Balanced, LeavesOne}
@@ -382,3 +383,21 @@ turn_after t n y =
       falses = one_more_if (gives_truths t.instr && is_number y (pos 0)) t.falses;
       invalids = one_more_if (invalid_mark y.mark) t.invalids;
     }
+
+-- the same as what an iteration counts alone
+abbrev pub counts_after : Turn → ℕ → Slot → Counts
+counts_after t n y =
+    record {
+      kept = t.kept + n;
+      trues = one_more_if (gives_truths t.instr && is_number y (pos 1)) t.trues;
+      falses = one_more_if (gives_truths t.instr && is_number y (pos 0)) t.falses;
+      invalids = one_more_if (invalid_mark y.mark) t.invalids;
+    }
+
+-- an iteration with other counts
+abbrev pub with_counts : Turn → Counts → Turn
+with_counts t c = record t { kept = c.kept; trues = c.trues; falses = c.falses; invalids = c.invalids }
+
+-- at an element
+abbrev pub turn_at : Turn → ℕ → Turn
+turn_at t n = record t { next = n }

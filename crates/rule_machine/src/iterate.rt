@@ -4,17 +4,19 @@ ghost use Rattle.std.specs.Prelude.{◌≡◌, ◌+◌, ◌<◌, ◌≤◌, ◌�
 ghost use Rattle.rule_verify.specs.UnitRules.{unit_rule, takes_memory};
 ghost use Rattle.rule_machine.specs.Machine.{Configuration};
 ghost use Rattle.rule_machine.specs.declared.piece.Piece.TheVariants.{LetEnd, Opened, Turning, Skipped};
+ghost use Rattle.rule_machine.specs.declared.piece.Turn.{Turn as ATurn};
 ghost use Rattle.rule_machine.specs.declared.piece.Piece.{Piece as Pending};
 ghost use Rattle.rule_slots.specs.declared.slot.Slot.{Slot as Held};
 ghost use Rattle.rule_machine.specs.StandFor.{TellsDistinct, bound_slots, gives_part, given_pool};
-ghost use Rattle.rule_machine.specs.Shown.{code_in, task_lists, IsTurnIn, LiesIn, BetweenIn, WentOn, TurnEnded, HasStep, IsFirstMark, Same, Stepped, Room};
+ghost use Rattle.rule_machine.specs.Shown.{code_in, task_lists, IsTurnIn, LiesIn, BetweenIn, WentOn, TurnEnded, IsTurning, IsOnTop, TurnOver, GoneOn, HasStep, IsFirstMark, Same, Stepped, Room};
 
-use crate::iteration_results::{iteration_result, kept_part, turn_after};
+use crate::iteration_results::{counts_after, iteration_result, kept_part};
 use crate::keeping::keep;
 use crate::piece::{Piece, Turn};
 use crate::stack::ReservedStack;
 use crate::state::State;
 use crate::task::Task;
+use crate::turns::{set_counts, set_next, top_turn};
 use ocl_base::OutOfMemory;
 use rule_code::Instr;
 use rule_slots::{Slot, are_distinct, element, invalid_slot};
@@ -51,7 +53,7 @@ impl State {
                 self.first_turn(task, turn);
                 Ok(())
             }
-            Piece::Turning(turn) => self.next_turn(task, turn),
+            Piece::Turning(_) => self.next_turn(task),
             Piece::Rest(_, _) => unreachable!(),
         }
     }
@@ -99,11 +101,12 @@ impl State {
         self.go_on(task, turn, start);
     }
 
-    /// The next turn of an iteration, or its end: what its body gave is kept.
-    fn next_turn(&mut self, task: Task<'_>, turn: Turn) -> Result<(), OutOfMemory>
+    /// The next turn of an iteration, or its end: what its body gave is kept. The iteration is changed where it stands.
+    #[inline(always)]
+    fn next_turn(&mut self, task: Task<'_>) -> Result<(), OutOfMemory>
         requires place { LiesIn task self.old }
         requires at_end { self.old.at ≡ self.old.end }
-        requires top { (cs : List Pending) × (self.old.pieces.0 ≡ Turning turn ∷ cs) }
+        requires turning { IsTurning self.old.pieces.0 }
         requires goes { HasStep task self.old }
         requires room { Room self.old }
         ensures made { OnOk result (Stepped task.entry self.old self.new) }
@@ -111,8 +114,13 @@ impl State {
         ensures spare { takes_memory (unit_rule task.entry.accepted.now.unit task.entry.rule) ≡ false
             → IsOk result }
     {
-        let (turn, last) = self.end_turn(task, turn)?;
-        self.go_on(task, turn, last);
+        let last = self.end_turn(task)?;
+        let turn = top_turn(&self.pieces);
+        if turn.next < turn.source.count {
+            self.repeat(task, last);
+        } else {
+            self.finish(task, last);
+        }
         Ok(())
     }
 
@@ -141,20 +149,22 @@ impl State {
     }
 
     /// Ends a turn: what its body gave is kept, and the pool is cut back to that. Where memory runs out, the machine
-    /// stands as before. Tells the turn to go on with, and what the body gave.
-    fn end_turn(&mut self, task: Task<'_>, turn: Turn) -> Result<(Turn, Slot), OutOfMemory>
+    /// stands as before. Gives what the body gave.
+    #[inline(always)]
+    fn end_turn(&mut self, task: Task<'_>) -> Result<Slot, OutOfMemory>
         requires place { LiesIn task self.old }
         requires at_end { self.old.at ≡ self.old.end }
-        requires top { (cs : List Pending) × (self.old.pieces.0 ≡ Turning turn ∷ cs) }
+        requires turning { IsTurning self.old.pieces.0 }
         requires goes { HasStep task self.old }
         requires room { Room self.old }
-        ensures over { IfOk result (λ next. TurnEnded task.entry next.0 next.1 self.old self.new) }
+        ensures over { IfOk result (λ last. TurnOver task.entry last self.old self.new) }
         ensures at_end { OnOk result (self.new.at ≡ self.new.end) }
         ensures room { OnOk result (Room self.new) }
         ensures refused { OnErr result (Same task.entry self.old self.new) }
         ensures spare { takes_memory (unit_rule task.entry.accepted.now.unit task.entry.rule) ≡ false
             → IsOk result }
     {
+        let turn = top_turn(&self.pieces);
         let Some(value) = self.operands.top() else {
             unreachable!()
         };
@@ -166,10 +176,44 @@ impl State {
             unreachable!()
         };
         self.variables.drop_top(bound_count(turn.instr));
+        let counts = counts_after(turn, more, value);
+        set_counts(&mut self.pieces, counts);
+        Ok(value)
+    }
+
+    /// Begins the turn of the next element, with the iteration on top.
+    #[inline(always)]
+    fn repeat(&mut self, task: Task<'_>, last: Slot)
+        requires on_top { IsOnTop task last self.old }
+        requires left { (t : ATurn) (below : List Pending) → self.old.pieces.0 ≡ Turning t ∷ below →
+            t.next < t.source.count }
+        requires room { Room self.old }
+        ensures { GoneOn task.entry last self.old self.new }
+    {
+        let turn = *top_turn(&self.pieces);
+        let taken = element(task.lists(), &self.pool, turn.source, turn.next);
+        bind_turn(&mut self.variables, turn.instr, taken, last);
+        self.at = turn.from;
+        self.end = turn.end;
+        let following = turn.next + 1;
+        set_next(&mut self.pieces, following);
+    }
+
+    /// Ends the iteration on top, with no element left.
+    #[inline(never)]
+    fn finish(&mut self, task: Task<'_>, last: Slot)
+        requires at_end { self.old.at ≡ self.old.end }
+        requires on_top { IsOnTop task last self.old }
+        requires all { (t : ATurn) (below : List Pending) → self.old.pieces.0 ≡ Turning t ∷ below →
+            t.next ≡ t.source.count }
+        requires room { Room self.old }
+        ensures { GoneOn task.entry last self.old self.new }
+    {
+        let turn = *top_turn(&self.pieces);
         let Some(_) = self.pieces.pop() else {
             unreachable!()
         };
-        Ok((turn_after(turn, more, value), value))
+        self.end_turns(task, turn, last);
     }
 
     /// From between two turns to the next turn, or to the end of the iteration.

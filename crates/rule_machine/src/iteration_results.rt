@@ -2,9 +2,9 @@
 
 ghost use Rattle.std.specs.Prelude.{◌≡◌, ◌+◌, ◌-◌, ◌<◌, ◌^◌, ℕ, true, IsSome, if◌then◌else◌};
 ghost use Rattle.rule_slots.specs.Slots.{invalid_slot};
-ghost use Rattle.rule_machine.specs.StandFor.{gives_truths, all_decided, kept_part, slot_if, ending_slot, one_more_if, turn_after};
+ghost use Rattle.rule_machine.specs.StandFor.{gives_truths, all_decided, kept_part, slot_if, ending_slot, one_more_if, counts_after};
 
-use crate::piece::Turn;
+use crate::piece::{Counts, Turn};
 use rule_code::Instr;
 use rule_slots::{Slot, invalid_slot, is_false, is_true, known_slot, part_slot, truth_slot};
 use rule_verify::{BlockInstr, block_of};
@@ -74,22 +74,22 @@ fn one_more_if(passes: bool, n: usize) -> usize
     if passes { n + 1 } else { n }
 }
 
-/// An iteration after a turn, which adds so many elements to what it keeps.
-pub(crate) fn turn_after(turn: Turn, more: usize, value: Slot) -> Turn
-    requires kept { turn.kept + more < 2 ^ 64 }
-    requires trues { gives_truths turn.instr ≡ true → turn.trues < 2 ^ 64 - 1 }
-    requires falses { gives_truths turn.instr ≡ true → turn.falses < 2 ^ 64 - 1 }
-    requires invalids { turn.invalids < 2 ^ 64 - 1 }
-    ensures { result ≡ turn_after turn more value }
+/// What an iteration keeps and has counted after a turn, which adds so many elements to what it keeps.
+#[inline(always)]
+pub(crate) fn counts_after(turn: &Turn, more: usize, value: Slot) -> Counts
+    requires kept { turn.now.kept + more < 2 ^ 64 }
+    requires trues { gives_truths turn.now.instr ≡ true → turn.now.trues < 2 ^ 64 - 1 }
+    requires falses { gives_truths turn.now.instr ≡ true → turn.now.falses < 2 ^ 64 - 1 }
+    requires invalids { turn.now.invalids < 2 ^ 64 - 1 }
+    ensures { result ≡ counts_after turn.now more value }
 {
     let is_test = gives_truths(turn.instr);
     let is_true = is_test && is_true(value);
     let is_false = is_test && is_false(value);
-    Turn {
+    Counts {
         kept: turn.kept + more,
         trues: one_more_if(is_true, turn.trues),
         falses: one_more_if(is_false, turn.falses),
         invalids: one_more_if(value.is_invalid(), turn.invalids),
-        ..turn
     }
 }

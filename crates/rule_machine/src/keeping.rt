@@ -134,19 +134,19 @@ fn keep_instances(
 pub(crate) fn keep(
     lists: Lists<'_>,
     pool: &mut Vec<Slot>,
-    turn: Turn,
+    turn: &Turn,
     element: Slot,
     value: Slot,
 ) -> Result<usize, OutOfMemory>
-    requires at { turn.opened + turn.kept ≤ length pool.old.items }
-    requires there { (n : ℕ) → turn.instr ≡ CollectFlat n → invalid_mark value.mark ≡ false →
+    requires at { turn.now.opened + turn.now.kept ≤ length pool.old.items }
+    requires there { (n : ℕ) → turn.now.instr ≡ CollectFlat n → invalid_mark value.mark ≡ false →
         IsInHome (lists_in lists) (length pool.old.items) value }
-    ensures kept { OnOk result (pool.new.items ≡ take (turn.opened + turn.kept) pool.old.items ++
-        kept_slots (lists_in lists.entry) pool.old.items turn.instr element value) }
+    ensures kept { OnOk result (pool.new.items ≡ take (turn.now.opened + turn.now.kept) pool.old.items ++
+        kept_slots (lists_in lists.entry) pool.old.items turn.now.instr element value) }
     ensures count { IfOk result (λ n. n ≡ length (kept_slots (lists_in lists.entry) pool.old.items
-        turn.instr element value)) }
+        turn.now.instr element value)) }
     ensures refused { OnErr result (pool.new.items ≡ pool.old.items) }
-    ensures spare { gathers turn.instr ≡ false → IsOk result }
+    ensures spare { gathers turn.now.instr ≡ false → IsOk result }
 {
     let at = turn.opened + turn.kept;
     match block_of(turn.instr) {

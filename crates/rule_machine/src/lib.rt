@@ -17,6 +17,7 @@ mod stack;
 mod state;
 mod step;
 mod task;
+mod turns;
 mod verdict;
 
 pub use machine::Machine;

@@ -28,6 +28,19 @@ pub(crate) struct Turn {
     pub(crate) invalids: usize,
 }
 
+/// What an iteration keeps and has counted, after a turn.
+#[derive(Clone, Copy)]
+pub(crate) struct Counts {
+    /// How many elements it keeps.
+    pub(crate) kept: usize,
+    /// How many bodies were true.
+    pub(crate) trues: usize,
+    /// How many were false.
+    pub(crate) falses: usize,
+    /// How many were invalid.
+    pub(crate) invalids: usize,
+}
+
 /// A piece of what is pending after the sequence that runs: the machine's form of `Piece` in `specs/Machine.antt`.
 /// Definitions import it as `Pending`.
 #[derive(Clone, Copy)]

@@ -10,7 +10,7 @@ use std::marker::Model;
 /// A stack. Contracts see its items, the topmost first, and for how many there is room.
 #[derive(Drop)]
 pub(crate) struct ReservedStack<T> {
-    items: Vec<T>,
+    pub(crate) items: Vec<T>,
 }
 
 impl<T> Model for ReservedStack<T> {

@@ -5,8 +5,8 @@ use Rattle.rule_values.specs.Operations.{is_true, is_false, is_invalid}
 use Rattle.rule_machine.specs.declared.piece.Piece.TheVariants as piece
 use Rattle.rule_slots.specs.declared.slot.Slot.{Slot}
 use Rattle.rule_slots.specs.Slots.{lists_in, held_slots, invalid_mark, IsInHome}
-use Rattle.rule_machine.specs.StandFor.{IsAt, Between, kept_slots, turn_after}
-use Rattle.rule_machine.specs.Shown.{code_in, setting_in, task_lists, IsTurnIn, ArePiecesIn}
+use Rattle.rule_machine.specs.StandFor.{IsAt, kept_slots, turn_after, with_counts}
+use Rattle.rule_machine.specs.Shown.{code_in, setting_in, task_lists, ArePiecesIn}
 use Rattle.rule_machine.proofs.Keeps.{count_low}
 use Rattle.rule_machine.proofs.MarkSteps.{Leaving, leaves}
 use Rattle.rule_machine.proofs.TurnEnds.{end_of, turn_over, flat_within, same_front}
@@ -17,12 +17,13 @@ unreachable-requires c =
     let m = c.args.self.now in
     let r = c.requires in
     let t = c.args.task in
-    let u = c.args.turn in
+    let u = c.top_turn-turn.result.now in
+    let f = c.top_turn-turn.ensures in
     let s = setting_in t in
     let l = task_lists t in
     let code = code_in t in
     let p = m.pool.items in
-    let e0 = end_of s l code p m.at m.end u r.top.0 m.variables.0 m.operands.0 r.goes.0 r.at_end (subst (λ x. IsAt s l code p m.at m.end x m.variables.0 m.operands.0 r.goes.0) r.top.1 r.goes.1) r.goes.2 in
+    let e0 = end_of s l code p m.at m.end u f.0 m.variables.0 m.operands.0 r.goes.0 r.at_end (subst (λ x. IsAt s l code p m.at m.end x m.variables.0 m.operands.0 r.goes.0) f.1 r.goes.1) r.goes.2 in
     let none = c.in_default.ensures in
     let there = e0.ops_are in
     cc (none, there)
@@ -32,52 +33,56 @@ keep-requires-clause-there c =
     let m = c.args.self.now in
     let r = c.requires in
     let t = c.args.task in
-    let u = c.args.turn in
+    let u = c.top_turn-turn.result.now in
+    let f = c.top_turn-turn.ensures in
     let s = setting_in t in
     let l = task_lists t in
     let code = code_in t in
     let p = m.pool.items in
-    let e0 = end_of s l code p m.at m.end u r.top.0 m.variables.0 m.operands.0 r.goes.0 r.at_end (subst (λ x. IsAt s l code p m.at m.end x m.variables.0 m.operands.0 r.goes.0) r.top.1 r.goes.1) r.goes.2 in
+    let e0 = end_of s l code p m.at m.end u f.0 m.variables.0 m.operands.0 r.goes.0 r.at_end (subst (λ x. IsAt s l code p m.at m.end x m.variables.0 m.operands.0 r.goes.0) f.1 r.goes.1) r.goes.2 in
     let y : e0.y ≡ c.in-Some.value.now = let a = e0.ops_are in let b = c.in-Some.ensures.1 in cc (a, b) in
-    λ n is no. subst (λ q. IsInHome q (length p) c.in-Some.value.now) (sym c.lists-lists.ensures) (subst (λ x. IsInHome l (length p) x) y (flat_within s l code p p u r.top.0 (drop (bound_count u.instr) m.variables.0) e0.y e0.os1 r.goes.0 n e0.leaving is (ap (λ (x : Slot). invalid_mark x.mark) y ∙ no)))
+    λ n is no. subst (λ q. IsInHome q (length p) c.in-Some.value.now) (sym c.lists-lists.ensures) (subst (λ x. IsInHome l (length p) x) y (flat_within s l code p p u f.0 (drop (bound_count u.instr) m.variables.0) e0.y e0.os1 r.goes.0 n e0.leaving is (ap (λ (x : Slot). invalid_mark x.mark) y ∙ no)))
 
-pub turn_after-requires-clause-trues : goal.turn_after-requires-clause-trues
-turn_after-requires-clause-trues c =
+pub counts_after-counts-requires-clause-trues : goal.counts_after-counts-requires-clause-trues
+counts_after-counts-requires-clause-trues c =
     let m = c.args.self.now in
     let r = c.requires in
     let t = c.args.task in
-    let u = c.args.turn in
+    let u = c.top_turn-turn.result.now in
+    let f = c.top_turn-turn.ensures in
     let s = setting_in t in
     let l = task_lists t in
     let code = code_in t in
     let p = m.pool.items in
-    let e0 = end_of s l code p m.at m.end u r.top.0 m.variables.0 m.operands.0 r.goes.0 r.at_end (subst (λ x. IsAt s l code p m.at m.end x m.variables.0 m.operands.0 r.goes.0) r.top.1 r.goes.1) r.goes.2 in
+    let e0 = end_of s l code p m.at m.end u f.0 m.variables.0 m.operands.0 r.goes.0 r.at_end (subst (λ x. IsAt s l code p m.at m.end x m.variables.0 m.operands.0 r.goes.0) f.1 r.goes.1) r.goes.2 in
     λ k. omega (arith, e0.leaving.turn.trues k, count_low is_true e0.leaving.bodies, e0.leaving.turns)
 
-pub turn_after-requires-clause-falses : goal.turn_after-requires-clause-falses
-turn_after-requires-clause-falses c =
+pub counts_after-counts-requires-clause-falses : goal.counts_after-counts-requires-clause-falses
+counts_after-counts-requires-clause-falses c =
     let m = c.args.self.now in
     let r = c.requires in
     let t = c.args.task in
-    let u = c.args.turn in
+    let u = c.top_turn-turn.result.now in
+    let f = c.top_turn-turn.ensures in
     let s = setting_in t in
     let l = task_lists t in
     let code = code_in t in
     let p = m.pool.items in
-    let e0 = end_of s l code p m.at m.end u r.top.0 m.variables.0 m.operands.0 r.goes.0 r.at_end (subst (λ x. IsAt s l code p m.at m.end x m.variables.0 m.operands.0 r.goes.0) r.top.1 r.goes.1) r.goes.2 in
+    let e0 = end_of s l code p m.at m.end u f.0 m.variables.0 m.operands.0 r.goes.0 r.at_end (subst (λ x. IsAt s l code p m.at m.end x m.variables.0 m.operands.0 r.goes.0) f.1 r.goes.1) r.goes.2 in
     λ k. omega (arith, e0.leaving.turn.falses k, count_low is_false e0.leaving.bodies, e0.leaving.turns)
 
-pub turn_after-requires-clause-invalids : goal.turn_after-requires-clause-invalids
-turn_after-requires-clause-invalids c =
+pub counts_after-counts-requires-clause-invalids : goal.counts_after-counts-requires-clause-invalids
+counts_after-counts-requires-clause-invalids c =
     let m = c.args.self.now in
     let r = c.requires in
     let t = c.args.task in
-    let u = c.args.turn in
+    let u = c.top_turn-turn.result.now in
+    let f = c.top_turn-turn.ensures in
     let s = setting_in t in
     let l = task_lists t in
     let code = code_in t in
     let p = m.pool.items in
-    let e0 = end_of s l code p m.at m.end u r.top.0 m.variables.0 m.operands.0 r.goes.0 r.at_end (subst (λ x. IsAt s l code p m.at m.end x m.variables.0 m.operands.0 r.goes.0) r.top.1 r.goes.1) r.goes.2 in
+    let e0 = end_of s l code p m.at m.end u f.0 m.variables.0 m.operands.0 r.goes.0 r.at_end (subst (λ x. IsAt s l code p m.at m.end x m.variables.0 m.operands.0 r.goes.0) f.1 r.goes.1) r.goes.2 in
     omega (arith, e0.leaving.turn.invalids, count_low is_invalid e0.leaving.bodies, e0.leaving.turns)
 
 pub returns-clause-over : goal.returns-clause-over
@@ -85,32 +90,34 @@ returns-clause-over c =
     let m = c.args.self.now in
     let r = c.requires in
     let t = c.args.task in
-    let u = c.args.turn in
+    let u = c.top_turn-turn.result.now in
+    let f = c.top_turn-turn.ensures in
     let s = setting_in t in
     let l = task_lists t in
     let code = code_in t in
     let p = m.pool.items in
     let y = c.in-Some.value.now in
-    let cs = c.pop-2.new.self.0 in
     let vs = c.drop_top.new.self.0 in
     let os = c.pop.new.self.0 in
     let p2 = c.keep.new.pool.items in
+    let e = c.element-last.result in
+    let more = c.in_ok-more.more in
     let eo = same_front m.operands.0 y _ _ os c.in-Some.ensures.1 c.in-Some-pop.ensures.items in
-    let ec = same_front m.pieces.0 (piece.Turning u) _ r.top.0 cs r.top.1 c.in-Some-pop-2.ensures.items in
-    let g : slice_get (held_slots l p u.source) (u.next - 1) ≡ Some c.element-last.result =
-    subst (λ x. slice_get (held_slots x p u.source) (u.next - 1) ≡ Some c.element-last.result) c.lists-lists.ensures (subst (λ q. slice_get (held_slots (lists_in c.lists-lists.result) q u.source) (u.next - 1) ≡ Some c.element-last.result) c.deref.ensures.value c.element-last.ensures) in
-    let kept = subst (λ x. p2 ≡ take (u.opened + u.kept) p ++ kept_slots x p u.instr c.element-last.result y) c.lists-lists.ensures c.in_ok-more.ensures.kept in
-    let count = subst (λ x. c.in_ok-more.more ≡ length (kept_slots x p u.instr c.element-last.result y)) c.lists-lists.ensures c.in_ok-more.ensures.count in
-    let lies = subst (ArePiecesIn code) ec r.place.pending in
-    let inside : IsTurnIn code (turn_after u c.in_ok-more.more y) = record { iterates = lies.0.iterates; order = lies.0.order; within = lies.0.within; next = lies.0.next; listed = lies.0.listed } in
+    let g : slice_get (held_slots l p u.source) (u.next - 1) ≡ Some e =
+    subst (λ x. slice_get (held_slots x p u.source) (u.next - 1) ≡ Some e) c.lists-lists.ensures (subst (λ q. slice_get (held_slots (lists_in c.lists-lists.result) q u.source) (u.next - 1) ≡ Some e) c.deref.ensures.value c.element-last.ensures) in
+    let kept = subst (λ x. p2 ≡ take (u.opened + u.kept) p ++ kept_slots x p u.instr e y) c.lists-lists.ensures c.in_ok-more.ensures.kept in
+    let count = subst (λ x. more ≡ length (kept_slots x p u.instr e y)) c.lists-lists.ensures c.in_ok-more.ensures.count in
+    let lies = subst (ArePiecesIn code) f.1 r.place.pending in
     record {
-      made = λ x i n.
-          let i1 = subst (λ k. IsAt s l code p m.at m.end k m.variables.0 m.operands.0 x) ec i in
-          let i2 = subst (λ k. IsAt s l code p m.at m.end (piece.Turning u ∷ cs) m.variables.0 k x) eo i1 in
-          let count_is = c.drop_top.ensures.items ∙ ap (λ k. drop k m.variables.0) c.bound_count.ensures in
-          let st = turn_over s l code p p2 u cs vs y os x c.element-last.result c.in_ok-more.more (subst (λ k. Leaving s l code p u cs k y os x) (sym count_is) (leaves s l code p m.at m.end u cs m.variables.0 y os x r.at_end i2 n)) g kept count in
-          (st.0, st.1, subst (λ k. Between s l code p2 k y cs vs os st.0) (sym c.turn_after.ensures) st.2);
-      turn = subst (IsTurnIn code) (sym c.turn_after.ensures) inside;
+      after = turn_after u more y;
+      below = f.0;
+      first = c.set_counts.ensures.items u f.0 f.1 ∙ ap (λ k. piece.Turning (with_counts u k) ∷ f.0) c.counts_after-counts.ensures;
+      turn = record { iterates = lies.0.iterates; order = lies.0.order; within = lies.0.within; next = lies.0.next; listed = lies.0.listed };
       place = record { order = r.place.order; within = r.place.within; pending = lies.1 };
-      kept = record { started = refl; count = refl; room = record { operands = c.in-Some-pop.ensures.room; variables = c.drop_top.ensures.room; pieces = c.in-Some-pop-2.ensures.room } };
+      made = λ x i n.
+          let i1 = subst (λ k. IsAt s l code p m.at m.end k m.variables.0 m.operands.0 x) f.1 i in
+          let i2 = subst (λ k. IsAt s l code p m.at m.end (piece.Turning u ∷ f.0) m.variables.0 k x) eo i1 in
+          let count_is = c.drop_top.ensures.items ∙ ap (λ k. drop k m.variables.0) c.bound_count.ensures in
+          turn_over s l code p p2 u f.0 vs y os x e more (subst (λ k. Leaving s l code p u f.0 k y os x) (sym count_is) (leaves s l code p m.at m.end u f.0 m.variables.0 y os x r.at_end i2 n)) g kept count;
+      kept = record { started = refl; count = refl; room = record { operands = c.in-Some-pop.ensures.room; variables = c.drop_top.ensures.room; pieces = c.set_counts.ensures.room } };
     }
