@@ -3,7 +3,6 @@
 #![tactic(auto)]
 
 mod answers;
-mod characters;
 mod code_whys;
 mod console;
 mod costs;
@@ -15,19 +14,16 @@ mod evals;
 mod exampling;
 mod explainer;
 mod explaining;
-mod faults;
 mod findings;
 mod formed;
 mod given;
 mod last_error;
 mod listing;
 mod probing;
-mod ranges;
 mod refusals;
 mod schema;
 mod selecting;
 mod showing;
-mod spared;
 mod testing;
 mod texts;
 mod unknown;
