@@ -73,6 +73,17 @@ def places(room, shows, file, wanted):
     return case.Case(["ocl_explain", *words], (0 if wanted == "-" else 2, wanted), found)
 
 
+def marked(room, shows, faults, text):
+    """Where a text is refused, and for what. In the text `‸` stands before each place, and the faults are those of these places."""
+    parts = written_out(text).split("‸")
+    ends = ["".join(parts[:count]) for count in range(1, len(parts))]
+    places = [(end.count("\n") + 1, len(end) - end.rfind("\n"), fault) for end, fault in zip(ends, written_out(faults).split(", "), strict=True)]
+    words = ["compile", inputs.put(room, "model.json", "catalogue.json"), case.write(room, "rules.ocl", "".join(parts)), "out.code"]
+    noted = lambda answer: re.findall(r"^rules\.ocl:(\d+):(\d+): .*\((\w+ \d+)\)$", answer.err.decode(), flags=re.MULTILINE)
+    found = lambda answer: (answer.status, sorted((int(line), int(column), fault) for line, column, fault in noted(answer)))
+    return case.Case(["ocl_explain", *words], (2, places), found)
+
+
 def rule(room, shows, context, code):
     """Why `verify` doesn't accept the code of a rule r."""
     inputs.put(room, "model.json", "catalogue.json")
@@ -240,6 +251,7 @@ FORMS = {
     "hint": hint_of("context Mantelbuis inv a: "),
     "hint of a text": hint_of(""),
     "faults of a text": places,
+    "faults at marks": marked,
     "explained hint": of_judge("hints.said", "--text", rules=None),
     "explained text": of_judge("texts.said", "--text", rules=None),
     "explained text and delivery": of_judge("texts.said", "--text", delivery=None, rules=None),

@@ -19,7 +19,39 @@ use rule_verify::Accepted;
 use same_trees::is_same_tree;
 use std::alloc::Global;
 
-/// The first instruction of a rule that is written otherwise than the one of another unit's first rule, in words.
+/// Whether two instructions read a feature, which may have a symbol of another class or of an old name.
+fn are_of_features(instruction: &Instr, other: &Instr) -> bool {
+    matches!((instruction, other), (Instr::Attr(_), Instr::Attr(_)))
+}
+
+/// The first instruction of a rule that is written otherwise than the one of another unit's first rule, in words. Those that read a
+/// feature may be passed over.
+fn first_difference(
+    alloc: Global,
+    accepted: &Accepted<'_>,
+    rule: usize,
+    again: &Accepted<'_>,
+    passes_features: bool,
+) -> Result<Option<String>, OutOfMemory>
+    requires rule { rule < length accepted.now.unit.rules }
+    requires again { 0 < length again.now.unit.rules }
+{
+    let code = &accepted.unit().rule(rule).code;
+    let others = &again.unit().rule(0).code;
+    for (index, (instruction, other)) in code.iter().zip(others.iter()).enumerate() {
+        let words = instruction_words(alloc, accepted.unit(), instruction)?;
+        let others = instruction_words(alloc, again.unit(), other)?;
+        if words != others && !(passes_features && are_of_features(instruction, other)) {
+            let why = format!(in alloc;
+                "instruction {index}, {words}, is {others} of the text below"
+            )?;
+            return Ok(Some(why));
+        }
+    }
+    Ok(None)
+}
+
+/// How a rule is written otherwise than another unit's first rule, in words.
 fn other_instruction(
     alloc: Global,
     accepted: &Accepted<'_>,
@@ -29,15 +61,8 @@ fn other_instruction(
     requires rule { rule < length accepted.now.unit.rules }
     requires again { 0 < length again.now.unit.rules }
 {
-    let code = &accepted.unit().rule(rule).code;
-    let others = &again.unit().rule(0).code;
-    for (index, (instruction, other)) in code.iter().zip(others.iter()).enumerate() {
-        let words = instruction_words(alloc, accepted.unit(), instruction)?;
-        let others = instruction_words(alloc, again.unit(), other)?;
-        if words != others {
-            let why = format!(in alloc;
-                "instruction {index}, {words}, is {others} of the text below"
-            )?;
+    for passes_features in [true, false] {
+        if let Some(why) = first_difference(alloc, accepted, rule, again, passes_features)? {
             return Ok(why);
         }
     }

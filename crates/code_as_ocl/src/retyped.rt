@@ -43,6 +43,20 @@ impl RetypedWords<'_> {
         Ok(())
     }
 
+    /// The one or two variables of an iteration at the end of a word, each with the next type.
+    fn put_elements(&mut self, out: &mut String, word: &str) -> Result<(), OutOfMemory> {
+        if let Some((before, variables)) = word.rsplit_once('(')
+            && let Some((first, second)) = variables.split_once(", ")
+        {
+            put(out, before)?;
+            put(out, "(")?;
+            self.put_element(out, first)?;
+            put(out, ", ")?;
+            return self.put_element(out, second);
+        }
+        self.put_element(out, word)
+    }
+
     /// Takes over a word before another. The type of a `let` is the third word behind it.
     fn take(&mut self, word: &str, following: &str) -> Result<(), OutOfMemory> {
         self.since_let = if is_let(word) {
@@ -60,7 +74,7 @@ impl RetypedWords<'_> {
             self.put_element(&mut out, element)?;
             put(&mut out, ";")?;
         } else if following == "|" && is_open(word) {
-            self.put_element(&mut out, word)?;
+            self.put_elements(&mut out, word)?;
         } else {
             put(&mut out, word)?;
         }

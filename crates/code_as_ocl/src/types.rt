@@ -140,7 +140,7 @@ enum Written {
     Type(Kind),
     /// No type.
     Name,
-    /// Nothing: it is that of an iteration with two variables, or the first of these.
+    /// Nothing: it is the source of an iteration with two variables.
     Nothing,
 }
 
@@ -157,7 +157,7 @@ fn written_as(kind: Option<ScalarKind>) -> Written {
 pub(crate) struct RuleTypes {
     /// Of each `let` its type, and of the variable of each iteration that has one that isn't the kind of the elements.
     pub(crate) types: Vec<Option<Kind>>,
-    /// Of each `let`, whether it is to be an iteration with two variables. Then it has no type, nor has the first of these.
+    /// Of each `let`, whether it is to be an iteration with two variables. Then it has no type.
     pub(crate) pairs: Vec<bool>,
 }
 
@@ -203,17 +203,12 @@ impl Types<'_> {
             }
             Core::Let { values, body } => {
                 let outside = self.scope.len();
-                let mut is_pair = false;
                 for index in 0..values.len() {
                     let is_last = index + 1 == values.len();
                     let is_of_pairs = is_last && is_of_pairs(body, self.scope.len());
-                    is_pair = self.bind_value(&values[index], is_of_pairs)?;
+                    self.bind_value(&values[index], is_of_pairs)?;
                 }
-                let first = self.written.len();
                 let kind = self.kind_of(body)?;
-                if is_pair {
-                    self.write(first, Written::Nothing);
-                }
                 self.scope.truncate(outside);
                 Ok(kind)
             }
@@ -232,9 +227,9 @@ impl Types<'_> {
     }
 
     /// Goes through a value, and has one more variable in scope for it. Where its body is of pairs and it has no type, an iteration
-    /// with two variables takes its place. Gives whether that is so.
+    /// with two variables takes its place.
     #[cycle(types)]
-    fn bind_value(&mut self, value: &Core, is_of_pairs: bool) -> Result<bool, OutOfMemory> {
+    fn bind_value(&mut self, value: &Core, is_of_pairs: bool) -> Result<(), OutOfMemory> {
         let place = self.open()?;
         let number = self.pairs.len();
         self.pairs.push(false)?;
@@ -242,8 +237,7 @@ impl Types<'_> {
         let given = &found;
         let chosen = self.kind_beside(value, given)?;
         let kind = &chosen;
-        let is_pair = is_of_pairs && self.is_undeclared(value, given);
-        if is_pair {
+        if is_of_pairs && self.is_undeclared(value, given) {
             self.write(place, Written::Nothing);
             self.note_pair(number);
             self.scope.push(Some(*given))?;
@@ -251,7 +245,7 @@ impl Types<'_> {
             self.write(place, Written::Type(*kind));
             self.scope.push(Some(*kind))?;
         }
-        Ok(is_pair)
+        Ok(())
     }
 
     /// Goes through a link on what is of this kind. Gives the kind of both.

@@ -1,15 +1,11 @@
 //! Why `ocl_check` refuses an input, and what of accepted rules is hardly meant: what is said behind an answer.
 #![tactic(auto)]
 
-mod characters;
 mod costs;
 mod endings;
 mod explaining;
-mod faults;
 mod given;
-mod ranges;
 mod refusals;
-mod spared;
 mod texts;
 mod warnings;
 mod writing;

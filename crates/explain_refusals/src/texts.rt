@@ -1,14 +1,13 @@
 //! Why a rule text is refused: as a text, for the types of its rules, or for a limit of code.
 
-use crate::faults::{explain_unread, explain_untyped};
 use explain_faults::Faults;
 use explain_notes::{Input, Note};
-use explain_text::explain_text_flaw;
+use explain_rules::{explain_unread, explain_untyped};
 use imkl_model::ClassModel;
 use ocl_compile::Limit;
 use ocl_pipeline::{Refusal, read_text};
 use ocl_text::SurfaceRule;
-use ocl_tokens::{TextFault, TextFlaw};
+use ocl_tokens::TextFault;
 use std::alloc::{AllocError, Global};
 
 /// What passes a limit, and how it can be made to fit.
@@ -77,21 +76,6 @@ fn explain_limit(
     )
 }
 
-/// Says why a text isn't read that has this flaw first.
-fn explain_flaw(
-    alloc: Global,
-    out: &mut Faults,
-    input: Input<'_>,
-    model: &ClassModel,
-    flaw: TextFlaw,
-    offset: usize,
-) -> Result<(), AllocError> {
-    match str::from_utf8(input.bytes) {
-        Ok(text) => explain_unread(alloc, out, input, model, text, flaw, offset),
-        Err(_) => explain_text_flaw(alloc, out, input, flaw, offset),
-    }
-}
-
 /// The rules of a text; none where it isn't read.
 pub(crate) fn rules_of(alloc: Global, input: Input<'_>) -> Result<Vec<SurfaceRule>, AllocError> {
     match read_text(alloc, input.bytes) {
@@ -109,13 +93,15 @@ pub(crate) fn explain_text(
     model: &ClassModel,
     refusal: &Refusal,
 ) -> Result<(), AllocError> {
-    if let Refusal::Text { flaw, offset } = refusal {
-        return explain_flaw(alloc, out, input, model, *flaw, *offset);
-    }
-    let rules = rules_of(alloc, input)?;
     match refusal {
-        Refusal::Types { .. } => explain_untyped(alloc, out, input, model, &rules),
-        Refusal::Compile { limit, rule } => explain_limit(alloc, out, input, &rules, *limit, *rule),
+        Refusal::Text { flaw, offset } => {
+            explain_unread(alloc, out, input, model, *flaw, *offset)
+        }
+        Refusal::Types { .. } => explain_untyped(alloc, out, input, model),
+        Refusal::Compile { limit, rule } => {
+            let rules = rules_of(alloc, input)?;
+            explain_limit(alloc, out, input, &rules, *limit, *rule)
+        }
         _ => Ok(()),
     }
 }

@@ -216,11 +216,15 @@ static NAMES: [(&str, &str); 12] = [
 ];
 
 /// Words where they can't stand.
-static WORDS: [(&str, &str); 16] = [
+static WORDS: [(&str, &str); 20] = [
     ("AND", "the word is `and`"),
+    ("Context", "the word is `context`"),
+    ("INV", "the word is `inv`"),
+    ("Inv", "the word is `inv`"),
     ("NOT", "the word is `not`"),
     ("OR", "the word is `or`"),
     ("body", ONLY_INVARIANTS),
+    ("class", "rules of a class begin with `context`"),
     (
         "def",
         "there are no definitions; give a part a name by `let`",

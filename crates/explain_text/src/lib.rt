@@ -9,4 +9,4 @@ mod wanted;
 
 pub use foreign::{instead_of_name, instead_of_type, instead_on_collection, instead_on_value};
 pub use habits::is_iteration;
-pub use text_flaws::{explain_text_flaw, is_code_file, length_of_token};
+pub use text_flaws::{explain_flaw_in, explain_text_flaw, is_code_file, length_of_token};

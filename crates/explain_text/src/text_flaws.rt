@@ -240,18 +240,28 @@ fn rule_name<'a>(tokens: &[Token<'a>], index: usize) -> Option<&'a str> {
     }
 }
 
-/// The name of the rule whose `inv` is the token of an index; one without a name is named by its number in the text.
-fn name_of(alloc: Global, tokens: &[Token<'_>], index: usize) -> Result<String, AllocError> {
-    if let Some(written) = rule_name(tokens, index) {
-        return String::from_str(alloc, written);
+/// The name of the rule of a number whose `inv` is the token of an index; one without a name is named by the number.
+fn numbered_name(
+    alloc: Global,
+    tokens: &[Token<'_>],
+    index: usize,
+    number: usize,
+) -> Result<String, AllocError> {
+    match rule_name(tokens, index) {
+        Some(written) => String::from_str(alloc, written),
+        None => format!(in alloc; "inv{number}"),
     }
+}
+
+/// The name of the rule whose `inv` is the token of an index.
+fn name_of(alloc: Global, tokens: &[Token<'_>], index: usize) -> Result<String, AllocError> {
     let mut number = 0usize;
     for (other, token) in tokens.iter().enumerate() {
         if other <= index && matches!(token.kind, TokenKind::Inv) {
             number = number.saturating_add(1);
         }
     }
-    format!(in alloc; "inv{number}")
+    numbered_name(alloc, tokens, index, number)
 }
 
 /// Where the `inv` of the first rule of this name stands.
@@ -260,9 +270,13 @@ fn first_of_name(
     tokens: &[Token<'_>],
     name: &str,
 ) -> Result<Option<usize>, AllocError> {
+    let mut number = 0usize;
     for (index, token) in tokens.iter().enumerate() {
-        if matches!(token.kind, TokenKind::Inv) && name_of(alloc, tokens, index)?.as_str() == name {
-            return Ok(Some(token.span.start));
+        if matches!(token.kind, TokenKind::Inv) {
+            number = number.saturating_add(1);
+            if numbered_name(alloc, tokens, index, number)?.as_str() == name {
+                return Ok(Some(token.span.start));
+            }
         }
     }
     Ok(None)
@@ -411,13 +425,21 @@ fn explain_bytes(
     write_saying(alloc, out, input, flaw, offset, &saying)
 }
 
-/// How many bytes the token has that begins at an offset of a text; 1 where none does.
-pub fn length_of_token(alloc: Global, bytes: &[u8], offset: usize) -> Result<usize, AllocError> {
-    let Ok(text) = str::from_utf8(bytes) else {
-        return Ok(1);
-    };
+/// How many bytes of a text are read as tokens.
+fn length_of_tokens(alloc: Global, text: &str) -> Result<usize, AllocError> {
     match tokens(alloc, text) {
-        Ok(tokens) => match token_at(&tokens, offset) {
+        Ok(_) => Ok(text.len()),
+        Err(TextFault::At { offset, .. }) => Ok(offset),
+        Err(TextFault::OutOfMemory) => Err(AllocError),
+    }
+}
+
+/// How many bytes the token has that begins at an offset of a text, whatever is behind it; 1 where none does.
+pub fn length_of_token(alloc: Global, bytes: &[u8], offset: usize) -> Result<usize, AllocError> {
+    let rest = str::from_utf8(rest_of(bytes, offset)).unwrap_or("");
+    let read = length_of_tokens(alloc, rest)?;
+    match tokens(alloc, rest.get(0..read).unwrap_or("")) {
+        Ok(tokens) => match token_at(&tokens, 0) {
             Some(token) => Ok(token.text.len()),
             None => Ok(1),
         },
@@ -458,11 +480,23 @@ pub fn explain_text_flaw(
     if is_code_file(input.bytes) {
         return explain_code_file(alloc, out, input.path, flaw);
     }
-    let Ok(text) = str::from_utf8(input.bytes) else {
-        return explain_bytes(alloc, out, input, false, flaw, offset);
-    };
-    match tokens(alloc, text) {
-        Ok(tokens) => explain_tokens(alloc, out, input, text, &tokens, flaw, offset),
+    match str::from_utf8(input.bytes) {
+        Ok(text) => explain_flaw_in(alloc, out, input, text, flaw, offset),
+        Err(_) => explain_bytes(alloc, out, input, false, flaw, offset),
+    }
+}
+
+/// Says why a rule text is refused that has this flaw at an offset, by how it is read with spaces in place of some of its parts.
+pub fn explain_flaw_in(
+    alloc: Global,
+    out: &mut Faults,
+    input: Input<'_>,
+    read: &str,
+    flaw: TextFlaw,
+    offset: usize,
+) -> Result<(), AllocError> {
+    match tokens(alloc, read) {
+        Ok(tokens) => explain_tokens(alloc, out, input, read, &tokens, flaw, offset),
         Err(TextFault::At { .. }) => explain_bytes(alloc, out, input, true, flaw, offset),
         Err(TextFault::OutOfMemory) => Err(AllocError),
     }

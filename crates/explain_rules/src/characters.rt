@@ -2,7 +2,7 @@
 //! are too large, and what never ends.
 
 use crate::faults::MAX_FAULTS;
-use crate::ranges::{part_of, put_blank};
+use crate::sections::part_of;
 use explain_faults::Faults;
 use explain_notes::Input;
 use explain_text::{explain_text_flaw, is_code_file};
@@ -12,11 +12,31 @@ use std::alloc::{AllocError, Global};
 /// The character that closes what another opens, where neither begins a token.
 fn closing(character: char) -> Option<char> {
     match character {
-        '"' => Some('"'),
         '{' => Some('}'),
         '[' => Some(']'),
         _ => None,
     }
+}
+
+/// Quotes that are no quotes of strings here, with those that close them.
+static QUOTES: [(&str, &str); 3] = [
+    ("\"", "\""),
+    ("\u{2018}", "\u{2019}"),
+    ("\u{201c}", "\u{201d}"),
+];
+
+/// Where what stands in such quotes ends that begins at an offset, in the same line; none where nothing does.
+fn end_of_quoted(text: &str, offset: usize) -> Option<usize> {
+    let line = part_of(text, offset, end_of_line(text, offset));
+    for (open, close) in &QUOTES {
+        if let Some(rest) = line.strip_prefix(*open)
+            && let Some((inside, _)) = rest.split_once(*close)
+        {
+            let length = open.len().saturating_add(inside.len());
+            return Some(offset.saturating_add(length).saturating_add(close.len()));
+        }
+    }
+    None
 }
 
 /// A text with spaces in place of the character at an offset, of the same ones right behind it, and of the next one that closes
@@ -83,6 +103,14 @@ fn end_of_fault(text: &str, flaw: TextFlaw, offset: usize) -> usize {
     }
 }
 
+/// Puts white space in place of a text, with its ends of lines.
+fn put_blank(out: &mut String, text: &[u8]) -> Result<(), AllocError> {
+    for byte in text {
+        out.push(if *byte == b'\n' { '\n' } else { ' ' })?;
+    }
+    Ok(())
+}
+
 /// A text with spaces in place of a fault.
 fn without_fault(
     alloc: Global,
@@ -90,10 +118,12 @@ fn without_fault(
     flaw: TextFlaw,
     offset: usize,
 ) -> Result<String, AllocError> {
-    if matches!(flaw, TextFlaw::BadCharacter) && !begins_comment(text, offset) {
-        return without_character(alloc, text, offset);
-    }
-    let end = end_of_fault(text, flaw, offset);
+    let is_character = matches!(flaw, TextFlaw::BadCharacter) && !begins_comment(text, offset);
+    let end = match end_of_quoted(text, offset) {
+        Some(end) if is_character => end,
+        _ if is_character => return without_character(alloc, text, offset),
+        _ => end_of_fault(text, flaw, offset),
+    };
     let mut blanked = String::from_str(alloc, part_of(text, 0, offset))?;
     put_blank(&mut blanked, part_of(text, offset, end).as_bytes())?;
     blanked.push_str(part_of(text, end, text.len()))?;
