@@ -62,7 +62,20 @@ impl<'t> Context<'t> {
         }
     }
 
-    /// A text with nothing but the context, up to an offset; none where the context has no room before it.
+    /// A text with nothing but the context, right before an offset; none where there is no room for it.
+    pub(crate) fn before(self, alloc: Global, end: usize) -> Result<Option<String>, AllocError> {
+        let class = self.class;
+        let context = format!(in alloc; "{WORD} {class} ")?;
+        let Some(start) = end.checked_sub(context.len()) else {
+            return Ok(None);
+        };
+        let mut text = String::new(alloc);
+        put_spaces(&mut text, start)?;
+        text.push_str(context.as_str())?;
+        Ok(Some(text))
+    }
+
+    /// The same with the context at its own place.
     pub(crate) fn placed(self, alloc: Global, end: usize) -> Result<Option<String>, AllocError> {
         let mut text = String::new(alloc);
         put_spaces(&mut text, self.start)?;

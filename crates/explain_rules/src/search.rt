@@ -165,8 +165,12 @@ impl<'t> Search<'t> {
             return self.explain_class(alloc, out);
         }
         self.pass(tokens, heading.start)?;
+        if is_spoiled {
+            self.context = Context::unknown();
+            return Ok(());
+        }
         self.context = Context::meant(self.model, tokens);
-        if is_spoiled || (tokens.is_empty() && !has_rule) {
+        if tokens.is_empty() && !has_rule {
             return Ok(());
         }
         let mut read = String::new(alloc);
@@ -250,7 +254,7 @@ impl<'t> Search<'t> {
         if fault.is_of_types && self.is_declared(tokens, fault.offset) {
             return Ok(());
         }
-        let placed = self.context.placed(alloc, rule.start)?;
+        let placed = self.context.before(alloc, rule.start)?;
         if !fault.is_of_types {
             self.pass(tokens, fault.offset)?;
         }
