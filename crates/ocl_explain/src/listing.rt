@@ -112,6 +112,22 @@ fn list_accepted<S: Sink>(alloc: Global, sink: &mut S, accepted: &Accepted<'_>) 
     }
 }
 
+/// Writes a unit that isn't accepted, with what its symbols name.
+fn write_resolved<S: Sink>(
+    alloc: Global,
+    sink: &mut S,
+    resolved: &Resolved<'_>,
+) -> Result<(), CommandFault>
+    requires { S.has_failed sink.old ≡ false }
+{
+    let listed = Listed {
+        unit: resolved.unit(),
+        resolved: Some(resolved),
+        accepted: None,
+    };
+    write_unit(alloc, sink, listed)
+}
+
 /// Lists a unit that isn't accepted, and says why.
 fn list_resolved<S: Sink>(
     alloc: Global,
@@ -122,12 +138,7 @@ fn list_resolved<S: Sink>(
 ) -> Ending
     requires { S.has_failed sink.old ≡ false }
 {
-    let listed = Listed {
-        unit: resolved.unit(),
-        resolved: Some(&resolved),
-        accepted: None,
-    };
-    match write_unit(alloc, sink, listed) {
+    match write_resolved(alloc, sink, &resolved) {
         Ok(()) => {
             let model = resolved.model();
             let unit = Some(resolved.into_unit());
