@@ -171,9 +171,9 @@ def why_many(room, shows, count):
     rules = f"context Mantelbuis inv r: self.omvat->select(k | true)->size() = {count}"
     more, ten = int(count) - 10, ids[:10]
     shown = "Set{" + ", ".join(ten) + f", and {more} more}}"
-    lines = ["rule r holds for M1", f"  self.omvat->select(x1 | true)->size() = {count} is true"]
-    lines += [f"    self.omvat->select(x1 | true)->size() is {count}", f"      self.omvat->select(x1 | true) is {shown}"]
-    lines += [f"        self.omvat is {shown}", *(f"        x1 is {it}" for it in ten), f"        and {more} more", ""]
+    lines = ["rule r holds for M1 : Mantelbuis", f"  self.omvat->select(k | true)->size() = {count} is true"]
+    lines += [f"    self.omvat->select(k | true)->size() is {count}", f"      self.omvat->select(k | true) is {shown}"]
+    lines += [f"        self.omvat is {shown}", *(f"        k is {it} : Elektriciteitskabel" for it in ten), f"        and {more} more", ""]
     found = lambda answer: (answer.status, answer.out.decode(), answer.err)
     words = asked(room, delivery_of([duct, *(CABLE % it for it in ids)]), "M1", rules)
     return case.Case(words, (0, "\n".join(lines), b""), found)
@@ -183,7 +183,7 @@ def why_deep(room, shows, count):
     """Why a rule of so many operators, each the source of the next, holds for a cable: each has its line."""
     part = lambda number: "self.diepte" + ".max(1)" * number
     rules = f"context KabelOfLeiding inv r: {part(int(count))} >= 600"
-    lines = ["rule r holds for E1", f"  {part(int(count))} >= 600 is true"]
+    lines = ["rule r holds for E1 : Elektriciteitskabel", f"  {part(int(count))} >= 600 is true"]
     lines += [f"{'  ' * (level + 2)}{part(int(count) - level)} is 600" for level in range(int(count) + 1)] + [""]
     found = lambda answer: (answer.status, answer.out.decode(), answer.err)
     return case.Case(asked(room, delivery_of([CABLE % "E1"]), "E1", rules), (0, "\n".join(lines), b""), found)

@@ -24,7 +24,8 @@ use Rattle.ocl_core.specs.OperatorKinds.{basic, truth_kind, class_result, elemen
 use Rattle.ocl_core.specs.Typing.{constant_kind, plain_result}
 use Rattle.ocl_semantics.specs.Evaluated.{on_null}
 use Rattle.explain_why.specs.Values.{quoted_character, kind_name, before_element}
-use Rattle.explain_why.specs.Texts.{Form, Between, Before, After, variable_name, constant_text, instances_text, feature_text, operation_text, iterate_text, choice_text, operator_form, operator_word, class_asked, wrapped}
+use Rattle.explain_why.specs.Names.{variable_name}
+use Rattle.explain_why.specs.Texts.{Form, Between, Before, After, constant_text, instances_text, feature_text, operation_text, iterate_text, choice_text, operator_form, operator_word, class_asked, wrapped}
 use Rattle.code_as_ocl.specs.WantedKinds.{let_kind}
 
 pub record Printed : Type 0 where
@@ -158,7 +159,7 @@ collection_printed c k source = printed source.text source.level (Collection c k
 
 abbrev pub iterate_printed : Iteration → ℕ → Printed → Printed → Printed
 iterate_printed i n source body =
-    printed (iterate_text i n (at_least 10 source) body.text) 10 (iteration_kind i source.kind body.kind)
+    printed (iterate_text i (variable_name n) (at_least 10 source) body.text) 10 (iteration_kind i source.kind body.kind)
 
 -- the variables of a fold, up to the accumulator's first value
 abbrev pub typed_fold_front : ℕ → List ℕ → List ℕ

@@ -7,7 +7,7 @@ ghost use Rattle.ocl_core.specs.Core as tree;
 ghost use Rattle.ocl_core.specs.CoreView.{core_view, constant_of};
 ghost use Rattle.ocl_semantics.specs.Resolved.{IsOperatorOf, IsResolved, AreResolved};
 ghost use Rattle.ocl_semantics.specs.Evaluated.{IsLinkResolved, AreLinksResolved, on_null};
-ghost use Rattle.explain_why.specs.Texts.{text_of};
+ghost use Rattle.ocl_core.specs.Typing.{IsConstantOf};
 ghost use Rattle.code_as_ocl.specs.TypedTexts as typed;
 ghost use Rattle.code_as_ocl.specs.PrintedView.{printed_view};
 
@@ -19,8 +19,8 @@ use crate::levels::{first_level, operator_level, others_level};
 use crate::quoted::whole_text;
 use crate::wanted::let_kind;
 use explain_why::{
-    Form, class_asked, expression_text, iteration_word, next, operator_form, operator_word, put,
-    put_variable, put_wrapped,
+    Form, class_asked, iteration_word, next, operator_form, operator_word, put, put_all_instances,
+    put_constant, put_variable, put_wrapped,
 };
 use imkl_model::{ClassModel, CollectionKind, FeatureNo};
 use ocl_base::OutOfMemory;
@@ -234,51 +234,40 @@ fn operation_printed(
     })
 }
 
-/// A leaf by its kind.
-fn leaf_printed(
-    alloc: Global,
-    model: &ClassModel,
-    core: &Core,
-    kinds: &[Kind],
-    kind: Kind,
-) -> Result<TypedText, OutOfMemory>
-    requires { IsResolved model.now (core_view core.now) }
-    ensures { IfOk result (λ t. printed_view t ≡ typed.printed
-        (text_of model.now (core_view core.now) (length kinds.now)) 10 kind) }
+/// A text that binds as a name does.
+fn leaf_printed(text: String, kind: Kind) -> TypedText
+    ensures { printed_view result ≡ typed.printed (string_bytes text) 10 kind }
 {
-    let text = expression_text(alloc, model, core, kinds.len())?;
-    Ok(TypedText {
+    TypedText {
         text,
         level: 10,
         kind,
-    })
+    }
 }
 
-/// A constant, which is a tree; a text whole.
+/// A constant; a text whole.
 fn constant_printed(
     alloc: Global,
     model: &ClassModel,
-    core: &Core,
     value: &ConstantValue,
-    kinds: &[Kind],
 ) -> Result<TypedText, OutOfMemory>
-    requires resolved { IsResolved model.now (core_view core.now) }
-    requires value { core_view core.now ≡ tree.Value (constant_of value.now) }
+    requires { IsConstantOf model.now (constant_of value.now) }
     ensures { IfOk result (λ t. printed_view t ≡
         typed.constant_printed model.now (constant_of value.now)) }
 {
-    match value {
-        ConstantValue::Text(text) => Ok(TypedText {
-            text: whole_text(alloc, text)?,
-            level: 10,
-            kind: constant_kind(value),
-        }),
+    let text = match value {
+        ConstantValue::Text(text) => whole_text(alloc, text)?,
         ConstantValue::Boolean(_)
         | ConstantValue::Integer(_)
         | ConstantValue::Literal(_, _)
         | ConstantValue::Null
-        | ConstantValue::Invalid => leaf_printed(alloc, model, core, kinds, constant_kind(value)),
-    }
+        | ConstantValue::Invalid => {
+            let mut text = String::new(alloc);
+            put_constant(alloc, &mut text, model, value)?;
+            text
+        }
+    };
+    Ok(leaf_printed(text, constant_kind(value)))
 }
 
 /// What stands before the body of values, and the kinds of the variables that it sees.
@@ -321,13 +310,17 @@ pub(crate) fn printed_of(
         typed.printed_of model.now (core_view core.now) kinds.now) }
 {
     match core {
-        Core::Constant { value } => constant_printed(alloc, model, core, value, kinds),
+        Core::Constant { value } => constant_printed(alloc, model, value),
         Core::Variable { number } => {
-            leaf_printed(alloc, model, core, kinds, variable_kind(kinds, *number))
+            let mut text = String::new(alloc);
+            put_variable(alloc, &mut text, *number)?;
+            Ok(leaf_printed(text, variable_kind(kinds, *number)))
         }
         Core::AllInstances { class } => {
+            let mut text = String::new(alloc);
+            put_all_instances(&mut text, model, *class)?;
             let kind = Kind::Collection(CollectionKind::Set, ScalarKind::Class(*class));
-            leaf_printed(alloc, model, core, kinds, kind)
+            Ok(leaf_printed(text, kind))
         }
         Core::Spine { first, links } => {
             let text = printed_of(alloc, model, first, kinds)?;

@@ -1,5 +1,5 @@
 -- What is left: characters of a text, the first elements of a list, and links.
-use Rattle.std.proofs.Common.{◌≡◌, ℕ, zero, suc, Bool, true, false, List, [], ◌∷◌, ◌++◌, length, take, drop, Option, Some, None, refl, sym, ap, ◌∙◌, subst, append_assoc}
+use Rattle.std.proofs.Common.{◌≡◌, ℕ, zero, suc, Bool, true, false, not, List, [], ◌∷◌, ◌++◌, length, take, drop, Option, Some, None, refl, sym, ap, ◌∙◌, subst, append_assoc}
 use Rattle.imkl_population.specs.Population.{Population}
 use Rattle.imkl_population.specs.Consistency.{IsConsistent}
 use Rattle.ocl_core.specs.Core.{CoreTrees, no_core, one_core}
@@ -16,6 +16,15 @@ use Rattle.std.proofs.lemmas.List.{append-nil, nil_from_length, take-map}
 use Rattle.owned_values.specs.declared.value.Element.{Element as OwnedElement}
 use Rattle.owned_values.specs.Meant.{meant_element, meant_elements, IsElementThere, IsValueThere, AreElementsThere}
 use Rattle.explain_why.specs.Turns.{Turn, turns_from, changes, breaks, last_number, is_told, max_turns, told_by, told_turns, IsTurnThere, AreTurnsThere}
+
+-- a truth value by its negation
+pub is_so : (b : Bool) → not b ≡ false → b ≡ true
+is_so true h = refl
+is_so false h = sym h
+
+pub not_true : (b : Bool) → not b ≡ true → b ≡ false
+not_true true h = sym h
+not_true false h = refl
 
 -- the first n of no characters are none
 nothing_taken : (n : ℕ) (xs : List ℕ) → xs ≡ [] → take n xs ≡ []

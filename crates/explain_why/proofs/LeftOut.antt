@@ -10,19 +10,12 @@ use Rattle.rule_values.specs.Operations.{is_true, is_false, truth_known, conjunc
 use Rattle.ocl_semantics.specs.Meaning.{plain_value}
 use Rattle.explain_why.specs.Explanation.{first_decides, second_decides}
 use Rattle.explain_why.specs.Laws.{OthersDecideNothing, FirstDecidesNothing}
+use Rattle.explain_why.proofs.Left.{is_so, not_true}
 
 -- what is false isn't true
 false_alone : (v : Value) → is_false v ≡ true → is_true v ≡ false
-false_alone (Single (scalar.Bool b)) h = negated b h
-  where
-    negated : (b : Bool) → not b ≡ true → b ≡ false
-    negated true h = sym h
-    negated false h = refl
+false_alone (Single (scalar.Bool b)) h = not_true b h
 false_alone v h = refl
-
-is_so : (b : Bool) → not b ≡ false → b ≡ true
-is_so true h = refl
-is_so false h = sym h
 
 second_is_so : (a b : Bool) → a || not b ≡ false → b ≡ true
 second_is_so true b h = absurd (false≢true (sym h))

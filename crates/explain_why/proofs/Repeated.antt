@@ -16,6 +16,7 @@ use Rattle.rule_values.specs.Operations.{is_true, is_invalid, equality}
 use Rattle.rule_values.specs.Endings.{unique_bodies}
 use Rattle.explain_why.specs.Explanation.{Equal, Batch, decides, deciding_batch, repeated_batch}
 use Rattle.explain_why.specs.Laws.{RepeatedAreShown}
+use Rattle.explain_why.proofs.Left.{is_so}
 
 -- ---- equal elements
 
@@ -101,13 +102,9 @@ repeated_two (e ∷ es) h =
 
 -- ---- the law
 
-not_false : (r : Bool) → not r ≡ false → r ≡ true
-not_false true h = refl
-not_false false h = sym h
-
 valid_is : (b : Bool) (r : Bool) → b ≡ false → (if b then Invalid else truth_value (not r)) ≡ truth_value false → r ≡ true
 valid_is true r valid h = absurd (cc)
-valid_is false r valid h = let same : not r ≡ false = cc in not_false r same
+valid_is false r valid h = let same : not r ≡ false = cc in is_so r same
 
 first_is : (b : Bool) (g later : Batch) (bs : List Value) → b ≡ false → Two later bs → Two (if b then g else later) bs
 first_is true g later bs valid h = absurd (cc)

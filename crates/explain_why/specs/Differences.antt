@@ -1,4 +1,4 @@
--- What makes an operation on two collections false: the elements that one of them lacks, or that both have.
+-- What makes an operation on collections false: the elements that one of them lacks, or that both have.
 use Rattle.std.specs.Prelude.{ℕ, List, [], ◌∷◌, ◌++◌, codes}
 use Rattle.std.specs.List.{filter}
 use Rattle.imkl_population.specs.Population.{Population}
@@ -8,7 +8,7 @@ use Rattle.ocl_core.specs.declared.operator.Operator.{Operator}
 use Rattle.ocl_core.specs.declared.operator.Operator.TheVariants.{OfElements, Equal}
 use Rattle.rule_values.specs.Value.{Element, Value, Collection, element_value}
 use Rattle.rule_values.specs.Operations.{is_true, is_false, membership}
-use Rattle.explain_why.specs.Values.{some_elements_text}
+use Rattle.explain_why.specs.Values.{max_beside, first_elements_text, some_elements_text, value_text}
 
 -- the elements of a collection, none of another value
 abbrev pub elements_in : Value → List Element
@@ -33,7 +33,16 @@ unequal_text p [] [] = codes ": they have the same elements, in another number o
 unequal_text p [] (e ∷ es) = listed_text p (codes ": the second lacks ") (e ∷ es)
 unequal_text p (e ∷ es) others = listed_text p (codes ": the first lacks ") (e ∷ es) ++ listed_text p (codes "; the second lacks ") others
 
+-- a value that is no element, and some elements, none of which it is
+abbrev pub beside_text : Population → List Element → List ℕ
+beside_text p [] = codes "; it is empty"
+beside_text p (e ∷ es) = codes "; it has " ++ first_elements_text p max_beside (e ∷ es)
+
+abbrev pub missing_text : Population → Value → Value → List ℕ
+missing_text p v w = codes ": it lacks " ++ (value_text p w ++ beside_text p (elements_in v))
+
 abbrev pub element_difference : Population → ElementOperator → Value → Value → List ℕ
+element_difference p of.Includes v w = missing_text p v w
 element_difference p of.IncludesAll v w = listed_text p (codes ": it lacks ") (lacked_by v (elements_in w))
 element_difference p of.ExcludesAll v w = listed_text p (codes ": it has ") (had_by v (elements_in w))
 element_difference p operator v w = []

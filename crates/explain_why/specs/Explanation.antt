@@ -1,9 +1,10 @@
 -- Why a rule has its verdict for an object: the verdict, and indented below it each part of the expression with its value.
--- Each value is the part's meaning in the values of its variables.
+-- Each value is the part's meaning in the values of its variables, and each variable has the name by which the parts speak of it.
 use Rattle.std.specs.Prelude.{ℕ, suc, ◌-◌, ◌*◌, ◌==◌, ◌||◌, Bool, true, false, not, List, [], ◌∷◌, ◌++◌, length, take, map, replicate, codes, if◌then◌else◌}
 use Rattle.std.specs.Fmt.{decimal}
 use Rattle.std.specs.List.{list_any, flat_map}
-use Rattle.imkl_population.specs.Population.{Population, object_at}
+use Rattle.imkl_model.specs.ClassModel.{class_at}
+use Rattle.imkl_population.specs.Population.{Population, class_of, object_at}
 use Rattle.ocl_core.specs.declared.operator.PlainOperator.{PlainOperator}
 use Rattle.ocl_core.specs.declared.operator.PlainOperator.TheVariants as plain
 use Rattle.ocl_core.specs.declared.operator.Operator.{Operator}
@@ -23,8 +24,9 @@ use Rattle.ocl_semantics.specs.Meaning.{meaning, meanings, meant_verdict}
 use Rattle.explain_why.specs.declared.deciding.Deciding as declared
 use Rattle.explain_why.specs.declared.deciding.Deciding.TheVariants as held
 use Rattle.explain_why.specs.declared.deciding.Batch as declared_batch
-use Rattle.explain_why.specs.Values.{max_shown, value_text}
-use Rattle.explain_why.specs.Texts.{variable_name, text_of}
+use Rattle.explain_why.specs.Values.{max_shown, max_beside, value_text, introduced_text}
+use Rattle.explain_why.specs.Names.{Naming, next_name, past, with_next, naming_of}
+use Rattle.explain_why.specs.Texts.{text_of}
 use Rattle.explain_why.specs.Turns.{Turn, turns_from, told_turns}
 use Rattle.explain_why.specs.Reasons.{operation_reason, feature_reason, choice_reason}
 
@@ -38,16 +40,17 @@ indent k = replicate (2 * k) 32
 abbrev pub part_line : ℕ → List ℕ → List ℕ → List ℕ → List ℕ
 part_line k part value reason = indent k ++ (part ++ (codes " is " ++ (value ++ (reason ++ 10 ∷ []))))
 
--- a variable with its value
-abbrev pub named_value : ℕ → List ℕ → List ℕ
-named_value n value = variable_name n ++ (codes " is " ++ value)
+-- a variable with its value; an object has its class there
+abbrev pub named_value : List ℕ → List ℕ → List ℕ
+named_value name value = name ++ (codes " is " ++ value)
 
-abbrev pub binding_line : ℕ → ℕ → List ℕ → List ℕ
-binding_line k n value = indent k ++ (named_value n value ++ 10 ∷ [])
+abbrev pub binding_line : ℕ → List ℕ → List ℕ → List ℕ
+binding_line k name value = indent k ++ (named_value name value ++ 10 ∷ [])
 
 -- the two variables of a fold
-abbrev pub bindings_line : ℕ → ℕ → List ℕ → List ℕ → List ℕ
-bindings_line k n first second = indent k ++ (named_value n first ++ (codes ", " ++ (named_value (suc n) second ++ 10 ∷ [])))
+abbrev pub bindings_line : ℕ → List ℕ → List ℕ → List ℕ → List ℕ → List ℕ
+bindings_line k name accumulator first second =
+    indent k ++ (named_value name first ++ (codes ", " ++ (named_value accumulator second ++ 10 ∷ [])))
 
 -- lines that are shown or left out
 abbrev pub lines_if : Bool → List ℕ → List ℕ
@@ -128,9 +131,6 @@ abbrev pub deciding_batch : Deciding → Batch
 deciding_batch d = record { which = d; most = max_shown }
 
 -- as many as are shown of those of which none stands out
-abbrev pub max_beside : ℕ
-max_beside = 3
-
 abbrev pub beside_batch : Deciding → Batch
 beside_batch d = record { which = d; most = max_beside }
 
@@ -211,59 +211,59 @@ chosen_lines condition first second = if is_true condition then first else (if i
 
 module _ (p : Population) where
   -- a part, by what it means
-  abbrev pub valued_part : CoreTree → ℕ → List Value → List ℕ → List ℕ
-  valued_part t k vars reason = part_line k (text_of p.model t (length vars)) (value_text p (meaning p t vars)) reason
+  abbrev pub valued_part : CoreTree → ℕ → List Value → Naming → List ℕ → List ℕ
+  valued_part t k vars s reason = part_line k (text_of p.model t s) (value_text p (meaning p t vars)) reason
 
   -- the variable that is bound next
-  abbrev pub next_line : ℕ → List Value → Value → List ℕ
-  next_line k vars v = binding_line k (length vars) (value_text p v)
+  abbrev pub next_line : ℕ → Naming → Value → List ℕ
+  next_line k s v = binding_line k (next_name s) (introduced_text p v)
 
   -- the two that a fold binds next
-  abbrev pub step_line : ℕ → List Value → Element → Value → List ℕ
-  step_line k vars e a = bindings_line k (length vars) (value_text p (element_value e)) (value_text p a)
+  abbrev pub step_line : ℕ → Naming → Element → Value → List ℕ
+  step_line k s e a = bindings_line k (next_name s) (next_name (with_next s)) (introduced_text p (element_value e)) (introduced_text p a)
 
   -- the parts of a tree at a level, and below it; constants and variables stand in the text of what they are in
   abbrev mutual
-    pub explained : CoreTree → ℕ → List Value → List ℕ
-    explained (tree.Value c) k vars = []
-    explained (tree.Variable n) k vars = []
-    explained (tree.AllInstances c) k vars = valued_part (tree.AllInstances c) k vars []
-    explained (tree.Feature source f) k vars =
-        valued_part (tree.Feature source f) k vars (feature_reason p f (meaning p source vars) (meaning p (tree.Feature source f) vars))
-        ++ explained source (suc k) vars
-    explained (tree.Operation operator first others) k vars =
-        valued_part (tree.Operation operator first others) k vars (operation_reason p operator (meaning p first vars) (meanings p others vars) (meaning p (tree.Operation operator first others) vars))
-        ++ (lines_if (is_first_shown operator (meaning p first vars) (meanings p others vars)) (explained first (suc k) vars)
-        ++ lines_if (are_others_shown operator (meaning p first vars)) (all_explained others (suc k) vars))
-    explained (tree.AsCollection c kind source) k vars =
-        valued_part (tree.AsCollection c kind source) k vars [] ++ explained source (suc k) vars
-    explained (tree.Iterate i source body) k vars =
-        valued_part (tree.Iterate i source body) k vars []
-        ++ (explained source (suc k) vars
+    pub explained : CoreTree → ℕ → List Value → Naming → List ℕ
+    explained (tree.Value c) k vars s = []
+    explained (tree.Variable n) k vars s = []
+    explained (tree.AllInstances c) k vars s = valued_part (tree.AllInstances c) k vars s []
+    explained (tree.Feature source f) k vars s =
+        valued_part (tree.Feature source f) k vars s (feature_reason p f (meaning p source vars) (meaning p (tree.Feature source f) vars))
+        ++ explained source (suc k) vars s
+    explained (tree.Operation operator first others) k vars s =
+        valued_part (tree.Operation operator first others) k vars s (operation_reason p operator (meaning p first vars) (meanings p others vars) (meaning p (tree.Operation operator first others) vars))
+        ++ (lines_if (is_first_shown operator (meaning p first vars) (meanings p others vars)) (explained first (suc k) vars s)
+        ++ lines_if (are_others_shown operator (meaning p first vars)) (all_explained others (suc k) vars (past first s)))
+    explained (tree.AsCollection c kind source) k vars s =
+        valued_part (tree.AsCollection c kind source) k vars s [] ++ explained source (suc k) vars s
+    explained (tree.Iterate i source body) k vars s =
+        valued_part (tree.Iterate i source body) k vars s []
+        ++ (explained source (suc k) vars s
         ++ iteration_lines i
-        (λ e. next_line (suc k) vars (element_value e) ++ explained body (suc (suc k)) (element_value e ∷ vars))
+        (λ e. next_line (suc k) (past source s) (element_value e) ++ explained body (suc (suc k)) (element_value e ∷ vars) (with_next (past source s)))
         (λ e. meaning p body (element_value e ∷ vars))
         (suc k) (meaning p source vars))
-    explained (tree.Fold kind source start body) k vars =
-        valued_part (tree.Fold kind source start body) k vars []
-        ++ (explained source (suc k) vars
-        ++ (explained start (suc k) vars
+    explained (tree.Fold kind source start body) k vars s =
+        valued_part (tree.Fold kind source start body) k vars s []
+        ++ (explained source (suc k) vars s
+        ++ (explained start (suc k) vars (past source s)
         ++ accumulation_lines
-        (λ e a. step_line (suc k) vars e a ++ explained body (suc (suc k)) (a ∷ element_value e ∷ vars))
+        (λ e a. step_line (suc k) (past start (past source s)) e a ++ explained body (suc (suc k)) (a ∷ element_value e ∷ vars) (with_next (with_next (past start (past source s)))))
         (λ e a. meaning p body (a ∷ element_value e ∷ vars))
         (suc k) (meaning p start vars) (meaning p source vars)))
-    explained (tree.Let value body) k vars =
-        valued_part (tree.Let value body) k vars []
-        ++ ((next_line (suc k) vars (meaning p value vars) ++ explained value (suc (suc k)) vars)
-        ++ explained body (suc k) (meaning p value vars ∷ vars))
-    explained (tree.If kind condition first second) k vars =
-        valued_part (tree.If kind condition first second) k vars (choice_reason (meaning p condition vars))
-        ++ (explained condition (suc k) vars
-        ++ chosen_lines (meaning p condition vars) (explained first (suc k) vars) (explained second (suc k) vars))
+    explained (tree.Let value body) k vars s =
+        valued_part (tree.Let value body) k vars s []
+        ++ ((next_line (suc k) (past value s) (meaning p value vars) ++ explained value (suc (suc k)) vars s)
+        ++ explained body (suc k) (meaning p value vars ∷ vars) (with_next (past value s)))
+    explained (tree.If kind condition first second) k vars s =
+        valued_part (tree.If kind condition first second) k vars s (choice_reason (meaning p condition vars))
+        ++ (explained condition (suc k) vars s
+        ++ chosen_lines (meaning p condition vars) (explained first (suc k) vars (past condition s)) (explained second (suc k) vars (past first (past condition s))))
 
-    pub all_explained : CoreTrees → ℕ → List Value → List ℕ
-    all_explained tree.no_core k vars = []
-    all_explained (tree.one_core first rest) k vars = explained first k vars ++ all_explained rest k vars
+    pub all_explained : CoreTrees → ℕ → List Value → Naming → List ℕ
+    all_explained tree.no_core k vars s = []
+    all_explained (tree.one_core first rest) k vars s = explained first k vars s ++ all_explained rest k vars (past first s)
 
 -- ---- verdicts
 
@@ -272,11 +272,19 @@ verdict_word verdict.Holds = codes "holds"
 verdict_word verdict.Fails = codes "fails"
 verdict_word verdict.Undecided = codes "is undecided"
 
+-- an object by its id and its class
+abbrev pub judged_object : Population → ℕ → List ℕ
+judged_object p o = (object_at p o).id ++ (codes " : " ++ (class_at p.model (class_of p o)).name)
+
 -- the first line: the verdict that the report has
 abbrev pub verdict_line : Population → CheckedRule → ℕ → List ℕ
 verdict_line p r o =
-    codes "rule " ++ (r.name ++ (32 ∷ (verdict_word (meant_verdict p r o) ++ (codes " for " ++ ((object_at p o).id ++ 10 ∷ [])))))
+    codes "rule " ++ (r.name ++ (32 ∷ (verdict_word (meant_verdict p r o) ++ (codes " for " ++ (judged_object p o ++ 10 ∷ [])))))
 
--- the verdict, and why
+-- the verdict, and why, with names of variables that the rule's text gives
+abbrev pub named_explanation : Population → CheckedRule → List (List ℕ) → ℕ → List ℕ
+named_explanation p r names o = verdict_line p r o ++ explained p r.tree 1 (object_value o ∷ []) (naming_of names)
+
+-- and of a rule whose variables no text names
 abbrev pub explanation : Population → CheckedRule → ℕ → List ℕ
-explanation p r o = verdict_line p r o ++ explained p r.tree 1 (object_value o ∷ [])
+explanation p r o = named_explanation p r [] o

@@ -1,5 +1,7 @@
 -- Definitions: what contracts mean.
 pub mod Values
+pub mod Names
+pub mod GivenNames
 pub mod Texts
 pub mod Differences
 pub mod Reasons
@@ -9,5 +11,7 @@ pub mod RuleView
 pub mod Valued
 pub mod Laws
 -- Bookkeeping: what only proofs and private contracts use.
+pub mod NameWalk
+pub mod ReadingWalk
 pub mod TextWalk
 pub mod PartWalk

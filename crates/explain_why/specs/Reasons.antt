@@ -1,5 +1,6 @@
 -- Why a value is null or invalid, where that begins: which feature is absent, which operation had no result and why. Nothing
--- is said where an operand is invalid already. Of an operation on two collections that is false, which elements make it so.
+-- is said where an operand is invalid already. Of an operation on collections that is false, which elements make it so. Of an
+-- object that a feature has, its class.
 use Rattle.std.specs.Prelude.{ℕ, pos, Bool, true, false, List, [], ◌∷◌, ◌++◌, codes, Some, None, if◌then◌else◌}
 use Rattle.std.specs.Ordering.{int_eq}
 use Rattle.std.specs.List.{list_any}
@@ -14,7 +15,7 @@ use Rattle.ocl_core.specs.declared.operator.Operator.{Operator}
 use Rattle.ocl_core.specs.declared.operator.Operator.TheVariants.{Plain, OfClass, OfElements, Equal}
 use Rattle.rule_values.specs.Value.{Element, Value, Null, Single, Collection}
 use Rattle.rule_values.specs.Operations.{is_false, is_null, is_invalid}
-use Rattle.explain_why.specs.Values.{object_text}
+use Rattle.explain_why.specs.Values.{object_text, value_note}
 use Rattle.explain_why.specs.Differences.{difference_text}
 
 abbrev pub is_null_element : Element → Bool
@@ -78,7 +79,7 @@ module _ (p : Population) where
 
   -- a feature, by what it was read of and what it gave
   abbrev pub feature_reason : ℕ → Value → Value → List ℕ
-  feature_reason f (Single (scalar.Object o)) gave = if is_null gave then absent_reason o f else []
+  feature_reason f (Single (scalar.Object o)) gave = if is_null gave then absent_reason o f else value_note p gave
   feature_reason f Null gave = codes ": null has no features"
   feature_reason f v gave = []
 

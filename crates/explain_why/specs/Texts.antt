@@ -1,5 +1,5 @@
--- Core trees as short OCL. Variables are named by their numbers: variable 0 is `self`, the others `x1`, `x2` and so on.
-use Rattle.std.specs.Prelude.{ℕ, zero, suc, ◌&&◌, Bool, true, false, List, [], ◌∷◌, ◌++◌, codes}
+-- Core trees as short OCL.
+use Rattle.std.specs.Prelude.{ℕ, suc, ◌&&◌, Bool, true, false, List, [], ◌∷◌, ◌++◌, codes}
 use Rattle.std.specs.Fmt.{decimal}
 use Rattle.std.specs.Str.{chars}
 use Rattle.ocl_base.specs.declared.collection_kind.CollectionKind.{CollectionKind}
@@ -18,13 +18,10 @@ use Rattle.ocl_core.specs.Core as tree
 use Rattle.ocl_core.specs.Core.{Constant, CoreTree, CoreTrees}
 use Rattle.explain_why.specs.declared.words.Form as words
 use Rattle.explain_why.specs.declared.words.Form.TheVariants as form
+use Rattle.explain_why.specs.Names.{Naming, next_name, name_in, past, with_next}
 use Rattle.explain_why.specs.Values.{truth_text, quoted_text, literal_text, kind_name, before_element}
 
--- ---- names and constants
-
-abbrev pub variable_name : ℕ → List ℕ
-variable_name zero = codes "self"
-variable_name (suc n) = 120 ∷ decimal (suc n)
+-- ---- constants
 
 abbrev pub constant_text : Model → Constant → List ℕ
 constant_text m (tree.Boolean b) = truth_text b
@@ -165,15 +162,17 @@ operation_text After word asked first others = first ++ (word ++ (40 ∷ (asked 
 abbrev pub conversion_text : CollectionKind → List ℕ → List ℕ
 conversion_text c source = source ++ (codes "->as" ++ (kind_name c ++ codes "()"))
 
-abbrev pub iterate_text : Iteration → ℕ → List ℕ → List ℕ → List ℕ
-iterate_text i n source body = source ++ (iteration_word i ++ (variable_name n ++ (codes " | " ++ (body ++ 41 ∷ []))))
+-- by the name of the variable
+abbrev pub iterate_text : Iteration → List ℕ → List ℕ → List ℕ → List ℕ
+iterate_text i name source body = source ++ (iteration_word i ++ (name ++ (codes " | " ++ (body ++ 41 ∷ []))))
 
 -- the variables of a fold, up to the accumulator's first value
-abbrev pub fold_front : ℕ → List ℕ
-fold_front n = codes "->iterate(" ++ (variable_name n ++ (codes "; " ++ (variable_name (suc n) ++ codes " = ")))
+abbrev pub fold_front : List ℕ → List ℕ → List ℕ
+fold_front name accumulator = codes "->iterate(" ++ (name ++ (codes "; " ++ (accumulator ++ codes " = ")))
 
-abbrev pub fold_text : ℕ → List ℕ → List ℕ → List ℕ → List ℕ
-fold_text n source start body = source ++ (fold_front n ++ (start ++ (codes " | " ++ (body ++ 41 ∷ []))))
+abbrev pub fold_text : List ℕ → List ℕ → List ℕ → List ℕ → List ℕ → List ℕ
+fold_text name accumulator source start body =
+    source ++ (fold_front name accumulator ++ (start ++ (codes " | " ++ (body ++ 41 ∷ []))))
 
 -- what stands before the body of a `let`
 abbrev pub let_front : List ℕ → List ℕ → List ℕ
@@ -183,25 +182,27 @@ abbrev pub choice_text : List ℕ → List ℕ → List ℕ → List ℕ
 choice_text condition first second =
     codes "if " ++ (condition ++ (codes " then " ++ (first ++ (codes " else " ++ (second ++ codes " endif")))))
 
--- the text of a tree in which so many variables are seen
+-- the text of a tree, by the names that are known where it stands
 module _ (m : Model) where
   abbrev mutual
-    pub text_of : CoreTree → ℕ → List ℕ
-    text_of (tree.Value c) n = constant_text m c
-    text_of (tree.Variable v) n = variable_name v
-    text_of (tree.AllInstances c) n = instances_text m c
-    text_of (tree.Feature source f) n = feature_text m f (wrapped (is_open source) (text_of source n))
-    text_of (tree.Operation operator first others) n =
-        operation_text (operator_form operator) (operator_word operator) (class_asked m operator) (wrapped (is_open first) (text_of first n)) (others_text (is_form_open (operator_form operator)) 0 others n)
-    text_of (tree.AsCollection c k source) n = conversion_text c (wrapped (is_open source) (text_of source n))
-    text_of (tree.Iterate i source body) n = iterate_text i n (wrapped (is_open source) (text_of source n)) (text_of body (suc n))
-    text_of (tree.Fold k source start body) n =
-        fold_text n (wrapped (is_open source) (text_of source n)) (text_of start n) (text_of body (suc (suc n)))
-    text_of (tree.Let value body) n = let_front (variable_name n) (text_of value n) ++ text_of body (suc n)
-    text_of (tree.If k condition first second) n = choice_text (text_of condition n) (text_of first n) (text_of second n)
+    pub text_of : CoreTree → Naming → List ℕ
+    text_of (tree.Value c) s = constant_text m c
+    text_of (tree.Variable v) s = name_in s v
+    text_of (tree.AllInstances c) s = instances_text m c
+    text_of (tree.Feature source f) s = feature_text m f (wrapped (is_open source) (text_of source s))
+    text_of (tree.Operation operator first others) s =
+        operation_text (operator_form operator) (operator_word operator) (class_asked m operator) (wrapped (is_open first) (text_of first s)) (others_text (is_form_open (operator_form operator)) 0 others (past first s))
+    text_of (tree.AsCollection c k source) s = conversion_text c (wrapped (is_open source) (text_of source s))
+    text_of (tree.Iterate i source body) s =
+        iterate_text i (next_name (past source s)) (wrapped (is_open source) (text_of source s)) (text_of body (with_next (past source s)))
+    text_of (tree.Fold k source start body) s =
+        fold_text (next_name (past start (past source s))) (next_name (with_next (past start (past source s)))) (wrapped (is_open source) (text_of source s)) (text_of start (past source s)) (text_of body (with_next (with_next (past start (past source s)))))
+    text_of (tree.Let value body) s = let_front (next_name (past value s)) (text_of value s) ++ text_of body (with_next (past value s))
+    text_of (tree.If k condition first second) s =
+        choice_text (text_of condition s) (text_of first (past condition s)) (text_of second (past first (past condition s)))
 
     -- the operands after the first, from the one of this number on: one that is written between two, or those in parentheses
-    pub others_text : Bool → ℕ → CoreTrees → ℕ → List ℕ
-    others_text b k tree.no_core n = []
-    others_text b k (tree.one_core first rest) n =
-        before_element k ++ (wrapped (b && is_open first) (text_of first n) ++ others_text b (suc k) rest n)
+    pub others_text : Bool → ℕ → CoreTrees → Naming → List ℕ
+    others_text b k tree.no_core s = []
+    others_text b k (tree.one_core first rest) s =
+        before_element k ++ (wrapped (b && is_open first) (text_of first s) ++ others_text b (suc k) rest (past first s))

@@ -52,6 +52,13 @@ object_by class id = if stands_alone id then id else (class ++ (40 ∷ (id ++ 41
 abbrev pub object_text : Population → ℕ → List ℕ
 object_text p o = object_by (class_at p.model (class_of p o)).name (object_at p o).id
 
+-- behind an object where it is met first: its class, unless its text has it already
+abbrev pub class_note_by : List ℕ → List ℕ → List ℕ
+class_note_by class id = if stands_alone id then codes " : " ++ class else []
+
+abbrev pub class_note : Population → ℕ → List ℕ
+class_note p o = class_note_by (class_at p.model (class_of p o)).name (object_at p o).id
+
 abbrev pub truth_text : Bool → List ℕ
 truth_text true = codes "true"
 truth_text false = codes "false"
@@ -81,6 +88,10 @@ kind_name collection.Sequence = codes "Sequence"
 abbrev pub max_shown : ℕ
 max_shown = 10
 
+-- and so many where none stands out
+abbrev pub max_beside : ℕ
+max_beside = 3
+
 -- how many more there are, if there are more
 abbrev pub more_text : ℕ → List ℕ
 more_text n = if n == 0 then [] else (codes ", and " ++ (decimal n ++ codes " more"))
@@ -95,9 +106,12 @@ abbrev pub elements_text : Population → ℕ → List Element → List ℕ
 elements_text p k [] = []
 elements_text p k (e ∷ es) = before_element k ++ (element_text p e ++ elements_text p (suc k) es)
 
--- the first elements, and how many more there are
+-- so many of some elements, and how many more there are
+abbrev pub first_elements_text : Population → ℕ → List Element → List ℕ
+first_elements_text p most es = elements_text p 0 (take most es) ++ more_text (length es - most)
+
 abbrev pub some_elements_text : Population → List Element → List ℕ
-some_elements_text p es = elements_text p 0 (take max_shown es) ++ more_text (length es - max_shown)
+some_elements_text p es = first_elements_text p max_shown es
 
 abbrev pub collection_text : Population → CollectionKind → List Element → List ℕ
 collection_text p c es = kind_name c ++ (123 ∷ (some_elements_text p es ++ 125 ∷ []))
@@ -107,3 +121,11 @@ value_text p Invalid = codes "invalid"
 value_text p Null = codes "null"
 value_text p (Single v) = scalar_text p v
 value_text p (Collection c es) = collection_text p c es
+
+-- behind a value where it is met first: the class of an object
+abbrev pub value_note : Population → Value → List ℕ
+value_note p (Single (scalar.Object o)) = class_note p o
+value_note p v = []
+
+abbrev pub introduced_text : Population → Value → List ℕ
+introduced_text p v = value_text p v ++ value_note p v

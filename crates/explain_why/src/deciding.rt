@@ -4,16 +4,13 @@ ghost use Rattle.std.specs.Prelude.{◌≡◌, ◌++◌, length, map, IfOk, OnOk
 ghost use Rattle.std.specs.List.{list_any};
 ghost use Rattle.rule_values.specs.Endings.{kept_by};
 ghost use Rattle.owned_values.specs.Meant.{meant, meant_element, meant_elements};
-ghost use Rattle.explain_why.specs.Explanation.{deciding_of, decides, batch_of, deciding_batch, max_beside, beside_batch, where_any, unless_undecided, repeated_batch, deciding, no_batch, beside, kept_element};
+ghost use Rattle.explain_why.specs.Explanation.{deciding_of, decides, batch_of, deciding_batch, beside_batch, where_any, unless_undecided, repeated_batch, deciding, no_batch, beside, kept_element};
 
-use crate::values::MAX_SHOWN;
+use crate::values::{MAX_BESIDE, MAX_SHOWN};
 use ocl_base::{OutOfMemory, push};
 use ocl_core::Iteration;
 use owned_values::{Element, Value, copy_of, equality, is_false, is_invalid, is_null, is_true};
 use std::alloc::Global;
-
-/// The greatest number of elements that are shown of those of which none stands out.
-const MAX_BESIDE: usize = 3;
 
 /// Bodies of an iteration.
 #[derive(Clone, Copy)]

@@ -1,13 +1,13 @@
-//! What makes an operation on two collections false.
+//! What makes an operation on collections false.
 
-ghost use Rattle.std.specs.Prelude.{◌≡◌, ◌++◌, map, IfOk, OnOk, string_bytes};
+ghost use Rattle.std.specs.Prelude.{◌≡◌, ◌++◌, codes, map, IfOk, OnOk, string_bytes};
 ghost use Rattle.owned_values.specs.Meant.{meant, meant_elements, IsValueThere, AreElementsThere};
 ghost use Rattle.ocl_semantics.specs.Resolved.{AreThere};
-ghost use Rattle.explain_why.specs.Differences.{had_by, lacked_by, listed_text, unequal_text, element_difference, equality_difference, difference_text};
+ghost use Rattle.explain_why.specs.Differences.{elements_in, had_by, lacked_by, listed_text, unequal_text, beside_text, missing_text, element_difference, equality_difference, difference_text};
 
 use crate::deciding::keep_if;
 use crate::pieces::put;
-use crate::values::put_some_elements;
+use crate::values::{MAX_BESIDE, put_first_elements, put_some_elements, put_value};
 use imkl_population::Population;
 use ocl_base::OutOfMemory;
 use ocl_core::{ElementOperator, Operator};
@@ -94,7 +94,86 @@ fn put_unequal(
     put_listed(alloc, out, population, "; the second lacks ", second_lacks)
 }
 
-/// Puts which elements make an operation on two collections false.
+/// Puts some elements beside a value that is none of them.
+fn put_beside(
+    alloc: Global,
+    out: &mut String,
+    population: &Population<'_>,
+    elements: &[Element<'_>],
+) -> Result<(), OutOfMemory>
+    requires { AreElementsThere population.now.content (meant_elements elements.now) }
+    ensures { OnOk result (string_bytes out.new ≡ string_bytes out.old ++
+        beside_text population.now.content (meant_elements elements.now)) }
+{
+    if elements.is_empty() {
+        return put(out, "; it is empty");
+    }
+    put(out, "; it has ")?;
+    put_first_elements(alloc, out, population, MAX_BESIDE, elements)
+}
+
+/// Puts a value that is no element of a collection, and some that are.
+fn put_missing(
+    alloc: Global,
+    out: &mut String,
+    population: &Population<'_>,
+    v: &Value<'_>,
+    w: &Value<'_>,
+) -> Result<(), OutOfMemory>
+    requires first { IsValueThere population.now.content (meant v.now) }
+    requires second { IsValueThere population.now.content (meant w.now) }
+    ensures { OnOk result (string_bytes out.new ≡ string_bytes out.old ++ missing_text
+        population.now.content (meant v.now) (meant w.now)) }
+{
+    put(out, ": it lacks ")?;
+    put_value(alloc, out, population, w)?;
+    match v {
+        Value::Collection(_, elements) => put_beside(alloc, out, population, elements),
+        _ => put_beside(alloc, out, population, &[]),
+    }
+}
+
+/// Puts the elements of a second collection that the first lacks.
+fn put_lacked(
+    alloc: Global,
+    out: &mut String,
+    population: &Population<'_>,
+    v: &Value<'_>,
+    w: &Value<'_>,
+) -> Result<(), OutOfMemory>
+    requires { IsValueThere population.now.content (meant w.now) }
+    ensures { OnOk result (string_bytes out.new ≡ string_bytes out.old ++ listed_text
+        population.now.content (codes ": it lacks ")
+        (lacked_by (meant v.now) (elements_in (meant w.now)))) }
+{
+    let Value::Collection(_, elements) = w else {
+        return Ok(());
+    };
+    let lacked = lacked_by(alloc, v, elements)?;
+    put_listed(alloc, out, population, ": it lacks ", &lacked)
+}
+
+/// Puts the elements of a second collection that the first has.
+fn put_had(
+    alloc: Global,
+    out: &mut String,
+    population: &Population<'_>,
+    v: &Value<'_>,
+    w: &Value<'_>,
+) -> Result<(), OutOfMemory>
+    requires { IsValueThere population.now.content (meant w.now) }
+    ensures { OnOk result (string_bytes out.new ≡ string_bytes out.old ++ listed_text
+        population.now.content (codes ": it has ")
+        (had_by (meant v.now) (elements_in (meant w.now)))) }
+{
+    let Value::Collection(_, elements) = w else {
+        return Ok(());
+    };
+    let had = had_by(alloc, v, elements)?;
+    put_listed(alloc, out, population, ": it has ", &had)
+}
+
+/// Puts which elements make an operation on collections false.
 fn put_element_difference(
     alloc: Global,
     out: &mut String,
@@ -103,23 +182,16 @@ fn put_element_difference(
     v: &Value<'_>,
     w: &Value<'_>,
 ) -> Result<(), OutOfMemory>
-    requires { IsValueThere population.now.content (meant w.now) }
+    requires first { IsValueThere population.now.content (meant v.now) }
+    requires second { IsValueThere population.now.content (meant w.now) }
     ensures { OnOk result (string_bytes out.new ≡ string_bytes out.old ++ element_difference
         population.now.content operator (meant v.now) (meant w.now)) }
 {
-    let Value::Collection(_, elements) = w else {
-        return Ok(());
-    };
     match operator {
-        ElementOperator::IncludesAll => {
-            let lacked = lacked_by(alloc, v, elements)?;
-            put_listed(alloc, out, population, ": it lacks ", &lacked)
-        }
-        ElementOperator::ExcludesAll => {
-            let had = had_by(alloc, v, elements)?;
-            put_listed(alloc, out, population, ": it has ", &had)
-        }
-        _ => Ok(()),
+        ElementOperator::Includes => put_missing(alloc, out, population, v, w),
+        ElementOperator::IncludesAll => put_lacked(alloc, out, population, v, w),
+        ElementOperator::ExcludesAll => put_had(alloc, out, population, v, w),
+        ElementOperator::Occurrences | ElementOperator::AsSet => Ok(()),
     }
 }
 
@@ -144,7 +216,7 @@ fn put_equality_difference(
     put_unequal(alloc, out, population, &first_lacks, &second_lacks)
 }
 
-/// Puts what makes an operation false, where it is one on two collections.
+/// Puts what makes an operation false, where it is one on collections.
 pub(crate) fn put_difference(
     alloc: Global,
     out: &mut String,

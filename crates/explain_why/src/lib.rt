@@ -5,10 +5,12 @@
 mod deciding;
 mod differences;
 mod explaining;
-mod expressions;
 pub mod laws;
+mod marks;
+mod names;
 mod operands;
 mod pieces;
+mod reading;
 mod reasons;
 mod texts;
 mod turns;
@@ -16,10 +18,11 @@ mod valued;
 mod values;
 mod words;
 
-pub use explaining::{ExplainedRule, explain_rule, explain_verdict};
-pub use expressions::expression_text;
+pub use explaining::{ExplainedRule, explain_named_verdict, explain_rule, explain_verdict};
+pub use names::{next, put_variable};
 pub use pieces::put;
-pub use texts::{class_asked, next, put_variable, put_wrapped};
+pub use reading::given_names;
+pub use texts::{class_asked, put_all_instances, put_constant, put_wrapped};
 pub use valued::value_of;
 pub use values::put_character;
 pub use words::{Form, iteration_word, kind_name, operator_form, operator_word};

@@ -9,7 +9,7 @@ ghost use Rattle.explain_why.specs.Reasons.{is_null_element, sum_reason, divisor
 
 use crate::differences::put_difference;
 use crate::pieces::put;
-use crate::values::put_object;
+use crate::values::{put_object, put_value_class};
 use imkl_model::{ClassNo, FeatureNo};
 use imkl_population::{ObjectNo, Population};
 use ocl_base::OutOfMemory;
@@ -260,7 +260,7 @@ fn put_absent(
     put(out, population.model().feature_info(feature).name.as_str())
 }
 
-/// Puts why a feature has no value, by what it was read of and what it gave.
+/// Puts why a feature has no value, or the class of the object that it has, by what it was read of and what it gave.
 pub(crate) fn put_feature_reason(
     out: &mut String,
     population: &Population<'_>,
@@ -270,13 +270,18 @@ pub(crate) fn put_feature_reason(
 ) -> Result<(), OutOfMemory>
     requires feature { feature < length population.now.content.model.features }
     requires there { IsValueThere population.now.content (meant v.now) }
+    requires gave { IsValueThere population.now.content (meant gave.now) }
     ensures { OnOk result (string_bytes out.new ≡ string_bytes out.old ++ feature_reason
         population.now.content feature (meant v.now) (meant gave.now)) }
 {
     match v {
         Value::Element(Element::Null) => put(out, ": null has no features"),
-        Value::Element(Element::Object(object)) if is_null(gave) => {
-            put_absent(out, population, *object, feature)
+        Value::Element(Element::Object(object)) => {
+            if is_null(gave) {
+                put_absent(out, population, *object, feature)
+            } else {
+                put_value_class(out, population, gave)
+            }
         }
         _ => Ok(()),
     }

@@ -1,15 +1,18 @@
 //! Core trees as short OCL.
 
-ghost use Rattle.std.specs.Prelude.{◌≡◌, ◌++◌, ◌+◌, ◌<◌, suc, length, map, IfOk, OnOk, string_bytes};
+ghost use Rattle.std.specs.Prelude.{◌≡◌, ◌++◌, ◌<◌, length, map, IfOk, OnOk, string_bytes};
 ghost use Rattle.std.specs.List.{AllByRecursion};
 ghost use Rattle.ocl_core.specs.Core.{cores_of, lets_of};
 ghost use Rattle.ocl_core.specs.CoreView.{constant_of, core_view, core_link_of, core_spine};
 ghost use Rattle.ocl_core.specs.Typing.{IsConstantOf};
 ghost use Rattle.ocl_semantics.specs.Resolved.{IsOperatorOf, IsResolved, AreResolved};
 ghost use Rattle.ocl_semantics.specs.Evaluated.{on_null, IsLinkResolved, AreLinksResolved};
-ghost use Rattle.explain_why.specs.Texts.{variable_name, constant_text, class_asked, operator_form, operator_word, is_form_open, is_open, wrapped, instances_text, operation_text, fold_front, let_front, text_of, others_text};
-ghost use Rattle.explain_why.specs.TextWalk.{written_text, tree_text, node_text, link_text, links_text, lets_front, are_lets_open};
+ghost use Rattle.explain_why.specs.Names.{next_name, past, with_next};
+ghost use Rattle.explain_why.specs.NameWalk.{naming_view, inner_view, with_all};
+ghost use Rattle.explain_why.specs.Texts.{constant_text, class_asked, operator_form, operator_word, is_form_open, is_open, wrapped, instances_text, operation_text, fold_front, let_front, text_of, others_text};
+ghost use Rattle.explain_why.specs.TextWalk.{written_text, tree_text, body_text, fold_body_text, node_text, link_text, links_text, lets_front, are_lets_open};
 
+use crate::names::{Inner, Naming, copy_naming, next_name, past, past_link, put_name, with_next};
 use crate::pieces::{put, put_count};
 use crate::values::{put_before, put_literal, put_quoted};
 use crate::words::{Form, iteration_word, kind_name, operator_form, operator_word};
@@ -18,16 +21,6 @@ use ocl_base::OutOfMemory;
 use ocl_core::{ConstantValue, Core, CoreLink, Operator};
 use std::alloc::Global;
 
-/// The number after a number. No memory holds so many variables or levels that there is none.
-pub fn next(number: usize) -> Result<usize, OutOfMemory>
-    ensures { IfOk result (λ n. n ≡ suc number) }
-{
-    match number.checked_add(1) {
-        Some(next) => Ok(next),
-        None => Err(OutOfMemory),
-    }
-}
-
 /// A tree's text, and whether it stands in parentheses as an operand.
 #[derive(Drop)]
 pub(crate) struct Text {
@@ -35,19 +28,8 @@ pub(crate) struct Text {
     pub(crate) is_open: bool,
 }
 
-/// Puts the name of a variable.
-pub fn put_variable(alloc: Global, out: &mut String, number: usize) -> Result<(), OutOfMemory>
-    ensures { OnOk result (string_bytes out.new ≡ string_bytes out.old ++ variable_name number) }
-{
-    if number == 0 {
-        return put(out, "self");
-    }
-    put(out, "x")?;
-    put_count(alloc, out, number)
-}
-
 /// Puts a constant.
-fn put_constant(
+pub fn put_constant(
     alloc: Global,
     out: &mut String,
     model: &ClassModel,
@@ -94,7 +76,7 @@ pub fn class_asked<'m>(model: &'m ClassModel, operator: &Operator) -> &'m str
 }
 
 /// Puts all instances of a class.
-fn put_all_instances(
+pub fn put_all_instances(
     out: &mut String,
     model: &ClassModel,
     class: ClassNo,
@@ -118,28 +100,45 @@ fn is_let_open(values: &[Core], is_open: bool) -> bool
 }
 
 /// Puts the variables of a fold: the element's, and the accumulator's up to its first value.
-fn put_fold_variables(alloc: Global, out: &mut String, seen: usize) -> Result<(), OutOfMemory>
-    ensures { OnOk result (string_bytes out.new ≡ string_bytes out.old ++ fold_front seen) }
+fn put_fold_variables(out: &mut String, name: &str, accumulator: &str) -> Result<(), OutOfMemory>
+    ensures { OnOk result (string_bytes out.new ≡
+        string_bytes out.old ++ fold_front name.now accumulator.now) }
 {
     put(out, "->iterate(")?;
-    put_variable(alloc, out, seen)?;
+    put(out, name)?;
     put(out, "; ")?;
-    put_variable(alloc, out, next(seen)?)?;
+    put(out, accumulator)?;
     put(out, " = ")
 }
 
-/// The text of a core tree in which so many variables are seen.
+/// Puts the variables of a fold that are bound next, up to the accumulator's first value.
+fn put_fold_front(
+    alloc: Global,
+    out: &mut String,
+    naming: Naming<'_, '_>,
+) -> Result<(), OutOfMemory>
+    ensures { OnOk result (string_bytes out.new ≡ string_bytes out.old ++ fold_front
+        (next_name (naming_view naming.entry))
+        (next_name (with_next (naming_view naming.entry)))) }
+{
+    let name = next_name(alloc, naming)?;
+    let outer = with_next(alloc, naming)?;
+    let accumulator = next_name(alloc, outer.naming())?;
+    put_fold_variables(out, &name, &accumulator)
+}
+
+/// The text of a core tree, by the names that are known where it stands.
 #[cycle(text)]
 #[tactic(auto, using(ocl_core::proofs::ForAbove::views))]
 pub(crate) fn text_of(
     alloc: Global,
     model: &ClassModel,
     core: &Core,
-    seen: usize,
+    naming: Naming<'_, '_>,
 ) -> Result<Text, OutOfMemory>
     requires { IsResolved model.now (core_view core.now) }
     ensures text { IfOk result (λ t. string_bytes t.text ≡
-        text_of model.now (core_view core.now) seen) }
+        text_of model.now (core_view core.now) (naming_view naming.entry)) }
     ensures wraps { IfOk result (λ t. t.is_open ≡ is_open (core_view core.now)) }
 {
     match core {
@@ -153,7 +152,7 @@ pub(crate) fn text_of(
         }
         Core::Variable { number } => {
             let mut text = String::new(alloc);
-            put_variable(alloc, &mut text, *number)?;
+            put_name(alloc, &mut text, naming, *number)?;
             Ok(Text {
                 text,
                 is_open: false,
@@ -168,13 +167,14 @@ pub(crate) fn text_of(
             })
         }
         Core::Spine { first, links } => {
-            let text = text_of(alloc, model, first, seen)?;
-            links_text(alloc, model, text, links, seen)
+            let text = text_of(alloc, model, first, naming)?;
+            let behind = past(first, naming)?;
+            links_text(alloc, model, text, links, behind)
         }
         Core::Let { values, body } => {
             let mut text = String::new(alloc);
-            let number = put_lets(alloc, &mut text, model, values, seen)?;
-            let inner = text_of(alloc, model, body, number)?;
+            let within = put_lets(alloc, &mut text, model, values, naming)?;
+            let inner = text_of(alloc, model, body, within.naming())?;
             put(&mut text, &inner.text)?;
             let is_open = is_let_open(values, inner.is_open);
             Ok(Text { text, is_open })
@@ -186,9 +186,11 @@ pub(crate) fn text_of(
             ..
         } => {
             let mut text = String::new(alloc);
-            put_after(alloc, &mut text, model, "if ", condition, seen)?;
-            put_after(alloc, &mut text, model, " then ", then_branch, seen)?;
-            put_after(alloc, &mut text, model, " else ", else_branch, seen)?;
+            put_after(alloc, &mut text, model, "if ", condition, naming)?;
+            let behind = past(condition, naming)?;
+            put_after(alloc, &mut text, model, " then ", then_branch, behind)?;
+            let last = past(then_branch, behind)?;
+            put_after(alloc, &mut text, model, " else ", else_branch, last)?;
             put(&mut text, " endif")?;
             Ok(Text {
                 text,
@@ -205,13 +207,13 @@ fn put_text(
     out: &mut String,
     model: &ClassModel,
     core: &Core,
-    seen: usize,
+    naming: Naming<'_, '_>,
 ) -> Result<(), OutOfMemory>
     requires { IsResolved model.now (core_view core.now) }
     ensures { OnOk result (string_bytes out.new ≡ string_bytes out.old ++
-        text_of model.now (core_view core.now) seen) }
+        text_of model.now (core_view core.now) (naming_view naming.entry)) }
 {
-    let text = text_of(alloc, model, core, seen)?;
+    let text = text_of(alloc, model, core, naming)?;
     put(out, &text.text)
 }
 
@@ -223,36 +225,36 @@ fn put_after(
     model: &ClassModel,
     word: &str,
     core: &Core,
-    seen: usize,
+    naming: Naming<'_, '_>,
 ) -> Result<(), OutOfMemory>
     requires { IsResolved model.now (core_view core.now) }
     ensures { OnOk result (string_bytes out.new ≡ string_bytes out.old ++ (word.now ++
-        text_of model.now (core_view core.now) seen)) }
+        text_of model.now (core_view core.now) (naming_view naming.entry))) }
 {
     put(out, word)?;
-    put_text(alloc, out, model, core, seen)
+    put_text(alloc, out, model, core, naming)
 }
 
-/// Puts what stands before the body of values as variables, and answers the number of the next variable.
+/// Puts what stands before the body of values as variables, and answers what is known of names in the body.
 #[cycle(text)]
-fn put_lets(
+fn put_lets<'n>(
     alloc: Global,
     out: &mut String,
     model: &ClassModel,
     values: &[Core],
-    seen: usize,
-) -> Result<usize, OutOfMemory>
+    naming: Naming<'n, '_>,
+) -> Result<Inner<'n>, OutOfMemory>
     requires { AllByRecursion (IsResolved model.now) (map core_view values.now) }
     ensures text { OnOk result (string_bytes out.new ≡ string_bytes out.old ++
-        lets_front model.now (map core_view values.now) seen) }
-    ensures number { IfOk result (λ n. n ≡ seen + length values.now) }
+        lets_front model.now (map core_view values.now) (naming_view naming.entry)) }
+    ensures names { IfOk result (λ n. inner_view n ≡
+        with_all (map core_view values.now) (naming_view naming.entry)) }
 {
-    let mut number = seen;
+    let mut inner = copy_naming(alloc, naming)?;
     'values: for value in values {
-        put_let(alloc, out, model, value, number)?;
-        number = next(number)?;
+        inner = put_let(alloc, out, model, value, inner.naming())?;
     }
-    Ok(number)
+    Ok(inner)
 }
 
 /// The text of values as variables of a body.
@@ -261,56 +263,64 @@ pub(crate) fn let_text(
     model: &ClassModel,
     values: &[Core],
     body: &Core,
-    seen: usize,
+    naming: Naming<'_, '_>,
 ) -> Result<String, OutOfMemory>
     requires values { AllByRecursion (IsResolved model.now) (map core_view values.now) }
     requires body { IsResolved model.now (core_view body.now) }
     ensures { IfOk result (λ s. string_bytes s ≡ text_of model.now
-        (lets_of (map core_view values.now) (core_view body.now)) seen) }
+        (lets_of (map core_view values.now) (core_view body.now)) (naming_view naming.entry)) }
 {
     let mut text = String::new(alloc);
-    let number = put_lets(alloc, &mut text, model, values, seen)?;
-    let inner = text_of(alloc, model, body, number)?;
+    let within = put_lets(alloc, &mut text, model, values, naming)?;
+    let inner = text_of(alloc, model, body, within.naming())?;
     put(&mut text, &inner.text)?;
     Ok(text)
 }
 
-/// Puts the first part of a `let`: its variable and its value.
+/// Puts the first part of a `let`: its variable and its value. It answers what is known of names behind it.
 #[cycle(text)]
-fn put_let(
+fn put_let<'n>(
     alloc: Global,
     out: &mut String,
     model: &ClassModel,
     value: &Core,
-    number: usize,
-) -> Result<(), OutOfMemory>
+    naming: Naming<'n, '_>,
+) -> Result<Inner<'n>, OutOfMemory>
     requires { IsResolved model.now (core_view value.now) }
-    ensures { OnOk result (string_bytes out.new ≡ string_bytes out.old ++
-        let_front (variable_name number) (text_of model.now (core_view value.now) number)) }
+    ensures text { OnOk result (string_bytes out.new ≡ string_bytes out.old ++ let_front
+        (next_name (past (core_view value.now) (naming_view naming.entry)))
+        (text_of model.now (core_view value.now) (naming_view naming.entry))) }
+    ensures names { IfOk result (λ n. inner_view n ≡
+        with_next (past (core_view value.now) (naming_view naming.entry))) }
 {
+    let behind = past(value, naming)?;
+    let name = next_name(alloc, behind)?;
     put(out, "let ")?;
-    put_variable(alloc, out, number)?;
+    put(out, &name)?;
     put(out, " = ")?;
-    put_text(alloc, out, model, value, number)?;
-    put(out, " in ")
+    put_text(alloc, out, model, value, naming)?;
+    put(out, " in ")?;
+    with_next(alloc, behind)
 }
 
-/// The text of links on a first operand.
+/// The text of links on a first operand, by the names that are known behind that.
 #[cycle(text)]
 fn links_text(
     alloc: Global,
     model: &ClassModel,
     first: Text,
     links: &[CoreLink],
-    seen: usize,
+    naming: Naming<'_, '_>,
 ) -> Result<Text, OutOfMemory>
     requires { AreLinksResolved model.now links.now }
     ensures { IfOk result (λ t. written_text t ≡
-        links_text model.now seen links.now (written_text first)) }
+        links_text model.now (naming_view naming.entry) links.now (written_text first)) }
 {
     let mut text = first;
+    let mut behind = naming;
     'links: for link in links {
-        text = link_text(alloc, model, link, seen, &text)?;
+        text = link_text(alloc, model, link, behind, &text)?;
+        behind = past_link(link, behind)?;
     }
     Ok(text)
 }
@@ -321,36 +331,38 @@ pub(crate) fn spine_text(
     model: &ClassModel,
     first: &Core,
     links: &[CoreLink],
-    seen: usize,
+    naming: Naming<'_, '_>,
 ) -> Result<Text, OutOfMemory>
     requires first { IsResolved model.now (core_view first.now) }
     requires links { AreLinksResolved model.now links.now }
     ensures { IfOk result (λ t. written_text t ≡ tree_text model.now
-        (core_spine (core_view first.now) (map core_link_of links.now)) seen) }
+        (core_spine (core_view first.now) (map core_link_of links.now))
+        (naming_view naming.entry)) }
 {
-    let text = text_of(alloc, model, first, seen)?;
-    links_text(alloc, model, text, links, seen)
+    let text = text_of(alloc, model, first, naming)?;
+    let behind = past(first, naming)?;
+    links_text(alloc, model, text, links, behind)
 }
 
-/// The text of a link on a first operand.
+/// The text of a link on a first operand, by the names that are known behind that.
 #[cycle(text)]
 pub(crate) fn link_text(
     alloc: Global,
     model: &ClassModel,
     link: &CoreLink,
-    seen: usize,
+    naming: Naming<'_, '_>,
     first: &Text,
 ) -> Result<Text, OutOfMemory>
     requires { IsLinkResolved model.now link.now }
     ensures { IfOk result (λ t. written_text t ≡
-        link_text model.now seen link.now (written_text first.now)) }
+        link_text model.now (naming_view naming.entry) link.now (written_text first.now)) }
 {
     let mut text = String::new(alloc);
     let is_open = match link {
         CoreLink::Operation { operator, .. } => operator_form(*operator).is_open(),
         _ => false,
     };
-    put_link(alloc, &mut text, model, link, seen, first)?;
+    put_link(alloc, &mut text, model, link, naming, first)?;
     Ok(Text { text, is_open })
 }
 
@@ -362,12 +374,13 @@ fn put_link(
     out: &mut String,
     model: &ClassModel,
     link: &CoreLink,
-    seen: usize,
+    naming: Naming<'_, '_>,
     first: &Text,
 ) -> Result<(), OutOfMemory>
     requires { IsLinkResolved model.now link.now }
     ensures { OnOk result (string_bytes out.new ≡ string_bytes out.old ++ node_text model.now
-        (on_null link.now) seen (wrapped first.now.is_open (string_bytes first.now.text))) }
+        (on_null link.now) (naming_view naming.entry)
+        (wrapped first.now.is_open (string_bytes first.now.text))) }
 {
     match link {
         CoreLink::Feature { feature } => {
@@ -376,7 +389,7 @@ fn put_link(
             put(out, model.feature_info(*feature).name.as_str())
         }
         CoreLink::Operation { operator, others } => {
-            put_operation(alloc, out, model, operator, others, seen, first)
+            put_operation(alloc, out, model, operator, others, naming, first)
         }
         CoreLink::AsCollection { collection, .. } => {
             put_wrapped(out, first.is_open, &first.text)?;
@@ -387,20 +400,57 @@ fn put_link(
         CoreLink::Iterate { iteration, body } => {
             put_wrapped(out, first.is_open, &first.text)?;
             put(out, iteration_word(*iteration))?;
-            put_variable(alloc, out, seen)?;
-            put(out, " | ")?;
-            put_text(alloc, out, model, body, next(seen)?)?;
-            put(out, ")")
+            put_body(alloc, out, model, body, naming)
         }
         CoreLink::Fold { start, body, .. } => {
             put_wrapped(out, first.is_open, &first.text)?;
-            put_fold_variables(alloc, out, seen)?;
-            put_text(alloc, out, model, start, seen)?;
-            put(out, " | ")?;
-            put_text(alloc, out, model, body, next(next(seen)?)?)?;
-            put(out, ")")
+            let behind = past(start, naming)?;
+            put_fold_front(alloc, out, behind)?;
+            put_text(alloc, out, model, start, naming)?;
+            put_fold_body(alloc, out, model, body, behind)
         }
     }
+}
+
+/// Puts the variable of an iteration and its body, up to the parenthesis.
+#[cycle(text)]
+fn put_body(
+    alloc: Global,
+    out: &mut String,
+    model: &ClassModel,
+    body: &Core,
+    naming: Naming<'_, '_>,
+) -> Result<(), OutOfMemory>
+    requires { IsResolved model.now (core_view body.now) }
+    ensures { OnOk result (string_bytes out.new ≡ string_bytes out.old ++ body_text model.now
+        (core_view body.now) (naming_view naming.entry)) }
+{
+    let name = next_name(alloc, naming)?;
+    let within = with_next(alloc, naming)?;
+    put(out, &name)?;
+    put(out, " | ")?;
+    put_text(alloc, out, model, body, within.naming())?;
+    put(out, ")")
+}
+
+/// Puts the body of a fold behind its start, up to the parenthesis, by the names that are known behind the start.
+#[cycle(text)]
+fn put_fold_body(
+    alloc: Global,
+    out: &mut String,
+    model: &ClassModel,
+    body: &Core,
+    naming: Naming<'_, '_>,
+) -> Result<(), OutOfMemory>
+    requires { IsResolved model.now (core_view body.now) }
+    ensures { OnOk result (string_bytes out.new ≡ string_bytes out.old ++ fold_body_text
+        model.now (core_view body.now) (naming_view naming.entry)) }
+{
+    let outer = with_next(alloc, naming)?;
+    let within = with_next(alloc, outer.naming())?;
+    put(out, " | ")?;
+    put_text(alloc, out, model, body, within.naming())?;
+    put(out, ")")
 }
 
 /// Puts an operation on a first operand.
@@ -411,7 +461,7 @@ fn put_operation(
     model: &ClassModel,
     operator: &Operator,
     others: &[Core],
-    seen: usize,
+    naming: Naming<'_, '_>,
     first: &Text,
 ) -> Result<(), OutOfMemory>
     requires operator { IsOperatorOf model.now operator.now }
@@ -421,26 +471,26 @@ fn put_operation(
         (class_asked model.now operator.now)
         (wrapped first.now.is_open (string_bytes first.now.text))
         (others_text model.now (is_form_open (operator_form operator.now)) 0
-        (cores_of (map core_view others.now)) seen)) }
+        (cores_of (map core_view others.now)) (naming_view naming.entry))) }
 {
     let word = operator_word(*operator);
     match operator_form(*operator) {
         Form::Between => {
             put_wrapped(out, first.is_open, &first.text)?;
             put(out, word)?;
-            put_others(alloc, out, model, true, others, seen)
+            put_others(alloc, out, model, true, others, naming)
         }
         Form::Before => {
             put(out, word)?;
             put_wrapped(out, first.is_open, &first.text)?;
-            put_others(alloc, out, model, true, others, seen)
+            put_others(alloc, out, model, true, others, naming)
         }
         Form::After => {
             put_wrapped(out, first.is_open, &first.text)?;
             put(out, word)?;
             put(out, "(")?;
             put(out, class_asked(model, operator))?;
-            put_others(alloc, out, model, false, others, seen)?;
+            put_others(alloc, out, model, false, others, naming)?;
             put(out, ")")
         }
     }
@@ -454,16 +504,18 @@ fn put_others(
     model: &ClassModel,
     wraps: bool,
     others: &[Core],
-    seen: usize,
+    naming: Naming<'_, '_>,
 ) -> Result<(), OutOfMemory>
     requires { AreResolved model.now (cores_of (map core_view others.now)) }
-    ensures { OnOk result (string_bytes out.new ≡ string_bytes out.old ++
-        others_text model.now wraps 0 (cores_of (map core_view others.now)) seen) }
+    ensures { OnOk result (string_bytes out.new ≡ string_bytes out.old ++ others_text model.now
+        wraps 0 (cores_of (map core_view others.now)) (naming_view naming.entry)) }
 {
+    let mut behind = naming;
     'others: for index in 0..others.len() {
         put_before(out, index)?;
-        let text = text_of(alloc, model, &others[index], seen)?;
+        let text = text_of(alloc, model, &others[index], behind)?;
         put_wrapped(out, wraps && text.is_open, &text.text)?;
+        behind = past(&others[index], behind)?;
     }
     Ok(())
 }

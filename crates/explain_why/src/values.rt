@@ -6,7 +6,7 @@ ghost use Rattle.std.specs.Str.{chars};
 ghost use Rattle.ocl_base.specs.Words.{begins_with_letter};
 ghost use Rattle.imkl_model.specs.ClassModel.{enumeration_at};
 ghost use Rattle.owned_values.specs.Meant.{meant, meant_element, meant_elements, IsElementThere, AreElementsThere, IsValueThere};
-ghost use Rattle.explain_why.specs.Values.{literal_text, quoted_character, max_quoted, length_note, length_text, quoted_text, has_colon, stands_alone, object_text, kind_name, element_text, before_element, elements_text, more_text, some_elements_text, collection_text, value_text};
+ghost use Rattle.explain_why.specs.Values.{literal_text, quoted_character, max_quoted, length_note, length_text, quoted_text, has_colon, stands_alone, object_text, class_note, kind_name, element_text, before_element, elements_text, more_text, first_elements_text, some_elements_text, collection_text, value_text, value_note};
 
 use crate::pieces::{put, put_count, put_number};
 use crate::words::kind_name;
@@ -19,6 +19,9 @@ use std::alloc::Global;
 
 /// The greatest number of elements that are shown of a collection.
 pub(crate) const MAX_SHOWN: usize = 10;
+
+/// The greatest number that are shown where none stands out.
+pub(crate) const MAX_BESIDE: usize = 3;
 
 /// The greatest number of characters that are shown of a text.
 const MAX_QUOTED: usize = 60;
@@ -173,6 +176,42 @@ pub(crate) fn put_object(
     put(out, ")")
 }
 
+/// Puts the class of an object behind its text, unless that has it already.
+fn put_class(
+    out: &mut String,
+    population: &Population<'_>,
+    object: ObjectNo,
+) -> Result<(), OutOfMemory>
+    requires { object < length population.now.content.objects }
+    ensures { OnOk result (string_bytes out.new ≡ string_bytes out.old ++
+        class_note population.now.content object) }
+{
+    if !stands_alone(population.id(object)) {
+        return Ok(());
+    }
+    put(out, " : ")?;
+    put(
+        out,
+        population.model().class_name(population.class_of(object)),
+    )
+}
+
+/// Puts the class of an object behind a value that is one.
+pub(crate) fn put_value_class(
+    out: &mut String,
+    population: &Population<'_>,
+    value: &Value<'_>,
+) -> Result<(), OutOfMemory>
+    requires { IsValueThere population.now.content (meant value.now) }
+    ensures { OnOk result (string_bytes out.new ≡ string_bytes out.old ++
+        value_note population.now.content (meant value.now)) }
+{
+    match value {
+        Value::Element(Element::Object(object)) => put_class(out, population, *object),
+        _ => Ok(()),
+    }
+}
+
 /// Puts an element, or a single value.
 pub(crate) fn put_element(
     alloc: Global,
@@ -248,7 +287,22 @@ pub(crate) fn put_some_elements(
     ensures { OnOk result (string_bytes out.new ≡ string_bytes out.old ++
         some_elements_text population.now.content (meant_elements elements.now)) }
 {
-    let shown = elements.len().min(MAX_SHOWN);
+    put_first_elements(alloc, out, population, MAX_SHOWN, elements)
+}
+
+/// Puts so many of some elements, and how many more there are.
+pub(crate) fn put_first_elements(
+    alloc: Global,
+    out: &mut String,
+    population: &Population<'_>,
+    most: usize,
+    elements: &[Element<'_>],
+) -> Result<(), OutOfMemory>
+    requires { AreElementsThere population.now.content (meant_elements elements.now) }
+    ensures { OnOk result (string_bytes out.new ≡ string_bytes out.old ++
+        first_elements_text population.now.content most (meant_elements elements.now)) }
+{
+    let shown = elements.len().min(most);
     put_elements(alloc, out, population, &elements[..shown])?;
     put_more_elements(alloc, out, elements.len() - shown)
 }

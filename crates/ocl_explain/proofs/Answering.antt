@@ -20,6 +20,7 @@ use Rattle.ocl_check.specs.JudgeText.{within_answer, rules_answer, judge_text_an
 use Rattle.ocl_check.proofs.ForAbove.{text_is_answered}
 use Rattle.ocl_explain.specs.declared.weaving.Shown.{Shown}
 use Rattle.ocl_explain.specs.Judged.{AreJudged, IsRefusedBy}
+use Rattle.ocl_explain.specs.RuleNames.{names_by}
 use Rattle.ocl_explain.specs.WhyAnswers.{why_text, why_answer, shown_answer, WhyAnswers}
 use Rattle.ocl_explain.specs.ExplainedReport.{rules_explainer, explained_answer, ExplainedAnswers}
 use Rattle.ocl_explain.specs.Explained.{why_of, explained_within}
@@ -80,21 +81,21 @@ module _ (budget : ℕ) (model delivery rules : List ℕ) (t : TextReading) (rea
 
 module _ (model delivery rules : List ℕ) (t : TextReading) (reads : ReadsAs rules t) where
   -- `why`
-  module _ (name id : List ℕ) (lines : ℕ) where
+  module _ (w : TextReading) (spelt : ReadsAs rules w) (name id : List ℕ) (lines : ℕ) where
     abbrev why_by : Population → CompiledRules → Result (Unit {0}) ℕ → Answer
-    why_by p c o = given_answer (λ _. shown_answer lines (why_answer (why_text p c.rules name id))) (refused_as refusal.Cost o >>= (λ _. Ok (admission_for MAX_BUDGET p c.unit)))
+    why_by p c o = given_answer (λ _. shown_answer lines (why_answer (why_text p (names_by w c.rules) c.rules name id))) (refused_as refusal.Cost o >>= (λ _. Ok (admission_for MAX_BUDGET p c.unit)))
 
-    pub why_answers : WhyAnswers model delivery rules name id lines (given_answer (why_of name id lines) (asked MAX_BUDGET model delivery rules t reads))
+    pub why_answers : WhyAnswers model delivery rules name id lines (given_answer (why_of w name id lines) (asked MAX_BUDGET model delivery rules t reads))
     why_answers =
         answers MAX_BUDGET model delivery rules t reads (WhyAnswers model delivery rules name id lines) why_by
-        (λ p c x are. inl (why_answer (why_text p c.rules name id), (p, c.rules, are, refl), refl)) (λ p c r. refl) (λ a is. inr is)
+        (λ p c x are. inl (why_answer (why_text p (names_by w c.rules) c.rules name id), (p, c.rules, w, spelt, are, refl), refl)) (λ p c r. refl) (λ a is. inr is)
 
   -- `judge --why`, and `why` of a rule
-  module _ (budget : ℕ) (shown : Shown) (rule : Option (List ℕ)) where
+  module _ (w : TextReading) (spelt : ReadsAs rules w) (budget : ℕ) (shown : Shown) (rule : Option (List ℕ)) where
     abbrev explained_by : Population → CompiledRules → Result (Unit {0}) ℕ → Answer
-    explained_by p c o = explained_answer (rules_explainer p c.rules) shown rule (within_answer p c.rules o)
+    explained_by p c o = explained_answer (rules_explainer p (names_by w c.rules) c.rules) shown rule (within_answer p c.rules o)
 
-    pub explained_answers : ExplainedAnswers budget shown rule model delivery rules (given_answer (explained_within budget shown rule) (asked budget model delivery rules t reads))
+    pub explained_answers : ExplainedAnswers budget shown rule model delivery rules (given_answer (explained_within w budget shown rule) (asked budget model delivery rules t reads))
     explained_answers =
         answers budget model delivery rules t reads (ExplainedAnswers budget shown rule model delivery rules) explained_by
-        (λ p c x are. inl (p, c.rules, are, refl)) (λ p c r. refl) (λ a is. inr is)
+        (λ p c x are. inl (p, c.rules, w, spelt, are, refl)) (λ p c r. refl) (λ a is. inr is)

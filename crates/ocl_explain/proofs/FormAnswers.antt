@@ -85,9 +85,9 @@ module _ (options : JudgeOptions) (model delivery rules : List ℕ) where
       let told = given_answer (code_detailed_within options.budget (detail.Why shown)) (inputs_in model delivery >>= with_code rules) in
       subst (λ (f : RulesForm). WhyAnswersOf f options.budget shown model delivery rules told) (sym is) refl
 
-  pub text_detailed : (d : Detail) (t : TextReading) → options.form ≡ Text → ReadsAs rules t → DetailedAnswers d options model delivery rules (given_answer (detailed_within options.budget d) (inputs_in model delivery >>= with_text t))
-  text_detailed detail.Verdict t is reads =
+  pub text_detailed : (w : TextReading) → ReadsAs rules w → (d : Detail) (t : TextReading) → options.form ≡ Text → ReadsAs rules t → DetailedAnswers d options model delivery rules (given_answer (detailed_within w options.budget d) (inputs_in model delivery >>= with_text t))
+  text_detailed w spelt detail.Verdict t is reads =
       subst (JudgeAnswers options model delivery rules) (sym (text_is_answered options.budget t model delivery)) (judged_text options.form options.budget model delivery rules t is reads)
-  text_detailed (detail.Why shown) t is reads =
-      let told = given_answer (detailed_within options.budget (detail.Why shown)) (inputs_in model delivery >>= with_text t) in
-      subst (λ (f : RulesForm). WhyAnswersOf f options.budget shown model delivery rules told) (sym is) (explained_answers model delivery rules t reads options.budget shown None)
+  text_detailed w spelt (detail.Why shown) t is reads =
+      let told = given_answer (detailed_within w options.budget (detail.Why shown)) (inputs_in model delivery >>= with_text t) in
+      subst (λ (f : RulesForm). WhyAnswersOf f options.budget shown model delivery rules told) (sym is) (explained_answers model delivery rules t reads w spelt options.budget shown None)

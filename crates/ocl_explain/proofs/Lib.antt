@@ -3,3 +3,4 @@ mod ShownRules
 pub mod Answering
 pub mod FormAnswers
 pub mod Confirmed
+mod RulesNamed

@@ -5,11 +5,13 @@ use Rattle.std.specs.Prelude.{◌≡◌, ◌==◌, ◌-◌, ◌⊎◌, ◌&&◌,
 use Rattle.imkl_population.specs.Population.{Population}
 use Rattle.ocl_core.specs.Core.{CheckedRule}
 use Rattle.rule_code.specs.Content.{Content}
+use Rattle.ocl_pipeline.specs.TextReading.{TextReading, ReadsAs}
 use Rattle.ocl_check.specs.Reply.{Answer}
 use Rattle.ocl_check.specs.JudgeText.{meant_answer}
 use Rattle.report_forms.specs.ReportRows.{lines_in, words_in, word_at, ended_line}
 use Rattle.explain_notes.specs.Lines.{cut_text}
 use Rattle.ocl_explain.specs.declared.weaving.Shown.{Shown}
+use Rattle.ocl_explain.specs.RuleNames.{RuleNames, names_by}
 use Rattle.ocl_explain.specs.Judged.{AreJudged, IsRefusedBy}
 use Rattle.ocl_explain.specs.WhyAnswers.{rule_named, why_text}
 use Rattle.ocl_explain.specs.CodeWhy.{rule_number, code_why_text}
@@ -72,9 +74,9 @@ module _ (e : Explainer) (shown : Shown) where
 
 -- ---- rules
 
--- typed rules of a text
-abbrev pub rules_explainer : Population → List CheckedRule → Explainer
-rules_explainer p rs = record { has_rule = λ name. is_some (rule_named rs name); why = why_text p rs }
+-- typed rules of a text, with names of their variables
+abbrev pub rules_explainer : Population → List RuleNames → List CheckedRule → Explainer
+rules_explainer p names rs = record { has_rule = λ name. is_some (rule_named rs name); why = why_text p names rs }
 
 -- the rules of a code file
 abbrev pub code_explainer : Population → Content → Explainer
@@ -82,9 +84,9 @@ code_explainer p u = record { has_rule = λ name. is_some (rule_number u name); 
 
 -- ---- inputs
 
--- the report that the rules mean, or what it has of the rule of a name, with explanations below its findings; or the line by
--- which `judge` refuses an input
+-- the report that the rules mean, or what it has of the rule of a name, with explanations below its findings, which have the names
+-- that the text gives to variables; or the line by which `judge` refuses an input
 abbrev pub ExplainedAnswers : ℕ → Shown → Option (List ℕ) → List ℕ → List ℕ → List ℕ → Answer → Type 0
 ExplainedAnswers budget shown rule model delivery rules answer =
-    ((p : Population) × (rs : List CheckedRule) × AreJudged budget model delivery rules p rs × (answer ≡ explained_answer (rules_explainer p rs) shown rule (meant_answer p rs)))
+    ((p : Population) × (rs : List CheckedRule) × (t : TextReading) × ReadsAs rules t × AreJudged budget model delivery rules p rs × (answer ≡ explained_answer (rules_explainer p (names_by t rs) rs) shown rule (meant_answer p rs)))
     ⊎ IsRefusedBy budget model delivery rules answer

@@ -7,6 +7,7 @@ use Rattle.ocl_pipeline.specs.declared.refusal.Refusal.{Refusal}
 use Rattle.ocl_pipeline.specs.declared.stopped.Stopped.{Stopped}
 use Rattle.ocl_pipeline.specs.declared.stopped.Stopped.TheVariants.{Refused, OutOfMemory}
 use Rattle.ocl_pipeline.specs.Inputs.{model_of, population_of}
+use Rattle.ocl_pipeline.specs.TextReading.{TextReading}
 use Rattle.ocl_pipeline.specs.Asked.{PopulationAndRules, PopulationAndUnit}
 use Rattle.ocl_check.specs.declared.commands.judge.JudgeOptions.{JudgeOptions}
 use Rattle.ocl_check.specs.declared.commands.judge.RulesForm.{RulesForm}
@@ -29,10 +30,10 @@ use Rattle.ocl_explain.specs.ExplainedReport.{ExplainedAnswers}
 
 -- ---- what is told of findings
 
--- the report that rules mean of a population, with explanations if these are wanted
-abbrev pub detailed_within : ℕ → Detail → PopulationAndRules → Answer
-detailed_within budget detail.Verdict asked = meant_within budget asked
-detailed_within budget (detail.Why shown) asked = explained_within budget shown None asked
+-- the report that rules mean of a population, with explanations if these are wanted, by what the rules' text is read as
+abbrev pub detailed_within : TextReading → ℕ → Detail → PopulationAndRules → Answer
+detailed_within t budget detail.Verdict asked = meant_within budget asked
+detailed_within t budget (detail.Why shown) asked = explained_within t budget shown None asked
 
 -- that of a unit
 abbrev pub code_detailed_within : ℕ → Detail → PopulationAndUnit → Answer

@@ -1,5 +1,6 @@
 -- Definitions: what contracts mean.
 pub mod Judged
+pub mod RuleNames
 pub mod WhyAnswers
 pub mod ExplainedReport
 pub mod TestedRules

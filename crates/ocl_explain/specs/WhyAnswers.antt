@@ -5,8 +5,10 @@ use Rattle.imkl_population.specs.Population.{Population, is_instance, object_num
 use Rattle.ocl_core.specs.Core.{CheckedRule}
 use Rattle.ocl_check.specs.declared.commands.judge.TheConstants.{MAX_BUDGET}
 use Rattle.ocl_check.specs.Reply.{Answer}
+use Rattle.ocl_pipeline.specs.TextReading.{TextReading, ReadsAs}
 use Rattle.explain_notes.specs.Lines.{cut_text}
-use Rattle.explain_why.specs.Explanation.{explanation}
+use Rattle.explain_why.specs.Explanation.{named_explanation}
+use Rattle.ocl_explain.specs.RuleNames.{RuleNames, given_for, names_by}
 use Rattle.ocl_explain.specs.Judged.{AreJudged, IsRefusedBy}
 
 -- ---- a population and rules
@@ -16,10 +18,10 @@ abbrev pub rule_named : List CheckedRule → List ℕ → Option CheckedRule
 rule_named [] name = None
 rule_named (r ∷ rs) name = if bytes_eq r.name name then Some r else rule_named rs name
 
-module _ (p : Population) where
+module _ (p : Population) (names : List RuleNames) where
   -- why a rule has its verdict for an object that it judges: one of its context class or of a subclass of it
   abbrev pub judged_text : CheckedRule → ℕ → Option (List ℕ)
-  judged_text r o = if is_instance p r.context o then Some (explanation p r o) else None
+  judged_text r o = if is_instance p r.context o then Some (named_explanation p r (given_for names r.name) o) else None
 
   abbrev pub text_for_object : CheckedRule → Option ℕ → Option (List ℕ)
   text_for_object r None = None
@@ -41,10 +43,11 @@ abbrev pub why_answer : Option (List ℕ) → Answer
 why_answer None = ([], 2)
 why_answer (Some text) = (text, 0)
 
--- what is told of the bytes of inputs: why the rule of a name has its verdict for the object of an id
+-- what is told of the bytes of inputs: why the rule of a name has its verdict for the object of an id, with the names that the text
+-- gives to its variables
 abbrev pub IsTold : List ℕ → List ℕ → List ℕ → List ℕ → List ℕ → Answer → Type 0
 IsTold model delivery rules name id answer =
-    (p : Population) × (rs : List CheckedRule) × AreJudged MAX_BUDGET model delivery rules p rs × (answer ≡ why_answer (why_text p rs name id))
+    (p : Population) × (rs : List CheckedRule) × (t : TextReading) × ReadsAs rules t × AreJudged MAX_BUDGET model delivery rules p rs × (answer ≡ why_answer (why_text p (names_by t rs) rs name id))
 
 -- of an explanation so many lines, and how many more there are
 abbrev pub shown_answer : ℕ → Answer → Answer

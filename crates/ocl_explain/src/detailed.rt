@@ -6,7 +6,7 @@ ghost use Rattle.ocl_core.specs.CoreView.{checked_rule_of};
 ghost use Rattle.ocl_core.specs.Typing.{IsTypedRule};
 ghost use Rattle.ocl_pipeline.specs.Asked.{AreCompiledFor};
 ghost use Rattle.ocl_pipeline.specs.CompiledRules.{CompiledRules};
-ghost use Rattle.ocl_pipeline.specs.TextReading.{TextReading};
+ghost use Rattle.ocl_pipeline.specs.TextReading.{TextReading, ReadsAs};
 ghost use Rattle.ocl_check.specs.Answers.{IsAnswered};
 ghost use Rattle.ocl_check.specs.Given.{pair_answer, meant_within};
 ghost use Rattle.ocl_check.specs.Judge.{budget_answer};
@@ -19,6 +19,7 @@ use explain_refusals::{Explaining, Listener};
 use imkl_population::Population;
 use ocl_check::{Outcome, Report, Telling};
 use ocl_core::CoreRule;
+use ocl_pipeline::laws::each_text_is_read;
 use ocl_pipeline::{CodeAsker, TextAsker};
 use rule_verify::Accepted;
 use std::alloc::Global;
@@ -28,6 +29,8 @@ use std::alloc::Global;
 pub(crate) struct DetailedReport<'a, L> {
     pub(crate) budget: u64,
     pub(crate) detail: Detail,
+    /// The bytes of the rules.
+    pub(crate) rules: &'a [u8],
     pub(crate) watch: &'a Explaining<'a, L>,
 }
 
@@ -79,13 +82,17 @@ impl<L: Listener> DetailedReport<'_, L> {
             (map checked_rule_of rules.now) }
         ensures { (t : TextReading) (c : CompiledRules) → AreCompiledFor population.now.content t c
             → c.rules ≡ map checked_rule_of rules.now → c.unit ≡ accepted.now.unit →
-            IsAnswered (explained_within self.now.budget shown None (population.now.content, c))
-            (Some []) (Some result.text.items) result.outcome }
+            (w : TextReading) × ReadsAs self.now.rules.now w ×
+            IsAnswered (explained_within w self.now.budget shown None (
+              population.now.content,
+              c,
+            )) (Some []) (Some result.text.items) result.outcome }
     {
         let report = ExplainedReport {
             budget: self.budget,
             shown,
             rule: None,
+            rules: self.rules,
             watch: self.watch,
         };
         let mut memory = Telling::new(Vec::new(alloc));
@@ -107,11 +114,12 @@ impl<L: Listener> DetailedReport<'_, L> {
             (map checked_rule_of rules.now) }
         ensures { (t : TextReading) (c : CompiledRules) → AreCompiledFor population.now.content t c
             → c.rules ≡ map checked_rule_of rules.now → c.unit ≡ accepted.now.unit →
-            IsAnswered (detailed_within self.now.budget self.now.detail (
-              population.now.content,
-              c,
-            )) (Some []) (Some result.text.items) result.outcome }
+            (w : TextReading) × ReadsAs self.now.rules.now w ×
+            IsAnswered (detailed_within w self.now.budget
+            self.now.detail (population.now.content, c)) (Some []) (Some result.text.items)
+            result.outcome }
     {
+        each_text_is_read();
         match self.detail {
             Detail::Verdict => self.report(alloc, population, rules, accepted),
             Detail::Why(shown) => self.explained(alloc, shown, population, rules, accepted),
@@ -159,6 +167,7 @@ impl<L: Listener> DetailedReport<'_, L> {
             budget: self.budget,
             shown,
             rule: None,
+            rules: self.rules,
             watch: self.watch,
         };
         let mut memory = Telling::new(Vec::new(alloc));

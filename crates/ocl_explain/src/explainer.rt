@@ -6,9 +6,11 @@ ghost use Rattle.imkl_population.specs.Population as population;
 ghost use Rattle.ocl_core.specs.CoreView.{checked_rule_of};
 ghost use Rattle.ocl_core.specs.Typing.{IsTypedRule};
 ghost use Rattle.ocl_explain.specs.ExplainedReport.{rules_explainer, code_explainer};
+ghost use Rattle.ocl_explain.specs.RuleNames.{rule_names};
 ghost use Rattle.ocl_explain.specs.FindingView.{finding_text};
 
 use crate::code_whys::{CodeFound, find_code_verdict, rule_named, unknown_code_rule};
+use crate::rule_names::RuleNames;
 use crate::unknown::unknown_rule;
 use crate::verdicts::{Found, find_verdict, is_rule};
 use explain_refusals::Words;
@@ -63,13 +65,16 @@ pub(crate) trait Explainer {
 #[derive(Drop)]
 pub(crate) struct TextRules<'r> {
     pub(crate) rules: &'r [CoreRule],
+    /// The names that the text gives to their variables.
+    pub(crate) names: &'r [RuleNames],
 }
 
 impl Explainer for TextRules<'_> {
     ghost can_explain = { λ r p. AllByRecursion (IsTypedRule p.model)
         (map checked_rule_of r.rules.now) };
 
-    ghost explains = { λ r p. rules_explainer p (map checked_rule_of r.rules.now) };
+    ghost explains = { λ r p. rules_explainer p (map rule_names r.names.now)
+        (map checked_rule_of r.rules.now) };
 
     fn has_rule(&self, name: &[u8]) -> bool {
         is_rule(self.rules, name)
@@ -83,7 +88,7 @@ impl Explainer for TextRules<'_> {
         first: usize,
         id: &[u8],
     ) -> Result<Option<Finding>, OutOfMemory> {
-        match find_verdict(alloc, population, self.rules, name, first, id)? {
+        match find_verdict(alloc, population, self.names, self.rules, name, first, id)? {
             Found::Explained { text, object } => Ok(Some(Finding { text, object })),
             Found::NoRule | Found::NoObject | Found::NotJudged { .. } => Ok(None),
         }

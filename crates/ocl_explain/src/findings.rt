@@ -7,9 +7,11 @@ ghost use Rattle.ocl_check.specs.Ending.{IsEnding};
 ghost use Rattle.ocl_check.specs.Given.{given_answer};
 ghost use Rattle.ocl_check.specs.Reply.{Answer};
 ghost use Rattle.ocl_explain.specs.Explained.{explained_within, code_explained_within, code_explained_answer};
+ghost use Rattle.ocl_pipeline.specs.TextReading.{TextReading, ReadsAs};
 ghost use Rattle.ocl_explain.specs.ExplainedReport.{explained_report, reported, explained_answer, ExplainedAnswers};
 
 use crate::explainer::{CodeRules, Explainer, TextRules};
+use crate::rule_names::names_in;
 use crate::weaving::{Shown, Wanted, explained_report};
 use explain_notes::Input;
 use explain_refusals::{Ending, Explaining, Given, Listener, Nobody, options_of, write_answer};
@@ -19,6 +21,7 @@ use ocl_check::{
     CommandFault, JudgeOptions, MAX_BUDGET, Outcome, Report, RulesForm, Sink, Telling, stop,
 };
 use ocl_core::CoreRule;
+use ocl_pipeline::laws::each_text_is_read;
 use ocl_pipeline::{CodeAsker, OfCode, OfText, Place, Stopped, TextAsker, ask_inputs};
 use rule_verify::Accepted;
 use std::alloc::Global;
@@ -44,6 +47,8 @@ pub(crate) struct ExplainedReport<'a, L> {
     pub(crate) budget: u64,
     pub(crate) shown: Shown,
     pub(crate) rule: Option<&'a str>,
+    /// The bytes of the rules.
+    pub(crate) rules: &'a [u8],
     pub(crate) watch: &'a Explaining<'a, L>,
 }
 
@@ -164,8 +169,9 @@ impl<S: Sink, L: Listener> TextAsker<S> for ExplainedReport<'_, L> {
 
     ghost can_ask = { λ s. S.has_failed s ≡ false };
 
-    ghost answers = { λ e given old o new. IsEnding S.contents S.has_failed S.flushes S.has_pending
-        true (given_answer (explained_within e.budget e.shown (option_map (λ r. r.now) e.rule))
+    ghost answers = { λ e given old o new. (t : TextReading) × ReadsAs e.rules.now t ×
+        IsEnding S.contents S.has_failed S.flushes S.has_pending
+        true (given_answer (explained_within t e.budget e.shown (option_map (λ r. r.now) e.rule))
         given) old o new };
 
     fn ask(
@@ -176,6 +182,11 @@ impl<S: Sink, L: Listener> TextAsker<S> for ExplainedReport<'_, L> {
         accepted: &Accepted<'_>,
         sink: &mut S,
     ) -> Outcome {
+        each_text_is_read();
+        let names = match names_in(alloc, self.rules, rules) {
+            Ok(names) => names,
+            Err(OutOfMemory) => return Outcome::Failed(CommandFault::OutOfMemory),
+        };
         let report = Report {
             budget: self.budget,
             watch: self.watch,
@@ -183,11 +194,15 @@ impl<S: Sink, L: Listener> TextAsker<S> for ExplainedReport<'_, L> {
         let mut memory = Telling::new(Vec::new(alloc));
         let judged = TextAsker::ask(&report, alloc, population, rules, accepted, &mut memory);
         let text = memory.into_inner();
-        let explainer = TextRules { rules };
+        let explainer = TextRules {
+            rules,
+            names: &names,
+        };
         self.write_judged(alloc, &explainer, population, &text, judged, sink)
     }
 
     fn stop(&self, alloc: Global, place: Place<'_>, why: Stopped, sink: &mut S) -> Outcome {
+        each_text_is_read();
         stop(alloc, self.watch, place, why, sink)
     }
 }
@@ -264,6 +279,7 @@ pub fn answer_judge_why<'i, S: Sink, L: Listener>(
             budget,
             shown,
             rule: None,
+            rules: rules.bytes,
             watch: &watch,
         },
         text: rules.bytes,
@@ -301,6 +317,7 @@ pub fn answer_why_rule<S: Sink>(alloc: Global, asked: RuleAsked<'_>, sink: &mut 
             budget: MAX_BUDGET,
             shown: asked.shown,
             rule: Some(asked.rule),
+            rules: asked.rules.bytes,
             watch: &watch,
         },
         text: asked.rules.bytes,
@@ -356,6 +373,7 @@ pub fn answer_judge_why_code<'i, S: Sink, L: Listener>(
             budget,
             shown,
             rule: None,
+            rules: code.bytes,
             watch: &watch,
         },
         code: code.bytes,
@@ -382,6 +400,7 @@ pub fn answer_why_code_rule<S: Sink>(alloc: Global, asked: RuleAsked<'_>, sink: 
             budget: MAX_BUDGET,
             shown: asked.shown,
             rule: Some(asked.rule),
+            rules: asked.rules.bytes,
             watch: &watch,
         },
         code: asked.rules.bytes,

@@ -7,6 +7,7 @@ ghost use Rattle.ocl_check.specs.Reply.{Answer, refused};
 ghost use Rattle.explain_faults.specs.declared.fault.Fault.{Fault};
 ghost use Rattle.report_forms.specs.declared.beside.RuleMessage.{RuleMessage};
 ghost use Rattle.report_forms.specs.Forms.{form_of_report};
+ghost use Rattle.ocl_pipeline.specs.TextReading.{TextReading, ReadsAs};
 ghost use Rattle.ocl_explain.specs.FormedReport.{context_in, detailed_within, code_detailed_within, formed_in, formed_refusal, formed_given, IsFormDue, FormAnswers};
 
 use crate::detailed::{Answered, DetailedReport};
@@ -17,6 +18,7 @@ use explain_refusals::{Ending, Explaining, Given, Listener, write_answer};
 use imkl_population::Population;
 use ocl_check::{CommandFault, JudgeOptions, Outcome, RulesForm, Sink, Telling, stop};
 use ocl_core::CoreRule;
+use ocl_pipeline::laws::each_text_is_read;
 use ocl_pipeline::{CodeAsker, OfCode, OfText, Place, Refusal, Stopped, TextAsker, ask_inputs};
 use report_forms::{
     Beside, Form, RuleMessage, entry_places, form_of_refusal, form_of_report, rule_messages,
@@ -30,7 +32,6 @@ struct FormedReport<'a, L> {
     report: DetailedReport<'a, L>,
     form: Form,
     delivery: Input<'a>,
-    rules: &'a [u8],
 }
 
 /// A report on the population of a delivery, in a form.
@@ -196,7 +197,7 @@ impl<L: Listener> FormedReport<'_, L> {
             self.now.delivery.bytes.now messages faults.now population.now.content said)
             sink.old result sink.new }
     {
-        match rule_messages(alloc, self.rules) {
+        match rule_messages(alloc, self.report.rules) {
             Ok(messages) => {
                 self.write_judged(alloc, population, &messages, faults, text, judged, sink)
             }
@@ -288,9 +289,10 @@ impl<S: Sink, L: Listener> TextAsker<S> for FormedReport<'_, L> {
     ghost can_ask = { λ s. S.has_failed s ≡ false };
 
     ghost answers = { λ f given old o new. (messages : List RuleMessage) × (faults : List Fault) ×
+        (t : TextReading) × ReadsAs f.report.rules.now t ×
         IsEnding S.contents S.has_failed S.flushes S.has_pending true (formed_given f.form
         f.delivery.path.now f.delivery.bytes.now messages faults (λ x. x.0)
-        (detailed_within f.report.budget f.report.detail) given) old o new };
+        (detailed_within t f.report.budget f.report.detail) given) old o new };
 
     fn ask(
         &self,
@@ -310,6 +312,7 @@ impl<S: Sink, L: Listener> TextAsker<S> for FormedReport<'_, L> {
     }
 
     fn stop(&self, alloc: Global, place: Place<'_>, why: Stopped, sink: &mut S) -> Outcome {
+        each_text_is_read();
         self.end_stopped(alloc, place, why, sink)
     }
 }
@@ -383,11 +386,11 @@ fn ask_form<S: Sink, L: Listener>(
         report: DetailedReport {
             budget: asked.options.budget,
             detail: asked.detail,
+            rules,
             watch,
         },
         form: asked.form,
         delivery,
-        rules,
     };
     match asked.options.form {
         RulesForm::Code => {

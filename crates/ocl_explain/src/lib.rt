@@ -12,6 +12,7 @@ mod findings;
 mod formed;
 mod last_error;
 mod listing;
+mod rule_names;
 mod schema;
 mod selecting;
 mod showing;

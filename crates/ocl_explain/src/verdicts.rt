@@ -6,9 +6,11 @@ ghost use Rattle.imkl_population.specs.Population.{object_number};
 ghost use Rattle.ocl_core.specs.CoreView.{checked_rule_of};
 ghost use Rattle.ocl_core.specs.Typing.{IsTypedRule};
 ghost use Rattle.ocl_explain.specs.Explained.{found_text};
+ghost use Rattle.ocl_explain.specs.RuleNames.{rule_names};
 ghost use Rattle.ocl_explain.specs.WhyAnswers.{judged_text, text_for_object, rule_named, why_text};
 
-use explain_why::explain_verdict;
+use crate::rule_names::{RuleNames, given_for};
+use explain_why::explain_named_verdict;
 use imkl_population::{ObjectNo, Population};
 use ocl_base::OutOfMemory;
 use ocl_core::CoreRule;
@@ -42,17 +44,19 @@ pub(crate) enum Found<'m> {
 fn find_judged<'m>(
     alloc: Global,
     population: &Population<'m>,
+    names: &[RuleNames],
     rule: &CoreRule,
     object: ObjectNo,
 ) -> Result<Found<'m>, OutOfMemory>
     requires rule { IsTypedRule population.now.content.model (checked_rule_of rule.now) }
     requires object { object < length population.now.content.objects }
     ensures { IfOk result (λ f. found_text f ≡ judged_text population.now.content
-        (checked_rule_of rule.now) object) }
+        (map rule_names names.now) (checked_rule_of rule.now) object) }
 {
     let (model, class) = (population.model(), population.class_of(object));
     if model.conforms(class, rule.context) {
-        let text = explain_verdict(alloc, population, rule, object)?;
+        let given = given_for(names, rule.name.as_str());
+        let text = explain_named_verdict(alloc, population, rule, given, object)?;
         return Ok(Found::Explained { text, object });
     }
     Ok(Found::NotJudged {
@@ -65,16 +69,18 @@ fn find_judged<'m>(
 fn find_object<'m>(
     alloc: Global,
     population: &Population<'m>,
+    names: &[RuleNames],
     rule: &CoreRule,
     first: usize,
     id: &[u8],
 ) -> Result<Found<'m>, OutOfMemory>
     requires { IsTypedRule population.now.content.model (checked_rule_of rule.now) }
     ensures { IfOk result (λ f. found_text f ≡ text_for_object population.now.content
-        (checked_rule_of rule.now) (object_number population.now.content id.now)) }
+        (map rule_names names.now) (checked_rule_of rule.now)
+        (object_number population.now.content id.now)) }
 {
     match object_named(population, first, id) {
-        Some(object) => find_judged(alloc, population, rule, object),
+        Some(object) => find_judged(alloc, population, names, rule, object),
         None => Ok(Found::NoObject),
     }
 }
@@ -83,6 +89,7 @@ fn find_object<'m>(
 pub(crate) fn find_verdict<'m>(
     alloc: Global,
     population: &Population<'m>,
+    names: &[RuleNames],
     rules: &[CoreRule],
     name: &[u8],
     first: usize,
@@ -91,11 +98,11 @@ pub(crate) fn find_verdict<'m>(
     requires { AllByRecursion (IsTypedRule population.now.content.model)
         (map checked_rule_of rules.now) }
     ensures { IfOk result (λ f. found_text f ≡ why_text population.now.content
-        (map checked_rule_of rules.now) name.now id.now) }
+        (map rule_names names.now) (map checked_rule_of rules.now) name.now id.now) }
 {
     'rules: for rule in rules {
         if rule.name.as_str().as_bytes() == name {
-            return find_object(alloc, population, rule, first, id);
+            return find_object(alloc, population, names, rule, first, id);
         }
     }
     Ok(Found::NoRule)

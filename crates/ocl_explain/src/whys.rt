@@ -10,8 +10,11 @@ ghost use Rattle.ocl_check.specs.Answers.{IsAnsweredBy, IsFlushedBy, KeepsUnread
 ghost use Rattle.ocl_check.specs.Ending.{IsEnding};
 ghost use Rattle.ocl_check.specs.Given.{given_answer};
 ghost use Rattle.ocl_explain.specs.Explained.{found_text, why_of};
+ghost use Rattle.ocl_pipeline.specs.TextReading.{TextReading, ReadsAs};
+ghost use Rattle.ocl_explain.specs.RuleNames.{rule_names, names_by};
 ghost use Rattle.ocl_explain.specs.WhyAnswers.{shown_answer, why_answer, why_text, WhyAnswers};
 
+use crate::rule_names::{RuleNames, names_in};
 use crate::unknown::{not_judged, unknown_object, unknown_rule};
 use crate::verdicts::{Found, find_verdict};
 use explain_notes::{Input, cut_text};
@@ -20,6 +23,7 @@ use imkl_population::{Population, Sizes};
 use ocl_base::OutOfMemory;
 use ocl_check::{CommandFault, MAX_BUDGET, Outcome, RulesForm, Sink, stop};
 use ocl_core::CoreRule;
+use ocl_pipeline::laws::each_text_is_read;
 use ocl_pipeline::{OfText, Place, SizedCode, Stopped, TextAsker, ask_inputs};
 use rule_cost::admit;
 use rule_verify::Accepted;
@@ -113,6 +117,7 @@ fn answer_judged<S: Sink>(
     alloc: Global,
     explanation: Explanation<'_>,
     population: &Population<'_>,
+    names: &[RuleNames],
     rules: &[CoreRule],
     sink: &mut S,
 ) -> Outcome
@@ -121,14 +126,14 @@ fn answer_judged<S: Sink>(
     requires well { S.has_failed sink.old ≡ false }
     ensures { IsEnding S.contents S.has_failed S.flushes S.has_pending false
         (shown_answer explanation.entry.asked.lines (why_answer (why_text population.now.content
-        (map checked_rule_of rules.now) explanation.entry.asked.rule.now
+        (map rule_names names.now) (map checked_rule_of rules.now) explanation.entry.asked.rule.now
         explanation.entry.asked.id.now))) sink.old result sink.new }
 {
     let (name, id) = (
         explanation.asked.rule.as_bytes(),
         explanation.asked.id.as_bytes(),
     );
-    match find_verdict(alloc, population, rules, name, 0, id) {
+    match find_verdict(alloc, population, names, rules, name, 0, id) {
         Ok(found) => write_found(alloc, explanation, rules, found, sink),
         Err(OutOfMemory) => Outcome::Failed(CommandFault::OutOfMemory),
     }
@@ -139,6 +144,7 @@ fn answer_sized<S: Sink>(
     alloc: Global,
     explanation: Explanation<'_>,
     population: &Population<'_>,
+    names: &[RuleNames],
     rules: &[CoreRule],
     sizes: &Sizes<'_>,
     accepted: &Accepted<'_>,
@@ -149,19 +155,59 @@ fn answer_sized<S: Sink>(
         (map checked_rule_of rules.now) }
     requires sizes { sizes.now ≡ sizes_of population.now.content }
     requires well { S.has_failed sink.old ≡ false }
-    ensures { IsEnding S.contents S.has_failed S.flushes S.has_pending false
-        (why_of explanation.entry.asked.rule.now explanation.entry.asked.id.now
+    ensures { (t : TextReading) → map rule_names names.now ≡
+        names_by t (map checked_rule_of rules.now) →
+        IsEnding S.contents S.has_failed S.flushes S.has_pending false
+        (why_of t explanation.entry.asked.rule.now explanation.entry.asked.id.now
         explanation.entry.asked.lines (
           population.now.content,
           rules_with (map checked_rule_of rules.now) accepted.now.unit,
         )) sink.old result sink.new }
 {
     match admit(alloc, accepted, sizes, MAX_BUDGET) {
-        Ok(_admitted) => answer_judged(alloc, explanation, population, rules, sink),
+        Ok(_admitted) => answer_judged(alloc, explanation, population, names, rules, sink),
         Err(fault) => {
             let place = Place::Cost(SizedCode::new(accepted, sizes));
             stop(alloc, explanation.watch, place, Stopped::from(fault), sink)
         }
+    }
+}
+
+/// Answers of typed rules and their accepted unit, with names of the rules' variables.
+fn answer_named<S: Sink>(
+    alloc: Global,
+    explanation: Explanation<'_>,
+    population: &Population<'_>,
+    names: &[RuleNames],
+    rules: &[CoreRule],
+    accepted: &Accepted<'_>,
+    sink: &mut S,
+) -> Outcome
+    requires one_model { population.now.content.model ≡ accepted.now.model }
+    requires typed { AllByRecursion (IsTypedRule population.now.content.model)
+        (map checked_rule_of rules.now) }
+    requires well { S.has_failed sink.old ≡ false }
+    ensures { (t : TextReading) → map rule_names names.now ≡
+        names_by t (map checked_rule_of rules.now) →
+        IsEnding S.contents S.has_failed S.flushes S.has_pending false
+        (why_of t explanation.entry.asked.rule.now explanation.entry.asked.id.now
+        explanation.entry.asked.lines (
+          population.now.content,
+          rules_with (map checked_rule_of rules.now) accepted.now.unit,
+        )) sink.old result sink.new }
+{
+    match population.sizes(alloc) {
+        Ok(sizes) => answer_sized(
+            alloc,
+            explanation,
+            population,
+            names,
+            rules,
+            &sizes,
+            accepted,
+            sink,
+        ),
+        Err(_failed) => Outcome::Failed(CommandFault::OutOfMemory),
     }
 }
 
@@ -170,8 +216,9 @@ impl<S: Sink> TextAsker<S> for Explanation<'_> {
 
     ghost can_ask = { λ s. S.has_failed s ≡ false };
 
-    ghost answers = { λ e given old o new. IsEnding S.contents S.has_failed S.flushes S.has_pending
-        false (given_answer (why_of e.asked.rule.now e.asked.id.now e.asked.lines) given)
+    ghost answers = { λ e given old o new. (t : TextReading) × ReadsAs e.asked.rules.bytes.now t ×
+        IsEnding S.contents S.has_failed S.flushes S.has_pending
+        false (given_answer (why_of t e.asked.rule.now e.asked.id.now e.asked.lines) given)
         old o new };
 
     fn ask(
@@ -182,13 +229,15 @@ impl<S: Sink> TextAsker<S> for Explanation<'_> {
         accepted: &Accepted<'_>,
         sink: &mut S,
     ) -> Outcome {
-        match population.sizes(alloc) {
-            Ok(sizes) => answer_sized(alloc, *self, population, rules, &sizes, accepted, sink),
-            Err(_failed) => Outcome::Failed(CommandFault::OutOfMemory),
+        each_text_is_read();
+        match names_in(alloc, self.asked.rules.bytes, rules) {
+            Ok(names) => answer_named(alloc, *self, population, &names, rules, accepted, sink),
+            Err(OutOfMemory) => Outcome::Failed(CommandFault::OutOfMemory),
         }
     }
 
     fn stop(&self, alloc: Global, place: Place<'_>, why: Stopped, sink: &mut S) -> Outcome {
+        each_text_is_read();
         stop(alloc, self.watch, place, why, sink)
     }
 }

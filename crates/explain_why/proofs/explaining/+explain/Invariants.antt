@@ -6,6 +6,7 @@ use Rattle.owned_values.specs.Meant.{meant, meant_elements, IsValueThere, AreEle
 use Rattle.ocl_semantics.specs.Meaning.{meaning}
 use Rattle.ocl_semantics.specs.Resolved.{IsResolved, AreResolved, AreThere}
 use Rattle.ocl_semantics.specs.Evaluated.{bindings, AreLinksResolved}
+use Rattle.explain_why.specs.NameWalk.{naming_view, inner_view, with_all}
 use Rattle.explain_why.specs.Turns.{fold_turn, AreTurnsThere}
 use Rattle.explain_why.specs.Explanation.{all_explained}
 use Rattle.explain_why.specs.PartWalk.{element_lines, step_lines, links_lines, lets_lines}
@@ -14,40 +15,41 @@ use Rattle.explain_why.proofs.explaining.+explain.Given as goal
 -- what was put, the values that are left, and the variables that are bound
 abbrev pub invariant-explain_values-values : goal.invariant-explain_values-values
 invariant-explain_values-values l =
-    (string_bytes l.out ++ lets_lines l.population.content (map core_view (drop l.index l.values)) (core_view l.body) l.level l.variables
-    ≡ string_bytes l.initial.out ++ lets_lines l.population.content (map core_view l.values) (core_view l.body) l.initial.level l.initial.variables)
+    (string_bytes l.out ++ lets_lines l.population.content (map core_view (drop l.index l.values)) (core_view l.body) l.level l.variables (inner_view l.inner)
+    ≡ string_bytes l.initial.out ++ lets_lines l.population.content (map core_view l.values) (core_view l.body) l.initial.level l.initial.variables (naming_view l.naming))
     × ((l.level ≡ l.initial.level + l.index)
+    × ((with_all (map core_view (drop l.index l.values)) (inner_view l.inner) ≡ with_all (map core_view l.values) (naming_view l.naming))
     × ((bindings l.population.content (map core_view (drop l.index l.values)) l.variables
     ≡ bindings l.population.content (map core_view l.values) l.initial.variables)
     × ((meant l.whole ≡ meaning l.population.content (lets_of (map core_view (drop l.index l.values)) (core_view l.body)) l.variables)
     × (AllByRecursion (IsResolved l.population.content.model) (map core_view (drop l.index l.values))
-    × (AreThere l.population.content l.variables × (drop l.index l.variables ≡ l.initial.variables))))))
+    × (AreThere l.population.content l.variables × (drop l.index l.variables ≡ l.initial.variables)))))))
 
 -- what was put, the value so far, and the links that are left
 abbrev pub invariant-explain_links-links : goal.invariant-explain_links-links
 invariant-explain_links-links l =
-    (string_bytes l.out ++ links_lines l.population.content (drop l.index l.links) l.level l.initial.variables (meant l.value)
-    ≡ string_bytes l.initial.out ++ links_lines l.population.content (drop l.from l.links) l.initial.level l.initial.variables (meant l.fn.first))
+    (string_bytes l.out ++ links_lines l.population.content (drop l.index l.links) l.level l.initial.variables (naming_view l.behind) (meant l.value)
+    ≡ string_bytes l.initial.out ++ links_lines l.population.content (drop l.from l.links) l.initial.level l.initial.variables (naming_view l.naming) (meant l.fn.first))
     × (IsValueThere l.population.content (meant l.value)
     × (AreLinksResolved l.population.content.model (drop l.index l.links) × (l.variables ≡ l.initial.variables)))
 
 -- what was put, and the trees that are left
 abbrev pub invariant-explain_all-cores : goal.invariant-explain_all-cores
 invariant-explain_all-cores l =
-    (string_bytes l.out ++ all_explained l.population.content (cores_of (map core_view (drop l.core-index l.cores))) l.level l.initial.variables
-    ≡ string_bytes l.initial.out ++ all_explained l.population.content (cores_of (map core_view l.cores)) l.level l.initial.variables)
+    (string_bytes l.out ++ all_explained l.population.content (cores_of (map core_view (drop l.core-index l.cores))) l.level l.initial.variables (naming_view l.behind)
+    ≡ string_bytes l.initial.out ++ all_explained l.population.content (cores_of (map core_view l.cores)) l.level l.initial.variables (naming_view l.naming))
     × (AreResolved l.population.content.model (cores_of (map core_view (drop l.core-index l.cores))) × (l.variables ≡ l.initial.variables))
 
 -- what was put, and the elements that are left
 abbrev pub invariant-explain_elements-elements : goal.invariant-explain_elements-elements
 invariant-explain_elements-elements l =
-    (string_bytes l.out ++ flat_map (element_lines l.population.content (core_view l.body) l.level l.initial.variables) (meant_elements (drop l.element-index l.elements))
-    ≡ string_bytes l.initial.out ++ flat_map (element_lines l.population.content (core_view l.body) l.level l.initial.variables) (meant_elements l.elements))
+    (string_bytes l.out ++ flat_map (element_lines l.population.content (core_view l.body) l.level l.initial.variables (naming_view l.naming)) (meant_elements (drop l.element-index l.elements))
+    ≡ string_bytes l.initial.out ++ flat_map (element_lines l.population.content (core_view l.body) l.level l.initial.variables (naming_view l.naming)) (meant_elements l.elements))
     × (AreElementsThere l.population.content (meant_elements (drop l.element-index l.elements)) × (l.variables ≡ l.initial.variables))
 
 -- what was put, and the turns that are left
 abbrev pub invariant-explain_turns-turns : goal.invariant-explain_turns-turns
 invariant-explain_turns-turns l =
-    (string_bytes l.out ++ flat_map (λ t. step_lines l.population.content (core_view l.body) l.level l.initial.variables t.element t.before) (map fold_turn (drop l.turn-index l.turns))
-    ≡ string_bytes l.initial.out ++ flat_map (λ t. step_lines l.population.content (core_view l.body) l.level l.initial.variables t.element t.before) (map fold_turn l.turns))
+    (string_bytes l.out ++ flat_map (λ t. step_lines l.population.content (core_view l.body) l.level l.initial.variables (naming_view l.naming) t.element t.before) (map fold_turn (drop l.turn-index l.turns))
+    ≡ string_bytes l.initial.out ++ flat_map (λ t. step_lines l.population.content (core_view l.body) l.level l.initial.variables (naming_view l.naming) t.element t.before) (map fold_turn l.turns))
     × (AreTurnsThere l.population.content (map fold_turn (drop l.turn-index l.turns)) × (l.variables ≡ l.initial.variables))

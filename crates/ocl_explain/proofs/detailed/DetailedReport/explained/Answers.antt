@@ -5,4 +5,4 @@ pub returns : goal.returns
 returns g c = λ t compiled are typed same.
     let h = c.ask-outcome.ensures t compiled are typed same in
     let text = c.into_inner-text.ensures in
-    let told = h.answered in search rules
+    let told = h.2.answered in (h.0, h.1, search rules)

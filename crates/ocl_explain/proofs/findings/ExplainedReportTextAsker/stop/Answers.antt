@@ -6,5 +6,6 @@ use Rattle.ocl_explain.proofs.findings.ExplainedReportTextAsker.stop.Goals as go
 
 pub returns : goal.returns
 returns g c = λ given fails.
-    let f = explained_within c.args.self.now.budget c.args.self.now.shown (option_map (λ r. r.now) c.args.self.now.rule) in
-    c.stop.ensures true (given_answer f given) (due c.args.why given f fails)
+    let h = c.each_text_is_read.ensures c.args.self.now.rules.now in
+    let f = explained_within h.0 c.args.self.now.budget c.args.self.now.shown (option_map (λ r. r.now) c.args.self.now.rule) in
+    (h.0, h.1, c.stop.ensures true (given_answer f given) (due c.args.why given f fails))
