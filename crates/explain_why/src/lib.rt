@@ -4,10 +4,12 @@
 
 mod deciding;
 mod differences;
+mod explainer;
 mod explaining;
 pub mod laws;
 mod marks;
 mod names;
+mod nodes;
 mod operands;
 mod pieces;
 mod reading;
@@ -16,13 +18,14 @@ mod texts;
 mod turns;
 mod valued;
 mod values;
+mod verdicts;
 mod words;
 
-pub use explaining::{ExplainedRule, explain_named_verdict, explain_rule, explain_verdict};
 pub use names::{next, put_variable};
 pub use pieces::put;
 pub use reading::given_names;
 pub use texts::{class_asked, put_all_instances, put_constant, put_wrapped};
 pub use valued::value_of;
 pub use values::put_character;
+pub use verdicts::{ExplainedRule, explain_named_verdict, explain_rule, explain_verdict};
 pub use words::{Form, iteration_word, kind_name, operator_form, operator_word};

@@ -4,7 +4,7 @@ use Rattle.ocl_text.specs.Tree.{Rule}
 use Rattle.ocl_core.specs.Core.{CheckedRule}
 use Rattle.ocl_pipeline.specs.TextReading.{TextReading}
 use Rattle.explain_why.specs.GivenNames.{given_names}
-use Rattle.ocl_explain.specs.declared.rule_names.RuleNames as declared
+use Rattle.ocl_explain.specs.declared.given_names.RuleNames as declared
 
 -- those of a rule, in the order in which its variables are bound, an empty one where the text gives none
 pub record RuleNames : Type 0 where

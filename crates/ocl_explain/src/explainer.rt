@@ -10,7 +10,7 @@ ghost use Rattle.ocl_explain.specs.RuleNames.{rule_names};
 ghost use Rattle.ocl_explain.specs.FindingView.{finding_text};
 
 use crate::code_whys::{CodeFound, find_code_verdict, rule_named, unknown_code_rule};
-use crate::rule_names::RuleNames;
+use crate::given_names::RuleNames;
 use crate::unknown::unknown_rule;
 use crate::verdicts::{Found, find_verdict, is_rule};
 use explain_refusals::Words;

@@ -11,7 +11,7 @@ ghost use Rattle.ocl_pipeline.specs.TextReading.{TextReading, ReadsAs};
 ghost use Rattle.ocl_explain.specs.ExplainedReport.{explained_report, reported, explained_answer, ExplainedAnswers};
 
 use crate::explainer::{CodeRules, Explainer, TextRules};
-use crate::rule_names::names_in;
+use crate::given_names::names_in;
 use crate::weaving::{Shown, Wanted, explained_report};
 use explain_notes::Input;
 use explain_refusals::{Ending, Explaining, Given, Listener, Nobody, options_of, write_answer};

@@ -9,7 +9,7 @@ ghost use Rattle.ocl_explain.specs.Explained.{found_text};
 ghost use Rattle.ocl_explain.specs.RuleNames.{rule_names};
 ghost use Rattle.ocl_explain.specs.WhyAnswers.{judged_text, text_for_object, rule_named, why_text};
 
-use crate::rule_names::{RuleNames, given_for};
+use crate::given_names::{RuleNames, given_for};
 use explain_why::explain_named_verdict;
 use imkl_population::{ObjectNo, Population};
 use ocl_base::OutOfMemory;

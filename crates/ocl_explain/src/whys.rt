@@ -14,7 +14,7 @@ ghost use Rattle.ocl_pipeline.specs.TextReading.{TextReading, ReadsAs};
 ghost use Rattle.ocl_explain.specs.RuleNames.{rule_names, names_by};
 ghost use Rattle.ocl_explain.specs.WhyAnswers.{shown_answer, why_answer, why_text, WhyAnswers};
 
-use crate::rule_names::{RuleNames, names_in};
+use crate::given_names::{RuleNames, names_in};
 use crate::unknown::{not_judged, unknown_object, unknown_rule};
 use crate::verdicts::{Found, find_verdict};
 use explain_notes::{Input, cut_text};

@@ -2,7 +2,7 @@ use Rattle.std.proofs.Common.{Ok, Err, map, refl}
 use Rattle.std.proofs.lemmas.Result.{IfOk-weaker}
 use Rattle.ocl_text.specs.View.{rule_of}
 use Rattle.ocl_pipeline.specs.TextReading.{text_fault_at}
-use Rattle.ocl_explain.proofs.rule_names.names_in.Goals as goal
+use Rattle.ocl_explain.proofs.given_names.names_in.Goals as goal
 
 pub returns-in-Ok : goal.returns-in-Ok
 returns-in-Ok c =

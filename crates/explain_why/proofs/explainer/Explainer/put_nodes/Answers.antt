@@ -2,11 +2,11 @@ use Rattle.std.proofs.Common.{◌<◌, ◌≤◌, ◌++◌, ◌-◌, length, tak
 use Rattle.ocl_core.specs.CoreView.{core_view}
 use Rattle.explain_why.specs.NameWalk.{naming_view}
 use Rattle.explain_why.proofs.PartNodes.{last_taken, next_left, all_links, node_goes_on, node_ends}
-use Rattle.explain_why.proofs.explaining.put_nodes.Goals as goal
+use Rattle.explain_why.proofs.explainer.Explainer.put_nodes.Goals as goal
 
 pub loop-index-init : goal.loop-index-init
 loop-index-init c =
-    (ap (λ xs. string_bytes c.args.out.now ++ xs) (all_links c.args.population.now.content c.args.variables.now (naming_view c.args.naming) (core_view c.args.first.now) c.args.links.now c.args.level), refl)
+    (ap (λ xs. string_bytes c.args.out.now ++ xs) (all_links c.args.self.population.now.content c.args.variables.now (naming_view c.args.self.naming) (core_view c.args.first.now) c.args.links.now c.args.self.level), refl)
 
 pub loop-index-preserved : goal.loop-index-preserved
 loop-index-preserved c =
@@ -19,7 +19,7 @@ loop-index-preserved c =
     let kept = c.loop-index.invariant.1 in
     let put = rw kept at c.in_ok-is_shown.ensures.text in
     let which = rw kept at c.in_ok-is_shown.ensures.shown in
-    let text = node_goes_on c.args.population.now.content c.args.variables.now (naming_view c.args.naming) (take c.loop-index.index c.args.links.now) (take i c.args.links.now) (drop i c.args.links.now) (drop c.loop-index.index c.args.links.now) link (core_view c.args.first.now) c.in_ok-is_shown.is_shown c.loop-index.level c.in_ok-level.level _ _ _ c.if-not-is_shown.false last left c.in_ok-level.ensures which put c.loop-index.invariant.0 in
+    let text = node_goes_on c.args.self.population.now.content c.args.variables.now (naming_view c.args.self.naming) (take c.loop-index.index c.args.links.now) (take i c.args.links.now) (drop i c.args.links.now) (drop c.loop-index.index c.args.links.now) link (core_view c.args.first.now) c.in_ok-is_shown.is_shown c.loop-index.level c.in_ok-level.level _ _ _ c.if-not-is_shown.false last left c.in_ok-level.ensures which put c.loop-index.invariant.0 in
     (text, c.in_ok-is_shown.ensures.kept ∙ kept)
 
 pub returns-then-not-is_shown-clause-text : goal.returns-then-not-is_shown-clause-text
@@ -33,4 +33,4 @@ returns-then-not-is_shown-clause-text c =
     let kept = c.loop-index.invariant.1 in
     let put = rw kept at c.in_ok-is_shown.ensures.text in
     let which = rw kept at c.in_ok-is_shown.ensures.shown in
-    node_ends c.args.population.now.content c.args.variables.now (naming_view c.args.naming) c.args.links.now i (take c.loop-index.index c.args.links.now) (drop c.loop-index.index c.args.links.now) link (core_view c.args.first.now) c.in_ok-is_shown.is_shown c.loop-index.level c.in_ok-level.level _ _ _ c.if-not-is_shown.true last left c.in_ok-level.ensures which put c.loop-index.invariant.0
+    node_ends c.args.self.population.now.content c.args.variables.now (naming_view c.args.self.naming) c.args.links.now i (take c.loop-index.index c.args.links.now) (drop c.loop-index.index c.args.links.now) link (core_view c.args.first.now) c.in_ok-is_shown.is_shown c.loop-index.level c.in_ok-level.level _ _ _ c.if-not-is_shown.true last left c.in_ok-level.ensures which put c.loop-index.invariant.0
