@@ -107,7 +107,7 @@ explain-returns-in-Let-clause-text t c =
     let lets = rw (c.deref-in-Let.ensures.value, c.deref-in-Let-2.ensures, c.in_ok-whole-in-Let.ensures.kept) at c.in_ok-below-in-Let.ensures.text in
     let deep = rw c.deref-in-Let.ensures.value at c.in_ok-below-in-Let.ensures.level in
     let bound = rw (c.deref-in-Let.ensures.value, c.in_ok-whole-in-Let.ensures.kept) at c.in_ok-below-in-Let.ensures.bound in
-    let body = rw (c.deref-in-Let-3.ensures, bound, c.naming-within.ensures) at c.in_ok-explain-in-Let.ensures.text in
+    let body = rw (c.deref-in-Let-3.ensures, bound, c.naming.ensures) at c.in_ok-explain-in-Let.ensures.text in
     let names = rw c.deref-in-Let.ensures.value at c.in_ok-below-in-Let.ensures.names in
     let whole = let_parts c.args.core.now c.in-Let.values c.in-Let.body c.in-Let.is c.args.self.population.now.content c.args.variables.now (naming_view c.args.self.naming) (inner_view c.in_ok-below-in-Let.below.inner) c.args.self.level c.in_ok-below-in-Let.below.level deep names in
     two_put _ _ _ _ _ _ lets body whole
