@@ -13,7 +13,7 @@ use Rattle.ocl_explain.specs.RuleNames.{RuleNames, names_of_rules}
 no_more : (ws : List Rule) (rs : List CheckedRule) → min (length ws) (length rs) ≡ 0 → names_of_rules ws rs ≡ []
 no_more [] rs h = refl
 no_more (w ∷ ws) [] h = refl
-no_more (w ∷ ws) (r ∷ rs) h = absurd (omega h)
+no_more (w ∷ ws) (r ∷ rs) h = absurd (omega (arith, h))
 
 -- so all are named where as many were
 pub all_named : (ws : List SurfaceRule) (rs : List CoreRule) (i : ℕ) (names whole : List RuleNames) → min (length ws) (length rs) ≤ i
