@@ -1,5 +1,5 @@
 -- What `judge` prints in a form is its answer in the form, of a population that its inputs describe or of a refusal.
-use Rattle.std.proofs.Common.{◌≡◌, inl, inr, ◌∙◌, ℕ, List, None, Result, Ok, Err, refl, sym, ap, subst}
+use Rattle.std.proofs.Common.{◌≡◌, inl, inr, ℕ, List, None, Result, Ok, Err, refl, sym, ap, subst}
 use Rattle.ocl_base.specs.Steps.{◌>>=◌, Fails}
 use Rattle.ocl_base.proofs.ForAbove.{both_steps, ok_is}
 use Rattle.imkl_population.specs.Population.{Population}
@@ -16,7 +16,7 @@ use Rattle.ocl_pipeline.proofs.ForAbove.{not_refused}
 use Rattle.ocl_check.specs.declared.commands.judge.JudgeOptions.{JudgeOptions}
 use Rattle.ocl_check.specs.declared.commands.judge.RulesForm.{RulesForm}
 use Rattle.ocl_check.specs.declared.commands.judge.RulesForm.TheVariants.{Code, Text}
-use Rattle.ocl_check.specs.Reply.{Answer, refused}
+use Rattle.ocl_check.specs.Reply.{Answer}
 use Rattle.ocl_check.specs.Given.{given_answer}
 use Rattle.ocl_check.specs.Judge.{budget_answer}
 use Rattle.ocl_check.specs.JudgeText.{JudgeAnswers}
@@ -26,7 +26,7 @@ use Rattle.report_forms.specs.declared.beside.RuleMessage.{RuleMessage}
 use Rattle.report_forms.specs.declared.form.Form.{Form}
 use Rattle.ocl_explain.specs.declared.weaving.Detail.{Detail}
 use Rattle.ocl_explain.specs.declared.weaving.Detail.TheVariants as detail
-use Rattle.ocl_explain.specs.FormedReport.{detailed_within, code_detailed_within, WhyAnswersOf, DetailedAnswers, formed_in, formed_refusal, formed_given, IsFormDue, AreInputsOf, IsFormOf}
+use Rattle.ocl_explain.specs.FormedReport.{detailed_within, code_detailed_within, WhyAnswersOf, DetailedAnswers, formed_given, IsFormDue, AreInputsOf, IsFormOf}
 use Rattle.ocl_explain.proofs.Answering.{explained_answers}
 
 -- where this is why the pipeline stopped, the form of its line is due

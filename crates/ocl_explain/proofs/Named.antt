@@ -1,5 +1,5 @@
 -- The rule of a name is the one that a walk over the rules finds first.
-use Rattle.std.proofs.Common.{◌≡◌, ℕ, ◌+◌, ◌<◌, ◌≤◌, Bool, true, false, List, length, drop, map, get_or, Some, None, refl, add-one, drop-cons, bytes_eq, if◌then◌else◌}
+use Rattle.std.proofs.Common.{◌≡◌, ℕ, ◌+◌, ◌<◌, ◌≤◌, Bool, List, length, drop, map, get_or, Some, None, refl, add-one, drop-cons, bytes_eq, if◌then◌else◌}
 use Rattle.std.proofs.lemmas.List.{at_drop_all}
 use Rattle.ocl_core.specs.Core.{CheckedRule}
 use Rattle.ocl_explain.specs.WhyAnswers.{rule_named}

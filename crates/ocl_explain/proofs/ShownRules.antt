@@ -1,14 +1,14 @@
 -- Texts of all rules, each with a mark: some that may be shown of any unit.
-use Rattle.std.proofs.Common.{◌≡◌, inl, inr, ℕ, zero, suc, List, [], ◌++◌, length, Result, Ok, Err, refl}
+use Rattle.std.proofs.Common.{inl, inr, ℕ, zero, suc, List, [], ◌++◌, length, Result, Ok, Err, refl}
 use Rattle.imkl_model.specs.ClassModel.{Model}
 use Rattle.rule_code.specs.Content.{Content}
 use Rattle.ocl_check.specs.Reply.{Answer}
 use Rattle.ocl_check.specs.Given.{given_answer}
 use Rattle.ocl_pipeline.specs.declared.refusal.Refusal.{Refusal}
-use Rattle.ocl_pipeline.specs.Steps.{model_in, unit_in}
+use Rattle.ocl_pipeline.specs.Steps.{unit_in}
 use Rattle.code_as_ocl.specs.ShownRules.{rule_marked}
 use Rattle.code_as_ocl.specs.SaidRules.{AreRuleTexts}
-use Rattle.ocl_explain.specs.ShownCode.{IsShownUnit, IsShownBy, IsShownCode, ShowAnswers}
+use Rattle.ocl_explain.specs.ShownCode.{IsShownUnit, IsShownBy, IsShownCode}
 
 module _ (m : Model) (u : Content) where
   abbrev pub all_marked : ℕ → List ℕ

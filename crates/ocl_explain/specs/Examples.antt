@@ -1,5 +1,5 @@
 -- What a delivery shows: the verdict of a rule for an object.
-use Rattle.std.specs.Prelude.{◌≡◌, ℕ, List, Option, Some, Result, Ok, Err, true}
+use Rattle.std.specs.Prelude.{◌≡◌, ℕ, List, Some, Result, Ok, Err, true}
 use Rattle.imkl_population.specs.Population.{Population, is_instance, object_number}
 use Rattle.imkl_population.specs.Sizes.{sizes_of}
 use Rattle.rule_values.specs.declared.verdict.Verdict.{Verdict}

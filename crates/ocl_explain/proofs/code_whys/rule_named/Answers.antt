@@ -1,4 +1,4 @@
-use Rattle.std.proofs.Common.{◌≡◌, ℕ, suc, ◌+◌, ◌-◌, Bool, false, List, Some, length, sym, ap, ◌∙◌, bytes_eq, add-one, arith, if◌then◌else◌}
+use Rattle.std.proofs.Common.{◌≡◌, ℕ, suc, ◌+◌, ◌-◌, Bool, List, Some, length, sym, ap, ◌∙◌, bytes_eq, add-one, arith, if◌then◌else◌}
 use Rattle.ocl_explain.specs.CodeWhy.{index_of_rule_from}
 use Rattle.ocl_explain.proofs.code_whys.rule_named.Goals as goal
 

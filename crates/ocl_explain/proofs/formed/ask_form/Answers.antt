@@ -25,8 +25,8 @@ returns-in-Text g c =
     let model = asked.model.bytes.now in
     let delivery = asked.delivery.bytes.now in
     let h = c.ask_inputs-in-Text.ensures in
-    let told = detailed_within h.2.2.0 asked.options.budget asked.detail in (
+    let told = detailed_within h.2.2 asked.options.budget asked.detail in (
       _,
-      (h.2.0, h.2.1, given_answer told (text_with h.0 (inputs_in model delivery)), text_detailed asked.options model delivery asked.rules.bytes.now h.2.2.0 h.2.2.1.0 asked.detail h.0 c.in-Text.is h.1, text_form asked.form asked.delivery.path.now h.2.0 h.2.1 model delivery told h.0 _ refl),
-      h.2.2.1.1,
+      (h.2.0, h.2.1, given_answer told (text_with h.0 (inputs_in model delivery)), text_detailed asked.options model delivery asked.rules.bytes.now h.2.2 h.2.3 asked.detail h.0 c.in-Text.is h.1, text_form asked.form asked.delivery.path.now h.2.0 h.2.1 model delivery told h.0 _ refl),
+      h.2.4,
     )

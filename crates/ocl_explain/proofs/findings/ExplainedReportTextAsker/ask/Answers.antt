@@ -3,7 +3,7 @@ use Rattle.ocl_core.specs.Core.{CheckedRule}
 use Rattle.ocl_core.specs.CoreView.{checked_rule_of}
 use Rattle.ocl_check.specs.Given.{meant_within}
 use Rattle.ocl_check.proofs.ForAbove.{ending_as}
-use Rattle.ocl_explain.specs.RuleNames.{RuleNames, rule_names, names_by}
+use Rattle.ocl_explain.specs.RuleNames.{RuleNames, names_by}
 use Rattle.ocl_explain.specs.ExplainedReport.{rules_explainer, explained_answer}
 use Rattle.ocl_explain.proofs.findings.ExplainedReportTextAsker.ask.Goals as goal
 
