@@ -1,12 +1,12 @@
 -- A variable that is bound has a name of its own.
-use Rattle.std.proofs.Common.{◌≡◌, ℕ, zero, suc, ◌+◌, ◌<◌, ◌≤◌, ◌||◌, max, Bool, true, false, List, [], ◌∷◌, ◌++◌, length, replicate, bytes_eq, refl, sym, ap, ◌∙◌, arith}
+use Rattle.std.proofs.Common.{◌≡◌, ℕ, zero, suc, ◌+◌, ◌<◌, ◌||◌, Bool, true, false, List, [], ◌∷◌, ◌++◌, length, replicate, bytes_eq, refl, sym, ap, ◌∙◌, arith}
 use Rattle.std.specs.Prelude.{slice_index_or, if◌then◌else◌}
 use Rattle.std.proofs.lemmas.Int.{clamps}
 use Rattle.std.proofs.lemmas.Bool.{false≢true}
 use Rattle.std.proofs.lemmas.List.{length-append, length-replicate}
 use Rattle.std.proofs.lemmas.Slice.Eq.{bytes_eq-Decides}
 use Rattle.ocl_base.specs.Lists.{is_among, repeats}
-use Rattle.explain_why.specs.Names.{Naming, variable_name, longest, number_name, name_by, next_name, with_next}
+use Rattle.explain_why.specs.Names.{Naming, variable_name, longest, number_name, name_by, next_name}
 use Rattle.explain_why.specs.Laws.{NextNamesAreNew, NamesDifferInside}
 
 -- texts of two lengths differ

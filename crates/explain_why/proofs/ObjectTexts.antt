@@ -1,6 +1,6 @@
 -- Objects are told apart from other values by their texts: by how they begin, by words that are reserved, by a colon, by a
 -- parenthesis and by a space.
-use Rattle.std.proofs.Common.{◌≡◌, ℕ, ◌+◌, ◌<◌, ◌≤◌, ◌^◌, ◌==◌, ◌&&◌, ◌||◌, ◌⊎◌, inl, inr, Bool, true, false, not, List, [], ◌∷◌, ◌++◌, length, slice_index_or, ℤ, pos, negsuc, Some, None, codes, refl, sym, ap, ◌∙◌, subst, arith, decimal}
+use Rattle.std.proofs.Common.{◌≡◌, ℕ, ◌≤◌, ◌==◌, ◌&&◌, ◌||◌, ◌⊎◌, inl, inr, Bool, true, false, not, List, [], ◌∷◌, ◌++◌, slice_index_or, ℤ, pos, negsuc, Some, None, codes, refl, sym, ap, ◌∙◌, subst, arith, decimal}
 use Rattle.std.specs.Prelude.{if◌then◌else◌}
 use Rattle.std.specs.Fmt.{signed_decimal}
 use Rattle.std.specs.List.{list_all, list_any}
@@ -12,17 +12,15 @@ use Rattle.std.proofs.lemmas.Bool.Decides.{eqb_tells, nat_tests}
 use Rattle.std.proofs.lemmas.List.{append-nil}
 use Rattle.std.proofs.lemmas.List.Folds.{list_any-append}
 use Rattle.ocl_base.specs.Words.{is_letter, is_letter_or_digit, begins_with_letter, is_identifier, is_reserved, is_name}
-use Rattle.imkl_model.specs.ClassModel.{Model, class_at, enumeration_at}
+use Rattle.imkl_model.specs.ClassModel.{class_at, enumeration_at}
 use Rattle.imkl_model.specs.WellFormed.{IsClassModel, IsModelName}
 use Rattle.imkl_model.specs.Words.{is_model_name}
 use Rattle.imkl_model.proofs.ForAbove.{has_names}
-use Rattle.imkl_population.specs.declared.scalar.Scalar.{Scalar}
 use Rattle.imkl_population.specs.declared.scalar.Scalar.TheVariants as scalar
 use Rattle.imkl_population.specs.Population.{Population, class_of, object_at}
-use Rattle.imkl_population.specs.Consistency.{IsConsistent}
 use Rattle.rule_values.specs.Value.{Element}
 use Rattle.owned_values.specs.Meant.{IsElementThere}
-use Rattle.explain_why.specs.Values.{literal_text, has_colon, stands_alone, truth_text, object_text, class_note, is_object_element, element_text}
+use Rattle.explain_why.specs.Values.{has_colon, stands_alone, truth_text, is_object_element, element_text}
 use Rattle.explain_why.specs.Laws.{IsInRange, ObjectsAreToldApart, IntroducedAreToldApart}
 use Rattle.explain_why.proofs.Left.{not_true}
 

@@ -1,5 +1,5 @@
 -- Of an `isUnique` that is false, two bodies at least are of the batch that is shown.
-use Rattle.std.proofs.Common.{◌≡◌, ℕ, ◌+◌, ◌≤◌, ◌||◌, Bool, true, false, cond, not, List, [], ◌∷◌, map, Option, Some, None, refl, sym, ap, subst, ◌∙◌, arith}
+use Rattle.std.proofs.Common.{◌≡◌, ℕ, ◌+◌, ◌≤◌, ◌||◌, Bool, true, false, cond, not, List, [], ◌∷◌, map, Some, None, refl, sym, ap, subst, ◌∙◌, arith}
 use Rattle.std.specs.Prelude.{if◌then◌else◌}
 use Rattle.std.specs.List.{list_any, filter_map, count_by}
 use Rattle.std.proofs.lemmas.Bool.{and_from, eq-eqb}
@@ -7,13 +7,11 @@ use Rattle.std.proofs.lemmas.List.Sums.{sum_by-cons}
 use Rattle.std.proofs.lemmas.Bool.Decides.{Decides-int_eq}
 use Rattle.std.proofs.lemmas.Slice.Eq.{bytes_eq-Decides}
 use Rattle.ocl_base.specs.Lists.{is_among, repeats}
-use Rattle.ocl_kinds.specs.declared.kind.ScalarKind.{ScalarKind}
 use Rattle.imkl_population.specs.declared.scalar.Scalar.{Scalar}
 use Rattle.imkl_population.specs.declared.scalar.Scalar.TheVariants as scalar
 use Rattle.imkl_population.specs.Values.{same_scalar}
 use Rattle.rule_values.specs.Value.{Element, Value, Invalid, truth_value, element_value, as_element, same_element}
 use Rattle.rule_values.specs.Operations.{is_true, is_invalid, equality}
-use Rattle.rule_values.specs.Endings.{unique_bodies}
 use Rattle.explain_why.specs.Explanation.{Equal, Batch, decides, deciding_batch, repeated_batch}
 use Rattle.explain_why.specs.Laws.{RepeatedAreShown}
 use Rattle.explain_why.proofs.Left.{is_so}

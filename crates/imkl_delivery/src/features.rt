@@ -167,7 +167,8 @@ fn put_targets(
     let Some(ids) = ids else {
         return Err(placed_fault(object.index(), PopulationFault::WrongKind));
     };
-    let Some(targets) = objects_of(alloc, builder, &ids)? else {
+    let first = object.index().saturating_add(1);
+    let Some(targets) = objects_of(alloc, builder, first, &ids)? else {
         return Err(DeliveryFault::UnknownTarget {
             object: object.index(),
         });

@@ -17,6 +17,14 @@ bytes_eq-encoded t u p q =
     (bytes_eq-Decides u t).1 (sym (chars-encodes u q) ∙ ap chars (sym e) ∙ chars-encodes t p))
     (λ h. (bytes_eq-Decides (encode_utf8_all t) (encode_utf8_all u)).1 (ap encode_utf8_all (sym ((bytes_eq-Decides u t).0 h))))
 
+-- texts of the program are equal where their characters are
+pub same_chars : (bs cs : List ℕ) → IsUtf8 bs → IsUtf8 cs → bytes_eq bs cs ≡ bytes_eq (chars bs) (chars cs)
+same_chars bs cs u v =
+    let by_chars = bytes_eq-Decides (chars bs) (chars cs) in
+    same_test (bytes_eq bs cs) (bytes_eq (chars bs) (chars cs))
+    (λ h. by_chars.1 (ap chars ((bytes_eq-Decides bs cs).0 h)))
+    (λ h. (bytes_eq-Decides bs cs).1 (sym (encodes-chars bs u) ∙ ap encode_utf8_all (by_chars.0 h) ∙ encodes-chars cs v))
+
 -- the characters of a text of the program, and their encoding
 pub encoded : (bs t : List ℕ) → IsUtf8 bs → chars bs ≡ t → encode_utf8_all t ≡ bs
 encoded bs t utf8 e = ap encode_utf8_all (sym e) ∙ encodes-chars bs utf8

@@ -1,5 +1,6 @@
 pub mod Bools
 pub mod Ids
+pub mod Guessed
 pub mod IdIndex
 pub mod Drafts
 pub mod Encoded

@@ -1,5 +1,5 @@
 -- Values that stand twice.
-use Rattle.std.proofs.Common.{◌≡◌, ℕ, suc, arith, ◌<◌, Bool, true, false, not, if◌then◌else◌, eqb, List, [], ◌∷◌, ◌++◌, length, take, drop, get_or, refl, sym, ap, ◌∙◌, drop-cons}
+use Rattle.std.proofs.Common.{◌≡◌, ℕ, suc, ◌<◌, Bool, true, false, not, if◌then◌else◌, eqb, List, ◌∷◌, ◌++◌, length, take, drop, get_or, refl, sym, ap, ◌∙◌, drop-cons}
 use Rattle.std.specs.Cmp.{int_eq_equiv}
 use Rattle.std.proofs.lemmas.Bool.{false≢true, eqb-true, eq-eqb}
 use Rattle.std.proofs.lemmas.Cmp.{nat_list_eq_equiv}
@@ -45,12 +45,6 @@ same_scalar-sym (scalar.Object a) (scalar.Bool b) = refl
 same_scalar-sym (scalar.Object a) (scalar.Int b) = refl
 same_scalar-sym (scalar.Object a) (scalar.Text b) = refl
 same_scalar-sym (scalar.Object a) (scalar.Literal e b) = refl
-
--- among fewer than two nothing stands twice
-pub few_are_apart : (vs : List Scalar) → length vs < 2 → repeats_value vs ≡ false
-few_are_apart [] few = refl
-few_are_apart (v ∷ []) few = refl
-few_are_apart (v ∷ w ∷ vs) few = absurd (omega (arith, few))
 
 -- where a value stands among those before it, the values have one twice
 pub again : (xs : List Scalar) (i : ℕ) (y d : Scalar) → i < length xs → y ≡ get_or xs i d → is_value_among (take i xs) y ≡ true → repeats_value xs ≡ true

@@ -1,6 +1,6 @@
 //! Building a population object by object.
 
-ghost use Rattle.std.specs.Prelude.{◌≡◌, ◌<◌, ◌≤◌, ℕ, [], ◌∷◌, true, length, ◌+◌, All, IfOk, OnOk, IfSome, Ok};
+ghost use Rattle.std.specs.Prelude.{◌≡◌, ◌<◌, ◌≤◌, ℕ, [], ◌∷◌, true, length, ◌+◌, All, IfOk, OnOk, IfSome, Ok, Some};
 ghost use Rattle.imkl_model.specs.ClassModel.{feature_at};
 ghost use Rattle.imkl_population.specs.Population.{class_of, written_at, object_number, pairs};
 ghost use Rattle.std.specs.List.{list_all};
@@ -19,7 +19,7 @@ use crate::ends::opposite_ends;
 use crate::fault::PopulationFault;
 use crate::finishing::{first_end_fault, first_gap};
 use crate::given::GivenValues;
-use crate::id_index::{HashedId, IdIndex};
+use crate::id_index::{HashedId, IdIndex, has_id};
 use crate::layout::lay_out;
 use crate::limits::MAX_OBJECTS;
 use crate::numbers::ObjectNo;
@@ -166,6 +166,26 @@ impl<'m> PopulationBuilder<'m> {
         ensures known { IfSome result (λ o. o < length self.now.objects) }
     {
         self.object_of(HashedId::new(id))
+    }
+
+    /// The object that has an id. Where it is the one that is guessed, nothing is searched.
+    pub fn object_guessed(&self, id: &str, guess: usize) -> Option<ObjectNo>
+        ensures number { result ≡ object_number self.now id.now }
+        ensures known { IfSome result (λ o. o < length self.now.objects) }
+    {
+        self.within_limit();
+        if self.is_object_of(guess, id) {
+            return Some(ObjectNo::new(guess));
+        }
+        self.object(id)
+    }
+
+    /// Whether an object is there and has an id.
+    fn is_object_of(&self, number: usize, id: &str) -> bool
+        ensures number { result ≡ true → object_number self.now id.now ≡ Some number }
+        ensures known { result ≡ true → number < length self.now.objects }
+    {
+        has_id(&self.heads, number, id)
     }
 
     /// The object that has an id whose hash is known.

@@ -64,7 +64,7 @@ fn hash_of(id: &str) -> u64
 }
 
 /// Whether an object is there and has an id.
-fn has_id(heads: &[Head], number: usize, id: &str) -> bool
+pub(crate) fn has_id(heads: &[Head], number: usize, id: &str) -> bool
     ensures { result ≡ has_id heads.now number id.now }
 {
     match heads.get(number) {

@@ -1,9 +1,9 @@
 -- A desk's jobs and their rooms, by the list that holds them, and as that list changes.
-use Rattle.std.proofs.Common.{◌≡◌, ℕ, ◌<◌, ◌≤◌, Bool, true, false, if◌then◌else◌, List, [], ◌∷◌, ◌++◌, length, get_or, set, Option, None, Result, sym, ap, ◌∙◌, subst, arith, inl, inr, get_or-set_same, get_or-set_other}
+use Rattle.std.proofs.Common.{◌≡◌, ℕ, ◌<◌, ◌≤◌, Bool, true, false, if◌then◌else◌, List, [], ◌∷◌, ◌++◌, length, get_or, set, map, Option, None, Some, Result, sym, ap, ◌∙◌, subst, arith, inl, inr, get_or-set_same, get_or-set_other}
 use Rattle.std.specs.Option.{option_map}
 use Rattle.std.proofs.lemmas.Bool.Decides.{eqb_tells}
 use Rattle.std.proofs.lemmas.Bool.{cases_lt}
-use Rattle.std.proofs.lemmas.List.{get_or_append_left, get_or_past, map-set, set-get_or}
+use Rattle.std.proofs.lemmas.List.{get_or_append_left, get_or_past, length-map, map-append, map-set, set-get_or}
 use Rattle.std.proofs.Math.ListN.{get_or-map}
 use Rattle.rule_desk.specs.declared.job.JobReply.{JobReply}
 use Rattle.rule_desk.specs.declared.fault.DeskFault.{DeskFault}
@@ -59,6 +59,14 @@ rooms_either hs q false = λ i. omega arith
 pub rooms_after : (d : DeskSeen) (hs new : List (Option JobHeld)) (q : Option JobHeld) (entered : Bool) → desk_seen hs ≡ d → new ≡ (if entered then hs ++ q ∷ [] else hs) → KeepsRooms d (desk_seen new)
 rooms_after d hs new q entered seen items =
     subst (λ x. KeepsRooms x (desk_seen new)) seen (subst (λ (xs : List (Option JobHeld)). KeepsRooms (desk_seen hs) (desk_seen xs)) (sym items) (rooms_either hs q entered))
+
+-- a job is entered behind the others
+pub entered_behind : (d : DeskSeen) (hs new : List (Option JobHeld)) (h : JobHeld) → desk_seen hs ≡ d → new ≡ hs ++ Some h ∷ [] → map (option_map job_in) new ≡ d.jobs ++ Some (job_in h) ∷ []
+entered_behind d hs new h seen items =
+    ap (map (option_map job_in)) items ∙ map-append (option_map job_in) hs (Some h ∷ []) ∙ ap (λ x. x.jobs ++ Some (job_in h) ∷ []) seen
+
+pub number_behind : (d : DeskSeen) (hs : List (Option JobHeld)) → desk_seen hs ≡ d → length hs ≡ length d.jobs
+number_behind d hs seen = sym (length-map hs (option_map job_in)) ∙ ap (λ x. length x.jobs) seen
 
 -- ---- the calls, by the place of a job in the list
 

@@ -1,5 +1,5 @@
 -- The end of a turn.
-use Rattle.std.proofs.Common.{◌≡◌, ℕ, suc, ◌+◌, ◌-◌, ◌≤◌, Bool, true, false, List, [], ◌∷◌, ◌++◌, length, take, drop, Some, refl, sym, ap, ◌∙◌, subst, arith}
+use Rattle.std.proofs.Common.{◌≡◌, ℕ, suc, ◌+◌, ◌-◌, ◌≤◌, Bool, true, false, List, [], ◌∷◌, ◌++◌, length, take, drop, get_or, Some, refl, sym, ap, ◌∙◌, subst, arith}
 use Rattle.std.specs.Prelude.{pos, not, ◌&&◌, slice_get, if◌then◌else◌}
 use Rattle.imkl_population.specs.Population.{Population}
 use Rattle.ocl_kinds.specs.declared.kind.Kind.TheVariants as kind
@@ -10,6 +10,7 @@ use Rattle.rule_verify.specs.InstrKinds.{Surroundings, scalar_meant, bound_count
 use Rattle.rule_values.specs.Value as value
 use Rattle.std.specs.List.{filter_map}
 use Rattle.std.proofs.lemmas.List.{length-take-le}
+use Rattle.std.proofs.lemmas.Option.{slice_get-get_or}
 use Rattle.ocl_base.specs.Lists.{repeats}
 use Rattle.rule_code.specs.declared.kind.WrittenScalar.{WrittenScalar}
 use Rattle.rule_values.specs.Value.{Value, as_element, same_element, is_in}
@@ -18,16 +19,18 @@ use Rattle.rule_values.specs.Operations.{is_true, is_false, is_invalid}
 use Rattle.rule_machine.specs.Machine.{Setting, judged_by, is_what, Piece, Turning, Configuration, step}
 use Rattle.rule_machine.specs.Shown.{HasNext}
 use Rattle.rule_slots.specs.declared.slot.Slot.{Slot}
+use Rattle.rule_slots.specs.declared.slot.Home.{Home}
+use Rattle.rule_slots.specs.declared.slot.Home.TheVariants as home
 use Rattle.rule_machine.specs.declared.piece.Turn.{Turn}
 use Rattle.rule_machine.specs.declared.piece.Piece.{Piece as Pending}
 use Rattle.rule_machine.specs.declared.piece.Piece.TheVariants as piece
-use Rattle.rule_slots.specs.Slots.{Lists, SlotIs, invalid_mark, held_slots, IsInHome}
+use Rattle.rule_slots.specs.Slots.{Lists, SlotIs, invalid_mark, held_slots, home_named, home_length, IsInHome}
 use Rattle.rule_machine.specs.Counts.{LeavesOne}
 use Rattle.rule_slots.specs.Operands.{is_number}
 use Rattle.rule_machine.specs.StandFor.{TopStandsFor, IsAt, Between, kept_slots, gives_truths, count_passing, one_more_if, turn_after, TellsDistinct, ending_slot, gives_part, given_pool}
 use Rattle.rule_machine.proofs.Stacks.{all_ops, ops_there}
 use Rattle.rule_machine.proofs.InstrSteps.{past}
-use Rattle.rule_slots.proofs.ForAbove.{element_next, is_cut, truth_by, invalid_by, truth_operand}
+use Rattle.rule_slots.proofs.ForAbove.{part_long, element_next, is_cut, truth_by, invalid_by, truth_operand}
 use Rattle.rule_machine.proofs.MarkSteps.{Leaving, leaves, left_behind, turn_keeping, turns_end}
 use Rattle.rule_machine.proofs.Keeps.{count_more}
 use Rattle.rule_machine.proofs.EndSlots.{IsMany, adds, many_what, unique_part, unique_in, ending_is, gives_none}
@@ -98,6 +101,23 @@ module _ (s : Setting) (l : Lists) (code : List Instr) (p p2 : List Slot) where
       by_value (value.Collection c es) k m = k.1.within
       by_value value.Invalid k m = let q : invalid_mark y.mark ≡ true = ap invalid_mark k in cc
       by_value b k m = absurd m
+
+-- what lies below a bound of its list lies below a higher one
+within_home : (h : Home) (l : Lists) (a lo hi : ℕ) → lo ≤ hi → a ≤ home_length h l lo → a ≤ home_length h l hi
+within_home home.Scalars l a lo hi le w = w
+within_home home.Instances l a lo hi le w = w
+within_home home.Pool l a lo hi le w = omega (arith, le, w)
+
+module _ (s : Setting) (l : Lists) (code : List Instr) (p : List Slot) where
+  -- what a turn goes over lies in its list
+  pub source_within : (t : Turn) (cs : List Pending) (vs : List Slot) (y : Slot) (os : List Slot) (c : Configuration) → Leaving s l code p t cs vs y os c → IsInHome l (length p) t.source
+  source_within t cs vs y os c h = within_home (home_named t.source.list) l (t.source.start + t.source.count) t.opened (length p) (omega (arith, h.turn.above)) h.turn.part.within
+
+  -- and the element of the turn is there
+  pub turn_takes : (t : Turn) (cs : List Pending) (vs : List Slot) (y : Slot) (os : List Slot) (c : Configuration) → Leaving s l code p t cs vs y os c → t.next ≤ t.source.count → (e : Slot) × (slice_get (held_slots l p t.source) (t.next - 1) ≡ Some e)
+  turn_takes t cs vs y os c h le =
+      let long : length (held_slots l p t.source) ≡ t.source.count = part_long (home_named t.source.list) l p (length p) t.source.start t.source.count (omega arith) (source_within t cs vs y os c h) in
+      (get_or (held_slots l p t.source) (t.next - 1) y, slice_get-get_or (held_slots l p t.source) (t.next - 1) y (omega (arith, long, le, h.turns)))
 
 -- a list that begins with one item and ends with the rest of it
 pub same_front : {A : Type 0} (all : List A) (x y : A) (xs ys : List A) → all ≡ x ∷ xs → all ≡ y ∷ ys → all ≡ x ∷ ys

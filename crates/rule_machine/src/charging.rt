@@ -36,6 +36,20 @@ impl State {
             None => unreachable!(),
         }
     }
+
+    /// The count after the next step, at most 2^64-1. (It is made up before the step, so that the step finds no charge of
+    /// 128 bits to keep.)
+    #[inline(always)]
+    pub(crate) fn next_count(&self, task: Task<'_>) -> u64
+        requires task { IsTask task }
+        requires place { LiesIn task self.now }
+        requires front { IsAtFront self.now }
+        ensures { (charge : ℕ) × ((c : Configuration) → Is task.entry self.now c → HasNext (step
+            (setting_in task.entry) c) → charge ≡ min (charge_of c) (2 ^ 128 - 1)) × (result ≡ min
+            (self.now.count + charge) (2 ^ 64 - 1)) }
+    {
+        with_charge(self.count, self.charge(task))
+    }
 }
 
 /// The count with a charge more, at most 2^64-1.
@@ -62,7 +76,7 @@ fn may_cost_more(instr: Instr) -> bool
 }
 
 /// The charge of the step of a piece that is no sequence.
-#[inline(never)]
+#[inline(always)]
 fn mark_charge(mark: &Piece, operands: &ReservedStack<Slot>) -> u128
     ensures { result ≡ min (mark_charge_by mark.now (slot_lengths operands.now.0)) (2 ^ 128 - 1) }
 {

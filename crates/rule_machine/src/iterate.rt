@@ -1,6 +1,6 @@
 //! The steps at the end of a body, and those of iterations.
 
-ghost use Rattle.std.specs.Prelude.{◌≡◌, ◌+◌, ◌<◌, ◌≤◌, ◌∷◌, ◌++◌, List, length, false, IfOk, OnOk, OnErr, IsOk};
+ghost use Rattle.std.specs.Prelude.{◌≡◌, ◌+◌, ◌<◌, ◌≤◌, ◌∷◌, ◌++◌, List, length, false, OnOk, OnErr, IsOk};
 ghost use Rattle.rule_verify.specs.UnitRules.{unit_rule, takes_memory};
 ghost use Rattle.rule_machine.specs.Machine.{Configuration};
 ghost use Rattle.rule_machine.specs.declared.piece.Piece.TheVariants.{LetEnd, Opened, Turning, Skipped};
@@ -24,17 +24,18 @@ use rule_verify::{BlockInstr, block_of, bound_count, operands_above};
 
 impl State {
     /// The step of the piece that comes after a sequence that is through, and is no sequence. Where memory runs out, the
-    /// machine stands before it; a rule that gathers nothing isn't refused.
+    /// machine stands before it; a rule that gathers nothing isn't refused. (The task is lent, so that no step clears room
+    /// for a copy of it.)
     #[inline(never)]
-    pub(crate) fn pass(&mut self, task: Task<'_>) -> Result<(), OutOfMemory>
-        requires place { LiesIn task self.old }
+    pub(crate) fn pass(&mut self, task: &Task<'_>) -> Result<(), OutOfMemory>
+        requires place { LiesIn task.now self.old }
         requires at_end { self.old.at ≡ self.old.end }
         requires mark { IsFirstMark self.old.pieces.0 }
-        requires goes { HasStep task self.old }
+        requires goes { HasStep task.now self.old }
         requires room { Room self.old }
-        ensures made { OnOk result (Stepped task.entry self.old self.new) }
-        ensures refused { OnErr result (Same task.entry self.old self.new) }
-        ensures spare { takes_memory (unit_rule task.entry.accepted.now.unit task.entry.rule) ≡ false
+        ensures made { OnOk result (Stepped task.now self.old self.new) }
+        ensures refused { OnErr result (Same task.now self.old self.new) }
+        ensures spare { takes_memory (unit_rule task.now.accepted.now.unit task.now.rule) ≡ false
             → IsOk result }
     {
         let Some(mark) = self.pieces.top() else {
@@ -42,18 +43,18 @@ impl State {
         };
         match *mark {
             Piece::LetEnd => {
-                self.end_let(task);
+                self.end_let(*task);
                 Ok(())
             }
             Piece::Skipped => {
-                self.skip(task);
+                self.skip(*task);
                 Ok(())
             }
             Piece::Opened(turn) => {
-                self.first_turn(task, turn);
+                self.first_turn(*task, turn);
                 Ok(())
             }
-            Piece::Turning(_) => self.next_turn(task),
+            Piece::Turning(_) => self.next_turn(*task),
             Piece::Rest(_, _) => unreachable!(),
         }
     }
@@ -114,7 +115,11 @@ impl State {
         ensures spare { takes_memory (unit_rule task.entry.accepted.now.unit task.entry.rule) ≡ false
             → IsOk result }
     {
-        let last = self.end_turn(task)?;
+        let Some(last) = self.operands.top() else {
+            unreachable!()
+        };
+        let last = *last;
+        self.end_turn(task, last)?;
         let turn = top_turn(&self.pieces);
         if turn.next < turn.source.count {
             self.repeat(task, last);
@@ -148,16 +153,17 @@ impl State {
         start
     }
 
-    /// Ends a turn: what its body gave is kept, and the pool is cut back to that. Where memory runs out, the machine
-    /// stands as before. Gives what the body gave.
+    /// Ends a turn: what its body gave last, which is the topmost operand, is kept, and the pool is cut back to that. Where
+    /// memory runs out, the machine stands as before.
     #[inline(always)]
-    fn end_turn(&mut self, task: Task<'_>) -> Result<Slot, OutOfMemory>
+    fn end_turn(&mut self, task: Task<'_>, last: Slot) -> Result<(), OutOfMemory>
         requires place { LiesIn task self.old }
         requires at_end { self.old.at ≡ self.old.end }
         requires turning { IsTurning self.old.pieces.0 }
+        requires last { (rest : List Held) × (self.old.operands.0 ≡ last ∷ rest) }
         requires goes { HasStep task self.old }
         requires room { Room self.old }
-        ensures over { IfOk result (λ last. TurnOver task.entry last self.old self.new) }
+        ensures over { OnOk result (TurnOver task.entry last self.old self.new) }
         ensures at_end { OnOk result (self.new.at ≡ self.new.end) }
         ensures room { OnOk result (Room self.new) }
         ensures refused { OnErr result (Same task.entry self.old self.new) }
@@ -165,20 +171,15 @@ impl State {
             → IsOk result }
     {
         let turn = top_turn(&self.pieces);
-        let Some(value) = self.operands.top() else {
-            unreachable!()
-        };
-        let value = *value;
+        // no count is larger than this word, so none wraps
+        let _next = turn.next;
         let lists = task.lists();
-        let last = element(lists, &self.pool, turn.source, turn.next - 1);
-        let more = keep(lists, &mut self.pool, turn, last, value)?;
-        let Some(_) = self.operands.pop() else {
-            unreachable!()
-        };
+        let more = keep(lists, &mut self.pool, turn, last)?;
+        self.operands.drop_top(1);
         self.variables.drop_top(bound_count(turn.instr));
-        let counts = counts_after(turn, more, value);
+        let counts = counts_after(turn, more, last);
         set_counts(&mut self.pieces, counts);
-        Ok(value)
+        Ok(())
     }
 
     /// Begins the turn of the next element, with the iteration on top.

@@ -1,15 +1,16 @@
 //! What iterations keep of their turns, at the end of the pool.
 
-ghost use Rattle.std.specs.Prelude.{◌≡◌, ◌+◌, ◌≤◌, ◌++◌, ◌∷◌, ℕ, [], length, map, take, false, slice_range, IfOk, OnOk, OnErr, IsOk, if◌then◌else◌};
+ghost use Rattle.std.specs.Prelude.{◌≡◌, ◌+◌, ◌-◌, ◌<◌, ◌≤◌, ◌++◌, ◌∷◌, ℕ, [], length, map, take, false, slice_get, slice_range, Some, IfOk, OnOk, OnErr, IsOk, if◌then◌else◌};
 ghost use Rattle.rule_code.specs.declared.instruction.Instr.TheVariants.{CollectFlat};
 ghost use Rattle.rule_verify.specs.InstrKinds.{gathers};
+ghost use Rattle.rule_slots.specs.declared.slot.Slot.{Slot as Held};
 ghost use Rattle.rule_slots.specs.Slots.{lists_in, index_slot, invalid_mark, scalar_slots, held_slots, IsInHome};
 ghost use Rattle.rule_machine.specs.StandFor.{kept_slots};
 
 use crate::piece::Turn;
 use ocl_base::OutOfMemory;
 use rule_slots::{
-    Home, Lists, Slot, home_named, index_slot, is_false, is_true, move_down, scalar_slot,
+    Home, Lists, Slot, element, home_named, index_slot, is_false, is_true, move_down, scalar_slot,
 };
 use rule_verify::{BlockInstr, block_of};
 
@@ -27,6 +28,35 @@ fn keep_if(pool: &mut Vec<Slot>, at: usize, keep: bool, slot: Slot) -> Result<us
         pool.truncate(at);
         pool.push_reserved(slot);
         Ok(1)
+    } else {
+        pool.truncate(at);
+        Ok(0)
+    }
+}
+
+/// Cuts the pool back to what an iteration keeps, and keeps the element of its turn too, if it is to be kept. Gives how many
+/// are put, 0 or 1. (An element that isn't kept isn't read.)
+#[inline(always)]
+fn keep_taken(
+    lists: Lists<'_>,
+    pool: &mut Vec<Slot>,
+    turn: &Turn,
+    keep: bool,
+) -> Result<usize, OutOfMemory>
+    requires at { turn.now.opened + turn.now.kept ≤ length pool.old.items }
+    requires begun { 0 < turn.now.next }
+    requires next { turn.now.next ≤ turn.now.source.count }
+    requires within { IsInHome (lists_in lists) (length pool.old.items) turn.now.source }
+    ensures kept { (e : Held) → slice_get (held_slots (lists_in lists.entry) pool.old.items
+        turn.now.source) (turn.now.next - 1) ≡ Some e → OnOk result (pool.new.items ≡
+        take (turn.now.opened + turn.now.kept) pool.old.items ++ (if keep then e ∷ [] else [])) }
+    ensures count { (e : Held) → IfOk result (λ n. n ≡ length (if keep then e ∷ [] else [])) }
+    ensures refused { OnErr result (pool.new.items ≡ pool.old.items) }
+{
+    let at = turn.opened + turn.kept;
+    if keep {
+        let taken = element(lists, pool, turn.source, turn.next - 1);
+        keep_if(pool, at, true, taken)
     } else {
         pool.truncate(at);
         Ok(0)
@@ -135,23 +165,27 @@ pub(crate) fn keep(
     lists: Lists<'_>,
     pool: &mut Vec<Slot>,
     turn: &Turn,
-    element: Slot,
     value: Slot,
 ) -> Result<usize, OutOfMemory>
     requires at { turn.now.opened + turn.now.kept ≤ length pool.old.items }
+    requires begun { 0 < turn.now.next }
+    requires next { turn.now.next ≤ turn.now.source.count }
+    requires within { IsInHome (lists_in lists) (length pool.old.items) turn.now.source }
     requires there { (n : ℕ) → turn.now.instr ≡ CollectFlat n → invalid_mark value.mark ≡ false →
         IsInHome (lists_in lists) (length pool.old.items) value }
-    ensures kept { OnOk result (pool.new.items ≡ take (turn.now.opened + turn.now.kept) pool.old.items ++
-        kept_slots (lists_in lists.entry) pool.old.items turn.now.instr element value) }
-    ensures count { IfOk result (λ n. n ≡ length (kept_slots (lists_in lists.entry) pool.old.items
-        turn.now.instr element value)) }
+    ensures kept { (e : Held) → slice_get (held_slots (lists_in lists.entry) pool.old.items
+        turn.now.source) (turn.now.next - 1) ≡ Some e → OnOk result (pool.new.items ≡
+        take (turn.now.opened + turn.now.kept) pool.old.items ++ kept_slots (lists_in lists.entry)
+        pool.old.items turn.now.instr e value) }
+    ensures count { (e : Held) → IfOk result (λ n. n ≡ length (kept_slots (lists_in lists.entry)
+        pool.old.items turn.now.instr e value)) }
     ensures refused { OnErr result (pool.new.items ≡ pool.old.items) }
     ensures spare { gathers turn.now.instr ≡ false → IsOk result }
 {
     let at = turn.opened + turn.kept;
     match block_of(turn.instr) {
-        Some(BlockInstr::Select(_)) => keep_if(pool, at, is_true(value), element),
-        Some(BlockInstr::Reject(_)) => keep_if(pool, at, is_false(value), element),
+        Some(BlockInstr::Select(_)) => keep_taken(lists, pool, turn, is_true(value)),
+        Some(BlockInstr::Reject(_)) => keep_taken(lists, pool, turn, is_false(value)),
         Some(BlockInstr::Collect(_) | BlockInstr::IsUnique(_, _)) => {
             keep_if(pool, at, !value.is_invalid(), value)
         }

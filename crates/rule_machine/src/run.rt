@@ -41,7 +41,7 @@ impl State {
             if charge > left {
                 return Ok(Progress::Paused);
             }
-            self.step(task)?;
+            self.step(&task)?;
             self.count = with_charge(self.count, charge);
             left -= charge;
         }
@@ -93,9 +93,9 @@ impl State {
             if let Some(verdict) = self.verdict_at_end(task) {
                 return Ok(verdict);
             }
-            let charge = self.charge(task);
-            self.step(task)?;
-            self.count = with_charge(self.count, charge);
+            let count = self.next_count(task);
+            self.step(&task)?;
+            self.count = count;
             book.add(&mut share, 1);
         }
     }

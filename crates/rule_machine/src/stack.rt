@@ -68,9 +68,7 @@ impl<T: Drop> ReservedStack<T> {
         ensures items { self.new.0 ≡ drop count self.old.0 }
         ensures room { self.new.1 ≡ self.old.1 }
     {
-        for _ in 0..count {
-            let _ = self.pop();
-        }
+        self.items.truncate(self.items.len().saturating_sub(count));
     }
 
     /// Takes all items.

@@ -24,19 +24,19 @@ use rule_verify::{BlockInstr, Shape, block_of, operands_above, shape_of};
 impl State {
     /// One step. Where memory runs out, the machine stands before it; a rule that gathers nothing isn't refused.
     #[inline(always)]
-    pub(crate) fn step(&mut self, task: Task<'_>) -> Result<(), OutOfMemory>
-        requires task { IsTask task }
-        requires place { LiesIn task self.old }
+    pub(crate) fn step(&mut self, task: &Task<'_>) -> Result<(), OutOfMemory>
+        requires task { IsTask task.now }
+        requires place { LiesIn task.now self.old }
         requires front { IsAtFront self.old }
-        requires goes { HasStep task self.old }
+        requires goes { HasStep task.now self.old }
         requires room { Room self.old }
-        ensures made { OnOk result (Stepped task.entry self.old self.new) }
-        ensures refused { OnErr result (Same task.entry self.old self.new) }
-        ensures spare { takes_memory (unit_rule task.entry.accepted.now.unit task.entry.rule) ≡ false
+        ensures made { OnOk result (Stepped task.now self.old self.new) }
+        ensures refused { OnErr result (Same task.now self.old self.new) }
+        ensures spare { takes_memory (unit_rule task.now.accepted.now.unit task.now.rule) ≡ false
             → IsOk result }
     {
         if self.at < self.end {
-            self.instruct(task)
+            self.instruct(*task)
         } else {
             self.pass(task)
         }

@@ -1,13 +1,15 @@
 //! The part of a report between the line of a rule and the next line of an object. It has the lines
 //! of rules without objects, and the total at the end.
 
-ghost use Rattle.std.specs.Prelude.{◌≡◌, ◌+◌, ◌-◌, ◌*◌, ◌≤◌, ◌++◌, length, vec_capacity};
-ghost use Rattle.rule_report.specs.Report.{total_line};
+ghost use Rattle.std.specs.Prelude.{◌≡◌, ◌+◌, ◌-◌, ◌*◌, ◌<◌, ◌≤◌, ◌++◌, [], All, length, vec_capacity};
+ghost use Rattle.imkl_population.specs.Population.{IsInstance};
+ghost use Rattle.rule_machine.specs.Machine.{setting_of};
+ghost use Rattle.rule_report.specs.Report.{context_objects, total_line};
 ghost use Rattle.rule_report.specs.Cursor.{next_rule, lines_without, total_at, lines_between};
 
 use crate::lines::{put_rule_line, put_total_line, rule_line_length, total_line_length};
 use crate::summary::Summary;
-use imkl_population::Population;
+use imkl_population::{ObjectNo, Population};
 use rule_verify::Accepted;
 
 /// The first rule from one on that has objects, or the number of rules.
@@ -26,6 +28,26 @@ pub(crate) fn next_rule(accepted: &Accepted<'_>, population: &Population<'_>, fr
         rule += 1;
     }
     rule
+}
+
+/// The objects of a rule's context class; none where no rule is left.
+pub(crate) fn objects_at<'a>(
+    accepted: &Accepted<'_>,
+    population: &'a Population<'_>,
+    rule: usize,
+) -> &'a [ObjectNo]
+    requires one_model { population.now.content.model ≡ accepted.now.model }
+    requires within { rule ≤ length accepted.now.unit.rules }
+    ensures objects { rule < length accepted.now.unit.rules →
+        result.now ≡ context_objects accepted.now.unit population.now.content rule }
+    ensures none { rule ≡ length accepted.now.unit.rules → result.now ≡ [] }
+    ensures each { All (IsInstance population.now.content (setting_of accepted.now.unit
+        population.now.content rule).context) result.now }
+{
+    if rule == accepted.rules() {
+        return &[];
+    }
+    population.instances(accepted.context(rule))
 }
 
 /// Puts the lines of the rules without objects, and the total where no rule is left.

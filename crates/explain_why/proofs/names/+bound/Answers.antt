@@ -1,4 +1,4 @@
-use Rattle.std.proofs.Common.{◌∙◌, rules}
+use Rattle.std.proofs.Common.{◌∙◌}
 use Rattle.std.proofs.lemmas.Result.{IfOk-weaker}
 use Rattle.explain_why.proofs.NameNodes.{spine_bound, let_bound}
 use Rattle.explain_why.proofs.names.+bound.Goals as goal

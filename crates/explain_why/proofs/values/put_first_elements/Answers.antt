@@ -1,4 +1,4 @@
-use Rattle.std.proofs.Common.{length, refl, rules}
+use Rattle.std.proofs.Common.{refl}
 use Rattle.std.proofs.lemmas.Result.{on_ok_weaker}
 use Rattle.owned_values.specs.Meant.{meant_elements}
 use Rattle.explain_why.specs.Values.{elements_text, more_text}

@@ -1,7 +1,10 @@
-use Rattle.std.proofs.Common.{◌∙◌}
-use Rattle.rule_verify.proofs.ForAbove.{one_more_popped}
+use Rattle.std.proofs.Common.{◌≡◌, ◌-◌, take, drop, length, reverse, ap, ◌∙◌}
+use Rattle.rule_machine.proofs.Tops.{top_cut}
 use Rattle.rule_machine.proofs.stack.ReservedStack.drop_top.Goals as goal
 
-pub loop-preserved : goal.loop-preserved
-loop-preserved g c =
-    (one_more_popped c.loop.counter c.args.self.now.0 c.loop.self.0 c.pop.new.self.0 c.pop.result c.loop.invariant.0 c.pop.ensures.items, c.pop.ensures.room ∙ c.loop.invariant.1)
+pub returns-clause-items : goal.returns-clause-items
+returns-clause-items g c =
+    let xs = c.self.inside.items.items in
+    let n : c.saturating_sub.result ≡ length xs - c.args.count = c.saturating_sub.ensures ∙ ap (λ k. k - c.args.count) (c.len.ensures ∙ c.self.inside.items.ok.0) in
+    let cut : c.truncate.new.self.items ≡ take (length xs - c.args.count) xs = c.truncate.ensures.items ∙ ap (λ k. take k xs) n in
+    ap reverse cut ∙ top_cut xs c.args.count ∙ ap (λ s. drop c.args.count s.0) c.self.view_is

@@ -1,4 +1,5 @@
-use Rattle.std.proofs.Common.{arith, subst, sym}
+use Rattle.std.proofs.Common.{◌+◌, ◌-◌, arith, subst, sym, ap, ◌∙◌}
+use Rattle.std.specs.Prelude.{◌^◌, min}
 use Rattle.std.proofs.lemmas.Result.{err_from_is_err_and}
 use Rattle.rule_machine.specs.Shown.{depths_in}
 use Rattle.rule_machine.proofs.Ran.{somewhere_goes, somewhere_steps, somewhere_room, room_same, rooms_joined, Standing, standing_begun, standing_somewhere, standing_same, standing_next, standing_below, is_judged, is_judge_refused, its_verdict, counted}
@@ -61,6 +62,8 @@ steps-preserved g c =
     let m1 = c.verdict_at_end.new.self in
     let made = c.in_ok-step.ensures.made in
     let s = standing_same t c.args.object c.steps.self m1 c.steps.book.total c.in_default.ensures.same c.steps.invariant.1 in
-    let r = standing_next t c.args.object m1 c.step.new.self c.steps.book.total c.with_charge-self.result c.charge-charge.result c.charge-charge.ensures c.in_default.ensures.front made c.with_charge-self.ensures s in
+    let charge = c.next_count-count.ensures.0 in
+    let count = c.next_count-count.ensures.2 ∙ ap (λ n. min (n + charge) (2 ^ 64 - 1)) (sym made.kept.count) in
+    let r = standing_next t c.args.object m1 c.step.new.self c.steps.book.total c.next_count-count.result charge c.next_count-count.ensures.1 c.in_default.ensures.front made count s in
     let room = rooms_joined t c.args.self.now m1 c.step.new.self (rooms_joined t c.args.self.now c.steps.self m1 c.steps.invariant.2 c.in_default.ensures.same.kept.room) made.kept.room in
-    (omega (arith, c.steps.invariant.0, c.add.ensures.parts), subst (Standing t c.args.object (counted t c.step.new.self c.with_charge-self.result)) (sym c.add.ensures.total) r, record { operands = room.operands; variables = room.variables; pieces = room.pieces })
+    (omega (arith, c.steps.invariant.0, c.add.ensures.parts), subst (Standing t c.args.object (counted t c.step.new.self c.next_count-count.result)) (sym c.add.ensures.total) r, record { operands = room.operands; variables = room.variables; pieces = room.pieces })

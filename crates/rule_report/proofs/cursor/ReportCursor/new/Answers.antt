@@ -11,10 +11,17 @@ pub put_between-requires-clause-next : goal.put_between-requires-clause-next
 put_between-requires-clause-next c =
     omega (arith, c.next_rule-rule.ensures, (next_is c.accepted-accepted.result.now.unit c.args.population.now.content 0 (omega arith)).within)
 
+pub objects_at-requires-clause-within : goal.objects_at-requires-clause-within
+objects_at-requires-clause-within c =
+    omega (arith, c.next_rule-rule.ensures, (next_is c.accepted-accepted.result.now.unit c.args.population.now.content 0 (omega arith)).within)
+
 pub invariant_of-result : goal.invariant_of-result
 invariant_of-result c = (
   c.requires.0 ∙ ap (λ l. l.model) (sym c.accepted-accepted.ensures),
   placed_at_first c.accepted-accepted.result.now.unit c.args.population.now.content c.next_rule-rule.result c.empty-3.result c.empty-4.result c.next_rule-rule.ensures c.empty-3.ensures c.empty-4.ensures,
+  c.objects_at.ensures.objects,
+  c.objects_at.ensures.none,
+  c.objects_at.ensures.each,
 )
 
 pub returns-clause-none : goal.returns-clause-none

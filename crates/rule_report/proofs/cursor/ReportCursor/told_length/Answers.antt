@@ -1,8 +1,7 @@
 use Rattle.std.proofs.Common.{◌≡◌, ◌<◌, ◌+◌, ◌∙◌, ℕ, List, get_or, length, sym, ap, subst, arith}
 use Rattle.std.proofs.lemmas.List.{get_or_default}
 use Rattle.imkl_population.specs.Population.{object_at}
-use Rattle.rule_verify.specs.UnitRules.{context_class, unit_rule}
-use Rattle.rule_report.specs.Report.{instances_of, context_objects}
+use Rattle.rule_report.specs.Report.{context_objects}
 use Rattle.rule_report.specs.Cursor.{CursorSeen, cursor_seen, told_text}
 use Rattle.rule_report.proofs.Pairs.{next_is, told_length_last}
 use Rattle.rule_report.proofs.cursor.ReportCursor.told_length.Goals as goal
@@ -26,12 +25,11 @@ returns c =
     let p = i.population.now.content in
     let s : CursorSeen = cursor_seen u p i.rule i.at i.here i.before in
     let within : i.rule < length u.rules = subst (λ (x : CursorSeen). x.rule < length x.unit.rules) (sym c.self.view_is) c.requires in
-    let context = ap (λ m. context_class m u (unit_rule u i.rule)) c.self.invariant.0 ∙ c.context.ensures.class in
-    let objects : context_objects u p i.rule ≡ c.instances-objects.result.now = ap (instances_of p) context ∙ sym c.instances-objects.ensures.objects in
+    let objects : context_objects u p i.rule ≡ i.objects.now = sym (c.self.invariant.2 within) in
     let there : i.at < length (context_objects u p i.rule) = c.self.invariant.1.some within in
     let last : i.at + 1 ≡ length (context_objects u p i.rule) = omega (arith, there, c.if-self-objects.false, ap length objects) in
     let object : c.index-objects-self.result ≡ get_or (context_objects u p i.rule) i.at 0 =
     c.index-objects-self.is ∙ ap (λ (os : List ℕ). get_or os i.at c.index-objects-self.result) (sym objects) ∙ get_or_default (context_objects u p i.rule) i.at c.index-objects-self.result 0 there in
-    told_length_last s c.args.verdict c.rule_name-name.result.now c.id.result.now (length c.instances-objects.result.now) c.count.new.self c.add.new.self c.next_rule-next.result c.object_line_length-line.result c.rule_line_length.result c.between_length.result
+    told_length_last s c.args.verdict c.rule_name-name.result.now c.id.result.now (length i.objects.now) c.count.new.self c.add.new.self c.next_rule-next.result c.object_line_length-line.result c.rule_line_length.result c.between_length.result
     last c.rule_name-name.ensures (c.id.ensures ∙ ap (λ o. (object_at p o).id) object) (sym (ap length objects)) c.count.ensures c.add.ensures c.next_rule-next.ensures c.object_line_length-line.ensures.length c.rule_line_length.ensures.length c.between_length.ensures.length
     ∙ ap (λ (x : CursorSeen). length (told_text x c.args.verdict)) c.self.view_is

@@ -2,7 +2,7 @@ use Rattle.std.proofs.Common.{◌≡◌, true, false, take}
 use Rattle.imkl_population.specs.declared.scalar.Scalar.{Scalar}
 use Rattle.imkl_population.specs.Seen.{has_seen, is_encodable}
 use Rattle.imkl_population.specs.Values.{is_value_among, repeats_value}
-use Rattle.imkl_population.proofs.repeats.repeats.Given as goal
+use Rattle.imkl_population.proofs.repeats.repeats_among_many.Given as goal
 
 abbrev pub invariant-loop-value : goal.invariant-loop-value
 invariant-loop-value l = record {

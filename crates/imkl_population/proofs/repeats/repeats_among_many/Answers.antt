@@ -1,13 +1,10 @@
-use Rattle.std.proofs.Common.{◌≡◌, ◌∙◌, ◌+◌, ◌||◌, arith, sym, ap, List, [], ◌∷◌, ◌++◌, take, Bool}
+use Rattle.std.proofs.Common.{◌≡◌, ◌∙◌, ◌+◌, ◌||◌, sym, ap, List, [], ◌∷◌, ◌++◌, take, Bool}
 use Rattle.std.proofs.lemmas.List.{take_more}
 use Rattle.imkl_population.specs.declared.scalar.Scalar.{Scalar}
 use Rattle.imkl_population.specs.Values.{is_value_among, repeats_value, same_scalar}
 use Rattle.ocl_base.proofs.ForAbove.{apart_push, among_push}
-use Rattle.imkl_population.proofs.Twice.{same_scalar-sym, few_are_apart, again, absent_of, there_of}
-use Rattle.imkl_population.proofs.repeats.repeats.Goals as goal
-
-pub returns-then-values-lt2 : goal.returns-then-values-lt2
-returns-then-values-lt2 c = sym (few_are_apart c.args.values.now (omega (arith, c.if-values-lt2.true)))
+use Rattle.imkl_population.proofs.Twice.{same_scalar-sym, again, absent_of, there_of}
+use Rattle.imkl_population.proofs.repeats.repeats_among_many.Goals as goal
 
 pub returns-then-not-branch : goal.returns-then-not-branch
 returns-then-not-branch c =
