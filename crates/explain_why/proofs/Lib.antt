@@ -1,6 +1,5 @@
 pub mod Left
 pub mod NameNodes
-mod ReadNodes
 pub mod NewNames
 pub mod TextNodes
 pub mod PartNodes

@@ -1,7 +1,6 @@
 -- Definitions: what contracts mean.
 pub mod Values
 pub mod Names
-pub mod GivenNames
 pub mod Texts
 pub mod Differences
 pub mod Reasons
@@ -12,6 +11,5 @@ pub mod Valued
 pub mod Laws
 -- Bookkeeping: what only proofs and private contracts use.
 pub mod NameWalk
-pub mod ReadingWalk
 pub mod TextWalk
 pub mod PartWalk

@@ -145,7 +145,7 @@ pub(crate) fn next_name(alloc: Global, naming: Naming<'_, '_>) -> Result<String,
 }
 
 /// A name once more.
-fn copy_name(alloc: Global, name: &str) -> Result<String, OutOfMemory>
+pub fn copy_name(alloc: Global, name: &str) -> Result<String, OutOfMemory>
     ensures { IfOk result (λ copy. string_bytes copy ≡ name.now) }
 {
     let mut copy = String::new(alloc);

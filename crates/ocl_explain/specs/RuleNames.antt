@@ -3,7 +3,7 @@ use Rattle.std.specs.Prelude.{ℕ, List, [], ◌∷◌, Ok, Err, map, bytes_eq, 
 use Rattle.ocl_text.specs.Tree.{Rule}
 use Rattle.ocl_core.specs.Core.{CheckedRule}
 use Rattle.ocl_pipeline.specs.TextReading.{TextReading}
-use Rattle.explain_why.specs.GivenNames.{given_names}
+use Rattle.text_names.specs.GivenNames.{given_names}
 use Rattle.ocl_explain.specs.declared.given_names.RuleNames as declared
 
 -- those of a rule, in the order in which its variables are bound, an empty one where the text gives none

@@ -6,13 +6,14 @@ ghost use Rattle.ocl_core.specs.CoreView.{checked_rule_of};
 ghost use Rattle.ocl_pipeline.specs.TextReading.{TextReading, ReadsAs};
 ghost use Rattle.ocl_explain.specs.RuleNames.{rule_names, given_for, names_of_rule, names_of_rules, names_by};
 
-use explain_why::given_names;
+use explain_why::copy_name;
 use ocl_base::OutOfMemory;
 use ocl_core::CoreRule;
 use ocl_pipeline::read_text;
 use ocl_text::SurfaceRule;
 use ocl_tokens::TextFault;
 use std::alloc::Global;
+use text_names::given_names;
 
 /// The names that a text gives to the variables of a rule.
 #[derive(Drop)]
@@ -21,15 +22,6 @@ pub(crate) struct RuleNames {
     rule: String,
     /// Those of its variables, in the order in which they are bound, an empty one where the text gives none.
     given: Vec<String>,
-}
-
-/// A name once more.
-fn copy_name(alloc: Global, name: &str) -> Result<String, OutOfMemory>
-    ensures { IfOk result (λ copy. string_bytes copy ≡ name.now) }
-{
-    let mut copy = String::new(alloc);
-    copy.push_str(name)?;
-    Ok(copy)
 }
 
 /// The names that a rule of a text gives to the variables of the typed rule that it is.

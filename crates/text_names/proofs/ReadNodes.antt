@@ -18,10 +18,10 @@ use Rattle.ocl_text.specs.declared.tree.Variable.{Variable}
 use Rattle.ocl_text.specs.Tree.{SurfaceTree, Number, Bound, lets}
 use Rattle.ocl_text.specs.View.{view, bound_of, link_of, spine_of}
 use Rattle.ocl_text.proofs.ForAbove.{view-Spine, view-Let, link_of-Fold, views}
-use Rattle.explain_why.specs.declared.marks.Mark.{Mark}
-use Rattle.explain_why.specs.declared.marks.Mark.TheVariants as mark
-use Rattle.explain_why.specs.GivenNames.{NameReading, marks_of, bound, expression_read}
-use Rattle.explain_why.specs.ReadingWalk.{link_marks, links_marks, values_marks, rest_read, link_read, links_read, bindings_read, seen_behind}
+use Rattle.text_names.specs.declared.marks.Mark.{Mark}
+use Rattle.text_names.specs.declared.marks.Mark.TheVariants as mark
+use Rattle.text_names.specs.GivenNames.{NameReading, marks_of, bound, expression_read}
+use Rattle.text_names.specs.ReadingWalk.{link_marks, links_marks, values_marks, rest_read, link_read, links_read, bindings_read, seen_behind}
 
 -- ---- marks
 

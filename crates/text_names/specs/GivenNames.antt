@@ -16,8 +16,8 @@ use Rattle.ocl_text.specs.declared.tree.Navigation.{Navigation}
 use Rattle.ocl_text.specs.declared.tree.Navigation.TheVariants.{Dot, Arrow}
 use Rattle.ocl_text.specs.Tree as surface
 use Rattle.ocl_text.specs.Tree.{SurfaceTree, Trees, Variables}
-use Rattle.explain_why.specs.declared.marks.Mark.{Mark}
-use Rattle.explain_why.specs.declared.marks.Mark.TheVariants as mark
+use Rattle.text_names.specs.declared.marks.Mark.{Mark}
+use Rattle.text_names.specs.declared.marks.Mark.TheVariants as mark
 
 -- ---- the marks of a tree
 

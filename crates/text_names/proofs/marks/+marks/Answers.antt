@@ -1,6 +1,6 @@
 use Rattle.std.proofs.lemmas.Result.{on_ok_weaker}
-use Rattle.explain_why.proofs.ReadNodes.{spine_marked, let_marked, choice_marked, both_marked, three_marked}
-use Rattle.explain_why.proofs.marks.+marks.Goals as goal
+use Rattle.text_names.proofs.ReadNodes.{spine_marked, let_marked, choice_marked, both_marked, three_marked}
+use Rattle.text_names.proofs.marks.+marks.Goals as goal
 
 pub put_marks-returns-in_ok-put_marks-in-Spine : goal.put_marks-returns-in_ok-put_marks-in-Spine
 put_marks-returns-in_ok-put_marks-in-Spine t c =

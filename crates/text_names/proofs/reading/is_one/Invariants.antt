@@ -1,6 +1,6 @@
 use Rattle.std.proofs.Common.{◌≡◌, drop, map, bytes_eq}
 use Rattle.ocl_base.specs.Lists.{is_among}
-use Rattle.explain_why.proofs.reading.is_one.Given as goal
+use Rattle.text_names.proofs.reading.is_one.Given as goal
 
 -- it is among all where it is among those that are left
 abbrev pub invariant-names : goal.invariant-names

@@ -1,9 +1,9 @@
 use Rattle.std.proofs.Common.{◌≡◌, ◌++◌, map, drop}
 use Rattle.ocl_core.specs.Core.{cores_of}
 use Rattle.ocl_core.specs.CoreView.{core_view}
-use Rattle.explain_why.specs.GivenNames.{all_marks}
-use Rattle.explain_why.specs.ReadingWalk.{links_marks, values_marks}
-use Rattle.explain_why.proofs.marks.+marks.Given as goal
+use Rattle.text_names.specs.GivenNames.{all_marks}
+use Rattle.text_names.specs.ReadingWalk.{links_marks, values_marks}
+use Rattle.text_names.proofs.marks.+marks.Given as goal
 
 -- the marks so far, and those of the links that are left
 abbrev pub invariant-put_links-links : goal.invariant-put_links-links

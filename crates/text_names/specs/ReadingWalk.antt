@@ -3,15 +3,15 @@ use Rattle.std.specs.Prelude.{ℕ, List, [], ◌∷◌, ◌++◌, map, string_by
 use Rattle.ocl_core.specs.declared.core_tree.CoreLink.{CoreLink}
 use Rattle.ocl_core.specs.Core as tree
 use Rattle.ocl_core.specs.Core.{CoreTree, CoreTrees}
-use Rattle.ocl_semantics.specs.Evaluated.{on_null}
+use Rattle.ocl_core.specs.CoreView.{core_link_of}
 use Rattle.ocl_text.specs.declared.tree.Link.{Link}
 use Rattle.ocl_text.specs.Tree as surface
 use Rattle.ocl_text.specs.Tree.{SurfaceTree, Bound}
 use Rattle.ocl_text.specs.View.{link_of}
-use Rattle.explain_why.specs.declared.marks.Mark.{Mark}
-use Rattle.explain_why.specs.declared.marks.Mark.TheVariants as mark
-use Rattle.explain_why.specs.declared.reading.Reading as declared
-use Rattle.explain_why.specs.GivenNames.{NameReading, operation_marks, variable_mark, marks_of, all_marks, passed, bound, dot_passed, call_passed, takes_classes, with_variables, names_bound, expression_read, expressions_read}
+use Rattle.text_names.specs.declared.marks.Mark.{Mark}
+use Rattle.text_names.specs.declared.marks.Mark.TheVariants as mark
+use Rattle.text_names.specs.declared.reading.Reading as declared
+use Rattle.text_names.specs.GivenNames.{NameReading, operation_marks, variable_mark, marks_of, all_marks, passed, bound, dot_passed, call_passed, takes_classes, with_variables, names_bound, expression_read, expressions_read}
 
 -- ---- the marks of a tree
 
@@ -24,7 +24,7 @@ rest_marks (tree.Fold k source start body) = marks_of start ++ mark.Bound ∷ ma
 rest_marks t = []
 
 abbrev pub link_marks : CoreLink → List Mark
-link_marks link = rest_marks (on_null link)
+link_marks link = rest_marks (core_link_of link (tree.Value tree.Null))
 
 abbrev pub links_marks : List CoreLink → List Mark
 links_marks [] = []

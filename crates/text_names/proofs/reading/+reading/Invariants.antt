@@ -1,9 +1,9 @@
 use Rattle.std.proofs.Common.{◌≡◌, map, drop}
 use Rattle.ocl_text.specs.Tree.{trees_of}
 use Rattle.ocl_text.specs.View.{view, bound_of}
-use Rattle.explain_why.specs.GivenNames.{expressions_read}
-use Rattle.explain_why.specs.ReadingWalk.{reading_view, names_seen, links_read, bindings_read, seen_behind}
-use Rattle.explain_why.proofs.reading.+reading.Given as goal
+use Rattle.text_names.specs.GivenNames.{expressions_read}
+use Rattle.text_names.specs.ReadingWalk.{reading_view, names_seen, links_read, bindings_read, seen_behind}
+use Rattle.text_names.proofs.reading.+reading.Given as goal
 
 -- what was read, and the bindings that are left
 abbrev pub invariant-read_bindings-bindings : goal.invariant-read_bindings-bindings

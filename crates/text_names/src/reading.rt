@@ -5,8 +5,8 @@ ghost use Rattle.ocl_base.specs.Lists.{is_among};
 ghost use Rattle.ocl_core.specs.CoreView.{core_view};
 ghost use Rattle.ocl_text.specs.Tree.{trees_of};
 ghost use Rattle.ocl_text.specs.View.{view, bound_of, view_variables};
-ghost use Rattle.explain_why.specs.GivenNames.{is_said, is_next, passed, bound, dot_passed, name_passed, prefix_passed, navigation_passed, call_passed, takes_classes, with_variables, names_bound, expression_read, expressions_read, names_given, given_names};
-ghost use Rattle.explain_why.specs.ReadingWalk.{reading_view, names_seen, link_read, links_read, bindings_read, seen_behind};
+ghost use Rattle.text_names.specs.GivenNames.{is_said, is_next, passed, bound, dot_passed, name_passed, prefix_passed, navigation_passed, call_passed, takes_classes, with_variables, names_bound, expression_read, expressions_read, names_given, given_names};
+ghost use Rattle.text_names.specs.ReadingWalk.{reading_view, names_seen, link_read, links_read, bindings_read, seen_behind};
 
 use crate::marks::{Mark, put_marks};
 use ocl_base::OutOfMemory;

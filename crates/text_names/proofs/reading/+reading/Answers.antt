@@ -1,10 +1,10 @@
 use Rattle.std.proofs.Common.{◌≡◌, List, ℕ, Bor, length, map, refl, ◌∙◌, vec_len, rules}
 use Rattle.std.proofs.lemmas.Result.{on_ok_weaker}
 use Rattle.ocl_text.specs.View.{bound_of, view_variables}
-use Rattle.explain_why.specs.GivenNames.{names_bound}
-use Rattle.explain_why.specs.ReadingWalk.{reading_view, names_seen}
-use Rattle.explain_why.proofs.ReadNodes.{spine_goes_on, let_goes_on, fold_goes_on, let_cut, cut_after, cut_twice, cut_seen}
-use Rattle.explain_why.proofs.reading.+reading.Goals as goal
+use Rattle.text_names.specs.GivenNames.{names_bound}
+use Rattle.text_names.specs.ReadingWalk.{reading_view, names_seen}
+use Rattle.text_names.proofs.ReadNodes.{spine_goes_on, let_goes_on, fold_goes_on, let_cut, cut_after, cut_twice, cut_seen}
+use Rattle.text_names.proofs.reading.+reading.Goals as goal
 
 -- ---- what is read
 

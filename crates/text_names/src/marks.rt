@@ -3,8 +3,8 @@
 ghost use Rattle.std.specs.Prelude.{◌≡◌, [], ◌∷◌, ◌++◌, map, OnOk};
 ghost use Rattle.ocl_core.specs.Core.{cores_of};
 ghost use Rattle.ocl_core.specs.CoreView.{core_view};
-ghost use Rattle.explain_why.specs.GivenNames.{operation_marks, variable_mark, marks_of, all_marks};
-ghost use Rattle.explain_why.specs.ReadingWalk.{link_marks, links_marks, values_marks};
+ghost use Rattle.text_names.specs.GivenNames.{operation_marks, variable_mark, marks_of, all_marks};
+ghost use Rattle.text_names.specs.ReadingWalk.{link_marks, links_marks, values_marks};
 
 use ocl_base::OutOfMemory;
 use ocl_core::{Core, CoreLink, Iteration, Operator, PlainOperator};
