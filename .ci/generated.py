@@ -17,6 +17,8 @@ USES = {
 }
 CRATES = list(USES)
 COMPLETIONS = ROOT / "examples" / "editors" / "completion"
+# the crate that has the command line of each program
+COMMAND_LINES = {"ocl_check": "ocl_check_main", "ocl_explain": "explain_command_line"}
 # the heading in the README of a crate under which its contracts are
 PROVED = "## What is proved"
 
@@ -267,12 +269,12 @@ def readmes():
 
 
 def sources_of_programs():
-    """The texts of the command line of each program that has one, by its name; those of a command of its own file `X_words.rt` too."""
+    """The texts of the command line of each program, by its name; those of a command of its own file `X_words.rt` too."""
     shared = [CRATES_FOLDER / "ocl_programs/src" / it for it in ("help.rt", "commands.rt")]
-    owns = {it.removesuffix("_main"): CRATES_FOLDER / it / "src" for it in CRATES}
+    owns = {program: CRATES_FOLDER / crate / "src" for program, crate in COMMAND_LINES.items()}
     return {
         program: "\n".join(it.read_text(encoding="utf-8") for it in [*shared, *sorted(own.glob("*_words.rt")), own / "command_line.rt"])
-        for program, own in owns.items() if (own / "command_line.rt").is_file()
+        for program, own in owns.items()
     }
 
 

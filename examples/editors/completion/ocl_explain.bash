@@ -38,8 +38,8 @@ _ocl_explain() {
         if [ "$at" = = ]; then at=${COMP_WORDS[COMP_CWORD - 2]}; fi
         case $at in
             --verdict) mapfile -t COMPREPLY < <(compgen -W "holds fails undecided" -- "$word") ;;
-            --csv) mapfile -t COMPREPLY < <(compgen -W "deliveries rules" -- "$word") ;;
             --format) mapfile -t COMPREPLY < <(compgen -W "text json github junit sarif html" -- "$word") ;;
+            --csv) mapfile -t COMPREPLY < <(compgen -W "deliveries rules" -- "$word") ;;
             --also) mapfile -t COMPREPLY < <(compgen -f -- "$word") ;;
         esac
         return

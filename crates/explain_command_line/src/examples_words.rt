@@ -1,8 +1,7 @@
-//! The command `examples` of the command line.
+//! The words of `examples`.
 
 use clap::{Arg, ArgAction, ArgMatches, Command, value_parser};
 use ocl_programs::word;
-use rule_examples::Limits;
 use std::alloc::{AllocError, Global};
 
 /// The end of the help of `examples`.
@@ -15,15 +14,8 @@ ocl_explain test takes the folder. Where none is found that proves nothing. For 
 
 Status 0: searched. 2: an input is refused. 3: memory, a read or a write failed.";
 
-/// How far is searched without options.
-pub const DEFAULT_LIMITS: Limits = Limits {
-    seed: 1,
-    tries: 6000,
-    objects: 6,
-};
-
-/// The most objects that may be asked for.
-const MAX_OBJECTS: u64 = 100;
+/// The words of the verdicts, as options and files have them.
+pub const VERDICTS: [&str; 3] = ["holds", "fails", "undecided"];
 
 /// The words of `examples`.
 #[derive(Clone, Copy, Drop)]
@@ -40,12 +32,16 @@ pub struct ExampleWords<'a> {
     pub verdict: Option<&'a str>,
     /// Whether all other rules are to hold.
     pub others_hold: bool,
-    /// How far is searched.
-    pub limits: Limits,
+    /// The seed of the search, if one is given.
+    pub seed: Option<u64>,
+    /// The most deliveries that are tried for a verdict, if they are given.
+    pub tries: Option<u64>,
+    /// The most objects of a delivery, if they are given.
+    pub objects: Option<u64>,
 }
 
-/// The command `examples`.
-pub fn examples<'a>(alloc: Global) -> Result<Command<'a>, AllocError> {
+/// The command.
+pub(crate) fn examples<'a>(alloc: Global) -> Result<Command<'a>, AllocError> {
     Command::new(alloc, "examples")
         .about("Searches for small deliveries that show what each rule means")
         .after_help(EXAMPLES)
@@ -102,15 +98,8 @@ pub fn examples<'a>(alloc: Global) -> Result<Command<'a>, AllocError> {
         .arg(Arg::new(alloc, "FOLDER").help("The folder that the deliveries are written to"))
 }
 
-/// The words of the verdicts, as options and files have them.
-pub const VERDICTS: [&str; 3] = ["holds", "fails", "undecided"];
-
 /// What the matches of `examples` ask.
-pub fn example_words<'a>(matches: &ArgMatches<'a>) -> ExampleWords<'a> {
-    let default = DEFAULT_LIMITS;
-    let objects = matches
-        .get_one::<u64>("objects")
-        .unwrap_or(default.objects as u64);
+pub(crate) fn example_words<'a>(matches: &ArgMatches<'a>) -> ExampleWords<'a> {
     ExampleWords {
         model: word(Some(matches), "MODEL"),
         rules: word(Some(matches), "RULES"),
@@ -118,10 +107,8 @@ pub fn example_words<'a>(matches: &ArgMatches<'a>) -> ExampleWords<'a> {
         names: matches.get_str("rule"),
         verdict: matches.get_str("verdict"),
         others_hold: matches.get_flag("others-hold"),
-        limits: Limits {
-            seed: matches.get_one::<u64>("seed").unwrap_or(default.seed),
-            tries: matches.get_one::<u64>("tries").unwrap_or(default.tries),
-            objects: objects.min(MAX_OBJECTS) as usize,
-        },
+        seed: matches.get_one::<u64>("seed"),
+        tries: matches.get_one::<u64>("tries"),
+        objects: matches.get_one::<u64>("objects"),
     }
 }

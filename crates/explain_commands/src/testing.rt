@@ -1,8 +1,8 @@
 //! Tests of rules: the deliveries of a folder, each with the report that is wanted.
 
-use crate::command_line::TestWords;
 use crate::files::{Bytes, in_memory, print, read_file, unlisted, write_file};
 use crate::requests::say;
+use explain_command_line::TestWords;
 use explain_notes::{Input, visible_text};
 use ocl_check::{CommandFault, JudgeOptions, MAX_BUDGET, Outcome, RulesForm};
 use ocl_explain::{Tested, put_differences, test_rules};

@@ -2,7 +2,7 @@
 
 use crate::files::{read_file, report_write};
 use crate::requests::end;
-use crate::show_words::ShowWords;
+use explain_command_line::ShowWords;
 use explain_notes::Input;
 use ocl_check::{CommandFault, Outcome, Telling};
 use ocl_explain::{WithLastError, show_code};

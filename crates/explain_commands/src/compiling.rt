@@ -5,7 +5,7 @@ use crate::placing::Places;
 use crate::requests::end_placed;
 use crate::rule_texts::{read_texts, refused_part};
 use crate::searching::warn_of_unbroken;
-use crate::text_words::TextsAsked;
+use explain_command_line::TextsAsked;
 use explain_notes::Input;
 use ocl_check::{CommandFault, Outcome, Telling};
 use ocl_explain::{WithLastError, answer_compile};
@@ -79,7 +79,7 @@ fn compile_inputs<'i>(
 }
 
 /// Compiles one rule text, or texts that are joined.
-pub fn compile(
+pub(crate) fn compile(
     rt: &HostRuntime,
     files: CompileFiles<'_>,
     texts: &TextsAsked<'_>,

@@ -30,7 +30,7 @@ pub struct EvalWords<'a> {
 
 impl EvalWords<'_> {
     /// Whether standard input is named for more than one input; without an expression it has the expressions.
-    pub fn shares_standard_input(&self) -> bool {
+    pub(crate) fn shares_standard_input(&self) -> bool {
         let (model, delivery) = (
             self.model == STANDARD_INPUT,
             self.delivery == STANDARD_INPUT,

@@ -1,7 +1,7 @@
 //! The value of an expression, or of those of standard input line by line.
 
-use crate::eval_words::EvalWords;
 use crate::files::{in_memory, print, read_file};
+use explain_command_line::EvalWords;
 use explain_notes::Input;
 use expression_values::{
     ConsoleAsked, EXPRESSION, EvalAsked, Terminal, Unvalued, evaluate_expression, run_console,

@@ -1,11 +1,10 @@
-//! The commands over files: every input is read before the first is looked at.
+//! The commands of `ocl_check` over files, each answer explained; listings and schemas.
 
-use crate::command_line::{ListFiles, Printing};
 use crate::compiling::compile;
 use crate::files::{read_file, report_write};
 use crate::judging::judge;
 use crate::placing::{Places, placed};
-use crate::text_words::TextsAsked;
+use explain_command_line::{ListFiles, Printing, TextsAsked};
 use explain_notes::Input;
 use explain_refusals::{Ending, Listener, Words};
 use ocl_check::{CommandFault, Outcome, Telling};
@@ -16,7 +15,7 @@ use ocl_programs::{DeskFiles, Request, RuleFiles, VerifyFiles};
 use std::io;
 
 /// Says on standard error why an input was refused, or what is hardly meant.
-pub fn say(rt: &HostRuntime, words: &Words) {
+pub(crate) fn say(rt: &HostRuntime, words: &Words) {
     let _ = match words {
         Ok(words) => rt.eprint(words.as_str()),
         Err(_) => rt.eprintln("memory ran out before it was explained"),
@@ -36,11 +35,11 @@ fn say_placed(rt: &HostRuntime, places: Places<'_>, words: &Words) {
 
 /// Says at once what is heard.
 #[derive(Clone, Copy)]
-pub struct StandardError<'a> {
+pub(crate) struct StandardError<'a> {
     /// The handle of standard error.
-    pub rt: &'a HostRuntime,
+    pub(crate) rt: &'a HostRuntime,
     /// Where the rule texts are, if several were joined.
-    pub places: Places<'a>,
+    pub(crate) places: Places<'a>,
 }
 
 impl Listener for StandardError<'_> {
@@ -50,7 +49,7 @@ impl Listener for StandardError<'_> {
 }
 
 /// Says what is said behind an answer, if that was written.
-pub fn end(rt: &HostRuntime, ending: Ending) -> Outcome {
+pub(crate) fn end(rt: &HostRuntime, ending: Ending) -> Outcome {
     if let Outcome::Status(_) = ending.outcome {
         say(rt, &ending.words);
     }
@@ -58,7 +57,7 @@ pub fn end(rt: &HostRuntime, ending: Ending) -> Outcome {
 }
 
 /// Says what is said behind an answer by rule texts, if that was written.
-pub fn end_placed(rt: &HostRuntime, places: Places<'_>, ending: Ending) -> Outcome {
+pub(crate) fn end_placed(rt: &HostRuntime, places: Places<'_>, ending: Ending) -> Outcome {
     if let Outcome::Status(_) = ending.outcome {
         say_placed(rt, places, &ending.words);
     }

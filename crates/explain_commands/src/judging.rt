@@ -1,12 +1,12 @@
 //! The command `judge` over files.
 
-use crate::command_line::{Printing, ReportForm};
 use crate::files::{in_memory, read_file, report_write};
 use crate::placing::Places;
 use crate::requests::{StandardError, end_placed};
 use crate::rule_texts::{read_texts, refused_part};
 use crate::searching::warn_of_unbroken;
-use crate::text_words::TextsAsked;
+use crate::shown::shown_of_report;
+use explain_command_line::{Printing, TextsAsked};
 use explain_notes::Input;
 use ocl_check::{CommandFault, JudgeOptions, Outcome, RulesForm, Telling};
 use ocl_explain::{
@@ -28,6 +28,14 @@ struct Judging<'a> {
     searches: bool,
 }
 
+/// How much is printed of a finding.
+fn detail(printing: Printing<'_>) -> Detail {
+    match printing.explained {
+        Some(limits) => Detail::Why(shown_of_report(limits)),
+        None => Detail::Verdict,
+    }
+}
+
 /// Prints the report, or what is refused.
 fn print_report<'i>(
     rt: &HostRuntime,
@@ -39,11 +47,8 @@ fn print_report<'i>(
     let mut sink = Telling::new(WithLastError::new(io::writer(rt)));
     let places = judging.places;
     let (alloc, listener, options) = (rt.alloc(), &StandardError { rt, places }, judging.options);
-    let ending = match judging.printing.form {
-        ReportForm::Plain => {
-            answer_judge(alloc, listener, options, model, delivery, rules, &mut sink)
-        }
-        ReportForm::Formed(form, detail) => {
+    let ending = match (judging.printing.form, detail(judging.printing)) {
+        (Some(form), detail) => {
             let asked = FormAsked {
                 model,
                 delivery,
@@ -54,7 +59,10 @@ fn print_report<'i>(
             };
             answer_judge_form(alloc, listener, asked, &mut sink)
         }
-        ReportForm::Explained(shown) => {
+        (None, Detail::Verdict) => {
+            answer_judge(alloc, listener, options, model, delivery, rules, &mut sink)
+        }
+        (None, Detail::Why(shown)) => {
             let budget = options.budget;
             match options.form {
                 RulesForm::Text => answer_judge_why(
@@ -162,22 +170,19 @@ fn judge_files<'i>(
 }
 
 /// Whether explanations are wanted in a form that has none.
-fn lacks_explanations(form: ReportForm) -> bool {
-    matches!(
-        form,
-        ReportForm::Formed(Form::Github | Form::Sarif, Detail::Why(_))
-    )
+fn lacks_explanations(printing: Printing<'_>) -> bool {
+    printing.explained.is_some() && matches!(printing.form, Some(Form::Github | Form::Sarif))
 }
 
 /// Judges a delivery by rules, and prints the report as it is wanted.
-pub fn judge(
+pub(crate) fn judge(
     rt: &HostRuntime,
     files: RuleFiles<'_>,
     options: JudgeOptions,
     printing: Printing<'_>,
     texts: &TextsAsked<'_>,
 ) -> Result<Outcome, CommandFault> {
-    if lacks_explanations(printing.form) {
+    if lacks_explanations(printing) {
         let _ = rt.eprint("error: the forms github and sarif have no explanations (--why)\n");
         return Ok(Outcome::Status(2));
     }

@@ -9,18 +9,18 @@ use std::io::ErrorKind;
 
 /// Which files a folder has of a delivery.
 #[derive(Clone, Copy)]
-pub struct Found {
+pub(crate) struct Found {
     /// Whether there is a status.
-    pub status: bool,
+    pub(crate) status: bool,
     /// Whether there is a report.
-    pub report: bool,
+    pub(crate) report: bool,
     /// Whether there is what was written on standard error.
-    pub failure: bool,
+    pub(crate) failure: bool,
 }
 
 /// A file of a delivery.
 #[derive(Clone, Copy)]
-pub enum Part {
+pub(crate) enum Part {
     /// What its run ended with.
     Status,
     /// What it wrote on standard output.
@@ -31,7 +31,7 @@ pub enum Part {
 
 impl Part {
     /// How the names of these files end.
-    pub fn ending(self) -> &'static str {
+    pub(crate) fn ending(self) -> &'static str {
         match self {
             Part::Status => ".status",
             Part::Report => ".report",
@@ -86,7 +86,10 @@ fn note(
 }
 
 /// The deliveries of which a folder has files, in the order of their names.
-pub fn found_in(rt: &HostRuntime, folder: &str) -> Result<BTreeMap<String, Found>, CommandFault> {
+pub(crate) fn found_in(
+    rt: &HostRuntime,
+    folder: &str,
+) -> Result<BTreeMap<String, Found>, CommandFault> {
     let entries = match fs::read_dir(rt, folder) {
         Ok(entries) => entries,
         Err(error) => return Err(unlisted(rt, folder, error)),
@@ -129,7 +132,7 @@ fn note_sender(
 }
 
 /// The senders of which a folder has folders, in the order of their names.
-pub fn senders_in(rt: &HostRuntime, folder: &str) -> Result<Vec<String>, CommandFault> {
+pub(crate) fn senders_in(rt: &HostRuntime, folder: &str) -> Result<Vec<String>, CommandFault> {
     let entries = match fs::read_dir(rt, folder) {
         Ok(entries) => entries,
         Err(error) => return Err(unlisted(rt, folder, error)),

@@ -1,9 +1,9 @@
 //! Deliveries that show what each rule of a text means.
 
-use crate::examples_words::{ExampleWords, VERDICTS};
 use crate::files::{in_memory, print, print_bytes, read_file, write_file};
 use crate::requests::{end, say};
-use crate::searching::{TRIES_AT_ONCE, search_part, search_parts};
+use crate::searching::{TRIES_AT_ONCE, limits_of, search_part, search_parts};
+use explain_command_line::{ExampleWords, VERDICTS};
 use explain_notes::Input;
 use ocl_check::{CommandFault, JudgeOptions, MAX_BUDGET, Outcome, RulesForm, Telling};
 use ocl_explain::{
@@ -125,7 +125,7 @@ fn show_rule<'i>(
             index,
             verdict: verdict_of(number),
             others_hold: words.others_hold,
-            limits: words.limits,
+            limits: limits_of(words),
         };
         Showing { words, asked, word }.show(rt)?;
     }

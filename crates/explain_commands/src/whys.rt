@@ -1,8 +1,9 @@
 //! Why a rule has its verdict for an object, or for each object for which it doesn't hold, over files.
 
-use crate::command_line::WhyWords;
 use crate::files::{read_file, report_write};
 use crate::requests::end;
+use crate::shown::{object_lines, shown_of_rule};
+use explain_command_line::WhyWords;
 use explain_notes::Input;
 use explain_text::is_code_file;
 use ocl_check::{CommandFault, Outcome, Telling};
@@ -54,7 +55,7 @@ fn explain_inputs<'i>(
                 rules,
                 rule,
                 id,
-                lines: words.object_lines(),
+                lines: object_lines(words.limits),
             },
         ),
         None => explain_rule(
@@ -64,7 +65,7 @@ fn explain_inputs<'i>(
                 delivery,
                 rules,
                 rule,
-                shown: words.shown(),
+                shown: shown_of_rule(words.limits),
             },
         ),
     }

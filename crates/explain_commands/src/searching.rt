@@ -1,23 +1,44 @@
 //! Searches for deliveries, and warnings of rules that none was found to break.
 
-use crate::examples_words::DEFAULT_LIMITS;
 use crate::files::in_memory;
+use explain_command_line::ExampleWords;
 use explain_notes::Input;
 use ocl_check::CommandFault;
 use ocl_explain::{Example, ExampleAsked, find_example, rule_names};
 use rule_examples::Limits;
 use rule_values::Verdict;
 
+/// How far is searched, where the command line doesn't say it.
+const DEFAULT_LIMITS: Limits = Limits {
+    seed: 1,
+    tries: 6000,
+    objects: 6,
+};
+
+/// The most objects of a delivery, whatever the command line says.
+const MAX_OBJECTS: u64 = 100;
+
 /// How many deliveries one part of a search tries.
-pub const TRIES_AT_ONCE: u64 = 2000;
+pub(crate) const TRIES_AT_ONCE: u64 = 2000;
+
+/// How far `examples` searches.
+pub(crate) fn limits_of(words: ExampleWords<'_>) -> Limits {
+    let default = DEFAULT_LIMITS;
+    let objects = words.objects.unwrap_or(default.objects as u64);
+    Limits {
+        seed: words.seed.unwrap_or(default.seed),
+        tries: words.tries.unwrap_or(default.tries),
+        objects: objects.min(MAX_OBJECTS) as usize,
+    }
+}
 
 /// How many parts a search has.
-pub fn search_parts(limits: Limits) -> u64 {
+pub(crate) fn search_parts(limits: Limits) -> u64 {
     limits.tries.div_ceil(TRIES_AT_ONCE)
 }
 
 /// Searches in one part, which tries other deliveries than those before it.
-pub fn search_part(
+pub(crate) fn search_part(
     rt: &HostRuntime,
     asked: ExampleAsked<'_>,
     part: u64,
@@ -45,7 +66,7 @@ fn is_found(rt: &HostRuntime, asked: ExampleAsked<'_>) -> Result<bool, CommandFa
 }
 
 /// Warns of each rule that no delivery was found to break. That none was found proves nothing.
-pub fn warn_of_unbroken<'i>(
+pub(crate) fn warn_of_unbroken<'i>(
     rt: &HostRuntime,
     model: Input<'i>,
     rules: Input<'i>,

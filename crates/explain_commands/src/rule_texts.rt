@@ -14,7 +14,7 @@ fn line_ends(text: &[u8]) -> usize {
 
 /// Rule texts, joined in their order with a line feed between.
 #[derive(Drop)]
-pub struct JoinedTexts<'a> {
+pub(crate) struct JoinedTexts<'a> {
     path: String,
     bytes: Vec<u8>,
     lines: usize,
@@ -32,7 +32,7 @@ impl<'a> JoinedTexts<'a> {
     }
 
     /// The whole text. Its path is that of each, with commas between.
-    pub fn input(&self) -> Input<'_> {
+    pub(crate) fn input(&self) -> Input<'_> {
         Input {
             path: self.path.as_str(),
             bytes: &self.bytes,
@@ -40,7 +40,7 @@ impl<'a> JoinedTexts<'a> {
     }
 
     /// Where each text is.
-    pub fn places(&self) -> Places<'_> {
+    pub(crate) fn places(&self) -> Places<'_> {
         Places {
             path: self.path.as_str(),
             parts: &self.parts,
@@ -85,7 +85,7 @@ fn add_file<'a>(
 }
 
 /// Reads rule texts, and joins them.
-pub fn read_texts<'a>(
+pub(crate) fn read_texts<'a>(
     rt: &HostRuntime,
     first: &'a str,
     also: &[&'a str],
@@ -114,7 +114,7 @@ fn is_refused<'i>(
 }
 
 /// The first of several rule texts that is refused by itself, by where each is in the whole.
-pub fn refused_part<'i>(
+pub(crate) fn refused_part<'i>(
     rt: &HostRuntime,
     parts: &[Part<'i>],
     model: Input<'i>,

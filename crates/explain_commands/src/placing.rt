@@ -5,20 +5,20 @@ use std::alloc::{AllocError, Global};
 
 /// Where a rule text is in the text that it was joined to.
 #[derive(Clone, Copy, Drop)]
-pub struct Part<'a> {
+pub(crate) struct Part<'a> {
     /// The path of the rule text.
-    pub path: &'a str,
+    pub(crate) path: &'a str,
     /// Where it begins, in bytes from 0.
-    pub start: usize,
+    pub(crate) start: usize,
     /// Where it ends.
-    pub end: usize,
+    pub(crate) end: usize,
     /// How many lines are before it.
-    pub lines: usize,
+    pub(crate) lines: usize,
 }
 
 impl<'a> Part<'a> {
     /// The rule text, of the whole text or of one that has spaces in place of some rules.
-    pub fn input(self, whole: &'a [u8]) -> Input<'a> {
+    pub(crate) fn input(self, whole: &'a [u8]) -> Input<'a> {
         Input {
             path: self.path,
             bytes: whole.get(self.start..self.end).unwrap_or(whole),
@@ -28,16 +28,16 @@ impl<'a> Part<'a> {
 
 /// The path of a joined text, and where each text is in it; no text is, where none was joined.
 #[derive(Clone, Copy, Drop)]
-pub struct Places<'a> {
+pub(crate) struct Places<'a> {
     /// The path.
-    pub path: &'a str,
+    pub(crate) path: &'a str,
     /// Where each text is.
-    pub parts: &'a [Part<'a>],
+    pub(crate) parts: &'a [Part<'a>],
 }
 
 impl<'a> Places<'a> {
     /// Of a text that wasn't joined.
-    pub fn none() -> Places<'a> {
+    pub(crate) fn none() -> Places<'a> {
         Places {
             path: "",
             parts: &[],
@@ -182,7 +182,7 @@ impl<'a> Placing<'a> {
 }
 
 /// Words on a joined text, with the path and the line of the text that each place is in.
-pub fn placed(alloc: Global, places: Places<'_>, words: &str) -> Result<String, AllocError> {
+pub(crate) fn placed(alloc: Global, places: Places<'_>, words: &str) -> Result<String, AllocError> {
     let mut placing = Placing {
         places,
         out: String::new(alloc),

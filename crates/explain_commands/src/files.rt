@@ -9,14 +9,14 @@ use std::io::{self, Error, ErrorKind, Read, Write};
 
 /// An input that was read.
 #[derive(Drop)]
-pub struct Bytes<'a> {
+pub(crate) struct Bytes<'a> {
     path: &'a str,
     bytes: Vec<u8>,
 }
 
 impl Bytes<'_> {
     /// The input.
-    pub fn input(&self) -> Input<'_> {
+    pub(crate) fn input(&self) -> Input<'_> {
         Input {
             path: self.path,
             bytes: &self.bytes,
@@ -33,7 +33,7 @@ fn shown_path(rt: &HostRuntime, path: &str) -> String {
 }
 
 /// Reads a file whole, or standard input. Where it can't be read the reason is reported, in the system's own words.
-pub fn read_file<'a>(rt: &HostRuntime, path: &'a str) -> Result<Bytes<'a>, CommandFault> {
+pub(crate) fn read_file<'a>(rt: &HostRuntime, path: &'a str) -> Result<Bytes<'a>, CommandFault> {
     if path == STANDARD_INPUT {
         return read_whole(rt, path, rt.stdin());
     }
@@ -70,7 +70,7 @@ fn read_whole<'a, R: Read + Drop>(
 
 /// Reports why an output couldn't be written, if it couldn't. Of a pipe whose reader has closed it nothing is written: who
 /// runs `ocl_explain .. | head` wants no more.
-pub fn report_write(rt: &HostRuntime, what: &str, error: Option<Error>) {
+pub(crate) fn report_write(rt: &HostRuntime, what: &str, error: Option<Error>) {
     if let Some(error) = error
         && error.kind() != ErrorKind::BrokenPipe
     {
@@ -80,7 +80,7 @@ pub fn report_write(rt: &HostRuntime, what: &str, error: Option<Error>) {
 }
 
 /// What was made in memory.
-pub fn in_memory<T: Drop, E: Drop>(made: Result<T, E>) -> Result<T, CommandFault> {
+pub(crate) fn in_memory<T: Drop, E: Drop>(made: Result<T, E>) -> Result<T, CommandFault> {
     match made {
         Ok(made) => Ok(made),
         Err(_) => Err(CommandFault::OutOfMemory),
@@ -88,12 +88,12 @@ pub fn in_memory<T: Drop, E: Drop>(made: Result<T, E>) -> Result<T, CommandFault
 }
 
 /// Prints a text on standard output.
-pub fn print(rt: &HostRuntime, text: &str) -> Result<(), CommandFault> {
+pub(crate) fn print(rt: &HostRuntime, text: &str) -> Result<(), CommandFault> {
     print_bytes(rt, text.as_bytes())
 }
 
 /// Prints bytes on standard output.
-pub fn print_bytes(rt: &HostRuntime, bytes: &[u8]) -> Result<(), CommandFault> {
+pub(crate) fn print_bytes(rt: &HostRuntime, bytes: &[u8]) -> Result<(), CommandFault> {
     match io::writer(rt).write_all(bytes) {
         Ok(()) => Ok(()),
         Err(error) => {
@@ -104,7 +104,7 @@ pub fn print_bytes(rt: &HostRuntime, bytes: &[u8]) -> Result<(), CommandFault> {
 }
 
 /// Writes a file whole.
-pub fn write_file(rt: &HostRuntime, path: &str, bytes: &[u8]) -> Result<(), CommandFault> {
+pub(crate) fn write_file(rt: &HostRuntime, path: &str, bytes: &[u8]) -> Result<(), CommandFault> {
     match fs::write(rt, path, bytes) {
         Ok(()) => Ok(()),
         Err(error) => {
@@ -115,7 +115,7 @@ pub fn write_file(rt: &HostRuntime, path: &str, bytes: &[u8]) -> Result<(), Comm
 }
 
 /// Why a folder couldn't be listed.
-pub fn unlisted(rt: &HostRuntime, folder: &str, error: Error) -> CommandFault {
+pub(crate) fn unlisted(rt: &HostRuntime, folder: &str, error: Error) -> CommandFault {
     if error.kind() == ErrorKind::OutOfMemory {
         return CommandFault::OutOfMemory;
     }

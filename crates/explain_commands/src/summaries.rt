@@ -2,7 +2,7 @@
 
 use crate::files::{Bytes, in_memory, print_bytes, read_file};
 use crate::report_files::{Found, Part, found_in, senders_in};
-use crate::summary_words::SummaryWords;
+use explain_command_line::SummaryWords;
 use ocl_check::{CommandFault, Outcome};
 use report_summary::{Delivery, DeliveryFiles, DeliveryName, Summary, Sums, Table, read_delivery};
 
