@@ -1,10 +1,12 @@
 -- How ids are found once one more has a number.
-use Rattle.std.proofs.Common.{◌≡◌, ℕ, zero, suc, ◌+◌, ◌<◌, ◌≤◌, Bool, true, false, cond, List, [], ◌∷◌, ◌++◌, length, get_or, Option, Some, None, refl, sym, ap, subst, ◌∙◌, bytes_eq, arith, slice_index_or, if◌then◌else◌, ◌⊎◌, inl, inr, ◌≢◌, eqb}
+use Rattle.std.proofs.Common.{◌≡◌, ℕ, zero, suc, ◌+◌, ◌-◌, ◌*◌, ◌/◌, ◌%◌, ◌==◌, ◌&&◌, ◌<◌, ◌≤◌, Bool, true, false, cond, List, [], ◌∷◌, ◌++◌, length, get_or, replicate, Option, Some, None, refl, sym, ap, ap₂, subst, ◌∙◌, bytes_eq, arith, slice_index_or, if◌then◌else◌, ◌⊎◌, inl, inr, ◌≢◌, eqb}
+use Rattle.std.specs.Option.{option_or}
 use Rattle.std.proofs.lemmas.Bool.Decides.{eqb_tells}
-use Rattle.std.proofs.lemmas.List.{get_or-set_same, get_or-set_other, length-set}
+use Rattle.std.proofs.lemmas.List.{get_or-set_same, get_or-set_other, get_or_default, length-set}
 use Rattle.std.proofs.lemmas.Slice.Eq.{bytes_eq-Decides}
+use Rattle.imkl_population.specs.declared.limits.TheConstants.{GROUP, NUMBERS, MAX_OBJECTS}
 use Rattle.imkl_population.specs.declared.object.Head.{Head}
-use Rattle.imkl_population.specs.IdIndex.{slot_of, has_id, held, number_found, IsGuarded, TakesSlot, IsOccupied}
+use Rattle.imkl_population.specs.IdIndex.{hash_of, first_of, group_size, mark_of, has_id, told_by, told, said, number_found, IsEmpty, IsOfGroup, IsFilled, IsGuarded, TakesSlot, IsOccupied}
 
 -- an object that is there has its own id
 pub has_id-there : (hs : List Head) (k : ℕ) (d : Head) (q : List ℕ) → k < length hs → has_id hs k q ≡ bytes_eq (get_or hs k d).id q
@@ -37,110 +39,305 @@ has_id-new [] h (suc k) q fails holds = cc
 has_id-new (g ∷ hs) h zero q fails holds = cc
 has_id-new (g ∷ hs) h (suc k) q fails holds = ap suc (has_id-new hs h k q fails holds)
 
--- where there are slots, the id's slot says
-pub found-held : (slots : List ℕ) (others : List ℕ → Option ℕ) (hs : List Head) (q : List ℕ) → 0 < length slots → number_found slots others hs q ≡ held (slice_index_or slots (slot_of q (length slots)) 0) others hs q
-found-held [] others hs q some = absurd (omega arith)
-found-held (s ∷ ss) others hs q some = refl
+-- what is said of an id that is found nowhere
+or-none : (x y : Option ℕ) → option_or x y ≡ None → (x ≡ None) × (y ≡ None)
+or-none None y none = (refl, none)
+or-none (Some n) y none = cc
 
--- without slots, the others say
-found-nowhere : (slots : List ℕ) (others : List ℕ → Option ℕ) (hs : List Head) (q : List ℕ) → length slots ≡ 0 → number_found slots others hs q ≡ others q
-found-nowhere [] others hs q none = refl
-found-nowhere (s ∷ ss) others hs q none = absurd (omega arith)
+-- an object of another id changes nothing of what a slot says
+told_by-push : (m a : ℕ) (hs : List Head) (h : Head) (q : List ℕ) → bytes_eq h.id q ≡ false → told_by m a (hs ++ h ∷ []) q ≡ told_by m a hs q
+told_by-push m zero hs h q differs = refl
+told_by-push m (suc n) hs h q differs = ap (λ (b : Bool). if (m == mark_of q) && b then Some n else None) (has_id-push hs h n q differs)
 
--- one more object of another id
-held-push : (s : ℕ) (others after : List ℕ → Option ℕ) (hs : List Head) (h : Head) (q : List ℕ) → bytes_eq h.id q ≡ false → after q ≡ others q → held s after (hs ++ h ∷ []) q ≡ held s others hs q
-held-push zero others after hs h q differs same = refl
-held-push (suc k) others after hs h q differs same = rw (has_id-push hs h k q differs, same) refl
+new_by : (b x y : Bool) (k n ℓ : ℕ) → n ≡ ℓ → (x ≡ false → y ≡ true → k ≡ ℓ) → (if b && x then Some k else None) ≡ None → ((if b && y then Some k else None) ≡ None) ⊎ ((if b && y then Some k else None) ≡ Some n)
+new_by false x y k n ℓ next last none = inl refl
+new_by true true y k n ℓ next last none = cc
+new_by true false false k n ℓ next last none = inl refl
+new_by true false true k n ℓ next last none = inr (ap Some (last refl refl ∙ sym next))
 
-slot-known : (q : List ℕ) (n : ℕ) → 0 < n → slot_of q n < n
-unfolding slot_of
-slot-known q n some = omega arith
+-- a slot that says nothing of an id says that of the object behind the last, or nothing
+told_by-new : (m a n : ℕ) (hs : List Head) (h : Head) (q : List ℕ) → n ≡ length hs → told_by m a hs q ≡ None → (told_by m a (hs ++ h ∷ []) q ≡ None) ⊎ (told_by m a (hs ++ h ∷ []) q ≡ Some n)
+told_by-new m zero n hs h q next none = inl refl
+told_by-new m (suc k) n hs h q next none = new_by (m == mark_of q) (has_id hs k q) (has_id (hs ++ h ∷ []) k q) k n (length hs) next (has_id-new hs h k q) none
 
--- ids whose tests differ differ
-differs : (b : Bool) (id q : List ℕ) → bytes_eq id q ≡ b → (b ≡ true → ⊥) → b ≡ false
-differs true id q same fails = absurd (fails refl)
-differs false id q same fails = refl
+-- one slot that says nothing
+pub empty-told : (w : ℕ) (hs : List Head) (q : List ℕ) → w % NUMBERS ≡ 0 → told w hs q ≡ None
+empty-told w hs q empty = ap (λ (a : ℕ). told_by (w / NUMBERS) a hs q) empty
 
-module _ (slots new : List ℕ) (others : List ℕ → Option ℕ) (hs : List Head) (h : Head) (id : List ℕ) (n : ℕ) (next : n ≡ length hs) (named : h.id ≡ id) (takes : TakesSlot slots id n new) (guarded : IsGuarded slots others) where
-  inside : slot_of id (length slots) < length slots
-  inside = slot-known id (length slots) takes.0
+-- one more object of another id, where each slot says of it what it said
+said-same : (k a : ℕ) (slots new : List ℕ) (others after : List ℕ → Option ℕ) (hs : List Head) (h : Head) (q : List ℕ) → ((j : ℕ) → told (slice_index_or new j 0) (hs ++ h ∷ []) q ≡ told (slice_index_or slots j 0) hs q) → after q ≡ others q → said k a new after (hs ++ h ∷ []) q ≡ said k a slots others hs q
+said-same zero a slots new others after hs h q each rest = rest
+said-same (suc k) a slots new others after hs h q each rest = ap₂ option_or (each a) (said-same k (a + 1) slots new others after hs h q each rest)
 
+added_by : (x y : Option ℕ) (n : ℕ) → (x ≡ None) ⊎ (x ≡ Some n) → y ≡ Some n → option_or x y ≡ Some n
+added_by x y n (inl none) is = ap (λ (z : Option ℕ). option_or z y) none ∙ is
+added_by x y n (inr some) is = ap (λ (z : Option ℕ). option_or z y) some
+
+-- an id of which nothing was said is given its number by the others
+said-added : (k a n : ℕ) (slots : List ℕ) (others after : List ℕ → Option ℕ) (hs : List Head) (h : Head) (id : List ℕ) → n ≡ length hs → after id ≡ Some n → said k a slots others hs id ≡ None → said k a slots after (hs ++ h ∷ []) id ≡ Some n
+said-added zero a n slots others after hs h id next there none = there
+said-added (suc k) a n slots others after hs h id next there none =
+    let w = slice_index_or slots a 0 in
+    let apart = or-none (told w hs id) (said k (a + 1) slots others hs id) none in
+    added_by (told w (hs ++ h ∷ []) id) (said k (a + 1) slots after (hs ++ h ∷ []) id) n (told_by-new (w / NUMBERS) (w % NUMBERS) n hs h id next apart.0) (said-added k (a + 1) n slots others after hs h id next there apart.1)
+
+-- slots of which the first is empty, and those behind it
+said-empty : (k a : ℕ) (slots : List ℕ) (others : List ℕ → Option ℕ) (hs : List Head) (q : List ℕ) → ((j : ℕ) → a ≤ j → j < a + k → IsEmpty slots j) → said k a slots others hs q ≡ others q
+said-empty zero a slots others hs q empty = refl
+said-empty (suc k) a slots others hs q empty =
+    ap (λ (x : Option ℕ). option_or x (said k (a + 1) slots others hs q)) (empty-told (slice_index_or slots a 0) hs q (empty a (omega arith) (omega arith)))
+    ∙ said-empty k (a + 1) slots others hs q (λ j from to. empty j (omega (arith, from)) (omega (arith, to)))
+
+none_by : (a b : Bool) (n : ℕ) → b ≡ false → (if a && b then Some n else None) ≡ None
+none_by false b n fails = refl
+none_by true b n fails = ap (λ (x : Bool). if x then Some n else None) fails
+
+some_by : (a b : Bool) (n : ℕ) → a ≡ true → b ≡ true → (if a && b then Some n else None) ≡ Some n
+some_by a b n one other = rw (one, other) refl
+
+own_by : (n : ℕ) → ((eqb n n ≡ true) × (n ≡ n)) ⊎ ((eqb n n ≡ false) × (n ≢ n)) → (n == n) ≡ true
+own_by n (inl at) = at.0
+own_by n (inr apart) = absurd (apart.1 refl)
+
+eqb-own : (n : ℕ) → (n == n) ≡ true
+eqb-own n = own_by n (eqb_tells n n)
+
+-- the parts of a slot's word
+word-mark : (m n : ℕ) → n < MAX_OBJECTS → (m * NUMBERS + n + 1) / NUMBERS ≡ m
+word-mark m n small = omega (arith, small)
+
+word-above : (m n : ℕ) → n < MAX_OBJECTS → (m * NUMBERS + n + 1) % NUMBERS ≡ suc n
+word-above m n small = omega (arith, small)
+
+-- a group begins at a multiple of its size
+times-round : (b : Bool) (x : ℕ) → (if b then 0 else x * GROUP) % GROUP ≡ 0
+times-round true x = refl
+times-round false x = omega arith
+
+first-round : (id : List ℕ) (n : ℕ) → first_of id n % GROUP ≡ 0
+unfolding first_of
+first-round id n = times-round (n / GROUP == 0) _
+
+module _ (slots new : List ℕ) (others : List ℕ → Option ℕ) (hs : List Head) (h : Head) (id : List ℕ) (n : ℕ) (next : n ≡ length hs) (named : h.id ≡ id) (takes : TakesSlot slots id n new) where
   same_length : length new ≡ length slots
-  same_length = ap length takes.2 ∙ length-set slots (slot_of id (length slots)) (n + 1)
+  same_length = ap length takes.put ∙ length-set slots takes.slot _
 
-  slot-at : (r : ℕ) → r ≡ slot_of id (length slots) → slice_index_or new r 0 ≡ suc n
-  slot-at r at = ap (λ (x : ℕ). slice_index_or new x 0) at ∙ ap (λ (l : List ℕ). slice_index_or l (slot_of id (length slots)) 0) takes.2 ∙ get_or-set_same slots (slot_of id (length slots)) (n + 1) 0 inside ∙ (omega arith)
+  at-slot : slice_index_or new takes.slot 0 ≡ mark_of id * NUMBERS + n + 1
+  at-slot = ap (λ (l : List ℕ). slice_index_or l takes.slot 0) takes.put ∙ get_or-set_same slots takes.slot _ 0 takes.place.there
 
-  slot-apart : (r : ℕ) → (r ≡ slot_of id (length slots) → ⊥) → slice_index_or new r 0 ≡ slice_index_or slots r 0
-  slot-apart r apart = ap (λ (l : List ℕ). slice_index_or l r 0) takes.2 ∙ get_or-set_other slots (slot_of id (length slots)) r (n + 1) 0 apart
+  apart-slot : (j : ℕ) → (j ≡ takes.slot → ⊥) → slice_index_or new j 0 ≡ slice_index_or slots j 0
+  apart-slot j apart = ap (λ (l : List ℕ). slice_index_or l j 0) takes.put ∙ get_or-set_other slots takes.slot j _ 0 apart
 
-  mine : (q : List ℕ) → slot_of q (length slots) ≡ slot_of id (length slots) → number_found new others (hs ++ h ∷ []) q ≡ cond (bytes_eq id q) (Some n) (number_found slots others hs q)
-  mine q at =
-      let empty : slice_index_or slots (slot_of q (length slots)) 0 ≡ 0 = ap (λ (x : ℕ). slice_index_or slots x 0) at ∙ takes.1 in
-      let nothing : number_found slots others hs q ≡ None = found-held slots others hs q takes.0 ∙ ap (λ (s : ℕ). held s others hs q) empty in
-      let held_now : number_found new others (hs ++ h ∷ []) q ≡ held (suc n) others (hs ++ h ∷ []) q =
-      found-held new others (hs ++ h ∷ []) q (subst (λ (x : ℕ). 0 < x) (sym same_length) takes.0)
-      ∙ ap (λ (x : ℕ). held (slice_index_or new (slot_of q x) 0) others (hs ++ h ∷ []) q) same_length
-      ∙ ap (λ (s : ℕ). held s others (hs ++ h ∷ []) q) (slot-at (slot_of q (length slots)) at) in
-      let has : has_id (hs ++ h ∷ []) n q ≡ bytes_eq id q = ap (λ (k : ℕ). has_id (hs ++ h ∷ []) k q) next ∙ has_id-last hs h q ∙ ap (λ (x : List ℕ). bytes_eq x q) named in
-      held_now ∙ rw (has, guarded q takes.0 empty, nothing) refl
+  -- what the slot says now
+  at-told : (q : List ℕ) → told (slice_index_or new takes.slot 0) (hs ++ h ∷ []) q ≡ (if (mark_of id == mark_of q) && bytes_eq id q then Some n else None)
+  at-told q =
+      ap (λ (w : ℕ). told w (hs ++ h ∷ []) q) at-slot
+      ∙ ap (λ (m : ℕ). told_by m ((mark_of id * NUMBERS + n + 1) % NUMBERS) (hs ++ h ∷ []) q) (word-mark (mark_of id) n takes.room)
+      ∙ ap (λ (a : ℕ). told_by (mark_of id) a (hs ++ h ∷ []) q) (word-above (mark_of id) n takes.room)
+      ∙ ap (λ (b : Bool). if (mark_of id == mark_of q) && b then Some n else None) (ap (λ (k : ℕ). has_id (hs ++ h ∷ []) k q) next ∙ has_id-last hs h q ∙ ap (λ (x : List ℕ). bytes_eq x q) named)
 
-  other : (q : List ℕ) → (slot_of q (length slots) ≡ slot_of id (length slots) → ⊥) → number_found new others (hs ++ h ∷ []) q ≡ cond (bytes_eq id q) (Some n) (number_found slots others hs q)
-  other q apart =
-      let fails : bytes_eq id q ≡ false = differs (bytes_eq id q) id q refl (λ holds. apart (ap (λ (x : List ℕ). slot_of x (length slots)) (sym ((bytes_eq-Decides id q).0 holds)))) in
-      let head : bytes_eq h.id q ≡ false = ap (λ (x : List ℕ). bytes_eq x q) named ∙ fails in
-      found-held new others (hs ++ h ∷ []) q (subst (λ (x : ℕ). 0 < x) (sym same_length) takes.0)
-      ∙ ap (λ (x : ℕ). held (slice_index_or new (slot_of q x) 0) others (hs ++ h ∷ []) q) same_length
-      ∙ ap (λ (s : ℕ). held s others (hs ++ h ∷ []) q) (slot-apart (slot_of q (length slots)) apart)
-      ∙ held-push (slice_index_or slots (slot_of q (length slots)) 0) others others hs h q head refl
-      ∙ sym (found-held slots others hs q takes.0)
-      ∙ rw fails refl
+  each_by : (q : List ℕ) → bytes_eq id q ≡ false → (j : ℕ) → ((eqb j takes.slot ≡ true) × (j ≡ takes.slot)) ⊎ ((eqb j takes.slot ≡ false) × (j ≢ takes.slot)) → told (slice_index_or new j 0) (hs ++ h ∷ []) q ≡ told (slice_index_or slots j 0) hs q
+  each_by q differs j (inl at) =
+      ap (λ (i : ℕ). told (slice_index_or new i 0) (hs ++ h ∷ []) q) at.1
+      ∙ at-told q
+      ∙ none_by (mark_of id == mark_of q) (bytes_eq id q) n differs
+      ∙ sym (ap (λ (i : ℕ). told (slice_index_or slots i 0) hs q) at.1 ∙ empty-told (slice_index_or slots takes.slot 0) hs q takes.place.empty)
+  each_by q differs j (inr apart) =
+      let w = slice_index_or slots j 0 in
+      ap (λ (x : ℕ). told x (hs ++ h ∷ []) q) (apart-slot j apart.1)
+      ∙ told_by-push (w / NUMBERS) (w % NUMBERS) hs h q (ap (λ (x : List ℕ). bytes_eq x q) named ∙ differs)
 
-  by_slot : (q : List ℕ) → ((eqb (slot_of q (length slots)) (slot_of id (length slots)) ≡ true) × (slot_of q (length slots) ≡ slot_of id (length slots))) ⊎ ((eqb (slot_of q (length slots)) (slot_of id (length slots)) ≡ false) × (slot_of q (length slots) ≢ slot_of id (length slots))) → number_found new others (hs ++ h ∷ []) q ≡ cond (bytes_eq id q) (Some n) (number_found slots others hs q)
-  by_slot q (inl at) = mine q at.1
-  by_slot q (inr apart) = other q apart.1
+  mine_by : (k a : ℕ) → said (suc k) a slots others hs id ≡ None → ((a ≡ takes.slot → ⊥) → said k (a + 1) slots others hs id ≡ None → said k (a + 1) new others (hs ++ h ∷ []) id ≡ Some n) → ((eqb a takes.slot ≡ true) × (a ≡ takes.slot)) ⊎ ((eqb a takes.slot ≡ false) × (a ≢ takes.slot)) → said (suc k) a new others (hs ++ h ∷ []) id ≡ Some n
+  mine_by k a none rest (inl at) =
+      ap (λ (x : Option ℕ). option_or x (said k (a + 1) new others (hs ++ h ∷ []) id))
+      (ap (λ (i : ℕ). told (slice_index_or new i 0) (hs ++ h ∷ []) id) at.1 ∙ at-told id ∙ some_by (mark_of id == mark_of id) (bytes_eq id id) n (eqb-own (mark_of id)) ((bytes_eq-Decides id id).1 refl))
+  mine_by k a none rest (inr apart) =
+      let w = slice_index_or slots a 0 in
+      let split = or-none (told w hs id) (said k (a + 1) slots others hs id) none in
+      let now : slice_index_or new a 0 ≡ w = apart-slot a apart.1 in
+      added_by (told (slice_index_or new a 0) (hs ++ h ∷ []) id) (said k (a + 1) new others (hs ++ h ∷ []) id) n
+      (subst (λ (x : ℕ). (told x (hs ++ h ∷ []) id ≡ None) ⊎ (told x (hs ++ h ∷ []) id ≡ Some n)) (sym now) (told_by-new (w / NUMBERS) (w % NUMBERS) n hs h id next split.0))
+      (rest apart.1 split.1)
+
+  mine : (k a : ℕ) → a ≤ takes.slot → takes.slot < a + k → said k a slots others hs id ≡ None → said k a new others (hs ++ h ∷ []) id ≡ Some n
+  mine zero a from to none = absurd (omega (arith, from, to))
+  mine (suc k) a from to none = mine_by k a none (λ apart rest. mine k (a + 1) (omega (arith, from, apart)) (omega (arith, to)) rest) (eqb_tells a takes.slot)
+
+  found_by : (b : Bool) (q : List ℕ) → bytes_eq id q ≡ b → number_found slots others hs id ≡ None → said (group_size (length slots)) (first_of q (length slots)) new others (hs ++ h ∷ []) q ≡ cond b (Some n) (number_found slots others hs q)
+  found_by true q same none =
+      subst (λ (x : List ℕ). said (group_size (length slots)) (first_of x (length slots)) new others (hs ++ h ∷ []) x ≡ Some n) ((bytes_eq-Decides id q).0 same)
+      (mine (group_size (length slots)) (first_of id (length slots)) takes.place.mine.0 takes.place.mine.1 none)
+  found_by false q differs none = said-same (group_size (length slots)) (first_of q (length slots)) slots new others others hs h q (λ j. each_by q differs j (eqb_tells j takes.slot)) refl
 
   -- the next object's id is found by its slot, and all others as before
-  pub found-taken : (q : List ℕ) → number_found new others (hs ++ h ∷ []) q ≡ cond (bytes_eq id q) (Some n) (number_found slots others hs q)
-  found-taken q = by_slot q (eqb_tells (slot_of q (length slots)) (slot_of id (length slots)))
+  pub found-taken : number_found slots others hs id ≡ None → (q : List ℕ) → number_found new others (hs ++ h ∷ []) q ≡ cond (bytes_eq id q) (Some n) (number_found slots others hs q)
+  found-taken none q =
+      ap (λ (ℓ : ℕ). said (group_size ℓ) (first_of q ℓ) new others (hs ++ h ∷ []) q) same_length ∙ found_by (bytes_eq id q) q refl none
 
-module _ (slots : List ℕ) (others after : List ℕ → Option ℕ) (id : List ℕ) (n : ℕ) (taken : IsOccupied slots id) (follows : (q : List ℕ) → after q ≡ cond (bytes_eq id q) (Some n) (others q)) where
+-- a slot that was empty is empty no more, and the others are as they were
+module _ (slots new : List ℕ) (id : List ℕ) (n : ℕ) (takes : TakesSlot slots id n new) where
+  same_long : length new ≡ length slots
+  same_long = ap length takes.put ∙ length-set slots takes.slot _
+
+  full_now : (j : ℕ) → j ≡ takes.slot → IsEmpty new j → ⊥
+  full_now j at empty =
+      let word : slice_index_or new j 0 ≡ mark_of id * NUMBERS + n + 1 = ap (λ (i : ℕ). slice_index_or new i 0) at ∙ ap (λ (l : List ℕ). slice_index_or l takes.slot 0) takes.put ∙ get_or-set_same slots takes.slot _ 0 takes.place.there in
+      omega (arith, sym (word-above (mark_of id) n takes.room) ∙ ap (λ (w : ℕ). w % NUMBERS) (sym word) ∙ empty)
+
+  kept_at : (j : ℕ) → (j ≡ takes.slot → ⊥) → slice_index_or new j 0 ≡ slice_index_or slots j 0
+  kept_at j apart = ap (λ (l : List ℕ). slice_index_or l j 0) takes.put ∙ get_or-set_other slots takes.slot j _ 0 apart
+
+  was_empty : (j : ℕ) → IsEmpty new j → IsEmpty slots j
+  was_empty j empty = ap (λ (w : ℕ). w % NUMBERS) (sym (kept_at j (λ at. full_now j at empty))) ∙ empty
+
+  filled_by : (i : ℕ) → ((i + 1) % GROUP ≡ 0 → ⊥) → IsEmpty new i → IsFilled slots → ((eqb (i + 1) takes.slot ≡ true) × (i + 1 ≡ takes.slot)) ⊎ ((eqb (i + 1) takes.slot ≡ false) × (i + 1 ≢ takes.slot)) → IsEmpty new (i + 1)
+  filled_by i inner empty filled (inl at) =
+      let first = first_of id (length slots) in
+      let before : first ≤ i = omega (arith, takes.place.mine.0, at.1, λ (e : first ≡ i + 1). inner (ap (λ (x : ℕ). x % GROUP) (sym e) ∙ first-round id (length slots))) in
+      absurd (takes.place.first i before (omega (arith, at.1)) (was_empty i empty))
+  filled_by i inner empty filled (inr apart) = ap (λ (w : ℕ). w % NUMBERS) (kept_at (i + 1) apart.1) ∙ filled i inner (was_empty i empty)
+
+  -- behind an empty slot those of the same group are empty
+  pub filled-taken : IsFilled slots → IsFilled new
+  filled-taken filled i inner empty = filled_by i inner empty filled (eqb_tells (i + 1) takes.slot)
+
+  -- an id whose group has an empty slot isn't among the others
+  pub guarded-taken : (others : List ℕ → Option ℕ) → IsGuarded slots others → IsGuarded new others
+  guarded-taken others guarded q i mine empty = guarded q i (subst (λ (ℓ : ℕ). (first_of q ℓ ≤ i) × (i < first_of q ℓ + group_size ℓ)) same_long mine) (was_empty i empty)
+
+module _ (slots : List ℕ) (others after : List ℕ → Option ℕ) (id : List ℕ) (n : ℕ) (follows : (q : List ℕ) → after q ≡ cond (bytes_eq id q) (Some n) (others q)) where
   other_kept : (q : List ℕ) → bytes_eq id q ≡ false → after q ≡ others q
   other_kept q fails = follows q ∙ rw fails refl
 
-  guard_by : (b : Bool) (q : List ℕ) → bytes_eq id q ≡ b → IsGuarded slots others → 0 < length slots → slice_index_or slots (slot_of q (length slots)) 0 ≡ 0 → after q ≡ None
-  guard_by true q same guarded some empty = absurd (taken some (subst (λ (x : List ℕ). slice_index_or slots (slot_of x (length slots)) 0 ≡ 0) (sym ((bytes_eq-Decides id q).0 same)) empty))
-  guard_by false q apart guarded some empty = other_kept q apart ∙ guarded q some empty
+  guard_by : (b : Bool) (q : List ℕ) → bytes_eq id q ≡ b → IsOccupied slots id → IsGuarded slots others → (i : ℕ) → IsOfGroup slots q i → IsEmpty slots i → after q ≡ None
+  guard_by true q same taken guarded i mine empty = absurd (taken i (subst (λ (x : List ℕ). IsOfGroup slots x i) (sym ((bytes_eq-Decides id q).0 same)) mine) empty)
+  guard_by false q apart taken guarded i mine empty = other_kept q apart ∙ guarded q i mine empty
 
-  -- an id whose slot is empty isn't among the others
-  pub guarded-other : IsGuarded slots others → IsGuarded slots after
-  guarded-other guarded q some empty = guard_by (bytes_eq id q) q refl guarded some empty
+  -- an id whose group has an empty slot isn't among the others
+  pub guarded-other : IsOccupied slots id → IsGuarded slots others → IsGuarded slots after
+  guarded-other taken guarded q i mine empty = guard_by (bytes_eq id q) q refl taken guarded i mine empty
 
   module _ (hs : List Head) (h : Head) (next : n ≡ length hs) (named : h.id ≡ id) where
-    own_by : (b c : Bool) (k : ℕ) → has_id hs k id ≡ b → has_id (hs ++ h ∷ []) k id ≡ c → (if b then Some k else others id) ≡ None → (if c then Some k else after id) ≡ Some n
-    own_by true c k was is none = cc
-    own_by false true k was is none = ap Some (has_id-new hs h k id was is ∙ sym next)
-    own_by false false k was is none = follows id ∙ rw ((bytes_eq-Decides id id).1 refl) refl
-
-    -- the id's own slot holds another object, so the others have its number
-    own : (s : ℕ) → (s ≡ 0 → ⊥) → held s others hs id ≡ None → held s after (hs ++ h ∷ []) id ≡ Some n
-    own zero full none = absurd (full refl)
-    own (suc k) full none = own_by (has_id hs k id) (has_id (hs ++ h ∷ []) k id) k refl refl none
-
-    by_test : (b : Bool) (q : List ℕ) → bytes_eq id q ≡ b → 0 < length slots → number_found slots others hs id ≡ None → number_found slots after (hs ++ h ∷ []) q ≡ cond b (Some n) (number_found slots others hs q)
-    by_test true q same some none =
-        let mine : number_found slots after (hs ++ h ∷ []) id ≡ Some n =
-        found-held slots after (hs ++ h ∷ []) id some ∙ own (slice_index_or slots (slot_of id (length slots)) 0) (taken some) (sym (found-held slots others hs id some) ∙ none) in
-        subst (λ (x : List ℕ). number_found slots after (hs ++ h ∷ []) x ≡ Some n) ((bytes_eq-Decides id q).0 same) mine
-    by_test false q apart some none =
-        found-held slots after (hs ++ h ∷ []) q some
-        ∙ held-push (slice_index_or slots (slot_of q (length slots)) 0) others after hs h q (ap (λ (x : List ℕ). bytes_eq x q) named ∙ apart) (other_kept q apart)
-        ∙ sym (found-held slots others hs q some)
-
-    by_length : (ℓ : ℕ) (q : List ℕ) → length slots ≡ ℓ → number_found slots others hs id ≡ None → number_found slots after (hs ++ h ∷ []) q ≡ cond (bytes_eq id q) (Some n) (number_found slots others hs q)
-    by_length zero q nowhere none = found-nowhere slots after (hs ++ h ∷ []) q nowhere ∙ follows q ∙ ap (λ (x : Option ℕ). cond (bytes_eq id q) (Some n) x) (sym (found-nowhere slots others hs q nowhere))
-    by_length (suc k) q some none = by_test (bytes_eq id q) q refl (omega arith) none
+    by_test : (b : Bool) (q : List ℕ) → bytes_eq id q ≡ b → number_found slots others hs id ≡ None → number_found slots after (hs ++ h ∷ []) q ≡ cond b (Some n) (number_found slots others hs q)
+    by_test true q same none =
+        let own : number_found slots after (hs ++ h ∷ []) id ≡ Some n =
+        said-added (group_size (length slots)) (first_of id (length slots)) n slots others after hs h id next (follows id ∙ rw ((bytes_eq-Decides id id).1 refl) refl) none in
+        subst (λ (x : List ℕ). number_found slots after (hs ++ h ∷ []) x ≡ Some n) ((bytes_eq-Decides id q).0 same) own
+    by_test false q apart none =
+        let differs : bytes_eq h.id q ≡ false = ap (λ (x : List ℕ). bytes_eq x q) named ∙ apart in
+        said-same (group_size (length slots)) (first_of q (length slots)) slots slots others after hs h q
+        (λ j. told_by-push (slice_index_or slots j 0 / NUMBERS) (slice_index_or slots j 0 % NUMBERS) hs h q differs) (other_kept q apart)
 
     -- the next object's id is found among the others, and all others as before
     pub found-other : number_found slots others hs id ≡ None → (q : List ℕ) → number_found slots after (hs ++ h ∷ []) q ≡ cond (bytes_eq id q) (Some n) (number_found slots others hs q)
-    found-other none q = by_length (length slots) q refl none
+    found-other none q = by_test (bytes_eq id q) q refl none
+
+-- ---- groups
+
+none-by : (x y : ℕ) → x ≡ 0 → (if x == 0 then 0 else y) ≡ 0
+none-by x y none = rw none refl
+
+some-eq : (x : ℕ) → ((eqb x 0 ≡ true) × (x ≡ 0)) ⊎ ((eqb x 0 ≡ false) × (x ≢ 0)) → (x ≡ 0 → ⊥) → (x == 0) ≡ false
+some-eq x (inl none) some = absurd (some none.1)
+some-eq x (inr none) some = none.0
+
+-- where there is no group
+pub first-none : (id : List ℕ) (n : ℕ) → n / GROUP ≡ 0 → first_of id n ≡ 0
+unfolding first_of
+first-none id n none = none-by (n / GROUP) _ none
+
+pub size-none : (n : ℕ) → n / GROUP ≡ 0 → group_size n ≡ 0
+size-none n none = none-by (n / GROUP) GROUP none
+
+-- where there is one
+pub first-some : (id : List ℕ) (n : ℕ) → (n / GROUP ≡ 0 → ⊥) → first_of id n ≡ (hash_of id % (n / GROUP)) * GROUP
+unfolding first_of
+first-some id n some = ap (λ (b : Bool). if b then 0 else (hash_of id % (n / GROUP)) * GROUP) (some-eq (n / GROUP) (eqb_tells (n / GROUP) 0) some)
+
+pub size-some : (n : ℕ) → (n / GROUP ≡ 0 → ⊥) → group_size n ≡ GROUP
+size-some n some = ap (λ (b : Bool). if b then 0 else GROUP) (some-eq (n / GROUP) (eqb_tells (n / GROUP) 0) some)
+
+-- ---- slots without numbers
+
+zero-at : (n i : ℕ) → ◌≡◌ {A = ℕ} (slice_index_or (replicate n 0) i 0) 0
+zero-at zero i = refl
+zero-at (suc n) zero = refl
+zero-at (suc n) (suc i) = zero-at n i
+
+-- nothing is found
+pub found-fresh : (slots : List ℕ) (n : ℕ) (others : List ℕ → Option ℕ) → slots ≡ replicate n 0 → ((q : List ℕ) → others q ≡ None) → (hs : List Head) (id : List ℕ) → number_found slots others hs id ≡ None
+found-fresh slots n others fresh none hs id =
+    said-empty (group_size (length slots)) (first_of id (length slots)) slots others hs id
+    (λ j from to. ap (λ (w : ℕ). w % NUMBERS) (ap (λ (l : List ℕ). slice_index_or l j 0) fresh ∙ zero-at n j))
+    ∙ none id
+
+-- ---- a search
+
+-- behind an empty slot of a group nothing is said
+empty-from : (k a : ℕ) (slots : List ℕ) (others : List ℕ → Option ℕ) (hs : List Head) (q : List ℕ) → IsFilled slots → a % GROUP + suc k ≤ GROUP → IsEmpty slots a → said (suc k) a slots others hs q ≡ others q
+empty-from zero a slots others hs q filled inside empty = ap (λ (x : Option ℕ). option_or x (others q)) (empty-told (slice_index_or slots a 0) hs q empty)
+empty-from (suc k) a slots others hs q filled inside empty =
+    ap (λ (x : Option ℕ). option_or x (said (suc k) (a + 1) slots others hs q)) (empty-told (slice_index_or slots a 0) hs q empty)
+    ∙ empty-from k (a + 1) slots others hs q filled (omega (arith, inside)) (filled a (λ round. omega (arith, inside, round)) empty)
+
+round-within : (a f k : ℕ) → f % GROUP ≡ 0 → f ≤ a → a + suc k ≤ f + GROUP → a % GROUP + suc k ≤ GROUP
+round-within a f k round from to = omega (arith, round, from, to)
+
+small-by : (b : Bool) → (if b then 0 else GROUP) ≤ GROUP
+small-by true = omega arith
+small-by false = omega arith
+
+size-small : (n : ℕ) → group_size n ≤ GROUP
+size-small n = small-by (n / GROUP == 0)
+
+-- from an empty slot of an id's group on
+said-nothing : (k a : ℕ) (slots : List ℕ) (others : List ℕ → Option ℕ) (hs : List Head) (q : List ℕ) → IsFilled slots → IsGuarded slots others → first_of q (length slots) ≤ a → a + suc k ≤ first_of q (length slots) + group_size (length slots) → IsEmpty slots a → said (suc k) a slots others hs q ≡ None
+said-nothing k a slots others hs q filled guarded from to empty =
+    empty-from k a slots others hs q filled (round-within a (first_of q (length slots)) k (first-round q (length slots)) from (omega (arith, to, size-small (length slots)))) empty
+    ∙ guarded q a (from, omega (arith, to)) empty
+
+-- the same where it is counted to the group's end
+pub found-nothing : (a b : ℕ) (slots : List ℕ) (others : List ℕ → Option ℕ) (hs : List Head) (q : List ℕ) → IsFilled slots → IsGuarded slots others → first_of q (length slots) ≤ a → a < b → b ≡ first_of q (length slots) + group_size (length slots) → IsEmpty slots a → said (b - a) a slots others hs q ≡ None
+found-nothing a b slots others hs q filled guarded from before end empty =
+    let more : b - a ≡ suc (b - suc a) = omega (arith, before) in
+    ap (λ (k : ℕ). said k a slots others hs q) more ∙ said-nothing (b - suc a) a slots others hs q filled guarded from (omega (arith, before, end)) empty
+
+-- what a slot says, and then the next ones
+pub said-step : (a b : ℕ) (slots : List ℕ) (others : List ℕ → Option ℕ) (hs : List Head) (q : List ℕ) → a < b → said (b - a) a slots others hs q ≡ option_or (told (slice_index_or slots a 0) hs q) (said (b - (a + 1)) (a + 1) slots others hs q)
+said-step a b slots others hs q before =
+    let more : b - a ≡ suc (b - (a + 1)) = omega (arith, before) in
+    ap (λ (k : ℕ). said k a slots others hs q) more
+
+told-by_some : (m a n : ℕ) (hs : List Head) (q : List ℕ) → a ≡ suc n → m ≡ mark_of q → has_id hs n q ≡ true → told_by m a hs q ≡ Some n
+told-by_some m a n hs q above mark has =
+    ap (λ (x : ℕ). told_by m x hs q) above ∙ some_by (m == mark_of q) (has_id hs n q) n (ap (λ (x : ℕ). x == mark_of q) mark ∙ eqb-own (mark_of q)) has
+
+fails_by : (m r n : ℕ) (b : Bool) → ((eqb m r ≡ true) × (m ≡ r)) ⊎ ((eqb m r ≡ false) × (m ≢ r)) → (m ≡ r → b ≡ false) → (if (m == r) && b then Some n else None) ≡ None
+fails_by m r n b (inl at) fails = none_by (m == r) b n (fails at.1)
+fails_by m r n b (inr apart) fails = ap (λ (x : Bool). if x && b then Some n else None) apart.0
+
+told-by_none : (m a n : ℕ) (hs : List Head) (q : List ℕ) → a ≡ suc n → (m ≡ mark_of q → has_id hs n q ≡ false) → told_by m a hs q ≡ None
+told-by_none m a n hs q above fails = ap (λ (x : ℕ). told_by m x hs q) above ∙ fails_by m (mark_of q) n (has_id hs n q) (eqb_tells m (mark_of q)) fails
+
+-- the slot at which a search stands: its word
+module _ (slots : List ℕ) (others : List ℕ → Option ℕ) (hs : List Head) (q : List ℕ) (a b w : ℕ) (before : a < b) (at : w ≡ get_or slots a w) (there : a < length slots) where
+  word : slice_index_or slots a 0 ≡ w
+  word = get_or_default slots a 0 w there ∙ sym at
+
+  -- it is empty
+  pub found-at_empty : IsFilled slots → IsGuarded slots others → first_of q (length slots) ≤ a → b ≡ first_of q (length slots) + group_size (length slots) → w % NUMBERS ≡ 0 → said (b - a) a slots others hs q ≡ None
+  found-at_empty filled guarded from end empty = found-nothing a b slots others hs q filled guarded from before end (ap (λ (x : ℕ). x % NUMBERS) word ∙ empty)
+
+  -- it has the id's object
+  pub found-at : (n : ℕ) → w % NUMBERS ≡ suc n → w / NUMBERS ≡ mark_of q → has_id hs n q ≡ true → said (b - a) a slots others hs q ≡ Some n
+  found-at n above mark has =
+      said-step a b slots others hs q before
+      ∙ ap (λ (x : Option ℕ). option_or x (said (b - (a + 1)) (a + 1) slots others hs q))
+      (ap (λ (x : ℕ). told x hs q) word ∙ told-by_some (w / NUMBERS) (w % NUMBERS) n hs q above mark has)
+
+  -- it has another object
+  pub found-behind : (n : ℕ) → w % NUMBERS ≡ suc n → (w / NUMBERS ≡ mark_of q → has_id hs n q ≡ false) → said (b - a) a slots others hs q ≡ said (b - (a + 1)) (a + 1) slots others hs q
+  found-behind n above fails =
+      said-step a b slots others hs q before
+      ∙ ap (λ (x : Option ℕ). option_or x (said (b - (a + 1)) (a + 1) slots others hs q))
+      (ap (λ (x : ℕ). told x hs q) word ∙ told-by_none (w / NUMBERS) (w % NUMBERS) n hs q above fails)

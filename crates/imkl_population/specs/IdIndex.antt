@@ -1,17 +1,27 @@
 -- How objects are found by their ids.
-use Rattle.std.specs.Prelude.{◌≡◌, ℕ, zero, suc, ◌+◌, ◌<◌, ◌%◌, Bool, false, List, [], ◌∷◌, ◌++◌, Option, Some, None, Result, Ok, Err, length, bytes_eq, slice_index_or, slice_set, if◌then◌else◌}
+use Rattle.std.specs.Prelude.{◌≡◌, ℕ, zero, suc, ◌+◌, ◌*◌, ◌/◌, ◌^◌, ◌<◌, ◌≤◌, ◌%◌, ◌==◌, ◌&&◌, Bool, false, List, [], ◌∷◌, ◌++◌, Option, Some, None, Result, Ok, Err, length, bytes_eq, slice_index_or, slice_set, if◌then◌else◌}
+use Rattle.std.specs.Option.{option_or}
 use Rattle.std.specs.declared.alloc.AllocError.{AllocError}
 use Rattle.std.specs.Hash.FoldHasher as folding
 use Rattle.std.specs.Map.{update}
+use Rattle.imkl_population.specs.declared.limits.TheConstants.{GROUP, NUMBERS, MAX_OBJECTS}
 use Rattle.imkl_population.specs.declared.object.Head.{Head}
 
 -- the hash of an id
 unfoldable pub hash_of : List ℕ → ℕ
 hash_of id = folding.finish (folding.write folding.initial id)
 
--- the slot of an id, of so many
-unfoldable pub slot_of : List ℕ → ℕ → ℕ
-slot_of id n = hash_of id % n
+-- a part of the hash that tells ids of one group apart
+unfoldable pub mark_of : List ℕ → ℕ
+mark_of id = hash_of id / 2 ^ 52
+
+-- how many slots an id's group has, of so many
+abbrev pub group_size : ℕ → ℕ
+group_size n = if n / GROUP == 0 then 0 else GROUP
+
+-- the first slot of an id's group, of so many
+unfoldable pub first_of : List ℕ → ℕ → ℕ
+first_of id n = if n / GROUP == 0 then 0 else (hash_of id % (n / GROUP)) * GROUP
 
 -- whether an object is there and has an id
 abbrev pub has_id : List Head → ℕ → List ℕ → Bool
@@ -19,27 +29,57 @@ has_id [] n id = false
 has_id (h ∷ hs) zero id = bytes_eq h.id id
 has_id (h ∷ hs) (suc n) id = has_id hs n id
 
--- what a slot says of an id: nothing where it is empty, its object if that has the id, else what the others say
-abbrev pub held : ℕ → (List ℕ → Option ℕ) → List Head → List ℕ → Option ℕ
-held zero others hs id = None
-held (suc n) others hs id = if has_id hs n id then Some n else others id
+-- what a mark, and a number above an object's, say of an id: its object, if that has the id
+abbrev pub told_by : ℕ → ℕ → List Head → List ℕ → Option ℕ
+told_by m zero hs id = None
+told_by m (suc n) hs id = if (m == mark_of id) && has_id hs n id then Some n else None
+
+-- what a slot says of an id
+abbrev pub told : ℕ → List Head → List ℕ → Option ℕ
+told w hs id = told_by (w / NUMBERS) (w % NUMBERS) hs id
+
+-- what so many slots say of an id, from one on; where they say nothing, what the others say
+abbrev pub said : ℕ → ℕ → List ℕ → (List ℕ → Option ℕ) → List Head → List ℕ → Option ℕ
+said zero a slots others hs id = others id
+said (suc k) a slots others hs id = option_or (told (slice_index_or slots a 0) hs id) (said k (a + 1) slots others hs id)
 
 -- the number found for an id, among objects with these ids
 abbrev pub number_found : List ℕ → (List ℕ → Option ℕ) → List Head → List ℕ → Option ℕ
-number_found [] others hs id = others id
-number_found (s ∷ ss) others hs id = held (slice_index_or (s ∷ ss) (slot_of id (length (s ∷ ss))) 0) others hs id
+number_found slots others hs id = said (group_size (length slots)) (first_of id (length slots)) slots others hs id
 
--- an id whose slot is empty isn't among the others
+-- a slot says nothing
+abbrev pub IsEmpty : List ℕ → ℕ → Type 0
+IsEmpty slots i = slice_index_or slots i 0 % NUMBERS ≡ 0
+
+-- a slot is one of an id's group
+abbrev pub IsOfGroup : List ℕ → List ℕ → ℕ → Type 0
+IsOfGroup slots id i = (first_of id (length slots) ≤ i) × (i < first_of id (length slots) + group_size (length slots))
+
+-- behind an empty slot those of the same group are empty
+abbrev pub IsFilled : List ℕ → Type 0
+IsFilled slots = (i : ℕ) → ((i + 1) % GROUP ≡ 0 → ⊥) → IsEmpty slots i → IsEmpty slots (i + 1)
+
+-- an id whose group has an empty slot isn't among the others
 abbrev pub IsGuarded : List ℕ → (List ℕ → Option ℕ) → Type 0
-IsGuarded slots others = (id : List ℕ) → 0 < length slots → slice_index_or slots (slot_of id (length slots)) 0 ≡ 0 → others id ≡ None
+IsGuarded slots others = (id : List ℕ) (i : ℕ) → IsOfGroup slots id i → IsEmpty slots i → others id ≡ None
 
--- an id's slot is given to the next object's number; it was empty
-abbrev pub TakesSlot : List ℕ → List ℕ → ℕ → List ℕ → Type 0
-TakesSlot old id n new = (0 < length old) × (slice_index_or old (slot_of id (length old)) 0 ≡ 0) × (new ≡ slice_set old (slot_of id (length old)) (n + 1))
+-- the first empty slot of an id's group
+pub record IsFirstEmpty (slots : List ℕ) (id : List ℕ) (i : ℕ) : Type 0 where
+  pub there : i < length slots
+  pub mine : IsOfGroup slots id i
+  pub empty : IsEmpty slots i
+  pub first : (j : ℕ) → first_of id (length slots) ≤ j → j < i → IsEmpty slots j → ⊥
 
--- an id's slot isn't empty, if there are slots
+-- an id's first empty slot is given to the next object's number
+pub record TakesSlot (old : List ℕ) (id : List ℕ) (n : ℕ) (new : List ℕ) : Type 0 where
+  pub slot : ℕ
+  pub place : IsFirstEmpty old id slot
+  pub room : n < MAX_OBJECTS
+  pub put : new ≡ slice_set old slot (mark_of id * NUMBERS + n + 1)
+
+-- no slot of an id's group is empty
 abbrev pub IsOccupied : List ℕ → List ℕ → Type 0
-IsOccupied slots id = 0 < length slots → slice_index_or slots (slot_of id (length slots)) 0 ≡ 0 → ⊥
+IsOccupied slots id = (i : ℕ) → IsOfGroup slots id i → IsEmpty slots i → ⊥
 
 -- The id of the next object, which no object has, is given its number. If memory runs out, nothing changes.
 abbrev pub AddsId : {X : Type 0} → Result X AllocError → (List Head → List ℕ → Option ℕ) → List ℕ → ℕ → (List Head → List ℕ → Option ℕ) → Type 0

@@ -1,26 +1,29 @@
 //! The numbers of objects by their ids.
 
-ghost use Rattle.std.specs.Prelude.{◌≡◌, ◌<◌, ◌≤◌, ℕ, List, [], ◌∷◌, true, false, Some, None, length, bytes_eq, IfOk, OnOk, OnErr};
+ghost use Rattle.std.specs.Prelude.{◌≡◌, ◌<◌, ◌≤◌, ℕ, List, [], ◌∷◌, true, false, Some, None, length, bytes_eq, IfOk, OnOk, OnErr, IfSome, ◌+◌};
 ghost use Rattle.std.specs.Map.{update};
 ghost use Rattle.std.specs.BTreeMap.{get_by_text};
 ghost use Rattle.imkl_population.specs.declared.object.Head.{Head};
 ghost use Rattle.imkl_population.specs.declared.limits.TheConstants.{MAX_OBJECTS};
-ghost use Rattle.imkl_population.specs.IdIndex.{hash_of, slot_of, has_id, number_found, IsGuarded, TakesSlot, IsOccupied, AddsId};
+ghost use Rattle.imkl_population.specs.IdIndex.{hash_of, mark_of, first_of, group_size, has_id, number_found, IsFilled, IsGuarded, IsFirstEmpty, TakesSlot, IsOccupied, AddsId};
 
+use crate::limits::{GROUP, NUMBERS};
 use crate::object::Head;
 use std::alloc::{AllocError, Global};
 use std::collections::BTreeMap;
 use std::hash::{FoldHasher, Hasher};
 
-/// Finds objects by their ids. The hash of an id picks a slot, which holds the number of one object. Ids whose slot holds
-/// another object's number stand in an ordered map, so no choice of ids makes a search slow. The index keeps no text of ids
-/// with slots: it is asked together with the objects, and contracts see which number is found for an id among these.
+/// Finds objects by their ids. The hash of an id picks a group of slots, of which it takes the first that is empty. Ids whose
+/// group was full stand in an ordered map, so no choice of ids makes a search slow. A slot has the number of an object, and a
+/// mark of its id, so that few others are compared. The index keeps no text of ids with slots: it is asked together with the
+/// objects, and contracts see which number is found for an id among these.
 #[derive(Drop)]
 pub(crate) struct IdIndex {
-    /// One above an object's number, or 0 in an empty slot.
+    /// The mark of an id, `NUMBERS` times, and one above the number of its object; 0 in an empty slot.
     slots: Vec<u32>,
-    /// The numbers of objects whose slots hold another's.
+    /// The numbers of objects whose groups were full.
     others: BTreeMap<String, usize>,
+    ghost filled: { IsFilled slots.items },
     ghost guarded: { IsGuarded slots.items (get_by_text others) },
 }
 
@@ -42,14 +45,27 @@ impl<'i> HashedId<'i> {
         HashedId { text, hash }
     }
 
-    /// Its slot, of so many.
-    #[tactic(auto, unfolding(crate::specs::IdIndex::slot_of))]
-    fn slot_of(self, slots: usize) -> usize
-        requires { 0 < slots }
-        ensures slot { result ≡ slot_of self.entry.text.now slots }
-        ensures known { result < slots }
+    /// Its group, of so many slots: from one to before another. Fewer than a group has are none.
+    fn group(self, slots: usize) -> (usize, usize)
+        ensures first { result.0 ≡ first_of self.entry.text.now slots }
+        ensures end { result.1 ≡ first_of self.entry.text.now slots + group_size slots }
+        ensures known { result.1 ≤ slots }
     {
-        self.hash as usize % slots
+        let groups = slots / GROUP;
+        if groups == 0 {
+            return (0, 0);
+        }
+        let first = self.hash as usize % groups * GROUP;
+        (first, first + GROUP)
+    }
+
+    /// Its mark: the highest bits of the hash, by which ids of one group are told apart before they are compared.
+    #[tactic(auto, unfolding(crate::specs::IdIndex::mark_of))]
+    fn mark(self) -> u32
+        ensures mark { result ≡ mark_of self.entry.text.now }
+        ensures small { result < 4096 }
+    {
+        (self.hash >> 52) as u32
     }
 }
 
@@ -101,12 +117,13 @@ impl IdIndex {
         }
     }
 
-    /// No ids, and slots for so many.
+    /// No ids, and twice as many slots as so many have.
     pub(crate) fn with_capacity(alloc: Global, ids: usize) -> Result<IdIndex, AllocError>
         ensures { IfOk result (λ x. (hs : List Head) (id : List ℕ) →
             number_found x.slots.items (get_by_text x.others) hs id ≡ None) }
     {
-        let slots = vec![in alloc; 0; ids.saturating_mul(8)]?;
+        let groups = (ids / 4).saturating_add(1);
+        let slots = vec![in alloc; 0; groups.saturating_mul(GROUP)]?;
         Ok(IdIndex {
             slots,
             others: BTreeMap::new(alloc),
@@ -118,15 +135,29 @@ impl IdIndex {
         ensures { result ≡ number_found self.now.slots.items (get_by_text self.now.others)
             heads.now id.entry.text.now }
     {
-        if self.slots.is_empty() {
-            return self.others.get(id.text).copied();
-        }
-        let held = self.slots[id.slot_of(self.slots.len())];
-        let number = held.checked_sub(1)? as usize;
-        if has_id(heads, number, id.text) {
-            return Some(number);
+        let (first, end) = id.group(self.slots.len());
+        for slot in first..end {
+            let held = self.slots[slot];
+            let number = (held % NUMBERS).checked_sub(1)? as usize;
+            if held / NUMBERS == id.mark() && has_id(heads, number, id.text) {
+                return Some(number);
+            }
         }
         self.others.get(id.text).copied()
+    }
+
+    /// The first slot of an id's group that is empty.
+    fn first_empty(&self, id: HashedId<'_>) -> Option<usize>
+        ensures found { IfSome result (λ i. IsFirstEmpty self.now.slots.items id.entry.text.now i) }
+        ensures full { result ≡ None → IsOccupied self.now.slots.items id.entry.text.now }
+    {
+        let (first, end) = id.group(self.slots.len());
+        for slot in first..end {
+            if self.slots[slot] % NUMBERS == 0 {
+                return Some(slot);
+            }
+        }
+        None
     }
 
     /// Gives the id of the next object its number.
@@ -149,7 +180,7 @@ impl IdIndex {
         Ok(())
     }
 
-    /// Gives an id's slot to a number, if no id has it, and answers whether it did.
+    /// Gives a number the first empty slot of an id's group, if one is empty, and answers whether one was.
     fn take_slot(&mut self, id: HashedId<'_>, number: usize) -> bool
         requires { number < MAX_OBJECTS }
         ensures taken { result ≡ true →
@@ -158,14 +189,10 @@ impl IdIndex {
         ensures full { result ≡ false → IsOccupied self.old.slots.items id.entry.text.now }
         ensures same { result ≡ false → self.new ≡ self.old }
     {
-        if self.slots.is_empty() {
+        let Some(slot) = self.first_empty(id) else {
             return false;
-        }
-        let slot = id.slot_of(self.slots.len());
-        if self.slots[slot] != 0 {
-            return false;
-        }
-        self.slots[slot] = number as u32 + 1;
+        };
+        self.slots[slot] = id.mark() * NUMBERS + number as u32 + 1;
         true
     }
 }
